@@ -1,0 +1,165 @@
+//! The fields of an instruction's word, each as a number of a few bits.
+
+ghost use Rattle.std.specs.Prelude.{◌≡◌, ◌<◌, ◌^◌};
+ghost use Rattle.fm_words.specs.Code.{op_of, cc_of, mode_of, op_number, cc_number, mode_number, imm_of, flags_of, flags_number, operand_of, operand_number, IsOperand};
+
+use crate::condition::{Cc, Flags};
+use crate::instruction::{Mode, OperandA};
+use crate::operation::Op;
+
+const OPS: [Op; 16] = [
+    Op::Move,
+    Op::Inc,
+    Op::Addc,
+    Op::Add,
+    Op::Neg,
+    Op::Dec,
+    Op::Subb,
+    Op::Sub,
+    Op::Ror,
+    Op::Asr,
+    Op::Lsr,
+    Op::Xor,
+    Op::Or,
+    Op::And,
+    Op::Not,
+    Op::M15,
+];
+
+const CCS: [Cc; 16] = [
+    Cc::Cc,
+    Cc::Cs,
+    Cc::Vc,
+    Cc::Vs,
+    Cc::Nc,
+    Cc::Ns,
+    Cc::Zc,
+    Cc::Zs,
+    Cc::Hi,
+    Cc::Ls,
+    Cc::Ge,
+    Cc::Lt,
+    Cc::Gt,
+    Cc::Le,
+    Cc::Al,
+    Cc::Nv,
+];
+
+const MODES: [Mode; 4] = [
+    Mode::Register,
+    Mode::Indirect,
+    Mode::PreDecrement,
+    Mode::PostIncrement,
+];
+
+// The operation of a number.
+pub(crate) fn op_from(number: u32) -> Op
+    requires { number < 16 }
+    ensures { result ≡ op_of number }
+{
+    OPS[number as usize]
+}
+
+// The store condition of a number.
+pub(crate) fn cc_from(number: u32) -> Cc
+    requires { number < 16 }
+    ensures { result ≡ cc_of number }
+{
+    CCS[number as usize]
+}
+
+// The mode of a number.
+pub(crate) fn mode_from(number: u32) -> Mode
+    requires { number < 4 }
+    ensures { result ≡ mode_of number }
+{
+    MODES[number as usize]
+}
+
+// The flags of a number, whose bits from the highest are c, v, n and z.
+pub(crate) fn flags_from(number: u32) -> Flags
+    ensures { result ≡ flags_of number }
+{
+    Flags {
+        c: number / 8 % 2 == 1,
+        v: number / 4 % 2 == 1,
+        n: number / 2 % 2 == 1,
+        z: number % 2 == 1,
+    }
+}
+
+// The first operand of an instruction's word.
+pub(crate) fn operand_from(word: u32) -> OperandA
+    ensures { result ≡ operand_of word }
+{
+    if (word >> 9) % 2 == 1 {
+        OperandA::Immediate(immediate_from((word % 512) as u16))
+    } else {
+        OperandA::Place {
+            mode: mode_from((word >> 4) % 4),
+            reg: (word % 16) as u8,
+        }
+    }
+}
+
+// Nine bits as a signed number.
+fn immediate_from(bits: u16) -> i16
+    requires { bits < 2 ^ 9 }
+    ensures { result ≡ imm_of bits }
+{
+    if bits < 256 {
+        bits as i16
+    } else {
+        bits as i16 - 512
+    }
+}
+
+// The number of an operation.
+pub(crate) fn op_bits(op: Op) -> u32
+    ensures value { result ≡ op_number op }
+    ensures below { result < 16 }
+{
+    op as u32
+}
+
+// The number of a store condition.
+pub(crate) fn cc_bits(cc: Cc) -> u32
+    ensures value { result ≡ cc_number cc }
+    ensures below { result < 16 }
+{
+    cc as u32
+}
+
+// The number of a mode.
+pub(crate) fn mode_bits(mode: Mode) -> u32
+    ensures value { result ≡ mode_number mode }
+    ensures below { result < 4 }
+{
+    mode as u32
+}
+
+// The number of four flags.
+pub(crate) fn flags_bits(flags: Flags) -> u32
+    ensures value { result ≡ flags_number flags }
+    ensures below { result < 16 }
+{
+    8 * u32::from(flags.c) + 4 * u32::from(flags.v) + 2 * u32::from(flags.n) + u32::from(flags.z)
+}
+
+// Bits 0 to 9 of a first operand.
+pub(crate) fn operand_bits(a: OperandA) -> u32
+    requires { IsOperand a }
+    ensures value { result ≡ operand_number a }
+    ensures below { result < 1024 }
+{
+    match a {
+        OperandA::Immediate(n) => {
+            if n < 0 {
+                512 + (n + 512) as u32
+            } else {
+                512 + n as u32
+            }
+        }
+        OperandA::Place { mode, reg } => 16 * mode_bits(mode) + u32::from(reg),
+    }
+}

@@ -1,0 +1,15 @@
+//! The FM9001's words: its sixteen operations, its sixteen store conditions, and its instructions.
+//!
+//! The processor is that of Brock, Hunt and Kaufmann, "The FM9001 Microprocessor Proof"
+//! (Computational Logic, Technical Report 86). The numbers of the operations, of the conditions
+//! and of the fields are this repository's, and `docs/fm9001.md` lists them.
+#![tactic(auto)]
+
+mod condition;
+mod field;
+mod instruction;
+mod operation;
+
+pub use condition::{Cc, Flags, holds};
+pub use instruction::{Instr, Mode, OperandA, decode, encode};
+pub use operation::{AluOut, Op, alu};

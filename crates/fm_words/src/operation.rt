@@ -1,0 +1,228 @@
+//! The sixteen operations on words.
+
+ghost use Rattle.std.specs.Prelude.{◌≡◌, ◌+◌, ◌-◌, ◌%◌, ◌^◌, pos, ◌+ℤ◌, ◌-ℤ◌, nat_lt, false};
+ghost use Rattle.std.specs.Int.{from_bool};
+ghost use Rattle.fm_words.specs.Word.{signed_of, is_outside};
+ghost use Rattle.fm_words.specs.Alu.{alu_of, plain};
+
+/// An operation, in the order of their numbers from 0 to 15. Below, `a` and `b` are its operands
+/// and `c` is the carry flag as 0 or 1. Sums and differences are taken modulo 2^32.
+#[derive(Clone, Copy, PartialEq, Eq, Debug)]
+pub enum Op {
+    /// `a`.
+    Move,
+    /// `a + 1`.
+    Inc,
+    /// `a + b + c`.
+    Addc,
+    /// `a + b`.
+    Add,
+    /// `-a`.
+    Neg,
+    /// `a - 1`.
+    Dec,
+    /// `b - a - c`.
+    Subb,
+    /// `b - a`.
+    Sub,
+    /// `a` shifted right by one, with the carry flag shifted in.
+    Ror,
+    /// `a` shifted right by one, with its sign bit kept.
+    Asr,
+    /// `a` shifted right by one, with 0 shifted in.
+    Lsr,
+    /// The exclusive or of `a` and `b`, bit by bit.
+    Xor,
+    /// The or of `a` and `b`, bit by bit.
+    Or,
+    /// The and of `a` and `b`, bit by bit.
+    And,
+    /// `a` with each bit inverted.
+    Not,
+    /// `a` again, by the last number.
+    M15,
+}
+
+/// What an operation gives: its result, and the two flags that the result does not tell.
+#[derive(Clone, Copy, PartialEq, Eq, Debug)]
+pub struct AluOut {
+    /// The result.
+    pub word: u32,
+    /// The carry, or for a subtraction the borrow, or the bit that a shift drops.
+    pub c: bool,
+    /// Whether the exact signed result is outside 32 bits.
+    pub v: bool,
+}
+
+/// One of the sixteen operations on two words and the carry flag.
+pub fn alu(op: Op, carry: bool, a: u32, b: u32) -> AluOut
+    ensures { result ≡ alu_of op carry a b }
+{
+    match op {
+        Op::Move | Op::M15 => unflagged(a),
+        Op::Inc => increment(a),
+        Op::Addc => add_with_carry(carry, a, b),
+        Op::Add => add(a, b),
+        Op::Neg => negate(a),
+        Op::Dec => decrement(a),
+        Op::Subb => subtract_with_borrow(carry, a, b),
+        Op::Sub => subtract(a, b),
+        Op::Ror => rotate_right(carry, a),
+        Op::Asr => arithmetic_shift_right(a),
+        Op::Lsr => logical_shift_right(a),
+        Op::Xor => unflagged(a ^ b),
+        Op::Or => unflagged(a | b),
+        Op::And => unflagged(a & b),
+        Op::Not => unflagged(!a),
+    }
+}
+
+// A result with neither carry nor overflow.
+fn unflagged(word: u32) -> AluOut
+    ensures { result ≡ plain word }
+{
+    AluOut {
+        word,
+        c: false,
+        v: false,
+    }
+}
+
+// The signed reading of a word.
+fn signed(word: u32) -> i64
+    ensures { result ≡ signed_of word }
+{
+    if word < 0x8000_0000 {
+        i64::from(word)
+    } else {
+        i64::from(word) - 0x1_0000_0000
+    }
+}
+
+// Whether an exact signed result is outside 32 bits.
+fn overflows(exact: i64) -> bool
+    ensures { result ≡ is_outside exact }
+{
+    exact < -0x8000_0000 || 0x8000_0000 <= exact
+}
+
+fn increment(a: u32) -> AluOut
+    ensures { result ≡ alu_of Op.Inc false a 0 }
+{
+    AluOut {
+        word: a.wrapping_add(1),
+        c: a == u32::MAX,
+        v: overflows(signed(a) + 1),
+    }
+}
+
+fn decrement(a: u32) -> AluOut
+    ensures { result ≡ alu_of Op.Dec false a 0 }
+{
+    AluOut {
+        word: a.wrapping_sub(1),
+        c: a == 0,
+        v: overflows(signed(a) - 1),
+    }
+}
+
+fn negate(a: u32) -> AluOut
+    ensures { result ≡ alu_of Op.Neg false a 0 }
+{
+    AluOut {
+        word: a.wrapping_neg(),
+        c: a > 0,
+        v: a == 0x8000_0000,
+    }
+}
+
+fn add(a: u32, b: u32) -> AluOut
+    ensures { result ≡ alu_of Op.Add false a b }
+{
+    let (word, c) = a.overflowing_add(b);
+    let v = overflows(signed(a) + signed(b));
+    AluOut { word, c, v }
+}
+
+fn add_with_carry(carry: bool, a: u32, b: u32) -> AluOut
+    ensures { result ≡ alu_of Op.Addc carry a b }
+{
+    let (word, c) = a.carrying_add(b, carry);
+    let v = overflows(signed_sum(carry, a, b));
+    AluOut { word, c, v }
+}
+
+// The exact signed sum with a carry.
+fn signed_sum(carry: bool, a: u32, b: u32) -> i64
+    ensures { result ≡ signed_of a +ℤ signed_of b +ℤ pos (from_bool carry) }
+{
+    signed(a) + signed(b) + i64::from(carry)
+}
+
+fn subtract(a: u32, b: u32) -> AluOut
+    ensures { result ≡ alu_of Op.Sub false a b }
+{
+    let (word, c) = b.overflowing_sub(a);
+    let v = overflows(signed(b) - signed(a));
+    AluOut { word, c, v }
+}
+
+fn subtract_with_borrow(borrow: bool, a: u32, b: u32) -> AluOut
+    ensures { result ≡ alu_of Op.Subb borrow a b }
+{
+    let (word, c) = borrowing_difference(borrow, a, b);
+    let v = overflows(signed_difference(borrow, a, b));
+    AluOut { word, c, v }
+}
+
+// The difference with a borrow, modulo 2^32, and whether it borrows in turn.
+#[tactic(auto, using(crate::proofs::Borrow::borrow_word, crate::proofs::Borrow::borrow_carry))]
+fn borrowing_difference(borrow: bool, a: u32, b: u32) -> (u32, bool)
+    ensures word { result.0 ≡ (b + 2 ^ 32 - (a + from_bool borrow)) % 2 ^ 32 }
+    ensures carry { result.1 ≡ nat_lt b (a + from_bool borrow) }
+{
+    b.borrowing_sub(a, borrow)
+}
+
+// The exact signed difference with a borrow.
+fn signed_difference(borrow: bool, a: u32, b: u32) -> i64
+    ensures { result ≡ signed_of b -ℤ signed_of a -ℤ pos (from_bool borrow) }
+{
+    signed(b) - signed(a) - i64::from(borrow)
+}
+
+fn rotate_right(carry: bool, a: u32) -> AluOut
+    ensures { result ≡ alu_of Op.Ror carry a 0 }
+{
+    let half = a / 2;
+    AluOut {
+        word: if carry { half + 0x8000_0000 } else { half },
+        c: a % 2 == 1,
+        v: false,
+    }
+}
+
+fn arithmetic_shift_right(a: u32) -> AluOut
+    ensures { result ≡ alu_of Op.Asr false a 0 }
+{
+    let half = a / 2;
+    AluOut {
+        word: if a < 0x8000_0000 {
+            half
+        } else {
+            half + 0x8000_0000
+        },
+        c: a % 2 == 1,
+        v: false,
+    }
+}
+
+fn logical_shift_right(a: u32) -> AluOut
+    ensures { result ≡ alu_of Op.Lsr false a 0 }
+{
+    AluOut {
+        word: a / 2,
+        c: a % 2 == 1,
+        v: false,
+    }
+}
