@@ -1,0 +1,84 @@
+//! How an instruction finds its operands in the registers, and which flags it sets.
+
+ghost use Rattle.std.specs.Prelude.{◌≡◌, ◌<◌};
+ghost use Rattle.fm_words.specs.Code.{IsOperand};
+ghost use Rattle.fm_machine.specs.Step.{address_of, passed, word_of, passed_a, reads_b, flags_set};
+
+use fm_words::{AluOut, Flags, Mode, Op, OperandA};
+
+/// The sixteen registers, by number.
+pub(crate) type Registers = [u32; 16];
+
+// The address of an operand's place, or None for the register itself.
+pub(crate) fn address(mode: Mode, reg: u8, registers: &Registers) -> Option<u32>
+    requires { reg < 16 }
+    ensures { result ≡ address_of mode reg registers.now }
+{
+    let value = registers[reg as usize];
+    match mode {
+        Mode::Register => None,
+        Mode::Indirect | Mode::PostIncrement => Some(value),
+        Mode::PreDecrement => Some(value.wrapping_sub(1)),
+    }
+}
+
+// The registers once a place is found.
+pub(crate) fn pass(mode: Mode, reg: u8, registers: &mut Registers)
+    requires { reg < 16 }
+    ensures { registers.new ≡ passed mode reg registers.old }
+{
+    let at = reg as usize;
+    match mode {
+        Mode::Register | Mode::Indirect => {}
+        Mode::PreDecrement => registers[at] = registers[at].wrapping_sub(1),
+        Mode::PostIncrement => registers[at] = registers[at].wrapping_add(1),
+    }
+}
+
+// The registers once the first operand is read.
+pub(crate) fn pass_first(a: OperandA, registers: &mut Registers)
+    requires { IsOperand a }
+    ensures { registers.new ≡ passed_a a registers.old }
+{
+    match a {
+        OperandA::Immediate(_) => {}
+        OperandA::Place { mode, reg } => pass(mode, reg, registers),
+    }
+}
+
+// An immediate as a word.
+pub(crate) fn immediate(number: i16) -> u32
+    ensures { result ≡ word_of number }
+{
+    if number >= 0 {
+        number as u32
+    } else {
+        (i64::from(number) + 0x1_0000_0000) as u32
+    }
+}
+
+// Whether an operation reads the second operand.
+pub(crate) fn reads_second(op: Op) -> bool
+    ensures { result ≡ reads_b op }
+{
+    matches!(
+        op,
+        Op::Addc | Op::Add | Op::Subb | Op::Sub | Op::Xor | Op::Or | Op::And
+    )
+}
+
+// The flags after an operation: those of the mask are new.
+pub(crate) fn new_flags(set: Flags, old: Flags, out: AluOut) -> Flags
+    ensures { result ≡ flags_set set old out }
+{
+    Flags {
+        c: if set.c { out.c } else { old.c },
+        v: if set.v { out.v } else { old.v },
+        n: if set.n {
+            out.word >= 0x8000_0000
+        } else {
+            old.n
+        },
+        z: if set.z { out.word == 0 } else { old.z },
+    }
+}
