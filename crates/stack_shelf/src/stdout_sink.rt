@@ -1,0 +1,54 @@
+//! A sink over standard output.
+ghost use Rattle.std.specs.Prelude.{◌≡◌, ◌≤◌, IsErrOf};
+ghost use Rattle.stack_shelf.specs.Edge.{faults_after_put};
+
+use crate::streams::write_whole;
+use crate::{PutFault, Sink};
+use std::io;
+use std::marker::Model;
+
+/// Standard output, with nothing kept back: what `put` took has been written.
+///
+/// It tells nothing of what it has taken. It counts its failures, up to `u64::MAX`, and takes no memory.
+#[derive(Drop)]
+pub struct StdoutSink<P: Print + Drop> {
+    rt: P,
+    faults: u64,
+}
+
+impl<P: Print + Drop> Model for StdoutSink<P> {
+    ghost use Rattle.std.specs.Prelude.{ℕ};
+
+    ghost Value = { ℕ };
+
+    ghost view = { λ s. s.faults };
+}
+
+impl<P: Print + Drop> StdoutSink<P> {
+    /// A sink that hasn't failed yet.
+    pub fn new(rt: P) -> StdoutSink<P>
+        ensures { result ≡ 0 }
+    {
+        StdoutSink { rt, faults: 0 }
+    }
+}
+
+impl<P: Print + Drop> Sink for StdoutSink<P> {
+    ghost use Rattle.std.specs.Prelude.{None};
+
+    ghost taken = { λ _. None };
+
+    ghost faults = { λ s. s };
+
+    fn put(&mut self, bytes: &[u8]) -> Result<(), PutFault>
+        ensures faults { self.old ≤ self.new }
+        ensures after { self.new ≡ faults_after_put self.old result }
+        ensures memory { ¬ IsErrOf result PutFault.Memory }
+    {
+        if write_whole(&mut io::writer(&self.rt), bytes).is_err() {
+            self.faults = self.faults.saturating_add(1);
+            return Err(PutFault::Failed);
+        }
+        Ok(())
+    }
+}
