@@ -19,8 +19,10 @@ pub fn read_within<R: Read>(
     limit: u64,
 ) -> Result<Vec<u8>, FetchFault>
     ensures within { IfOk result (λ bytes. length bytes.items ≤ limit) }
-    ensures whole { IfOk result (λ bytes. IfSome (R.remaining reader.old) (λ all. bytes.items ≡ all)) }
-    ensures too_long { IsErrOf result FetchFault.TooLong → IfSome (R.remaining reader.old) (λ all. limit < length all) }
+    ensures whole { IfOk result
+        (λ bytes. IfSome (R.remaining reader.old) (λ all. bytes.items ≡ all)) }
+    ensures too_long { IsErrOf result FetchFault.TooLong →
+        IfSome (R.remaining reader.old) (λ all. limit < length all) }
     ensures missing { ¬ IsErrOf result FetchFault.Missing }
 {
     let mut bytes = Vec::new(alloc);
@@ -43,7 +45,8 @@ pub fn read_within<R: Read>(
 /// Writes all the bytes, in as many writes as it takes. A write that takes nothing is an error.
 pub fn write_whole<W: Write>(writer: &mut W, bytes: &[u8]) -> io::Result<()>
     ensures all { OnOk result (Appends (W.contents writer.old) (W.contents writer.new) bytes.now) }
-    ensures front { OnErr result ((count : ℕ) × Appends (W.contents writer.old) (W.contents writer.new) (take count bytes.now)) }
+    ensures front { OnErr result ((count : ℕ) ×
+        Appends (W.contents writer.old) (W.contents writer.new) (take count bytes.now)) }
 {
     let mut rest = bytes;
     while !rest.is_empty() {
