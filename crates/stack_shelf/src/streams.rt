@@ -10,9 +10,8 @@ use std::io::{ErrorKind, Read, Write};
 /// How many bytes one read asks for.
 const PIECE: usize = 4096;
 
-/// All that a reader has left, where that is at most `limit` bytes. A read of nothing is the end.
-///
-/// It stops at the first piece that goes over the limit.
+/// All that a reader has left, where that is at most `limit` bytes. The end is where a read gives
+/// no byte. It reads no further than the first piece that goes over the limit.
 pub fn read_within<R: Read>(
     alloc: Global,
     reader: &mut R,
@@ -42,7 +41,8 @@ pub fn read_within<R: Read>(
     Err(FetchFault::Failed)
 }
 
-/// Writes all the bytes, in as many writes as it takes. A write that takes nothing is an error.
+/// Writes all the bytes, in as many writes as it takes. If the writer takes none of what is left,
+/// that is a `WriteZero`.
 pub fn write_whole<W: Write>(writer: &mut W, bytes: &[u8]) -> io::Result<()>
     ensures all { OnOk result (Appends (W.contents writer.old) (W.contents writer.new) bytes.now) }
     ensures front { OnErr result ((count : ℕ) ×

@@ -1,4 +1,5 @@
-//! What no clause says: that calls succeed, what the system does, and that a fault in mid-stream is told.
+//! What no clause says: that calls succeed, what the system does, and that a fault in mid-stream is
+//! told.
 ghost use Rattle.std.specs.Prelude.{◌≤◌, IfOk};
 
 use crate::streams::{read_within, write_whole};
