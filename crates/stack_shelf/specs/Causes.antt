@@ -7,7 +7,7 @@ pub record Counts : Type 0 where
   pub absences : List ℕ → ℕ
   pub overruns : List ℕ → ℕ
 
--- a count rose: it is greater, or stands at the last value of its type
+-- a count went up, or can go no higher: it stands at the last value of its type
 abbrev pub Rose : ℕ → ℕ → Type 0
 Rose before after = min (before + 1) (2 ^ 64 - 1) ≤ after
 

@@ -30,7 +30,7 @@ stored files name bytes = option_map (λ f. put_file f name bytes) files
 abbrev pub removed : Option Files → List ℕ → Option Files
 removed files name = option_map (λ f. remove_file f name) files
 
--- a store that failed half-way: the name is as before, absent or holds a front of the bytes, and the other files stay
+-- what a store that did not succeed may leave: every file as it was, that one gone, or a front of the bytes in its place
 abbrev pub HalfStored : Option Files → Option Files → List ℕ → List ℕ → Type 0
 HalfStored old new name bytes = (new ≡ old) ⊎ ((new ≡ removed old name) ⊎ ((count : ℕ) × (new ≡ stored old name (take count bytes))))
 

@@ -14,9 +14,9 @@ use std::rt::Files;
 
 /// The files of one folder, through the system.
 ///
-/// A name is a path from that folder on, so `""` as the folder stands for the current one. The shelf tells nothing
-/// of its files, since other programs may change them. It keeps one count of each kind for all names together, and
-/// adds one at each `Err` of that kind, up to `u64::MAX`.
+/// A name is a path from that folder on, so `""` as the folder stands for the current one. The
+/// shelf tells nothing of its files, since other programs may change them. It keeps one count of
+/// each kind for all names together, and adds one at each `Err` of that kind, up to `u64::MAX`.
 ///
 /// A failing `store` may leave a front of the bytes: the file is written in place.
 #[derive(Drop)]

@@ -9,7 +9,8 @@ use std::marker::Model;
 
 /// Standard output, with nothing kept back: what `put` took has been written.
 ///
-/// It tells nothing of what it has taken. It counts its failures, up to `u64::MAX`, and takes no memory.
+/// It tells nothing of what it has taken. It counts its failures, up to `u64::MAX`, and takes no
+/// memory.
 #[derive(Drop)]
 pub struct StdoutSink<P: Print + Drop> {
     rt: P,
