@@ -1,0 +1,29 @@
+-- Which bytes are a name.
+use Rattle.std.specs.Prelude.{ℕ, List, [], ◌∷◌, length, Option, Some, None, Bool, false, not, ◌&&◌, ◌||◌, ◌==◌, nat_le, if◌then◌else◌, codes}
+use Rattle.std.specs.List.{list_all}
+use Rattle.std.specs.Str.{bytes_eq}
+use Rattle.std.specs.Char.{is_ascii_alphabetic, is_ascii_alphanumeric}
+
+-- `-`, `_`, `*` or `$`
+abbrev pub is_mark : ℕ → Bool
+is_mark byte = byte == 45 || byte == 95 || byte == 42 || byte == 36
+
+-- a letter, a digit or a mark
+abbrev pub is_name_byte : ℕ → Bool
+is_name_byte byte = is_ascii_alphanumeric byte || is_mark byte
+
+abbrev pub begins_with_letter : List ℕ → Bool
+begins_with_letter [] = false
+begins_with_letter (byte ∷ bytes) = is_ascii_alphabetic byte
+
+-- the words for the two truth values, which are no names
+abbrev pub is_truth_word : List ℕ → Bool
+is_truth_word bytes = bytes_eq bytes (codes "true") || bytes_eq bytes (codes "false")
+
+-- 1 to 64 bytes: a letter, and then letters, digits and marks, other than `true` and `false`
+abbrev pub is_name : List ℕ → Bool
+is_name bytes = begins_with_letter bytes && list_all is_name_byte bytes && nat_le (length bytes) 64 && not (is_truth_word bytes)
+
+-- the name that the bytes are, if they are one
+abbrev pub name_of : List ℕ → Option (List ℕ)
+name_of bytes = if is_name bytes then Some bytes else None

@@ -1,0 +1,202 @@
+//! Names.
+
+ghost use Rattle.std.specs.Prelude.{◌≡◌, IsTrue};
+ghost use Rattle.std.specs.List.{list_all};
+ghost use Rattle.stack_text.specs.Gives.{Gives};
+ghost use Rattle.stack_text.specs.Names.{begins_with_letter, is_mark, is_name, is_name_byte, is_truth_word, name_of};
+
+use crate::Memory;
+use std::alloc::{AllocError, Global};
+use std::hash::{Hash, Hasher};
+use std::marker::Model;
+
+/// The most bytes that a name has.
+const MAX_NAME_LENGTH: usize = 64;
+
+/// A name: 1 to 64 bytes, a letter and then letters, digits, `-`, `_`, `*` or `$`, other than `true` and `false`.
+///
+/// Case counts. Contracts see a name as its bytes, and it is compared and hashed by them, so that it can be a key of
+/// `indexmap`.
+#[derive(Debug, Drop)]
+pub struct Name {
+    bytes: Vec<u8>,
+}
+
+impl Model for Name {
+    ghost use Rattle.std.specs.Prelude.{List, ℕ, IsTrue};
+    ghost use Rattle.stack_text.specs.Names.{is_name};
+
+    ghost Value = { List ℕ };
+
+    ghost view = { λ n. n.bytes.items };
+
+    ghost invariant = { λ n. IsTrue (is_name n.bytes.items) };
+}
+
+impl Name {
+    /// The bytes.
+    pub fn bytes(&self) -> &[u8]
+        ensures bytes { result.now ≡ self.now }
+        ensures name { IsTrue (is_name self.now) }
+    {
+        self.bytes.as_slice()
+    }
+}
+
+impl Clone for Name {
+    ghost is_clone = { λ old new. new ≡ old };
+
+    fn clone(&self) -> Result<Name, AllocError> {
+        let bytes = Vec::from_slice(*self.bytes.allocator(), self.bytes.as_slice())?;
+        Ok(Name { bytes })
+    }
+}
+
+impl PartialEq for Name {
+    ghost use Rattle.std.specs.Str.{bytes_eq};
+    ghost use Rattle.std.specs.Cmp.Rules.{comparing};
+    ghost use Rattle.std.proofs.Common.{rules};
+
+    ghost eq = { bytes_eq };
+
+    ghost laws = { Prim.search (comparing, rules) };
+
+    fn eq(&self, other: &Self) -> bool {
+        self.bytes.as_slice() == other.bytes.as_slice()
+    }
+}
+
+impl Eq for Name {
+    ghost use Rattle.std.specs.Cmp.Rules.{comparing};
+    ghost use Rattle.std.proofs.Common.{rules};
+
+    ghost laws = { Prim.search (comparing, rules) };
+}
+
+impl Hash for Name {
+    ghost use Rattle.std.specs.Hash as fed;
+    ghost use Rattle.std.specs.Cmp.Rules.{hashing};
+    ghost use Rattle.std.proofs.Common.{rules};
+
+    ghost hash_input = { fed.slice fed.u8 };
+
+    ghost respects_eq = { Prim.search (hashing, rules) };
+
+    fn hash<H: Hasher>(&self, state: &mut H) {
+        self.bytes.as_slice().hash(state);
+    }
+}
+
+/// Whether the byte is one of the marks that a name may have.
+fn is_mark(byte: u8) -> bool
+    ensures { result ≡ is_mark byte }
+{
+    matches!(byte, b'-' | b'_' | b'*' | b'$')
+}
+
+/// Whether the byte may stand in a name.
+fn is_name_byte(byte: u8) -> bool
+    ensures { result ≡ is_name_byte byte }
+{
+    byte.is_ascii_alphanumeric() || is_mark(byte)
+}
+
+/// Whether the first byte is a letter.
+fn begins_with_letter(bytes: &[u8]) -> bool
+    ensures { result ≡ begins_with_letter bytes.now }
+{
+    match bytes {
+        [] => false,
+        [first, ..] => first.is_ascii_alphabetic(),
+    }
+}
+
+/// Whether each byte may stand in a name.
+fn are_name_bytes(bytes: &[u8]) -> bool
+    ensures { result ≡ list_all is_name_byte bytes.now }
+{
+    bytes.iter().all(|byte| is_name_byte(*byte))
+}
+
+/// Whether the bytes are one of the two words for truth values.
+fn is_truth_word(bytes: &[u8]) -> bool
+    ensures { result ≡ is_truth_word bytes.now }
+{
+    bytes == b"true".as_slice() || bytes == b"false".as_slice()
+}
+
+/// Whether the bytes are a name.
+fn is_name(bytes: &[u8]) -> bool
+    ensures { result ≡ is_name bytes.now }
+{
+    begins_with_letter(bytes)
+        && are_name_bytes(bytes)
+        && bytes.len() <= MAX_NAME_LENGTH
+        && !is_truth_word(bytes)
+}
+
+/// The name that the bytes are: `None` exactly where they are not one.
+pub fn read_name(alloc: Global, bytes: &[u8]) -> Result<Option<Name>, Memory>
+    ensures { Gives (λ name. name) result (name_of bytes.now) }
+{
+    if !is_name(bytes) {
+        return Ok(None);
+    }
+    let bytes = Vec::from_slice(alloc, bytes)?;
+    Ok(Some(Name { bytes }))
+}
+
+#[cfg(test)]
+mod tests {
+    use super::*;
+    use indexmap::IndexMap;
+    use std::test::Fail;
+
+    /// Names by the rule's words, and bytes that just miss it.
+    #[test]
+    fn reads_names(rt: HostRuntime) -> Result<(), Fail> {
+        let names = [
+            "x",
+            "Z",
+            "a1",
+            "a-b_c*d$",
+            "mg-simple-constant-assignment",
+            "True",
+            "truer",
+            "falsehood",
+        ];
+        for name in names {
+            let read = read_name(rt.alloc(), name.as_bytes())?;
+            let kept = read.as_ref().map(|name| name.bytes());
+            assert!(rt; kept == Some(name.as_bytes()), "{name} is a name");
+        }
+        let others = [
+            "", "true", "false", "1a", "-a", "_a", "*", "$x", "a b", "a.b", "a(", "a\u{e9}",
+        ];
+        for text in others {
+            assert!(rt;
+                read_name(rt.alloc(), text.as_bytes())?.is_none(),
+                "{text} is no name"
+            );
+        }
+        Ok(())
+    }
+
+    #[test]
+    fn has_at_most_64_bytes(rt: HostRuntime) -> Result<(), Fail> {
+        let mut bytes = vec![in rt.alloc(); b'n'; 64]?;
+        assert!(rt; read_name(rt.alloc(), &bytes)?.is_some());
+        bytes.push(b'n')?;
+        assert!(rt; read_name(rt.alloc(), &bytes)?.is_none());
+        Ok(())
+    }
+
+    #[test]
+    fn is_a_key(rt: HostRuntime) -> Result<(), Fail> {
+        let mut places: IndexMap<Name, u32> = IndexMap::new(rt.alloc());
+        let name = read_name(rt.alloc(), b"x")?.ok_or("no name")?;
+        places.insert(name.clone()?, 7)?;
+        assert_eq!(rt; places.get(&name).copied(), Some(7));
+        Ok(())
+    }
+}

@@ -1,0 +1,100 @@
+//! A vector that contracts see as a list.
+
+ghost use Rattle.std.specs.Prelude.{◌≡◌, ◌==◌, ◌∷◌, [], ◌++◌, length, OnOk, OnErr};
+
+use std::alloc::{AllocFailed, Global};
+use std::marker::Model;
+
+/// A vector that contracts see as the list of its elements, so that `≡` compares elements and not capacities.
+///
+/// Use it for a field of an enum, of a struct with a ghost field, or of a small internal type: a clause then reads
+/// `value.items` as a list. A public struct whose fields are plain vectors has an `impl Model` in place of it, whose
+/// `Value` is a record of `specs/` with the same field names and lists in place of the vectors. A recursive type keeps
+/// `Vec`, and clauses read it through one recursive function of the definitions.
+///
+/// To go over the elements, write `seq.as_slice().iter()`.
+#[derive(Debug, Drop)]
+pub struct Seq<T> {
+    items: Vec<T>,
+}
+
+impl<T> Model for Seq<T> {
+    ghost use Rattle.std.specs.Prelude.{List};
+
+    ghost Value = { List T };
+
+    ghost view = { λ s. s.items.items };
+}
+
+impl<T> Seq<T> {
+    /// The empty list. It takes no memory.
+    pub fn new(alloc: Global) -> Seq<T>
+        ensures { result ≡ [] }
+    {
+        Seq {
+            items: Vec::new(alloc),
+        }
+    }
+
+    /// The elements of a vector, in its order.
+    pub fn from_vec(items: Vec<T>) -> Seq<T>
+        ensures { result ≡ items.items }
+    {
+        Seq { items }
+    }
+
+    /// The vector of the elements.
+    pub fn into_vec(self) -> Vec<T>
+        ensures { result.items ≡ self }
+    {
+        self.items
+    }
+
+    /// The elements as a slice.
+    pub fn as_slice(&self) -> &[T]
+        ensures { result.now ≡ self.now }
+    {
+        self.items.as_slice()
+    }
+
+    /// How many elements there are.
+    pub fn len(&self) -> usize
+        ensures { result ≡ length self.now }
+    {
+        self.items.len()
+    }
+
+    /// Whether there are none.
+    pub fn is_empty(&self) -> bool
+        ensures { result ≡ (length self.now == 0) }
+    {
+        self.items.is_empty()
+    }
+
+    /// Puts an element behind the others. Where there is no memory the list stays, and the error has the element.
+    pub fn push(&mut self, item: T) -> Result<(), AllocFailed<T>>
+        ensures ok { OnOk result (self.new ≡ self.old ++ item ∷ []) }
+        ensures err { OnErr result (self.new ≡ self.old) }
+    {
+        self.items.push(item)
+    }
+}
+
+#[cfg(test)]
+mod tests {
+    use super::*;
+    use std::test::Fail;
+
+    #[test]
+    fn keeps_its_order(rt: HostRuntime) -> Result<(), Fail> {
+        let mut seq: Seq<u32> = Seq::new(rt.alloc());
+        assert!(rt; seq.is_empty());
+        seq.push(4)?;
+        seq.push(2)?;
+        assert_eq!(rt; seq.len(), 2);
+        assert_eq!(rt; seq.as_slice(), [4, 2].as_slice());
+        let seq = Seq::from_vec(seq.into_vec());
+        assert_eq!(rt; seq.as_slice().iter().copied().max(), Some(4));
+        Ok(())
+    }
+}
