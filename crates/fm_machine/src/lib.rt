@@ -11,3 +11,6 @@ mod window;
 
 pub use fault::{NewFault, Outside};
 pub use processor::{Machine, Run};
+
+#[cfg(test)]
+mod tests;

@@ -13,6 +13,7 @@ use Rattle.fm_words.specs.declared.condition.Flags.{Flags}
 abbrev pub plain : ℕ → AluOut
 plain word = record { word = word; c = false; v = false }
 
+-- the result, the carry and the overflow of each operation, on the carry flag c and the operands a and b
 abbrev pub alu_of : Op → Bool → ℕ → ℕ → AluOut
 alu_of Move c a b = plain a
 alu_of Inc c a b =
@@ -42,6 +43,7 @@ abbrev pub are_same : Bool → Bool → Bool
 are_same true b = b
 are_same false b = not b
 
+-- a store condition holds of the flags
 abbrev pub does_hold : Cc → Flags → Bool
 does_hold cc.Cc f = not f.c
 does_hold cc.Cs f = f.c

@@ -13,3 +13,6 @@ mod operation;
 pub use condition::{Cc, Flags, holds};
 pub use instruction::{Instr, Mode, OperandA, decode, encode};
 pub use operation::{AluOut, Op, alu};
+
+#[cfg(test)]
+mod tests;

@@ -1,6 +1,6 @@
 //! The sixteen operations on words.
 
-ghost use Rattle.std.specs.Prelude.{◌≡◌, ◌+◌, ◌-◌, ◌%◌, ◌^◌, pos, ◌+ℤ◌, ◌-ℤ◌, nat_lt, false};
+ghost use Rattle.std.specs.Prelude.{◌≡◌, ◌+◌, ◌-◌, ◌%◌, ◌^◌, pos, ◌+ℤ◌, ◌-ℤ◌, ◌*ℤ◌, nat_lt, false};
 ghost use Rattle.std.specs.Int.{from_bool};
 ghost use Rattle.fm_words.specs.Word.{signed_of, is_outside};
 ghost use Rattle.fm_words.specs.Alu.{alu_of, plain};
@@ -202,8 +202,11 @@ fn rotate_right(carry: bool, a: u32) -> AluOut
     }
 }
 
+// The sign bit is kept, so the signed reading is halved, rounded down.
+#[tactic(auto, using(crate::proofs::Shift::halved))]
 fn arithmetic_shift_right(a: u32) -> AluOut
-    ensures { result ≡ alu_of Op.Asr false a 0 }
+    ensures value { result ≡ alu_of Op.Asr false a 0 }
+    ensures halved { pos 2 *ℤ signed_of result.word +ℤ pos (a % 2) ≡ signed_of a }
 {
     let half = a / 2;
     AluOut {
