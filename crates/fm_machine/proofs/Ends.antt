@@ -1,8 +1,8 @@
 -- How a run as in `Reaches` begins from a state, and the state in which it has ended.
-use Rattle.std.proofs.Common.{◌≡◌, ℕ, zero, suc, ◌+◌, Ok, List, [], ◌∷◌, length, refl, ap, ◌∙◌, arith}
+use Rattle.std.proofs.Common.{◌≡◌, ℕ, zero, suc, ◌+◌, Ok, List, [], ◌∷◌, length, refl, ap, ◌∙◌}
 use Rattle.std.specs.Prelude.{slice_index}
 use Rattle.fm_machine.specs.State.{Fm}
-use Rattle.fm_machine.specs.Run.{fm_run, pc_of, Avoids, IsFirst}
+use Rattle.fm_machine.specs.Run.{fm_run, Avoids, IsFirst}
 use Rattle.fm_machine.specs.Holds.{Holds, Layout, IsLayout, final_pc}
 use Rattle.fm_machine.proofs.Runs.{run_none, avoids_none}
 use Rattle.fm_machine.proofs.Laid.{Laid}
