@@ -1,2 +1,13 @@
 pub mod Gives
 pub mod Names
+pub mod Numerals
+pub mod Values
+pub mod Tokens
+pub mod Trees
+pub mod TextFaults
+pub mod TreeText
+pub mod Spellings
+pub mod PlaceOrder
+pub mod TreeView
+pub mod TokenSpans
+pub mod OpenLists

@@ -20,7 +20,7 @@ begins_with_letter (byte ∷ bytes) = is_ascii_alphabetic byte
 abbrev pub is_truth_word : List ℕ → Bool
 is_truth_word bytes = bytes_eq bytes (codes "true") || bytes_eq bytes (codes "false")
 
--- 1 to 64 bytes: a letter, and then letters, digits and marks, other than `true` and `false`
+-- a letter and up to 63 more letters, digits and marks, other than a word for a truth value
 abbrev pub is_name : List ℕ → Bool
 is_name bytes = begins_with_letter bytes && list_all is_name_byte bytes && nat_le (length bytes) 64 && not (is_truth_word bytes)
 

@@ -1,10 +1,29 @@
-//! The vocabulary that every crate of the stack shares: want of memory, lists in contracts, and names.
+//! The text form that every crate of the stack shares, and the vocabulary of their contracts: names, numerals, trees
+//! and values, lists in contracts, and want of memory.
 #![tactic(auto)]
 
+mod class;
+mod lexer;
 mod memory;
 mod name;
+mod numeral;
+mod printer;
+mod reader;
 mod seq;
+mod shape;
+#[cfg(test)]
+mod tests;
+mod text_fault;
+mod tree;
+mod value;
 
 pub use memory::Memory;
-pub use name::{Name, read_name};
+pub use name::{Name, Named, read_name};
+pub use numeral::{is_digits, is_numeral, read_numeral};
+pub use printer::print_tree;
+pub use reader::read_tree;
 pub use seq::Seq;
+pub use shape::{Kind, Shape};
+pub use text_fault::{TextFault, TextRule};
+pub use tree::Tree;
+pub use value::Value;

@@ -13,10 +13,11 @@ use std::marker::Model;
 /// The most bytes that a name has.
 const MAX_NAME_LENGTH: usize = 64;
 
-/// A name: 1 to 64 bytes, a letter and then letters, digits, `-`, `_`, `*` or `$`, other than `true` and `false`.
+/// A name: a letter, followed by up to 63 letters, digits and marks, which are `-`, `_`, `*` and `$`. The words `true`
+/// and `false` stand for values and are no names.
 ///
-/// Case counts. Contracts see a name as its bytes, and it is compared and hashed by them, so that it can be a key of
-/// `indexmap`.
+/// Upper and lower case differ. Contracts see a name as its bytes, and it is compared and hashed by them, so that it
+/// can be a key of `indexmap`.
 #[derive(Debug, Drop)]
 pub struct Name {
     bytes: Vec<u8>,
@@ -85,6 +86,13 @@ impl Hash for Name {
     fn hash<H: Hasher>(&self, state: &mut H) {
         self.bytes.as_slice().hash(state);
     }
+}
+
+/// A name with the place of its first byte in a text.
+#[derive(Debug, Drop)]
+pub struct Named {
+    pub place: u32,
+    pub name: Name,
 }
 
 /// Whether the byte is one of the marks that a name may have.

@@ -1,0 +1,12 @@
+pub mod TreeViewLaws
+pub mod TokenLaws
+pub mod RunLaws
+pub mod CommentLaws
+pub mod OpenListLaws
+pub mod TreeLaws
+pub mod FaultLaws
+pub mod ReadLaws
+pub mod SpellingLaws
+pub mod PrintLaws
+pub mod NumeralLaws
+pub mod AtomLaws

@@ -1,0 +1,20 @@
+use Rattle.stack_text.proofs.TreeLaws.{is_found, is_only, is_kept, tells_fault}
+use Rattle.stack_text.proofs.ReadLaws.{text_is_well_formed, text_is_in_order}
+use Rattle.stack_text.specs.Trees.{IsWellFormed}
+use Rattle.stack_text.specs.PlaceOrder.{IsInOrder}
+use Rattle.stack_text.proofs.reader.read_tree.Goals as goal
+
+pub returns-clause-found : goal.returns-clause-found
+returns-clause-found c = is_found c.args.text.now c.read.result c.read.ensures
+
+pub returns-clause-only : goal.returns-clause-only
+returns-clause-only c = is_only c.args.text.now c.read.result c.read.ensures
+
+pub returns-clause-well_formed : goal.returns-clause-well_formed
+returns-clause-well_formed c = is_kept IsWellFormed c.args.text.now c.read.result c.read.ensures (text_is_well_formed c.args.text.now c.requires)
+
+pub returns-clause-order : goal.returns-clause-order
+returns-clause-order c = is_kept IsInOrder c.args.text.now c.read.result c.read.ensures (text_is_in_order c.args.text.now)
+
+pub returns-clause-fault : goal.returns-clause-fault
+returns-clause-fault c = tells_fault c.args.text.now c.read.result c.read.ensures

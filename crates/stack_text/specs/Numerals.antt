@@ -1,0 +1,25 @@
+-- Numerals: decimal digits, with or without a `-` before them. They may begin with zeros.
+use Rattle.std.specs.Prelude.{ℕ, ℤ, pos, negsuc, ◌^◌, List, length, drop, Option, Some, None, Bool, ◌&&◌, nat_lt, if◌then◌else◌}
+use Rattle.std.specs.List.{list_all}
+use Rattle.std.specs.Char.{is_ascii_digit}
+use Rattle.std.specs.Str.Parse.{starts_with_minus, signed_digits_value}
+
+-- one decimal digit or more
+abbrev pub is_digits : List ℕ → Bool
+is_digits bytes = nat_lt 0 (length bytes) && list_all is_ascii_digit bytes
+
+abbrev pub is_numeral : List ℕ → Bool
+is_numeral bytes = is_digits (if starts_with_minus bytes then drop 1 bytes else bytes)
+
+-- what a numeral of any length stands for
+abbrev pub numeral_value : List ℕ → ℤ
+numeral_value bytes = signed_digits_value 10 bytes
+
+-- from -2^127 to 2^127 - 1, where `negsuc n` is -(n + 1)
+abbrev pub fits_128_bits : ℤ → Bool
+fits_128_bits (pos n) = nat_lt n (2 ^ 127)
+fits_128_bits (negsuc n) = nat_lt n (2 ^ 127)
+
+-- what a numeral stands for, if the bytes are one and it is in the 128-bit range
+abbrev pub numeral_of : List ℕ → Option ℤ
+numeral_of bytes = if is_numeral bytes && fits_128_bits (numeral_value bytes) then Some (numeral_value bytes) else None

@@ -1,0 +1,57 @@
+//! Printing a tree.
+
+ghost use Rattle.std.specs.Prelude.{◌≡◌, ◌++◌, ◌==◌, ◌∷◌, [], if◌then◌else◌, OnOk, IfOk};
+ghost use Rattle.stack_text.specs.Trees.{IsWellFormed, ReadsAs};
+ghost use Rattle.stack_text.specs.TreeText.{tree_text};
+ghost use Rattle.stack_text.specs.TreeView.{node_of};
+
+use crate::memory::Memory;
+use crate::tree::Tree;
+use std::alloc::Global;
+
+/// A space before each item but the first.
+fn separate(out: &mut Vec<u8>, index: usize) -> Result<(), Memory>
+    ensures { OnOk result (out.new.items ≡ out.old.items ++ (if index == 0 then [] else 32 ∷ [])) }
+{
+    if index > 0 {
+        out.push(b' ')?;
+    }
+    Ok(())
+}
+
+/// Appends the tree's text.
+fn print_into(out: &mut Vec<u8>, tree: &Tree) -> Result<(), Memory>
+    ensures { OnOk result (out.new.items ≡ out.old.items ++ tree_text (node_of tree.now)) }
+{
+    match tree {
+        Tree::Atom { place: _, text } => {
+            out.extend_from_slice(text)?;
+            Ok(())
+        }
+        Tree::List { place: _, items } => {
+            out.push(b'(')?;
+            for (index, item) in items.iter().enumerate() {
+                separate(out, index)?;
+                print_into(out, item)?;
+            }
+            out.push(b')')?;
+            Ok(())
+        }
+    }
+}
+
+/// The tree as text on one line, a single space between the items of each list.
+///
+/// It recurses once for each level, and a reader has to find the tree again, so it asks for the form of a tree that was
+/// read: atoms that are words, no more than 200 levels, no more than 2^31 atoms and lists. Printers that write line ends
+/// in place of some spaces stand on the law `spelled_is_read` of `proofs/SpellingLaws.antt`, which holds for any
+/// separators.
+pub fn print_tree(alloc: Global, tree: &Tree) -> Result<Vec<u8>, Memory>
+    requires { IsWellFormed (node_of tree.now) }
+    ensures exact { IfOk result (λ text. text.items ≡ tree_text (node_of tree.now)) }
+    ensures again { IfOk result (λ text. ReadsAs text.items (node_of tree.now)) }
+{
+    let mut out = Vec::new(alloc);
+    print_into(&mut out, tree)?;
+    Ok(out)
+}

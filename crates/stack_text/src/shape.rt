@@ -1,0 +1,49 @@
+//! Kinds and shapes of values.
+
+ghost use Rattle.std.specs.Prelude.{◌≡◌};
+ghost use Rattle.stack_text.specs.Values.{is_item, item_count};
+
+/// What an item of a value is.
+#[derive(Clone, Copy, Debug, PartialEq, Eq)]
+pub enum Kind {
+    /// A signed integer of 32 bits.
+    Integer,
+    /// 0 for false, or 1 for true.
+    Boolean,
+    /// An ASCII code, 0 to 127.
+    Character,
+}
+
+/// The kind of a value's items and how many there are.
+#[derive(Clone, Copy, Debug, PartialEq, Eq)]
+pub struct Shape {
+    pub kind: Kind,
+    /// The length of an array, or 0 for a simple type, which has one item.
+    pub length: u32,
+}
+
+impl Kind {
+    /// Whether the kind has this item.
+    pub fn has(self, item: i32) -> bool
+        ensures { result ≡ is_item self item }
+    {
+        match self {
+            Kind::Integer => true,
+            Kind::Boolean => item == 0 || item == 1,
+            Kind::Character => 0 <= item && item <= 127,
+        }
+    }
+}
+
+impl Shape {
+    /// How many items a value of the shape has.
+    pub fn item_count(self) -> usize
+        ensures { result ≡ item_count self }
+    {
+        if self.length == 0 {
+            1
+        } else {
+            self.length as usize
+        }
+    }
+}
