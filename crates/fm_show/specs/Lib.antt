@@ -1,0 +1,2 @@
+pub mod Disassembly
+pub mod Listing

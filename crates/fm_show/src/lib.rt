@@ -1,0 +1,13 @@
+//! The FM9001 as text: a word as the instruction that it is, and a machine as lines.
+//!
+//! `docs/fm9001.md` has the notation, with examples.
+#![tactic(auto)]
+
+mod disassembly;
+mod listing;
+
+pub use disassembly::disassemble;
+pub use listing::show_machine;
+
+#[cfg(test)]
+mod tests;
