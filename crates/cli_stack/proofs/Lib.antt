@@ -1,0 +1,11 @@
+pub mod Digits
+pub mod Lists
+pub mod Emitted
+pub mod Slots
+pub mod Stores
+pub mod Ending
+pub mod Gathering
+pub mod Printing
+pub mod Saving
+pub mod Sizes
+pub mod Placing

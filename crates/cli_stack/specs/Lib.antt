@@ -1,0 +1,14 @@
+pub mod Answer
+pub mod Form
+pub mod Go
+pub mod Headline
+pub mod Image
+pub mod Loaded
+pub mod Numerals
+pub mod Piton
+pub mod Placed
+pub mod Replies
+pub mod Source
+pub mod Stages
+pub mod Values
+pub mod Words

@@ -1,0 +1,57 @@
+-- The ends of a command, with their exit statuses and their lines.
+use Rattle.std.specs.Prelude.{ℕ, List, [], ◌++◌, Option, None, codes}
+use Rattle.std.specs.Option.{option_map}
+use Rattle.std.specs.Fmt.{decimal}
+use Rattle.std.specs.Int.{w32, to_be_bytes}
+use Rattle.hex.specs.Hex.{encode_lower}
+use Rattle.fm_machine.specs.State.{Fm, Seen}
+use Rattle.cli_stack.specs.Loaded.{line}
+use Rattle.cli_stack.specs.declared.reply.Reply.{Reply}
+use Rattle.cli_stack.specs.declared.reply.Verdict.{Verdict}
+use Rattle.cli_stack.specs.declared.reply.Verdict.TheVariants.{Done, Usage, Unfinished, Outside, SmallControl, SmallTemporary, NotBuilt}
+
+abbrev pub missing_line : List ℕ → List ℕ
+missing_line name = line (codes "missing " ++ name)
+
+abbrev pub long_line : ℕ → List ℕ
+long_line limit = line (codes "size file " ++ decimal limit)
+
+abbrev pub fault_line : List ℕ → List ℕ
+fault_line name = line (codes "shelf fault " ++ name)
+
+-- an address in eight hexadecimal digits
+unfoldable pub address_text : ℕ → List ℕ
+address_text address = encode_lower (to_be_bytes w32 address)
+
+-- the exit status
+abbrev pub status_of : Verdict → ℕ
+status_of Done = 0
+status_of Usage = 1
+status_of (Unfinished budget) = 5
+status_of (Outside address count) = 6
+status_of (SmallControl need) = 12
+status_of (SmallTemporary need) = 12
+status_of NotBuilt = 15
+
+-- the last line; a command that comes to its defined end has said all
+abbrev pub verdict_line : Verdict → List ℕ
+verdict_line Done = []
+verdict_line Usage = line (codes "usage")
+verdict_line (Unfinished budget) = line (codes "unfinished " ++ decimal budget)
+verdict_line (Outside address count) = line (codes "outside " ++ address_text address ++ codes " after " ++ decimal count)
+verdict_line (SmallControl need) = line (codes "size control " ++ decimal need)
+verdict_line (SmallTemporary need) = line (codes "size temporary " ++ decimal need)
+verdict_line NotBuilt = line (codes "not built")
+
+-- what a command answers: its end, the text that is printed, and the state of the machine that was run
+pub record Told : Type 0 where
+  pub verdict : Verdict
+  pub text : List ℕ
+  pub state : Option Fm
+
+abbrev pub told_of : Reply → Told
+told_of reply = record { verdict = reply.verdict; text = reply.text; state = option_map (λ (machine : Seen). machine.state) reply.machine }
+
+-- the line of an end alone
+abbrev pub only : Verdict → Told
+only verdict = record { verdict = verdict; text = verdict_line verdict; state = None }

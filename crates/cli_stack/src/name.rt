@@ -1,0 +1,36 @@
+//! Names of files.
+ghost use Rattle.std.specs.Prelude.{◌≡◌, IfOk};
+
+use stack_text::Memory;
+use std::alloc::Global;
+use std::marker::Model;
+
+/// The name of a file. Contracts see its bytes.
+#[derive(Debug, Drop)]
+pub struct FileName {
+    text: String,
+}
+
+impl Model for FileName {
+    ghost use Rattle.std.specs.Prelude.{List, ℕ, string_bytes};
+
+    ghost Value = { List ℕ };
+
+    ghost view = { λ n. string_bytes n.text };
+}
+
+impl FileName {
+    pub fn new(alloc: Global, text: &str) -> Result<FileName, Memory>
+        ensures { IfOk result (λ name. name ≡ text.now) }
+    {
+        Ok(FileName {
+            text: text.to_string(alloc)?,
+        })
+    }
+
+    pub fn as_str(&self) -> &str
+        ensures { result.now ≡ self.now }
+    {
+        self.text.as_str()
+    }
+}

@@ -1,0 +1,61 @@
+//! Number words of the command line.
+ghost use Rattle.std.specs.Prelude.{◌≡◌, ◌≤◌, Some, None, IfSome};
+ghost use Rattle.cli_stack.specs.Words.{number_within, size_of_stack};
+
+use crate::numeral::natural;
+use std::marker::Model;
+
+/// The most digits of a number word.
+const MOST_DIGITS: usize = 20;
+
+/// The number that a word of at most twenty digits spells, where it is within these bounds.
+pub fn number_within(low: u64, high: u64, word: &str) -> Option<u64>
+    ensures { result ≡ number_within low high word.now }
+{
+    if word.len() > MOST_DIGITS {
+        return None;
+    }
+    match natural(word.as_bytes()) {
+        Some(number) if low <= number && number <= high => Some(number),
+        _ => None,
+    }
+}
+
+/// The size of a stack: 1 to 65,536 words.
+#[derive(Debug, Drop)]
+pub struct StackSize {
+    words: u32,
+}
+
+impl Model for StackSize {
+    ghost use Rattle.std.specs.Prelude.{ℕ, ◌≤◌};
+
+    ghost Value = { ℕ };
+
+    ghost view = { λ size. size.words };
+
+    ghost invariant = { λ size. (1 ≤ size.words) × (size.words ≤ 65536) };
+}
+
+impl StackSize {
+    /// The size that a word spells.
+    pub fn read(word: &str) -> Option<StackSize>
+        ensures { result ≡ size_of_stack word.now }
+    {
+        match number_within(1, 65_536, word) {
+            Some(words) => Some(StackSize {
+                words: words as u32,
+            }),
+            None => None,
+        }
+    }
+
+    /// How many words it is.
+    pub fn words(&self) -> u32
+        ensures value { result ≡ self.now }
+        ensures low { 1 ≤ result }
+        ensures high { result ≤ 65536 }
+    {
+        self.words
+    }
+}
