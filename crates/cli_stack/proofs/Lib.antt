@@ -9,3 +9,10 @@ pub mod Printing
 pub mod Saving
 pub mod Sizes
 pub mod Placing
+pub mod Implementing
+pub mod Laying
+pub mod ReadBack
+pub mod Sources
+pub mod Standing
+pub mod Walking
+pub mod Promising

@@ -4,8 +4,10 @@ pub mod Go
 pub mod Headline
 pub mod Image
 pub mod Loaded
+pub mod Meaning
 pub mod Numerals
 pub mod Piton
+pub mod Promise
 pub mod Placed
 pub mod Replies
 pub mod Source

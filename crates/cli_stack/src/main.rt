@@ -23,6 +23,8 @@ mod row;
 mod run;
 mod source;
 mod stage;
+#[cfg(test)]
+mod tests;
 mod values;
 mod words;
 

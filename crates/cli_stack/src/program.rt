@@ -5,6 +5,7 @@ ghost use Rattle.cli_stack.specs.Replies.{missing_line, fault_line};
 ghost use Rattle.cli_stack.specs.Answer.{answer, answer_to, file_names, files_after};
 ghost use Rattle.cli_stack.specs.Words.{command_of};
 ghost use Rattle.cli_stack.specs.Stages.{TellsSize};
+ghost use Rattle.cli_stack.specs.Promise.{KeepsPromise};
 ghost use Rattle.cli_stack.specs.Headline.{spelled, input_names, Agrees, Leaves, HasReason, HoldsPart, RoseAt, RoseAndTold, SizeTold, PrintsFront, LeavesAfter};
 
 use crate::command::Command;
@@ -38,6 +39,9 @@ pub fn cli<S: Shelf, K: Sink>(
     // Where the shelf tells its files: the answer to the words and the files.
     ensures answers { IfSome (S.files shelf.old) (λ files. result ≢ 10 → result ≢ 11 → result ≢ 14 →
         Agrees (answer (spelled words.now) files) files result (S.files shelf.new) (K.taken out.old) (K.taken out.new) kept.old kept.new) }
+
+    // Where `go` sets an image, that image does what the source means.
+    ensures implements { IfSome (S.files shelf.old) (λ files. KeepsPromise (command_of (spelled words.now)) files (answer (spelled words.now) files).output) }
 
     // Why a device's fault is answered, and at which name.
     ensures missing { result ≡ 9 → RoseAndTold (λ c. c.absences) missing_line (S.counts shelf.old) (S.counts shelf.new)

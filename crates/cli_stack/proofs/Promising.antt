@@ -1,0 +1,134 @@
+-- What `go` sets does what its source means.
+use Rattle.std.proofs.Common.{IfSome, ◌≡◌, ◌≤◌, ℕ, List, [], ◌∷◌, Bool, true, false, Option, Some, None, Result, Ok, Err, length, refl, sym, ap, arith}
+use Rattle.std.specs.Prelude.{nat_lt, nat_le, ◌&&◌, if◌then◌else◌}
+use Rattle.std.proofs.lemmas.Bool.Decides.{nat_tests}
+use Rattle.stack_shelf.specs.Files.{Files, file_at}
+use Rattle.stack_shelf.specs.Shelf.{fetched, within}
+use Rattle.stack_shelf.specs.declared.fault.FetchFault.{FetchFault}
+use Rattle.stack_shelf.specs.declared.fault.FetchFault.TheVariants.{Missing, TooLong, Failed, Memory}
+use Rattle.cli_stack.specs.declared.command.TheConstants.{TEXT_LIMIT}
+use Rattle.cli_stack.specs.declared.command.Command.{Command}
+use Rattle.cli_stack.specs.declared.command.Command.TheVariants.{Usage, NotBuilt, Go}
+use Rattle.cli_stack.specs.declared.reply.Verdict.{Verdict}
+use Rattle.cli_stack.specs.declared.row.Verb.{Verb}
+use Rattle.cli_stack.specs.declared.row.Verb.TheVariants as verb
+use Rattle.cli_stack.specs.declared.source.OneStatement.{OneStatement}
+use Rattle.cli_stack.specs.Numerals.{natural_of}
+use Rattle.cli_stack.specs.Words.{where_within, size_of_stack, limit_of, fits, row_of, verb_of, go_with, go_of, later, command_by, command_of}
+use Rattle.cli_stack.specs.Source.{source_of}
+use Rattle.cli_stack.specs.Go.{lack_of, go_image, go_stored, stored_unless}
+use Rattle.cli_stack.specs.Image.{spelled}
+use Rattle.cli_stack.specs.Answer.{Answer, text_of, before_texts, gathered, set_file, inputs_of, output_of, stored_by, told_by, answer_on, answer_to, answer, answer_with}
+use Rattle.cli_stack.specs.Promise.{SetsImplementation, KeepsPromise}
+use Rattle.cli_stack.proofs.Implementing.{implements}
+
+-- 1. The sizes of a command that words spell are those of stacks.
+
+abbrev pub InRange : Command → Type 0
+InRange Usage = Unit {0}
+InRange NotBuilt = Unit {0}
+InRange (Go source values control temporary budget image) = (control ≤ 65536) × (temporary ≤ 65536)
+
+chosen : (b : Bool) (o : Option ℕ) (n : ℕ) → (if b then o else None) ≡ Some n → o ≡ Some n
+chosen true o n h = h
+chosen false o n h = cc
+
+bounded : (low high m n : ℕ) (b : Bool) → nat_le low m && nat_le m high ≡ b → (if b then Some m else None) ≡ Some n → n ≤ high
+bounded low high m n true is h = let same : m ≡ n = cc in grind (arith, nat_tests)
+bounded low high m n false is h = cc
+
+within_high : (low high n : ℕ) (o : Option ℕ) → where_within low high o ≡ Some n → n ≤ high
+within_high low high n None h = cc
+within_high low high n (Some m) h = bounded low high m n (nat_le low m && nat_le m high) refl h
+
+size_bound : (word : List ℕ) (n : ℕ) → size_of_stack word ≡ Some n → n ≤ 65536
+size_bound word n h =
+    within_high 1 65536 n (natural_of word) (chosen (nat_le (length word) 20) (where_within 1 65536 (natural_of word)) n h)
+
+with_range : (source values image control temporary : List ℕ) (c t b : Option ℕ) → size_of_stack control ≡ c → size_of_stack temporary ≡ t → InRange (go_with source values image c t b)
+with_range source values image control temporary (Some c) (Some t) (Some b) is is' = (size_bound control c is, size_bound temporary t is')
+with_range source values image control temporary (Some c) (Some t) None is is' = tt
+with_range source values image control temporary (Some c) None b is is' = tt
+with_range source values image control temporary None t b is is' = tt
+
+go_range : (words : List (List ℕ)) → InRange (go_of words)
+go_range (source ∷ values ∷ control ∷ temporary ∷ budget ∷ image ∷ []) =
+    with_range source values image control temporary (size_of_stack control) (size_of_stack temporary) (limit_of budget) refl refl
+go_range words = tt
+
+later_range : (v : Verb) (words : List (List ℕ)) → InRange (later v words)
+later_range v words = elim (fits (row_of v) words) as (λ b. InRange (if b then NotBuilt else Usage)) [ true ↦ tt | false ↦ tt ]
+
+by_verb : (v : Option Verb) (words : List (List ℕ)) → InRange (command_by v words)
+by_verb None words = tt
+by_verb (Some verb.Go) words = go_range words
+by_verb (Some v) words = later_range v words
+
+in_range : (words : List (List ℕ)) → InRange (command_of words)
+unfolding command_of
+in_range [] = tt
+in_range (word ∷ words) = by_verb (verb_of word) words
+
+-- 2. What is stored is an implementation.
+
+module _ (files : Files) (source image text : List ℕ) (control temporary : ℕ) (there : file_at files source ≡ Some text) (c : control ≤ 65536) (t : temporary ≤ 65536) where
+  by_lack : (s : OneStatement) (l : Option Verdict) → source_of text ≡ Some s → lack_of s control temporary ≡ l
+      → SetsImplementation files source (set_file (Some image) (stored_unless l (spelled (go_image s control temporary))))
+  by_lack s (Some lack) read l = tt
+  by_lack s None read l = record {
+    text = text;
+    there = there;
+    source = s;
+    read = read;
+    image = go_image s control temporary;
+    spelled_so = refl;
+    implements = implements text s control temporary read c t l;
+  }
+
+  by_source : (o : Option OneStatement) → source_of text ≡ o → SetsImplementation files source (set_file (Some image) (go_stored o control temporary))
+  by_source None read = tt
+  by_source (Some s) read = by_lack s (lack_of s control temporary) read refl
+
+-- 3. Before the texts are there, nothing is set.
+
+no_output : (name : List ℕ) (limit : ℕ) (r : Result (List ℕ) FetchFault) (early : Answer) → text_of name limit r ≡ Err early → early.output ≡ None
+no_output name limit (Ok text) early h = cc
+no_output name limit (Err Missing) early h = let e : Rattle.cli_stack.specs.Answer.ends 9 (Rattle.cli_stack.specs.Replies.missing_line name) ≡ early = cc in ap (λ (a : Answer). a.output) (sym e)
+no_output name limit (Err TooLong) early h = let e : Rattle.cli_stack.specs.Answer.ends 12 (Rattle.cli_stack.specs.Replies.long_line limit) ≡ early = cc in ap (λ (a : Answer). a.output) (sym e)
+no_output name limit (Err Failed) early h = let e : Rattle.cli_stack.specs.Answer.ends 12 (Rattle.cli_stack.specs.Replies.long_line limit) ≡ early = cc in ap (λ (a : Answer). a.output) (sym e)
+no_output name limit (Err Memory) early h = let e : Rattle.cli_stack.specs.Answer.ends 12 (Rattle.cli_stack.specs.Replies.long_line limit) ≡ early = cc in ap (λ (a : Answer). a.output) (sym e)
+
+was_there : (name : List ℕ) (limit : ℕ) (o : Option (List ℕ)) (text : List ℕ) → text_of name limit (within limit o) ≡ Ok text → o ≡ Some text
+was_there name limit None text h = cc
+was_there name limit (Some bytes) text h = short (nat_lt limit (length bytes)) h
+  where
+    short : (b : Bool) → text_of name limit (if b then Err TooLong else Ok bytes) ≡ Ok text → Some bytes ≡ Some text
+    short true h = cc
+    short false h = cc
+
+sets_none : (files : Files) (source : List ℕ) (o : Option (List ℕ × List ℕ)) → o ≡ None → SetsImplementation files source o
+sets_none files source o h = rw h tt
+
+go_keeps : (files : Files) (source values image : List ℕ) (control temporary budget : ℕ) → control ≤ 65536 → temporary ≤ 65536 → (first second : Result (List ℕ) Answer)
+    → text_of source TEXT_LIMIT (fetched files source TEXT_LIMIT) ≡ first → text_of values TEXT_LIMIT (fetched files values TEXT_LIMIT) ≡ second
+    → SetsImplementation files source (answer_on (Go source values control temporary budget image) (before_texts first (before_texts second (Ok [])))).output
+unfolding output_of stored_by
+go_keeps files source values image control temporary budget c t (Err early) second got got' = sets_none files source early.output (no_output source TEXT_LIMIT _ early got)
+go_keeps files source values image control temporary budget c t (Ok text) (Err early) got got' = sets_none files source early.output (no_output values TEXT_LIMIT _ early got')
+go_keeps files source values image control temporary budget c t (Ok text) (Ok text') got got' =
+    by_source files source image text control temporary (was_there source TEXT_LIMIT (file_at files source) text got) c t (source_of text) refl
+
+keeps : (command : Command) (files : Files) → InRange command → KeepsPromise command files (answer_to command files).output
+unfolding inputs_of
+keeps Usage files range = tt
+keeps NotBuilt files range = tt
+keeps (Go source values control temporary budget image) files range =
+    go_keeps files source values image control temporary budget range.0 range.1 _ _ refl refl
+
+-- whatever the words and the files are
+pub keeps_promise : (words : List (List ℕ)) (files : Files) → KeepsPromise (command_of words) files (answer words files).output
+keeps_promise words files = keeps (command_of words) files (in_range words)
+
+pub keeps_promise_on : (words : List (List ℕ)) (o : Option Files) → IfSome o (λ files. KeepsPromise (command_of words) files (answer words files).output)
+keeps_promise_on words None = tt
+keeps_promise_on words (Some files) = keeps_promise words files

@@ -1,0 +1,47 @@
+-- What a program of one statement means, and what it is for an image to do that.
+use Rattle.std.specs.Prelude.{◌≡◌, ℕ, zero, suc, ◌+◌, ℤ, List, length, slice_set, All, FitsSigned}
+use Rattle.std.specs.Int.{w32}
+use Rattle.fm_machine.specs.State.{Fm}
+use Rattle.fm_machine.specs.Run.{IsFirst}
+use Rattle.cli_stack.specs.declared.source.Statement.{Statement}
+use Rattle.cli_stack.specs.declared.source.Statement.TheVariants.{NoOp, Assign}
+use Rattle.cli_stack.specs.declared.source.OneStatement.{OneStatement}
+use Rattle.cli_stack.specs.declared.image.Image.{Image}
+use Rattle.cli_stack.specs.declared.display.Condition.{Condition}
+use Rattle.cli_stack.specs.declared.display.Condition.TheVariants.{Normal}
+use Rattle.cli_stack.specs.Loaded.{loaded, reading}
+
+-- What a run of a source gives: the variables and the condition, where it is done within a bound on nesting.
+pub data Meaning : Type 0 where
+  Done : (variables : List ℤ) (condition : Condition) → Meaning
+  Unfinished : Meaning
+
+-- the variables after a statement: an assignment sets one of them to its constant
+abbrev pub variables_after : Statement → List ℤ → List ℤ
+variables_after NoOp values = values
+variables_after (Assign variable number) values = slice_set values variable number
+
+-- the meaning of a source on these values of its variables: its statement nests once, and ends normally
+abbrev pub meaning : OneStatement → List ℤ → ℕ → Meaning
+meaning source values zero = Unfinished
+meaning source values (suc n) = Done (variables_after source.statement values) Normal
+
+-- how many instructions a statement takes
+abbrev pub statement_count : Statement → ℕ
+statement_count NoOp = 1
+statement_count (Assign variable number) = 23
+
+-- how many a source takes: its statement's, and five to leave the main procedure
+abbrev pub instruction_count : OneStatement → ℕ
+instruction_count source = statement_count source.statement + 5
+
+-- a number of 32 signed bits for each variable
+pub record FitsVariables (source : OneStatement) (values : List ℤ) : Type 0 where
+  pub many : length values ≡ length source.variables
+  pub numbers : All (FitsSigned w32) values
+
+-- The image implements the source: on all values that fit, where the meaning is done, the machine loaded with those values comes to the image's final program counter, first after exactly the counted instructions, and reading its memory there gives the meaning's variables and condition.
+abbrev pub Implements : Image → OneStatement → Type 0
+Implements image source =
+    (values : List ℤ) (n : ℕ) (finals : List ℤ) (condition : Condition) → FitsVariables source values → meaning source values n ≡ Done finals condition
+    → (s : Fm) × IsFirst (loaded image values) image.final_pc (instruction_count source) s × (reading image s ≡ record { condition = condition; values = finals })
