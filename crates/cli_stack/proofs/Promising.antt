@@ -1,5 +1,5 @@
 -- What `go` sets does what its source means.
-use Rattle.std.proofs.Common.{IfSome, ◌≡◌, ◌≤◌, ℕ, List, [], ◌∷◌, Bool, true, false, Option, Some, None, Result, Ok, Err, length, refl, sym, ap, arith}
+use Rattle.std.proofs.Common.{IfSome, ◌≡◌, ◌≤◌, ℕ, ℤ, pos, negsuc, List, [], ◌∷◌, Bool, true, false, Option, Some, None, Result, Ok, Err, length, refl, sym, ap, arith}
 use Rattle.std.specs.Prelude.{nat_lt, nat_le, ◌&&◌, if◌then◌else◌}
 use Rattle.std.proofs.lemmas.Bool.Decides.{nat_tests}
 use Rattle.stack_shelf.specs.Files.{Files, file_at}
@@ -13,8 +13,8 @@ use Rattle.cli_stack.specs.declared.reply.Verdict.{Verdict}
 use Rattle.cli_stack.specs.declared.row.Verb.{Verb}
 use Rattle.cli_stack.specs.declared.row.Verb.TheVariants as verb
 use Rattle.cli_stack.specs.declared.source.OneStatement.{OneStatement}
-use Rattle.cli_stack.specs.Numerals.{natural_of}
-use Rattle.cli_stack.specs.Words.{where_within, size_of_stack, limit_of, fits, row_of, verb_of, go_with, go_of, later, command_by, command_of}
+use Rattle.stack_text.specs.Numerals.{is_digits, numeral_of}
+use Rattle.cli_stack.specs.Words.{where_within, number_within, size_of_stack, limit_of, fits, row_of, verb_of, go_with, go_of, later, command_by, command_of}
 use Rattle.cli_stack.specs.Source.{source_of}
 use Rattle.cli_stack.specs.Go.{lack_of, go_image, go_stored, stored_unless}
 use Rattle.cli_stack.specs.Image.{spelled}
@@ -37,13 +37,15 @@ bounded : (low high m n : ℕ) (b : Bool) → nat_le low m && nat_le m high ≡ 
 bounded low high m n true is h = let same : m ≡ n = cc in grind (arith, nat_tests)
 bounded low high m n false is h = cc
 
-within_high : (low high n : ℕ) (o : Option ℕ) → where_within low high o ≡ Some n → n ≤ high
+within_high : (low high n : ℕ) (o : Option ℤ) → where_within low high o ≡ Some n → n ≤ high
 within_high low high n None h = cc
-within_high low high n (Some m) h = bounded low high m n (nat_le low m && nat_le m high) refl h
+within_high low high n (Some (pos m)) h = bounded low high m n (nat_le low m && nat_le m high) refl h
+within_high low high n (Some (negsuc m)) h = cc
 
 size_bound : (word : List ℕ) (n : ℕ) → size_of_stack word ≡ Some n → n ≤ 65536
+unfolding number_within
 size_bound word n h =
-    within_high 1 65536 n (natural_of word) (chosen (nat_le (length word) 20) (where_within 1 65536 (natural_of word)) n h)
+    within_high 1 65536 n (numeral_of word) (chosen (is_digits word && nat_le (length word) 20) (where_within 1 65536 (numeral_of word)) n h)
 
 with_range : (source values image control temporary : List ℕ) (c t b : Option ℕ) → size_of_stack control ≡ c → size_of_stack temporary ≡ t → InRange (go_with source values image c t b)
 with_range source values image control temporary (Some c) (Some t) (Some b) is is' = (size_bound control c is, size_bound temporary t is')

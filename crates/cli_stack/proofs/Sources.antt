@@ -1,15 +1,16 @@
 -- What holds of each source that is read.
-use Rattle.std.proofs.Common.{◌≡◌, ◌<◌, ◌≤◌, ◌^◌, ℕ, ℤ, pos, neg_ℤ, zero, suc, List, [], ◌∷◌, length, Option, Some, None, Bool, true, false, refl, ap, subst, arith}
-use Rattle.std.specs.Prelude.{FitsSigned, position, nat_lt, nat_le, ◌==◌, if◌then◌else◌, codes}
+use Rattle.std.proofs.Common.{◌≡◌, ◌<◌, ◌≤◌, ◌^◌, ℕ, ℤ, pos, negsuc, zero, suc, List, [], ◌∷◌, length, Option, Some, None, Bool, true, false, refl, ap, subst, arith}
+use Rattle.std.specs.Prelude.{FitsSigned, position, nat_lt, if◌then◌else◌, codes}
 use Rattle.std.specs.Int.{w32}
 use Rattle.std.specs.Str.{bytes_eq}
-use Rattle.std.proofs.lemmas.Bool.{ltb-true, leb-true}
+use Rattle.std.proofs.lemmas.Bool.{ltb-true}
 use Rattle.std.proofs.lemmas.List.Quantifiers.{position-Some}
 use Rattle.cli_stack.specs.declared.source.Statement.{Statement}
 use Rattle.cli_stack.specs.declared.source.Statement.TheVariants.{NoOp, Assign}
 use Rattle.cli_stack.specs.declared.source.OneStatement.{OneStatement}
 use Rattle.cli_stack.specs.Form.{◌>>=◌, where_true, behind, keyword_at, atom_at, int_at, empty_list_at}
-use Rattle.cli_stack.specs.Numerals.{natural_of, as_negative, as_positive, int_of}
+use Rattle.stack_text.specs.Numerals.{numeral_of}
+use Rattle.cli_stack.specs.Numerals.{where_int, int_of}
 use Rattle.cli_stack.specs.Source.{heading_at, declaration_at, ends_or, declarations_at, variables_at, assignment_at, no_op_at, opened_at, statement_at, is_closed, are_distinct, source_of}
 
 -- an assignment is to one of so many variables, and its constant is a number of 32 signed bits
@@ -37,34 +38,23 @@ given : {A : Type 0} (test : Bool) (x y : A) → where_true test x ≡ Some y �
 given true x y h = cc
 given false x y h = cc
 
-neg_fits : (n : ℕ) → n ≤ 2 ^ 31 → FitsSigned w32 (neg_ℤ (pos n))
-neg_fits zero h = record { sfits = omega arith }
-neg_fits (suc n) h = record { sfits = omega arith }
-
-as_negative_fits : (o : Option ℕ) (z : ℤ) → as_negative o ≡ Some z → FitsSigned w32 z
-as_negative_fits None z h = cc
-as_negative_fits (Some n) z h = by_test (nat_le n (2 ^ 31)) refl h
-  where
-    by_test : (b : Bool) → nat_le n (2 ^ 31) ≡ b → (if b then Some (neg_ℤ (pos n)) else None) ≡ Some z → FitsSigned w32 z
-    by_test true e h = let same : neg_ℤ (pos n) ≡ z = cc in subst (FitsSigned w32) same (neg_fits n (leb-true n (2 ^ 31) e))
-    by_test false e h = cc
-
-as_positive_fits : (o : Option ℕ) (z : ℤ) → as_positive o ≡ Some z → FitsSigned w32 z
-as_positive_fits None z h = cc
-as_positive_fits (Some n) z h = by_test (nat_lt n (2 ^ 31)) refl h
+by_int : (o : Option ℤ) (z : ℤ) → where_int o ≡ Some z → FitsSigned w32 z
+by_int None z h = cc
+by_int (Some (pos n)) z h = by_test (nat_lt n (2 ^ 31)) refl h
   where
     by_test : (b : Bool) → nat_lt n (2 ^ 31) ≡ b → (if b then Some (pos n) else None) ≡ Some z → FitsSigned w32 z
     by_test true e h = let same : pos n ≡ z = cc in subst (FitsSigned w32) same (record { sfits = ltb-true n (2 ^ 31) e })
     by_test false e h = cc
+by_int (Some (negsuc n)) z h = by_test (nat_lt n (2 ^ 31)) refl h
+  where
+    by_test : (b : Bool) → nat_lt n (2 ^ 31) ≡ b → (if b then Some (negsuc n) else None) ≡ Some z → FitsSigned w32 z
+    by_test true e h = let same : negsuc n ≡ z = cc in subst (FitsSigned w32) same (record { sfits = ltb-true n (2 ^ 31) e })
+    by_test false e h = cc
 
 -- the number of a numeral has 32 signed bits
 pub int_of_fits : (text : List ℕ) (z : ℤ) → int_of text ≡ Some z → FitsSigned w32 z
-int_of_fits [] z h = cc
-int_of_fits (first ∷ rest) z h = by_test (first == 45) h
-  where
-    by_test : (b : Bool) → (if b then as_negative (natural_of rest) else as_positive (natural_of (first ∷ rest))) ≡ Some z → FitsSigned w32 z
-    by_test true h = as_negative_fits (natural_of rest) z h
-    by_test false h = as_positive_fits (natural_of (first ∷ rest)) z h
+unfolding int_of
+int_of_fits text z h = by_int (numeral_of text) z h
 
 pub int_at_fits : (text : List ℕ) (read : ℤ × List ℕ) → int_at text ≡ Some read → FitsSigned w32 read.0
 unfolding int_at

@@ -1,5 +1,5 @@
 -- The words of a command line.
-use Rattle.std.specs.Prelude.{ℕ, ◌-◌, ◌^◌, List, [], ◌∷◌, length, Bool, true, false, ◌&&◌, ◌||◌, nat_le, Option, Some, None, is_some, codes, if◌then◌else◌}
+use Rattle.std.specs.Prelude.{ℕ, ℤ, pos, negsuc, ◌-◌, ◌^◌, List, [], ◌∷◌, length, Bool, true, false, ◌&&◌, ◌||◌, nat_le, Option, Some, None, is_some, codes, if◌then◌else◌}
 use Rattle.std.specs.Str.{bytes_eq}
 use Rattle.cli_stack.specs.declared.command.Command.{Command}
 use Rattle.cli_stack.specs.declared.command.Command.TheVariants.{Usage, NotBuilt, Go}
@@ -7,15 +7,16 @@ use Rattle.cli_stack.specs.declared.row.Verb.{Verb}
 use Rattle.cli_stack.specs.declared.row.Verb.TheVariants as verb
 use Rattle.cli_stack.specs.declared.row.Kind.{Kind}
 use Rattle.cli_stack.specs.declared.row.Kind.TheVariants as kind
-use Rattle.cli_stack.specs.Numerals.{natural_of}
+use Rattle.stack_text.specs.Numerals.{is_digits, numeral_of}
 
-abbrev pub where_within : ℕ → ℕ → Option ℕ → Option ℕ
+abbrev pub where_within : ℕ → ℕ → Option ℤ → Option ℕ
 where_within low high None = None
-where_within low high (Some n) = if nat_le low n && nat_le n high then Some n else None
+where_within low high (Some (pos n)) = if nat_le low n && nat_le n high then Some n else None
+where_within low high (Some (negsuc n)) = None
 
 -- the number that 1 to 20 digits spell, where it is within these bounds
-abbrev pub number_within : ℕ → ℕ → List ℕ → Option ℕ
-number_within low high word = if nat_le (length word) 20 then where_within low high (natural_of word) else None
+unfoldable pub number_within : ℕ → ℕ → List ℕ → Option ℕ
+number_within low high word = if is_digits word && nat_le (length word) 20 then where_within low high (numeral_of word) else None
 
 -- a stack has 1 to 65,536 words
 abbrev pub size_of_stack : List ℕ → Option ℕ

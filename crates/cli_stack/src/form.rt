@@ -1,10 +1,10 @@
 //! The text form: parentheses and atoms, with separators between them.
 ghost use Rattle.std.specs.Prelude.{◌≡◌, not, position};
 ghost use Rattle.std.specs.Option.{option_copied};
+ghost use Rattle.cli_stack.specs.Numerals.{int_of};
 ghost use Rattle.cli_stack.specs.Form.{Gives, is_separator, is_atom_byte, from_token, behind, atom_at, keyword_at, name_at, int_at, empty_list_at, is_at_end};
 
-use crate::numeral;
-use stack_text::{Memory, Name, read_name};
+use stack_text::{Memory, Name, read_name, read_numeral};
 use std::alloc::{AllocFailed, Global};
 
 /// Why a text was not read.
@@ -140,13 +140,24 @@ pub fn name(alloc: Global, text: &[u8]) -> Result<(Name, &[u8]), FormFault>
     }
 }
 
+/// The number of 32 signed bits that a numeral stands for.
+#[tactic(auto, unfolding(crate::specs::Numerals::int_of))]
+fn int_of(atom: &[u8]) -> Option<i32>
+    ensures { result ≡ int_of atom.now }
+{
+    match read_numeral(atom) {
+        Some(number) if -0x8000_0000 <= number && number <= 0x7fff_ffff => Some(number as i32),
+        _ => None,
+    }
+}
+
 /// The numeral of 32 signed bits that is the next token, and what stands behind it.
 #[tactic(auto, unfolding(crate::specs::Form::int_at))]
 pub fn int(text: &[u8]) -> Result<(i32, &[u8]), FormFault>
     ensures { Gives (λ read. (read.0, read.1.now)) result (int_at text.now) }
 {
     let (found, rest) = atom(text);
-    match numeral::int(found) {
+    match int_of(found) {
         Some(number) => Ok((number, rest)),
         None => Err(FormFault::Other),
     }

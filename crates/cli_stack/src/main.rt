@@ -13,7 +13,6 @@ mod layout;
 mod loader;
 mod name;
 mod number;
-mod numeral;
 mod piton;
 mod placer;
 mod print;

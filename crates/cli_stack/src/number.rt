@@ -2,21 +2,26 @@
 ghost use Rattle.std.specs.Prelude.{◌≡◌, ◌≤◌, Some, None, IfSome};
 ghost use Rattle.cli_stack.specs.Words.{number_within, size_of_stack};
 
-use crate::numeral::natural;
+use stack_text::{is_digits, read_numeral};
 use std::marker::Model;
 
 /// The most digits of a number word.
 const MOST_DIGITS: usize = 20;
 
 /// The number that a word of at most twenty digits spells, where it is within these bounds.
+#[tactic(auto, unfolding(crate::specs::Words::number_within))]
 pub fn number_within(low: u64, high: u64, word: &str) -> Option<u64>
-    ensures { result ≡ number_within low high word.now }
+    ensures value { result ≡ number_within low high word.now }
+    ensures low { IfSome result (λ number. low ≤ number) }
+    ensures high { IfSome result (λ number. number ≤ high) }
 {
-    if word.len() > MOST_DIGITS {
+    if !is_digits(word.as_bytes()) || word.len() > MOST_DIGITS {
         return None;
     }
-    match natural(word.as_bytes()) {
-        Some(number) if low <= number && number <= high => Some(number),
+    match read_numeral(word.as_bytes()) {
+        Some(number) if i128::from(low) <= number && number <= i128::from(high) => Some(
+            number as u64,
+        ),
         _ => None,
     }
 }

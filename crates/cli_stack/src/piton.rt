@@ -98,7 +98,7 @@ impl Program {
         self.prelude_size() + size_of_all(self.instructions.as_slice())
     }
 
-    /// How many instructions stand before a place.
+    /// The address of a place, where the program begins at `entry`.
     pub fn address_of(&self, entry: u32, place: usize) -> u32
         requires small { IsSmall self.now }
         requires low { entry ≤ 10000 }
