@@ -74,7 +74,8 @@ fn condition_of(word: u32) -> Condition
 
 /// The numbers of the variables.
 fn values_of(alloc: Global, machine: &Machine, slots: &[Slot]) -> Result<Vec<i32>, Memory>
-    ensures { IfOk result (λ values. values.items ≡ map (λ slot. signed_of (word_of machine.now.state slot.address)) slots.now) }
+    ensures { IfOk result (λ values.
+        values.items ≡ map (λ slot. signed_of (word_of machine.now.state slot.address)) slots.now) }
 {
     Ok(
         slots

@@ -135,7 +135,8 @@ fn emit_instructions(
     requires small { IsSmall program.now }
     requires low { entry ≤ 10000 }
     requires end { 0 < layout.now.end }
-    ensures { OnOk result (out.new.items ≡ out.old.items ++ words_at layout.now entry program.now (entry + prelude_size program.now) program.now.instructions) }
+    ensures { OnOk result (out.new.items ≡ out.old.items
+        ++ words_at layout.now entry program.now (entry + prelude_size program.now) program.now.instructions) }
 {
     let mut address = entry + program.prelude_size();
     for instruction in program.instructions.as_slice() {

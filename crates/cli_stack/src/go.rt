@@ -93,7 +93,8 @@ pub fn prepare(
     requires control { sizes.0 ≤ 65536 }
     requires temporary { sizes.1 ≤ 65536 }
     ensures stored { IfOk result (λ stage. stage.stored ≡ go_stored (source_of text.now) sizes.0 sizes.1) }
-    ensures then { IfOk result (λ stage. told_after stage.then ≡ go_told (source_of text.now) values.now sizes.0 sizes.1 budget) }
+    ensures then { IfOk result (λ stage.
+        told_after stage.then ≡ go_told (source_of text.now) values.now sizes.0 sizes.1 budget) }
     ensures ready { IfOk result (λ stage. IsReady stage.then) }
 {
     match read_source(alloc, text) {

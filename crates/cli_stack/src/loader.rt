@@ -35,7 +35,8 @@ fn set_words(machine: &mut Machine, words: &[u32])
 /// Sets the words of variables.
 fn set_values(machine: &mut Machine, slots: &[Slot], values: &[i32])
     requires { machine.old.state.base ≡ 0 }
-    ensures { machine.new.state ≡ record machine.old.state { memory = with_values slots.now values.now machine.old.state.memory } }
+    ensures { machine.new.state
+        ≡ record machine.old.state { memory = with_values slots.now values.now machine.old.state.memory } }
 {
     for (place, slot) in slots.iter().enumerate() {
         match values.get(place) {

@@ -59,7 +59,8 @@ fn keep(kept: &mut Option<Machine>, machine: Option<Machine>)
 
 /// Prints a reply, and answers its status.
 fn answer<K: Sink>(reply: Reply, out: &mut K, kept: &mut Option<Machine>) -> u8
-    ensures { Concludes (Ok reply) result (K.taken out.old) (K.taken out.new) (K.faults out.old) (K.faults out.new) kept.old kept.new }
+    ensures { Concludes (Ok reply) result (K.taken out.old) (K.taken out.new)
+        (K.faults out.old) (K.faults out.new) kept.old kept.new }
 {
     let Reply {
         verdict,

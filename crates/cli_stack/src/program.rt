@@ -19,7 +19,9 @@ use std::alloc::Global;
 
 /// Runs the command that the words spell.
 fn run_words<S: Shelf>(alloc: Global, words: &[String], shelf: &mut S) -> Result<Reply, End>
-    ensures told { IfSome (S.files shelf.old) (λ files. Leaves files (S.files shelf.new) (S.counts shelf.old) (S.counts shelf.new) (file_names (command_of (spelled words.now))) (answer (spelled words.now) files) result) }
+    ensures told { IfSome (S.files shelf.old) (λ files. Leaves files (S.files shelf.new)
+        (S.counts shelf.old) (S.counts shelf.new) (file_names (command_of (spelled words.now)))
+        (answer (spelled words.now) files) result) }
     ensures reason { IfErr result (HasReason (S.counts shelf.old) (S.counts shelf.new) (command_of (spelled words.now))) }
     ensures size { IfOk result TellsSize }
     ensures counts { NoneFell (S.counts shelf.old) (S.counts shelf.new) }
@@ -28,7 +30,23 @@ fn run_words<S: Shelf>(alloc: Global, words: &[String], shelf: &mut S) -> Result
     perform(alloc, &command, shelf)
 }
 
-/// The program.
+/// The program: does what the words of a command line ask for, over the files of a shelf, prints to a sink, and answers
+/// the exit status.
+///
+/// `words` are those behind the program's name, as `go SRC VALS CTRL TEMP BUDGET IMG`. `kept` is a place for the machine
+/// that was run: it holds that machine as it stands after the run where the status is 0, 5 or 6 and the command runs one,
+/// and is as it was in every other case.
+///
+/// | Status | Comes where |
+/// |---|---|
+/// | 0 | the command came to its defined end |
+/// | 1 | the words fit no row |
+/// | 5, 6 | the budget was spent before the end; the next instruction needs an address outside the window |
+/// | 9 | a file that is read is not there |
+/// | 10, 11 | the shelf, the sink failed |
+/// | 12 | a file is over its limit, or a stack is smaller than the program's own need |
+/// | 14 | there was no memory, at any point |
+/// | 15 | the command, the source or the values are of a form that is yet to be built |
 pub fn cli<S: Shelf, K: Sink>(
     alloc: Global,
     words: &[String],
@@ -38,10 +56,12 @@ pub fn cli<S: Shelf, K: Sink>(
 ) -> u8
     // Where the shelf tells its files: the answer to the words and the files.
     ensures answers { IfSome (S.files shelf.old) (λ files. result ≢ 10 → result ≢ 11 → result ≢ 14 →
-        Agrees (answer (spelled words.now) files) files result (S.files shelf.new) (K.taken out.old) (K.taken out.new) kept.old kept.new) }
+        Agrees (answer (spelled words.now) files) files result (S.files shelf.new)
+        (K.taken out.old) (K.taken out.new) kept.old kept.new) }
 
     // Where `go` sets an image, that image does what the source means.
-    ensures implements { IfSome (S.files shelf.old) (λ files. KeepsPromise (command_of (spelled words.now)) files (answer (spelled words.now) files).output) }
+    ensures implements { IfSome (S.files shelf.old) (λ files.
+        KeepsPromise (command_of (spelled words.now)) files (answer (spelled words.now) files).output) }
 
     // Why a device's fault is answered, and at which name.
     ensures missing { result ≡ 9 → RoseAndTold (λ c. c.absences) missing_line (S.counts shelf.old) (S.counts shelf.new)

@@ -16,7 +16,8 @@ use std::alloc::Global;
 
 /// The text of one file.
 fn fetch<S: Shelf>(alloc: Global, shelf: &mut S, name: &str, limit: u64) -> Result<Seq<u8>, End>
-    ensures told { IfSome (S.files shelf.old) (λ files. Gives (λ text. text) result (text_of name.now limit (fetched files name.now limit))) }
+    ensures told { IfSome (S.files shelf.old) (λ files.
+        Gives (λ text. text) result (text_of name.now limit (fetched files name.now limit))) }
     ensures cause { IfErr result (EndsAt (S.counts shelf.old) (S.counts shelf.new) name.now) }
     ensures files { S.files shelf.new ≡ S.files shelf.old }
     ensures counts { NoneFell (S.counts shelf.old) (S.counts shelf.new) }
@@ -32,8 +33,10 @@ fn fetch<S: Shelf>(alloc: Global, shelf: &mut S, name: &str, limit: u64) -> Resu
 
 /// The texts of the files that a command reads.
 fn gather<S: Shelf>(alloc: Global, shelf: &mut S, inputs: &[Input]) -> Result<Vec<Seq<u8>>, End>
-    ensures told { IfSome (S.files shelf.old) (λ files. Gives (λ texts. texts.items) result (gathered files (map (λ input. (input.name.now, input.limit)) inputs.now))) }
-    ensures cause { IfErr result (EndsAtOne (S.counts shelf.old) (S.counts shelf.new) (names_of (map (λ input. (input.name.now, input.limit)) inputs.now))) }
+    ensures told { IfSome (S.files shelf.old) (λ files. Gives (λ texts. texts.items) result
+        (gathered files (map (λ input. (input.name.now, input.limit)) inputs.now))) }
+    ensures cause { IfErr result (EndsAtOne (S.counts shelf.old) (S.counts shelf.new)
+        (names_of (map (λ input. (input.name.now, input.limit)) inputs.now))) }
     ensures files { S.files shelf.new ≡ S.files shelf.old }
     ensures counts { NoneFell (S.counts shelf.old) (S.counts shelf.new) }
 {
@@ -47,7 +50,8 @@ fn gather<S: Shelf>(alloc: Global, shelf: &mut S, inputs: &[Input]) -> Result<Ve
 /// Puts bytes under a name.
 fn save<S: Shelf>(alloc: Global, shelf: &mut S, name: &str, bytes: &[u8]) -> Result<(), End>
     ensures ok { OnOk result (S.files shelf.new ≡ stored (S.files shelf.old) name.now bytes.now) }
-    ensures err { IfErr result (λ _. LeavesPart (S.files shelf.old) (S.files shelf.new) (S.counts shelf.old) (S.counts shelf.new) name.now bytes.now) }
+    ensures err { IfErr result (λ _. LeavesPart (S.files shelf.old) (S.files shelf.new)
+        (S.counts shelf.old) (S.counts shelf.new) name.now bytes.now) }
     ensures cause { IfErr result (IsFaultAt (S.counts shelf.old) (S.counts shelf.new) name.now) }
     ensures counts { NoneFell (S.counts shelf.old) (S.counts shelf.new) }
 {
@@ -60,7 +64,8 @@ fn save<S: Shelf>(alloc: Global, shelf: &mut S, name: &str, bytes: &[u8]) -> Res
 
 /// Runs a command over a shelf.
 pub fn perform<S: Shelf>(alloc: Global, command: &Command, shelf: &mut S) -> Result<Reply, End>
-    ensures told { IfSome (S.files shelf.old) (λ files. Leaves files (S.files shelf.new) (S.counts shelf.old) (S.counts shelf.new) (file_names command.now) (answer_to command.now files) result) }
+    ensures told { IfSome (S.files shelf.old) (λ files. Leaves files (S.files shelf.new)
+        (S.counts shelf.old) (S.counts shelf.new) (file_names command.now) (answer_to command.now files) result) }
     ensures reason { IfErr result (HasReason (S.counts shelf.old) (S.counts shelf.new) command.now) }
     ensures size { IfOk result TellsSize }
     ensures counts { NoneFell (S.counts shelf.old) (S.counts shelf.new) }

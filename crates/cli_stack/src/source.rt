@@ -2,7 +2,9 @@
 ghost use Rattle.std.specs.Prelude.{◌≡◌, ◌<◌, ◌≤◌, true, length, position, IfOk, IfSome};
 ghost use Rattle.std.specs.Str.{bytes_eq};
 ghost use Rattle.cli_stack.specs.Form.{Gives};
-ghost use Rattle.cli_stack.specs.Source.{is_for_simple_types, is_for_integers, is_for_booleans, is_for_arrays, is_predefined, heading_at, declaration_at, declarations_at, assignment_at, no_op_at, statement_at, are_distinct, is_closed, variables_at, source_of};
+ghost use Rattle.cli_stack.specs.Source.{is_for_simple_types, is_for_integers, is_for_booleans, is_for_arrays, is_predefined};
+ghost use Rattle.cli_stack.specs.Source.{heading_at, declaration_at, declarations_at, assignment_at, no_op_at, statement_at};
+ghost use Rattle.cli_stack.specs.Source.{are_distinct, is_closed, variables_at, source_of};
 
 use crate::form::{FormFault, atom, behind, empty_list, int, is_at_end, keyword, name, next_is};
 use stack_text::{Name, Seq};
