@@ -15,3 +15,4 @@ pub mod Sources
 pub mod Standing
 pub mod Walking
 pub mod Promising
+pub mod Finishing

@@ -66,7 +66,7 @@ by_verb None words = tt
 by_verb (Some verb.Go) words = go_range words
 by_verb (Some v) words = later_range v words
 
-in_range : (words : List (List ℕ)) → InRange (command_of words)
+pub in_range : (words : List (List ℕ)) → InRange (command_of words)
 unfolding command_of
 in_range [] = tt
 in_range (word ∷ words) = by_verb (verb_of word) words

@@ -24,17 +24,17 @@ pub record IsSource (source : OneStatement) : Type 0 where
   pub statement : IsStatement source.statement (length source.variables)
 
 -- what goes on after a value had one
-record WentOn {A B : Type 0} (o : Option A) (go : A → Option B) (y : B) : Type 0 where
-  value : A
-  had : o ≡ Some value
-  gave : go value ≡ Some y
+pub record WentOn {A B : Type 0} (o : Option A) (go : A → Option B) (y : B) : Type 0 where
+  pub value : A
+  pub had : o ≡ Some value
+  pub gave : go value ≡ Some y
 
-went_on : {A B : Type 0} (o : Option A) (go : A → Option B) (y : B) → (o >>= go) ≡ Some y → WentOn o go y
+pub went_on : {A B : Type 0} (o : Option A) (go : A → Option B) (y : B) → (o >>= go) ≡ Some y → WentOn o go y
 went_on (Some x) go y h = record { value = x; had = refl; gave = h }
 went_on None go y h = cc
 
 -- a value that a test gave
-given : {A : Type 0} (test : Bool) (x y : A) → where_true test x ≡ Some y → x ≡ y
+pub given : {A : Type 0} (test : Bool) (x y : A) → where_true test x ≡ Some y → x ≡ y
 given true x y h = cc
 given false x y h = cc
 

@@ -5,7 +5,7 @@ ghost use Rattle.cli_stack.specs.Replies.{missing_line, fault_line};
 ghost use Rattle.cli_stack.specs.Answer.{answer, answer_to, file_names, files_after};
 ghost use Rattle.cli_stack.specs.Words.{command_of};
 ghost use Rattle.cli_stack.specs.Stages.{TellsSize};
-ghost use Rattle.cli_stack.specs.Promise.{KeepsPromise};
+ghost use Rattle.cli_stack.specs.Promise.{KeepsPromise, TellsWhatIsMeant};
 ghost use Rattle.cli_stack.specs.Headline.{spelled, input_names, Agrees, Leaves, HasReason, HoldsPart, RoseAt, RoseAndTold, SizeTold, PrintsFront, LeavesAfter};
 
 use crate::command::Command;
@@ -62,6 +62,11 @@ pub fn cli<S: Shelf, K: Sink>(
     // Where `go` sets an image, that image does what the source means.
     ensures implements { IfSome (S.files shelf.old) (λ files.
         KeepsPromise (command_of (spelled words.now)) files (answer (spelled words.now) files).output) }
+
+    // Where both texts are there, the stacks have room, the values fit and the budget suffices, the answer tells what
+    // the source means.
+    ensures tells { IfSome (S.files shelf.old) (λ files.
+        TellsWhatIsMeant (command_of (spelled words.now)) files (answer (spelled words.now) files)) }
 
     // Why a device's fault is answered, and at which name.
     ensures missing { result ≡ 9 → RoseAndTold (λ c. c.absences) missing_line (S.counts shelf.old) (S.counts shelf.new)

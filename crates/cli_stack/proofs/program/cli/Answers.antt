@@ -3,6 +3,7 @@ use Rattle.cli_stack.specs.Words.{command_of}
 use Rattle.cli_stack.specs.Headline.{spelled}
 use Rattle.cli_stack.proofs.Ending.{text_left, too_long_or_small}
 use Rattle.cli_stack.proofs.Promising.{keeps_promise_on}
+use Rattle.cli_stack.proofs.Finishing.{tells_on}
 use Rattle.cli_stack.proofs.program.cli.Goals as goal
 
 pub returns-clause-text : goal.returns-clause-text
@@ -15,3 +16,6 @@ returns-clause-too_long g c =
 
 pub returns-clause-implements : goal.returns-clause-implements
 returns-clause-implements g c = keeps_promise_on (spelled c.args.words.now) (g.S.Shelf.files c.args.shelf.now)
+
+pub returns-clause-tells : goal.returns-clause-tells
+returns-clause-tells g c = tells_on (spelled c.args.words.now) (g.S.Shelf.files c.args.shelf.now)
