@@ -1,0 +1,18 @@
+//! Image files: what the FM9001 is loaded with, read from bytes and written as bytes.
+//!
+//! `docs/image-file.md` lists the fields and the rules by which a file is refused.
+#![tactic(auto)]
+
+mod code;
+mod fault;
+mod image;
+mod limit;
+mod reading;
+mod slot;
+mod window;
+mod writing;
+
+pub use fault::ImageFault;
+pub use image::Image;
+pub use slot::Slot;
+pub use writing::write_image;
