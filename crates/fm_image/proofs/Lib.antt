@@ -1,3 +1,6 @@
 pub mod Pieces
 pub mod Items
 pub mod Limits
+pub mod Readers
+pub mod Fields
+pub mod Slots

@@ -1,5 +1,5 @@
 -- The limits of an image, one by one.
-use Rattle.std.proofs.Common.{◌≡◌, ℕ, ◌≤◌, Bool, true, ◌&&◌, eqb, leb, ltb, List, [], length, ◌∙◌, arith}
+use Rattle.std.proofs.Common.{◌≡◌, ℕ, ◌≤◌, ◌+◌, Bool, true, ◌&&◌, eqb, leb, ltb, List, [], length, ◌∙◌, arith}
 use Rattle.std.specs.Prelude.{IsTrue}
 use Rattle.std.proofs.lemmas.Bool.{and_parts, and_from, leb-true}
 use Rattle.fm_image.specs.Image.{ImageOf, window_of, is_size, is_inside, is_window, is_condition_address, is_count, is_condition, is_slot, all_behind, is_image}
@@ -42,7 +42,8 @@ pub word_count : (image : ImageOf) → IsTrue (is_image image) → length image.
 word_count image h =
     let l = limits_of image h in
     let window = and_parts (is_size image.base image.size) (is_inside image.base image.size image.final_pc) l.window in
-    let size = and_parts _ _ (and_parts _ _ window.0).0 in
+    let sized = and_parts (leb 1 image.size && leb image.size 1048576) (leb (image.base + image.size) 4294967295) window.0 in
+    let size = and_parts (leb 1 image.size) (leb image.size 1048576) sized.0 in
     let small : image.size ≤ 1048576 = leb-true image.size 1048576 size.1 in
     let within : length image.words ≤ image.size = leb-true (length image.words) image.size l.words in
     omega (arith, within, small)

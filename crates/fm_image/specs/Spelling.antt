@@ -4,6 +4,7 @@ use Rattle.std.specs.Int.{w32, to_be_bytes}
 use Rattle.std.specs.List.{flat_map, list_all}
 use Rattle.stack_text.specs.declared.shape.Kind.{Kind}
 use Rattle.stack_text.specs.declared.shape.Kind.TheVariants.{Integer, Boolean, Character}
+use Rattle.stack_text.specs.declared.shape.Shape.{Shape}
 use Rattle.fm_words.specs.declared.condition.Flags.{Flags}
 use Rattle.fm_words.specs.Code.{flags_number}
 use Rattle.fm_image.specs.declared.slot.Slot.{Slot}
@@ -50,8 +51,11 @@ kind_number Character = 2
 abbrev pub kind_bytes : Kind → List ℕ
 kind_bytes kind = number_bytes (kind_number kind)
 
+abbrev pub shape_bytes : Shape → List ℕ
+shape_bytes shape = kind_bytes shape.kind ++ number_bytes shape.length
+
 abbrev pub slot_bytes : Slot → List ℕ
-slot_bytes slot = name_bytes slot.name ++ kind_bytes slot.shape.kind ++ number_bytes slot.shape.length ++ number_bytes slot.address
+slot_bytes slot = name_bytes slot.name ++ shape_bytes slot.shape ++ number_bytes slot.address
 
 -- the fields of version 1
 unfoldable pub spelling : ImageOf → List ℕ
