@@ -4,3 +4,4 @@ pub mod Limits
 pub mod Readers
 pub mod Fields
 pub mod Slots
+pub mod Whole
