@@ -45,11 +45,14 @@ text_again end text rest h =
     let small : length text ≤ 64 = leb-true _ _ p.1 in
     ap (text_at end) (append_assoc (number_bytes (length text)) text rest)
     ∙ bind_at (passing is_name_length 6 end (number_at end) (number_bytes (length text) ++ (text ++ rest))) (λ count. bytes_at end count.0 count.1) (length text, text ++ rest)
-        ((limited_reads is_name_length 6 end).again (length text) (text ++ rest) (both (length text) 64 (is_name_length (length text)) small (omega arith) h))
+    ((limited_reads is_name_length 6 end).again (length text) (text ++ rest) (both (length text) 64 (is_name_length (length text)) small (omega arith) h))
     ∙ (bytes_reads end (length text)).again text rest (eq-eqb _ _ refl)
 
 text_reads : (end : ℕ) → Reads (text_at end) name_bytes (λ text. is_name_length (length text))
 text_reads end = record { takes = text_takes end; again = text_again end }
+
+at_least_one : (n : ℕ) → 1 ≤ suc n
+at_least_one n = omega arith
 
 -- a name has 1 to 64 bytes
 name_length : (name : List ℕ) → is_name name ≡ true → is_name_length (length name) ≡ true
@@ -57,7 +60,7 @@ name_length [] h = absurd cc
 name_length (b ∷ bs) h =
     let p = and_parts _ _ h in
     let q = and_parts _ _ p.0 in
-    let some : 1 ≤ length (b ∷ bs) = omega arith in
+    let some : 1 ≤ length (b ∷ bs) = at_least_one (length bs) in
     and_from _ _ (le-leb 1 (length (b ∷ bs)) some) q.1
 
 length_implied : (name : List ℕ) (b : Bool) → is_name name ≡ b → (is_name_length (length name) && b) ≡ b
@@ -67,7 +70,7 @@ length_implied name false h = and_right _ _ refl
 pub name_reads : (end : ℕ) → Reads (name_at end) name_bytes is_name
 name_reads end =
     refit_reads (name_at end) name_bytes (λ name. is_name_length (length name) && is_name name) is_name
-      (passing_reads is_name 6 end (text_at end) name_bytes (λ text. is_name_length (length text)) (text_reads end)) (λ name. length_implied name (is_name name) refl)
+    (passing_reads is_name 6 end (text_at end) name_bytes (λ text. is_name_length (length text)) (text_reads end)) (λ name. length_implied name (is_name name) refl)
 
 pub condition_reads : (end : ℕ) (earlier : List (List ℕ)) → Reads (condition_at end earlier) name_bytes (is_condition earlier)
 condition_reads end earlier = passing_reads (λ name. not (list_any (λ other. bytes_eq other name) earlier)) 8 end (name_at end) name_bytes is_name (name_reads end)
@@ -90,7 +93,7 @@ opening_takes end bytes version rest ok e =
 pub opening_again : (end : ℕ) (rest : List ℕ) → opening_at end (opening_bytes ++ rest) ≡ Ok (1, rest)
 opening_again end rest =
     bind_at (passing is_magic 1 end (bytes_at end 4) (codes "FM91" ++ (number_bytes 1 ++ rest))) (λ magic. passing is_version 2 end (number_at end) magic.1) (codes "FM91", number_bytes 1 ++ rest)
-      ((passing_reads is_magic 1 end (bytes_at end 4) (λ text. text) (λ text. eqb (length text) 4) (bytes_reads end 4)).again (codes "FM91") (number_bytes 1 ++ rest) refl)
+    ((passing_reads is_magic 1 end (bytes_at end 4) (λ text. text) (λ text. eqb (length text) 4) (bytes_reads end 4)).again (codes "FM91") (number_bytes 1 ++ rest) refl)
     ∙ (limited_reads is_version 2 end).again 1 rest refl
 
 -- ---- the window
@@ -98,16 +101,17 @@ opening_again end rest =
 pub window_reads : (end : ℕ) → Reads (window_at end) window_bytes is_window
 window_reads end = record {
   takes = λ bytes w rest ok e.
-    let a = bind_ok (number_at end bytes) (λ base. passing (is_size base.0) 5 end (number_at end) base.1 >>= λ size. passing (is_inside base.0 size.0) 5 end (number_at end) size.1 >>= λ pc. Ok (record { base = base.0; size = size.0; final_pc = pc.0 }, pc.1)) (w, rest) e in
-    let b = bind_ok (passing (is_size a.0.0) 5 end (number_at end) a.0.1) (λ size. passing (is_inside a.0.0 size.0) 5 end (number_at end) size.1 >>= λ pc. Ok (record { base = a.0.0; size = size.0; final_pc = pc.0 }, pc.1)) (w, rest) a.2 in
-    let c = bind_ok (passing (is_inside a.0.0 b.0.0) 5 end (number_at end) b.0.1) (λ pc. Ok (record { base = a.0.0; size = b.0.0; final_pc = pc.0 }, pc.1)) (w, rest) b.2 in
-    let t0 = (number_reads end).takes bytes a.0.0 a.0.1 ok a.1 in
-    let t1 = (limited_reads (is_size a.0.0) 5 end).takes a.0.1 b.0.0 b.0.1 t0.0.rest_fits b.1 in
-    let t2 = (limited_reads (is_inside a.0.0 b.0.0) 5 end).takes b.0.1 c.0.0 c.0.1 t1.0.rest_fits c.1 in
-    let made : Window × List ℕ = (record { base = a.0.0; size = b.0.0; final_pc = c.0.0 }, c.0.1) in
-    subst (λ (y : Window × List ℕ). Took bytes (window_bytes y.0) y.1 × (is_window y.0 ≡ true)) (ok_is made (w, rest) c.2)
-      (Took-then bytes (number_bytes a.0.0 ++ number_bytes b.0.0) b.0.1 (number_bytes c.0.0) c.0.1 (Took-then bytes (number_bytes a.0.0) a.0.1 (number_bytes b.0.0) b.0.1 t0.0 t1.0) t2.0,
-       and_from _ _ (and_parts (is_word b.0.0) (is_size a.0.0 b.0.0) t1.1).1 (and_parts (is_word c.0.0) (is_inside a.0.0 b.0.0 c.0.0) t2.1).1);
+      let a = bind_ok (number_at end bytes) (λ base. passing (is_size base.0) 5 end (number_at end) base.1 >>= λ size. passing (is_inside base.0 size.0) 5 end (number_at end) size.1 >>= λ pc. Ok (record { base = base.0; size = size.0; final_pc = pc.0 }, pc.1)) (w, rest) e in
+      let b = bind_ok (passing (is_size a.0.0) 5 end (number_at end) a.0.1) (λ size. passing (is_inside a.0.0 size.0) 5 end (number_at end) size.1 >>= λ pc. Ok (record { base = a.0.0; size = size.0; final_pc = pc.0 }, pc.1)) (w, rest) a.2 in
+      let c = bind_ok (passing (is_inside a.0.0 b.0.0) 5 end (number_at end) b.0.1) (λ pc. Ok (record { base = a.0.0; size = b.0.0; final_pc = pc.0 }, pc.1)) (w, rest) b.2 in
+      let t0 = (number_reads end).takes bytes a.0.0 a.0.1 ok a.1 in
+      let t1 = (limited_reads (is_size a.0.0) 5 end).takes a.0.1 b.0.0 b.0.1 t0.0.rest_fits b.1 in
+      let t2 = (limited_reads (is_inside a.0.0 b.0.0) 5 end).takes b.0.1 c.0.0 c.0.1 t1.0.rest_fits c.1 in
+      let made : Window × List ℕ = (record { base = a.0.0; size = b.0.0; final_pc = c.0.0 }, c.0.1) in
+      subst (λ (y : Window × List ℕ). Took bytes (window_bytes y.0) y.1 × (is_window y.0 ≡ true)) (ok_is made (w, rest) c.2) (
+        Took-then bytes (number_bytes a.0.0 ++ number_bytes b.0.0) b.0.1 (number_bytes c.0.0) c.0.1 (Took-then bytes (number_bytes a.0.0) a.0.1 (number_bytes b.0.0) b.0.1 t0.0 t1.0) t2.0,
+        and_from _ _ (and_parts (is_word b.0.0) (is_size a.0.0 b.0.0) t1.1).1 (and_parts (is_word c.0.0) (is_inside a.0.0 b.0.0 c.0.0) t2.1).1,
+      );
   again = λ w rest h. window_again end w rest h;
 }
   where
@@ -124,11 +128,11 @@ window_reads end = record {
         let after_pc : Window × List ℕ = (w, rest) in
         ap (window_at end) (append_assoc (number_bytes w.base ++ number_bytes w.size) (number_bytes w.final_pc) rest ∙ append_assoc (number_bytes w.base) (number_bytes w.size) (number_bytes w.final_pc ++ rest))
         ∙ bind_at (number_at end (number_bytes w.base ++ (number_bytes w.size ++ (number_bytes w.final_pc ++ rest))))
-            (λ base. passing (is_size base.0) 5 end (number_at end) base.1 >>= λ size. passing (is_inside base.0 size.0) 5 end (number_at end) size.1 >>= λ pc. Ok (record { base = base.0; size = size.0; final_pc = pc.0 }, pc.1))
-            (w.base, number_bytes w.size ++ (number_bytes w.final_pc ++ rest)) ((number_reads end).again w.base (number_bytes w.size ++ (number_bytes w.final_pc ++ rest)) base_word)
+        (λ base. passing (is_size base.0) 5 end (number_at end) base.1 >>= λ size. passing (is_inside base.0 size.0) 5 end (number_at end) size.1 >>= λ pc. Ok (record { base = base.0; size = size.0; final_pc = pc.0 }, pc.1))
+        (w.base, number_bytes w.size ++ (number_bytes w.final_pc ++ rest)) ((number_reads end).again w.base (number_bytes w.size ++ (number_bytes w.final_pc ++ rest)) base_word)
         ∙ bind_at (passing (is_size w.base) 5 end (number_at end) (number_bytes w.size ++ (number_bytes w.final_pc ++ rest)))
-            (λ size. passing (is_inside w.base size.0) 5 end (number_at end) size.1 >>= λ pc. Ok (record { base = w.base; size = size.0; final_pc = pc.0 }, pc.1))
-            (w.size, number_bytes w.final_pc ++ rest) ((limited_reads (is_size w.base) 5 end).again w.size (number_bytes w.final_pc ++ rest) size_fits)
+        (λ size. passing (is_inside w.base size.0) 5 end (number_at end) size.1 >>= λ pc. Ok (record { base = w.base; size = size.0; final_pc = pc.0 }, pc.1))
+        (w.size, number_bytes w.final_pc ++ rest) ((limited_reads (is_size w.base) 5 end).again w.size (number_bytes w.final_pc ++ rest) size_fits)
         ∙ bind_at (passing (is_inside w.base w.size) 5 end (number_at end) (number_bytes w.final_pc ++ rest))
-            (λ pc. Ok (record { base = w.base; size = w.size; final_pc = pc.0 }, pc.1))
-            (w.final_pc, rest) ((limited_reads (is_inside w.base w.size) 5 end).again w.final_pc rest pc_fits)
+        (λ pc. Ok (record { base = w.base; size = w.size; final_pc = pc.0 }, pc.1))
+        (w.final_pc, rest) ((limited_reads (is_inside w.base w.size) 5 end).again w.final_pc rest pc_fits)

@@ -65,15 +65,15 @@ pub record Reads {A : Type 0} (read : List ℕ → Result (A × List ℕ) (ℕ �
 pub bytes_reads : (end count : ℕ) → Reads (bytes_at end count) (λ bytes. bytes) (λ bytes. eqb (length bytes) count)
 bytes_reads end count = record {
   takes = λ bytes x rest fits e.
-    let g = guard_short (ltb (length bytes) count) (3, end) (take count bytes, drop count bytes) (x, rest) e in
-    let long : count ≤ length bytes = ltb-false _ _ g.0 in
-    let len : length (take count bytes) ≡ count = omega (arith, length-take count bytes) in
-    subst (λ (p : List ℕ × List ℕ). Took bytes p.0 p.1 × (eqb (length p.0) count ≡ true)) g.1
+      let g = guard_short (ltb (length bytes) count) (3, end) (take count bytes, drop count bytes) (x, rest) e in
+      let long : count ≤ length bytes = ltb-false _ _ g.0 in
+      let len : length (take count bytes) ≡ count = omega (arith, length-take count bytes) in
+      subst (λ (p : List ℕ × List ℕ). Took bytes p.0 p.1 × (eqb (length p.0) count ≡ true)) g.1
       (record { parts = sym (take-append-drop count bytes); rest_fits = IsBytes-drop count bytes fits }, eq-eqb _ _ len);
   again = λ x rest h.
-    let len : length x ≡ count = eqb-true _ _ h in
-    let long : ltb (length (x ++ rest)) count ≡ false = le-ltb _ _ (omega (arith, length-append x rest)) in
-    rw (long, take_at x rest count len, drop_at x rest count len) refl;
+      let len : length x ≡ count = eqb-true _ _ h in
+      let long : ltb (length (x ++ rest)) count ≡ false = le-ltb _ _ (omega (arith, length-append x rest)) in
+      rw (long, take_at x rest count len, drop_at x rest count len) refl;
 }
 
 abbrev pub is_word : ℕ → Bool
@@ -87,7 +87,7 @@ number_takes end bytes n rest fits e =
     let front : number_bytes (from_be_bytes w32 (take 4 bytes)) ≡ take 4 bytes = be_bytes_4 (take 4 bytes) _ (omega (arith, length-take 4 bytes)) front_fits refl in
     let below : from_be_bytes w32 (take 4 bytes) < 2 ^ 32 = omega (arith, front_fits 0, front_fits 1, front_fits 2, front_fits 3) in
     let took : Took bytes (number_bytes (from_be_bytes w32 (take 4 bytes))) (drop 4 bytes) =
-        record { parts = sym (take-append-drop 4 bytes) ∙ ap (λ (t : List ℕ). t ++ drop 4 bytes) (sym front); rest_fits = IsBytes-drop 4 bytes fits } in
+    record { parts = sym (take-append-drop 4 bytes) ∙ ap (λ (t : List ℕ). t ++ drop 4 bytes) (sym front); rest_fits = IsBytes-drop 4 bytes fits } in
     subst (λ (p : ℕ × List ℕ). Took bytes (number_bytes p.0) p.1 × (is_word p.0 ≡ true)) g.1 (took, lt-ltb _ _ below)
 
 -- four bytes of a number, whatever follows
@@ -112,14 +112,14 @@ pub passing_reads : {A : Type 0} (test : A → Bool) (rule end : ℕ) (read : Li
     → Reads read spell fits → Reads (passing test rule end read) spell (λ x. fits x && test x)
 passing_reads {A} test rule end read spell fits r = record {
   takes = λ bytes x rest ok e.
-    let b = bind_ok (read bytes) (λ y. cond (test y.0) (Ok y) (Err (rule, place end bytes))) (x, rest) e in
-    let g = guard_passed (test b.0.0) (rule, place end bytes) b.0 (x, rest) b.2 in
-    let t = r.takes bytes b.0.0 b.0.1 ok b.1 in
-    subst (λ (p : A × List ℕ). Took bytes (spell p.0) p.1 × ((fits p.0 && test p.0) ≡ true)) g.1 (t.0, and_from _ _ t.1 g.0);
+      let b = bind_ok (read bytes) (λ y. cond (test y.0) (Ok y) (Err (rule, place end bytes))) (x, rest) e in
+      let g = guard_passed (test b.0.0) (rule, place end bytes) b.0 (x, rest) b.2 in
+      let t = r.takes bytes b.0.0 b.0.1 ok b.1 in
+      subst (λ (p : A × List ℕ). Took bytes (spell p.0) p.1 × ((fits p.0 && test p.0) ≡ true)) g.1 (t.0, and_from _ _ t.1 g.0);
   again = λ x rest h.
-    let p = and_parts (fits x) (test x) h in
-    let passed : test x ≡ true = p.1 in
-    bind_at (read (spell x ++ rest)) (λ y. cond (test y.0) (Ok y) (Err (rule, place end (spell x ++ rest)))) (x, rest) (r.again x rest p.0) ∙ rw passed refl;
+      let p = and_parts (fits x) (test x) h in
+      let passed : test x ≡ true = p.1 in
+      bind_at (read (spell x ++ rest)) (λ y. cond (test y.0) (Ok y) (Err (rule, place end (spell x ++ rest)))) (x, rest) (r.again x rest p.0) ∙ rw passed refl;
 }
 
 -- ---- a value by its number
@@ -129,14 +129,14 @@ pub coded_reads : {A B : Type 0} (f : A → B) (g : B → A) (read : List ℕ �
     → Reads (λ bytes. read bytes >>= λ x. Ok (f x.0, x.1)) (λ y. spell (g y)) fit
 coded_reads {A} {B} f g read spell fits fit r back there = record {
   takes = λ bytes y rest ok e.
-    let b = bind_ok (read bytes) (λ x. Ok (f x.0, x.1)) (y, rest) e in
-    let t = r.takes bytes b.0.0 b.0.1 ok b.1 in
-    let same = back b.0.0 t.1 in
-    subst (λ (p : B × List ℕ). Took bytes (spell (g p.0)) p.1 × (fit p.0 ≡ true)) (ok_is (f b.0.0, b.0.1) (y, rest) b.2)
+      let b = bind_ok (read bytes) (λ x. Ok (f x.0, x.1)) (y, rest) e in
+      let t = r.takes bytes b.0.0 b.0.1 ok b.1 in
+      let same = back b.0.0 t.1 in
+      subst (λ (p : B × List ℕ). Took bytes (spell (g p.0)) p.1 × (fit p.0 ≡ true)) (ok_is (f b.0.0, b.0.1) (y, rest) b.2)
       (subst (λ (x : A). Took bytes (spell x) b.0.1) (sym same.0) t.0, same.1);
   again = λ y rest h.
-    let same = there y h in
-    bind_at (read (spell (g y) ++ rest)) (λ x. Ok (f x.0, x.1)) (g y, rest) (r.again (g y) rest same.1) ∙ ap (λ (z : B). done (z, rest)) same.0;
+      let same = there y h in
+      bind_at (read (spell (g y) ++ rest)) (λ x. Ok (f x.0, x.1)) (g y, rest) (r.again (g y) rest same.1) ∙ ap (λ (z : B). done (z, rest)) same.0;
 }
 
 -- the same reader under an equal test
@@ -160,7 +160,7 @@ pub items_take : {A : Type 0} (item : List A → List ℕ → Result (A × List 
 unfolding items_at all_behind
 items_take {A} item spell test reads zero earlier bytes all rest ok e =
     subst (λ (p : List A × List ℕ). TookItems spell test 0 earlier p.0 bytes p.1) (ok_is (earlier, bytes) (all, rest) e)
-      (record { items = []; all_are = sym (append-nil earlier); count_is = refl; took = record { parts = refl; rest_fits = ok }; fit = refl })
+    (record { items = []; all_are = sym (append-nil earlier); count_is = refl; took = record { parts = refl; rest_fits = ok }; fit = refl })
 items_take {A} item spell test reads (suc n) earlier bytes all rest ok e =
     let b = bind_ok (item earlier bytes) (λ next. items_at item n (earlier ++ next.0 ∷ []) next.1) (all, rest) e in
     let x = b.0.0 in
@@ -192,18 +192,18 @@ pub counted_reads : {A : Type 0} (item : List A → List ℕ → Result (A × Li
     → Reads (λ bytes. passing limit 5 end (number_at end) bytes >>= λ count. items_at item count.0 [] count.1) (counted_bytes spell) (λ items. limit (length items) && all_behind test [] items)
 counted_reads {A} item spell test reads limit end small = record {
   takes = λ bytes all rest ok e.
-    let b = bind_ok (passing limit 5 end (number_at end) bytes) (λ count. items_at item count.0 [] count.1) (all, rest) e in
-    let t = (passing_reads limit 5 end (number_at end) number_bytes is_word (number_reads end)).takes bytes b.0.0 b.0.1 ok b.1 in
-    let s = items_take item spell test reads b.0.0 [] b.0.1 all rest t.0.rest_fits b.2 in
-    let n-fits : limit b.0.0 ≡ true = (and_parts (is_word b.0.0) (limit b.0.0) t.1).1 in
-    let whole = Took-then bytes (number_bytes b.0.0) b.0.1 (flat_map spell s.items) rest t.0 s.took in
-    subst (λ (xs : List A). Took bytes (counted_bytes spell xs) rest × ((limit (length xs) && all_behind test [] xs) ≡ true)) (sym s.all_are)
+      let b = bind_ok (passing limit 5 end (number_at end) bytes) (λ count. items_at item count.0 [] count.1) (all, rest) e in
+      let t = (passing_reads limit 5 end (number_at end) number_bytes is_word (number_reads end)).takes bytes b.0.0 b.0.1 ok b.1 in
+      let s = items_take item spell test reads b.0.0 [] b.0.1 all rest t.0.rest_fits b.2 in
+      let n-fits : limit b.0.0 ≡ true = (and_parts (is_word b.0.0) (limit b.0.0) t.1).1 in
+      let whole = Took-then bytes (number_bytes b.0.0) b.0.1 (flat_map spell s.items) rest t.0 s.took in
+      subst (λ (xs : List A). Took bytes (counted_bytes spell xs) rest × ((limit (length xs) && all_behind test [] xs) ≡ true)) (sym s.all_are)
       (subst (λ (n : ℕ). Took bytes (number_bytes n ++ flat_map spell s.items) rest) (sym s.count_is) whole, and_from _ _ (subst (λ (n : ℕ). limit n ≡ true) (sym s.count_is) n-fits) s.fit);
   again = λ items rest h.
-    let p = and_parts (limit (length items)) (all_behind test [] items) h in
-    let after : List ℕ = flat_map spell items ++ rest in
-    ap (λ bytes. passing limit 5 end (number_at end) bytes >>= λ count. items_at item count.0 [] count.1) (append_assoc (number_bytes (length items)) (flat_map spell items) rest)
-    ∙ bind_at (passing limit 5 end (number_at end) (number_bytes (length items) ++ (flat_map spell items ++ rest))) (λ count. items_at item count.0 [] count.1) (length items, flat_map spell items ++ rest)
-        ((passing_reads limit 5 end (number_at end) number_bytes is_word (number_reads end)).again (length items) (flat_map spell items ++ rest) (and_from _ _ (small (length items) p.0) p.0))
-    ∙ items_again item spell test reads items [] rest p.1;
+      let p = and_parts (limit (length items)) (all_behind test [] items) h in
+      let after : List ℕ = flat_map spell items ++ rest in
+      ap (λ bytes. passing limit 5 end (number_at end) bytes >>= λ count. items_at item count.0 [] count.1) (append_assoc (number_bytes (length items)) (flat_map spell items) rest)
+      ∙ bind_at (passing limit 5 end (number_at end) (number_bytes (length items) ++ (flat_map spell items ++ rest))) (λ count. items_at item count.0 [] count.1) (length items, flat_map spell items ++ rest)
+      ((passing_reads limit 5 end (number_at end) number_bytes is_word (number_reads end)).again (length items) (flat_map spell items ++ rest) (and_from _ _ (small (length items) p.0) p.0))
+      ∙ items_again item spell test reads items [] rest p.1;
 }

@@ -47,7 +47,7 @@ flags_back n h =
 pub flags_reads : (end : ℕ) → Reads (flags_at end) flags_bytes (λ flags. true)
 flags_reads end =
     coded_reads flags_of flags_number (passing is_flags 5 end (number_at end)) number_bytes (λ n. is_word n && is_flags n) (λ flags. true) (limited_reads is_flags 5 end)
-      flags_back (λ f h. flags_there f.c f.v f.n f.z)
+    flags_back (λ f h. flags_there f.c f.v f.n f.z)
 
 -- ---- the condition address
 
@@ -73,7 +73,7 @@ address_there window sized (Some a) h =
 pub address_reads : (end : ℕ) (window : Window) → is_window window ≡ true → Reads (condition_address_at end window) condition_address_bytes (is_condition_address window)
 address_reads end window sized =
     coded_reads address_of address_number (passing (λ n. is_condition_address window (address_of n)) 7 end (number_at end)) number_bytes (λ n. is_word n && is_condition_address window (address_of n)) (is_condition_address window)
-      (limited_reads (λ n. is_condition_address window (address_of n)) 7 end) (λ n h. (address_back n, (and_parts (is_word n) (is_condition_address window (address_of n)) h).1)) (address_there window sized)
+    (limited_reads (λ n. is_condition_address window (address_of n)) 7 end) (λ n h. (address_back n, (and_parts (is_word n) (is_condition_address window (address_of n)) h).1)) (address_there window sized)
 
 -- ---- shapes
 
@@ -102,7 +102,7 @@ shape_takes end bytes s rest ok e =
     let t1 = (limited_reads is_length 5 end).takes a.0.1 b.0.0 b.0.1 t0.0.rest_fits b.1 in
     let made : Shape × List ℕ = (record { kind = a.0.0; length = b.0.0 }, b.0.1) in
     subst (λ (y : Shape × List ℕ). Took bytes (shape_bytes y.0) y.1 × (is_length y.0.length ≡ true)) (ok_is made (s, rest) b.2)
-      (Took-then bytes (kind_bytes a.0.0) a.0.1 (number_bytes b.0.0) b.0.1 t0.0 t1.0, (and_parts (is_word b.0.0) (is_length b.0.0) t1.1).1)
+    (Took-then bytes (kind_bytes a.0.0) a.0.1 (number_bytes b.0.0) b.0.1 t0.0 t1.0, (and_parts (is_word b.0.0) (is_length b.0.0) t1.1).1)
 
 shape_again : (end : ℕ) (s : Shape) (rest : List ℕ) → is_length s.length ≡ true → shape_at end (shape_bytes s ++ rest) ≡ Ok (s, rest)
 shape_again end s rest h =
@@ -110,7 +110,7 @@ shape_again end s rest h =
     ap (shape_at end) (append_assoc (kind_bytes s.kind) (number_bytes s.length) rest)
     ∙ bind_at (kind_at end (kind_bytes s.kind ++ (number_bytes s.length ++ rest))) (length_after end) (s.kind, number_bytes s.length ++ rest) ((kind_reads end).again s.kind (number_bytes s.length ++ rest) refl)
     ∙ bind_at (passing is_length 5 end (number_at end) (number_bytes s.length ++ rest)) (λ count. Ok (record { kind = s.kind; length = count.0 }, count.1)) (s.length, rest)
-        ((limited_reads is_length 5 end).again s.length rest (both s.length 4096 (is_length s.length) le (omega arith) h))
+    ((limited_reads is_length 5 end).again s.length rest (both s.length 4096 (is_length s.length) le (omega arith) h))
 
 shape_reads : (end : ℕ) → Reads (shape_at end) shape_bytes (λ s. is_length s.length)
 shape_reads end = record { takes = shape_takes end; again = shape_again end }
@@ -140,9 +140,10 @@ slot_takes end window earlier bytes s rest ok e =
     let t1 = (shape_reads end).takes a.0.1 b.0.0 b.0.1 t0.0.rest_fits b.1 in
     let t2 = (limited_reads (is_slot_address window b.0.0) 7 end).takes b.0.1 c.0.0 c.0.1 t1.0.rest_fits c.1 in
     let made : Slot × List ℕ = (record { name = a.0.0; shape = b.0.0; address = c.0.0 }, c.0.1) in
-    subst (λ (y : Slot × List ℕ). Took bytes (slot_bytes y.0) y.1 × (is_slot window earlier y.0 ≡ true)) (ok_is made (s, rest) c.2)
-      (Took-then bytes (name_bytes a.0.0 ++ shape_bytes b.0.0) b.0.1 (number_bytes c.0.0) c.0.1 (Took-then bytes (name_bytes a.0.0) a.0.1 (shape_bytes b.0.0) b.0.1 t0.0 t1.0) t2.0,
-       and_from _ _ (and_from _ _ t0.1 t1.1) (and_parts (is_word c.0.0) (is_slot_address window b.0.0 c.0.0) t2.1).1)
+    subst (λ (y : Slot × List ℕ). Took bytes (slot_bytes y.0) y.1 × (is_slot window earlier y.0 ≡ true)) (ok_is made (s, rest) c.2) (
+      Took-then bytes (name_bytes a.0.0 ++ shape_bytes b.0.0) b.0.1 (number_bytes c.0.0) c.0.1 (Took-then bytes (name_bytes a.0.0) a.0.1 (shape_bytes b.0.0) b.0.1 t0.0 t1.0) t2.0,
+      and_from _ _ (and_from _ _ t0.1 t1.1) (and_parts (is_word c.0.0) (is_slot_address window b.0.0 c.0.0) t2.1).1,
+    )
 
 slot_again : (end : ℕ) (window : Window) → is_window window ≡ true → (earlier : List Slot) (s : Slot) (rest : List ℕ) → is_slot window earlier s ≡ true → slot_at end window earlier (slot_bytes s ++ rest) ≡ Ok (s, rest)
 unfolding slot_at
@@ -155,11 +156,11 @@ slot_again end window sized earlier s rest h =
     let inside : s.address < window.base + window.size = ltb-true s.address (window.base + window.size) (and_parts (leb (window.base + item_count s.shape) (s.address + 1)) (ltb s.address (window.base + window.size)) p.1).1 in
     ap (slot_at end window earlier) (append_assoc (name_bytes s.name ++ shape_bytes s.shape) (number_bytes s.address) rest ∙ append_assoc (name_bytes s.name) (shape_bytes s.shape) (number_bytes s.address ++ rest))
     ∙ bind_at (slot_name_at end earlier (name_bytes s.name ++ (shape_bytes s.shape ++ (number_bytes s.address ++ rest)))) (shape_after end window) (s.name, shape_bytes s.shape ++ (number_bytes s.address ++ rest))
-        ((slot_name_reads end earlier).again s.name (shape_bytes s.shape ++ (number_bytes s.address ++ rest)) q.0)
+    ((slot_name_reads end earlier).again s.name (shape_bytes s.shape ++ (number_bytes s.address ++ rest)) q.0)
     ∙ bind_at (shape_at end (shape_bytes s.shape ++ (number_bytes s.address ++ rest))) (address_after end window s.name) (s.shape, number_bytes s.address ++ rest)
-        ((shape_reads end).again s.shape (number_bytes s.address ++ rest) q.1)
+    ((shape_reads end).again s.shape (number_bytes s.address ++ rest) q.1)
     ∙ bind_at (passing (is_slot_address window s.shape) 7 end (number_at end) (number_bytes s.address ++ rest)) (λ address. Ok (record { name = s.name; shape = s.shape; address = address.0 }, address.1)) (s.address, rest)
-        ((limited_reads (is_slot_address window s.shape) 7 end).again s.address rest (both s.address 4294967295 (is_slot_address window s.shape s.address) (omega (arith, last, inside)) (omega arith) p.1))
+    ((limited_reads (is_slot_address window s.shape) 7 end).again s.address rest (both s.address 4294967295 (is_slot_address window s.shape s.address) (omega (arith, last, inside)) (omega arith) p.1))
 
 pub slot_reads : (end : ℕ) (window : Window) → is_window window ≡ true → (earlier : List Slot) → Reads (slot_at end window earlier) slot_bytes (is_slot window earlier)
 slot_reads end window sized earlier = record { takes = slot_takes end window earlier; again = slot_again end window sized earlier }

@@ -1,16 +1,18 @@
 -- The laws of the whole image: what is read is spelled so, and what is spelled so is read.
 use Rattle.std.proofs.Common.{◌≡◌, ℕ, zero, suc, ◌+◌, ◌-◌, ◌^◌, ◌<◌, ◌≤◌, Bool, true, false, cond, ◌&&◌, ltb, leb, eqb, List, [], ◌∷◌, ◌++◌, length, Option, Some, None, Result, Ok, Err, refl, sym, ap, subst, ◌∙◌, append_assoc, arith}
-use Rattle.std.specs.Prelude.{IsTrue}
+use Rattle.std.specs.Prelude.{IsTrue, IfOk}
 use Rattle.std.specs.List.{flat_map, list_all}
 use Rattle.std.proofs.lemmas.Bool.{lt-ltb, leb-true, and_parts, and_from, eqb-true, eq-eqb}
 use Rattle.std.proofs.lemmas.List.{append-nil, nil_from_length}
 use Rattle.fm_words.specs.declared.condition.Flags.{Flags}
+use Rattle.fm_image.specs.declared.fault.ImageFault.{ImageFault}
+use Rattle.fm_image.specs.declared.fault.ImageFault.TheVariants.{Refused, Memory}
 use Rattle.fm_image.specs.declared.slot.Slot.{Slot}
 use Rattle.fm_image.specs.declared.window.Window.{Window}
 use Rattle.fm_image.specs.Image.{ImageOf, window_of, is_size, is_inside, is_window, is_condition_address, is_condition, is_count, is_slot, all_behind, is_image}
 use Rattle.fm_image.specs.Spelling.{number_bytes, numbers_bytes, name_bytes, counted_bytes, window_bytes, flags_bytes, condition_address_bytes, slot_bytes, opening_bytes, spelling, are_words, Spelled}
-use Rattle.fm_image.specs.Fields.{◌>>=◌, place, number_at}
-use Rattle.fm_image.specs.Reading.{opening_at, window_at, numbers_at, flags_at, condition_address_at, condition_at, conditions_at, slot_at, slots_at, words_at, image_at, read_of}
+use Rattle.fm_image.specs.Fields.{◌>>=◌, Gives, place, number_at}
+use Rattle.fm_image.specs.Reading.{opening_at, window_at, numbers_at, flags_at, condition_address_at, condition_at, conditions_at, slot_at, slots_at, words_at, image_at, read_of, fault_of, TellsFault}
 use Rattle.fm_image.proofs.Limits.{Limits, limits_of, from_limits}
 use Rattle.fm_image.proofs.Readers.{IsBytes, bind_ok, bind_at, ok_is, guard_passed, Took, Took-then, Reads, is_word, number_reads, items_take, items_again, counted_reads}
 use Rattle.fm_image.proofs.Fields.{opening_takes, opening_again, window_reads, condition_reads}
@@ -44,7 +46,7 @@ words_reads end window sized =
     let q = and_parts (leb 1 window.size && leb window.size 1048576) (leb (window.base + window.size) 4294967295) p.0 in
     let last : window.base + window.size ≤ 4294967295 = leb-true (window.base + window.size) 4294967295 q.1 in
     counted_reads (λ earlier. number_at end) number_bytes is_number (λ earlier. number_reads end) (λ n. leb n window.size) end
-      (λ n h. let le : n ≤ window.size = leb-true n window.size h in lt-ltb n (2 ^ 32) (omega (arith, le, last)))
+    (λ n h. let le : n ≤ window.size = leb-true n window.size h in lt-ltb n (2 ^ 32) (omega (arith, le, last)))
 
 -- ---- what is done behind each field
 
@@ -138,8 +140,8 @@ image_again end i l registers words =
     let r6 : List ℕ = counted_bytes slot_bytes i.slots ++ (counted_bytes number_bytes i.words ++ []) in
     let count : length i.registers ≡ 16 = eqb-true _ _ l.registers in
     let numbers : numbers_at end 16 (numbers_bytes i.registers ++ (flags_bytes i.flags ++ (condition_address_bytes i.condition_address ++ (counted_bytes name_bytes i.conditions ++ r6)))) ≡ Ok (i.registers, flags_bytes i.flags ++ (condition_address_bytes i.condition_address ++ (counted_bytes name_bytes i.conditions ++ r6))) =
-        ap (λ n. numbers_at end n (numbers_bytes i.registers ++ (flags_bytes i.flags ++ (condition_address_bytes i.condition_address ++ (counted_bytes name_bytes i.conditions ++ r6))))) (sym count)
-        ∙ items_again (λ earlier. number_at end) number_bytes is_number (λ earlier. number_reads end) i.registers [] (flags_bytes i.flags ++ (condition_address_bytes i.condition_address ++ (counted_bytes name_bytes i.conditions ++ r6))) (words_same [] i.registers ∙ registers) in
+    ap (λ n. numbers_at end n (numbers_bytes i.registers ++ (flags_bytes i.flags ++ (condition_address_bytes i.condition_address ++ (counted_bytes name_bytes i.conditions ++ r6))))) (sym count)
+    ∙ items_again (λ earlier. number_at end) number_bytes is_number (λ earlier. number_reads end) i.registers [] (flags_bytes i.flags ++ (condition_address_bytes i.condition_address ++ (counted_bytes name_bytes i.conditions ++ r6))) (words_same [] i.registers ∙ registers) in
     ap (image_at end) (regrouped opening_bytes (window_bytes w) (numbers_bytes i.registers) (flags_bytes i.flags) (condition_address_bytes i.condition_address) (counted_bytes name_bytes i.conditions) (counted_bytes slot_bytes i.slots) (counted_bytes number_bytes i.words))
     ∙ bind_at _ (after_opening end) (1, window_bytes w ++ (numbers_bytes i.registers ++ (flags_bytes i.flags ++ (condition_address_bytes i.condition_address ++ (counted_bytes name_bytes i.conditions ++ r6))))) (opening_again end (window_bytes w ++ (numbers_bytes i.registers ++ (flags_bytes i.flags ++ (condition_address_bytes i.condition_address ++ (counted_bytes name_bytes i.conditions ++ r6))))))
     ∙ bind_at _ (after_window end) (w, numbers_bytes i.registers ++ (flags_bytes i.flags ++ (condition_address_bytes i.condition_address ++ (counted_bytes name_bytes i.conditions ++ r6)))) ((window_reads end).again w _ l.window)
@@ -167,3 +169,39 @@ one_image bytes i j s t = ok_is i j (sym (spelled_reads bytes i s) ∙ spelled_r
 -- An image has at most one spelling.
 pub one_spelling : (a b : List ℕ) (image : ImageOf) → Spelled a image → Spelled b image → a ≡ b
 one_spelling a b image s t = s.fields ∙ sym t.fields
+
+-- The limits hold of what was read.
+pub limits_hold : (end : ℕ) (bytes : List ℕ) (image : ImageOf) → IsBytes bytes → image_at end bytes ≡ Ok image → IsTrue (is_image image)
+limits_hold end bytes image ok e = from_limits image (image_takes end bytes image ok e).limits
+
+pub is_found : (bytes : List ℕ) (r : Result ImageOf ImageFault) → IsBytes bytes → Gives (λ image. image) r (read_of bytes) → IfOk r (λ image. Spelled bytes image)
+is_found bytes (Ok image) ok given = read_spells bytes image ok given
+is_found bytes (Err e) ok given = tt
+
+pub tells : (bytes : List ℕ) (r : Result ImageOf ImageFault) → Gives (λ image. image) r (read_of bytes) → TellsFault bytes r
+tells bytes (Ok image) given = ap fault_of given
+tells bytes (Err (Refused rule place)) given = ap fault_of given
+tells bytes (Err Memory) given = tt
+
+pub is_read_again : (image : ImageOf) → IsTrue (is_image image) → IsTrue (are_words image.registers) → IsTrue (are_words image.words) → read_of (spelling image) ≡ Ok image
+is_read_again image limits registers words = spelled_reads (spelling image) image (record { limits = limits; registers = registers; words = words; fields = refl })
+
+-- The limits hold of the fields that were read one behind the other.
+pub fields_hold : (end : ℕ) (bytes : List ℕ) (o : ℕ × List ℕ) (w : Window × List ℕ) (registers : List ℕ × List ℕ) (flags : Flags × List ℕ) (address : Option ℕ × List ℕ) (conditions : List (List ℕ) × List ℕ) (slots : List Slot × List ℕ) (words : List ℕ × List ℕ)
+    → IsBytes bytes → opening_at end bytes ≡ Ok o → window_at end o.1 ≡ Ok w → numbers_at end 16 w.1 ≡ Ok registers → flags_at end registers.1 ≡ Ok flags → condition_address_at end w.0 flags.1 ≡ Ok address
+    → conditions_at end address.1 ≡ Ok conditions → slots_at end w.0 conditions.1 ≡ Ok slots → words_at end w.0 slots.1 ≡ Ok words → length words.1 ≡ 0
+    → IsTrue (is_image (made w.0 registers.0 flags.0 address.0 conditions.0 slots.0 words.0))
+unfolding image_at
+fields_hold end bytes o w registers flags address conditions slots words ok e0 e1 e2 e3 e4 e5 e6 e7 nothing =
+    let empty : eqb (length words.1) 0 ≡ true = eq-eqb _ _ nothing in
+    let read : image_at end bytes ≡ Ok (made w.0 registers.0 flags.0 address.0 conditions.0 slots.0 words.0) =
+    bind_at _ (after_opening end) o e0
+    ∙ bind_at _ (after_window end) w e1
+    ∙ bind_at _ (after_registers end w.0) registers e2
+    ∙ bind_at _ (after_flags end w.0 registers.0) flags e3
+    ∙ bind_at _ (after_address end w.0 registers.0 flags.0) address e4
+    ∙ bind_at _ (after_conditions end w.0 registers.0 flags.0 address.0) conditions e5
+    ∙ bind_at _ (after_slots end w.0 registers.0 flags.0 address.0 conditions.0) slots e6
+    ∙ bind_at _ (ended end w.0 registers.0 flags.0 address.0 conditions.0 slots.0) words e7
+    ∙ ap (λ (b : Bool). cond b (Ok (made w.0 registers.0 flags.0 address.0 conditions.0 slots.0 words.0)) (Err (4, place end words.1))) empty in
+    limits_hold end bytes (made w.0 registers.0 flags.0 address.0 conditions.0 slots.0 words.0) ok read

@@ -1,5 +1,5 @@
 -- Reading an image field by field, from left to right, with the first fault.
-use Rattle.std.specs.Prelude.{ℕ, ◌-◌, ◌^◌, List, [], ◌∷◌, ◌++◌, length, Result, Ok, Err, Option, Some, None, Bool, not, nat_lt, nat_le, ◌==◌, if◌then◌else◌, codes, zero, suc}
+use Rattle.std.specs.Prelude.{◌≡◌, ℕ, ◌-◌, ◌^◌, List, [], ◌∷◌, ◌++◌, length, Result, Ok, Err, Option, Some, None, Bool, not, nat_lt, nat_le, ◌==◌, if◌then◌else◌, codes, zero, suc}
 use Rattle.std.specs.List.{list_any}
 use Rattle.std.specs.Str.{bytes_eq}
 use Rattle.stack_text.specs.declared.shape.Kind.{Kind}
@@ -8,6 +8,8 @@ use Rattle.stack_text.specs.declared.shape.Shape.{Shape}
 use Rattle.stack_text.specs.Names.{is_name}
 use Rattle.fm_words.specs.declared.condition.Flags.{Flags}
 use Rattle.fm_words.specs.Code.{flags_of}
+use Rattle.fm_image.specs.declared.fault.ImageFault.{ImageFault}
+use Rattle.fm_image.specs.declared.fault.ImageFault.TheVariants.{Refused, Memory}
 use Rattle.fm_image.specs.declared.slot.Slot.{Slot}
 use Rattle.fm_image.specs.declared.window.Window.{Window}
 use Rattle.fm_image.specs.Image.{ImageOf, is_size, is_inside, is_condition_address, is_count, is_slot_address}
@@ -142,3 +144,10 @@ fault_of (Err fault) = Some fault
 -- the first fault of a file, by its rule and its place
 abbrev pub image_fault : List ℕ → Option (ℕ × ℕ)
 image_fault bytes = fault_of (read_of bytes)
+
+-- What a call says of the faults of a file: an image is read only where there is none, and else the answer is the
+-- first. Want of memory alone is free.
+abbrev pub TellsFault : {X : Type 0} → List ℕ → Result X ImageFault → Type 0
+TellsFault bytes (Ok x) = image_fault bytes ≡ None
+TellsFault bytes (Err (Refused rule place)) = image_fault bytes ≡ Some (rule, place)
+TellsFault bytes (Err Memory) = Unit {0}

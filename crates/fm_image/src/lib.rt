@@ -6,6 +6,7 @@
 mod code;
 mod fault;
 mod image;
+mod law;
 mod limit;
 mod reading;
 mod slot;
@@ -14,5 +15,7 @@ mod writing;
 
 pub use fault::ImageFault;
 pub use image::Image;
+pub use law::one_spelling;
+pub use reading::read_image;
 pub use slot::Slot;
 pub use writing::write_image;

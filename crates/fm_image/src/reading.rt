@@ -1,10 +1,12 @@
 //! Reading images.
 
-ghost use Rattle.std.specs.Prelude.{◌≡◌, ◌-◌, [], length};
+ghost use Rattle.std.specs.Prelude.{◌≡◌, ◌-◌, [], length, IfOk, Ok};
+ghost use Rattle.fm_image.specs.Image.{ImageOf};
+ghost use Rattle.fm_image.specs.Spelling.{Spelled};
 ghost use Rattle.std.specs.List.{list_any};
 ghost use Rattle.std.specs.Str.{bytes_eq};
 ghost use Rattle.fm_image.specs.Fields.{Gives, place, number_at, bytes_at, text_at};
-ghost use Rattle.fm_image.specs.Reading.{opening_at, window_at, numbers_at, flags_at, condition_address_at, name_at, condition_at, count_at, conditions_at, kind_at, shape_at, slot_name_at, slot_at, slots_at, words_at, image_at, read_of};
+ghost use Rattle.fm_image.specs.Reading.{opening_at, window_at, numbers_at, flags_at, condition_address_at, name_at, condition_at, count_at, conditions_at, kind_at, shape_at, slot_name_at, slot_at, slots_at, words_at, image_at, read_of, TellsFault};
 
 use crate::code::{address_from, flags_from, kind_from};
 use crate::fault::ImageFault;
@@ -304,4 +306,53 @@ fn words(
         return Err(refused(5, end, left));
     }
     numbers(alloc, end, count, rest)
+}
+
+/// The fields of version 1, and nothing behind them.
+#[tactic(auto, unfolding(crate::specs::Reading::image_at))]
+fn image(alloc: Global, end: usize, left: &[u8]) -> Result<Image, ImageFault>
+    ensures { Gives (λ image. image) result (image_at end left.now) }
+{
+    let (_version, rest) = opening(end, left)?;
+    let (window, rest) = window(end, rest)?;
+    let (registers, rest) = numbers(alloc, end, 16, rest)?;
+    let (flags, rest) = flags(end, rest)?;
+    let (condition_address, rest) = condition_address(end, window, rest)?;
+    let (conditions, rest) = conditions(alloc, end, rest)?;
+    let (slots, rest) = slots(alloc, end, window, rest)?;
+    let (words, rest) = words(alloc, end, window, rest)?;
+    if !rest.is_empty() {
+        return Err(refused(4, end, rest));
+    }
+    Ok(Image {
+        base: window.base,
+        size: window.size,
+        final_pc: window.final_pc,
+        registers,
+        flags,
+        condition_address,
+        conditions,
+        slots,
+        words,
+    })
+}
+
+/// The image that an image file has.
+///
+/// Memory is taken for what is read, and never for a count alone: a count that the file has no bytes for costs nothing.
+///
+/// # Errors
+///
+/// The first rule of `docs/image-file.md` that the bytes break, read from left to right, and its place; or want of
+/// memory.
+pub fn read_image(alloc: Global, bytes: &[u8]) -> Result<Image, ImageFault>
+    // What is read is spelled so, each byte of the file.
+    ensures found { IfOk result (λ image. Spelled bytes.now image) }
+    // Where the bytes spell an image, that image is read, unless memory runs out.
+    ensures only { (image : ImageOf) → Spelled bytes.now image → Gives (λ read. read) result (Ok image) }
+    // An error is the first fault of the file.
+    ensures fault { TellsFault bytes.now result }
+    ensures exact { Gives (λ image. image) result (read_of bytes.now) }
+{
+    image(alloc, bytes.len(), bytes)
 }
