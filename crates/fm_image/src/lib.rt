@@ -10,6 +10,8 @@ mod law;
 mod limit;
 mod reading;
 mod slot;
+#[cfg(test)]
+mod tests;
 mod window;
 mod writing;
 
