@@ -1,23 +1,16 @@
 -- The laws of each field.
-use Rattle.std.proofs.Common.{◌≡◌, ℕ, zero, suc, ◌+◌, ◌^◌, ◌<◌, ◌≤◌, Bool, true, false, not, cond, ◌&&◌, ltb, leb, eqb, List, [], ◌∷◌, ◌++◌, length, take, drop, Option, Some, None, Result, Ok, Err, refl, sym, ap, subst, ◌∙◌, append_assoc, arith}
-use Rattle.std.specs.List.{flat_map, list_any}
+use Rattle.std.proofs.Common.{◌≡◌, ℕ, suc, ◌+◌, ◌^◌, ◌<◌, ◌≤◌, Bool, true, false, not, ◌&&◌, ltb, leb, eqb, List, [], ◌∷◌, ◌++◌, length, Ok, refl, sym, ap, subst, ◌∙◌, append_assoc, arith}
+use Rattle.std.specs.List.{list_any}
 use Rattle.std.specs.Str.{bytes_eq}
 use Rattle.std.specs.Prelude.{codes}
-use Rattle.std.proofs.lemmas.Bool.{ltb-false, le-ltb, lt-ltb, ltb-true, leb-true, le-leb, and_parts, and_from, eqb-true, eq-eqb, eqb-false, and_right}
+use Rattle.std.proofs.lemmas.Bool.{lt-ltb, ltb-true, leb-true, le-leb, and_parts, and_from, eqb-true, eq-eqb, and_right}
 use Rattle.std.proofs.lemmas.Slice.Eq.{bytes_eq-Decides}
-use Rattle.stack_text.specs.declared.shape.Kind.{Kind}
-use Rattle.stack_text.specs.declared.shape.Kind.TheVariants.{Integer, Boolean, Character}
-use Rattle.stack_text.specs.declared.shape.Shape.{Shape}
 use Rattle.stack_text.specs.Names.{is_name}
-use Rattle.stack_text.specs.Values.{item_count}
-use Rattle.fm_words.specs.declared.condition.Flags.{Flags}
-use Rattle.fm_words.specs.Code.{flags_of, flags_number}
-use Rattle.fm_image.specs.declared.slot.Slot.{Slot}
 use Rattle.fm_image.specs.declared.window.Window.{Window}
-use Rattle.fm_image.specs.Image.{is_size, is_inside, is_window, is_condition_address, is_count, is_condition, is_slot, is_slot_address}
-use Rattle.fm_image.specs.Spelling.{number_bytes, name_bytes, window_bytes, flags_bytes, address_number, condition_address_bytes, kind_number, kind_bytes, slot_bytes, opening_bytes}
-use Rattle.fm_image.specs.Fields.{◌>>=◌, place, number_at, passing, bytes_at, is_name_length, text_at}
-use Rattle.fm_image.specs.Reading.{opening_at, is_magic, is_version, window_at, is_flags, flags_at, address_of, condition_address_at, name_at, condition_at, is_kind, kind_of, kind_at, is_length, shape_at, slot_name_at, slot_at}
+use Rattle.fm_image.specs.Image.{is_size, is_inside, is_window, is_condition}
+use Rattle.fm_image.specs.Spelling.{number_bytes, name_bytes, window_bytes, opening_bytes}
+use Rattle.fm_image.specs.Fields.{◌>>=◌, number_at, passing, bytes_at, is_name_length, text_at}
+use Rattle.fm_image.specs.Reading.{opening_at, is_magic, is_version, window_at, name_at, condition_at}
 use Rattle.fm_image.proofs.Readers.{IsBytes, bind_ok, bind_at, ok_is, Took, Took-then, Reads, bytes_reads, is_word, number_reads, passing_reads, refit_reads}
 
 abbrev pub limited_reads : (test : ℕ → Bool) (rule end : ℕ) → Reads (passing test rule end (number_at end)) number_bytes (λ n. is_word n && test n)

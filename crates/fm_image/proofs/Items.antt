@@ -1,8 +1,8 @@
 -- Reading items one after the other, as a loop does.
-use Rattle.std.proofs.Common.{◌≡◌, ℕ, suc, ◌-◌, ◌+◌, ◌≤◌, ◌<◌, List, [], ◌∷◌, ◌++◌, Result, Ok, Err, refl, sym, ap, ◌∙◌, arith}
+use Rattle.std.proofs.Common.{◌≡◌, ℕ, suc, ◌-◌, ◌+◌, ◌≤◌, ◌<◌, List, [], ◌∷◌, ◌++◌, Result, Ok, Err, refl, sym, ◌∙◌, arith}
 use Rattle.fm_image.specs.declared.fault.ImageFault.{ImageFault}
 use Rattle.fm_image.specs.declared.fault.ImageFault.TheVariants.{Refused, Memory}
-use Rattle.fm_image.specs.Fields.{◌>>=◌, Fails, items_at}
+use Rattle.fm_image.specs.Fields.{Fails, items_at}
 
 pub goes_on : {A : Type 0} (item : List A → List ℕ → Result (A × List ℕ) (ℕ × ℕ)) (earlier : List A) (count i : ℕ) (left : List ℕ) (x : A) (rest : List ℕ) (all : Result (List A × List ℕ) (ℕ × ℕ))
     → i < count → item earlier left ≡ Ok (x, rest) → items_at item (count - i) earlier left ≡ all → items_at item (count - (i + 1)) (earlier ++ x ∷ []) rest ≡ all

@@ -1,5 +1,5 @@
 -- The laws of flags, addresses, shapes and slots.
-use Rattle.std.proofs.Common.{◌≡◌, ℕ, zero, suc, ◌+◌, ◌^◌, ◌<◌, ◌≤◌, Bool, true, false, not, cond, ◌&&◌, ltb, leb, eqb, List, [], ◌∷◌, ◌++◌, length, Option, Some, None, Result, Ok, Err, refl, sym, ap, subst, ◌∙◌, append_assoc, arith, inl, inr}
+use Rattle.std.proofs.Common.{◌≡◌, ℕ, ◌+◌, ◌^◌, ◌<◌, ◌≤◌, Bool, true, false, not, cond, ◌&&◌, ltb, leb, eqb, List, ◌++◌, Option, Some, None, Result, Ok, refl, sym, ap, subst, ◌∙◌, append_assoc, arith, inl, inr}
 use Rattle.std.specs.List.{list_any}
 use Rattle.std.specs.Str.{bytes_eq}
 use Rattle.std.proofs.lemmas.Bool.{lt-ltb, ltb-true, leb-true, and_parts, and_from, eqb-true, ne_eqb, cases_Bool, agree_below_at}
@@ -8,7 +8,6 @@ use Rattle.stack_text.specs.declared.shape.Kind.TheVariants.{Integer, Boolean, C
 use Rattle.stack_text.specs.declared.shape.Shape.{Shape}
 use Rattle.stack_text.specs.Names.{is_name}
 use Rattle.stack_text.specs.Values.{item_count}
-use Rattle.fm_words.specs.declared.condition.Flags.{Flags}
 use Rattle.fm_words.specs.Code.{flags_of, flags_number}
 use Rattle.fm_image.specs.declared.slot.Slot.{Slot}
 use Rattle.fm_image.specs.declared.window.Window.{Window}
@@ -16,7 +15,7 @@ use Rattle.fm_image.specs.Image.{is_size, is_inside, is_window, is_condition_add
 use Rattle.fm_image.specs.Spelling.{number_bytes, name_bytes, flags_bytes, address_number, condition_address_bytes, kind_number, kind_bytes, shape_bytes, slot_bytes}
 use Rattle.fm_image.specs.Fields.{◌>>=◌, number_at, passing}
 use Rattle.fm_image.specs.Reading.{is_flags, flags_at, address_of, condition_address_at, name_at, is_kind, kind_of, kind_at, is_length, shape_at, slot_name_at, slot_at}
-use Rattle.fm_image.proofs.Readers.{IsBytes, bind_ok, bind_at, ok_is, Took, Took-then, Reads, is_word, number_reads, passing_reads, coded_reads}
+use Rattle.fm_image.proofs.Readers.{IsBytes, bind_ok, bind_at, ok_is, Took, Took-then, Reads, is_word, passing_reads, coded_reads}
 use Rattle.fm_image.proofs.Fields.{limited_reads, both, name_reads}
 
 -- ---- flags

@@ -1,7 +1,6 @@
 -- The laws of the whole image: what is read is spelled so, and what is spelled so is read.
-use Rattle.std.proofs.Common.{◌≡◌, ℕ, zero, suc, ◌+◌, ◌-◌, ◌^◌, ◌<◌, ◌≤◌, Bool, true, false, cond, ◌&&◌, ltb, leb, eqb, List, [], ◌∷◌, ◌++◌, length, Option, Some, None, Result, Ok, Err, refl, sym, ap, subst, ◌∙◌, append_assoc, arith}
+use Rattle.std.proofs.Common.{◌≡◌, ℕ, ◌+◌, ◌^◌, ◌≤◌, Bool, true, cond, ◌&&◌, leb, eqb, List, [], ◌∷◌, ◌++◌, length, Option, Result, Ok, Err, refl, sym, ap, subst, ◌∙◌, append_assoc, arith}
 use Rattle.std.specs.Prelude.{IsTrue, IfOk}
-use Rattle.std.specs.List.{flat_map, list_all}
 use Rattle.std.proofs.lemmas.Bool.{lt-ltb, leb-true, and_parts, and_from, eqb-true, eq-eqb}
 use Rattle.std.proofs.lemmas.List.{append-nil, nil_from_length}
 use Rattle.fm_words.specs.declared.condition.Flags.{Flags}
@@ -9,7 +8,7 @@ use Rattle.fm_image.specs.declared.fault.ImageFault.{ImageFault}
 use Rattle.fm_image.specs.declared.fault.ImageFault.TheVariants.{Refused, Memory}
 use Rattle.fm_image.specs.declared.slot.Slot.{Slot}
 use Rattle.fm_image.specs.declared.window.Window.{Window}
-use Rattle.fm_image.specs.Image.{ImageOf, window_of, is_size, is_inside, is_window, is_condition_address, is_condition, is_count, is_slot, all_behind, is_image}
+use Rattle.fm_image.specs.Image.{ImageOf, window_of, is_size, is_inside, is_window, is_condition, is_count, is_slot, all_behind, is_image}
 use Rattle.fm_image.specs.Spelling.{number_bytes, numbers_bytes, name_bytes, counted_bytes, window_bytes, flags_bytes, condition_address_bytes, slot_bytes, opening_bytes, spelling, are_words, Spelled}
 use Rattle.fm_image.specs.Fields.{◌>>=◌, Gives, place, number_at}
 use Rattle.fm_image.specs.Reading.{opening_at, window_at, numbers_at, flags_at, condition_address_at, condition_at, conditions_at, slot_at, slots_at, words_at, image_at, read_of, fault_of, TellsFault}

@@ -1,9 +1,6 @@
 -- Fields read from the front of what is left of a file, with the first fault.
-use Rattle.std.specs.Prelude.{◌≡◌, ℕ, zero, suc, ◌-◌, ◌^◌, List, [], ◌∷◌, ◌++◌, length, take, drop, Result, Ok, Err, Option, Some, None, Bool, nat_lt, nat_le, ◌&&◌, ◌==◌, if◌then◌else◌}
+use Rattle.std.specs.Prelude.{◌≡◌, ℕ, zero, suc, ◌-◌, List, [], ◌∷◌, ◌++◌, length, take, drop, Result, Ok, Err, Bool, nat_lt, nat_le, ◌&&◌, if◌then◌else◌}
 use Rattle.std.specs.Int.{w32, from_be_bytes}
-use Rattle.std.specs.List.{list_any}
-use Rattle.std.specs.Str.{bytes_eq}
-use Rattle.stack_text.specs.Names.{is_name}
 use Rattle.fm_image.specs.declared.fault.ImageFault.{ImageFault}
 use Rattle.fm_image.specs.declared.fault.ImageFault.TheVariants.{Refused, Memory}
 

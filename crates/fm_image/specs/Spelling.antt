@@ -1,5 +1,5 @@
 -- The one spelling of an image: its fields, one behind the other.
-use Rattle.std.specs.Prelude.{◌≡◌, ℕ, ◌-◌, ◌^◌, List, [], ◌∷◌, ◌++◌, length, Option, Some, None, Bool, IsTrue, nat_lt, codes}
+use Rattle.std.specs.Prelude.{◌≡◌, ℕ, ◌-◌, ◌^◌, List, ◌++◌, length, Option, Some, None, Bool, IsTrue, nat_lt, codes}
 use Rattle.std.specs.Int.{w32, to_be_bytes}
 use Rattle.std.specs.List.{flat_map, list_all}
 use Rattle.stack_text.specs.declared.shape.Kind.{Kind}

@@ -1,4 +1,4 @@
-use Rattle.std.proofs.Common.{◌≡◌, ◌++◌, ◌∷◌, [], refl, sym, ◌∙◌}
+use Rattle.std.proofs.Common.{◌≡◌, [], refl, sym, ◌∙◌}
 use Rattle.std.proofs.lemmas.Result.{err_from_is_err_and}
 use Rattle.fm_image.specs.Fields.{items_at}
 use Rattle.fm_image.specs.Reading.{slot_at, slots_at}

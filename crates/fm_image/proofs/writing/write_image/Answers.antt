@@ -1,4 +1,3 @@
-use Rattle.std.proofs.Common.{arith}
 use Rattle.fm_image.proofs.Limits.{condition_count, slot_count, word_count}
 use Rattle.fm_image.proofs.writing.write_image.Goals as goal
 
