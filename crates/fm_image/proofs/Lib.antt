@@ -1,0 +1,7 @@
+pub mod Pieces
+pub mod Items
+pub mod Limits
+pub mod Readers
+pub mod Fields
+pub mod Slots
+pub mod Whole

@@ -1,0 +1,11 @@
+use Rattle.fm_image.proofs.Limits.{condition_count, slot_count, word_count}
+use Rattle.fm_image.proofs.writing.write_image.Goals as goal
+
+pub push_conditions-requires : goal.push_conditions-requires
+push_conditions-requires c = rw c.deref-2.ensures.value (condition_count _ c.image.invariant)
+
+pub push_slots-requires : goal.push_slots-requires
+push_slots-requires c = rw c.deref-3.ensures.value (slot_count _ c.image.invariant)
+
+pub push_words-requires : goal.push_words-requires
+push_words-requires c = rw c.deref-4.ensures.value (word_count _ c.image.invariant)

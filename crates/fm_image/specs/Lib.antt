@@ -1,0 +1,4 @@
+pub mod Image
+pub mod Spelling
+pub mod Fields
+pub mod Reading

@@ -1,0 +1,23 @@
+//! Image files: what the FM9001 is loaded with, read from bytes and written as bytes.
+//!
+//! `docs/image-file.md` lists the fields and the rules by which a file is refused.
+#![tactic(auto)]
+
+mod code;
+mod fault;
+mod image;
+mod law;
+mod limit;
+mod reading;
+mod slot;
+#[cfg(test)]
+mod tests;
+mod window;
+mod writing;
+
+pub use fault::ImageFault;
+pub use image::Image;
+pub use law::one_spelling;
+pub use reading::read_image;
+pub use slot::Slot;
+pub use writing::write_image;
