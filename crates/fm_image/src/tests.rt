@@ -110,6 +110,15 @@ fn ends_nowhere_else(rt: HostRuntime) -> Result<(), Fail> {
 }
 
 #[test]
+fn wants_its_magic(rt: HostRuntime) -> Result<(), Fail> {
+    assert!(rt; fault_of(rt.alloc(), b"FM92")? == Some((1, 0)));
+    assert!(rt; fault_of(rt.alloc(), b"fm91\0\0\0\x02")? == Some((1, 0)));
+    assert!(rt; fault_of(rt.alloc(), b"GM9")? == Some((3, 3)));
+    assert!(rt; fault_of(rt.alloc(), b"FM91\0\0\0\x02")? == Some((2, 4)));
+    Ok(())
+}
+
+#[test]
 fn keeps_the_limits_of_numbers(rt: HostRuntime) -> Result<(), Fail> {
     let cases = [
         (0, 2, Some((2, 4))),
