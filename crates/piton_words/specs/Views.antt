@@ -1,0 +1,50 @@
+-- What is in a word, and what goes back into one: each goes on or fails.
+use Rattle.std.specs.Prelude.{ℕ, ◌^◌, ℤ, pos, negsuc, List, Result, Ok, Err, Bool, true, false, ◌&&◌, nat_lt, nat_le, if◌then◌else◌}
+use Rattle.piton_words.specs.declared.word.Word.{Word}
+use Rattle.piton_words.specs.declared.word.Word.TheVariants.{Int, Nat, Bitv, Bool as Truth, Addr, Pc, Subr}
+use Rattle.piton_words.specs.declared.outcome.Outcome.{Outcome}
+use Rattle.piton_words.specs.declared.outcome.Outcome.TheVariants.{One, Two}
+use Rattle.piton_words.specs.declared.outcome.WordError.{WordError}
+use Rattle.piton_words.specs.declared.outcome.WordError.TheVariants.{Tag, Range}
+
+-- what is found goes on to the next view, and the first that fails is the answer
+infixl 10 ◌>>=◌
+abbrev pub ◌>>=◌ : {A B : Type 0} → Result A WordError → (A → Result B WordError) → Result B WordError
+(Ok x) >>= go = go x
+(Err e) >>= go = Err e
+
+-- what a word of one type has in it; any other word has the wrong tag
+abbrev pub int_of : Word → Result ℤ WordError
+int_of (Int i) = Ok i
+int_of word = Err Tag
+
+abbrev pub nat_of : Word → Result ℕ WordError
+nat_of (Nat n) = Ok n
+nat_of word = Err Tag
+
+abbrev pub bitv_of : Word → Result ℕ WordError
+bitv_of (Bitv bits) = Ok bits
+bitv_of word = Err Tag
+
+abbrev pub bool_of : Word → Result Bool WordError
+bool_of (Truth b) = Ok b
+bool_of word = Err Tag
+
+-- an area and an offset
+abbrev pub addr_of : Word → Result (ℕ × ℕ) WordError
+addr_of (Addr area offset) = Ok (area, offset)
+addr_of word = Err Tag
+
+-- the condition of a row holds, or what it asks is out of range
+abbrev pub where_true : Bool → Result Outcome WordError → Result Outcome WordError
+where_true true answer = answer
+where_true false answer = Err Range
+
+-- the numbers of 32 bits with and without a sign
+abbrev pub is_int : ℤ → Bool
+is_int (pos n) = nat_lt n (2 ^ 31)
+is_int (negsuc n) = nat_lt n (2 ^ 31)
+
+abbrev pub is_nat : ℤ → Bool
+is_nat (pos n) = nat_lt n (2 ^ 32)
+is_nat (negsuc n) = false

@@ -1,0 +1,20 @@
+//! Piton's words: numbers, bits, truth values and names of positions, each with its tag, and the operations on them.
+//!
+//! Piton is the assembly language of Moore, "Piton: A Verified Assembly Level Language" (Computational Logic, Technical
+//! Report 22). Tags and operations are this repository's profile of it.
+#![tactic(auto)]
+
+mod arithmetic;
+mod logic;
+mod op;
+mod outcome;
+mod row;
+#[cfg(test)]
+mod tests;
+mod view;
+mod word;
+
+pub use op::WordOp;
+pub use outcome::{Outcome, WordError};
+pub use row::apply;
+pub use word::Word;

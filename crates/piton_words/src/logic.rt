@@ -1,0 +1,56 @@
+//! Bits, truth values and comparisons.
+ghost use Rattle.std.specs.Prelude.{◌≡◌, ◌==◌, nat_lt};
+ghost use Rattle.piton_words.specs.Views.{where_true};
+ghost use Rattle.piton_words.specs.Rows.{are_same, bitv_word, bool_word};
+
+use crate::outcome::{Outcome, WordError};
+use crate::word::Word;
+
+pub fn bitv_word(bits: u32) -> Result<Outcome, WordError>
+    ensures { result ≡ bitv_word bits }
+{
+    Ok(Outcome::One(Word::Bitv(bits)))
+}
+
+pub fn bool_word(truth: bool) -> Result<Outcome, WordError>
+    ensures { result ≡ bool_word truth }
+{
+    Ok(Outcome::One(Word::Bool(truth)))
+}
+
+/// Whether an address stands before another one of the same area.
+pub fn addr_lt(t: (u32, u32), s: (u32, u32)) -> Result<Outcome, WordError>
+    ensures { result ≡ where_true (s.0 == t.0) (bool_word (nat_lt s.1 t.1)) }
+{
+    if s.0 != t.0 {
+        return Err(WordError::Range);
+    }
+    bool_word(s.1 < t.1)
+}
+
+/// Whether two words of one tag are the same.
+pub fn are_same(second: Word, top: Word) -> Result<bool, WordError>
+    ensures { result ≡ are_same second top }
+{
+    match (second, top) {
+        (Word::Int(s), Word::Int(t)) => Ok(s == t),
+        (Word::Nat(s), Word::Nat(t)) | (Word::Bitv(s), Word::Bitv(t)) => Ok(s == t),
+        (Word::Bool(s), Word::Bool(t)) => Ok(s == t),
+        (
+            Word::Addr { area, offset },
+            Word::Addr {
+                area: other,
+                offset: at,
+            },
+        ) => Ok(area == other && offset == at),
+        (
+            Word::Pc { program, place },
+            Word::Pc {
+                program: other,
+                place: at,
+            },
+        ) => Ok(program == other && place == at),
+        (Word::Subr { program }, Word::Subr { program: other }) => Ok(program == other),
+        _ => Err(WordError::Tag),
+    }
+}
