@@ -1,5 +1,5 @@
 -- The rows of the word operations, on the third word, the second and the top.
-use Rattle.std.specs.Prelude.{ℕ, ◌+◌, ◌*◌, ◌-◌, ◌^◌, ◌/◌, ◌%◌, ℤ, pos, negsuc, neg_ℤ, ◌+ℤ◌, ◌-ℤ◌, ◌*ℤ◌, List, get_or, Result, Ok, Err, Bool, true, false, not, ◌&&◌, ◌||◌, ◌==◌, nat_lt, nat_le, int_lt, unsigned_abs, if◌then◌else◌, bit_and, bit_or, bit_xor}
+use Rattle.std.specs.Prelude.{ℕ, ◌*◌, ◌-◌, ◌^◌, ◌/◌, ◌%◌, ℤ, pos, negsuc, ◌+ℤ◌, ◌-ℤ◌, ◌*ℤ◌, List, get_or, Result, Ok, Err, Bool, true, false, not, ◌&&◌, ◌||◌, ◌==◌, nat_lt, int_lt, unsigned_abs, bit_and, bit_or, bit_xor}
 use Rattle.std.specs.Int.{w32, from_bool as bit, int_rem_euclid, cast_signed}
 use Rattle.piton_words.specs.declared.word.Word.{Word}
 use Rattle.piton_words.specs.declared.word.Word.TheVariants.{Int, Nat, Bitv, Bool as Truth, Addr, Pc, Subr}
@@ -8,7 +8,7 @@ use Rattle.piton_words.specs.declared.op.WordOp.TheVariants as op
 use Rattle.piton_words.specs.declared.outcome.Outcome.{Outcome}
 use Rattle.piton_words.specs.declared.outcome.Outcome.TheVariants.{One, Two}
 use Rattle.piton_words.specs.declared.outcome.WordError.{WordError}
-use Rattle.piton_words.specs.declared.outcome.WordError.TheVariants.{Tag, Range}
+use Rattle.piton_words.specs.declared.outcome.WordError.TheVariants.{Tag}
 use Rattle.piton_words.specs.Views.{◌>>=◌, int_of, nat_of, bitv_of, bool_of, addr_of, where_true, is_int, is_nat}
 
 -- an exact number as a word, where it is in range
