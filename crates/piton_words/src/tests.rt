@@ -120,7 +120,7 @@ fn carries(rt: HostRuntime) -> Result<(), Fail> {
             Word::Nat(u32::MAX),
             Word::Nat(u32::MAX),
             true,
-            Word::Nat(u32::MAX - 1),
+            Word::Nat(u32::MAX),
         ),
         (
             WordOp::SubIntWithCarry,
