@@ -93,54 +93,55 @@ fn numbers(rt: HostRuntime) -> Result<(), Fail> {
 
 #[test]
 fn carries(rt: HostRuntime) -> Result<(), Fail> {
+    // The second and the top, whether a carry comes in, whether one goes out, and the word.
     let rows = [
         (
             WordOp::AddIntWithCarry,
             Word::Int(i32::MAX),
-            Word::Int(0),
-            true,
+            Word::Int(1),
+            (false, true),
             Word::Int(i32::MIN),
         ),
         (
             WordOp::AddIntWithCarry,
             Word::Int(i32::MAX),
             Word::Int(-1),
-            false,
-            Word::Int(i32::MAX - 1),
-        ),
-        (
-            WordOp::AddNatWithCarry,
-            Word::Nat(u32::MAX),
-            Word::Nat(0),
-            true,
-            Word::Nat(0),
+            (true, false),
+            Word::Int(i32::MAX),
         ),
         (
             WordOp::AddNatWithCarry,
             Word::Nat(u32::MAX),
             Word::Nat(u32::MAX),
-            true,
+            (true, true),
+            Word::Nat(u32::MAX),
+        ),
+        (
+            WordOp::AddNatWithCarry,
+            Word::Nat(u32::MAX),
+            Word::Nat(0),
+            (false, false),
             Word::Nat(u32::MAX),
         ),
         (
             WordOp::SubIntWithCarry,
             Word::Int(i32::MIN),
             Word::Int(0),
-            true,
+            (true, true),
             Word::Int(i32::MAX),
         ),
         (
             WordOp::SubNatWithCarry,
+            Word::Nat(1),
             Word::Nat(0),
+            (true, false),
             Word::Nat(0),
-            true,
-            Word::Nat(u32::MAX),
         ),
     ];
-    for (op, second, top, is_out, word) in rows {
-        let found = apply(op, Word::Bool(is_out), second, top, &AREAS);
+    for (op, second, top, (comes, goes), word) in rows {
+        let found = apply(op, Word::Bool(comes), second, top, &AREAS);
         assert!(rt;
-            found == Ok(Outcome::Two(Word::Bool(is_out), word)),
+            found == Ok(Outcome::Two(Word::Bool(goes), word)),
             "{found:?}"
         );
         let untagged = apply(op, NONE, second, top, &AREAS);
