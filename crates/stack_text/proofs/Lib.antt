@@ -6,6 +6,7 @@ pub mod OpenListLaws
 pub mod TreeLaws
 pub mod FaultLaws
 pub mod ReadLaws
+pub mod TreeInLaws
 pub mod SpellingLaws
 pub mod PrintLaws
 pub mod NumeralLaws

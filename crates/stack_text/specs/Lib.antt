@@ -5,6 +5,7 @@ pub mod Values
 pub mod Tokens
 pub mod Trees
 pub mod TextFaults
+pub mod TreeIn
 pub mod TreeText
 pub mod Spellings
 pub mod PlaceOrder

@@ -18,7 +18,7 @@ mod tree;
 mod value;
 
 pub use memory::Memory;
-pub use name::{Name, Named, read_name};
+pub use name::{Name, Named, is_name, read_name};
 pub use numeral::{is_digits, is_numeral, read_numeral};
 pub use printer::print_tree;
 pub use reader::read_tree;

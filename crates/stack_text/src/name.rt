@@ -133,8 +133,8 @@ fn is_truth_word(bytes: &[u8]) -> bool
     bytes == b"true".as_slice() || bytes == b"false".as_slice()
 }
 
-/// Whether the bytes are a name.
-fn is_name(bytes: &[u8]) -> bool
+/// Whether the bytes are a name, as `read_name` tells, without taking memory.
+pub fn is_name(bytes: &[u8]) -> bool
     ensures { result ≡ is_name bytes.now }
 {
     begins_with_letter(bytes)

@@ -5,6 +5,7 @@ ghost use Rattle.stack_text.specs.Tokens.{tokens, between};
 ghost use Rattle.stack_text.specs.Trees.{Node, TreeOf, IsWellFormed};
 ghost use Rattle.stack_text.specs.TreeView.{node_of};
 ghost use Rattle.stack_text.specs.TextFaults.{TellsFault};
+ghost use Rattle.stack_text.specs.TreeIn.{tree_in, GivesTree};
 ghost use Rattle.stack_text.specs.PlaceOrder.{IsInOrder};
 ghost use Rattle.stack_text.specs.TokenSpans.{token_in};
 ghost use Rattle.stack_text.specs.OpenLists.{Puts, Steps, Finishes, ReadsText};
@@ -135,6 +136,8 @@ pub fn read_tree(alloc: Global, text: &[u8]) -> Result<Tree, TextFault>
     ensures only { (t : Node) → TreeOf text.now t → MatchResult result (λ u. node_of u ≡ t) (λ e. e ≡ Memory) }
     // An error is the text's first fault.
     ensures fault { TellsFault text.now result }
+    // All three in one: the answer is a function of the text.
+    ensures value { GivesTree result (tree_in text.now) }
 
     // What every tree that was read keeps.
     ensures well_formed { IfOk result (λ t. IsWellFormed (node_of t)) }

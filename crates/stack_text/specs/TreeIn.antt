@@ -1,0 +1,46 @@
+-- The tree of a text as a function of the text: its tokens are put together from the last to the first.
+use Rattle.std.specs.Prelude.{◌≡◌, ℕ, List, [], ◌∷◌, Option, Some, None, Result, Ok, Err}
+use Rattle.stack_text.specs.declared.text_fault.TextRule.{TextRule}
+use Rattle.stack_text.specs.declared.text_fault.TextFault.{TextFault}
+use Rattle.stack_text.specs.declared.text_fault.TextFault.TheVariants.{Fault, Memory}
+use Rattle.stack_text.specs.declared.tree.Tree.{Tree}
+use Rattle.stack_text.specs.Tokens.{Token, opens_at, closes_at, atom_at, invalid_at, between, tokens}
+use Rattle.stack_text.specs.Trees.{Node, Nodes, atom, list, none, more}
+use Rattle.stack_text.specs.TreeView.{node_of}
+use Rattle.stack_text.specs.TextFaults.{text_fault}
+
+-- a tree put in front of the items of the innermost list
+abbrev pub in_front : Node → List Nodes → List Nodes
+in_front t [] = []
+in_front t (items ∷ outer) = more t items ∷ outer
+
+-- the innermost list is whole, and an item of the one round it
+abbrev pub as_item : ℕ → List Nodes → List Nodes
+as_item place [] = []
+as_item place (items ∷ outer) = in_front (list place items) outer
+
+-- the items that the tokens are, of each list whose `(` stands further to the left, the innermost first
+unfoldable pub items_of : List Token → List Nodes
+items_of [] = none ∷ []
+items_of (opens_at place ∷ ts) = as_item place (items_of ts)
+items_of (closes_at place ∷ ts) = none ∷ items_of ts
+items_of (atom_at place bytes ∷ ts) = in_front (atom place bytes) (items_of ts)
+items_of (invalid_at place ∷ ts) = items_of ts
+
+abbrev pub first_item : List Nodes → Node
+first_item (more t ts ∷ outer) = t
+first_item items = list 0 none
+
+abbrev pub unless_fault : Option (TextRule × ℕ) → Node → Result Node (TextRule × ℕ)
+unless_fault None t = Ok t
+unless_fault (Some fault) t = Err fault
+
+-- the tree that a text is, or else its first fault
+unfoldable pub tree_in : List ℕ → Result Node (TextRule × ℕ)
+tree_in text = unless_fault (text_fault text) (first_item (items_of (tokens between 0 text)))
+
+-- What reading a text gives, by that function. Want of memory alone is free.
+abbrev pub GivesTree : Result Tree TextFault → Result Node (TextRule × ℕ) → Type 0
+GivesTree (Ok t) value = value ≡ Ok (node_of t)
+GivesTree (Err (Fault rule place)) value = value ≡ Err (rule, place)
+GivesTree (Err Memory) value = Unit {0}
