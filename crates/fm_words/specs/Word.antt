@@ -1,9 +1,5 @@
 -- Words of 32 bits.
-use Rattle.std.specs.Prelude.{ℕ, ◌^◌, ◌<◌, Bool, nat_lt, nat_le, if◌then◌else◌, ℤ, pos, negsuc, ◌-ℤ◌}
-
--- a word is a number from 0 to 2^32 - 1
-abbrev pub IsWord : ℕ → Type 0
-IsWord n = n < 2 ^ 32
+use Rattle.std.specs.Prelude.{ℕ, ◌^◌, Bool, nat_lt, nat_le, if◌then◌else◌, ℤ, pos, negsuc, ◌-ℤ◌}
 
 -- the signed reading: the word itself below 2^31, else the word minus 2^32
 abbrev pub signed_of : ℕ → ℤ

@@ -54,6 +54,7 @@ pub enum Cc {
 }
 
 /// Whether a store condition holds of the flags.
+#[inline(always)]
 pub fn holds(cc: Cc, flags: Flags) -> bool
     ensures { result ≡ does_hold cc flags }
 {

@@ -7,57 +7,29 @@ use crate::condition::{Cc, Flags};
 use crate::instruction::{Mode, OperandA};
 use crate::operation::Op;
 
-const OPS: [Op; 16] = [
-    Op::Move,
-    Op::Inc,
-    Op::Addc,
-    Op::Add,
-    Op::Neg,
-    Op::Dec,
-    Op::Subb,
-    Op::Sub,
-    Op::Ror,
-    Op::Asr,
-    Op::Lsr,
-    Op::Xor,
-    Op::Or,
-    Op::And,
-    Op::Not,
-    Op::M15,
-];
-
-const CCS: [Cc; 16] = [
-    Cc::Cc,
-    Cc::Cs,
-    Cc::Vc,
-    Cc::Vs,
-    Cc::Nc,
-    Cc::Ns,
-    Cc::Zc,
-    Cc::Zs,
-    Cc::Hi,
-    Cc::Ls,
-    Cc::Ge,
-    Cc::Lt,
-    Cc::Gt,
-    Cc::Le,
-    Cc::Al,
-    Cc::Nv,
-];
-
-const MODES: [Mode; 4] = [
-    Mode::Register,
-    Mode::Indirect,
-    Mode::PreDecrement,
-    Mode::PostIncrement,
-];
-
 // The operation of a number.
 pub(crate) fn op_from(number: u32) -> Op
     requires { number < 16 }
     ensures { result ≡ op_of number }
 {
-    OPS[number as usize]
+    match number {
+        0 => Op::Move,
+        1 => Op::Inc,
+        2 => Op::Addc,
+        3 => Op::Add,
+        4 => Op::Neg,
+        5 => Op::Dec,
+        6 => Op::Subb,
+        7 => Op::Sub,
+        8 => Op::Ror,
+        9 => Op::Asr,
+        10 => Op::Lsr,
+        11 => Op::Xor,
+        12 => Op::Or,
+        13 => Op::And,
+        14 => Op::Not,
+        _ => Op::M15,
+    }
 }
 
 // The store condition of a number.
@@ -65,7 +37,24 @@ pub(crate) fn cc_from(number: u32) -> Cc
     requires { number < 16 }
     ensures { result ≡ cc_of number }
 {
-    CCS[number as usize]
+    match number {
+        0 => Cc::Cc,
+        1 => Cc::Cs,
+        2 => Cc::Vc,
+        3 => Cc::Vs,
+        4 => Cc::Nc,
+        5 => Cc::Ns,
+        6 => Cc::Zc,
+        7 => Cc::Zs,
+        8 => Cc::Hi,
+        9 => Cc::Ls,
+        10 => Cc::Ge,
+        11 => Cc::Lt,
+        12 => Cc::Gt,
+        13 => Cc::Le,
+        14 => Cc::Al,
+        _ => Cc::Nv,
+    }
 }
 
 // The mode of a number.
@@ -73,7 +62,12 @@ pub(crate) fn mode_from(number: u32) -> Mode
     requires { number < 4 }
     ensures { result ≡ mode_of number }
 {
-    MODES[number as usize]
+    match number {
+        0 => Mode::Register,
+        1 => Mode::Indirect,
+        2 => Mode::PreDecrement,
+        _ => Mode::PostIncrement,
+    }
 }
 
 // The flags of a number, whose bits from the highest are c, v, n and z.

@@ -54,6 +54,7 @@ pub struct Instr {
 /// The instruction that a word is. Every word is one: bits 28 to 31 are passed over, and so are
 /// bits 6 to 8 where the first operand is no immediate. The other bits can be read back from
 /// the instruction.
+#[inline(always)]
 #[tactic(auto, using(crate::proofs::Fields::encode_decode))]
 pub fn decode(word: u32) -> Instr
     ensures value { result ≡ decode_of word }
@@ -74,6 +75,7 @@ pub fn encode(instr: Instr) -> u32
 }
 
 // The six fields of a word.
+#[inline(always)]
 fn taken_apart(word: u32) -> Instr
     ensures value { result ≡ decode_of word }
     ensures limits { IsInstr result }

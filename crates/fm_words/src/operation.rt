@@ -55,6 +55,7 @@ pub struct AluOut {
 }
 
 /// One of the sixteen operations on two words and the carry flag.
+#[inline(always)]
 pub fn alu(op: Op, carry: bool, a: u32, b: u32) -> AluOut
     ensures { result ≡ alu_of op carry a b }
 {
@@ -92,18 +93,14 @@ fn unflagged(word: u32) -> AluOut
 fn signed(word: u32) -> i64
     ensures { result ≡ signed_of word }
 {
-    if word < 0x8000_0000 {
-        i64::from(word)
-    } else {
-        i64::from(word) - 0x1_0000_0000
-    }
+    i64::from(word.cast_signed())
 }
 
 // Whether an exact signed result is outside 32 bits.
 fn overflows(exact: i64) -> bool
     ensures { result ≡ is_outside exact }
 {
-    exact < -0x8000_0000 || 0x8000_0000 <= exact
+    !(-0x8000_0000 <= exact && exact < 0x8000_0000)
 }
 
 fn increment(a: u32) -> AluOut
