@@ -5,6 +5,7 @@
 #![tactic(auto)]
 
 mod fault;
+mod flag_bits;
 mod operand;
 mod processor;
 mod window;

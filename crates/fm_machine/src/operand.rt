@@ -1,10 +1,9 @@
 //! How an instruction finds its operands in the registers, and which flags it sets.
 
 ghost use Rattle.std.specs.Prelude.{◌≡◌, ◌<◌};
-ghost use Rattle.fm_words.specs.Code.{IsOperand};
-ghost use Rattle.fm_machine.specs.Step.{address_of, passed, word_of, passed_a, reads_b, flags_set};
+ghost use Rattle.fm_machine.specs.Step.{address_of, passed, word_of, reads_b, flags_set};
 
-use fm_words::{AluOut, Flags, Mode, Op, OperandA};
+use fm_words::{AluOut, Flags, Mode, Op};
 
 /// The sixteen registers, by number.
 pub(crate) type Registers = [u32; 16];
@@ -15,10 +14,12 @@ pub(crate) fn address(mode: Mode, reg: u8, registers: &Registers) -> Option<u32>
     ensures { result ≡ address_of mode reg registers.now }
 {
     let value = registers[reg as usize];
-    match mode {
-        Mode::Register => None,
-        Mode::Indirect | Mode::PostIncrement => Some(value),
-        Mode::PreDecrement => Some(value.wrapping_sub(1)),
+    if matches!(mode, Mode::Register) {
+        None
+    } else if matches!(mode, Mode::PreDecrement) {
+        Some(value.wrapping_sub(1))
+    } else {
+        Some(value)
     }
 }
 
@@ -29,20 +30,9 @@ pub(crate) fn pass(mode: Mode, reg: u8, registers: &mut Registers)
 {
     let at = reg as usize;
     match mode {
-        Mode::Register | Mode::Indirect => {}
         Mode::PreDecrement => registers[at] = registers[at].wrapping_sub(1),
         Mode::PostIncrement => registers[at] = registers[at].wrapping_add(1),
-    }
-}
-
-// The registers once the first operand is read.
-pub(crate) fn pass_first(a: OperandA, registers: &mut Registers)
-    requires { IsOperand a }
-    ensures { registers.new ≡ passed_a a registers.old }
-{
-    match a {
-        OperandA::Immediate(_) => {}
-        OperandA::Place { mode, reg } => pass(mode, reg, registers),
+        Mode::Register | Mode::Indirect => {}
     }
 }
 
