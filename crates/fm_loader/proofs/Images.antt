@@ -1,0 +1,99 @@
+-- What the limits of an image give whoever reads values for it and loads it.
+use Rattle.std.proofs.Common.{◌≡◌, ℕ, ◌+◌, ◌<◌, ◌≤◌, List, [], ◌∷◌, ◌++◌, map, length, Bool, true, false, not, ◌&&◌, ◌||◌, leb, ltb, eqb, refl, sym, ap, subst, ◌∙◌, append_assoc, arith}
+use Rattle.std.specs.Prelude.{IsTrue}
+use Rattle.std.specs.List.{list_any, IsDistinct}
+use Rattle.std.specs.Str.{bytes_eq}
+use Rattle.std.proofs.lemmas.Bool.{and_parts, and_from, leb-true, lt-leb, eqb-true, ne_eqb, le-ltb}
+use Rattle.std.proofs.lemmas.Cmp.{nat_list_eq_equiv}
+use Rattle.std.proofs.lemmas.List.{append-nil, map_push}
+use Rattle.std.proofs.lemmas.Map.Keys.{IsDistinct-push}
+use Rattle.stack_text.specs.Names.{is_name}
+use Rattle.stack_text.specs.Values.{item_count}
+use Rattle.fm_machine.specs.State.{is_refused}
+use Rattle.fm_image.specs.declared.slot.Slot.{Slot}
+use Rattle.fm_image.specs.declared.window.Window.{Window}
+use Rattle.fm_image.specs.Image.{ImageOf, window_of, is_size, is_inside, is_slot, is_slot_address, all_behind, is_image}
+use Rattle.fm_image.proofs.Limits.{limits_of}
+use Rattle.fm_loader.specs.Values.{HaveOwnNames}
+use Rattle.fm_loader.specs.Loaded.{HaveRoom}
+
+not_true : (b : Bool) → not b ≡ true → b ≡ false
+not_true true h = cc
+not_true false h = refl
+
+flipped : (name : List ℕ) (slots : List Slot) → list_any (λ other. bytes_eq other.name name) slots ≡ list_any (bytes_eq name) (map (λ s. s.name) slots)
+flipped name [] = refl
+flipped name (slot ∷ slots) = rw (nat_list_eq_equiv.symm slot.name name) (ap (λ (b : Bool). bytes_eq name slot.name || b) (flipped name slots))
+
+-- ---- names
+
+names_behind : (window : Window) (earlier slots : List Slot) → IsDistinct bytes_eq (map (λ s. s.name) earlier) → all_behind (is_slot window) earlier slots ≡ true → IsDistinct bytes_eq (map (λ s. s.name) (earlier ++ slots))
+unfolding all_behind
+names_behind window earlier [] own h = subst (λ (ss : List Slot). IsDistinct bytes_eq (map (λ s. s.name) ss)) (sym (append-nil earlier)) own
+names_behind window earlier (slot ∷ slots) own h =
+    let p = and_parts (is_slot window earlier slot) (all_behind (is_slot window) (earlier ++ slot ∷ []) slots) h in
+    let q = and_parts ((is_name slot.name && not (list_any (λ other. bytes_eq other.name slot.name) earlier)) && leb slot.shape.length 4096) (is_slot_address window slot.shape slot.address) p.0 in
+    let r = and_parts (is_name slot.name && not (list_any (λ other. bytes_eq other.name slot.name) earlier)) (leb slot.shape.length 4096) q.0 in
+    let s = and_parts (is_name slot.name) (not (list_any (λ other. bytes_eq other.name slot.name) earlier)) r.0 in
+    let new : list_any (bytes_eq slot.name) (map (λ s. s.name) earlier) ≡ false = sym (flipped slot.name earlier) ∙ not_true (list_any (λ other. bytes_eq other.name slot.name) earlier) s.1 in
+    let more = IsDistinct-push nat_list_eq_equiv (map (λ s. s.name) earlier) slot.name own new in
+    subst (λ (ss : List Slot). IsDistinct bytes_eq (map (λ s. s.name) ss)) (append_assoc earlier (slot ∷ []) slots)
+    (names_behind window (earlier ++ slot ∷ []) slots (subst (IsDistinct bytes_eq) (sym (map_push (λ (s : Slot). s.name) earlier slot)) more) p.1)
+
+no_names : IsDistinct bytes_eq []
+unfolding IsDistinct
+no_names = tt
+
+-- the slots of an image have different names
+pub own_names : (image : ImageOf) → IsTrue (is_image image) → HaveOwnNames image.slots
+own_names image h = names_behind (window_of image) [] image.slots no_names (limits_of image h).slots
+
+-- ---- room
+
+room_behind : (window : Window) (earlier slots : List Slot) → all_behind (is_slot window) earlier slots ≡ true → HaveRoom window.base slots
+unfolding all_behind
+room_behind window earlier [] h = refl
+room_behind window earlier (slot ∷ slots) h =
+    let p = and_parts (is_slot window earlier slot) (all_behind (is_slot window) (earlier ++ slot ∷ []) slots) h in
+    let q = and_parts ((is_name slot.name && not (list_any (λ other. bytes_eq other.name slot.name) earlier)) && leb slot.shape.length 4096) (is_slot_address window slot.shape slot.address) p.0 in
+    let r = and_parts (leb (window.base + item_count slot.shape) (slot.address + 1)) (ltb slot.address (window.base + window.size)) q.1 in
+    and_from _ _ r.0 (room_behind window (earlier ++ slot ∷ []) slots p.1)
+
+-- the items of each slot stand in the window
+pub has_room : (image : ImageOf) → IsTrue (is_image image) → HaveRoom image.base image.slots
+has_room image h = room_behind (window_of image) [] image.slots (limits_of image h).slots
+
+-- ---- the window
+
+pub record Sized (image : ImageOf) : Type 0 where
+  pub some : 1 ≤ image.size
+  pub few : image.size ≤ 1048576
+  pub below : image.base + image.size ≤ 4294967295
+
+pub sized : (image : ImageOf) → IsTrue (is_image image) → Sized image
+sized image h =
+    let window = and_parts (is_size image.base image.size) (is_inside image.base image.size image.final_pc) (limits_of image h).window in
+    let below = and_parts (leb 1 image.size && leb image.size 1048576) (leb (image.base + image.size) 4294967295) window.0 in
+    let size = and_parts (leb 1 image.size) (leb image.size 1048576) below.0 in
+    record { some = leb-true 1 image.size size.0; few = leb-true image.size 1048576 size.1; below = leb-true (image.base + image.size) 4294967295 below.1 }
+
+-- a machine has such a window
+pub has_window : (image : ImageOf) → IsTrue (is_image image) → is_refused image.base image.size ≡ false
+has_window image h =
+    let s = sized image h in
+    let below = s.below in
+    let few = s.few in
+    let some = s.some in
+    let a : eqb image.size 0 ≡ false = ne_eqb image.size 0 (λ e. omega (arith, some, e)) in
+    let b : ltb 1048576 image.size ≡ false = le-ltb 1048576 image.size few in
+    let c : leb 4294967296 (image.base + image.size) ≡ false = lt-leb 4294967296 (image.base + image.size) (omega (arith, below)) in
+    rw (a, b, c) refl
+
+pub sixteen : (image : ImageOf) → IsTrue (is_image image) → length image.registers ≡ 16
+sixteen image h = eqb-true _ _ (limits_of image h).registers
+
+pub words_below : (image : ImageOf) → IsTrue (is_image image) → image.base + length image.words < 4294967296
+words_below image h =
+    let within : length image.words ≤ image.size = leb-true (length image.words) image.size (limits_of image h).words in
+    let below = (sized image h).below in
+    omega (arith, within, below)

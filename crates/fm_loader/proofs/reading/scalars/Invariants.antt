@@ -1,0 +1,9 @@
+use Rattle.std.proofs.Common.{◌≡◌, drop}
+use Rattle.stack_text.specs.TreeView.{nodes_of}
+use Rattle.fm_loader.specs.Written.{scalars_of}
+use Rattle.fm_loader.proofs.Trees.{behind_scalars}
+use Rattle.fm_loader.proofs.reading.scalars.Given as goal
+
+-- what was read and what is still to come are all
+abbrev pub invariant-loop-tree : goal.invariant-loop-tree
+invariant-loop-tree l = scalars_of (nodes_of l.trees) ≡ behind_scalars l.scalars (scalars_of (nodes_of (drop l.tree-index l.trees)))

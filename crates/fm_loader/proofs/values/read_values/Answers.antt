@@ -1,0 +1,6 @@
+use Rattle.stack_text.specs.TreeView.{node_of}
+use Rattle.fm_loader.proofs.ValuesLaws.{fits_if_ok}
+use Rattle.fm_loader.proofs.values.read_values.Goals as goal
+
+pub returns-in-Ok-clause-fits : goal.returns-in-Ok-clause-fits
+returns-in-Ok-clause-fits c = fits_if_ok c.args.slots.now (node_of c.in-Ok.tree) c.values.result c.values.ensures

@@ -1,0 +1,4 @@
+pub mod Written
+pub mod Values
+pub mod Gives
+pub mod Loaded

@@ -1,0 +1,148 @@
+-- The values that a text gives the variables of an image, and the rules V1 to V7 that it may break.
+use Rattle.std.specs.Prelude.{ℕ, ℤ, pos, List, [], ◌∷◌, ◌++◌, length, map, Option, Some, None, unwrap_or, Result, Ok, Err, Bool, true, false, not, ◌&&◌, ◌||◌, ◌==◌, if◌then◌else◌}
+use Rattle.std.specs.Option.{option_map, option_or, ok_or}
+use Rattle.std.specs.List.{list_any, list_all, find, IsDistinct}
+use Rattle.std.specs.Str.{bytes_eq}
+use Rattle.stack_text.specs.declared.text_fault.TextRule.{TextRule}
+use Rattle.stack_text.specs.declared.shape.Kind.{Kind}
+use Rattle.stack_text.specs.declared.shape.Kind.TheVariants.{Integer, Boolean, Character}
+use Rattle.stack_text.specs.declared.shape.Shape.{Shape}
+use Rattle.stack_text.specs.Trees.{Node, Nodes, atom, list, none, more, place_of}
+use Rattle.stack_text.specs.TreeIn.{tree_in}
+use Rattle.stack_text.specs.Values.{ValueOf, is_item}
+use Rattle.fm_image.specs.declared.slot.Slot.{Slot}
+use Rattle.fm_loader.specs.declared.written.Scalar.{Scalar}
+use Rattle.fm_loader.specs.declared.written.Written.{Written}
+use Rattle.fm_loader.specs.declared.written.Written.TheVariants.{Single, Several}
+use Rattle.fm_loader.specs.declared.written.Entry.{Entry}
+use Rattle.fm_loader.specs.Written.{entry_of}
+
+-- 1. Entries. V1 is for what is no list of entries: at the fault of a text that is no tree's, at a tree that is no list, or at the first item that is no entry. A fault is a rule and a place.
+
+infixl 10 ◌>>=◌
+abbrev pub ◌>>=◌ : {A B : Type 0} → Result A (ℕ × ℕ) → (A → Result B (ℕ × ℕ)) → Result B (ℕ × ℕ)
+(Ok x) >>= go = go x
+(Err fault) >>= go = Err fault
+
+abbrev pub entry_at : Node → Result Entry (ℕ × ℕ)
+entry_at tree = ok_or (entry_of tree) (1, place_of tree)
+
+unfoldable pub entries_of : Nodes → Result (List Entry) (ℕ × ℕ)
+entries_of none = Ok []
+entries_of (more tree trees) = do
+  entry ← entry_at tree
+  others ← entries_of trees
+  Ok (entry ∷ others)
+
+-- 2. The rule that an entry breaks, the least of them.
+
+abbrev pub is_kind : Kind → Kind → Bool
+is_kind Integer Integer = true
+is_kind Boolean Boolean = true
+is_kind Character Character = true
+is_kind kind other = false
+
+-- the number is there, and one that its kind has
+abbrev pub is_there : Kind → Option ℤ → Bool
+is_there kind None = false
+is_there kind (Some number) = is_item kind number
+
+abbrev pub is_within : Scalar → Bool
+is_within scalar = is_there scalar.kind scalar.number
+
+-- V5 for an array's slot or another kind, and then V7 for a number out of range
+abbrev pub single_misfit : Shape → Scalar → Option ℕ
+single_misfit shape scalar =
+    if not (shape.length == 0 && is_kind shape.kind scalar.kind) then Some 5 else
+    if not (is_within scalar) then Some 7 else None
+
+-- V5 for a simple type's slot or another kind, then V6 for another number of values, and then V7 for a number out of range
+abbrev pub array_misfit : Shape → List Scalar → Option ℕ
+array_misfit shape scalars =
+    if shape.length == 0 || not (list_all (λ scalar. is_kind shape.kind scalar.kind) scalars) then Some 5 else
+    if not (length scalars == shape.length) then Some 6 else
+    if not (list_all is_within scalars) then Some 7 else None
+
+abbrev pub misfit : Shape → Written → Option ℕ
+misfit shape (Single scalar) = single_misfit shape scalar
+misfit shape (Several scalars) = array_misfit shape scalars
+
+abbrev pub slot_named : List ℕ → List Slot → Option Slot
+slot_named name slots = find (λ slot. bytes_eq name slot.name) slots
+
+abbrev pub is_named : List ℕ → List Entry → Bool
+is_named name entries = list_any (λ entry. bytes_eq name entry.name) entries
+
+-- V2 for a name that no slot has, V3 for one that an earlier entry has
+abbrev pub broken_by : Option Slot → Bool → Written → Option ℕ
+broken_by None is_repeated value = Some 2
+broken_by (Some slot) true value = Some 3
+broken_by (Some slot) false value = misfit slot.shape value
+
+abbrev pub rule_of : List Slot → List Entry → Entry → Option ℕ
+rule_of slots earlier entry = broken_by (slot_named entry.name slots) (is_named entry.name earlier) entry.value
+
+-- the first entry that breaks a rule, behind earlier ones
+unfoldable pub entry_fault : List Slot → List Entry → List Entry → Option (ℕ × ℕ)
+entry_fault slots earlier [] = None
+entry_fault slots earlier (entry ∷ entries) =
+    option_or (option_map (λ rule. (rule, entry.place)) (rule_of slots earlier entry)) (entry_fault slots (earlier ++ entry ∷ []) entries)
+
+-- 3. The values, in the order of the slots.
+
+abbrev pub number_of : Scalar → ℤ
+number_of scalar = unwrap_or scalar.number (pos 0)
+
+abbrev pub numbers_of : Written → List ℤ
+numbers_of (Single scalar) = number_of scalar ∷ []
+numbers_of (Several scalars) = map number_of scalars
+
+-- the numbers in the entry of a name, if there is one
+abbrev pub numbers_for : List ℕ → List Entry → Option (List ℤ)
+numbers_for name [] = None
+numbers_for name (entry ∷ entries) = if bytes_eq name entry.name then Some (numbers_of entry.value) else numbers_for name entries
+
+abbrev pub value_with : Shape → List ℤ → ValueOf
+value_with shape items = record { shape = shape; items = items }
+
+abbrev pub value_for : List Entry → Slot → Option ValueOf
+value_for entries slot = option_map (value_with slot.shape) (numbers_for slot.name entries)
+
+abbrev pub unless_fault : {A : Type 0} → Option (ℕ × ℕ) → A → Result A (ℕ × ℕ)
+unless_fault None x = Ok x
+unless_fault (Some fault) x = Err fault
+
+-- the value of an entry for a slot of the shape
+abbrev pub value_or_fault : Shape → Entry → Result ValueOf (ℕ × ℕ)
+value_or_fault shape entry = unless_fault (option_map (λ rule. (rule, entry.place)) (misfit shape entry.value)) (value_with shape (numbers_of entry.value))
+
+-- what each slot gets, where no entry breaks a rule
+abbrev pub found_in : List Slot → List Entry → Result (List (Option ValueOf)) (ℕ × ℕ)
+found_in slots entries = unless_fault (entry_fault slots [] entries) (map (value_for entries) slots)
+
+-- V4 for a slot without an entry, at the whole list
+unfoldable pub all_found : ℕ → List (Option ValueOf) → Result (List ValueOf) (ℕ × ℕ)
+all_found place [] = Ok []
+all_found place (found ∷ others) = do
+  value ← ok_or found (4, place)
+  values ← all_found place others
+  Ok (value ∷ values)
+
+unfoldable pub values_at : List Slot → Node → Result (List ValueOf) (ℕ × ℕ)
+values_at slots (atom place word) = Err (1, place)
+values_at slots (list place trees) = do
+  entries ← entries_of trees
+  found ← found_in slots entries
+  all_found place found
+
+abbrev pub values_on : List Slot → Result Node (TextRule × ℕ) → Result (List ValueOf) (ℕ × ℕ)
+values_on slots (Err fault) = Err (1, fault.1)
+values_on slots (Ok tree) = values_at slots tree
+
+-- the values that a text gives the slots, or else the rule that it breaks, and where
+unfoldable pub values_in : List Slot → List ℕ → Result (List ValueOf) (ℕ × ℕ)
+values_in slots text = values_on slots (tree_in text)
+
+-- no slot has the name of another
+abbrev pub HaveOwnNames : List Slot → Type 0
+HaveOwnNames slots = IsDistinct bytes_eq (map (λ slot. slot.name) slots)

@@ -1,0 +1,73 @@
+-- Values as a text has them.
+use Rattle.std.specs.Prelude.{ℕ, ℤ, pos, negsuc, ◌^◌, List, [], ◌∷◌, Option, Some, None, Bool, ◌&&◌, ◌==◌, nat_lt, if◌then◌else◌, codes}
+use Rattle.std.specs.Option.{option_map}
+use Rattle.std.specs.Str.{bytes_eq}
+use Rattle.stack_text.specs.declared.shape.Kind.TheVariants.{Integer, Boolean, Character}
+use Rattle.stack_text.specs.Numerals.{is_digits, is_numeral, numeral_value}
+use Rattle.stack_text.specs.Names.{name_of}
+use Rattle.stack_text.specs.Trees.{Node, Nodes, atom, list, none, more}
+use Rattle.fm_loader.specs.declared.written.Scalar.{Scalar}
+use Rattle.fm_loader.specs.declared.written.Written.{Written}
+use Rattle.fm_loader.specs.declared.written.Written.TheVariants.{Single, Several}
+use Rattle.fm_loader.specs.declared.written.Entry.{Entry}
+
+-- what goes on, where there is something
+infixl 10 ◌>>=◌
+abbrev pub ◌>>=◌ : {A B : Type 0} → Option A → (A → Option B) → Option B
+(Some x) >>= go = go x
+None >>= go = None
+
+-- from -2^31 to 2^31 - 1, where `negsuc n` is -(n + 1)
+abbrev pub fits_32_bits : ℤ → Bool
+fits_32_bits (pos n) = nat_lt n (2 ^ 31)
+fits_32_bits (negsuc n) = nat_lt n (2 ^ 31)
+
+-- the number, where it has 32 signed bits
+abbrev pub in_32_bits : ℤ → Option ℤ
+in_32_bits number = if fits_32_bits number then Some number else None
+
+-- `#` and digits
+abbrev pub character_of : List ℕ → Option Scalar
+character_of [] = None
+character_of (mark ∷ digits) = if mark == 35 && is_digits digits then Some (record { kind = Character; number = in_32_bits (numeral_value digits) }) else None
+
+-- `true`, `false`, a numeral, or a character
+unfoldable pub scalar_of : List ℕ → Option Scalar
+scalar_of word =
+    if bytes_eq word (codes "true") then Some (record { kind = Boolean; number = Some (pos 1) }) else
+    if bytes_eq word (codes "false") then Some (record { kind = Boolean; number = Some (pos 0) }) else
+    if is_numeral word then Some (record { kind = Integer; number = in_32_bits (numeral_value word) }) else character_of word
+
+abbrev pub scalar_at : Node → Option Scalar
+scalar_at (atom place word) = scalar_of word
+scalar_at (list place trees) = None
+
+unfoldable pub scalars_of : Nodes → Option (List Scalar)
+scalars_of none = Some []
+scalars_of (more tree trees) = do
+  first ← scalar_at tree
+  others ← scalars_of trees
+  Some (first ∷ others)
+
+-- a single value, or those of an array in parentheses
+unfoldable pub written_of : Node → Option Written
+written_of (atom place word) = option_map Single (scalar_of word)
+written_of (list place trees) = option_map Several (scalars_of trees)
+
+abbrev pub name_at : Node → Option (List ℕ)
+name_at (atom place word) = name_of word
+name_at (list place trees) = None
+
+-- the two trees of a list of two
+abbrev pub pair_of : Nodes → Option (Node × Node)
+pair_of (more first (more second none)) = Some (first, second)
+pair_of trees = None
+
+-- `(NAME VALUE)`
+unfoldable pub entry_of : Node → Option Entry
+entry_of (atom place word) = None
+entry_of (list place trees) = do
+  pair ← pair_of trees
+  name ← name_at pair.0
+  value ← written_of pair.1
+  Some (record { place = place; name = name; value = value })

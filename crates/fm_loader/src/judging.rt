@@ -1,0 +1,206 @@
+//! Judging the entries of a text.
+
+ghost use Rattle.std.specs.Prelude.{◌≡◌, map, length, replicate, None, Some, IfOk, IfSome, option_map, slice_get};
+ghost use Rattle.std.specs.List.{list_all};
+ghost use Rattle.stack_text.specs.Gives as memory;
+ghost use Rattle.fm_loader.specs.Gives.{Gives};
+ghost use Rattle.fm_loader.specs.Values.{is_kind, is_within, single_misfit, array_misfit, misfit, value_or_fault, number_of, numbers_of, slot_named, found_in, all_found, HaveOwnNames};
+
+use crate::fault::ValuesFault;
+use crate::written::{Entry, Scalar, Written};
+use fm_image::Slot;
+use indexmap::IndexSet;
+use stack_text::{Kind, Memory, Shape, Value};
+use std::alloc::Global;
+
+/// Whether the two are one kind.
+fn is_kind(kind: Kind, other: Kind) -> bool
+    ensures { result ≡ is_kind kind other }
+{
+    kind == other
+}
+
+/// Whether all are of the kind.
+fn are_of_kind(kind: Kind, scalars: &[Scalar]) -> bool
+    ensures { result ≡ list_all (λ scalar. is_kind kind scalar.kind) scalars.now }
+{
+    scalars.iter().all(|scalar| is_kind(kind, scalar.kind))
+}
+
+/// Whether the number is one that its kind has.
+fn is_within(scalar: Scalar) -> bool
+    ensures { result ≡ is_within scalar }
+{
+    match scalar.number {
+        Some(number) => scalar.kind.has(number),
+        None => false,
+    }
+}
+
+/// Whether each number is one that its kind has.
+fn are_within(scalars: &[Scalar]) -> bool
+    ensures { result ≡ list_all is_within scalars.now }
+{
+    scalars.iter().all(|scalar| is_within(*scalar))
+}
+
+/// The rule by which a single value doesn't fit the shape, if there is one.
+fn single_misfit(shape: Shape, scalar: Scalar) -> Option<u8>
+    ensures { result ≡ single_misfit shape scalar }
+{
+    if shape.length != 0 || !is_kind(shape.kind, scalar.kind) {
+        return Some(5);
+    }
+    if !is_within(scalar) {
+        return Some(7);
+    }
+    None
+}
+
+/// The rule by which the values of an array don't fit the shape, if there is one.
+fn array_misfit(shape: Shape, scalars: &[Scalar]) -> Option<u8>
+    ensures { result ≡ array_misfit shape scalars.now }
+{
+    if shape.length == 0 || !are_of_kind(shape.kind, scalars) {
+        return Some(5);
+    }
+    if scalars.len() != shape.length as usize {
+        return Some(6);
+    }
+    if !are_within(scalars) {
+        return Some(7);
+    }
+    None
+}
+
+/// The rule by which a value doesn't fit the shape, if there is one.
+fn misfit(shape: Shape, value: &Written) -> Option<u8>
+    ensures { result ≡ misfit shape value.now }
+{
+    match value {
+        Written::Single(scalar) => single_misfit(shape, *scalar),
+        Written::Several(scalars) => array_misfit(shape, scalars.as_slice()),
+    }
+}
+
+/// The number of a single value. Where it has none, the entry is refused before its number counts.
+fn number_of(scalar: Scalar) -> i32
+    ensures { result ≡ number_of scalar }
+{
+    scalar.number.unwrap_or(0)
+}
+
+/// The numbers of an array's values.
+fn array_numbers(alloc: Global, scalars: &[Scalar]) -> Result<Vec<i32>, Memory>
+    ensures { memory.Gives (λ numbers. numbers.items) result (map number_of scalars.now) }
+{
+    let mut numbers = Vec::new(alloc);
+    for scalar in scalars {
+        numbers.push(number_of(*scalar))?;
+    }
+    Ok(numbers)
+}
+
+/// The numbers of a value.
+fn numbers(alloc: Global, value: &Written) -> Result<Vec<i32>, Memory>
+    ensures { memory.Gives (λ numbers. numbers.items) result (numbers_of value.now) }
+{
+    match value {
+        Written::Single(scalar) => array_numbers(alloc, &[*scalar]),
+        Written::Several(scalars) => array_numbers(alloc, scalars.as_slice()),
+    }
+}
+
+/// The value of an entry for a slot of the shape, or the fault of the entry.
+fn value(alloc: Global, shape: Shape, entry: &Entry) -> Result<Value, ValuesFault>
+    ensures { Gives (λ value. value) result (value_or_fault shape entry.now) }
+{
+    if let Some(rule) = misfit(shape, &entry.value) {
+        return Err(ValuesFault::Refused {
+            rule,
+            place: entry.place,
+        });
+    }
+    let items = numbers(alloc, &entry.value)?;
+    Ok(Value { shape, items })
+}
+
+/// The names of the slots, in their order.
+fn names<'a>(alloc: Global, slots: &'a [Slot]) -> Result<IndexSet<&'a [u8]>, Memory>
+    requires { HaveOwnNames slots.now }
+    ensures { IfOk result (λ names. map (λ key. key.now) names.keys ≡ map (λ slot. slot.name) slots.now) }
+{
+    let mut names: IndexSet<&[u8]> = IndexSet::new(alloc);
+    for slot in slots {
+        let (_index, _added) = names.insert_full(slot.name.bytes())?;
+    }
+    Ok(names)
+}
+
+/// No value for each slot.
+fn nothing_found(alloc: Global, slots: &[Slot]) -> Result<Vec<Option<Value>>, Memory>
+    ensures { memory.Gives (λ found. found.items) result (replicate (length slots.now) None) }
+{
+    let mut found = Vec::new(alloc);
+    for _ in 0..slots.len() {
+        found.push(None)?;
+    }
+    Ok(found)
+}
+
+/// The slot of a name, with its position.
+fn slot_named<'a>(
+    names: &IndexSet<&[u8]>,
+    slots: &'a [Slot],
+    name: &[u8],
+) -> Option<(usize, &'a Slot)>
+    requires { map (λ key. key.now) names.now.keys ≡ map (λ slot. slot.name) slots.now }
+    ensures slot { option_map (λ found. found.1.now) result ≡ slot_named name.now slots.now }
+    ensures position { IfSome result (λ found. slice_get slots.now found.0 ≡ Some found.1.now) }
+{
+    let index = names.get_index_of(name)?;
+    let slot = slots.get(index)?;
+    Some((index, slot))
+}
+
+/// What each slot gets of the entries: none without one.
+pub(crate) fn found(
+    alloc: Global,
+    slots: &[Slot],
+    entries: &[Entry],
+) -> Result<Vec<Option<Value>>, ValuesFault>
+    requires { HaveOwnNames slots.now }
+    ensures { Gives (λ found. found.items) result (found_in slots.now entries.now) }
+{
+    let names = names(alloc, slots)?;
+    let mut found = nothing_found(alloc, slots)?;
+    for entry in entries {
+        let place = entry.place;
+        let Some((index, slot)) = slot_named(&names, slots, entry.name.bytes()) else {
+            return Err(ValuesFault::Refused { rule: 2, place });
+        };
+        if found[index].is_some() {
+            return Err(ValuesFault::Refused { rule: 3, place });
+        }
+        found[index] = Some(value(alloc, slot.shape, entry)?);
+    }
+    Ok(found)
+}
+
+/// The values that were found, where each is there.
+pub(crate) fn all_found(
+    alloc: Global,
+    place: u32,
+    found: Vec<Option<Value>>,
+) -> Result<Vec<Value>, ValuesFault>
+    ensures { Gives (λ values. values.items) result (all_found place found.items) }
+{
+    let mut values = Vec::new(alloc);
+    for value in found {
+        match value {
+            Some(value) => values.push(value)?,
+            None => return Err(ValuesFault::Refused { rule: 4, place }),
+        }
+    }
+    Ok(values)
+}

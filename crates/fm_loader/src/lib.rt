@@ -1,0 +1,15 @@
+//! Values for the variables of an image, and the machine that is loaded with them.
+#![tactic(auto)]
+
+mod fault;
+mod judging;
+mod loading;
+mod reading;
+#[cfg(test)]
+mod tests;
+mod values;
+mod written;
+
+pub use fault::ValuesFault;
+pub use loading::load;
+pub use values::read_values;

@@ -1,0 +1,178 @@
+//! Reading the entries of a tree.
+
+ghost use Rattle.std.specs.Prelude.{◌≡◌, IsTrue, option_map};
+ghost use Rattle.stack_text.specs.Gives as memory;
+ghost use Rattle.stack_text.specs.Numerals.{is_numeral, numeral_value};
+ghost use Rattle.stack_text.specs.TreeView.{node_of, nodes_of};
+ghost use Rattle.fm_loader.specs.Gives.{Gives};
+ghost use Rattle.fm_loader.specs.Written.{in_32_bits, character_of, scalar_of, scalar_at, scalars_of, written_of, name_at, pair_of, entry_of};
+ghost use Rattle.fm_loader.specs.Values.{entries_of, entry_at};
+
+use crate::fault::ValuesFault;
+use crate::written::{Entry, Scalar, Written};
+use stack_text::{Kind, Memory, Name, Seq, Tree, is_digits, is_numeral, read_name, read_numeral};
+use std::alloc::Global;
+
+/// What the numeral stands for, where that has 32 signed bits.
+fn number(numeral: &[u8]) -> Option<i32>
+    requires { IsTrue (is_numeral numeral.now) }
+    ensures { result ≡ in_32_bits (numeral_value numeral.now) }
+{
+    match read_numeral(numeral) {
+        Some(number) => i32::try_from(number).ok(),
+        None => None,
+    }
+}
+
+/// The character that `#` and digits stand for.
+fn character(word: &[u8]) -> Option<Scalar>
+    ensures { result ≡ character_of word.now }
+{
+    match word {
+        [b'#', digits @ ..] => {
+            if !is_digits(digits) {
+                return None;
+            }
+            Some(Scalar {
+                kind: Kind::Character,
+                number: number(digits),
+            })
+        }
+        _ => None,
+    }
+}
+
+/// The single value that a word is, if it is one.
+#[tactic(auto, unfolding(crate::specs::Written::scalar_of))]
+fn scalar(word: &[u8]) -> Option<Scalar>
+    ensures { result ≡ scalar_of word.now }
+{
+    if word == b"true".as_slice() {
+        return Some(Scalar {
+            kind: Kind::Boolean,
+            number: Some(1),
+        });
+    }
+    if word == b"false".as_slice() {
+        return Some(Scalar {
+            kind: Kind::Boolean,
+            number: Some(0),
+        });
+    }
+    if is_numeral(word) {
+        return Some(Scalar {
+            kind: Kind::Integer,
+            number: number(word),
+        });
+    }
+    character(word)
+}
+
+/// The single value that a tree is, if it is one.
+fn scalar_at(tree: &Tree) -> Option<Scalar>
+    ensures { result ≡ scalar_at (node_of tree.now) }
+{
+    match tree {
+        Tree::Atom { place: _, text } => scalar(text),
+        Tree::List { place: _, items: _ } => None,
+    }
+}
+
+/// The single values that trees are, if each is one.
+fn scalars(alloc: Global, trees: &[Tree]) -> Result<Option<Seq<Scalar>>, Memory>
+    ensures { memory.Gives (λ scalars. scalars) result (scalars_of (nodes_of trees.now)) }
+{
+    let mut scalars = Seq::new(alloc);
+    for tree in trees {
+        match scalar_at(tree) {
+            Some(scalar) => scalars.push(scalar)?,
+            None => return Ok(None),
+        }
+    }
+    Ok(Some(scalars))
+}
+
+/// The value that a tree is, if it is one.
+#[tactic(auto, unfolding(crate::specs::Written::written_of))]
+fn written(alloc: Global, tree: &Tree) -> Result<Option<Written>, Memory>
+    ensures { memory.Gives (λ written. written) result (written_of (node_of tree.now)) }
+{
+    match tree {
+        Tree::Atom { place: _, text } => match scalar(text) {
+            Some(scalar) => Ok(Some(Written::Single(scalar))),
+            None => Ok(None),
+        },
+        Tree::List { place: _, items } => match scalars(alloc, items)? {
+            Some(scalars) => Ok(Some(Written::Several(scalars))),
+            None => Ok(None),
+        },
+    }
+}
+
+/// The name that a tree is, if it is one.
+fn name(alloc: Global, tree: &Tree) -> Result<Option<Name>, Memory>
+    ensures { memory.Gives (λ name. name) result (name_at (node_of tree.now)) }
+{
+    match tree {
+        Tree::Atom { place: _, text } => read_name(alloc, text),
+        Tree::List { place: _, items: _ } => Ok(None),
+    }
+}
+
+/// The trees of a list of two.
+fn pair(trees: &[Tree]) -> Option<(&Tree, &Tree)>
+    ensures { option_map (λ pair. (node_of pair.0.now, node_of pair.1.now)) result ≡ pair_of (nodes_of trees.now) }
+{
+    if trees.len() != 2 {
+        return None;
+    }
+    Some((&trees[0], &trees[1]))
+}
+
+/// The entry that a tree is, if it is one.
+#[tactic(auto, unfolding(crate::specs::Written::entry_of))]
+fn entry(alloc: Global, tree: &Tree) -> Result<Option<Entry>, Memory>
+    ensures { memory.Gives (λ entry. entry) result (entry_of (node_of tree.now)) }
+{
+    let Tree::List { place, items } = tree else {
+        return Ok(None);
+    };
+    let Some((first, second)) = pair(items) else {
+        return Ok(None);
+    };
+    let Some(name) = name(alloc, first)? else {
+        return Ok(None);
+    };
+    let Some(value) = written(alloc, second)? else {
+        return Ok(None);
+    };
+    Ok(Some(Entry {
+        place: *place,
+        name,
+        value,
+    }))
+}
+
+/// The entry that a tree is.
+fn entry_or_fault(alloc: Global, tree: &Tree) -> Result<Entry, ValuesFault>
+    ensures { Gives (λ entry. entry) result (entry_at (node_of tree.now)) }
+{
+    match entry(alloc, tree)? {
+        Some(entry) => Ok(entry),
+        None => Err(ValuesFault::Refused {
+            rule: 1,
+            place: tree.place(),
+        }),
+    }
+}
+
+/// The entries that trees are.
+pub(crate) fn entries(alloc: Global, trees: &[Tree]) -> Result<Vec<Entry>, ValuesFault>
+    ensures { Gives (λ entries. entries.items) result (entries_of (nodes_of trees.now)) }
+{
+    let mut entries = Vec::new(alloc);
+    for tree in trees {
+        entries.push(entry_or_fault(alloc, tree)?)?;
+    }
+    Ok(entries)
+}

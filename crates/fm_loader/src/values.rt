@@ -1,0 +1,56 @@
+//! Reading the values of an image's variables.
+
+ghost use Rattle.std.specs.Prelude.{◌≡◌, ◌≤◌, ◌^◌, length, IfOk};
+ghost use Rattle.stack_text.specs.TreeView.{node_of};
+ghost use Rattle.fm_loader.specs.Gives.{Gives};
+ghost use Rattle.fm_loader.specs.Loaded.{Fits};
+ghost use Rattle.fm_loader.specs.Values.{values_at, values_in, HaveOwnNames};
+
+use crate::fault::ValuesFault;
+use crate::judging::{all_found, found};
+use crate::reading::entries;
+use fm_image::Slot;
+use stack_text::{TextFault, Tree, Value, read_tree};
+use std::alloc::Global;
+
+/// The values that a tree gives the slots.
+#[tactic(auto, unfolding(crate::specs::Values::values_at))]
+fn values(alloc: Global, tree: &Tree, slots: &[Slot]) -> Result<Vec<Value>, ValuesFault>
+    requires { HaveOwnNames slots.now }
+    ensures { Gives (λ values. values.items) result (values_at slots.now (node_of tree.now)) }
+{
+    match tree {
+        Tree::Atom { place, text: _ } => Err(ValuesFault::Refused {
+            rule: 1,
+            place: *place,
+        }),
+        Tree::List { place, items } => {
+            let entries = entries(alloc, items)?;
+            let found = found(alloc, slots, &entries)?;
+            all_found(alloc, *place, found)
+        }
+    }
+}
+
+/// The values that a text of at most 2^31 bytes gives the slots, in the order of the slots, whose names differ.
+///
+/// The time is linear in the text and the slots.
+///
+/// # Errors
+///
+/// The rule that the text breaks, with its place, as `ValuesFault` lists them; or want of memory.
+#[tactic(auto, unfolding(crate::specs::Values::values_in))]
+pub fn read_values(alloc: Global, text: &[u8], slots: &[Slot]) -> Result<Vec<Value>, ValuesFault>
+    requires text { length text.now ≤ 2 ^ 31 }
+    requires names { HaveOwnNames slots.now }
+    // What is read is what the text gives the slots, and an error is the rule that the text breaks.
+    ensures value { Gives (λ values. values.items) result (values_in slots.now text.now) }
+    // A value of its shape for each slot.
+    ensures fits { IfOk result (λ values. Fits slots.now values.items) }
+{
+    match read_tree(alloc, text) {
+        Ok(tree) => values(alloc, &tree, slots),
+        Err(TextFault::Fault { rule: _, place }) => Err(ValuesFault::Refused { rule: 1, place }),
+        Err(TextFault::Memory) => Err(ValuesFault::Memory),
+    }
+}
