@@ -1,0 +1,55 @@
+-- Memory read as a condition and variables.
+use Rattle.std.specs.Prelude.{ℕ, zero, suc, ◌-◌, List, [], ◌∷◌, map, Option, Some, None, Bool, true, false, ◌==◌, nat_le, if◌then◌else◌, slice_get, unwrap_or}
+use Rattle.std.specs.Option.{option_map}
+use Rattle.stack_text.specs.declared.shape.Kind.{Kind}
+use Rattle.stack_text.specs.declared.shape.Kind.TheVariants.{Integer, Boolean, Character}
+use Rattle.stack_text.specs.Values.{item_count}
+use Rattle.fm_words.specs.Word.{signed_of}
+use Rattle.fm_machine.specs.State.{Fm, word_at}
+use Rattle.fm_image.specs.declared.slot.Slot.{Slot}
+use Rattle.fm_image.specs.Image.{ImageOf}
+use Rattle.display_maps.specs.declared.shown.Shown.{Shown}
+use Rattle.display_maps.specs.declared.shown.Shown.TheVariants.{Normal, Routine, Leave, Named, Number, Truth, Code, Odd}
+
+-- what clauses see of a `Reading`: the condition where there is one, and each variable's name and items
+pub record ReadingOf : Type 0 where
+  pub condition : Option Shown
+  pub items : List (List ℕ × List Shown)
+
+-- the word at an address of the window
+abbrev pub word_of : Fm → ℕ → ℕ
+word_of s address = unwrap_or (word_at s.base s.memory address) 0
+
+-- 0 is leave, 1 routineerror, 2 normal, and the named conditions are counted from 3 on
+abbrev pub named_or_odd : Option (List ℕ) → ℕ → Shown
+named_or_odd (Some name) word = Named name
+named_or_odd None word = Odd word
+
+unfoldable pub condition_of : List (List ℕ) → ℕ → Shown
+condition_of names word =
+    if word == 0 then Leave else
+    if word == 1 then Routine else
+    if word == 2 then Normal else named_or_odd (slice_get names (word - 3)) word
+
+-- an integer is signed; a Boolean is 0 or 1; a character is an ASCII code; any other word is odd
+unfoldable pub item_of : Kind → ℕ → Shown
+item_of Integer word = Number (signed_of word)
+item_of Boolean word = if word == 0 then Truth false else (if word == 1 then Truth true else Odd word)
+item_of Character word = if nat_le word 127 then Code word else Odd word
+
+-- so many words, from an address downwards
+abbrev pub words_down : Fm → ℕ → ℕ → List ℕ
+words_down s address zero = []
+words_down s address (suc n) = word_of s address ∷ words_down s (address - 1) n
+
+-- a variable: item j is the word at the slot's address less j
+abbrev pub variable_of : Fm → Slot → List ℕ × List Shown
+variable_of s slot = (slot.name, map (item_of slot.shape.kind) (words_down s slot.address (item_count slot.shape)))
+
+-- what the memory of an image's machine says
+abbrev pub reading : ImageOf → Fm → ReadingOf
+reading image s =
+    record {
+      condition = option_map (λ address. condition_of image.conditions (word_of s address)) image.condition_address;
+      items = map (variable_of s) image.slots;
+    }

@@ -1,0 +1,12 @@
+//! Memory read as the condition and the variables of a source, and the report of that.
+#![tactic(auto)]
+
+mod printing;
+mod reading;
+mod shown;
+#[cfg(test)]
+mod tests;
+
+pub use printing::report;
+pub use reading::{Reading, read_up};
+pub use shown::Shown;

@@ -1,0 +1,98 @@
+//! Memory read as a condition and variables.
+
+ghost use Rattle.std.specs.Prelude.{◌≡◌, ◌≤◌, map, IfOk};
+ghost use Rattle.std.specs.Option.{option_map};
+ghost use Rattle.stack_text.specs.Values.{item_count};
+ghost use Rattle.display_maps.specs.Reading.{word_of, condition_of, item_of, words_down, variable_of, reading};
+
+use crate::shown::{Shown, condition_of, item_of};
+use fm_image::{Image, Slot};
+use fm_machine::Machine;
+use stack_text::{Memory, Name};
+use std::alloc::Global;
+use std::marker::Model;
+
+/// What the memory of an image's machine says.
+///
+/// Contracts see it as a record of the same fields, with lists in place of the vectors.
+#[derive(Debug, Drop)]
+pub struct Reading {
+    /// The condition, where the image has a condition word.
+    pub condition: Option<Shown>,
+    /// The name and the items of each variable, in the order of the slots.
+    pub items: Vec<(Name, Vec<Shown>)>,
+}
+
+impl Model for Reading {
+    ghost use Rattle.std.specs.Prelude.{map};
+    ghost use Rattle.display_maps.specs.Reading.{ReadingOf};
+
+    ghost Value = { ReadingOf };
+
+    ghost view = { λ r. record { condition = r.condition; items = map (λ item. (item.0, item.1.items)) r.items.items } };
+}
+
+/// The word at an address, or 0 outside the window.
+fn word_of(machine: &Machine, address: u32) -> u32
+    ensures { result ≡ word_of machine.now.state address }
+{
+    machine.peek(address).unwrap_or(0)
+}
+
+/// The condition that the word at an address says.
+fn condition_at(
+    machine: &Machine,
+    names: &[Name],
+    address: Option<u32>,
+) -> Result<Option<Shown>, Memory>
+    ensures { IfOk result (λ condition.
+        condition ≡ option_map (λ a. condition_of names.now (word_of machine.now.state a)) address) }
+{
+    match address {
+        Some(address) => Ok(Some(condition_of(names, word_of(machine, address))?)),
+        None => Ok(None),
+    }
+}
+
+/// The items of a variable, which stand from its address downwards.
+fn items_of(alloc: Global, machine: &Machine, slot: &Slot) -> Result<Vec<Shown>, Memory>
+    ensures { IfOk result (λ items. items.items
+        ≡ map (item_of slot.now.shape.kind) (words_down machine.now.state slot.now.address (item_count slot.now.shape))) }
+{
+    let mut items = Vec::new(alloc);
+    let mut address = slot.address;
+    for _ in 0..slot.shape.item_count() {
+        items.push(item_of(slot.shape.kind, word_of(machine, address)))?;
+        address = address.saturating_sub(1);
+    }
+    Ok(items)
+}
+
+/// The variables, each by its name and its items.
+fn variables(
+    alloc: Global,
+    machine: &Machine,
+    slots: &[Slot],
+) -> Result<Vec<(Name, Vec<Shown>)>, Memory>
+    ensures { IfOk result (λ variables.
+        map (λ item. (item.0, item.1.items)) variables.items ≡ map (variable_of machine.now.state) slots.now) }
+{
+    let mut variables = Vec::new(alloc);
+    for slot in slots {
+        let items = items_of(alloc, machine, slot)?;
+        variables.push((slot.name.clone()?, items))?;
+    }
+    Ok(variables)
+}
+
+/// What memory says: the condition, where the image has a condition word, and the variables.
+///
+/// The machine has the window of the image. In another window an address that is not there reads as 0.
+pub fn read_up(alloc: Global, machine: &Machine, image: &Image) -> Result<Reading, Memory>
+    ensures { IfOk result (λ read. read ≡ reading image.now machine.now.state) }
+{
+    Ok(Reading {
+        condition: condition_at(machine, &image.conditions, image.condition_address)?,
+        items: variables(alloc, machine, &image.slots)?,
+    })
+}
