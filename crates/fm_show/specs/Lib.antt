@@ -1,2 +1,3 @@
 pub mod Disassembly
 pub mod Listing
+pub mod ImageListing

@@ -1,12 +1,14 @@
-//! The FM9001 as text: a word as the instruction that it is, and a machine as lines.
+//! The FM9001 as text: a word as the instruction that it is, and a machine or an image as lines.
 //!
 //! `docs/fm9001.md` has the notation, with examples.
 #![tactic(auto)]
 
 mod disassembly;
+mod image;
 mod listing;
 
 pub use disassembly::disassemble;
+pub use image::show_image;
 pub use listing::show_machine;
 
 #[cfg(test)]

@@ -37,7 +37,12 @@ fn write_registers(alloc: Global, text: &mut String, machine: &Machine) -> Resul
 }
 
 // Puts the line of one register behind the text.
-fn write_register(alloc: Global, text: &mut String, r: u8, word: u32) -> Result<(), AllocError>
+pub(crate) fn write_register(
+    alloc: Global,
+    text: &mut String,
+    r: u8,
+    word: u32,
+) -> Result<(), AllocError>
     ensures { OnOk result (string_bytes text.new ≡ string_bytes text.old ++ register_line r word) }
 {
     let digits = hex::encode(alloc, word.to_be_bytes())?;
@@ -46,7 +51,7 @@ fn write_register(alloc: Global, text: &mut String, r: u8, word: u32) -> Result<
 
 // The letters of the flags, with `-` for each that is clear.
 #[derive(Clone, Copy)]
-struct Letters(Flags);
+pub(crate) struct Letters(pub(crate) Flags);
 
 impl fmt::Display for Letters {
     ghost output = { λ letters. Some (flag_letters letters.0) };

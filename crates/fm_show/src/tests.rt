@@ -1,6 +1,7 @@
-//! Words with their texts as the tables of `docs/fm9001.md` give them, and a machine's lines.
+//! Words with their texts as the tables of `docs/fm9001.md` give them, and the lines of machines and images.
 
 use super::*;
+use fm_image::{Image, read_image};
 use fm_machine::Machine;
 use fm_words::Flags;
 use std::alloc::Global;
@@ -159,5 +160,67 @@ fn letters_of_flags(rt: HostRuntime) -> Result<(), Fail> {
     let text = str::from_utf8(after.as_slice())?;
     assert!(rt; text.starts_with("count 28\n"));
     assert!(rt; text.ends_with("\nflags -v-z\n"));
+    Ok(())
+}
+
+// The image of a file with this window, these flags and a rest from the condition address on. Of its registers, r0, r1,
+// r2 and r15 are 8, 8, 11 and 2.
+fn image_of(
+    alloc: Global,
+    base: u32,
+    size: u32,
+    final_pc: u32,
+    flags: u32,
+    rest: &[u8],
+) -> Result<Image, Fail> {
+    let mut bytes = Vec::from_slice(alloc, b"FM91")?;
+    let numbers = [
+        1, base, size, final_pc, 8, 8, 11, 0, 0, 0, 0, 0, 0, 0, 0, 0, 0, 0, 0, 2, flags,
+    ];
+    for number in numbers {
+        bytes.extend_from_slice(&number.to_be_bytes())?;
+    }
+    bytes.extend_from_slice(rest)?;
+    Ok(read_image(alloc, &bytes)?)
+}
+
+#[test]
+fn lines_of_a_small_image(rt: HostRuntime) -> Result<(), Fail> {
+    let rest = b"\xff\xff\xff\xff\0\0\0\0\0\0\0\0\0\0\0\x0a\
+        \x00\xe0\x84\x00\x00\xe0\x00\x01\x00\xe0\x04\x00\x03\xe0\x04\x3f\0\0\0\0\
+        \x00\xe0\x00\x31\x00\xe0\x3c\x31\x05\xe0\x3c\x0f\0\0\0\0\0\0\0\x07"
+        .as_slice();
+    let image = image_of(rt.alloc(), 0, 11, 7, 0, rest)?;
+    let expected = "base 00000000\nsize 11\nfinal 00000007\nr0 00000008\nr1 00000008\nr2 0000000b\n\
+        r3 00000000\nr4 00000000\nr5 00000000\nr6 00000000\nr7 00000000\nr8 00000000\nr9 00000000\n\
+        r10 00000000\nr11 00000000\nr12 00000000\nr13 00000000\nr14 00000000\nr15 00000002\nflags ----\n\
+        00000000 00e08400 MOVE -(r1),r0\n00000001 00e00001 MOVE r0,r1\n00000002 00e00400 MOVE r1,r0\n\
+        00000003 03e0043f ADD r1,(r15)+\n00000004 00000000 MOVE[cc] r0,r0\n00000005 00e00031 MOVE r0,(r1)+\n\
+        00000006 00e03c31 MOVE r15,(r1)+\n00000007 05e03c0f DEC r15,r15\n00000008 00000000 MOVE[cc] r0,r0\n\
+        00000009 00000007 MOVE[cc] r0,r7\n";
+    let printed = show_image(rt.alloc(), &image)?;
+    assert_eq!(rt; printed.as_slice(), expected.as_bytes());
+    Ok(())
+}
+
+#[test]
+fn lines_of_names_and_slots(rt: HostRuntime) -> Result<(), Fail> {
+    let rest = b"\xab\xcd\xf0\x10\0\0\0\x02\0\0\0\x08disorder\0\0\0\x03err\0\0\0\x03\
+        \0\0\0\x01x\0\0\0\x00\0\0\0\x00\xab\xcd\xff\xff\
+        \0\0\0\x04flag\0\0\0\x01\0\0\0\x00\xab\xcd\xff\xfe\
+        \0\0\0\x01s\0\0\0\x02\0\0\0\x14\xab\xcd\xff\xfd\
+        \0\0\0\x02\x00\xe0\x0e\x05\x03\x79\x88\x3f"
+        .as_slice();
+    let image = image_of(rt.alloc(), 0xabcd_effe, 4098, 0xabcd_efff, 10, rest)?;
+    let printed = show_image(rt.alloc(), &image)?;
+    let text = str::from_utf8(printed.as_slice())?;
+    assert!(rt; text.starts_with("base abcdeffe\nsize 4098\nfinal abcdefff\nr0 00000008\n"));
+    assert!(rt;
+        text.ends_with(
+            "\nr15 00000002\nflags c-n-\ncondition abcdf010\nname disorder\nname err\n\
+            slot x integer 0 abcdffff\nslot flag boolean 0 abcdfffe\nslot s character 20 abcdfffd\n\
+            abcdeffe 00e00e05 MOVE r3,#5\nabcdefff 0379883f ADD[zs]{cz} -(r2),(r15)+\n"
+        )
+    );
     Ok(())
 }
