@@ -12,7 +12,7 @@ use Rattle.cli_stack.specs.Headline.{Leaves, HasReason, PrintsFront, Concludes, 
 use Rattle.cli_stack.specs.Stages.{TellsSize, IsToldSize}
 use Rattle.cli_stack.specs.Replies.{status_of}
 use Rattle.cli_stack.specs.declared.reply.Verdict.{Verdict}
-use Rattle.cli_stack.specs.declared.reply.Verdict.TheVariants.{Done, Usage, Unfinished, Outside, SmallControl, SmallTemporary, NotBuilt}
+use Rattle.cli_stack.specs.declared.reply.Verdict.TheVariants.{SmallControl, SmallTemporary}
 use Rattle.stack_shelf.specs.Shelf.{appended}
 use Rattle.cli_stack.proofs.Printing.{nothing_printed}
 
@@ -32,13 +32,9 @@ text_left (Some files) left b a command answer ran status taken now before after
 
 -- the line of a size is what was printed, where a reply's status is that of a size
 told_size : (verdict : Verdict) (text : List ℕ) (taken now : Option (List ℕ)) → IsToldSize verdict text → status_of verdict ≡ 12 → now ≡ appended taken text → SizeTold taken now
-told_size Done text taken now told is printed = absurd (omega arith)
-told_size Usage text taken now told is printed = absurd (omega arith)
-told_size (Unfinished budget) text taken now told is printed = absurd (omega arith)
-told_size (Outside address count) text taken now told is printed = absurd (omega arith)
 told_size (SmallControl need) text taken now told is printed = (need, inl (printed ∙ ap (λ (t : List ℕ). appended taken t) told))
 told_size (SmallTemporary need) text taken now told is printed = (need, inr (printed ∙ ap (λ (t : List ℕ). appended taken t) told))
-told_size NotBuilt text taken now told is printed = absurd (omega arith)
+told_size verdict text taken now told is printed = absurd (omega arith)
 
 -- status 12 comes where a file was too long, or a size was refused and told
 pub too_long_or_small : (b a : Counts) (command : Command) (ran : Result Reply End) (status : ℕ) (taken now : Option (List ℕ)) (before after : ℕ) (kept held : Option Seen)

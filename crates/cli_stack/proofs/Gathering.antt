@@ -3,7 +3,7 @@ use Rattle.std.proofs.Common.{◌≡◌, ◌≤◌, ◌<◌, ℕ, List, length, 
 use Rattle.std.specs.Prelude.{Contains}
 use Rattle.std.proofs.lemmas.List.{length-map, get_or-map}
 use Rattle.stack_shelf.specs.Causes.{Counts, Rose, NoneFell}
-use Rattle.cli_stack.specs.declared.command.Input.{Input}
+use Rattle.cli_stack.specs.declared.input.Input.{Input}
 use Rattle.cli_stack.specs.declared.end.End.{End}
 use Rattle.cli_stack.specs.declared.end.End.TheVariants.{Missing, TooLong, ShelfFault, Memory}
 use Rattle.cli_stack.specs.Answer.{names_of}

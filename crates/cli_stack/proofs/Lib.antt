@@ -1,7 +1,9 @@
-pub mod Lists
+pub mod Declared
 pub mod Emitted
 pub mod Slots
-pub mod Stores
+pub mod ImageLimits
+pub mod ImageWords
+pub mod ImageBytes
 pub mod Ending
 pub mod Gathering
 pub mod Printing

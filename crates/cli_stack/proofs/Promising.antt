@@ -8,25 +8,30 @@ use Rattle.stack_shelf.specs.declared.fault.FetchFault.{FetchFault}
 use Rattle.stack_shelf.specs.declared.fault.FetchFault.TheVariants.{Missing, TooLong, Failed, Memory}
 use Rattle.cli_stack.specs.declared.command.TheConstants.{TEXT_LIMIT}
 use Rattle.cli_stack.specs.declared.command.Command.{Command}
-use Rattle.cli_stack.specs.declared.command.Command.TheVariants.{Usage, NotBuilt, Go}
+use Rattle.cli_stack.specs.declared.command.Command.TheVariants.{Usage, NotBuilt, Go, Run, Show}
 use Rattle.cli_stack.specs.declared.reply.Verdict.{Verdict}
 use Rattle.cli_stack.specs.declared.row.Verb.{Verb}
 use Rattle.cli_stack.specs.declared.row.Verb.TheVariants as verb
 use Rattle.cli_stack.specs.declared.source.OneStatement.{OneStatement}
 use Rattle.stack_text.specs.Numerals.{is_digits, numeral_of}
-use Rattle.cli_stack.specs.Words.{where_within, number_within, size_of_stack, limit_of, fits, row_of, verb_of, go_with, go_of, later, command_by, command_of}
+use Rattle.cli_stack.specs.Words.{where_within, number_within, size_of_stack, limit_of, fits, row_of, verb_of, go_with, go_of, run_with, run_of, show_of, later, command_by, command_of}
 use Rattle.cli_stack.specs.Source.{source_of}
 use Rattle.cli_stack.specs.Go.{lack_of, go_image, go_stored, stored_unless}
-use Rattle.cli_stack.specs.Image.{spelled}
+use Rattle.fm_image.specs.Spelling.{spelling}
 use Rattle.cli_stack.specs.Answer.{Answer, text_of, before_texts, gathered, set_file, inputs_of, output_of, stored_by, told_by, answer_on, answer_to, answer, answer_with}
 use Rattle.cli_stack.specs.Promise.{SetsImplementation, KeepsPromise}
 use Rattle.cli_stack.proofs.Implementing.{implements}
+use Rattle.cli_stack.proofs.ImageWords.{spells_image}
+use Rattle.cli_stack.proofs.ImageBytes.{short_image}
+use Rattle.cli_stack.proofs.Sources.{source_is}
 
 -- 1. The sizes of a command that words spell are those of stacks.
 
 abbrev pub InRange : Command → Type 0
 InRange Usage = Unit {0}
 InRange NotBuilt = Unit {0}
+InRange (Run image values budget) = Unit {0}
+InRange (Show image) = Unit {0}
 InRange (Go source values control temporary budget image) = (control ≤ 65536) × (temporary ≤ 65536)
 
 chosen : (b : Bool) (o : Option ℕ) (n : ℕ) → (if b then o else None) ≡ Some n → o ≡ Some n
@@ -58,12 +63,26 @@ go_range (source ∷ values ∷ control ∷ temporary ∷ budget ∷ image ∷ [
     with_range source values image control temporary (size_of_stack control) (size_of_stack temporary) (limit_of budget) refl refl
 go_range words = tt
 
+run_with_range : (image values : List ℕ) (b : Option ℕ) → InRange (run_with image values b)
+run_with_range image values (Some budget) = tt
+run_with_range image values None = tt
+
+run_range : (words : List (List ℕ)) → InRange (run_of words)
+run_range (image ∷ values ∷ budget ∷ []) = run_with_range image values (limit_of budget)
+run_range words = tt
+
+show_range : (words : List (List ℕ)) → InRange (show_of words)
+show_range (image ∷ []) = tt
+show_range words = tt
+
 later_range : (v : Verb) (words : List (List ℕ)) → InRange (later v words)
 later_range v words = elim (fits (row_of v) words) as (λ b. InRange (if b then NotBuilt else Usage)) [ true ↦ tt | false ↦ tt ]
 
 by_verb : (v : Option Verb) (words : List (List ℕ)) → InRange (command_by v words)
 by_verb None words = tt
 by_verb (Some verb.Go) words = go_range words
+by_verb (Some verb.Run) words = run_range words
+by_verb (Some verb.Show) words = show_range words
 by_verb (Some v) words = later_range v words
 
 pub in_range : (words : List (List ℕ)) → InRange (command_of words)
@@ -75,7 +94,7 @@ in_range (word ∷ words) = by_verb (verb_of word) words
 
 module _ (files : Files) (source image text : List ℕ) (control temporary : ℕ) (there : file_at files source ≡ Some text) (c : control ≤ 65536) (t : temporary ≤ 65536) where
   by_lack : (s : OneStatement) (l : Option Verdict) → source_of text ≡ Some s → lack_of s control temporary ≡ l
-      → SetsImplementation files source (set_file (Some image) (stored_unless l (spelled (go_image s control temporary))))
+      → SetsImplementation files source (set_file (Some image) (stored_unless l (spelling (go_image s control temporary))))
   by_lack s (Some lack) read l = tt
   by_lack s None read l = record {
     text = text;
@@ -83,7 +102,8 @@ module _ (files : Files) (source image text : List ℕ) (control temporary : ℕ
     source = s;
     read = read;
     image = go_image s control temporary;
-    spelled_so = refl;
+    short = short_image s control temporary (source_is text s read) c t l;
+    spells = spells_image s control temporary (source_is text s read) c t l;
     implements = implements text s control temporary read c t l;
   }
 
@@ -124,6 +144,8 @@ keeps : (command : Command) (files : Files) → InRange command → KeepsPromise
 unfolding inputs_of
 keeps Usage files range = tt
 keeps NotBuilt files range = tt
+keeps (Run image values budget) files range = tt
+keeps (Show image) files range = tt
 keeps (Go source values control temporary budget image) files range =
     go_keeps files source values image control temporary budget range.0 range.1 _ _ refl refl
 

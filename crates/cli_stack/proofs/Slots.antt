@@ -1,16 +1,16 @@
 -- Slots one below the other.
 use Rattle.std.proofs.Common.{◌≡◌, ◌-◌, ℕ, List, [], ◌∷◌, ◌++◌, length, refl, ap, arith}
-use Rattle.cli_stack.specs.declared.image.Slot.{Slot}
-use Rattle.cli_stack.specs.Image.{slots_from}
+use Rattle.fm_image.specs.declared.slot.Slot.{Slot}
+use Rattle.cli_stack.specs.Image.{one_integer, slots_from}
 
 -- one name more
 pub slots_longer : (address below : ℕ) (names : List (List ℕ)) (name : List ℕ) → below ≡ address - length names
-    → slots_from address (names ++ name ∷ []) ≡ slots_from address names ++ record { name = name; address = below } ∷ []
+    → slots_from address (names ++ name ∷ []) ≡ slots_from address names ++ record { name = name; shape = one_integer; address = below } ∷ []
 slots_longer address below [] name e =
-    let same : address ≡ below = omega arith in ap (λ a. record { name = name; address = a } ∷ []) same
+    let same : address ≡ below = omega arith in ap (λ a. record { name = name; shape = one_integer; address = a } ∷ []) same
 slots_longer address below (n ∷ names) name e =
     let e' : below ≡ address - 1 - length names = omega arith in
-    ap (λ (ss : List Slot). record { name = n; address = address } ∷ ss) (slots_longer (address - 1) below names name e')
+    ap (λ (ss : List Slot). record { name = n; shape = one_integer; address = address } ∷ ss) (slots_longer (address - 1) below names name e')
 
 pub length-slots_from : (address : ℕ) (names : List (List ℕ)) → length (slots_from address names) ≡ length names
 length-slots_from address [] = refl

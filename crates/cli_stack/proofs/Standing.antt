@@ -11,10 +11,11 @@ use Rattle.cli_stack.specs.declared.piton.Instruction.{Instruction}
 use Rattle.cli_stack.specs.declared.piton.Program.{Program}
 use Rattle.cli_stack.specs.declared.piton.System.{System}
 use Rattle.cli_stack.specs.declared.layout.Layout.{Layout}
-use Rattle.cli_stack.specs.Piton.{size_of, prelude_size, program_size, int_number, template, words_at, prelude_words, program_words}
+use Rattle.cli_stack.specs.Piton.{size_of, prelude_size, program_size, template, words_at, prelude_words, program_words}
 use Rattle.cli_stack.specs.Placed.{layout_of, code_words, control_words, placed_words}
 use Rattle.cli_stack.specs.Image.{slots_from, image_of}
-use Rattle.cli_stack.specs.Loaded.{with_words, with_values, loaded}
+use Rattle.fm_loader.specs.Loaded.{word_of_number, with_words, with_values, loaded}
+use Rattle.cli_stack.specs.Meaning.{integer}
 use Rattle.cli_stack.proofs.Placing.{length-template, length-prelude_words, length-program_words, length-code_words, length-placed_words}
 use Rattle.cli_stack.proofs.Laying.{Holds-front, Holds-behind, Holds-append, length-with_words, length-with_values, words_stand, values_above, values_stand}
 
@@ -46,11 +47,11 @@ first_frame system = system.main.temporaries ++ 0 ∷ (layout_of system).final_p
 -- the memory of a loaded image
 abbrev memory_of : List (List ℕ) → System → List ℤ → List ℕ
 memory_of names system values =
-    with_values (slots_from ((layout_of system).end - 1) names) values (with_words 0 (placed_words system) (replicate (layout_of system).end 0))
+    with_values 0 (slots_from ((layout_of system).end - 1) names) (map integer values) (with_words 0 0 (placed_words system) (replicate (layout_of system).end 0))
 
 length-memory_of : (names : List (List ℕ)) (system : System) (values : List ℤ) → length (memory_of names system values) ≡ (layout_of system).end
 length-memory_of names system values =
-    length-with_values (slots_from ((layout_of system).end - 1) names) values (with_words 0 (placed_words system) (replicate (layout_of system).end 0))
+    length-with_values (slots_from ((layout_of system).end - 1) names) values (with_words 0 0 (placed_words system) (replicate (layout_of system).end 0))
     ∙ length-with_words 0 (placed_words system) (replicate (layout_of system).end 0) ∙ length-replicate (layout_of system).end 0
 
 module _ (names : List (List ℕ)) (system : System) (values : List ℤ) (room : 2 + length system.main.temporaries ≤ system.control) (many : length values ≡ length names) (stack : length names ≤ system.temporary) where
@@ -60,17 +61,17 @@ module _ (names : List (List ℕ)) (system : System) (values : List ℤ) (room :
       let words = length-placed_words system room in
       let zeros : List ℕ = replicate (layout_of system).end 0 in
       let size : length zeros ≡ (layout_of system).end = length-replicate (layout_of system).end 0 in
-      values_above names ((layout_of system).end - 1) values (with_words 0 (placed_words system) zeros) 0 (placed_words system) (omega arith) (omega arith) (words_stand 0 (placed_words system) zeros (omega arith))
+      values_above names ((layout_of system).end - 1) values (with_words 0 0 (placed_words system) zeros) 0 (placed_words system) (omega arith) (omega arith) (words_stand 0 (placed_words system) zeros (omega arith))
 
   -- so do the values, the last one first
-  values_hold : Holds 0 (memory_of names system values) ((layout_of system).end - length names) (moved (map int_number values) [])
+  values_hold : Holds 0 (memory_of names system values) ((layout_of system).end - length names) (moved (map word_of_number values) [])
   values_hold =
       let zeros : List ℕ = replicate (layout_of system).end 0 in
       let size : length zeros ≡ (layout_of system).end = length-replicate (layout_of system).end 0 in
       let same = length-with_words 0 (placed_words system) zeros in
-      values_stand names ((layout_of system).end - 1) ((layout_of system).end - length names) values (with_words 0 (placed_words system) zeros) [] many (omega arith) (omega arith) (omega arith) tt
+      values_stand names ((layout_of system).end - 1) ((layout_of system).end - length names) values (with_words 0 0 (placed_words system) zeros) [] many (omega arith) (omega arith) (omega arith) tt
 
-  pub is_laid : system.variables ≡ length names → IsLaid (parts_of system) (loaded (image_of names system) values) ((layout_of system).temporary_start - 2 - length system.main.temporaries) (prelude_size system.main) (first_frame system) (moved (map int_number values) []) (2 ∷ [])
+  pub is_laid : system.variables ≡ length names → IsLaid (parts_of system) (loaded (image_of names system) (map integer values)) ((layout_of system).temporary_start - 2 - length system.main.temporaries) (prelude_size system.main) (first_frame system) (moved (map word_of_number values) []) (2 ∷ [])
   unfolding placed_words
   is_laid same =
       let m : List ℕ = memory_of names system values in
@@ -94,12 +95,12 @@ module _ (names : List (List ℕ)) (system : System) (values : List ℤ) (room :
           code = Holds-append 0 m 0 (layout_of system).final_pc (code_words system) (halt_word ∷ []) (omega arith) code (behind.0, tt);
           areas_at = behind.1;
           ctrl_at = frame_at;
-          temp_at = subst (λ n. Holds 0 m ((layout_of system).end - n) (moved (map int_number values) [])) (sym same) values_hold;
+          temp_at = subst (λ n. Holds 0 m ((layout_of system).end - n) (moved (map word_of_number values) [])) (sym same) values_hold;
           areas_fit = omega arith;
           ctrl_fits = omega arith;
           ctrl_end = omega (arith, length-append system.main.temporaries (0 ∷ (layout_of system).final_pc ∷ []));
           temp_fits = omega arith;
-          temp_end = omega (arith, length-moved (map int_number values) [], length-map values int_number);
+          temp_end = omega (arith, length-moved (map word_of_number values) [], length-map values word_of_number);
         };
       }
 

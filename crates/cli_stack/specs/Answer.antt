@@ -6,14 +6,16 @@ use Rattle.stack_shelf.specs.Files.{Files, put_file}
 use Rattle.stack_shelf.specs.Shelf.{fetched}
 use Rattle.stack_shelf.specs.declared.fault.FetchFault.{FetchFault}
 use Rattle.stack_shelf.specs.declared.fault.FetchFault.TheVariants as fault
-use Rattle.cli_stack.specs.declared.command.TheConstants.{TEXT_LIMIT}
+use Rattle.cli_stack.specs.declared.command.TheConstants.{TEXT_LIMIT, IMAGE_LIMIT}
 use Rattle.cli_stack.specs.declared.command.Command.{Command}
-use Rattle.cli_stack.specs.declared.command.Command.TheVariants.{Usage, NotBuilt, Go}
+use Rattle.cli_stack.specs.declared.command.Command.TheVariants.{Usage, NotBuilt, Go, Run, Show}
 use Rattle.cli_stack.specs.declared.reply.Verdict.TheVariants as verdict
 use Rattle.cli_stack.specs.Words.{command_of}
 use Rattle.cli_stack.specs.Source.{source_of}
 use Rattle.cli_stack.specs.Replies.{Told, only, missing_line, long_line, status_of}
 use Rattle.cli_stack.specs.Go.{go_stored, go_told}
+use Rattle.cli_stack.specs.Runs.{run_told}
+use Rattle.cli_stack.specs.Shows.{show_told}
 
 -- 1. The files that a command reads, in order, each with its limit, and the one that it writes.
 
@@ -21,11 +23,15 @@ unfoldable pub inputs_of : Command → List (List ℕ × ℕ)
 inputs_of Usage = []
 inputs_of NotBuilt = []
 inputs_of (Go source values control temporary budget image) = (source, TEXT_LIMIT) ∷ (values, TEXT_LIMIT) ∷ []
+inputs_of (Run image values budget) = (image, IMAGE_LIMIT) ∷ (values, TEXT_LIMIT) ∷ []
+inputs_of (Show image) = (image, IMAGE_LIMIT) ∷ []
 
 unfoldable pub output_of : Command → Option (List ℕ)
 output_of Usage = None
 output_of NotBuilt = None
 output_of (Go source values control temporary budget image) = Some image
+output_of (Run image values budget) = None
+output_of (Show image) = None
 
 -- 2. What it makes of their texts: what it stores, and what it replies.
 
@@ -36,11 +42,15 @@ unfoldable pub stored_by : Command → List (List ℕ) → Option (List ℕ)
 stored_by Usage texts = None
 stored_by NotBuilt texts = None
 stored_by (Go source values control temporary budget image) texts = go_stored (source_of (text_at texts 0)) control temporary
+stored_by (Run image values budget) texts = None
+stored_by (Show image) texts = None
 
 unfoldable pub told_by : Command → List (List ℕ) → Told
 told_by Usage texts = only verdict.Usage
 told_by NotBuilt texts = only verdict.NotBuilt
 told_by (Go source values control temporary budget image) texts = go_told (source_of (text_at texts 0)) (text_at texts 1) control temporary budget
+told_by (Run image values budget) texts = run_told (text_at texts 0) (text_at texts 1) budget
+told_by (Show image) texts = show_told (text_at texts 0)
 
 -- 3. All together: the first file that is missing or too long ends the command.
 

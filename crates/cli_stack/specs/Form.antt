@@ -1,7 +1,8 @@
--- Tokens of the text form, each read from the front of a text together with what stands behind it.
-use Rattle.std.specs.Prelude.{◌≡◌, ℕ, List, [], ◌∷◌, drop, take, length, position, Bool, not, ◌&&◌, ◌||◌, ◌==◌, nat_le, Option, Some, None, Result, Ok, Err, if◌then◌else◌, ℤ}
+-- Trees taken apart from the left, as far as they are of a form.
+use Rattle.std.specs.Prelude.{◌≡◌, ℕ, List, Bool, true, false, Option, Some, None, Result, Ok, Err, if◌then◌else◌, ℤ}
 use Rattle.std.specs.Str.{bytes_eq}
 use Rattle.stack_text.specs.Names.{name_of}
+use Rattle.stack_text.specs.Trees.{Node, Nodes, atom, list, none, more}
 use Rattle.cli_stack.specs.Numerals.{int_of}
 use Rattle.cli_stack.specs.declared.form.FormFault.{FormFault}
 use Rattle.cli_stack.specs.declared.form.FormFault.TheVariants.{Other, Memory}
@@ -20,68 +21,71 @@ abbrev pub ◌>>=◌ : {A B : Type 0} → Option A → (A → Option B) → Opti
 (Some x) >>= go = go x
 None >>= go = None
 
--- space, tab, line feed and carriage return separate
-abbrev pub is_separator : ℕ → Bool
-is_separator b = b == 32 || b == 9 || b == 10 || b == 13
-
--- printing ASCII, but for parentheses and the semicolon
-abbrev pub is_atom_byte : ℕ → Bool
-is_atom_byte b = nat_le 0x21 b && nat_le b 0x7E && not (b == 40 || b == 41 || b == 59)
-
-abbrev pub from_place : List ℕ → Option ℕ → List ℕ
-from_place text None = []
-from_place text (Some start) = drop start text
-
--- a text from its next token on
-unfoldable pub from_token : List ℕ → List ℕ
-from_token text = from_place text (position (λ b. not (is_separator b)) text)
-
-abbrev pub behind_first : ℕ → List ℕ → Option (List ℕ)
-behind_first parenthesis [] = None
-behind_first parenthesis (first ∷ rest) = if first == parenthesis then Some rest else None
-
--- what stands behind a parenthesis, where it is the next token
-unfoldable pub behind : ℕ → List ℕ → Option (List ℕ)
-behind parenthesis text = behind_first parenthesis (from_token text)
-
-abbrev pub cut_at : List ℕ → Option ℕ → List ℕ × List ℕ
-cut_at text None = (text, [])
-cut_at text (Some end) = (take end text, drop end text)
-
--- the longest run of atom bytes at the front, and the rest
-abbrev pub cut_atom : List ℕ → List ℕ × List ℕ
-cut_atom text = cut_at text (position (λ b. not (is_atom_byte b)) text)
-
--- the next atom, which is empty where the next token is no atom
-unfoldable pub atom_at : List ℕ → List ℕ × List ℕ
-atom_at text = cut_atom (from_token text)
-
--- what stands behind a word, where it is the next token
-unfoldable pub keyword_at : List ℕ → List ℕ → Option (List ℕ)
-keyword_at word text = if bytes_eq (atom_at text).0 word then Some (atom_at text).1 else None
-
--- the name that is the next token
-unfoldable pub name_at : List ℕ → Option (List ℕ × List ℕ)
-name_at text = do
-  name ← name_of (atom_at text).0
-  Some (name, (atom_at text).1)
-
 -- a value, where a test holds
 abbrev pub where_true : {A : Type 0} → Bool → A → Option A
 where_true test value = if test then Some value else None
 
--- `( )`
-unfoldable pub empty_list_at : List ℕ → Option (List ℕ)
-empty_list_at text = do
-  inner ← behind 40 text
-  behind 41 inner
+-- the bytes of an atom
+unfoldable pub word_of : Node → Option (List ℕ)
+word_of (atom place word) = Some word
+word_of (list place trees) = None
 
--- nothing but separators is left
-abbrev pub is_at_end : List ℕ → Bool
-is_at_end text = length (from_token text) == 0
+-- the trees in a list
+unfoldable pub trees_of : Node → Option Nodes
+trees_of (atom place word) = None
+trees_of (list place trees) = Some trees
 
--- the numeral of 32 signed bits that is the next token
-unfoldable pub int_at : List ℕ → Option (ℤ × List ℕ)
-int_at text = do
-  number ← int_of (atom_at text).0
-  Some (number, (atom_at text).1)
+-- the first tree, and those behind it
+unfoldable pub first_of : Nodes → Option (Node × Nodes)
+first_of none = None
+first_of (more tree trees) = Some (tree, trees)
+
+abbrev pub is_none : Nodes → Bool
+is_none none = true
+is_none (more tree trees) = false
+
+-- the tree that stands alone
+unfoldable pub only_of : Nodes → Option Node
+only_of trees = do
+  first ← first_of trees
+  where_true (is_none first.1) first.0
+
+-- a word in front, and the trees behind it
+unfoldable pub word_at : Nodes → Option (List ℕ × Nodes)
+word_at trees = do
+  first ← first_of trees
+  word ← word_of first.0
+  Some (word, first.1)
+
+-- what stands behind this word in front
+unfoldable pub behind : List ℕ → Nodes → Option Nodes
+behind word trees = do
+  found ← word_at trees
+  where_true (bytes_eq found.0 word) found.1
+
+-- a name in front, and the trees behind it
+unfoldable pub name_at : Nodes → Option (List ℕ × Nodes)
+name_at trees = do
+  found ← word_at trees
+  name ← name_of found.0
+  Some (name, found.1)
+
+-- a list in front, and the trees behind it
+unfoldable pub list_at : Nodes → Option (Nodes × Nodes)
+list_at trees = do
+  first ← first_of trees
+  items ← trees_of first.0
+  Some (items, first.1)
+
+-- what stands behind `()` in front
+unfoldable pub behind_empty : Nodes → Option Nodes
+behind_empty trees = do
+  found ← list_at trees
+  where_true (is_none found.0) found.1
+
+-- the number that stands alone
+unfoldable pub only_int : Nodes → Option ℤ
+only_int trees = do
+  tree ← only_of trees
+  word ← word_of tree
+  int_of word

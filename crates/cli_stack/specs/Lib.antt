@@ -3,14 +3,14 @@ pub mod Form
 pub mod Go
 pub mod Headline
 pub mod Image
-pub mod Loaded
 pub mod Meaning
 pub mod Numerals
 pub mod Piton
 pub mod Promise
 pub mod Placed
 pub mod Replies
+pub mod Runs
+pub mod Shows
 pub mod Source
 pub mod Stages
-pub mod Values
 pub mod Words

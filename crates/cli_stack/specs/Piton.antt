@@ -1,7 +1,8 @@
 -- Piton as far as programs of one statement need it, and its words on the processor.
-use Rattle.std.specs.Prelude.{ℕ, ◌+◌, ◌*◌, ◌-◌, ◌^◌, ◌≤◌, ℤ, pos, negsuc, List, [], ◌∷◌, ◌++◌, length, map, reverse, replicate, sum, take}
+use Rattle.std.specs.Prelude.{ℕ, ◌+◌, ◌*◌, ◌-◌, ◌≤◌, List, [], ◌∷◌, ◌++◌, length, map, reverse, replicate, sum, take}
 use Rattle.std.specs.List.{flat_map}
 use Rattle.fm_machine.specs.Words.{reg, at, push, pop, next_word, mov, add, sub}
+use Rattle.fm_loader.specs.Loaded.{word_of_number}
 use Rattle.cli_stack.specs.declared.piton.Instruction.{Instruction}
 use Rattle.cli_stack.specs.declared.piton.Instruction.TheVariants.{NoOp, PushInt, PushNat, PushLocal, PopGlobal, DepositTempStk, Call, Jump, Ret}
 use Rattle.cli_stack.specs.declared.piton.Program.{Program}
@@ -33,11 +34,6 @@ program_size p = prelude_size p + size_of_all p.instructions
 abbrev pub place_address : ℕ → Program → ℕ → ℕ
 place_address entry p place = entry + prelude_size p + size_of_all (take place p.instructions)
 
--- a signed number modulo 2^32
-abbrev pub int_number : ℤ → ℕ
-int_number (pos n) = n
-int_number (negsuc n) = 2 ^ 32 - 1 - n
-
 -- the frame is dropped, and the frame pointer and the program counter below it are restored
 abbrev pub return_words : Program → List ℕ
 return_words p =
@@ -46,7 +42,7 @@ return_words p =
 -- the words of an instruction that stands at an address, of a program that begins at entry
 unfoldable pub template : Layout → ℕ → Program → ℕ → Instruction → List ℕ
 template L entry p address NoOp = mov (reg 3) (reg 3) ∷ []
-template L entry p address (PushInt number) = mov (push 2) next_word ∷ int_number number ∷ []
+template L entry p address (PushInt number) = mov (push 2) next_word ∷ word_of_number number ∷ []
 template L entry p address (PushNat number) = mov (push 2) next_word ∷ number ∷ []
 template L entry p address (PushLocal offset) = mov (reg 3) next_word ∷ offset ∷ add (reg 3) (reg 0) ∷ mov (push 2) (at 3) ∷ []
 template L entry p address PopGlobal = mov (reg 3) next_word ∷ L.condition ∷ mov (at 3) (pop 2) ∷ []

@@ -1,14 +1,17 @@
 -- The ends of a command, with their exit statuses and their lines.
-use Rattle.std.specs.Prelude.{ℕ, List, [], ◌++◌, Option, None, codes}
+use Rattle.std.specs.Prelude.{ℕ, List, [], ◌∷◌, ◌++◌, Option, None, codes}
 use Rattle.std.specs.Option.{option_map}
 use Rattle.std.specs.Fmt.{decimal}
 use Rattle.std.specs.Int.{w32, to_be_bytes}
 use Rattle.hex.specs.Hex.{encode_lower}
 use Rattle.fm_machine.specs.State.{Fm, Seen}
-use Rattle.cli_stack.specs.Loaded.{line}
 use Rattle.cli_stack.specs.declared.reply.Reply.{Reply}
 use Rattle.cli_stack.specs.declared.reply.Verdict.{Verdict}
-use Rattle.cli_stack.specs.declared.reply.Verdict.TheVariants.{Done, Usage, Unfinished, Outside, SmallControl, SmallTemporary, NotBuilt}
+use Rattle.cli_stack.specs.declared.reply.Verdict.TheVariants.{Done, Usage, Values, Image, Unfinished, Outside, SmallControl, SmallTemporary, NotBuilt}
+
+-- a line feed behind a text
+abbrev pub line : List ℕ → List ℕ
+line text = text ++ 10 ∷ []
 
 abbrev pub missing_line : List ℕ → List ℕ
 missing_line name = line (codes "missing " ++ name)
@@ -27,6 +30,8 @@ address_text address = encode_lower (to_be_bytes w32 address)
 abbrev pub status_of : Verdict → ℕ
 status_of Done = 0
 status_of Usage = 1
+status_of (Values rule place) = 3
+status_of (Image rule place) = 4
 status_of (Unfinished budget) = 5
 status_of (Outside address count) = 6
 status_of (SmallControl need) = 12
@@ -37,6 +42,8 @@ status_of NotBuilt = 15
 abbrev pub verdict_line : Verdict → List ℕ
 verdict_line Done = []
 verdict_line Usage = line (codes "usage")
+verdict_line (Values rule place) = line (codes "values V" ++ decimal rule ++ codes " at " ++ decimal place)
+verdict_line (Image rule place) = line (codes "image I" ++ decimal rule ++ codes " at " ++ decimal place)
 verdict_line (Unfinished budget) = line (codes "unfinished " ++ decimal budget)
 verdict_line (Outside address count) = line (codes "outside " ++ address_text address ++ codes " after " ++ decimal count)
 verdict_line (SmallControl need) = line (codes "size control " ++ decimal need)

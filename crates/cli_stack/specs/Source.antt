@@ -1,11 +1,16 @@
--- Programs of one statement: `(program M (proc M (D*) () () () S))`, where each D is `(V integer)` and S is `(no-op)` or assigns a constant.
-use Rattle.std.specs.Prelude.{ℕ, zero, suc, List, [], ◌∷◌, ◌++◌, codes, position, Bool, true, not, ◌&&◌, ◌||◌, Option, Some, None, if◌then◌else◌}
-use Rattle.std.specs.List.{list_any}
+-- Programs of one statement: `(program M (proc M (D*) () () () S))`, where each D is `(V integer)` and S is `(no-op)` or `(mg-simple-constant-assignment V N)`.
+use Rattle.std.specs.Prelude.{ℕ, ◌<◌, ◌≤◌, List, [], ◌∷◌, ◌++◌, length, codes, position, Bool, true, not, ◌&&◌, ◌||◌, nat_le, IsTrue, FitsSigned, Option, Some, None, Result, Ok, Err, if◌then◌else◌}
+use Rattle.std.specs.Int.{w32}
+use Rattle.std.specs.List.{list_any, list_all}
 use Rattle.std.specs.Str.{bytes_eq}
+use Rattle.stack_text.specs.declared.text_fault.TextRule.{TextRule}
+use Rattle.stack_text.specs.Names.{is_name}
+use Rattle.stack_text.specs.Trees.{Node, Nodes, none, more}
+use Rattle.stack_text.specs.TreeIn.{tree_in}
 use Rattle.cli_stack.specs.declared.source.Statement.{Statement}
 use Rattle.cli_stack.specs.declared.source.Statement.TheVariants.{NoOp, Assign}
 use Rattle.cli_stack.specs.declared.source.OneStatement.{OneStatement}
-use Rattle.cli_stack.specs.Form.{◌>>=◌, where_true, behind, keyword_at, atom_at, name_at, int_at, empty_list_at, is_at_end}
+use Rattle.cli_stack.specs.Form.{◌>>=◌, where_true, is_none, trees_of, only_of, word_at, behind, name_at, list_at, behind_empty, only_int}
 
 -- the names of the predefined procedures, by what they work on
 abbrev pub is_for_simple_types : List ℕ → Bool
@@ -28,95 +33,106 @@ is_for_arrays name = bytes_eq name (codes "mg-index-array") || bytes_eq name (co
 unfoldable pub is_predefined : List ℕ → Bool
 is_predefined name = is_for_simple_types name || is_for_integers name || is_for_booleans name || is_for_arrays name
 
--- `( program M ( proc M`, where M is the name of no predefined procedure
-unfoldable pub heading_at : List ℕ → Option (List ℕ)
-heading_at text = do
-  opened ← behind 40 text
-  program ← keyword_at (codes "program") opened
-  main ← name_at program
-  inner ← behind 40 main.1
-  proc ← keyword_at (codes "proc") inner
-  name ← name_at proc
-  where_true (bytes_eq main.0 name.0 && not (is_predefined main.0)) name.1
+-- `(V integer)`
+unfoldable pub declaration_of : Node → Option (List ℕ)
+declaration_of tree = do
+  trees ← trees_of tree
+  name ← name_at trees
+  rest ← behind (codes "integer") name.1
+  where_true (is_none rest) name.0
 
--- `( V integer )`
-unfoldable pub declaration_at : List ℕ → Option (List ℕ × List ℕ)
-declaration_at text = do
-  opened ← behind 40 text
-  name ← name_at opened
-  typed ← keyword_at (codes "integer") name.1
-  rest ← behind 41 typed
-  Some (name.0, rest)
-
--- the list ends here, or goes on
-abbrev pub ends_or : {A : Type 0} → Option (List ℕ) → Option (List A × List ℕ) → Option (List A × List ℕ)
-ends_or (Some rest) more = Some ([], rest)
-ends_or None more = more
-
--- at most n declarations, and the parenthesis that closes their list
-unfoldable pub declarations_at : ℕ → List ℕ → Option (List (List ℕ) × List ℕ)
-declarations_at zero text = ends_or (behind 41 text) None
-declarations_at (suc n) text = ends_or (behind 41 text) (do
-  first ← declaration_at text
-  others ← declarations_at n first.1
-  Some (first.0 ∷ others.0, others.1))
-
--- `V N )` with a variable that is declared
-unfoldable pub assignment_at : List (List ℕ) → List ℕ → Option (Statement × List ℕ)
-assignment_at variables text = do
-  variable ← position (λ name. bytes_eq name (atom_at text).0) variables
-  number ← int_at (atom_at text).1
-  rest ← behind 41 number.1
-  Some (Assign variable number.0, rest)
-
--- `no-op )`
-unfoldable pub no_op_at : List ℕ → Option (Statement × List ℕ)
-no_op_at text = do
-  word ← keyword_at (codes "no-op") text
-  rest ← behind 41 word
-  Some (NoOp, rest)
-
--- the statement behind its `(`
-abbrev pub opened_at : List (List ℕ) → List ℕ → Option (Statement × List ℕ)
-opened_at variables text =
-    if bytes_eq (atom_at text).0 (codes "mg-simple-constant-assignment") then assignment_at variables (atom_at text).1 else no_op_at text
-
-unfoldable pub statement_at : List (List ℕ) → List ℕ → Option (Statement × List ℕ)
-statement_at variables text = do
-  opened ← behind 40 text
-  opened_at variables opened
+unfoldable pub declarations_of : Nodes → Option (List (List ℕ))
+declarations_of none = Some []
+declarations_of (more tree trees) = do
+  first ← declaration_of tree
+  others ← declarations_of trees
+  Some (first ∷ others)
 
 -- no name stands twice
 abbrev pub are_distinct : List (List ℕ) → Bool
 are_distinct [] = true
 are_distinct (name ∷ names) = not (list_any (λ other. bytes_eq other name) names) && are_distinct names
 
--- `) )` and nothing more
-unfoldable pub is_closed : List ℕ → Option Bool
-is_closed text = do
-  inner ← behind 41 text
-  rest ← behind 41 inner
-  where_true (is_at_end rest) true
+-- `(D*) () () ()` in front, with at most 200 declarations of distinct names, and what stands behind
+unfoldable pub variables_at : Nodes → Option (List (List ℕ) × Nodes)
+variables_at trees = do
+  declarations ← list_at trees
+  variables ← declarations_of declarations.0
+  conditions ← behind_empty declarations.1
+  locals ← behind_empty conditions
+  local_conditions ← behind_empty locals
+  where_true (nat_le (length variables) 200 && are_distinct variables) (variables, local_conditions)
 
--- `( D* ) ( ) ( ) ( )`, at most 200 declarations of distinct names
-unfoldable pub variables_at : List ℕ → Option (List (List ℕ) × List ℕ)
-variables_at text = do
-  list ← behind 40 text
-  variables ← declarations_at 200 list
-  conditions ← empty_list_at variables.1
-  locals ← empty_list_at conditions
-  local_conditions ← empty_list_at locals
-  where_true (are_distinct variables.0) (variables.0, local_conditions)
+-- `V N` with a variable that is declared
+unfoldable pub assignment_of : List (List ℕ) → Nodes → Option Statement
+assignment_of variables trees = do
+  target ← word_at trees
+  variable ← position (λ name. bytes_eq name target.0) variables
+  number ← only_int target.1
+  Some (Assign variable number)
+
+-- by its first word
+abbrev pub statement_by : List (List ℕ) → List ℕ × Nodes → Option Statement
+statement_by variables first =
+    if bytes_eq first.0 (codes "mg-simple-constant-assignment") then assignment_of variables first.1
+    else where_true (bytes_eq first.0 (codes "no-op") && is_none first.1) NoOp
+
+unfoldable pub statement_of : List (List ℕ) → Node → Option Statement
+statement_of variables tree = do
+  trees ← trees_of tree
+  first ← word_at trees
+  statement_by variables first
+
+-- `(D*) () () () S`
+unfoldable pub procedure_body : Nodes → Option OneStatement
+procedure_body trees = do
+  variables ← variables_at trees
+  tree ← only_of variables.1
+  statement ← statement_of variables.0 tree
+  Some (record { variables = variables.0; statement = statement })
+
+-- `(proc M ..)` for a name that no predefined procedure has
+unfoldable pub procedure_named : List ℕ → Node → Option OneStatement
+procedure_named main tree = do
+  trees ← trees_of tree
+  proc ← behind (codes "proc") trees
+  name ← name_at proc
+  rest ← where_true (bytes_eq main name.0 && not (is_predefined main)) name.1
+  procedure_body rest
+
+-- `(program M P)`
+unfoldable pub program_of : Node → Option OneStatement
+program_of tree = do
+  trees ← trees_of tree
+  program ← behind (codes "program") trees
+  main ← name_at program
+  procedure ← only_of main.1
+  procedure_named main.0 procedure
+
+abbrev pub source_in : Result Node (TextRule × ℕ) → Option OneStatement
+source_in (Ok tree) = program_of tree
+source_in (Err fault) = None
 
 unfoldable pub source_of : List ℕ → Option OneStatement
-source_of text = do
-  heading ← heading_at text
-  variables ← variables_at heading
-  statement ← statement_at variables.0 variables.1
-  closed ← is_closed statement.1
-  Some (record { variables = variables.0; statement = statement.0 })
+source_of text = source_in (tree_in text)
+
+-- names of variables: at most 200, all different
+pub record AreVariables (names : List (List ℕ)) : Type 0 where
+  pub few : length names ≤ 200
+  pub are_names : IsTrue (list_all is_name names)
+  pub differ : IsTrue (are_distinct names)
+
+-- an assignment is to one of so many variables, and its constant is a number of 32 signed bits
+abbrev pub IsStatement : Statement → ℕ → Type 0
+IsStatement NoOp count = Unit {0}
+IsStatement (Assign variable number) count = (variable < count) × FitsSigned w32 number
+
+-- variables, and a statement over them
+pub record IsSource (source : OneStatement) : Type 0 where
+  pub variables : AreVariables source.variables
+  pub statement : IsStatement source.statement (length source.variables)
 
 -- with these in front
-abbrev pub with_front : {A : Type 0} → List A → Option (List A × List ℕ) → Option (List A × List ℕ)
+abbrev pub with_front : {A : Type 0} → List A → Option (List A) → Option (List A)
 with_front front None = None
-with_front front (Some read) = Some (front ++ read.0, read.1)
+with_front front (Some others) = Some (front ++ others)

@@ -1,23 +1,17 @@
 -- What is left to do once the file is stored, as the reply that it comes to.
+use Rattle.fm_loader.specs.Loaded.{Fits}
 use Rattle.cli_stack.specs.declared.stage.Then.{Then}
 use Rattle.cli_stack.specs.declared.stage.Then.TheVariants.{Says, Runs}
 use Rattle.cli_stack.specs.declared.reply.Reply.{Reply}
 use Rattle.cli_stack.specs.declared.reply.Verdict.{Verdict}
 use Rattle.cli_stack.specs.declared.reply.Verdict.TheVariants.{SmallControl, SmallTemporary}
 use Rattle.cli_stack.specs.Replies.{Told, told_of, verdict_line}
-use Rattle.cli_stack.specs.Go.{run_on}
-use Rattle.std.specs.Prelude.{◌≡◌, ℕ, List, ◌<◌, ◌≤◌, ◌^◌, length}
-use Rattle.cli_stack.specs.declared.image.Image.{Image}
+use Rattle.cli_stack.specs.Runs.{run_on}
+use Rattle.std.specs.Prelude.{◌≡◌, ℕ, List}
 
 abbrev pub told_after : Then → Told
 told_after (Says reply) = told_of reply
 told_after (Runs image values budget) = run_on image values budget
-
--- an image that a machine can be loaded with
-pub record IsLoadable (image : Image) : Type 0 where
-  pub some : 0 < image.size
-  pub few : image.size ≤ 2 ^ 20
-  pub words : length image.words ≤ 2 ^ 20
 
 -- a size that is refused is told by its line
 abbrev pub IsToldSize : Verdict → List ℕ → Type 0
@@ -28,7 +22,7 @@ IsToldSize verdict text = Unit {0}
 abbrev pub TellsSize : Reply → Type 0
 TellsSize reply = IsToldSize reply.verdict reply.text
 
--- a machine can be loaded, or a refused size is told
+-- the values fit the image's variables, or a refused size is told
 abbrev pub IsReady : Then → Type 0
 IsReady (Says reply) = TellsSize reply
-IsReady (Runs image values budget) = IsLoadable image
+IsReady (Runs image values budget) = Fits image.slots values

@@ -2,7 +2,7 @@
 use Rattle.std.specs.Prelude.{ℕ, ℤ, pos, negsuc, ◌-◌, ◌^◌, List, [], ◌∷◌, length, Bool, true, false, ◌&&◌, ◌||◌, nat_le, Option, Some, None, is_some, codes, if◌then◌else◌}
 use Rattle.std.specs.Str.{bytes_eq}
 use Rattle.cli_stack.specs.declared.command.Command.{Command}
-use Rattle.cli_stack.specs.declared.command.Command.TheVariants.{Usage, NotBuilt, Go}
+use Rattle.cli_stack.specs.declared.command.Command.TheVariants.{Usage, NotBuilt, Go, Run, Show}
 use Rattle.cli_stack.specs.declared.row.Verb.{Verb}
 use Rattle.cli_stack.specs.declared.row.Verb.TheVariants as verb
 use Rattle.cli_stack.specs.declared.row.Kind.{Kind}
@@ -85,6 +85,20 @@ go_of (source ∷ values ∷ control ∷ temporary ∷ budget ∷ image ∷ []) 
     go_with source values image (size_of_stack control) (size_of_stack temporary) (limit_of budget)
 go_of words = Usage
 
+abbrev pub run_with : List ℕ → List ℕ → Option ℕ → Command
+run_with image values (Some budget) = Run image values budget
+run_with image values None = Usage
+
+-- `run IMG VALS BUDGET`
+abbrev pub run_of : List (List ℕ) → Command
+run_of (image ∷ values ∷ budget ∷ []) = run_with image values (limit_of budget)
+run_of words = Usage
+
+-- `show IMG`
+abbrev pub show_of : List (List ℕ) → Command
+show_of (image ∷ []) = Show image
+show_of words = Usage
+
 -- a command that is yet to be built, where the words fit its row
 abbrev pub later : Verb → List (List ℕ) → Command
 later v words = if fits (row_of v) words then NotBuilt else Usage
@@ -92,6 +106,8 @@ later v words = if fits (row_of v) words then NotBuilt else Usage
 abbrev pub command_by : Option Verb → List (List ℕ) → Command
 command_by None words = Usage
 command_by (Some verb.Go) words = go_of words
+command_by (Some verb.Run) words = run_of words
+command_by (Some verb.Show) words = show_of words
 command_by (Some v) words = later v words
 
 -- what the words ask for

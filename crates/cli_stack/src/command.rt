@@ -1,8 +1,9 @@
 //! The commands.
 ghost use Rattle.std.specs.Prelude.{◌≡◌, IfOk, map, string_bytes};
 ghost use Rattle.std.specs.Option.{option_copied};
-ghost use Rattle.cli_stack.specs.Words.{go_of, go_with, later};
+ghost use Rattle.cli_stack.specs.Words.{go_of, go_with, run_of, run_with, show_of, later};
 
+use crate::input::Input;
 use crate::name::FileName;
 use crate::number::{StackSize, number_within};
 use crate::row::{Verb, fits, row_of, verb_of};
@@ -11,6 +12,9 @@ use std::alloc::Global;
 
 /// The most bytes of a source and of a values file.
 pub const TEXT_LIMIT: u64 = 1_048_576;
+
+/// The most bytes of an image file that is read.
+pub const IMAGE_LIMIT: u64 = 8_388_608;
 
 /// The most instructions of a run.
 const MOST_INSTRUCTIONS: u64 = 1 << 40;
@@ -31,13 +35,16 @@ pub enum Command {
         budget: u64,
         image: FileName,
     },
-}
-
-/// A file that a command reads, and the most bytes that it may have.
-#[derive(Clone, Copy, Debug)]
-pub struct Input<'a> {
-    pub name: &'a FileName,
-    pub limit: u64,
+    /// Runs an image on the values.
+    Run {
+        image: FileName,
+        values: FileName,
+        budget: u64,
+    },
+    /// Lists an image.
+    Show {
+        image: FileName,
+    },
 }
 
 impl Command {
@@ -56,6 +63,8 @@ impl Command {
             [verb, rest @ ..] => match verb_of(verb.as_str()) {
                 None => Ok(Command::Usage),
                 Some(Verb::Go) => read_go(alloc, rest),
+                Some(Verb::Run) => read_run(alloc, rest),
+                Some(Verb::Show) => read_show(alloc, rest),
                 Some(verb) => Ok(later(verb, rest)),
             },
         }
@@ -78,6 +87,22 @@ impl Command {
                     limit: TEXT_LIMIT
                 },
             ]?),
+            Command::Run { image, values, .. } => Ok(vec![in alloc;
+                Input {
+                    name: image,
+                    limit: IMAGE_LIMIT
+                },
+                Input {
+                    name: values,
+                    limit: TEXT_LIMIT
+                },
+            ]?),
+            Command::Show { image } => Ok(vec![in alloc;
+                Input {
+                    name: image,
+                    limit: IMAGE_LIMIT
+                },
+            ]?),
         }
     }
 
@@ -88,6 +113,7 @@ impl Command {
     {
         match self {
             Command::Usage | Command::NotBuilt => None,
+            Command::Run { .. } | Command::Show { .. } => None,
             Command::Go { image, .. } => Some(image.as_str()),
         }
     }
@@ -140,6 +166,48 @@ fn read_go(alloc: Global, words: &[String]) -> Result<Command, Memory>
             let (source, values, image) = (source.as_str(), values.as_str(), image.as_str());
             go_with(alloc, source, values, image, control, temporary, budget)
         }
+        _ => Ok(Command::Usage),
+    }
+}
+
+/// `run` on these files, where the budget is a number in its range.
+fn run_with(
+    alloc: Global,
+    image: &str,
+    values: &str,
+    budget: Option<u64>,
+) -> Result<Command, Memory>
+    ensures { IfOk result (λ command. command ≡ run_with image.now values.now budget) }
+{
+    match budget {
+        Some(budget) => Ok(Command::Run {
+            image: FileName::new(alloc, image)?,
+            values: FileName::new(alloc, values)?,
+            budget,
+        }),
+        None => Ok(Command::Usage),
+    }
+}
+
+fn read_run(alloc: Global, words: &[String]) -> Result<Command, Memory>
+    ensures { IfOk result (λ command. command ≡ run_of (map (λ word. string_bytes word) words.now)) }
+{
+    match words {
+        [image, values, budget] => {
+            let budget = number_within(0, MOST_INSTRUCTIONS, budget.as_str());
+            run_with(alloc, image.as_str(), values.as_str(), budget)
+        }
+        _ => Ok(Command::Usage),
+    }
+}
+
+fn read_show(alloc: Global, words: &[String]) -> Result<Command, Memory>
+    ensures { IfOk result (λ command. command ≡ show_of (map (λ word. string_bytes word) words.now)) }
+{
+    match words {
+        [image] => Ok(Command::Show {
+            image: FileName::new(alloc, image.as_str())?,
+        }),
         _ => Ok(Command::Usage),
     }
 }

@@ -2,7 +2,8 @@
 ghost use Rattle.std.specs.Prelude.{◌≡◌, ◌+◌, ◌*◌, ◌<◌, ◌≤◌, ◌++◌, length, replicate, reverse, OnOk};
 ghost use Rattle.std.specs.List.{flat_map};
 ghost use Rattle.fm_machine.specs.Words.{push, pop, next_word, mov};
-ghost use Rattle.cli_stack.specs.Piton.{IsSmall, int_number, template, return_words, pushes, prelude_size, words_at, prelude_words, program_words};
+ghost use Rattle.fm_loader.specs.Loaded.{word_of_number};
+ghost use Rattle.cli_stack.specs.Piton.{IsSmall, template, return_words, pushes, prelude_size, words_at, prelude_words, program_words};
 
 use crate::layout::Layout;
 use crate::piton::{Instruction, Program};
@@ -11,7 +12,7 @@ use stack_text::Memory;
 
 /// A signed number modulo 2^32.
 pub fn int_number(number: i32) -> u32
-    ensures { result ≡ int_number number }
+    ensures { result ≡ word_of_number number }
 {
     if number >= 0 {
         number as u32

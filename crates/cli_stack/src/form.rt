@@ -1,10 +1,10 @@
-//! The text form: parentheses and atoms, with separators between them.
-ghost use Rattle.std.specs.Prelude.{◌≡◌, not, position};
-ghost use Rattle.std.specs.Option.{option_copied};
+//! Trees taken apart from the left, as far as they are of a form.
+ghost use Rattle.std.specs.Prelude.{◌≡◌};
+ghost use Rattle.stack_text.specs.TreeView.{node_of, nodes_of};
 ghost use Rattle.cli_stack.specs.Numerals.{int_of};
-ghost use Rattle.cli_stack.specs.Form.{Gives, is_separator, is_atom_byte, from_token, behind, atom_at, keyword_at, name_at, int_at, empty_list_at, is_at_end};
+ghost use Rattle.cli_stack.specs.Form.{Gives, is_none, word_of, trees_of, first_of, only_of, word_at, behind, name_at, list_at, behind_empty, only_int};
 
-use stack_text::{Memory, Name, read_name, read_numeral};
+use stack_text::{Memory, Name, Tree, read_name, read_numeral};
 use std::alloc::{AllocFailed, Global};
 
 /// Why a text was not read.
@@ -38,142 +38,139 @@ impl<T: Drop> From<AllocFailed<T>> for FormFault {
     }
 }
 
-fn is_separator(byte: u8) -> bool
-    ensures { result ≡ is_separator byte }
+/// The bytes of an atom.
+#[tactic(auto, unfolding(crate::specs::Form::word_of))]
+fn word_of(tree: &Tree) -> Result<&[u8], FormFault>
+    ensures { Gives (λ word. word.now) result (word_of (node_of tree.now)) }
 {
-    matches!(byte, b' ' | b'\t' | b'\n' | b'\r')
-}
-
-fn is_atom_byte(byte: u8) -> bool
-    ensures { result ≡ is_atom_byte byte }
-{
-    matches!(byte, 0x21..=0x7e) && !matches!(byte, b'(' | b')' | b';')
-}
-
-/// Where the next token begins.
-fn token_start(text: &[u8]) -> Option<usize>
-    ensures { result ≡ position (λ b. not (is_separator b)) text.now }
-{
-    text.iter().position(|b| !is_separator(*b))
-}
-
-/// Where the atom bytes at the front end.
-fn atom_end(text: &[u8]) -> Option<usize>
-    ensures { result ≡ position (λ b. not (is_atom_byte b)) text.now }
-{
-    text.iter().position(|b| !is_atom_byte(*b))
-}
-
-/// The text from its next token on.
-#[tactic(auto, unfolding(crate::specs::Form::from_token))]
-pub fn from_token(text: &[u8]) -> &[u8]
-    ensures { result.now ≡ from_token text.now }
-{
-    match token_start(text) {
-        Some(start) => &text[start..],
-        None => &[],
+    match tree {
+        Tree::Atom { text, .. } => Ok(text.as_slice()),
+        Tree::List { .. } => Err(FormFault::Other),
     }
 }
 
-/// What stands behind this parenthesis, where it is the next token.
+/// The trees in a list.
+#[tactic(auto, unfolding(crate::specs::Form::trees_of))]
+pub fn trees_of(tree: &Tree) -> Result<&[Tree], FormFault>
+    ensures { Gives (λ trees. nodes_of trees.now) result (trees_of (node_of tree.now)) }
+{
+    match tree {
+        Tree::Atom { .. } => Err(FormFault::Other),
+        Tree::List { items, .. } => Ok(items.as_slice()),
+    }
+}
+
+/// Whether there is no tree.
+pub fn is_none(trees: &[Tree]) -> bool
+    ensures { result ≡ is_none (nodes_of trees.now) }
+{
+    match trees {
+        [] => true,
+        [_first, _rest @ ..] => false,
+    }
+}
+
+/// The first tree, and those behind it.
+#[tactic(auto, unfolding(crate::specs::Form::first_of))]
+fn first_of(trees: &[Tree]) -> Result<(&Tree, &[Tree]), FormFault>
+    ensures { Gives (λ found. (node_of found.0.now, nodes_of found.1.now)) result (first_of (nodes_of trees.now)) }
+{
+    match trees {
+        [] => Err(FormFault::Other),
+        [first, rest @ ..] => Ok((first, rest)),
+    }
+}
+
+/// The tree that stands alone.
+#[tactic(auto, unfolding(crate::specs::Form::only_of))]
+pub fn only_of(trees: &[Tree]) -> Result<&Tree, FormFault>
+    ensures { Gives (λ tree. node_of tree.now) result (only_of (nodes_of trees.now)) }
+{
+    let (first, rest) = first_of(trees)?;
+    if is_none(rest) {
+        Ok(first)
+    } else {
+        Err(FormFault::Other)
+    }
+}
+
+/// The word in front, and the trees behind it.
+#[tactic(auto, unfolding(crate::specs::Form::word_at))]
+pub fn word_at(trees: &[Tree]) -> Result<(&[u8], &[Tree]), FormFault>
+    ensures { Gives (λ found. (found.0.now, nodes_of found.1.now)) result (word_at (nodes_of trees.now)) }
+{
+    let (first, rest) = first_of(trees)?;
+    let word = word_of(first)?;
+    Ok((word, rest))
+}
+
+/// What stands behind this word in front.
 #[tactic(auto, unfolding(crate::specs::Form::behind))]
-pub fn next_is(parenthesis: u8, text: &[u8]) -> Option<&[u8]>
-    ensures { option_copied result ≡ behind parenthesis text.now }
+pub fn behind<'a>(word: &str, trees: &'a [Tree]) -> Result<&'a [Tree], FormFault>
+    ensures { Gives (λ rest. nodes_of rest.now) result (behind word.now (nodes_of trees.now)) }
 {
-    match from_token(text) {
-        [first, rest @ ..] if *first == parenthesis => Some(rest),
-        _ => None,
-    }
-}
-
-/// What stands behind this parenthesis, which is to be the next token.
-pub fn behind(parenthesis: u8, text: &[u8]) -> Result<&[u8], FormFault>
-    ensures { Gives (λ rest. rest.now) result (behind parenthesis text.now) }
-{
-    match next_is(parenthesis, text) {
-        Some(rest) => Ok(rest),
-        None => Err(FormFault::Other),
-    }
-}
-
-/// The next atom, and what stands behind it. It is empty where the next token is no atom.
-#[tactic(auto, unfolding(crate::specs::Form::atom_at))]
-pub fn atom(text: &[u8]) -> (&[u8], &[u8])
-    ensures { (result.0.now, result.1.now) ≡ atom_at text.now }
-{
-    let text = from_token(text);
-    match atom_end(text) {
-        Some(end) => text.split_at(end),
-        None => (text, &[]),
-    }
-}
-
-/// What stands behind these bytes, which are to be the next token.
-#[tactic(auto, unfolding(crate::specs::Form::keyword_at))]
-pub fn exactly<'a>(word: &[u8], text: &'a [u8]) -> Result<&'a [u8], FormFault>
-    ensures { Gives (λ rest. rest.now) result (keyword_at word.now text.now) }
-{
-    let (found, rest) = atom(text);
-    if found == word {
+    let (found, rest) = word_at(trees)?;
+    if found == word.as_bytes() {
         Ok(rest)
     } else {
         Err(FormFault::Other)
     }
 }
 
-/// What stands behind this word, which is to be the next token.
-pub fn keyword<'a>(word: &str, text: &'a [u8]) -> Result<&'a [u8], FormFault>
-    ensures { Gives (λ rest. rest.now) result (keyword_at word.now text.now) }
-{
-    exactly(word.as_bytes(), text)
-}
-
-/// The name that is the next token, and what stands behind it.
+/// The name in front, and the trees behind it.
 #[tactic(auto, unfolding(crate::specs::Form::name_at))]
-pub fn name(alloc: Global, text: &[u8]) -> Result<(Name, &[u8]), FormFault>
-    ensures { Gives (λ read. (read.0, read.1.now)) result (name_at text.now) }
+pub fn name_at(alloc: Global, trees: &[Tree]) -> Result<(Name, &[Tree]), FormFault>
+    ensures { Gives (λ found. (found.0, nodes_of found.1.now)) result (name_at (nodes_of trees.now)) }
 {
-    let (found, rest) = atom(text);
-    match read_name(alloc, found)? {
+    let (word, rest) = word_at(trees)?;
+    match read_name(alloc, word)? {
         Some(name) => Ok((name, rest)),
         None => Err(FormFault::Other),
     }
 }
 
+/// The list in front, and the trees behind it.
+#[tactic(auto, unfolding(crate::specs::Form::list_at))]
+pub fn list_at(trees: &[Tree]) -> Result<(&[Tree], &[Tree]), FormFault>
+    ensures { Gives (λ found. (nodes_of found.0.now, nodes_of found.1.now)) result (list_at (nodes_of trees.now)) }
+{
+    let (first, rest) = first_of(trees)?;
+    let items = trees_of(first)?;
+    Ok((items, rest))
+}
+
+/// What stands behind `()` in front.
+#[tactic(auto, unfolding(crate::specs::Form::behind_empty))]
+pub fn behind_empty(trees: &[Tree]) -> Result<&[Tree], FormFault>
+    ensures { Gives (λ rest. nodes_of rest.now) result (behind_empty (nodes_of trees.now)) }
+{
+    let (items, rest) = list_at(trees)?;
+    if is_none(items) {
+        Ok(rest)
+    } else {
+        Err(FormFault::Other)
+    }
+}
+
 /// The number of 32 signed bits that a numeral stands for.
 #[tactic(auto, unfolding(crate::specs::Numerals::int_of))]
-fn int_of(atom: &[u8]) -> Option<i32>
-    ensures { result ≡ int_of atom.now }
+pub fn int_of(word: &[u8]) -> Option<i32>
+    ensures { result ≡ int_of word.now }
 {
-    match read_numeral(atom) {
+    match read_numeral(word) {
         Some(number) if -0x8000_0000 <= number && number <= 0x7fff_ffff => Some(number as i32),
         _ => None,
     }
 }
 
-/// The numeral of 32 signed bits that is the next token, and what stands behind it.
-#[tactic(auto, unfolding(crate::specs::Form::int_at))]
-pub fn int(text: &[u8]) -> Result<(i32, &[u8]), FormFault>
-    ensures { Gives (λ read. (read.0, read.1.now)) result (int_at text.now) }
+/// The number that stands alone.
+#[tactic(auto, unfolding(crate::specs::Form::only_int))]
+pub fn only_int(trees: &[Tree]) -> Result<i32, FormFault>
+    ensures { Gives (λ number. number) result (only_int (nodes_of trees.now)) }
 {
-    let (found, rest) = atom(text);
-    match int_of(found) {
-        Some(number) => Ok((number, rest)),
+    let word = word_of(only_of(trees)?)?;
+    match int_of(word) {
+        Some(number) => Ok(number),
         None => Err(FormFault::Other),
     }
-}
-
-/// What stands behind `( )`.
-#[tactic(auto, unfolding(crate::specs::Form::empty_list_at))]
-pub fn empty_list(text: &[u8]) -> Result<&[u8], FormFault>
-    ensures { Gives (λ rest. rest.now) result (empty_list_at text.now) }
-{
-    behind(b')', behind(b'(', text)?)
-}
-
-/// Whether nothing but separators is left.
-pub fn is_at_end(text: &[u8]) -> bool
-    ensures { result ≡ is_at_end text.now }
-{
-    from_token(text).is_empty()
 }

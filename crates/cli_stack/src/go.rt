@@ -1,21 +1,17 @@
-//! The command `go`: compiles a program, and runs its image.
-ghost use Rattle.std.specs.Prelude.{◌≡◌, ◌≤◌, ◌<◌, ◌^◌, None, Some, IfOk, length};
-ghost use Rattle.cli_stack.specs.Source.{source_of};
-ghost use Rattle.cli_stack.specs.Go.{called_frame, pushed_words, control_need, temporary_need, lack_of, go_image, go_stored, go_told, run_on, run_told};
-ghost use Rattle.cli_stack.specs.Replies.{told_of};
-ghost use Rattle.cli_stack.specs.Stages.{told_after, IsLoadable, IsReady, TellsSize};
+//! The command `go`: compiles a program, stores its image, and runs it.
+ghost use Rattle.std.specs.Prelude.{◌≡◌, ◌≤◌, ◌^◌, None, Some, IfOk, length};
+ghost use Rattle.cli_stack.specs.Source.{source_of, IsSource};
+ghost use Rattle.cli_stack.specs.Go.{called_frame, pushed_words, control_need, temporary_need, lack_of, go_image, go_stored, go_told};
+ghost use Rattle.cli_stack.specs.Stages.{told_after, IsReady};
 
-use crate::display::{read, report};
 use crate::form::FormFault;
 use crate::generator::generate;
-use crate::image::{Image, write_image};
-use crate::loader::load;
 use crate::placer::place;
-use crate::reply::{Reply, Verdict};
+use crate::reply::Verdict;
+use crate::runs::begin;
 use crate::source::{OneStatement, Statement, read_source};
-use crate::stage::{Stage, Then};
-use crate::values::read_values;
-use fm_machine::{Machine, Run};
+use crate::stage::Stage;
+use fm_image::{Image, write_image};
 use stack_text::{Memory, Seq};
 use std::alloc::Global;
 
@@ -70,13 +66,12 @@ fn compile(
     control: u32,
     temporary: u32,
 ) -> Result<Image, Memory>
-    requires variables { length source.variables ≤ 200 }
+    requires source { IsSource source }
     requires control { control ≤ 65536 }
     requires temporary { temporary ≤ 65536 }
     requires sizes { lack_of source control temporary ≡ None }
     ensures value { IfOk result (λ image. image ≡ go_image source control temporary) }
-    ensures loadable { IfOk result IsLoadable }
-    ensures slots { IfOk result (λ image. length image.slots ≤ 200) }
+    ensures base { IfOk result (λ image. image.base ≡ 0) }
 {
     let system = generate(alloc, &source, control, temporary)?;
     place(alloc, &system, source.variables)
@@ -90,6 +85,8 @@ pub fn prepare(
     sizes: (u32, u32),
     budget: u64,
 ) -> Result<Stage, Memory>
+    requires text { length text.now ≤ 2 ^ 31 }
+    requires values { length values.now ≤ 2 ^ 31 }
     requires control { sizes.0 ≤ 65536 }
     requires temporary { sizes.1 ≤ 65536 }
     ensures stored { IfOk result (λ stage. stage.stored ≡ go_stored (source_of text.now) sizes.0 sizes.1) }
@@ -112,7 +109,8 @@ fn prepare_source(
     sizes: (u32, u32),
     budget: u64,
 ) -> Result<Stage, Memory>
-    requires variables { length source.variables ≤ 200 }
+    requires source { IsSource source }
+    requires values { length values.now ≤ 2 ^ 31 }
     requires control { sizes.0 ≤ 65536 }
     requires temporary { sizes.1 ≤ 65536 }
     ensures stored { IfOk result (λ stage. stage.stored ≡ go_stored (Some source) sizes.0 sizes.1) }
@@ -123,58 +121,8 @@ fn prepare_source(
     if let Some(lack) = lack_of(&source, control, temporary) {
         return Stage::only(alloc, lack);
     }
-    let values = read_values(alloc, source.variables.as_slice(), values);
     let image = compile(alloc, source, control, temporary)?;
-    let stored = Some(write_image(alloc, &image)?);
-    let then = match values {
-        Ok(values) => Then::Runs {
-            image,
-            values,
-            budget,
-        },
-        Err(FormFault::Other) => Then::Says(Reply::only(alloc, Verdict::NotBuilt)?),
-        Err(FormFault::Memory) => return Err(Memory),
-    };
+    let stored = Some(Seq::from_vec(write_image(alloc, &image)?));
+    let then = begin(alloc, image, values, budget)?;
     Ok(Stage { stored, then })
-}
-
-/// Runs an image on values of its variables.
-#[tactic(auto, unfolding(crate::specs::Go::run_on))]
-pub fn run(alloc: Global, image: &Image, values: &[i32], budget: u64) -> Result<Reply, Memory>
-    requires { IsLoadable image.now }
-    ensures told { IfOk result (λ reply. told_of reply ≡ run_on image.now values.now budget) }
-    ensures size { IfOk result TellsSize }
-{
-    let mut machine = load(alloc, image, values)?;
-    let run = machine.run(budget, image.final_pc);
-    reply_to(alloc, image, budget, run, machine)
-}
-
-/// The reply to a run that ended in this way.
-fn reply_to(
-    alloc: Global,
-    image: &Image,
-    budget: u64,
-    run: Run,
-    machine: Machine,
-) -> Result<Reply, Memory>
-    ensures told { IfOk result (λ reply. told_of reply ≡ run_told image.now budget run machine.state) }
-    ensures size { IfOk result TellsSize }
-{
-    match run {
-        Run::Ended { count } => {
-            let reading = read(alloc, image, &machine)?;
-            Ok(Reply {
-                verdict: Verdict::Done,
-                text: report(alloc, image, &reading, count)?,
-                machine: Some(machine),
-            })
-        }
-        Run::Spent => Reply::of_run(alloc, Verdict::Unfinished { budget }, machine),
-        Run::Outside { address, count } => Reply::of_run(
-            alloc,
-            Verdict::Outside { address, count },
-            machine,
-        ),
-    }
 }

@@ -2,15 +2,13 @@
 #![tactic(auto)]
 
 mod command;
-mod display;
 mod emitter;
 mod end;
 mod form;
 mod generator;
 mod go;
-mod image;
+mod input;
 mod layout;
-mod loader;
 mod name;
 mod number;
 mod piton;
@@ -20,11 +18,13 @@ mod program;
 mod reply;
 mod row;
 mod run;
+mod runs;
+mod shows;
 mod source;
 mod stage;
 #[cfg(test)]
 mod tests;
-mod values;
+mod text;
 mod words;
 
 use program::cli;

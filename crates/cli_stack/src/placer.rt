@@ -1,17 +1,32 @@
 //! Places a system in memory.
-ghost use Rattle.std.specs.Prelude.{◌≡◌, ◌+◌, ◌≤◌, ◌<◌, ◌++◌, ◌^◌, length, replicate, IfOk, OnOk};
+ghost use Rattle.std.specs.Prelude.{◌≡◌, ◌+◌, ◌≤◌, ◌<◌, ◌++◌, length, replicate, IfOk, OnOk};
 ghost use Rattle.cli_stack.specs.Piton.{IsSmall};
 ghost use Rattle.cli_stack.specs.Placed.{layout_of, code_words, control_words, placed_words, start_registers, IsPlaceable};
 ghost use Rattle.cli_stack.specs.Image.{slots_from, image_of};
-ghost use Rattle.cli_stack.specs.Stages.{IsLoadable};
+ghost use Rattle.cli_stack.specs.Source.{AreVariables};
 
 use crate::emitter::emit_program;
-use crate::image::{Image, Slot};
 use crate::layout::{Layout, layout_of};
 use crate::piton::System;
 use crate::words::HALT_WORD;
-use stack_text::{Memory, Name, Seq};
+use fm_image::{Image, Slot};
+use fm_words::Flags;
+use stack_text::{Kind, Memory, Name, Seq, Shape};
 use std::alloc::Global;
+
+/// The shape of an integer variable.
+const ONE_INTEGER: Shape = Shape {
+    kind: Kind::Integer,
+    length: 0,
+};
+
+/// No flag is set.
+const NO_FLAGS: Flags = Flags {
+    c: false,
+    v: false,
+    n: false,
+    z: false,
+};
 
 /// Zeros at the end.
 fn push_zeros(out: &mut Vec<u32>, count: u32) -> Result<(), Memory>
@@ -77,6 +92,7 @@ fn slots_from(alloc: Global, address: u32, names: Seq<Name>) -> Result<Vec<Slot>
     for name in names.into_vec() {
         let slot = Slot {
             name,
+            shape: ONE_INTEGER,
             address: next,
         };
         slots.push(slot)?;
@@ -88,18 +104,20 @@ fn slots_from(alloc: Global, address: u32, names: Seq<Name>) -> Result<Vec<Slot>
 /// The image of a system whose variables have these names.
 pub fn place(alloc: Global, system: &System, names: Seq<Name>) -> Result<Image, Memory>
     requires placeable { IsPlaceable system.now }
-    requires variables { length names ≤ 200 }
-    ensures value { IfOk result (λ image. image ≡ image_of names system.now) }
-    ensures loadable { IfOk result IsLoadable }
-    ensures slots { IfOk result (λ image. length image.slots ≤ 200) }
+    requires variables { AreVariables names }
+    ensures { IfOk result (λ image. image ≡ image_of names system.now) }
 {
     let layout = layout_of(system);
+    let registers = registers_of(system, &layout);
     Ok(Image {
+        base: 0,
         size: layout.end,
         final_pc: layout.final_pc,
-        registers: registers_of(system, &layout),
-        condition: layout.condition,
-        slots: Seq::from_vec(slots_from(alloc, layout.end - 1, names)?),
-        words: Seq::from_vec(words_of(alloc, system, &layout)?),
+        registers: Vec::from_slice(alloc, &registers)?,
+        flags: NO_FLAGS,
+        condition_address: Some(layout.condition),
+        conditions: Vec::new(alloc),
+        slots: slots_from(alloc, layout.end - 1, names)?,
+        words: words_of(alloc, system, &layout)?,
     })
 }

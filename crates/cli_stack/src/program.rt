@@ -41,12 +41,14 @@ fn run_words<S: Shelf>(alloc: Global, words: &[String], shelf: &mut S) -> Result
 /// |---|---|
 /// | 0 | the command came to its defined end |
 /// | 1 | the words fit no row |
+/// | 3 | the values break a rule of values files |
+/// | 4 | the image breaks a rule of image files |
 /// | 5, 6 | the budget was spent before the end; the next instruction needs an address outside the window |
 /// | 9 | a file that is read is not there |
 /// | 10, 11 | the shelf, the sink failed |
 /// | 12 | a file is over its limit, or a stack is smaller than the program's own need |
 /// | 14 | there was no memory, at any point |
-/// | 15 | the command, the source or the values are of a form that is yet to be built |
+/// | 15 | the command or the source is of a form that is yet to be built |
 pub fn cli<S: Shelf, K: Sink>(
     alloc: Global,
     words: &[String],
@@ -63,8 +65,8 @@ pub fn cli<S: Shelf, K: Sink>(
     ensures implements { IfSome (S.files shelf.old) (λ files.
         KeepsPromise (command_of (spelled words.now)) files (answer (spelled words.now) files).output) }
 
-    // Where both texts are there, the stacks have room, the values fit and the budget suffices, the answer tells what
-    // the source means.
+    // Where both files are there, the stacks have room, the values fit and the budget suffices, the answer of `go` tells
+    // what the source means; and so does that of `run` on an image that implements the source.
     ensures tells { IfSome (S.files shelf.old) (λ files.
         TellsWhatIsMeant (command_of (spelled words.now)) files (answer (spelled words.now) files)) }
 

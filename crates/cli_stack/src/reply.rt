@@ -14,6 +14,10 @@ pub enum Verdict {
     Done,
     /// The words fit no row.
     Usage,
+    /// The values break a rule of values files, V1 to V7, at a place of their text.
+    Values { rule: u8, place: u32 },
+    /// The image breaks a rule of image files, I1 to I8, at a place of the file.
+    Image { rule: u8, place: u64 },
     /// So many instructions were made, and the end was not reached.
     Unfinished { budget: u64 },
     /// After so many instructions the next one needs an address outside the window.
@@ -21,7 +25,7 @@ pub enum Verdict {
     /// The control stack or the temporary stack is smaller than the main procedure needs.
     SmallControl { need: u64 },
     SmallTemporary { need: u64 },
-    /// The command, the source or the values are of a form that is yet to be built.
+    /// The command or the source is of a form that is yet to be built.
     NotBuilt,
 }
 
@@ -36,6 +40,8 @@ impl Verdict {
         match self {
             Verdict::Done => 0,
             Verdict::Usage => 1,
+            Verdict::Values { .. } => 3,
+            Verdict::Image { .. } => 4,
             Verdict::Unfinished { .. } => 5,
             Verdict::Outside { .. } => 6,
             Verdict::SmallControl { .. } | Verdict::SmallTemporary { .. } => 12,
@@ -50,6 +56,8 @@ impl Verdict {
         match self {
             Verdict::Done => Ok(String::new(alloc)),
             Verdict::Usage => Ok("usage\n".to_string(alloc)?),
+            Verdict::Values { rule, place } => values_line(alloc, rule, place),
+            Verdict::Image { rule, place } => image_line(alloc, rule, place),
             Verdict::Unfinished { budget } => Ok(format!(in alloc; "unfinished {budget}\n")?),
             Verdict::Outside { address, count } => outside_line(alloc, address, count),
             Verdict::SmallControl { need } => Ok(format!(in alloc; "size control {need}\n")?),
@@ -57,6 +65,20 @@ impl Verdict {
             Verdict::NotBuilt => Ok("not built\n".to_string(alloc)?),
         }
     }
+}
+
+/// The line of values that break a rule.
+fn values_line(alloc: Global, rule: u8, place: u32) -> Result<String, Memory>
+    ensures { IfOk result (λ line. string_bytes line ≡ verdict_line (Verdict.Values rule place)) }
+{
+    Ok(format!(in alloc; "values V{rule} at {place}\n")?)
+}
+
+/// The line of an image that breaks a rule.
+fn image_line(alloc: Global, rule: u8, place: u64) -> Result<String, Memory>
+    ensures { IfOk result (λ line. string_bytes line ≡ verdict_line (Verdict.Image rule place)) }
+{
+    Ok(format!(in alloc; "image I{rule} at {place}\n")?)
 }
 
 /// An address in eight hexadecimal digits.

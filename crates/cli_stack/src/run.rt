@@ -1,21 +1,23 @@
 //! Runs a command over a shelf.
-ghost use Rattle.std.specs.Prelude.{◌≡◌, IfOk, IfErr, IfSome, OnOk, map};
+ghost use Rattle.std.specs.Prelude.{◌≡◌, ◌≤◌, ◌^◌, IfOk, IfErr, IfSome, OnOk, map};
 ghost use Rattle.stack_shelf.specs.Causes.{NoneFell};
 ghost use Rattle.stack_shelf.specs.Shelf.{fetched, stored};
 ghost use Rattle.cli_stack.specs.Answer.{gathered, text_of, names_of, file_names, answer_to};
 ghost use Rattle.cli_stack.specs.Stages.{TellsSize};
 ghost use Rattle.cli_stack.specs.Headline.{Gives, EndsAt, EndsAtOne, HasReason, LeavesPart, Leaves, IsFaultAt};
 
-use crate::command::{Command, Input};
+use crate::command::Command;
 use crate::end::End;
+use crate::input::Input;
 use crate::reply::{Reply, fault_line, long_line, missing_line};
 use crate::stage::{Stage, finish, prepare};
+use crate::text::Text;
 use stack_shelf::{FetchFault, Shelf, StoreFault};
-use stack_text::Seq;
 use std::alloc::Global;
 
 /// The text of one file.
-fn fetch<S: Shelf>(alloc: Global, shelf: &mut S, name: &str, limit: u64) -> Result<Seq<u8>, End>
+fn fetch<S: Shelf>(alloc: Global, shelf: &mut S, name: &str, limit: u64) -> Result<Text, End>
+    requires { limit ≤ 2 ^ 31 }
     ensures told { IfSome (S.files shelf.old) (λ files.
         Gives (λ text. text) result (text_of name.now limit (fetched files name.now limit))) }
     ensures cause { IfErr result (EndsAt (S.counts shelf.old) (S.counts shelf.new) name.now) }
@@ -23,7 +25,7 @@ fn fetch<S: Shelf>(alloc: Global, shelf: &mut S, name: &str, limit: u64) -> Resu
     ensures counts { NoneFell (S.counts shelf.old) (S.counts shelf.new) }
 {
     match shelf.fetch(alloc, name, limit) {
-        Ok(text) => Ok(Seq::from_vec(text)),
+        Ok(text) => Ok(Text::new(text)),
         Err(FetchFault::Missing) => Err(End::Missing(missing_line(alloc, name)?)),
         Err(FetchFault::TooLong) => Err(End::TooLong(long_line(alloc, limit)?)),
         Err(FetchFault::Failed) => Err(End::ShelfFault(fault_line(alloc, name)?)),
@@ -32,7 +34,7 @@ fn fetch<S: Shelf>(alloc: Global, shelf: &mut S, name: &str, limit: u64) -> Resu
 }
 
 /// The texts of the files that a command reads.
-fn gather<S: Shelf>(alloc: Global, shelf: &mut S, inputs: &[Input]) -> Result<Vec<Seq<u8>>, End>
+fn gather<S: Shelf>(alloc: Global, shelf: &mut S, inputs: &[Input]) -> Result<Vec<Text>, End>
     ensures told { IfSome (S.files shelf.old) (λ files. Gives (λ texts. texts.items) result
         (gathered files (map (λ input. (input.name.now, input.limit)) inputs.now))) }
     ensures cause { IfErr result (EndsAtOne (S.counts shelf.old) (S.counts shelf.new)

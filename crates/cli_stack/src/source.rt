@@ -1,17 +1,21 @@
 //! Programs of one statement over integer variables.
-ghost use Rattle.std.specs.Prelude.{◌≡◌, ◌<◌, ◌≤◌, true, length, position, IfOk, IfSome};
+ghost use Rattle.std.specs.Prelude.{◌≡◌, ◌<◌, ◌≤◌, ◌^◌, length, position, IfOk, IfSome};
 ghost use Rattle.std.specs.Str.{bytes_eq};
+ghost use Rattle.stack_text.specs.TreeView.{node_of, nodes_of};
 ghost use Rattle.cli_stack.specs.Form.{Gives};
 ghost use Rattle.cli_stack.specs.Source.{is_for_simple_types, is_for_integers, is_for_booleans, is_for_arrays, is_predefined};
-ghost use Rattle.cli_stack.specs.Source.{heading_at, declaration_at, declarations_at, assignment_at, no_op_at, statement_at};
-ghost use Rattle.cli_stack.specs.Source.{are_distinct, is_closed, variables_at, source_of};
+ghost use Rattle.cli_stack.specs.Source.{declaration_of, declarations_of, are_distinct, variables_at, assignment_of, statement_of};
+ghost use Rattle.cli_stack.specs.Source.{procedure_body, procedure_named, program_of, source_of, IsSource};
 
-use crate::form::{FormFault, atom, behind, empty_list, int, is_at_end, keyword, name, next_is};
-use stack_text::{Name, Seq};
+use crate::form::{
+    FormFault, behind, behind_empty, is_none, list_at, name_at, only_int, only_of, trees_of,
+    word_at,
+};
+use stack_text::{Name, Seq, TextFault, Tree, read_tree};
 use std::alloc::Global;
 
 /// The most variables of a procedure.
-const MOST_VARIABLES: u32 = 200;
+const MOST_VARIABLES: usize = 200;
 
 /// The one statement of a program.
 #[derive(Clone, Copy, Debug, PartialEq, Eq)]
@@ -77,49 +81,28 @@ fn is_predefined(name: &[u8]) -> bool
         || is_for_arrays(name)
 }
 
-/// What stands behind `( program M ( proc M`.
-#[tactic(auto, unfolding(crate::specs::Source::heading_at))]
-fn heading(alloc: Global, text: &[u8]) -> Result<&[u8], FormFault>
-    ensures { Gives (λ rest. rest.now) result (heading_at text.now) }
+/// The name of a declaration.
+#[tactic(auto, unfolding(crate::specs::Source::declaration_of))]
+fn declaration_of(alloc: Global, tree: &Tree) -> Result<Name, FormFault>
+    ensures { Gives (λ name. name) result (declaration_of (node_of tree.now)) }
 {
-    let program = keyword("program", behind(b'(', text)?)?;
-    let (main, rest) = name(alloc, program)?;
-    let proc = keyword("proc", behind(b'(', rest)?)?;
-    let (procedure, rest) = name(alloc, proc)?;
-    if main == procedure && !is_predefined(main.bytes()) {
-        Ok(rest)
+    let (name, rest) = name_at(alloc, trees_of(tree)?)?;
+    if is_none(behind("integer", rest)?) {
+        Ok(name)
     } else {
         Err(FormFault::Other)
     }
 }
 
-/// The name of a declaration.
-#[tactic(auto, unfolding(crate::specs::Source::declaration_at))]
-fn declaration(alloc: Global, text: &[u8]) -> Result<(Name, &[u8]), FormFault>
-    ensures { Gives (λ read. (read.0, read.1.now)) result (declaration_at text.now) }
-{
-    let (name, rest) = name(alloc, behind(b'(', text)?)?;
-    let rest = behind(b')', keyword("integer", rest)?)?;
-    Ok((name, rest))
-}
-
-/// The names of the declarations up to the end of their list.
-fn declarations(alloc: Global, text: &[u8]) -> Result<(Vec<Name>, &[u8]), FormFault>
-    ensures value { Gives (λ read. (read.0.items, read.1.now)) result (declarations_at 200 text.now) }
-    ensures few { IfOk result (λ read. length read.0.items ≤ 200) }
+/// The names of declarations.
+fn declarations_of(alloc: Global, trees: &[Tree]) -> Result<Vec<Name>, FormFault>
+    ensures { Gives (λ names. names.items) result (declarations_of (nodes_of trees.now)) }
 {
     let mut names = Vec::new(alloc);
-    let mut rest = text;
-    for _ in 0..MOST_VARIABLES {
-        if let Some(end) = next_is(b')', rest) {
-            return Ok((names, end));
-        }
-        let (name, after) = declaration(alloc, rest)?;
-        names.push(name)?;
-        rest = after;
+    for tree in trees {
+        names.push(declaration_of(alloc, tree)?)?;
     }
-    let end = behind(b')', rest)?;
-    Ok((names, end))
+    Ok(names)
 }
 
 /// Whether no name stands twice.
@@ -136,13 +119,14 @@ fn are_distinct(names: &[Name]) -> bool
 
 /// The variables, and what stands behind the four lists.
 #[tactic(auto, unfolding(crate::specs::Source::variables_at))]
-fn variables(alloc: Global, text: &[u8]) -> Result<(Vec<Name>, &[u8]), FormFault>
-    ensures value { Gives (λ read. (read.0.items, read.1.now)) result (variables_at text.now) }
-    ensures few { IfOk result (λ read. length read.0.items ≤ 200) }
+fn variables_at(alloc: Global, trees: &[Tree]) -> Result<(Vec<Name>, &[Tree]), FormFault>
+    ensures value { Gives (λ found. (found.0.items, nodes_of found.1.now)) result (variables_at (nodes_of trees.now)) }
+    ensures few { IfOk result (λ found. length found.0.items ≤ 200) }
 {
-    let (names, rest) = declarations(alloc, behind(b'(', text)?)?;
-    let rest = empty_list(empty_list(empty_list(rest)?)?)?;
-    if are_distinct(&names) {
+    let (declarations, rest) = list_at(trees)?;
+    let names = declarations_of(alloc, declarations)?;
+    let rest = behind_empty(behind_empty(behind_empty(rest)?)?)?;
+    if names.len() <= MOST_VARIABLES && are_distinct(&names) {
         Ok((names, rest))
     } else {
         Err(FormFault::Other)
@@ -160,73 +144,81 @@ fn place_of(variables: &[Name], name: &[u8]) -> Option<usize>
 }
 
 /// An assignment, behind its first word.
-#[tactic(auto, unfolding(crate::specs::Source::assignment_at))]
-fn assignment<'a>(variables: &[Name], text: &'a [u8]) -> Result<(Statement, &'a [u8]), FormFault>
+#[tactic(auto, unfolding(crate::specs::Source::assignment_of))]
+fn assignment_of(variables: &[Name], trees: &[Tree]) -> Result<Statement, FormFault>
     requires { length variables.now ≤ 200 }
-    ensures { Gives (λ read. (read.0, read.1.now)) result (assignment_at variables.now text.now) }
+    ensures { Gives (λ statement. statement) result (assignment_of variables.now (nodes_of trees.now)) }
 {
-    let (name, rest) = atom(text);
+    let (name, rest) = word_at(trees)?;
     let Some(variable) = place_of(variables, name) else {
         return Err(FormFault::Other);
     };
-    let (number, rest) = int(rest)?;
-    let rest = behind(b')', rest)?;
+    let number = only_int(rest)?;
     let variable = variable as u32;
-    Ok((Statement::Assign { variable, number }, rest))
-}
-
-/// `no-op )`
-#[tactic(auto, unfolding(crate::specs::Source::no_op_at))]
-fn no_op(text: &[u8]) -> Result<(Statement, &[u8]), FormFault>
-    ensures { Gives (λ read. (read.0, read.1.now)) result (no_op_at text.now) }
-{
-    let rest = behind(b')', keyword("no-op", text)?)?;
-    Ok((Statement::NoOp, rest))
+    Ok(Statement::Assign { variable, number })
 }
 
 /// The statement.
-#[tactic(auto, unfolding(crate::specs::Source::statement_at))]
-fn read_statement<'a>(
-    variables: &[Name],
-    text: &'a [u8],
-) -> Result<(Statement, &'a [u8]), FormFault>
+#[tactic(auto, unfolding(crate::specs::Source::statement_of))]
+fn statement_of(variables: &[Name], tree: &Tree) -> Result<Statement, FormFault>
     requires { length variables.now ≤ 200 }
-    ensures { Gives (λ read. (read.0, read.1.now)) result (statement_at variables.now text.now) }
+    ensures { Gives (λ statement. statement) result (statement_of variables.now (node_of tree.now)) }
 {
-    let opened = behind(b'(', text)?;
-    let (word, rest) = atom(opened);
+    let (word, rest) = word_at(trees_of(tree)?)?;
     if is(word, "mg-simple-constant-assignment") {
-        assignment(variables, rest)
-    } else {
-        no_op(opened)
-    }
-}
-
-/// Whether the text ends with its two open lists.
-#[tactic(auto, unfolding(crate::specs::Source::is_closed))]
-fn close(text: &[u8]) -> Result<(), FormFault>
-    ensures { Gives (λ _. true) result (is_closed text.now) }
-{
-    let rest = behind(b')', behind(b')', text)?)?;
-    if is_at_end(rest) {
-        Ok(())
+        assignment_of(variables, rest)
+    } else if is(word, "no-op") && is_none(rest) {
+        Ok(Statement::NoOp)
     } else {
         Err(FormFault::Other)
     }
 }
 
-/// The program of a text.
-#[tactic(auto, unfolding(crate::specs::Source::source_of))]
-pub fn read_source(alloc: Global, text: &[u8]) -> Result<OneStatement, FormFault>
-    ensures value { Gives (λ source. source) result (source_of text.now) }
-    ensures few { IfOk result (λ source. length source.variables ≤ 200) }
+/// The variables and the statement of a procedure, behind its name.
+#[tactic(auto, unfolding(crate::specs::Source::procedure_body))]
+fn procedure_body(alloc: Global, trees: &[Tree]) -> Result<OneStatement, FormFault>
+    ensures { Gives (λ source. source) result (procedure_body (nodes_of trees.now)) }
 {
-    let rest = heading(alloc, text)?;
-    let (variables, rest) = variables(alloc, rest)?;
-    let (statement, rest) = read_statement(&variables, rest)?;
-    close(rest)?;
+    let (variables, rest) = variables_at(alloc, trees)?;
+    let statement = statement_of(&variables, only_of(rest)?)?;
     Ok(OneStatement {
         variables: Seq::from_vec(variables),
         statement,
     })
+}
+
+/// A procedure of this name, which no predefined one has.
+#[tactic(auto, unfolding(crate::specs::Source::procedure_named))]
+fn procedure_named(alloc: Global, main: &Name, tree: &Tree) -> Result<OneStatement, FormFault>
+    ensures { Gives (λ source. source) result (procedure_named main.now (node_of tree.now)) }
+{
+    let (name, rest) = name_at(alloc, behind("proc", trees_of(tree)?)?)?;
+    if *main == name && !is_predefined(main.bytes()) {
+        procedure_body(alloc, rest)
+    } else {
+        Err(FormFault::Other)
+    }
+}
+
+/// The program of a tree.
+#[tactic(auto, unfolding(crate::specs::Source::program_of))]
+fn program_of(alloc: Global, tree: &Tree) -> Result<OneStatement, FormFault>
+    ensures { Gives (λ source. source) result (program_of (node_of tree.now)) }
+{
+    let (main, rest) = name_at(alloc, behind("program", trees_of(tree)?)?)?;
+    procedure_named(alloc, &main, only_of(rest)?)
+}
+
+/// The program of a text.
+#[tactic(auto, unfolding(crate::specs::Source::source_of))]
+pub fn read_source(alloc: Global, text: &[u8]) -> Result<OneStatement, FormFault>
+    requires { length text.now ≤ 2 ^ 31 }
+    ensures value { Gives (λ source. source) result (source_of text.now) }
+    ensures source { IfOk result IsSource }
+{
+    match read_tree(alloc, text) {
+        Ok(tree) => program_of(alloc, &tree),
+        Err(TextFault::Fault { .. }) => Err(FormFault::Other),
+        Err(TextFault::Memory) => Err(FormFault::Memory),
+    }
 }

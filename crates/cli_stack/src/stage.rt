@@ -1,14 +1,15 @@
 //! What a command makes of its texts: first what it stores, then its reply.
-ghost use Rattle.std.specs.Prelude.{◌≡◌, ◌≤◌, IfOk, None};
+ghost use Rattle.std.specs.Prelude.{◌≡◌, ◌≤◌, ◌^◌, length, IfOk, None};
 ghost use Rattle.cli_stack.specs.Answer.{text_at, stored_by, told_by};
 ghost use Rattle.cli_stack.specs.Replies.{told_of};
 ghost use Rattle.cli_stack.specs.Stages.{told_after, IsReady, TellsSize};
 
 use crate::command::Command;
-use crate::go;
-use crate::image::Image;
 use crate::reply::{Reply, Verdict};
-use stack_text::{Memory, Seq};
+use crate::text::Text;
+use crate::{go, runs, shows};
+use fm_image::Image;
+use stack_text::{Memory, Seq, Value};
 use std::alloc::Global;
 
 /// What is left to do once the file is stored.
@@ -17,7 +18,7 @@ pub enum Then {
     Says(Reply),
     Runs {
         image: Image,
-        values: Seq<i32>,
+        values: Seq<Value>,
         budget: u64,
     },
 }
@@ -47,8 +48,10 @@ impl Stage {
     }
 }
 
-fn text_at(texts: &[Seq<u8>], place: usize) -> &[u8]
-    ensures { result.now ≡ text_at texts.now place }
+/// The bytes of the text at a place.
+fn text_at(texts: &[Text], place: usize) -> &[u8]
+    ensures value { result.now ≡ text_at texts.now place }
+    ensures short { length result.now ≤ 2 ^ 31 }
 {
     match texts.get(place) {
         Some(text) => text.as_slice(),
@@ -58,7 +61,7 @@ fn text_at(texts: &[Seq<u8>], place: usize) -> &[u8]
 
 /// What a command stores, and what is left to do.
 #[tactic(auto, unfolding(crate::specs::Answer::stored_by, crate::specs::Answer::told_by))]
-pub fn prepare(alloc: Global, command: &Command, texts: &[Seq<u8>]) -> Result<Stage, Memory>
+pub fn prepare(alloc: Global, command: &Command, texts: &[Text]) -> Result<Stage, Memory>
     ensures stored { IfOk result (λ stage. stage.stored ≡ stored_by command.now texts.now) }
     ensures then { IfOk result (λ stage. told_after stage.then ≡ told_by command.now texts.now) }
     ensures ready { IfOk result (λ stage. IsReady stage.then) }
@@ -75,6 +78,10 @@ pub fn prepare(alloc: Global, command: &Command, texts: &[Seq<u8>]) -> Result<St
             let sizes = (control.words(), temporary.words());
             go::prepare(alloc, text_at(texts, 0), text_at(texts, 1), sizes, *budget)
         }
+        Command::Run { budget, .. } => {
+            runs::prepare(alloc, text_at(texts, 0), text_at(texts, 1), *budget)
+        }
+        Command::Show { .. } => shows::prepare(alloc, text_at(texts, 0)),
     }
 }
 
@@ -90,6 +97,6 @@ pub fn finish(alloc: Global, then: Then) -> Result<Reply, Memory>
             image,
             values,
             budget,
-        } => go::run(alloc, &image, values.as_slice(), budget),
+        } => runs::run(alloc, &image, values.as_slice(), budget),
     }
 }

@@ -1,19 +1,13 @@
-use Rattle.std.proofs.Common.{rules, arith, ◌≡◌, ◌-◌, ap}
-use Rattle.cli_stack.specs.declared.layout.Layout.{Layout}
-use Rattle.cli_stack.specs.Placed.{placed_words}
+use Rattle.std.proofs.Common.{rules, ◌≡◌, ◌-◌, []}
+use Rattle.cli_stack.specs.Placed.{placed_words, start_registers}
 use Rattle.cli_stack.specs.Image.{slots_from}
-use Rattle.cli_stack.proofs.Placing.{length-placed_words}
-use Rattle.cli_stack.proofs.Slots.{length-slots_from}
+use Rattle.cli_stack.proofs.ImageLimits.{made_fits}
 use Rattle.cli_stack.proofs.placer.place.Goals as goal
 
-pub returns-clause-loadable : goal.returns-clause-loadable
-returns-clause-loadable c =
-    let are : c.from_vec-2.result ≡ placed_words c.args.system.now = search rules in
-    let many = length-placed_words c.args.system.now c.requires.placeable.frame in
-    let end = ap (λ (L : Layout). L.end) c.layout_of-layout.ensures.value in
-    record { some = omega arith; few = omega arith; words = rw are (omega arith) }
-
-pub returns-clause-slots : goal.returns-clause-slots
-returns-clause-slots c =
-    let are : c.from_vec.result ≡ slots_from (c.layout_of-layout.result.end - 1) c.args.names = search rules in
-    rw are (omega (arith, length-slots_from (c.layout_of-layout.result.end - 1) c.args.names))
+pub invariant_of-result : goal.invariant_of-result
+invariant_of-result c =
+    let registers : c.in_ok-from_slice.field-0.items ≡ start_registers c.args.system.now = search rules in
+    let conditions : c.new.result.items ≡ [] = search rules in
+    let slots : c.in_ok-slots_from.field-0.items ≡ slots_from (c.layout_of-layout.result.end - 1) c.args.names = search rules in
+    let words : c.in_ok-words_of.field-0.items ≡ placed_words c.args.system.now = search rules in
+    made_fits c.args.names c.args.system.now c.layout_of-layout.result _ _ _ _ c.layout_of-layout.ensures.value c.layout_of-layout.ensures.few registers conditions slots words c.requires.placeable c.requires.variables

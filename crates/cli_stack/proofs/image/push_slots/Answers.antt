@@ -1,7 +1,0 @@
-use Rattle.cli_stack.specs.Image.{slot_bytes}
-use Rattle.cli_stack.proofs.Emitted.{pieces_next}
-use Rattle.cli_stack.proofs.image.push_slots.Goals as goal
-
-pub loop-slot-preserved : goal.loop-slot-preserved
-loop-slot-preserved c =
-    pieces_next slot_bytes c.args.slots.now c.loop-slot.slot-index c.slot-item.result _ _ _ c.loop-slot-test.true c.slot-item.is c.in_ok-push_slot.ensures c.loop-slot.invariant

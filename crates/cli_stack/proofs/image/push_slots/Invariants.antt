@@ -1,8 +1,0 @@
-use Rattle.std.proofs.Common.{◌≡◌, ◌++◌, drop}
-use Rattle.std.specs.List.{flat_map}
-use Rattle.cli_stack.specs.Image.{slot_bytes}
-use Rattle.cli_stack.proofs.image.push_slots.Given as goal
-
--- the bytes so far and those of what is left are those of all
-abbrev pub invariant-loop-slot : goal.invariant-loop-slot
-invariant-loop-slot l = l.bytes.items ++ flat_map slot_bytes (drop l.slot-index l.slots) ≡ l.initial.bytes.items ++ flat_map slot_bytes l.slots
