@@ -1,0 +1,14 @@
+pub mod Shapes
+pub mod WordLaws
+pub mod JudgedLaws
+pub mod ReadingLaws
+pub mod ArgumentLaws
+pub mod InstructionLaws
+pub mod ProgramLaws
+pub mod RiseLaws
+pub mod AnswerLaws
+pub mod PlacesLaws
+pub mod PrintingLoops
+pub mod PrintingLaws
+pub mod NumeralTextLaws
+pub mod KeepsLaws

@@ -1,0 +1,58 @@
+-- The decimal digits of a number are a numeral of it, and without a sign where the number was read from digits alone.
+use Rattle.std.proofs.Common.{◌≡◌, ℕ, ◌^◌, Bool, true, false, ◌&&◌, cond, ltb, List, [], ◌∷◌, length, Some, None, refl, sym, subst, arith}
+use Rattle.std.specs.Prelude.{ℤ, pos}
+use Rattle.std.specs.List.{list_all}
+use Rattle.std.specs.Char.{is_ascii_digit}
+use Rattle.std.specs.Fmt.{decimal, signed_decimal}
+use Rattle.std.specs.Str.Parse.{AllDigits, IsNumeral, digits_value, starts_with_minus, without_leading_plus}
+use Rattle.std.proofs.lemmas.Bool.{ltb-true, lt-ltb, le-leb, ne_eqb}
+use Rattle.std.proofs.lemmas.Fmt.{decimal_is_IsNumeral_wide}
+use Rattle.std.proofs.lemmas.Str.Parse.{digit_from_value}
+use Rattle.stack_text.specs.Numerals.{is_digits, is_numeral, numeral_value, fits_128_bits}
+use Rattle.stack_text.proofs.NumeralLaws.{both, digit_in_range}
+use Rattle.stack_text.proofs.AtomLaws.{numeral_of-signed_decimal}
+
+numeral_found : (numeral fits : Bool) (v z : ℤ) → cond (numeral && fits) (Some v) None ≡ Some z → v ≡ z
+numeral_found true true v z h = cc
+numeral_found true false v z h = absurd cc
+numeral_found false fits v z h = absurd cc
+
+-- the digits of a number that fits 128 bits are read as that number
+pub value-signed_decimal : (z : ℤ) → fits_128_bits z ≡ true → numeral_value (signed_decimal z) ≡ z
+value-signed_decimal z fits =
+    numeral_found (is_numeral (signed_decimal z)) (fits_128_bits (numeral_value (signed_decimal z))) (numeral_value (signed_decimal z)) z (numeral_of-signed_decimal z fits).1
+
+pub numeral-signed_decimal : (z : ℤ) → fits_128_bits z ≡ true → is_numeral (signed_decimal z) ≡ true
+numeral-signed_decimal z fits = (numeral_of-signed_decimal z fits).0
+
+all_digits_pass : (ds : List ℕ) → AllDigits 10 ds → list_all is_ascii_digit ds ≡ true
+all_digits_pass [] h = refl
+all_digits_pass (d ∷ ds) h =
+    let r = digit_from_value d h.0 in
+    rw (le-leb 48 d r.0, le-leb d 57 r.1) (all_digits_pass ds h.1)
+
+numeral_passes : (ds : List ℕ) → IsNumeral 10 ds → is_digits ds ≡ true
+numeral_passes ds h = rw (lt-ltb 0 (length ds) h.0) (all_digits_pass ds h.1)
+
+-- digits alone have no sign
+unsigned : (ds : List ℕ) → is_digits ds ≡ true → starts_with_minus ds ≡ false
+unsigned [] h = absurd cc
+unsigned (d ∷ ds) h =
+    let p = both (is_ascii_digit d) (list_all is_ascii_digit ds) (both (ltb 0 (length (d ∷ ds))) (list_all is_ascii_digit (d ∷ ds)) h).1 in
+    let r = digit_in_range d p.0 in
+    ne_eqb d 45 (λ e. omega (arith, r.0))
+
+value-digits : (ds : List ℕ) → is_digits ds ≡ true → numeral_value ds ≡ pos (digits_value 10 (without_leading_plus ds))
+value-digits ds h = rw (unsigned ds h) refl
+
+pub digits_are_numeral : (ds : List ℕ) → is_digits ds ≡ true → is_numeral ds ≡ true
+digits_are_numeral ds h = rw (unsigned ds h) h
+
+digits-pos : (n : ℕ) → fits_128_bits (pos n) ≡ true → is_digits (signed_decimal (pos n)) ≡ true
+digits-pos n fits = let h = ltb-true n (2 ^ 127) fits in numeral_passes (decimal n) (decimal_is_IsNumeral_wide n (omega (arith, h))).0
+
+-- what was read from digits alone is printed with digits alone
+pub digits-signed_decimal : (ds : List ℕ) → is_digits ds ≡ true → fits_128_bits (numeral_value ds) ≡ true → is_digits (signed_decimal (numeral_value ds)) ≡ true
+digits-signed_decimal ds h fits =
+    let value : numeral_value ds ≡ pos (digits_value 10 (without_leading_plus ds)) = value-digits ds h in
+    subst (λ (z : ℤ). is_digits (signed_decimal z) ≡ true) (sym value) (digits-pos _ (subst (λ (z : ℤ). fits_128_bits z ≡ true) value fits))

@@ -1,0 +1,123 @@
+-- The text that is printed for a system is read as that system but for places.
+use Rattle.std.proofs.Common.{◌≡◌, ℕ, List, [], ◌∷◌, ◌++◌, drop, map, Option, Some, None, true, false, Ok, refl, ap, ◌∙◌, append_assoc, arith}
+use Rattle.std.specs.Prelude.{codes}
+use Rattle.std.specs.List.{flat_map}
+use Rattle.stack_text.specs.Trees.{Node, Nodes, atom, list, none, more}
+use Rattle.stack_text.specs.Trees.{ReadsAs as TreeReadsAs, without_places as unplaced_tree, all_without_places}
+use Rattle.stack_text.specs.TreeText.{tree_text, items_text, spaced_text}
+use Rattle.stack_text.specs.TreeView.{nodes}
+use Rattle.stack_text.specs.Spellings.{Spells, SpellsAll, SpellsRest}
+use Rattle.stack_text.proofs.SpellingLaws.{spelled_is_read}
+use Rattle.stack_text.proofs.TreeInLaws.{tree_in-TreeOf}
+use Rattle.piton_syntax.specs.declared.argument.ArgText.{ArgText}
+use Rattle.piton_syntax.specs.declared.argument.ArgText.TheVariants as arg
+use Rattle.piton_syntax.specs.declared.word_text.WordItem.{WordItem}
+use Rattle.piton_syntax.specs.declared.word_text.WordItem.TheVariants as item
+use Rattle.piton_syntax.specs.declared.word_text.WordText.{WordText}
+use Rattle.stack_text.specs.declared.name.Named.{Named}
+use Rattle.piton_syntax.specs.Answers.{KeepsForm, ReadsAs, judgement, piton_by}
+use Rattle.piton_syntax.specs.Grammar.{system_of}
+use Rattle.piton_syntax.specs.Systems.{InstrOf, ProgramOf, AreaOf, SystemOf, without_places}
+use Rattle.piton_syntax.specs.Printed.{item_tree, word_tree, name_tree, argument_tree, labelled_tree, instruction_tree, temporary_tree, program_tree, area_tree, system_head, tree_of, tree_of_all, lines_text, program_text, piton_text}
+use Rattle.piton_syntax.proofs.PlacesLaws.{same_lifted, same_system}
+
+-- ---- the text spells the tree
+
+mutual
+  spells_tree : (t : Node) → Spells t (tree_text t)
+  spells_tree (atom p bytes) = refl
+  spells_tree (list p ts) = (items_text ts, spells_items ts, refl)
+
+  spells_items : (ts : Nodes) → SpellsAll ts (items_text ts)
+  spells_items none = refl
+  spells_items (more t ts) = (tree_text t, spaced_text ts, spells_tree t, spells_spaced ts, refl)
+
+  spells_spaced : (ts : Nodes) → SpellsRest ts (spaced_text ts)
+  spells_spaced none = refl
+  spells_spaced (more t ts) = (32 ∷ [], tree_text t, spaced_text ts, omega arith, (tt, tt), spells_tree t, spells_spaced ts, refl)
+
+-- items on lines of their own
+spells_lines : {X : Type 0} (tree : X → Node) (text : X → List ℕ) → ((x : X) → Spells (tree x) (text x)) → (xs : List X) → SpellsRest (nodes (map tree xs)) (flat_map (λ x. 10 ∷ text x) xs)
+spells_lines tree text h [] = refl
+spells_lines tree text h (x ∷ xs) = (10 ∷ [], text x, flat_map (λ y. 10 ∷ text y) xs, omega arith, (tt, tt), h x, spells_lines tree text h xs, refl)
+
+-- behind items with a space before each
+spells_behind : (ts us : List Node) (text : List ℕ) → SpellsRest (nodes us) text → SpellsRest (nodes (ts ++ us)) (spaced_text (nodes ts) ++ text)
+spells_behind [] us text h = h
+spells_behind (t ∷ ts) us text h =
+    (32 ∷ [], tree_text t, spaced_text (nodes ts) ++ text, omega arith, (tt, tt), spells_tree t, spells_behind ts us text h, ap (λ (w : List ℕ). 32 ∷ w) (append_assoc (tree_text t) (spaced_text (nodes ts)) text))
+
+-- a list of a head and lines
+spells_list : {X : Type 0} (tree : X → Node) (text : X → List ℕ) → ((x : X) → Spells (tree x) (text x)) → (t : Node) (ts : List Node) (xs : List X) →
+    Spells (list 0 (nodes ((t ∷ ts) ++ map tree xs))) (lines_text text (t ∷ ts) xs)
+spells_list tree text h t ts xs =
+    let lines = flat_map (λ x. 10 ∷ text x) xs in (
+      items_text (nodes (t ∷ ts)) ++ lines,
+      (tree_text t, spaced_text (nodes ts) ++ lines, spells_tree t, spells_behind ts (map tree xs) lines (spells_lines tree text h xs), append_assoc (tree_text t) (spaced_text (nodes ts)) lines),
+      refl,
+    )
+
+spells_program : (p : ProgramOf) → Spells (program_tree p) (program_text p)
+spells_program p =
+    spells_list instruction_tree (λ i. tree_text (instruction_tree i)) (λ i. spells_tree (instruction_tree i)) (name_tree p.name) (tree_of_all (map name_tree p.formals) ∷ tree_of_all (map temporary_tree p.temporaries) ∷ []) p.instrs
+
+spells_system : (s : SystemOf) → Spells (tree_of s) (lines_text program_text (system_head s) s.programs)
+spells_system s = spells_list program_tree program_text spells_program (atom 0 (codes "piton")) (drop 1 (system_head s)) s.programs
+
+-- ---- the tree of a system has 0 in all its places
+
+unplaced_all : {X : Type 0} (tree : X → Node) → ((x : X) → unplaced_tree (tree x) ≡ tree x) → (xs : List X) → all_without_places (nodes (map tree xs)) ≡ nodes (map tree xs)
+unplaced_all tree h [] = refl
+unplaced_all tree h (x ∷ xs) = rw (h x, unplaced_all tree h xs) refl
+
+unplaced_item : (i : WordItem) → unplaced_tree (item_tree i) ≡ item_tree i
+unplaced_item (item.Int n) = refl
+unplaced_item (item.Nat n) = refl
+unplaced_item (item.Bitv n) = refl
+unplaced_item (item.Bool true) = refl
+unplaced_item (item.Bool false) = refl
+unplaced_item (item.Addr area n) = refl
+unplaced_item (item.Pc program n) = refl
+unplaced_item (item.Subr program) = refl
+
+unplaced_word : (w : WordText) → unplaced_tree (word_tree w) ≡ word_tree w
+unplaced_word w = unplaced_item w.item
+
+unplaced_argument : (a : ArgText) → unplaced_tree (argument_tree a) ≡ argument_tree a
+unplaced_argument (arg.Name n) = refl
+unplaced_argument (arg.Number n) = refl
+unplaced_argument (arg.Word w) = unplaced_word w
+unplaced_argument (arg.Test k) = refl
+
+unplaced_labelled : (label : Option Named) (t : Node) → unplaced_tree t ≡ t → unplaced_tree (labelled_tree label t) ≡ labelled_tree label t
+unplaced_labelled None t h = h
+unplaced_labelled (Some n) t h = rw h refl
+
+unplaced_instruction : (i : InstrOf) → unplaced_tree (instruction_tree i) ≡ instruction_tree i
+unplaced_instruction i = unplaced_labelled i.label _ (rw (unplaced_all argument_tree unplaced_argument i.args) refl)
+
+unplaced_temporary : (t : Named × WordText) → unplaced_tree (temporary_tree t) ≡ temporary_tree t
+unplaced_temporary t = rw (unplaced_word t.1) refl
+
+unplaced_program : (p : ProgramOf) → unplaced_tree (program_tree p) ≡ program_tree p
+unplaced_program p =
+    rw (unplaced_all name_tree (λ n. refl) p.formals, unplaced_all temporary_tree unplaced_temporary p.temporaries, unplaced_all instruction_tree unplaced_instruction p.instrs) refl
+
+unplaced_area : (a : AreaOf) → unplaced_tree (area_tree a) ≡ area_tree a
+unplaced_area a = rw (unplaced_all word_tree unplaced_word a.words) refl
+
+unplaced_system : (s : SystemOf) → unplaced_tree (tree_of s) ≡ tree_of s
+unplaced_system s =
+    rw (unplaced_all area_tree unplaced_area s.areas, unplaced_all word_tree unplaced_word s.stack, unplaced_all program_tree unplaced_program s.programs) refl
+
+-- ---- the text is read again
+
+read_as : (text : List ℕ) (s : SystemOf) → TreeReadsAs text (tree_of s) → system_of (tree_of s) ≡ Ok (without_places s) → ReadsAs text s
+read_as text s h stands =
+    let same : system_of (unplaced_tree h.0) ≡ Ok (without_places s) = ap system_of (h.2 ∙ unplaced_system s) ∙ stands in
+    let found = same_lifted without_places (system_of h.0) (system_of (unplaced_tree h.0)) (without_places s) (same_system h.0) same in
+    (found.0, ap piton_by (tree_in-TreeOf text h.0 h.1) ∙ ap judgement found.1, found.2)
+
+pub piton_text_reads : (s : SystemOf) → KeepsForm s → ReadsAs (piton_text s) s
+piton_text_reads s form =
+    read_as (piton_text s) s (spelled_is_read (tree_of s) (lines_text program_text (system_head s) s.programs) (10 ∷ []) form.well_formed (spells_system s) (tt, tt)) form.stands

@@ -1,0 +1,17 @@
+use Rattle.std.proofs.Common.{[]}
+use Rattle.std.proofs.lemmas.Result.{err_from_is_err_and}
+use Rattle.stack_text.specs.TreeView.{node_of}
+use Rattle.piton_syntax.specs.Grammar.{named_of, pair, word_of}
+use Rattle.piton_syntax.proofs.ProgramLaws.{not_two_of_temporary}
+use Rattle.piton_syntax.proofs.ReadingLaws.{first_of_2}
+use Rattle.piton_syntax.proofs.Shapes.{two_parts}
+use Rattle.piton_syntax.proofs.reading.program.temporary_at.Goals as goal
+
+pub returns-then-items-ne2 : goal.returns-then-items-ne2
+returns-then-items-ne2 c = rw c.no_program.ensures ([], not_two_of_temporary c.args.place c.args.items.now c.if-items-ne2.true)
+
+pub returns-in_err-name : goal.returns-in_err-name
+returns-in_err-name c =
+    let p = err_from_is_err_and c.from_residual.result c.from_residual.ensures.1 in
+    rw (p.1, p.2, two_parts c.args.items.now c.index-items-0.result c.index-items-1.result c.if-items-ne2.false c.index-items-0.is c.index-items-1.is)
+    (first_of_2 c.in_err-name.field-0.0 pair (named_of (node_of c.index-items-0.result)) (word_of (node_of c.index-items-1.result)) c.in_err-name.ensures)

@@ -1,0 +1,54 @@
+-- What is answered to a text.
+use Rattle.std.specs.Prelude.{◌≡◌, ℕ, List, Result, Ok, Err}
+use Rattle.stack_text.specs.Trees.{Node, IsWellFormed}
+use Rattle.stack_text.specs.TreeIn.{tree_in}
+use Rattle.stack_text.specs.declared.text_fault.TextRule.{TextRule}
+use Rattle.stack_text.specs.declared.text_fault.TextFault.{TextFault}
+use Rattle.stack_text.specs.declared.text_fault.TextFault.TheVariants as text
+use Rattle.piton_syntax.specs.declared.fault.PitonFault.{PitonFault}
+use Rattle.piton_syntax.specs.declared.fault.PitonFault.TheVariants.{Text, Form, Memory}
+use Rattle.piton_syntax.specs.Judged.{Fault, Judged, least}
+use Rattle.piton_syntax.specs.Grammar.{system_of}
+use Rattle.piton_syntax.specs.Printed.{tree_of}
+use Rattle.piton_syntax.specs.Systems.{SystemOf, without_places}
+
+-- a fault of the text, as the reader of systems tells it
+abbrev pub fault_of_text : TextFault → PitonFault
+fault_of_text (text.Fault rule place) = Text rule place
+fault_of_text text.Memory = Memory
+
+abbrev pub form_fault : Fault → PitonFault
+form_fault f = Form f.1 f.0
+
+-- of several faults the least is answered
+abbrev pub judgement : {X : Type 0} → Judged X → Result X PitonFault
+judgement (Ok x) = Ok x
+judgement (Err faults) = Err (form_fault (least faults.0 faults.1))
+
+abbrev pub piton_by : Result Node (TextRule × ℕ) → Result SystemOf PitonFault
+piton_by (Ok t) = judgement (system_of t)
+piton_by (Err fault) = Err (Text fault.0 fault.1)
+
+-- the system that a text has, or what is wrong with its tree, or why the text is no tree
+abbrev pub piton_in : List ℕ → Result SystemOf PitonFault
+piton_in text = piton_by (tree_in text)
+
+-- The call answered exactly what the definition gives, seen through the view. Want of memory alone is free.
+abbrev pub Fails : {Y : Type 0} → PitonFault → Result Y PitonFault → Type 0
+Fails (Text rule place) value = value ≡ Err (Text rule place)
+Fails (Form rule place) value = value ≡ Err (Form rule place)
+Fails Memory value = Unit {0}
+
+abbrev pub Gives : {X Y : Type 0} → (X → Y) → Result X PitonFault → Result Y PitonFault → Type 0
+Gives view (Ok x) value = value ≡ Ok (view x)
+Gives view (Err fault) value = Fails fault value
+
+-- The system's tree has the form of a tree, and is that system but for places. Every system that was read keeps the
+-- form, and each that keeps it can be printed.
+pub record KeepsForm (s : SystemOf) : Type 0 where
+  pub well_formed : IsWellFormed (tree_of s)
+  pub stands : system_of (tree_of s) ≡ Ok (without_places s)
+
+-- the text is the system's but for places
+abbrev pub ReadsAs : List ℕ → SystemOf → Type 0
+ReadsAs text s = (r : SystemOf) × (piton_in text ≡ Ok r) × (without_places r ≡ without_places s)

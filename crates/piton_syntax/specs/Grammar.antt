@@ -1,0 +1,164 @@
+-- The grammar of Piton: the system that a tree is, or its faults, part by part.
+use Rattle.std.specs.Prelude.{ℕ, List, [], ◌∷◌, Ok, Option, Some, None, Bool, true, false, ◌&&◌, ◌||◌, codes, if◌then◌else◌}
+use Rattle.std.specs.Option.{is_some}
+use Rattle.std.specs.Str.{bytes_eq}
+use Rattle.stack_text.specs.Names.{is_name}
+use Rattle.stack_text.specs.Numerals.{is_digits, is_numeral, numeral_value, fits_128_bits}
+use Rattle.stack_text.specs.Trees.{Node, Nodes, atom, list, none, more, place_of}
+use Rattle.stack_text.specs.declared.name.Named.{Named}
+use Rattle.piton_syntax.specs.declared.argument.ArgKind.{ArgKind}
+use Rattle.piton_syntax.specs.declared.argument.ArgKind.TheVariants as kind
+use Rattle.piton_syntax.specs.declared.argument.Arguments.{Arguments}
+use Rattle.piton_syntax.specs.declared.argument.Arguments.TheVariants.{Zero, One, Two, OneOrMore}
+use Rattle.piton_syntax.specs.declared.argument.ArgText.{ArgText}
+use Rattle.piton_syntax.specs.declared.argument.ArgText.TheVariants as arg
+use Rattle.piton_syntax.specs.declared.op.PitonOp.{PitonOp}
+use Rattle.piton_syntax.specs.declared.tag.Tag.{Tag}
+use Rattle.piton_syntax.specs.declared.tag.Tag.TheVariants as tag
+use Rattle.piton_syntax.specs.declared.test_kind.TestFamily.{TestFamily}
+use Rattle.piton_syntax.specs.declared.test_kind.TestKind.{TestKind}
+use Rattle.piton_syntax.specs.declared.word_text.Number.{Number}
+use Rattle.piton_syntax.specs.declared.word_text.WordText.{WordText}
+use Rattle.piton_syntax.specs.declared.word_text.WordItem.{WordItem}
+use Rattle.piton_syntax.specs.declared.word_text.WordItem.TheVariants as item
+use Rattle.piton_syntax.specs.Judged.{Judged, fault, judged, ◌⊛◌, each_of}
+use Rattle.piton_syntax.specs.Limits.{is_small_program, is_small_system}
+use Rattle.piton_syntax.specs.Operations.{op_arguments, operation_named, tag_named, test_named}
+use Rattle.piton_syntax.specs.Systems.{InstrOf, ProgramOf, AreaOf, SystemOf, new_word, new_instruction, new_program, new_area, new_system}
+
+-- an atom whose bytes pass the test
+abbrev pub is_atom_of : (List ℕ → Bool) → Node → Bool
+is_atom_of test (atom p bytes) = test bytes
+is_atom_of test (list p ts) = false
+
+-- P4 where a name is wanted and isn't there
+abbrev pub named_of : Node → Judged Named
+named_of (atom p bytes) = judged p 4 (is_name bytes) (Ok (record { place = p; name = bytes }))
+named_of (list p ts) = fault p 4
+
+-- the number of a numeral, or P8 where it is out of range
+abbrev pub number_of : Node → Judged Number
+number_of (atom p bytes) =
+    judged p 8 (fits_128_bits (numeral_value bytes)) (Ok (record { place = p; number = numeral_value bytes }))
+number_of (list p ts) = fault p 8
+
+abbrev pub is_true_word : List ℕ → Bool
+is_true_word bytes = bytes_eq bytes (codes "t")
+
+abbrev pub is_false_word : List ℕ → Bool
+is_false_word bytes = bytes_eq bytes (codes "f")
+
+abbrev pub address : Named → Number → WordItem
+address area offset = item.Addr area offset
+
+abbrev pub program_place : Named → Number → WordItem
+program_place program number = item.Pc program number
+
+-- `int N`, `nat N`, `bitv N`, `bool t`, `bool f`, `addr AREA N`, `pc PROGRAM N` or `subr PROGRAM`, or P5 at the word.
+-- Only the number of an `int` may have a sign.
+abbrev pub item_of : Option Tag → ℕ → Nodes → Judged WordItem
+item_of (Some tag.Int) p (more n none) = judged p 5 (is_atom_of is_numeral n) (Ok item.Int ⊛ number_of n)
+item_of (Some tag.Nat) p (more n none) = judged p 5 (is_atom_of is_digits n) (Ok item.Nat ⊛ number_of n)
+item_of (Some tag.Bitv) p (more n none) = judged p 5 (is_atom_of is_digits n) (Ok item.Bitv ⊛ number_of n)
+item_of (Some tag.Bool) p (more b none) =
+    judged p 5 (is_atom_of is_true_word b || is_atom_of is_false_word b) (Ok (item.Bool (is_atom_of is_true_word b)))
+item_of (Some tag.Addr) p (more area (more n none)) =
+    judged p 5 (is_atom_of is_name area && is_atom_of is_digits n) (Ok address ⊛ named_of area ⊛ number_of n)
+item_of (Some tag.Pc) p (more program (more n none)) =
+    judged p 5 (is_atom_of is_name program && is_atom_of is_digits n) (Ok program_place ⊛ named_of program ⊛ number_of n)
+item_of (Some tag.Subr) p (more program none) = judged p 5 (is_atom_of is_name program) (Ok item.Subr ⊛ named_of program)
+item_of _ p ts = fault p 5
+
+abbrev pub word_of : Node → Judged WordText
+word_of (list p (more (atom q bytes) ts)) = Ok (new_word p) ⊛ item_of (tag_named bytes) p ts
+word_of t = fault (place_of t) 5
+
+-- whether an argument is of its kind, where that isn't a word
+abbrev pub is_of_kind : ArgKind → Node → Bool
+is_of_kind kind.Word t = true
+is_of_kind kind.Count t = is_atom_of is_digits t
+is_of_kind (kind.Test family) t = is_atom_of (λ bytes. is_some (test_named family bytes)) t
+is_of_kind _ t = is_atom_of is_name t
+
+abbrev pub are_of_kind : ArgKind → Nodes → Bool
+are_of_kind k none = true
+are_of_kind k (more t ts) = is_of_kind k t && are_of_kind k ts
+
+abbrev pub found_or : {X : Type 0} → ℕ → ℕ → Option X → Judged X
+found_or place rule None = fault place rule
+found_or place rule (Some x) = Ok x
+
+abbrev pub test_of : TestFamily → Node → Judged TestKind
+test_of family (atom p bytes) = found_or p 7 (test_named family bytes)
+test_of family (list p ts) = fault p 7
+
+abbrev pub argument_of : ArgKind → Node → Judged ArgText
+argument_of kind.Word t = Ok arg.Word ⊛ word_of t
+argument_of kind.Count t = Ok arg.Number ⊛ number_of t
+argument_of (kind.Test family) t = Ok arg.Test ⊛ test_of family t
+argument_of _ t = Ok arg.Name ⊛ named_of t
+
+abbrev pub one : {X : Type 0} → X → List X
+one x = x ∷ []
+
+abbrev pub two : {X : Type 0} → X → X → List X
+two x y = x ∷ y ∷ []
+
+-- as many as the row has, each of its kind, or P7 at the operation's list
+abbrev pub arguments_of : Arguments → ℕ → Nodes → Judged (List ArgText)
+arguments_of Zero p none = Ok []
+arguments_of (One k) p (more t none) = judged p 7 (is_of_kind k t) (Ok one ⊛ argument_of k t)
+arguments_of (Two k l) p (more t (more u none)) =
+    judged p 7 (is_of_kind k t && is_of_kind l u) (Ok two ⊛ argument_of k t ⊛ argument_of l u)
+arguments_of (OneOrMore k) p (more t ts) = judged p 7 (are_of_kind k (more t ts)) (each_of (argument_of k) (more t ts))
+arguments_of _ p ts = fault p 7
+
+-- an operation's arguments, where the operation is known; else P6 at the instruction
+abbrev pub called_of : ℕ → Judged (Option Named) → Option PitonOp → ℕ → Nodes → Judged InstrOf
+called_of p label None q ts = fault p 6
+called_of p label (Some o) q ts = Ok (new_instruction p o) ⊛ label ⊛ arguments_of (op_arguments o) q ts
+
+-- `LABEL () (OPERATION ..)` behind `dl`, or P6 at the instruction
+abbrev pub labelled_of : ℕ → Nodes → Judged InstrOf
+labelled_of p (more label (more (list q none) (more (list r (more (atom s bytes) ts)) none))) =
+    called_of p (Ok Some ⊛ named_of label) (operation_named bytes) r ts
+labelled_of p ts = fault p 6
+
+abbrev pub instruction_of : Node → Judged InstrOf
+instruction_of (list p (more (atom q bytes) ts)) =
+    if bytes_eq bytes (codes "dl") then labelled_of p ts else called_of p (Ok None) (operation_named bytes) p ts
+instruction_of t = fault (place_of t) 6
+
+-- P3 where a list of such trees is wanted and isn't there
+abbrev pub list_of : {X : Type 0} → (Node → Judged X) → Node → Judged (List X)
+list_of judge (list p ts) = each_of judge ts
+list_of judge (atom p bytes) = fault p 3
+
+abbrev pub pair : {X Y : Type 0} → X → Y → X × Y
+pair x y = (x, y)
+
+abbrev pub temporary_of : Node → Judged (Named × WordText)
+temporary_of (list p (more name (more word none))) = Ok pair ⊛ named_of name ⊛ word_of word
+temporary_of t = fault (place_of t) 3
+
+-- `(NAME (FORMAL ..) ((TEMPORARY WORD) ..) INSTRUCTION ..)` with one instruction or more, or P3; P9 where it is too large
+abbrev pub program_of : Node → Judged ProgramOf
+program_of (list p (more name (more formals (more temporaries (more i is))))) =
+    judged p 9 (is_small_program formals temporaries (more i is))
+    (Ok (new_program p (place_of formals)) ⊛ named_of name ⊛ list_of named_of formals ⊛ list_of temporary_of temporaries
+    ⊛ each_of instruction_of (more i is))
+program_of t = fault (place_of t) 3
+
+-- `(NAME WORD ..)` with one word or more, or P2
+abbrev pub area_of : Node → Judged AreaOf
+area_of (list p (more name (more w ws))) = Ok (new_area p) ⊛ named_of name ⊛ each_of word_of (more w ws)
+area_of t = fault (place_of t) 2
+
+-- `(piton MAIN CTRL TEMP BASE (AREA ..) (WORD ..) PROGRAM ..)` with one program or more, or P1; P9 where it is too large
+abbrev pub system_of : Node → Judged SystemOf
+system_of (list p (more (atom q bytes) (more main (more ctrl (more temp (more base (more (list r areas) (more (list s stack) (more i is))))))))) =
+    judged p 1 (bytes_eq bytes (codes "piton") && is_atom_of is_digits ctrl && is_atom_of is_digits temp && is_atom_of is_digits base)
+    (judged p 9 (is_small_system areas (more i is))
+    (Ok (new_system p) ⊛ named_of main ⊛ number_of ctrl ⊛ number_of temp ⊛ number_of base
+    ⊛ each_of area_of areas ⊛ each_of word_of stack ⊛ each_of program_of (more i is)))
+system_of t = fault (place_of t) 1

@@ -1,0 +1,188 @@
+//! Areas, and whole systems.
+
+ghost use Rattle.std.specs.Prelude.{◌≡◌, ℕ, IsTrue, List, ◌&&◌, Ok, MatchOption, codes};
+ghost use Rattle.std.specs.Str.{bytes_eq};
+ghost use Rattle.stack_text.specs.Numerals.{is_digits};
+ghost use Rattle.stack_text.specs.Trees.{atom, list};
+ghost use Rattle.stack_text.specs.TreeView.{node_of, nodes_of};
+ghost use Rattle.piton_syntax.specs.Grammar.{area_of, is_atom_of, named_of, number_of, program_of, system_of, word_of};
+ghost use Rattle.piton_syntax.specs.Judged.{each_of, ◌⊛◌};
+ghost use Rattle.piton_syntax.specs.Limits.{is_small_system};
+ghost use Rattle.piton_syntax.specs.Reading.{Reads};
+ghost use Rattle.piton_syntax.specs.Systems.{new_area, new_system};
+ghost use Rattle.piton_syntax.specs.declared.fault.PitonFault.TheVariants.{Form};
+
+use crate::fault::PitonFault;
+use crate::reading::atom::{is_digits_atom, named, number};
+use crate::reading::part::{Part, each};
+use crate::system::{Area, System};
+use stack_text::Tree;
+use std::alloc::Global;
+
+/// The most areas of a system.
+const MOST_AREAS: usize = 1000;
+
+/// The most programs of a system.
+const MOST_PROGRAMS: usize = 1100;
+
+/// P2 at an area.
+fn no_area(place: u32) -> PitonFault
+    ensures { result ≡ Form 2 place }
+{
+    PitonFault::Form { rule: 2, place }
+}
+
+/// An area, of which the name and the words are given.
+fn area_parts(alloc: Global, place: u32, name: &Tree, words: &[Tree]) -> Result<Area, PitonFault>
+    ensures { Reads (λ area. area) result (Ok (new_area place) ⊛ named_of (node_of name.now) ⊛ each_of word_of (nodes_of words.now)) }
+{
+    let name = named(alloc, name)?;
+    let words = each(alloc, words)?;
+    Ok(Area { place, name, words })
+}
+
+/// The area that the items of a list are.
+fn area_at(alloc: Global, place: u32, items: &[Tree]) -> Result<Area, PitonFault>
+    ensures { Reads (λ area. area) result (area_of (list place (nodes_of items.now))) }
+{
+    if items.len() < 2 {
+        return Err(no_area(place));
+    }
+    area_parts(alloc, place, &items[0], &items[1..])
+}
+
+impl Part for Area {
+    ghost use Rattle.piton_syntax.specs.Grammar.{area_of};
+
+    ghost part_of = { area_of };
+
+    fn read(alloc: Global, tree: &Tree) -> Result<Area, PitonFault> {
+        match tree {
+            Tree::Atom { place, text: _ } => Err(no_area(*place)),
+            Tree::List { place, items } => area_at(alloc, *place, items),
+        }
+    }
+}
+
+/// P1 at the whole tree.
+fn no_system(place: u32) -> PitonFault
+    ensures { result ≡ Form 1 place }
+{
+    PitonFault::Form { rule: 1, place }
+}
+
+/// Whether the tree is the word that begins a system.
+fn is_keyword(tree: &Tree) -> bool
+    ensures { result ≡ is_atom_of (λ bytes. bytes_eq bytes (codes "piton")) (node_of tree.now) }
+{
+    match tree {
+        Tree::Atom { place: _, text } => text.as_slice() == b"piton".as_slice(),
+        Tree::List { place: _, items: _ } => false,
+    }
+}
+
+/// Whether the trees are the word that begins a system, and three numbers.
+fn is_head(keyword: &Tree, ctrl: &Tree, temp: &Tree, base: &Tree) -> bool
+    ensures { result ≡ is_atom_of (λ bytes. bytes_eq bytes (codes "piton")) (node_of keyword.now) && is_atom_of is_digits (node_of ctrl.now) && is_atom_of is_digits (node_of temp.now) && is_atom_of is_digits (node_of base.now) }
+{
+    is_keyword(keyword) && is_digits_atom(ctrl) && is_digits_atom(temp) && is_digits_atom(base)
+}
+
+/// The items of a list.
+fn items_of(tree: &Tree) -> Option<&[Tree]>
+    ensures { MatchOption result ((p : ℕ) × (bytes : List ℕ) × (node_of tree.now ≡ atom p bytes)) (λ items. (p : ℕ) × (node_of tree.now ≡ list p (nodes_of items.now))) }
+{
+    match tree {
+        Tree::Atom { place: _, text: _ } => None,
+        Tree::List { place: _, items } => Some(items),
+    }
+}
+
+/// Whether a system has no more parts than it may.
+fn is_small(areas: &[Tree], programs: &[Tree]) -> bool
+    ensures { result ≡ is_small_system (nodes_of areas.now) (nodes_of programs.now) }
+{
+    areas.len() <= MOST_AREAS && programs.len() <= MOST_PROGRAMS
+}
+
+/// The trees of a system behind the word that begins it.
+#[derive(Clone, Copy)]
+struct SystemTrees<'a> {
+    main: &'a Tree,
+    ctrl: &'a Tree,
+    temp: &'a Tree,
+    base: &'a Tree,
+    areas: &'a [Tree],
+    stack: &'a [Tree],
+    programs: &'a [Tree],
+}
+
+/// A system, of which the parts are given.
+fn system_parts(alloc: Global, place: u32, trees: SystemTrees) -> Result<System, PitonFault>
+    requires ctrl { IsTrue (is_atom_of is_digits (node_of trees.ctrl.now)) }
+    requires temp { IsTrue (is_atom_of is_digits (node_of trees.temp.now)) }
+    requires base { IsTrue (is_atom_of is_digits (node_of trees.base.now)) }
+    ensures { Reads (λ system. system) result (Ok (new_system place) ⊛ named_of (node_of trees.entry.main.now) ⊛ number_of (node_of trees.entry.ctrl.now) ⊛ number_of (node_of trees.entry.temp.now) ⊛ number_of (node_of trees.entry.base.now) ⊛ each_of area_of (nodes_of trees.entry.areas.now) ⊛ each_of word_of (nodes_of trees.entry.stack.now) ⊛ each_of program_of (nodes_of trees.entry.programs.now)) }
+{
+    let main = named(alloc, trees.main)?;
+    let ctrl = number(trees.ctrl)?;
+    let temp = number(trees.temp)?;
+    let base = number(trees.base)?;
+    let areas = each(alloc, trees.areas)?;
+    let stack = each(alloc, trees.stack)?;
+    let programs = each(alloc, trees.programs)?;
+    Ok(System {
+        place,
+        main,
+        ctrl,
+        temp,
+        base,
+        areas,
+        stack,
+        programs,
+    })
+}
+
+/// The system that the items of a list are.
+fn system_at(alloc: Global, place: u32, items: &[Tree]) -> Result<System, PitonFault>
+    ensures { Reads (λ system. system) result (system_of (list place (nodes_of items.now))) }
+{
+    if items.len() < 8 {
+        return Err(no_system(place));
+    }
+    let (keyword, main) = (&items[0], &items[1]);
+    let (ctrl, temp, base) = (&items[2], &items[3], &items[4]);
+    let Some(areas) = items_of(&items[5]) else {
+        return Err(no_system(place));
+    };
+    let Some(stack) = items_of(&items[6]) else {
+        return Err(no_system(place));
+    };
+    if !is_head(keyword, ctrl, temp, base) {
+        return Err(no_system(place));
+    }
+    let programs = &items[7..];
+    if !is_small(areas, programs) {
+        return Err(PitonFault::Form { rule: 9, place });
+    }
+    let trees = SystemTrees {
+        main,
+        ctrl,
+        temp,
+        base,
+        areas,
+        stack,
+        programs,
+    };
+    system_parts(alloc, place, trees)
+}
+
+/// The system that a tree is: P1 where it is none, P9 where it is too large, and else the first fault in reading order.
+pub fn system(alloc: Global, tree: &Tree) -> Result<System, PitonFault>
+    ensures { Reads (λ system. system) result (system_of (node_of tree.now)) }
+{
+    match tree {
+        Tree::Atom { place, text: _ } => Err(no_system(*place)),
+        Tree::List { place, items } => system_at(alloc, *place, items),
+    }
+}
