@@ -1,0 +1,12 @@
+#!/usr/bin/env bash
+# The form of definitions, clauses and documents, and that the map of the proofs is current.
+set -u
+cd "$(dirname "${BASH_SOURCE[0]}")/../.." || exit 1
+status=0
+python3 .ci/tools/form.py || status=1
+if ! python3 .ci/tools/proof_map.py | diff -q - docs/PROOFMAP.md >/dev/null; then
+    echo "docs/PROOFMAP.md isn't current: run  python3 .ci/tools/proof_map.py >docs/PROOFMAP.md"
+    status=1
+fi
+[ "$status" = 0 ] && echo "form: ok"
+exit "$status"
