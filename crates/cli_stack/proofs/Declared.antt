@@ -5,7 +5,8 @@ use Rattle.stack_text.specs.declared.tree.Tree.{Tree}
 use Rattle.stack_text.specs.TreeView.{node_of, nodes_of}
 use Rattle.cli_stack.specs.declared.form.FormFault.{FormFault}
 use Rattle.cli_stack.specs.declared.form.FormFault.TheVariants.{Other, Memory}
-use Rattle.cli_stack.specs.Form.{Fails, ◌>>=◌}
+use Rattle.stack_text.specs.Options.{◌>>=◌}
+use Rattle.cli_stack.specs.Form.{Fails}
 use Rattle.cli_stack.specs.Source.{declaration_of, declarations_of, with_front}
 
 with_front-with_front : {A : Type 0} (xs ys : List A) (r : Option (List A)) → with_front xs (with_front ys r) ≡ with_front (xs ++ ys) r

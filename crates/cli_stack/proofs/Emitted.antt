@@ -37,10 +37,3 @@ range_longer a (suc n) =
 pub range_more : (n : ℕ) → range_with_len 0 (n + 1) ≡ range_with_len 0 n ++ n ∷ []
 range_more n = let e : n + 1 ≡ suc n = omega arith in let f : 0 + n ≡ n = omega arith in
     ap (range_with_len 0) e ∙ range_longer 0 n ∙ ap (λ k. range_with_len 0 n ++ k ∷ []) f
-
--- a piece, and those of what is left, after what is there
-pub pieces_next : {X : Type 0} (f : X → List ℕ) (xs : List X) (n : ℕ) (x : X) (old new all : List ℕ) → n < length xs → x ≡ get_or xs n x → new ≡ old ++ f x → old ++ flat_map f (drop n xs) ≡ all
-    → new ++ flat_map f (drop (n + 1) xs) ≡ all
-pieces_next {X} f xs n x old new all lt is now so_far =
-    let first : drop n xs ≡ x ∷ drop (n + 1) xs = drop_more xs n x lt ∙ ap (λ (y : X). y ∷ drop (n + 1) xs) (sym is) in
-    rw now (append_assoc old (f x) (flat_map f (drop (n + 1) xs))) ∙ ap (λ (ws : List ℕ). old ++ ws) (ap (flat_map f) (sym first)) ∙ so_far

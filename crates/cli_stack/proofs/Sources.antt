@@ -15,7 +15,8 @@ use Rattle.cli_stack.specs.declared.source.Statement.{Statement}
 use Rattle.cli_stack.specs.declared.source.Statement.TheVariants.{NoOp, Assign}
 use Rattle.cli_stack.specs.declared.source.OneStatement.{OneStatement}
 use Rattle.cli_stack.specs.declared.form.FormFault.{FormFault}
-use Rattle.cli_stack.specs.Form.{Gives, ◌>>=◌, where_true, is_none, word_of, trees_of, only_of, word_at, behind, name_at, list_at, behind_empty, only_int}
+use Rattle.stack_text.specs.Options.{◌>>=◌}
+use Rattle.cli_stack.specs.Form.{Gives, where_true, is_none, word_of, trees_of, only_of, word_at, behind, name_at, list_at, behind_empty, only_int}
 use Rattle.cli_stack.specs.Numerals.{where_int, int_of}
 use Rattle.cli_stack.specs.Source.{is_predefined, declaration_of, declarations_of, are_distinct, variables_at, assignment_of, statement_by, statement_of, procedure_body, procedure_named, program_of, source_in, source_of, AreVariables, IsStatement, IsSource}
 

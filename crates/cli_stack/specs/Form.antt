@@ -2,6 +2,7 @@
 use Rattle.std.specs.Prelude.{◌≡◌, ℕ, List, Bool, true, false, Option, Some, None, Result, Ok, Err, if◌then◌else◌, ℤ}
 use Rattle.std.specs.Str.{bytes_eq}
 use Rattle.stack_text.specs.Names.{name_of}
+use Rattle.stack_text.specs.Options.{◌>>=◌}
 use Rattle.stack_text.specs.Trees.{Node, Nodes, atom, list, none, more}
 use Rattle.cli_stack.specs.Numerals.{int_of}
 use Rattle.cli_stack.specs.declared.form.FormFault.{FormFault}
@@ -15,11 +16,6 @@ Fails Memory found = Unit {0}
 abbrev pub Gives : {X Y : Type 0} → (X → Y) → Result X FormFault → Option Y → Type 0
 Gives view (Ok x) found = found ≡ Some (view x)
 Gives view (Err fault) found = Fails fault found
-
-infixl 10 ◌>>=◌
-abbrev pub ◌>>=◌ : {A B : Type 0} → Option A → (A → Option B) → Option B
-(Some x) >>= go = go x
-None >>= go = None
 
 -- a value, where a test holds
 abbrev pub where_true : {A : Type 0} → Bool → A → Option A

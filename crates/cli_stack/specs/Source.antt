@@ -10,7 +10,8 @@ use Rattle.stack_text.specs.TreeIn.{tree_in}
 use Rattle.cli_stack.specs.declared.source.Statement.{Statement}
 use Rattle.cli_stack.specs.declared.source.Statement.TheVariants.{NoOp, Assign}
 use Rattle.cli_stack.specs.declared.source.OneStatement.{OneStatement}
-use Rattle.cli_stack.specs.Form.{◌>>=◌, where_true, is_none, trees_of, only_of, word_at, behind, name_at, list_at, behind_empty, only_int}
+use Rattle.stack_text.specs.Options.{◌>>=◌}
+use Rattle.cli_stack.specs.Form.{where_true, is_none, trees_of, only_of, word_at, behind, name_at, list_at, behind_empty, only_int}
 
 -- the names of the predefined procedures, by what they work on
 abbrev pub is_for_simple_types : List ℕ → Bool

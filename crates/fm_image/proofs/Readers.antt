@@ -8,7 +8,9 @@ use Rattle.std.proofs.lemmas.List.Concat.{flat_map-cons}
 use Rattle.std.proofs.lemmas.Nat.{be_bytes_4, from_be_bytes-to_be_bytes_4}
 use Rattle.fm_image.specs.Image.{all_behind}
 use Rattle.fm_image.specs.Spelling.{number_bytes, counted_bytes}
-use Rattle.fm_image.specs.Fields.{◌>>=◌, place, number_at, passing, bytes_at, items_at}
+use Rattle.stack_text.specs.Results.{◌>>=◌}
+use Rattle.stack_text.proofs.ResultLaws.{bind_ok, bind_at}
+use Rattle.fm_image.specs.Fields.{place, number_at, passing, bytes_at, items_at}
 
 abbrev pub IsBytes : List ℕ → Type 0
 IsBytes bytes = (i : ℕ) → get_or bytes i 0 < 256
@@ -22,15 +24,6 @@ IsBytes-take n bytes h i =
       | inl lt ↦ rw (get_or-take n bytes i 0 lt) (h i)
       | inr le ↦ rw (get_or_past (take n bytes) i 0 (omega (arith, length-take n bytes))) (omega arith)
     ]
-
--- the value of a step that did not fail
-pub bind_ok : {A B : Type 0} (r : Result A (ℕ × ℕ)) (f : A → Result B (ℕ × ℕ)) (y : B) → (r >>= f) ≡ Ok y → (x : A) × (r ≡ Ok x) × (f x ≡ Ok y)
-bind_ok (Ok x) f y e = (x, refl, e)
-bind_ok (Err d) f y e = absurd cc
-
--- a step that does not fail
-pub bind_at : {A B : Type 0} (r : Result A (ℕ × ℕ)) (f : A → Result B (ℕ × ℕ)) (x : A) → r ≡ Ok x → (r >>= f) ≡ f x
-bind_at r f x e = ap (λ (s : Result _ (ℕ × ℕ)). s >>= f) e
 
 -- tests that did not fail
 pub guard_short : {A : Type 0} (b : Bool) (d : ℕ × ℕ) (x y : A) → cond b (Err d) (Ok x) ≡ Ok y → (b ≡ false) × (x ≡ y)

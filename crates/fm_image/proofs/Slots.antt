@@ -13,9 +13,11 @@ use Rattle.fm_image.specs.declared.slot.Slot.{Slot}
 use Rattle.fm_image.specs.declared.window.Window.{Window}
 use Rattle.fm_image.specs.Image.{is_size, is_inside, is_window, is_condition_address, is_slot, is_slot_address}
 use Rattle.fm_image.specs.Spelling.{number_bytes, name_bytes, flags_bytes, address_number, condition_address_bytes, kind_number, kind_bytes, shape_bytes, slot_bytes}
-use Rattle.fm_image.specs.Fields.{◌>>=◌, number_at, passing}
+use Rattle.stack_text.specs.Results.{◌>>=◌}
+use Rattle.fm_image.specs.Fields.{number_at, passing}
 use Rattle.fm_image.specs.Reading.{is_flags, flags_at, address_of, condition_address_at, name_at, is_kind, kind_of, kind_at, is_length, shape_at, slot_name_at, slot_at}
-use Rattle.fm_image.proofs.Readers.{IsBytes, bind_ok, bind_at, ok_is, Took, Took-then, Reads, is_word, passing_reads, coded_reads}
+use Rattle.stack_text.proofs.ResultLaws.{bind_ok, bind_at}
+use Rattle.fm_image.proofs.Readers.{IsBytes, ok_is, Took, Took-then, Reads, is_word, passing_reads, coded_reads}
 use Rattle.fm_image.proofs.Fields.{limited_reads, both, name_reads}
 
 -- ---- flags

@@ -10,10 +10,12 @@ use Rattle.fm_image.specs.declared.slot.Slot.{Slot}
 use Rattle.fm_image.specs.declared.window.Window.{Window}
 use Rattle.fm_image.specs.Image.{ImageOf, window_of, is_size, is_inside, is_window, is_condition, is_count, is_slot, all_behind, is_image}
 use Rattle.fm_image.specs.Spelling.{number_bytes, numbers_bytes, name_bytes, counted_bytes, window_bytes, flags_bytes, condition_address_bytes, slot_bytes, opening_bytes, spelling, are_words, Spelled}
-use Rattle.fm_image.specs.Fields.{◌>>=◌, Gives, place, number_at}
+use Rattle.stack_text.specs.Results.{◌>>=◌}
+use Rattle.fm_image.specs.Fields.{Gives, place, number_at}
 use Rattle.fm_image.specs.Reading.{opening_at, window_at, numbers_at, flags_at, condition_address_at, condition_at, conditions_at, slot_at, slots_at, words_at, image_at, read_of, fault_of, TellsFault}
 use Rattle.fm_image.proofs.Limits.{Limits, limits_of, from_limits}
-use Rattle.fm_image.proofs.Readers.{IsBytes, bind_ok, bind_at, ok_is, guard_passed, Took, Took-then, Reads, is_word, number_reads, items_take, items_again, counted_reads}
+use Rattle.stack_text.proofs.ResultLaws.{bind_ok, bind_at}
+use Rattle.fm_image.proofs.Readers.{IsBytes, ok_is, guard_passed, Took, Took-then, Reads, is_word, number_reads, items_take, items_again, counted_reads}
 use Rattle.fm_image.proofs.Fields.{opening_takes, opening_again, window_reads, condition_reads}
 use Rattle.fm_image.proofs.Slots.{flags_reads, address_reads, slot_reads}
 

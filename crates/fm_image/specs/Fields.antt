@@ -1,23 +1,23 @@
 -- Fields read from the front of what is left of a file, with the first fault.
-use Rattle.std.specs.Prelude.{◌≡◌, ℕ, zero, suc, ◌-◌, List, [], ◌∷◌, ◌++◌, length, take, drop, Result, Ok, Err, Bool, nat_lt, nat_le, ◌&&◌, if◌then◌else◌}
+use Rattle.std.specs.Prelude.{Option, Some, None, ℕ, zero, suc, ◌-◌, List, [], ◌∷◌, ◌++◌, length, take, drop, Result, Ok, Err, Bool, nat_lt, nat_le, ◌&&◌, if◌then◌else◌}
 use Rattle.std.specs.Int.{w32, from_be_bytes}
+use Rattle.stack_text.specs.Gives as common
+use Rattle.stack_text.specs.Results.{◌>>=◌}
 use Rattle.fm_image.specs.declared.fault.ImageFault.{ImageFault}
 use Rattle.fm_image.specs.declared.fault.ImageFault.TheVariants.{Refused, Memory}
 
 -- A fault is the number of a rule and a place.
-infixl 10 ◌>>=◌
-abbrev pub ◌>>=◌ : {A B : Type 0} → Result A (ℕ × ℕ) → (A → Result B (ℕ × ℕ)) → Result B (ℕ × ℕ)
-(Ok x) >>= f = f x
-(Err e) >>= f = Err e
+
+abbrev pub refusal_of : ImageFault → Option (ℕ × ℕ)
+refusal_of (Refused rule place) = Some (rule, place)
+refusal_of Memory = None
+
+abbrev pub Fails : {Y : Type 0} → ImageFault → Result Y (ℕ × ℕ) → Type 0
+Fails e read = common.Fails (refusal_of e) read
 
 -- What a call returned, seen by view, is what reading gives, unless memory ran out.
-abbrev pub Fails : {Y : Type 0} → ImageFault → Result Y (ℕ × ℕ) → Type 0
-Fails Memory read = Unit {0}
-Fails (Refused rule place) read = read ≡ Err (rule, place)
-
 abbrev pub Gives : {X Y : Type 0} → (X → Y) → Result X ImageFault → Result Y (ℕ × ℕ) → Type 0
-Gives view (Ok x) read = read ≡ Ok (view x)
-Gives view (Err e) read = Fails e read
+Gives view result read = common.Gives refusal_of view result read
 
 -- the place in a file that ends at a place, of the field that begins what is left
 abbrev pub place : ℕ → List ℕ → ℕ

@@ -13,7 +13,8 @@ use Rattle.fm_image.specs.declared.fault.ImageFault.TheVariants.{Refused, Memory
 use Rattle.fm_image.specs.declared.slot.Slot.{Slot}
 use Rattle.fm_image.specs.declared.window.Window.{Window}
 use Rattle.fm_image.specs.Image.{ImageOf, is_size, is_inside, is_condition_address, is_count, is_slot_address}
-use Rattle.fm_image.specs.Fields.{◌>>=◌, place, number_at, passing, bytes_at, text_at, items_at}
+use Rattle.stack_text.specs.Results.{◌>>=◌}
+use Rattle.fm_image.specs.Fields.{place, number_at, passing, bytes_at, text_at, items_at}
 
 -- I1 for another magic, at its place; I2 for another version
 abbrev pub is_magic : List ℕ → Bool

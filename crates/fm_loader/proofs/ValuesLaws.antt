@@ -22,9 +22,12 @@ use Rattle.fm_loader.specs.declared.written.Written.{Written}
 use Rattle.fm_loader.specs.declared.written.Written.TheVariants.{Single, Several}
 use Rattle.fm_loader.specs.declared.written.Entry.{Entry}
 use Rattle.fm_loader.specs.declared.fault.ValuesFault.{ValuesFault}
-use Rattle.fm_loader.specs.Written as written
+use Rattle.stack_text.specs.Options as options
+use Rattle.stack_text.specs.Results.{◌>>=◌}
+use Rattle.stack_text.proofs.ResultLaws.{bind_ok}
+use Rattle.stack_text.proofs.OptionLaws.{bind_some}
 use Rattle.fm_loader.specs.Written.{fits_32_bits, in_32_bits, character_of, scalar_of, scalar_at, scalars_of, written_of, name_at, pair_of, entry_of}
-use Rattle.fm_loader.specs.Values.{◌>>=◌, entry_at, entries_of, misfit, broken_by, slot_named, is_named, rule_of, entry_fault, number_of, numbers_of, numbers_for, value_with, value_for, unless_fault, found_in, all_found, values_at, values_on, values_in, HaveOwnNames}
+use Rattle.fm_loader.specs.Values.{entry_at, entries_of, misfit, broken_by, slot_named, is_named, rule_of, entry_fault, number_of, numbers_of, numbers_for, value_with, value_for, unless_fault, found_in, all_found, values_at, values_on, values_in, HaveOwnNames}
 use Rattle.fm_loader.specs.Gives.{Gives}
 use Rattle.fm_loader.specs.Loaded.{Fits}
 use Rattle.fm_loader.proofs.Names.{not_equal, index_within}
@@ -32,10 +35,6 @@ use Rattle.fm_loader.proofs.Found.{at_slot}
 use Rattle.fm_loader.proofs.Fitting.{fits_is_value}
 
 -- ---- a reading that came to values came to its entries, and each slot has its value
-
-bind_ok : {A B : Type 0} (r : Result A (ℕ × ℕ)) (go : A → Result B (ℕ × ℕ)) (y : B) → (r >>= go) ≡ Ok y → (x : A) × (r ≡ Ok x) × (go x ≡ Ok y)
-bind_ok (Ok x) go y h = (x, refl, h)
-bind_ok (Err fault) go y h = cc
 
 pub all_there : (place : ℕ) (found : List (Option ValueOf)) (values : List ValueOf) → all_found place found ≡ Ok values → found ≡ map Some values
 unfolding all_found
@@ -224,10 +223,6 @@ scalar_bits word s h =
     first_or (bytes_eq word (codes "false")) (record { kind = Boolean; number = Some (pos 0) }) s (cond (is_numeral word) (Some (record { kind = Integer; number = in_32_bits (numeral_value word) })) (character_of word)) h refl (λ h.
     first_or (is_numeral word) (record { kind = Integer; number = in_32_bits (numeral_value word) }) s (character_of word) h (in_bits (numeral_value word)) (character_bits word s)))
 
-bind_some : {A B : Type 0} (o : Option A) (go : A → Option B) (y : B) → written.◌>>=◌ o go ≡ Some y → (x : A) × (o ≡ Some x) × (go x ≡ Some y)
-bind_some (Some x) go y h = (x, refl, h)
-bind_some None go y h = cc
-
 scalar_at_bits : (tree : Node) (s : Scalar) → scalar_at tree ≡ Some s → fits_32_bits (number_of s) ≡ true
 scalar_at_bits (atom place word) s h = scalar_bits word s h
 scalar_at_bits (list place trees) s h = cc
@@ -239,7 +234,7 @@ scalars_bits : (trees : Nodes) (scalars : List Scalar) → scalars_of trees ≡ 
 unfolding scalars_of
 scalars_bits none scalars h = let is : [] ≡ scalars = cc in subst (λ (ss : List Scalar). are_bits (map number_of ss) ≡ true) is refl
 scalars_bits (more tree trees) scalars h =
-    let p = bind_some (scalar_at tree) (λ first. written.◌>>=◌ (scalars_of trees) (λ others. Some (first ∷ others))) scalars h in
+    let p = bind_some (scalar_at tree) (λ first. options.◌>>=◌ (scalars_of trees) (λ others. Some (first ∷ others))) scalars h in
     let q = bind_some (scalars_of trees) (λ others. Some (p.0 ∷ others)) scalars p.2 in
     let is : p.0 ∷ q.0 ≡ scalars = cc (q.2) in
     subst (λ (ss : List Scalar). are_bits (map number_of ss) ≡ true) is (and_from _ _ (scalar_at_bits tree p.0 p.1) (scalars_bits trees q.0 q.1))
@@ -261,8 +256,8 @@ entry_bits : (tree : Node) (entry : Entry) → entry_of tree ≡ Some entry → 
 unfolding entry_of
 entry_bits (atom place word) entry h = cc
 entry_bits (list place trees) entry h =
-    let p = bind_some (pair_of trees) (λ pair. written.◌>>=◌ (name_at pair.0) (λ name. written.◌>>=◌ (written_of pair.1) (λ value. Some (record { place = place; name = name; value = value })))) entry h in
-    let q = bind_some (name_at p.0.0) (λ name. written.◌>>=◌ (written_of p.0.1) (λ value. Some (record { place = place; name = name; value = value }))) entry p.2 in
+    let p = bind_some (pair_of trees) (λ pair. options.◌>>=◌ (name_at pair.0) (λ name. options.◌>>=◌ (written_of pair.1) (λ value. Some (record { place = place; name = name; value = value })))) entry h in
+    let q = bind_some (name_at p.0.0) (λ name. options.◌>>=◌ (written_of p.0.1) (λ value. Some (record { place = place; name = name; value = value }))) entry p.2 in
     let r = bind_some (written_of p.0.1) (λ value. Some (record { place = place; name = q.0; value = value })) entry q.2 in
     let made : Entry = record { place = place; name = q.0; value = r.0 } in
     let is : made ≡ entry = cc (r.2) in

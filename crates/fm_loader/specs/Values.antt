@@ -7,6 +7,7 @@ use Rattle.stack_text.specs.declared.text_fault.TextRule.{TextRule}
 use Rattle.stack_text.specs.declared.shape.Kind.{Kind}
 use Rattle.stack_text.specs.declared.shape.Kind.TheVariants.{Integer, Boolean, Character}
 use Rattle.stack_text.specs.declared.shape.Shape.{Shape}
+use Rattle.stack_text.specs.Results.{◌>>=◌}
 use Rattle.stack_text.specs.Trees.{Node, Nodes, atom, list, none, more, place_of}
 use Rattle.stack_text.specs.TreeIn.{tree_in}
 use Rattle.stack_text.specs.Values.{ValueOf, is_item}
@@ -18,11 +19,6 @@ use Rattle.fm_loader.specs.declared.written.Entry.{Entry}
 use Rattle.fm_loader.specs.Written.{entry_of}
 
 -- 1. Entries. V1 is for what is no list of entries: at the fault of a text that is no tree's, at a tree that is no list, or at the first item that is no entry. A fault is a rule and a place.
-
-infixl 10 ◌>>=◌
-abbrev pub ◌>>=◌ : {A B : Type 0} → Result A (ℕ × ℕ) → (A → Result B (ℕ × ℕ)) → Result B (ℕ × ℕ)
-(Ok x) >>= go = go x
-(Err fault) >>= go = Err fault
 
 abbrev pub entry_at : Node → Result Entry (ℕ × ℕ)
 entry_at tree = ok_or (entry_of tree) (1, place_of tree)

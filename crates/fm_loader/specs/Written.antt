@@ -3,6 +3,7 @@ use Rattle.std.specs.Prelude.{ℕ, ℤ, pos, negsuc, ◌^◌, List, [], ◌∷�
 use Rattle.std.specs.Option.{option_map}
 use Rattle.std.specs.Str.{bytes_eq}
 use Rattle.stack_text.specs.declared.shape.Kind.TheVariants.{Integer, Boolean, Character}
+use Rattle.stack_text.specs.Options.{◌>>=◌}
 use Rattle.stack_text.specs.Numerals.{is_digits, is_numeral, numeral_value}
 use Rattle.stack_text.specs.Names.{name_of}
 use Rattle.stack_text.specs.Trees.{Node, Nodes, atom, list, none, more}
@@ -10,12 +11,6 @@ use Rattle.fm_loader.specs.declared.written.Scalar.{Scalar}
 use Rattle.fm_loader.specs.declared.written.Written.{Written}
 use Rattle.fm_loader.specs.declared.written.Written.TheVariants.{Single, Several}
 use Rattle.fm_loader.specs.declared.written.Entry.{Entry}
-
--- what goes on, where there is something
-infixl 10 ◌>>=◌
-abbrev pub ◌>>=◌ : {A B : Type 0} → Option A → (A → Option B) → Option B
-(Some x) >>= go = go x
-None >>= go = None
 
 -- from -2^31 to 2^31 - 1, where `negsuc n` is -(n + 1)
 abbrev pub fits_32_bits : ℤ → Bool

@@ -92,7 +92,7 @@ fn number_of(scalar: Scalar) -> i32
 
 /// The numbers of an array's values.
 fn array_numbers(alloc: Global, scalars: &[Scalar]) -> Result<Vec<i32>, Memory>
-    ensures { memory.Gives (λ numbers. numbers.items) result (map number_of scalars.now) }
+    ensures { memory.Returns (λ numbers. numbers.items) result (map number_of scalars.now) }
 {
     let mut numbers = Vec::new(alloc);
     for scalar in scalars {
@@ -103,7 +103,7 @@ fn array_numbers(alloc: Global, scalars: &[Scalar]) -> Result<Vec<i32>, Memory>
 
 /// The numbers of a value.
 fn numbers(alloc: Global, value: &Written) -> Result<Vec<i32>, Memory>
-    ensures { memory.Gives (λ numbers. numbers.items) result (numbers_of value.now) }
+    ensures { memory.Returns (λ numbers. numbers.items) result (numbers_of value.now) }
 {
     match value {
         Written::Single(scalar) => array_numbers(alloc, &[*scalar]),
@@ -139,7 +139,7 @@ fn names<'a>(alloc: Global, slots: &'a [Slot]) -> Result<IndexSet<&'a [u8]>, Mem
 
 /// No value for each slot.
 fn nothing_found(alloc: Global, slots: &[Slot]) -> Result<Vec<Option<Value>>, Memory>
-    ensures { memory.Gives (λ found. found.items) result (replicate (length slots.now) None) }
+    ensures { memory.Returns (λ found. found.items) result (replicate (length slots.now) None) }
 {
     let mut found = Vec::new(alloc);
     for _ in 0..slots.len() {

@@ -80,7 +80,7 @@ fn scalar_at(tree: &Tree) -> Option<Scalar>
 
 /// The single values that trees are, if each is one.
 fn scalars(alloc: Global, trees: &[Tree]) -> Result<Option<Seq<Scalar>>, Memory>
-    ensures { memory.Gives (λ scalars. scalars) result (scalars_of (nodes_of trees.now)) }
+    ensures { memory.Returns (λ scalars. scalars) result (scalars_of (nodes_of trees.now)) }
 {
     let mut scalars = Seq::new(alloc);
     for tree in trees {
@@ -95,7 +95,7 @@ fn scalars(alloc: Global, trees: &[Tree]) -> Result<Option<Seq<Scalar>>, Memory>
 /// The value that a tree is, if it is one.
 #[tactic(auto, unfolding(crate::specs::Written::written_of))]
 fn written(alloc: Global, tree: &Tree) -> Result<Option<Written>, Memory>
-    ensures { memory.Gives (λ written. written) result (written_of (node_of tree.now)) }
+    ensures { memory.Returns (λ written. written) result (written_of (node_of tree.now)) }
 {
     match tree {
         Tree::Atom { place: _, text } => match scalar(text) {
@@ -111,7 +111,7 @@ fn written(alloc: Global, tree: &Tree) -> Result<Option<Written>, Memory>
 
 /// The name that a tree is, if it is one.
 fn name(alloc: Global, tree: &Tree) -> Result<Option<Name>, Memory>
-    ensures { memory.Gives (λ name. name) result (name_at (node_of tree.now)) }
+    ensures { memory.Returns (λ name. name) result (name_at (node_of tree.now)) }
 {
     match tree {
         Tree::Atom { place: _, text } => read_name(alloc, text),
@@ -132,7 +132,7 @@ fn pair(trees: &[Tree]) -> Option<(&Tree, &Tree)>
 /// The entry that a tree is, if it is one.
 #[tactic(auto, unfolding(crate::specs::Written::entry_of))]
 fn entry(alloc: Global, tree: &Tree) -> Result<Option<Entry>, Memory>
-    ensures { memory.Gives (λ entry. entry) result (entry_of (node_of tree.now)) }
+    ensures { memory.Returns (λ entry. entry) result (entry_of (node_of tree.now)) }
 {
     let Tree::List { place, items } = tree else {
         return Ok(None);

@@ -1,5 +1,6 @@
 -- What is read of the tree of a text is what the text has.
 use Rattle.std.proofs.Common.{IfOk, ◌≡◌, ℕ, List, Result, Ok, Err, refl, ap, subst}
+use Rattle.stack_text.specs.Gives.{Fails}
 use Rattle.stack_text.specs.PlaceOrder.{IsInOrder}
 use Rattle.stack_text.specs.Trees.{Node, IsWellFormed}
 use Rattle.stack_text.specs.TreeIn.{GivesTree, tree_in}
@@ -7,7 +8,7 @@ use Rattle.stack_text.specs.declared.text_fault.TextFault.{TextFault}
 use Rattle.stack_text.specs.declared.text_fault.TextFault.TheVariants as text
 use Rattle.piton_syntax.specs.declared.fault.PitonFault.{PitonFault}
 use Rattle.piton_syntax.specs.declared.fault.PitonFault.TheVariants.{Text, Form, Memory}
-use Rattle.piton_syntax.specs.Answers.{Fails, Gives, KeepsForm, fault_of_text, form_fault, judgement, piton_in}
+use Rattle.piton_syntax.specs.Answers.{Gives, KeepsForm, fault_of, fault_of_text, form_fault, judgement, piton_in}
 use Rattle.piton_syntax.specs.Grammar.{system_of}
 use Rattle.piton_syntax.specs.Reading.{Reads}
 use Rattle.piton_syntax.specs.Systems.{SystemOf}
@@ -15,7 +16,7 @@ use Rattle.piton_syntax.proofs.JudgedLaws.{JudgedRises, first_is_least}
 use Rattle.piton_syntax.proofs.KeepsLaws.{read_keeps}
 use Rattle.piton_syntax.proofs.RiseLaws.{system_up}
 
-pub text_at_fault : (e : TextFault) (bytes : List ℕ) → GivesTree (Err e) (tree_in bytes) → Fails (fault_of_text e) (piton_in bytes)
+pub text_at_fault : (e : TextFault) (bytes : List ℕ) → GivesTree (Err e) (tree_in bytes) → Fails (fault_of (fault_of_text e)) (piton_in bytes)
 text_at_fault (text.Fault rule place) bytes h = rw h refl
 text_at_fault text.Memory bytes h = tt
 

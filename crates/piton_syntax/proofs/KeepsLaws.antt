@@ -12,7 +12,7 @@ use Rattle.stack_text.specs.Numerals.{is_digits, is_numeral, numeral_value, fits
 use Rattle.stack_text.specs.Tokens.{atom_run}
 use Rattle.stack_text.specs.Trees.{Node, Nodes, atom, list, none, more, place_of, depth, depths, node_count, node_counts, AtomsAreRuns, AllAtomsAreRuns, IsWellFormed}
 use Rattle.stack_text.specs.TreeView.{nodes}
-use Rattle.stack_text.proofs.NumeralLaws.{both}
+use Rattle.std.proofs.lemmas.Bool.{and_parts}
 use Rattle.stack_text.proofs.AtomLaws.{name_is_run, numeral_is_run}
 use Rattle.piton_syntax.specs.declared.argument.ArgKind.{ArgKind}
 use Rattle.piton_syntax.specs.declared.argument.ArgKind.TheVariants as kind
@@ -37,7 +37,7 @@ use Rattle.piton_syntax.specs.Operations.{row_of, op_name, op_arguments, operati
 use Rattle.piton_syntax.specs.Grammar.{is_atom_of, named_of, number_of, is_true_word, is_false_word, address, program_place, item_of, word_of, is_of_kind, are_of_kind, found_or, argument_of, one, two, pair, arguments_of, called_of, labelled_of, instruction_of, list_of, temporary_of, program_of, area_of, system_of}
 use Rattle.piton_syntax.specs.Systems.{InstrOf, ProgramOf, AreaOf, SystemOf, new_word, new_instruction, new_program, new_area, new_system, unplaced_name, unplaced_number, unplaced_item, unplaced_word, unplaced_argument, unplaced_instruction, unplaced_temporary, unplaced_program, unplaced_area, without_places}
 use Rattle.piton_syntax.specs.Printed.{tree_of_all, name_tree, number_tree, truth_tree, item_tree, word_tree, argument_tree, instruction_tree, temporary_tree, program_tree, area_tree, tree_of}
-use Rattle.piton_syntax.proofs.NumeralTextLaws.{value-signed_decimal, numeral-signed_decimal, digits-signed_decimal}
+use Rattle.stack_text.proofs.NumeralTextLaws.{value-signed_decimal, numeral-signed_decimal, digits-signed_decimal}
 use Rattle.piton_syntax.proofs.WordLaws.{operation_named-name}
 
 -- ---- trees of one shape
@@ -298,7 +298,7 @@ keeps_item (Some tag.Addr) p (more area (more n none)) =
     (λ pass. holds_two (KeepsName area) (KeepsNumber is_digits n) (KeepsItem (more area (more n none))) address (named_of area) (number_of n) (λ a g m h. record {
       alike = λ p q w. ((omega arith, refl), (g.alike, (h.alike, tt)));
       stands = word_again (address (unplaced_name a) (unplaced_number m)) _ (named_and_numbered address a m g.is_named h.is_written h.fits);
-    }) (keeps_name area) (keeps_digits n (both (is_atom_of is_name area) (is_atom_of is_digits n) pass).1))
+    }) (keeps_name area) (keeps_digits n (and_parts (is_atom_of is_name area) (is_atom_of is_digits n) pass).1))
 keeps_item (Some tag.Addr) p (more area (more n (more t ts))) = record { of_value = tt }
 keeps_item (Some tag.Pc) p none = record { of_value = tt }
 keeps_item (Some tag.Pc) p (more program none) = record { of_value = tt }
@@ -307,7 +307,7 @@ keeps_item (Some tag.Pc) p (more program (more n none)) =
     (λ pass. holds_two (KeepsName program) (KeepsNumber is_digits n) (KeepsItem (more program (more n none))) program_place (named_of program) (number_of n) (λ a g m h. record {
       alike = λ p q w. ((omega arith, refl), (g.alike, (h.alike, tt)));
       stands = word_again (program_place (unplaced_name a) (unplaced_number m)) _ (named_and_numbered program_place a m g.is_named h.is_written h.fits);
-    }) (keeps_name program) (keeps_digits n (both (is_atom_of is_name program) (is_atom_of is_digits n) pass).1))
+    }) (keeps_name program) (keeps_digits n (and_parts (is_atom_of is_name program) (is_atom_of is_digits n) pass).1))
 keeps_item (Some tag.Pc) p (more program (more n (more t ts))) = record { of_value = tt }
 keeps_item (Some tag.Subr) p none = record { of_value = tt }
 keeps_item (Some tag.Subr) p (more program none) =
@@ -369,7 +369,7 @@ found_first P y x false behind first others h = others h
 found_passes : {X : Type 0} (P test : X → Bool) (xs : List X) (x : X) → list_all P xs ≡ true → find test xs ≡ Some x → P x ≡ true
 found_passes P test [] x all h = absurd cc
 found_passes P test (y ∷ ys) x all h =
-    let p = both (P y) (list_all P ys) all in
+    let p = and_parts (P y) (list_all P ys) all in
     found_first P y x (test y) (find test ys) p.0 (found_passes P test ys x p.1) h
 
 -- what is found passes the test
@@ -465,7 +465,7 @@ and_true false b h k = h
 keeps_some : (k : ArgKind) (ts : Nodes) → are_of_kind k ts ≡ true → Holds (KeepsSome k ts) (each_of (argument_of k) ts)
 keeps_some k none pass = record { of_value = record { alike = tt; are_kind = refl; stands = refl } }
 keeps_some k (more t ts) pass =
-    let p = both (is_of_kind k t) (are_of_kind k ts) pass in
+    let p = and_parts (is_of_kind k t) (are_of_kind k ts) pass in
     holds_two (KeepsArgument k t) (KeepsSome k ts) (KeepsSome k (more t ts)) front (argument_of k t) (each_of (argument_of k) ts)
     (λ x g xs h. record {
       alike = (g.alike, h.alike);
@@ -501,7 +501,7 @@ keeps_arguments (Two k l) p none = record { of_value = tt }
 keeps_arguments (Two k l) p (more t none) = record { of_value = tt }
 keeps_arguments (Two k l) p (more t (more u none)) =
     holds_judged (KeepsArguments (Two k l) (more t (more u none))) p 7 (is_of_kind k t && is_of_kind l u) _
-    (λ pass. let q = both (is_of_kind k t) (is_of_kind l u) pass in
+    (λ pass. let q = and_parts (is_of_kind k t) (is_of_kind l u) pass in
     holds_two (KeepsArgument k t) (KeepsArgument l u) (KeepsArguments (Two k l) (more t (more u none))) two (argument_of k t) (argument_of l u)
     (λ x g y h. record {
       alike = (g.alike, (h.alike, tt));
@@ -716,9 +716,9 @@ keeps_system (list p (more (atom q w) (more main (more ctrl (more temp (more bas
 keeps_system (list p (more (atom q w) (more main (more ctrl (more temp (more base (more (list r areas) (more (list s stack) (more i is))))))))) =
     let Whole = KeepsSystem (system_node p q r s w main ctrl temp base areas stack (more i is)) in
     holds_judged Whole p 1 (bytes_eq w (codes "piton") && is_atom_of is_digits ctrl && is_atom_of is_digits temp && is_atom_of is_digits base) _
-    (λ pass. let last = both (bytes_eq w (codes "piton") && is_atom_of is_digits ctrl && is_atom_of is_digits temp) (is_atom_of is_digits base) pass in
-    let middle = both (bytes_eq w (codes "piton") && is_atom_of is_digits ctrl) (is_atom_of is_digits temp) last.0 in
-    let first_ = both (bytes_eq w (codes "piton")) (is_atom_of is_digits ctrl) middle.0 in
+    (λ pass. let last = and_parts (bytes_eq w (codes "piton") && is_atom_of is_digits ctrl && is_atom_of is_digits temp) (is_atom_of is_digits base) pass in
+    let middle = and_parts (bytes_eq w (codes "piton") && is_atom_of is_digits ctrl) (is_atom_of is_digits temp) last.0 in
+    let first_ = and_parts (bytes_eq w (codes "piton")) (is_atom_of is_digits ctrl) middle.0 in
     holds_judged Whole p 9 (is_small_system areas (more i is)) _
     (λ small. holds_seven (KeepsName main) (KeepsNumber is_digits ctrl) (KeepsNumber is_digits temp) (KeepsNumber is_digits base) (KeepsAreas areas) (KeepsWords stack) (KeepsPrograms (more i is)) Whole
     (new_system p) (named_of main) (number_of ctrl) (number_of temp) (number_of base) (each_of area_of areas) (each_of word_of stack) (each_of program_of (more i is))

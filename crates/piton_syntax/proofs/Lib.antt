@@ -10,5 +10,4 @@ pub mod AnswerLaws
 pub mod PlacesLaws
 pub mod PrintingLoops
 pub mod PrintingLaws
-pub mod NumeralTextLaws
 pub mod KeepsLaws

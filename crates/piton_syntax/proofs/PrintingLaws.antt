@@ -8,6 +8,7 @@ use Rattle.stack_text.specs.TreeText.{tree_text, items_text, spaced_text}
 use Rattle.stack_text.specs.TreeView.{nodes}
 use Rattle.stack_text.specs.Spellings.{Spells, SpellsAll, SpellsRest}
 use Rattle.stack_text.proofs.SpellingLaws.{spelled_is_read}
+use Rattle.stack_text.proofs.PrintLaws.{Spells-tree_text, SpellsAll-items_text, SpellsRest-spaced_text}
 use Rattle.stack_text.proofs.TreeInLaws.{tree_in-TreeOf}
 use Rattle.piton_syntax.specs.declared.argument.ArgText.{ArgText}
 use Rattle.piton_syntax.specs.declared.argument.ArgText.TheVariants as arg
@@ -23,19 +24,6 @@ use Rattle.piton_syntax.proofs.PlacesLaws.{same_lifted, same_system}
 
 -- ---- the text spells the tree
 
-mutual
-  spells_tree : (t : Node) → Spells t (tree_text t)
-  spells_tree (atom p bytes) = refl
-  spells_tree (list p ts) = (items_text ts, spells_items ts, refl)
-
-  spells_items : (ts : Nodes) → SpellsAll ts (items_text ts)
-  spells_items none = refl
-  spells_items (more t ts) = (tree_text t, spaced_text ts, spells_tree t, spells_spaced ts, refl)
-
-  spells_spaced : (ts : Nodes) → SpellsRest ts (spaced_text ts)
-  spells_spaced none = refl
-  spells_spaced (more t ts) = (32 ∷ [], tree_text t, spaced_text ts, omega arith, (tt, tt), spells_tree t, spells_spaced ts, refl)
-
 -- items on lines of their own
 spells_lines : {X : Type 0} (tree : X → Node) (text : X → List ℕ) → ((x : X) → Spells (tree x) (text x)) → (xs : List X) → SpellsRest (nodes (map tree xs)) (flat_map (λ x. 10 ∷ text x) xs)
 spells_lines tree text h [] = refl
@@ -45,7 +33,7 @@ spells_lines tree text h (x ∷ xs) = (10 ∷ [], text x, flat_map (λ y. 10 ∷
 spells_behind : (ts us : List Node) (text : List ℕ) → SpellsRest (nodes us) text → SpellsRest (nodes (ts ++ us)) (spaced_text (nodes ts) ++ text)
 spells_behind [] us text h = h
 spells_behind (t ∷ ts) us text h =
-    (32 ∷ [], tree_text t, spaced_text (nodes ts) ++ text, omega arith, (tt, tt), spells_tree t, spells_behind ts us text h, ap (λ (w : List ℕ). 32 ∷ w) (append_assoc (tree_text t) (spaced_text (nodes ts)) text))
+    (32 ∷ [], tree_text t, spaced_text (nodes ts) ++ text, omega arith, (tt, tt), Spells-tree_text t, spells_behind ts us text h, ap (λ (w : List ℕ). 32 ∷ w) (append_assoc (tree_text t) (spaced_text (nodes ts)) text))
 
 -- a list of a head and lines
 spells_list : {X : Type 0} (tree : X → Node) (text : X → List ℕ) → ((x : X) → Spells (tree x) (text x)) → (t : Node) (ts : List Node) (xs : List X) →
@@ -53,13 +41,13 @@ spells_list : {X : Type 0} (tree : X → Node) (text : X → List ℕ) → ((x :
 spells_list tree text h t ts xs =
     let lines = flat_map (λ x. 10 ∷ text x) xs in (
       items_text (nodes (t ∷ ts)) ++ lines,
-      (tree_text t, spaced_text (nodes ts) ++ lines, spells_tree t, spells_behind ts (map tree xs) lines (spells_lines tree text h xs), append_assoc (tree_text t) (spaced_text (nodes ts)) lines),
+      (tree_text t, spaced_text (nodes ts) ++ lines, Spells-tree_text t, spells_behind ts (map tree xs) lines (spells_lines tree text h xs), append_assoc (tree_text t) (spaced_text (nodes ts)) lines),
       refl,
     )
 
 spells_program : (p : ProgramOf) → Spells (program_tree p) (program_text p)
 spells_program p =
-    spells_list instruction_tree (λ i. tree_text (instruction_tree i)) (λ i. spells_tree (instruction_tree i)) (name_tree p.name) (tree_of_all (map name_tree p.formals) ∷ tree_of_all (map temporary_tree p.temporaries) ∷ []) p.instrs
+    spells_list instruction_tree (λ i. tree_text (instruction_tree i)) (λ i. Spells-tree_text (instruction_tree i)) (name_tree p.name) (tree_of_all (map name_tree p.formals) ∷ tree_of_all (map temporary_tree p.temporaries) ∷ []) p.instrs
 
 spells_system : (s : SystemOf) → Spells (tree_of s) (lines_text program_text (system_head s) s.programs)
 spells_system s = spells_list program_tree program_text spells_program (atom 0 (codes "piton")) (drop 1 (system_head s)) s.programs

@@ -1,5 +1,6 @@
 -- What is answered to a text.
-use Rattle.std.specs.Prelude.{◌≡◌, ℕ, List, Result, Ok, Err}
+use Rattle.std.specs.Prelude.{◌≡◌, ℕ, List, Option, Some, None, Result, Ok, Err}
+use Rattle.stack_text.specs.Gives as common
 use Rattle.stack_text.specs.Trees.{Node, IsWellFormed}
 use Rattle.stack_text.specs.TreeIn.{tree_in}
 use Rattle.stack_text.specs.declared.text_fault.TextRule.{TextRule}
@@ -33,15 +34,14 @@ piton_by (Err fault) = Err (Text fault.0 fault.1)
 abbrev pub piton_in : List ℕ → Result SystemOf PitonFault
 piton_in text = piton_by (tree_in text)
 
--- The call answered exactly what the definition gives, seen through the view. Want of memory alone is free.
-abbrev pub Fails : {Y : Type 0} → PitonFault → Result Y PitonFault → Type 0
-Fails (Text rule place) value = value ≡ Err (Text rule place)
-Fails (Form rule place) value = value ≡ Err (Form rule place)
-Fails Memory value = Unit {0}
+-- out of memory is no fault of a text
+abbrev pub fault_of : PitonFault → Option PitonFault
+fault_of Memory = None
+fault_of fault = Some fault
 
+-- the call returned exactly what the definition gives, seen through the view; out of memory alone is free
 abbrev pub Gives : {X Y : Type 0} → (X → Y) → Result X PitonFault → Result Y PitonFault → Type 0
-Gives view (Ok x) value = value ≡ Ok (view x)
-Gives view (Err fault) value = Fails fault value
+Gives view result value = common.Gives fault_of view result value
 
 -- The system's tree has the form of a tree, and is that system but for places. Every system that was read keeps the
 -- form, and each that keeps it can be printed.

@@ -9,7 +9,8 @@ use Rattle.piton_words.specs.declared.outcome.Outcome.{Outcome}
 use Rattle.piton_words.specs.declared.outcome.Outcome.TheVariants.{One, Two}
 use Rattle.piton_words.specs.declared.outcome.WordError.{WordError}
 use Rattle.piton_words.specs.declared.outcome.WordError.TheVariants.{Tag}
-use Rattle.piton_words.specs.Views.{◌>>=◌, int_of, nat_of, bitv_of, bool_of, addr_of, where_true, is_int, is_nat}
+use Rattle.stack_text.specs.Results.{◌>>=◌}
+use Rattle.piton_words.specs.Views.{int_of, nat_of, bitv_of, bool_of, addr_of, where_true, is_int, is_nat}
 
 -- an exact number as a word, where it is in range
 abbrev pub int_word : ℤ → Result Outcome WordError

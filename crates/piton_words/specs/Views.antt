@@ -6,12 +6,6 @@ use Rattle.piton_words.specs.declared.outcome.Outcome.{Outcome}
 use Rattle.piton_words.specs.declared.outcome.WordError.{WordError}
 use Rattle.piton_words.specs.declared.outcome.WordError.TheVariants.{Tag, Range}
 
--- what is found goes on to the next view, and the first that fails is the answer
-infixl 10 ◌>>=◌
-abbrev pub ◌>>=◌ : {A B : Type 0} → Result A WordError → (A → Result B WordError) → Result B WordError
-(Ok x) >>= go = go x
-(Err e) >>= go = Err e
-
 -- what a word of one type has in it; any other word has the wrong tag
 abbrev pub int_of : Word → Result ℤ WordError
 int_of (Int i) = Ok i

@@ -5,7 +5,7 @@ use Rattle.std.specs.List.{list_all}
 use Rattle.std.specs.Char.{is_ascii_digit, is_ascii_alphanumeric}
 use Rattle.std.specs.Fmt.{decimal, signed_decimal}
 use Rattle.std.specs.Str.Parse.{AllDigits, IsNumeral, digits_value, starts_with_minus}
-use Rattle.std.proofs.lemmas.Bool.{leb-true, ltb-true, lt-ltb, le-leb, eqb-true, ne_eqb}
+use Rattle.std.proofs.lemmas.Bool.{and_parts, leb-true, ltb-true, lt-ltb, le-leb, eqb-true, ne_eqb}
 use Rattle.std.proofs.lemmas.Fmt.{decimal_is_IsNumeral_wide}
 use Rattle.std.proofs.lemmas.Str.Parse.{digit_from_value}
 use Rattle.stack_text.specs.declared.class.Class.{Class}
@@ -13,7 +13,7 @@ use Rattle.stack_text.specs.declared.class.Class.TheVariants.{AtomByte}
 use Rattle.stack_text.specs.Names.{is_name, is_name_byte, is_mark, begins_with_letter, is_truth_word}
 use Rattle.stack_text.specs.Numerals.{is_digits, is_numeral, numeral_value, numeral_of, fits_128_bits}
 use Rattle.stack_text.specs.Tokens.{class_of, if_atom_byte, atom_run}
-use Rattle.stack_text.proofs.NumeralLaws.{both, digit_in_range, no_plus}
+use Rattle.stack_text.proofs.NumeralLaws.{digit_in_range, no_plus}
 
 -- ---- bytes
 
@@ -28,7 +28,7 @@ either P true b h f g = f refl
 either P false b h f g = g h
 
 in_range : (low high b : ℕ) → (leb low b && leb b high) ≡ true → (low ≤ b) × (b ≤ high)
-in_range low high b h = let p = both (leb low b) (leb b high) h in (leb-true low b p.0, leb-true b high p.1)
+in_range low high b h = let p = and_parts (leb low b) (leb b high) h in (leb-true low b p.0, leb-true b high p.1)
 
 digit_is_atom_byte : (b : ℕ) → is_ascii_digit b ≡ true → class_of b ≡ AtomByte
 digit_is_atom_byte b h = let r = digit_in_range b h in atom_byte b (omega (arith, r.0)) (omega (arith, r.1)) (λ e. omega (arith, r.0)) (λ e. omega (arith, r.0)) (λ e. omega (arith, r.1))
@@ -59,16 +59,16 @@ name_byte_is_atom_byte b h =
 all_run : (test : ℕ → Bool) → ((b : ℕ) → test b ≡ true → class_of b ≡ AtomByte) → (bytes : List ℕ) → list_all test bytes ≡ true → atom_run bytes ≡ bytes
 all_run test passes [] h = refl
 all_run test passes (b ∷ bs) h =
-    let p = both (test b) (list_all test bs) h in
+    let p = and_parts (test b) (list_all test bs) h in
     ap (λ (k : Class). if_atom_byte k (b ∷ atom_run bs)) (passes b p.0) ∙ ap (λ (rest : List ℕ). b ∷ rest) (all_run test passes bs p.1)
 
 -- ---- names
 
 pub name_is_run : (bytes : List ℕ) → is_name bytes ≡ true → (0 < length bytes) × (atom_run bytes ≡ bytes)
 name_is_run bytes h =
-    let p = both ((begins_with_letter bytes && list_all is_name_byte bytes) && leb (length bytes) 64) (not (is_truth_word bytes)) h in
-    let q = both (begins_with_letter bytes && list_all is_name_byte bytes) (leb (length bytes) 64) p.0 in
-    let r = both (begins_with_letter bytes) (list_all is_name_byte bytes) q.0 in
+    let p = and_parts ((begins_with_letter bytes && list_all is_name_byte bytes) && leb (length bytes) 64) (not (is_truth_word bytes)) h in
+    let q = and_parts (begins_with_letter bytes && list_all is_name_byte bytes) (leb (length bytes) 64) p.0 in
+    let r = and_parts (begins_with_letter bytes) (list_all is_name_byte bytes) q.0 in
     (long bytes r.0, all_run is_name_byte name_byte_is_atom_byte bytes r.1)
   where
     long : (bs : List ℕ) → begins_with_letter bs ≡ true → 0 < length bs
@@ -79,7 +79,7 @@ name_is_run bytes h =
 
 digits_are_run : (ds : List ℕ) → is_digits ds ≡ true → (0 < length ds) × (atom_run ds ≡ ds)
 digits_are_run ds h =
-    let p = both (ltb 0 (length ds)) (list_all is_ascii_digit ds) h in (ltb-true 0 (length ds) p.0, all_run is_ascii_digit digit_is_atom_byte ds p.1)
+    let p = and_parts (ltb 0 (length ds)) (list_all is_ascii_digit ds) h in (ltb-true 0 (length ds) p.0, all_run is_ascii_digit digit_is_atom_byte ds p.1)
 
 pub numeral_is_run : (bytes : List ℕ) → is_numeral bytes ≡ true → (0 < length bytes) × (atom_run bytes ≡ bytes)
 numeral_is_run [] h = absurd cc
@@ -93,19 +93,20 @@ numeral_is_run (b ∷ bs) h = by_sign (eqb b 45) refl
     by_sign true e =
         (omega arith, ap (λ (k : Class). if_atom_byte k (b ∷ atom_run bs)) (mark_is b 45 refl e) ∙ ap (λ (rest : List ℕ). b ∷ rest) (digits_are_run bs (digits true e)).1)
 
-all_digits_pass : (ds : List ℕ) → AllDigits 10 ds → list_all is_ascii_digit ds ≡ true
+pub all_digits_pass : (ds : List ℕ) → AllDigits 10 ds → list_all is_ascii_digit ds ≡ true
 all_digits_pass [] h = refl
 all_digits_pass (d ∷ ds) h =
     let r = digit_from_value d h.0 in
     rw (le-leb 48 d r.0, le-leb d 57 r.1) (all_digits_pass ds h.1)
 
-numeral_passes : (ds : List ℕ) → IsNumeral 10 ds → is_digits ds ≡ true
+pub numeral_passes : (ds : List ℕ) → IsNumeral 10 ds → is_digits ds ≡ true
 numeral_passes ds h = rw (lt-ltb 0 (length ds) h.0) (all_digits_pass ds h.1)
 
-no_minus : (ds : List ℕ) → is_digits ds ≡ true → starts_with_minus ds ≡ false
+-- digits alone have no sign
+pub no_minus : (ds : List ℕ) → is_digits ds ≡ true → starts_with_minus ds ≡ false
 no_minus [] h = absurd cc
 no_minus (d ∷ ds) h =
-    let p = both (is_ascii_digit d) (list_all is_ascii_digit ds) (both (ltb 0 (length (d ∷ ds))) (list_all is_ascii_digit (d ∷ ds)) h).1 in
+    let p = and_parts (is_ascii_digit d) (list_all is_ascii_digit ds) (and_parts (ltb 0 (length (d ∷ ds))) (list_all is_ascii_digit (d ∷ ds)) h).1 in
     let r = digit_in_range d p.0 in
     ne_eqb d 45 (λ e. omega (arith, r.0))
 

@@ -1,3 +1,8 @@
+pub mod ResultLaws
+pub mod OptionLaws
+pub mod Loops
+pub mod OptionLoops
+pub mod ResultLoops
 pub mod TreeViewLaws
 pub mod TokenLaws
 pub mod RunLaws
@@ -11,3 +16,4 @@ pub mod SpellingLaws
 pub mod PrintLaws
 pub mod NumeralLaws
 pub mod AtomLaws
+pub mod NumeralTextLaws

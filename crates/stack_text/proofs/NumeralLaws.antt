@@ -8,38 +8,34 @@ use Rattle.std.specs.Str.{IsAscii}
 use Rattle.std.specs.Option.{SomeIff}
 use Rattle.std.specs.Result.{OkIff, result_ok}
 use Rattle.std.specs.Str.Parse.{AllDigits, IsNumeral, starts_with_minus, without_leading_sign, without_leading_plus}
-use Rattle.std.proofs.lemmas.Bool.{leb-true, ltb-true, lt-ltb, eqb-true, ne_eqb}
+use Rattle.std.proofs.lemmas.Bool.{and_parts, leb-true, ltb-true, lt-ltb, eqb-true, ne_eqb}
 use Rattle.std.proofs.lemmas.Str.{digit_value_digit}
 use Rattle.stack_text.specs.Numerals.{is_digits, is_numeral, numeral_value, fits_128_bits}
 
-pub both : (a b : Bool) → (a && b) ≡ true → (a ≡ true) × (b ≡ true)
-both true b h = (refl, h)
-both false b h = absurd cc
-
 pub digit_in_range : (b : ℕ) → is_ascii_digit b ≡ true → IsInRange 48 57 b
-digit_in_range b h = let p = both (leb 48 b) (leb b 57) h in (leb-true 48 b p.0, leb-true b 57 p.1)
+digit_in_range b h = let p = and_parts (leb 48 b) (leb b 57) h in (leb-true 48 b p.0, leb-true b 57 p.1)
 
 all_digits : (ds : List ℕ) → list_all is_ascii_digit ds ≡ true → AllDigits 10 ds
 all_digits [] h = tt
 all_digits (d ∷ ds) h =
-    let p = both (is_ascii_digit d) (list_all is_ascii_digit ds) h in
+    let p = and_parts (is_ascii_digit d) (list_all is_ascii_digit ds) h in
     let r = digit_in_range d p.0 in
     let v = digit_value_digit d r in
     (omega (arith, v, r.1), all_digits ds p.1)
 
 digits_ascii : (ds : List ℕ) → list_all is_ascii_digit ds ≡ true → IsAscii ds
 digits_ascii [] h i = omega arith
-digits_ascii (d ∷ ds) h zero = let p = both (is_ascii_digit d) (list_all is_ascii_digit ds) h in let r = digit_in_range d p.0 in omega (arith, r.1)
-digits_ascii (d ∷ ds) h (suc i) = digits_ascii ds (both (is_ascii_digit d) (list_all is_ascii_digit ds) h).1 i
+digits_ascii (d ∷ ds) h zero = let p = and_parts (is_ascii_digit d) (list_all is_ascii_digit ds) h in let r = digit_in_range d p.0 in omega (arith, r.1)
+digits_ascii (d ∷ ds) h (suc i) = digits_ascii ds (and_parts (is_ascii_digit d) (list_all is_ascii_digit ds) h).1 i
 
 digits_are_numeral : (ds : List ℕ) → is_digits ds ≡ true → IsNumeral 10 ds
-digits_are_numeral ds h = let p = both (ltb 0 (length ds)) (list_all is_ascii_digit ds) h in (ltb-true 0 (length ds) p.0, all_digits ds p.1)
+digits_are_numeral ds h = let p = and_parts (ltb 0 (length ds)) (list_all is_ascii_digit ds) h in (ltb-true 0 (length ds) p.0, all_digits ds p.1)
 
 -- no plus stands before digits
 pub no_plus : (ds : List ℕ) → is_digits ds ≡ true → without_leading_plus ds ≡ ds
 no_plus [] h = absurd cc
 no_plus (d ∷ ds) h =
-    let p = both (is_ascii_digit d) (list_all is_ascii_digit ds) (both (ltb 0 (length (d ∷ ds))) (list_all is_ascii_digit (d ∷ ds)) h).1 in
+    let p = and_parts (is_ascii_digit d) (list_all is_ascii_digit ds) (and_parts (ltb 0 (length (d ∷ ds))) (list_all is_ascii_digit (d ∷ ds)) h).1 in
     let r = digit_in_range d p.0 in
     ap (λ (b : Bool). drop (cond b 1 0) (d ∷ ds)) (ne_eqb d 43 (λ e. omega (arith, r.0)))
 
@@ -56,7 +52,7 @@ pub numeral_ascii : (bytes : List ℕ) → is_numeral bytes ≡ true → IsAscii
 numeral_ascii bytes h = by_sign (starts_with_minus bytes) refl
   where
     second : (ds : List ℕ) → is_digits ds ≡ true → list_all is_ascii_digit ds ≡ true
-    second ds k = (both (ltb 0 (length ds)) (list_all is_ascii_digit ds) k).1
+    second ds k = (and_parts (ltb 0 (length ds)) (list_all is_ascii_digit ds) k).1
 
     behind_minus : (bs : List ℕ) → starts_with_minus bs ≡ true → list_all is_ascii_digit (drop 1 bs) ≡ true → IsAscii bs
     behind_minus [] e k i = omega arith

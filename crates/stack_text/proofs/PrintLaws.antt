@@ -47,15 +47,16 @@ printed_all old out new p v t i le is out_is new_is =
 -- ---- reading what was printed
 
 mutual
-  Spells-tree_text : (t : Node) → Spells t (tree_text t)
+  -- what is printed for a tree spells it
+  pub Spells-tree_text : (t : Node) → Spells t (tree_text t)
   Spells-tree_text (atom p bytes) = refl
   Spells-tree_text (list p ts) = (items_text ts, SpellsAll-items_text ts, refl)
 
-  SpellsAll-items_text : (ts : Nodes) → SpellsAll ts (items_text ts)
+  pub SpellsAll-items_text : (ts : Nodes) → SpellsAll ts (items_text ts)
   SpellsAll-items_text none = refl
   SpellsAll-items_text (more t ts) = (tree_text t, spaced_text ts, Spells-tree_text t, SpellsRest-spaced_text ts, refl)
 
-  SpellsRest-spaced_text : (ts : Nodes) → SpellsRest ts (spaced_text ts)
+  pub SpellsRest-spaced_text : (ts : Nodes) → SpellsRest ts (spaced_text ts)
   SpellsRest-spaced_text none = refl
   SpellsRest-spaced_text (more t ts) = (32 ∷ [], tree_text t, spaced_text ts, omega arith, (tt, tt), Spells-tree_text t, SpellsRest-spaced_text ts, refl)
 

@@ -1,3 +1,5 @@
+pub mod Results
+pub mod Options
 pub mod Gives
 pub mod Names
 pub mod Numerals

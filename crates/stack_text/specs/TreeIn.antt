@@ -1,9 +1,10 @@
 -- The tree of a text as a function of the text: its tokens are put together from the last to the first.
-use Rattle.std.specs.Prelude.{◌≡◌, ℕ, List, [], ◌∷◌, Option, Some, None, Result, Ok, Err}
+use Rattle.std.specs.Prelude.{ℕ, List, [], ◌∷◌, Option, Some, None, Result, Ok, Err}
 use Rattle.stack_text.specs.declared.text_fault.TextRule.{TextRule}
 use Rattle.stack_text.specs.declared.text_fault.TextFault.{TextFault}
 use Rattle.stack_text.specs.declared.text_fault.TextFault.TheVariants.{Fault, Memory}
 use Rattle.stack_text.specs.declared.tree.Tree.{Tree}
+use Rattle.stack_text.specs.Gives.{Gives}
 use Rattle.stack_text.specs.Tokens.{Token, opens_at, closes_at, atom_at, invalid_at, between, tokens}
 use Rattle.stack_text.specs.Trees.{Node, Nodes, atom, list, none, more}
 use Rattle.stack_text.specs.TreeView.{node_of}
@@ -39,8 +40,11 @@ unless_fault (Some fault) t = Err fault
 unfoldable pub tree_in : List ℕ → Result Node (TextRule × ℕ)
 tree_in text = unless_fault (text_fault text) (first_item (items_of (tokens between 0 text)))
 
--- What reading a text gives, by that function. Want of memory alone is free.
+-- the fault that an error is, and none for out of memory
+abbrev pub fault_of : TextFault → Option (TextRule × ℕ)
+fault_of (Fault rule place) = Some (rule, place)
+fault_of Memory = None
+
+-- what reading a text gives, by that function; out of memory alone is free
 abbrev pub GivesTree : Result Tree TextFault → Result Node (TextRule × ℕ) → Type 0
-GivesTree (Ok t) value = value ≡ Ok (node_of t)
-GivesTree (Err (Fault rule place)) value = value ≡ Err (rule, place)
-GivesTree (Err Memory) value = Unit {0}
+GivesTree result value = Gives fault_of node_of result value

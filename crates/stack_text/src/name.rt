@@ -2,7 +2,7 @@
 
 ghost use Rattle.std.specs.Prelude.{◌≡◌, IsTrue};
 ghost use Rattle.std.specs.List.{list_all};
-ghost use Rattle.stack_text.specs.Gives.{Gives};
+ghost use Rattle.stack_text.specs.Gives.{Returns};
 ghost use Rattle.stack_text.specs.Names.{begins_with_letter, is_mark, is_name, is_name_byte, is_truth_word, name_of};
 
 use crate::Memory;
@@ -145,7 +145,7 @@ pub fn is_name(bytes: &[u8]) -> bool
 
 /// The name that the bytes are: `None` exactly where they are not one.
 pub fn read_name(alloc: Global, bytes: &[u8]) -> Result<Option<Name>, Memory>
-    ensures { Gives (λ name. name) result (name_of bytes.now) }
+    ensures { Returns (λ name. name) result (name_of bytes.now) }
 {
     if !is_name(bytes) {
         return Ok(None);

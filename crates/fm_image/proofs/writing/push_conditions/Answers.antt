@@ -1,5 +1,5 @@
 use Rattle.fm_image.specs.Spelling.{name_bytes}
-use Rattle.fm_image.proofs.Pieces.{pieces_next}
+use Rattle.stack_text.proofs.Loops.{pieces_next}
 use Rattle.fm_image.proofs.writing.push_conditions.Goals as goal
 
 pub loop-name-preserved : goal.loop-name-preserved

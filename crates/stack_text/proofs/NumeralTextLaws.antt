@@ -9,8 +9,7 @@ use Rattle.std.proofs.lemmas.Bool.{ltb-true, lt-ltb, le-leb, ne_eqb}
 use Rattle.std.proofs.lemmas.Fmt.{decimal_is_IsNumeral_wide}
 use Rattle.std.proofs.lemmas.Str.Parse.{digit_from_value}
 use Rattle.stack_text.specs.Numerals.{is_digits, is_numeral, numeral_value, fits_128_bits}
-use Rattle.stack_text.proofs.NumeralLaws.{both, digit_in_range}
-use Rattle.stack_text.proofs.AtomLaws.{numeral_of-signed_decimal}
+use Rattle.stack_text.proofs.AtomLaws.{no_minus, numeral_passes, numeral_of-signed_decimal}
 
 numeral_found : (numeral fits : Bool) (v z : ℤ) → cond (numeral && fits) (Some v) None ≡ Some z → v ≡ z
 numeral_found true true v z h = cc
@@ -25,30 +24,14 @@ value-signed_decimal z fits =
 pub numeral-signed_decimal : (z : ℤ) → fits_128_bits z ≡ true → is_numeral (signed_decimal z) ≡ true
 numeral-signed_decimal z fits = (numeral_of-signed_decimal z fits).0
 
-all_digits_pass : (ds : List ℕ) → AllDigits 10 ds → list_all is_ascii_digit ds ≡ true
-all_digits_pass [] h = refl
-all_digits_pass (d ∷ ds) h =
-    let r = digit_from_value d h.0 in
-    rw (le-leb 48 d r.0, le-leb d 57 r.1) (all_digits_pass ds h.1)
+pub value-digits : (ds : List ℕ) → is_digits ds ≡ true → numeral_value ds ≡ pos (digits_value 10 (without_leading_plus ds))
+value-digits ds h = rw (no_minus ds h) refl
 
-numeral_passes : (ds : List ℕ) → IsNumeral 10 ds → is_digits ds ≡ true
-numeral_passes ds h = rw (lt-ltb 0 (length ds) h.0) (all_digits_pass ds h.1)
-
--- digits alone have no sign
-unsigned : (ds : List ℕ) → is_digits ds ≡ true → starts_with_minus ds ≡ false
-unsigned [] h = absurd cc
-unsigned (d ∷ ds) h =
-    let p = both (is_ascii_digit d) (list_all is_ascii_digit ds) (both (ltb 0 (length (d ∷ ds))) (list_all is_ascii_digit (d ∷ ds)) h).1 in
-    let r = digit_in_range d p.0 in
-    ne_eqb d 45 (λ e. omega (arith, r.0))
-
-value-digits : (ds : List ℕ) → is_digits ds ≡ true → numeral_value ds ≡ pos (digits_value 10 (without_leading_plus ds))
-value-digits ds h = rw (unsigned ds h) refl
-
+-- digits alone are a numeral
 pub digits_are_numeral : (ds : List ℕ) → is_digits ds ≡ true → is_numeral ds ≡ true
-digits_are_numeral ds h = rw (unsigned ds h) h
+digits_are_numeral ds h = rw (no_minus ds h) h
 
-digits-pos : (n : ℕ) → fits_128_bits (pos n) ≡ true → is_digits (signed_decimal (pos n)) ≡ true
+pub digits-pos : (n : ℕ) → fits_128_bits (pos n) ≡ true → is_digits (signed_decimal (pos n)) ≡ true
 digits-pos n fits = let h = ltb-true n (2 ^ 127) fits in numeral_passes (decimal n) (decimal_is_IsNumeral_wide n (omega (arith, h))).0
 
 -- what was read from digits alone is printed with digits alone
