@@ -1,11 +1,7 @@
 -- What `go` prints is what the source means.
-use Rattle.std.proofs.Common.{◌≡◌, ◌≤◌, ◌-◌, ◌&&◌, ℕ, ℤ, List, [], ◌∷◌, true, false, Option, Some, None, IfSome, Result, Ok, length, map, refl, sym, ap, ◌∙◌, subst, arith}
-use Rattle.std.specs.Prelude.{nat_lt, FitsSigned, All}
-use Rattle.std.specs.Int.{w32}
-use Rattle.std.specs.List.{list_all}
-use Rattle.std.proofs.lemmas.Bool.{le-ltb, and_parts}
-use Rattle.std.proofs.lemmas.List.{length-map}
-use Rattle.std.proofs.lemmas.List.Elements.{All-nil, All-cons}
+use Rattle.std.proofs.Common.{◌≡◌, ◌≤◌, ℕ, ℤ, List, [], ◌∷◌, false, Option, Some, None, IfSome, Result, Ok, length, map, refl, sym, ap, ◌∙◌, subst}
+use Rattle.std.specs.Prelude.{nat_lt}
+use Rattle.std.proofs.lemmas.Bool.{le-ltb}
 use Rattle.stack_shelf.specs.Files.{Files, file_at}
 use Rattle.stack_shelf.specs.Shelf.{fetched, within}
 use Rattle.fm_machine.specs.Run.{Outcome, outcome}
@@ -14,55 +10,29 @@ use Rattle.fm_machine.proofs.Runs.{outcome_only}
 use Rattle.cli_stack.specs.declared.command.TheConstants.{TEXT_LIMIT, IMAGE_LIMIT}
 use Rattle.cli_stack.specs.declared.command.Command.{Command}
 use Rattle.cli_stack.specs.declared.command.Command.TheVariants.{Usage, NotBuilt, Go, Run, Show}
-use Rattle.cli_stack.specs.declared.source.OneStatement.{OneStatement}
+use Rattle.stack_build.specs.declared.source.OneStatement.{OneStatement}
 use Rattle.fm_image.specs.Image.{ImageOf}
 use Rattle.fm_image.specs.Spelling.{Spelled}
 use Rattle.fm_image.proofs.Whole.{spelled_reads}
-use Rattle.stack_text.specs.Values.{ValueOf}
-use Rattle.fm_image.specs.declared.slot.Slot.{Slot}
-use Rattle.fm_loader.specs.Loaded.{Fits, loaded}
-use Rattle.fm_loader.proofs.ValuesLaws.{values_fit as fits_slots, values_have_32_bits, fits_signed}
-use Rattle.fm_loader.specs.Values.{values_in}
-use Rattle.fm_loader.specs.Written.{fits_32_bits}
+use Rattle.fm_loader.specs.Loaded.{loaded}
 use Rattle.display_maps.specs.declared.shown.Shown.{Shown}
 use Rattle.display_maps.specs.Report.{report_text}
 use Rattle.cli_stack.specs.declared.reply.Verdict.TheVariants.{Done}
-use Rattle.cli_stack.specs.Source.{source_of}
+use Rattle.stack_build.specs.Source.{source_of}
 use Rattle.cli_stack.specs.Replies.{Told, status_of}
-use Rattle.cli_stack.specs.Placed.{generated, layout_of}
-use Rattle.cli_stack.specs.Go.{go_image, go_told}
+use Rattle.stack_build.specs.Build.{built, source_image}
+use Rattle.cli_stack.specs.Go.{go_told}
 use Rattle.cli_stack.specs.Runs.{outcome_told, run_on, run_told}
 use Rattle.cli_stack.specs.Words.{command_of}
 use Rattle.cli_stack.specs.Answer.{Answer, text_of, before_texts, inputs_of, told_by, answer_on, answer_to, answer}
-use Rattle.cli_stack.specs.Meaning.{integer, integers_read, meaning, instruction_count, FitsVariables, Implements}
-use Rattle.cli_stack.specs.Meaning as means
+use Rattle.stack_build.specs.Meaning.{integer, integers_read, meaning, instruction_count, FitsVariables, Implements}
+use Rattle.stack_build.specs.Meaning as means
 use Rattle.cli_stack.specs.Promise.{IsText, IsImageFile, IsRunnable, GivesNumbers, TellsMeaning, TellsWhatIsMeant}
 use Rattle.cli_stack.proofs.Promising.{InRange, in_range}
-use Rattle.cli_stack.proofs.Slots.{length-slots_from}
-use Rattle.cli_stack.proofs.Implementing.{implements}
+use Rattle.stack_build.proofs.FittingValues.{values_fit}
+use Rattle.stack_build.proofs.Implementing.{implements}
 
--- 1. Values that are read fit the variables.
-
-numbers_fit : (values : List ℤ) → list_all (λ value. list_all fits_32_bits value.items) (map integer values) ≡ true → All (FitsSigned w32) values
-numbers_fit [] h = All-nil (FitsSigned w32)
-numbers_fit (value ∷ values) h =
-    let parts = and_parts (fits_32_bits value && true) (list_all (λ value. list_all fits_32_bits value.items) (map integer values)) h in
-    let one = and_parts (fits_32_bits value) true parts.0 in
-    All-cons (FitsSigned w32) value values (fits_signed value one.0) (numbers_fit values parts.1)
-
-values_fit : (source : OneStatement) (control temporary : ℕ) (text : List ℕ) (values : List ℤ) → values_in (go_image source control temporary).slots text ≡ Ok (map integer values) → FitsVariables source values
-unfolding go_image
-values_fit source control temporary text values h =
-    let slots : List Slot = (go_image source control temporary).slots in
-    let shapes : Fits slots (map integer values) = fits_slots slots text (map integer values) h in
-    let same : length (map (λ (value : ValueOf). value.shape) (map integer values)) ≡ length (map (λ (slot : Slot). slot.shape) slots) = ap length shapes in
-    let first = length-map (map integer values) (λ (value : ValueOf). value.shape) in
-    let second = length-map values integer in
-    let third = length-map slots (λ (slot : Slot). slot.shape) in
-    let fourth = length-slots_from ((layout_of (generated source control temporary)).end - 1) source.variables in
-    record { many = omega arith; numbers = numbers_fit values (values_have_32_bits slots text (map integer values) h) }
-
--- 2. A run that is long enough tells the meaning.
+-- 1. A run that is long enough tells the meaning.
 
 run_tells : (image : ImageOf) (source : OneStatement) (values finals : List ℤ) (condition : Shown) (n budget : ℕ) → Implements image source → FitsVariables source values
     → meaning source values n ≡ means.Done finals condition → instruction_count source ≤ budget
@@ -75,7 +45,7 @@ run_tells image source values finals condition n budget does fits done enough =
     outcome_only (loaded image (map integer values)) image.final_pc budget (Ended (instruction_count source)) end.0 (enough, end.1) in
     (ap (λ (o : Outcome). (outcome_told image budget o).verdict) is, ap (λ (o : Outcome). (outcome_told image budget o).text) is ∙ ap (λ r. report_text image r (instruction_count source)) end.2)
 
--- 3. The files lead to it.
+-- 2. The files lead to it.
 
 file_is : (files : Files) (name text : List ℕ) (limit : ℕ) → file_at files name ≡ Some text → length text ≤ limit → text_of name limit (fetched files name limit) ≡ Ok text
 file_is files name text limit there short =
@@ -87,11 +57,11 @@ text_is files name text is = file_is files name text TEXT_LIMIT is.there is.shor
 
 go_tells : (source_name values_name image : List ℕ) (control temporary budget : ℕ) (text values_text : List ℕ) (source : OneStatement) (values finals : List ℤ) (condition : Shown) (n : ℕ) → control ≤ 65536 → temporary ≤ 65536
     → source_of text ≡ Some source → IsRunnable source control temporary values_text values → meaning source values n ≡ means.Done finals condition → instruction_count source ≤ budget
-    → TellsMeaning source (go_image source control temporary) finals condition (answer_on (Go source_name values_name control temporary budget image) (Ok (text ∷ values_text ∷ [])))
+    → TellsMeaning source (source_image source control temporary) finals condition (answer_on (Go source_name values_name control temporary budget image) (Ok (text ∷ values_text ∷ [])))
 unfolding told_by
 go_tells source_name values_name image control temporary budget text values_text source values finals condition n c t read runs done enough =
-    let told : go_told (source_of text) values_text control temporary budget ≡ run_on (go_image source control temporary) (map integer values) budget = rw (read, runs.room, runs.values_are) refl in
-    let ends = run_tells (go_image source control temporary) source values finals condition n budget (implements text source control temporary read c t runs.room) (values_fit source control temporary values_text values runs.values_are) done enough in
+    let told : go_told (built text control temporary) values_text budget ≡ run_on (source_image source control temporary) (map integer values) budget = rw (read, runs.room, runs.values_are) refl in
+    let ends = run_tells (source_image source control temporary) source values finals condition n budget (implements text source control temporary read c t runs.room) (values_fit source control temporary values_text values runs.values_are) done enough in
     record {
       status = ap (λ (r : Told). status_of r.verdict) told ∙ ap status_of ends.0;
       text = ap (λ (r : Told). r.text) told ∙ ends.1;
@@ -100,12 +70,12 @@ go_tells source_name values_name image control temporary budget text values_text
 go_tells_on : (files : Files) (source_name values_name image : List ℕ) (control temporary budget : ℕ) (text values_text : List ℕ) (source : OneStatement) (values finals : List ℤ) (condition : Shown) (n : ℕ)
     → control ≤ 65536 → temporary ≤ 65536 → IsText files source_name text → IsText files values_name values_text
     → source_of text ≡ Some source → IsRunnable source control temporary values_text values → meaning source values n ≡ means.Done finals condition → instruction_count source ≤ budget
-    → TellsMeaning source (go_image source control temporary) finals condition (answer_to (Go source_name values_name control temporary budget image) files)
+    → TellsMeaning source (source_image source control temporary) finals condition (answer_to (Go source_name values_name control temporary budget image) files)
 unfolding inputs_of
 go_tells_on files source_name values_name image control temporary budget text values_text source values finals condition n c t there there' read runs done enough =
     let both : before_texts (text_of source_name TEXT_LIMIT (fetched files source_name TEXT_LIMIT)) (before_texts (text_of values_name TEXT_LIMIT (fetched files values_name TEXT_LIMIT)) (Ok [])) ≡ Ok (text ∷ values_text ∷ []) =
     rw (text_is files source_name text there, text_is files values_name values_text there') refl in
-    subst (λ (r : Result (List (List ℕ)) Answer). TellsMeaning source (go_image source control temporary) finals condition (answer_on (Go source_name values_name control temporary budget image) r)) (sym both)
+    subst (λ (r : Result (List (List ℕ)) Answer). TellsMeaning source (source_image source control temporary) finals condition (answer_on (Go source_name values_name control temporary budget image) r)) (sym both)
     (go_tells source_name values_name image control temporary budget text values_text source values finals condition n c t read runs done enough)
 
 run_command_tells : (image_name values_name : List ℕ) (budget : ℕ) (bytes values_text : List ℕ) (image : ImageOf) (source : OneStatement) (values finals : List ℤ) (condition : Shown) (n : ℕ) → Spelled bytes image

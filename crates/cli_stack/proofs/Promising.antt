@@ -1,5 +1,5 @@
 -- What `go` sets does what its source means.
-use Rattle.std.proofs.Common.{IfSome, ◌≡◌, ◌≤◌, ℕ, ℤ, pos, negsuc, List, [], ◌∷◌, Bool, true, false, Option, Some, None, Result, Ok, Err, length, refl, sym, ap, arith}
+use Rattle.std.proofs.Common.{IfSome, IfOk, ◌≡◌, ◌≤◌, ℕ, ℤ, pos, negsuc, List, [], ◌∷◌, Bool, true, false, Option, Some, None, Result, Ok, Err, length, refl, sym, ap, arith}
 use Rattle.std.specs.Prelude.{nat_lt, nat_le, ◌&&◌, if◌then◌else◌}
 use Rattle.std.proofs.lemmas.Bool.Decides.{nat_tests}
 use Rattle.stack_shelf.specs.Files.{Files, file_at}
@@ -9,21 +9,16 @@ use Rattle.stack_shelf.specs.declared.fault.FetchFault.TheVariants.{Missing, Too
 use Rattle.cli_stack.specs.declared.command.TheConstants.{TEXT_LIMIT}
 use Rattle.cli_stack.specs.declared.command.Command.{Command}
 use Rattle.cli_stack.specs.declared.command.Command.TheVariants.{Usage, NotBuilt, Go, Run, Show}
-use Rattle.cli_stack.specs.declared.reply.Verdict.{Verdict}
 use Rattle.cli_stack.specs.declared.row.Verb.{Verb}
 use Rattle.cli_stack.specs.declared.row.Verb.TheVariants as verb
-use Rattle.cli_stack.specs.declared.source.OneStatement.{OneStatement}
+use Rattle.stack_build.specs.declared.fault.BuildFault.{BuildFault}
+use Rattle.stack_build.specs.Build.{BuiltOf, built, BuildsText}
+use Rattle.stack_build.proofs.BuiltLaws.{built_implements}
 use Rattle.stack_text.specs.Numerals.{is_digits, numeral_of}
 use Rattle.cli_stack.specs.Words.{where_within, number_within, size_of_stack, limit_of, fits, row_of, verb_of, go_with, go_of, run_with, run_of, show_of, later, command_by, command_of}
-use Rattle.cli_stack.specs.Source.{source_of}
-use Rattle.cli_stack.specs.Go.{lack_of, go_image, go_stored, stored_unless}
-use Rattle.fm_image.specs.Spelling.{spelling}
+use Rattle.cli_stack.specs.Go.{go_stored}
 use Rattle.cli_stack.specs.Answer.{Answer, text_of, before_texts, gathered, set_file, inputs_of, output_of, stored_by, told_by, answer_on, answer_to, answer, answer_with}
 use Rattle.cli_stack.specs.Promise.{SetsImplementation, KeepsPromise}
-use Rattle.cli_stack.proofs.Implementing.{implements}
-use Rattle.cli_stack.proofs.ImageWords.{spells_image}
-use Rattle.cli_stack.proofs.ImageBytes.{short_image}
-use Rattle.cli_stack.proofs.Sources.{source_is}
 
 -- 1. The sizes of a command that words spell are those of stacks.
 
@@ -92,24 +87,19 @@ in_range (word ∷ words) = by_verb (verb_of word) words
 
 -- 2. What is stored is an implementation.
 
-module _ (files : Files) (source image text : List ℕ) (control temporary : ℕ) (there : file_at files source ≡ Some text) (c : control ≤ 65536) (t : temporary ≤ 65536) where
-  by_lack : (s : OneStatement) (l : Option Verdict) → source_of text ≡ Some s → lack_of s control temporary ≡ l
-      → SetsImplementation files source (set_file (Some image) (stored_unless l (spelling (go_image s control temporary))))
-  by_lack s (Some lack) read l = tt
-  by_lack s None read l = record {
+module _ (files : Files) (source image text : List ℕ) (there : file_at files source ≡ Some text) where
+  built_keeps : (found : Result BuiltOf BuildFault) → IfOk found (BuildsText text) → SetsImplementation files source (set_file (Some image) (go_stored found))
+  built_keeps (Err fault) builds = tt
+  built_keeps (Ok built) builds = record {
     text = text;
     there = there;
-    source = s;
-    read = read;
-    image = go_image s control temporary;
-    short = short_image s control temporary (source_is text s read) c t l;
-    spells = spells_image s control temporary (source_is text s read) c t l;
-    implements = implements text s control temporary read c t l;
+    source = builds.source;
+    read = builds.read;
+    image = built.image;
+    short = builds.short;
+    spells = builds.spells;
+    implements = builds.implements;
   }
-
-  by_source : (o : Option OneStatement) → source_of text ≡ o → SetsImplementation files source (set_file (Some image) (go_stored o control temporary))
-  by_source None read = tt
-  by_source (Some s) read = by_lack s (lack_of s control temporary) read refl
 
 -- 3. Before the texts are there, nothing is set.
 
@@ -138,7 +128,7 @@ unfolding output_of stored_by
 go_keeps files source values image control temporary budget c t (Err early) second got got' = sets_none files source early.output (no_output source TEXT_LIMIT _ early got)
 go_keeps files source values image control temporary budget c t (Ok text) (Err early) got got' = sets_none files source early.output (no_output values TEXT_LIMIT _ early got')
 go_keeps files source values image control temporary budget c t (Ok text) (Ok text') got got' =
-    by_source files source image text control temporary (was_there source TEXT_LIMIT (file_at files source) text got) c t (source_of text) refl
+    built_keeps files source image text (was_there source TEXT_LIMIT (file_at files source) text got) (built text control temporary) (built_implements text control temporary c t)
 
 keeps : (command : Command) (files : Files) → InRange command → KeepsPromise command files (answer_to command files).output
 unfolding inputs_of

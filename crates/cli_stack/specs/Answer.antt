@@ -11,7 +11,7 @@ use Rattle.cli_stack.specs.declared.command.Command.{Command}
 use Rattle.cli_stack.specs.declared.command.Command.TheVariants.{Usage, NotBuilt, Go, Run, Show}
 use Rattle.cli_stack.specs.declared.reply.Verdict.TheVariants as verdict
 use Rattle.cli_stack.specs.Words.{command_of}
-use Rattle.cli_stack.specs.Source.{source_of}
+use Rattle.stack_build.specs.Build.{built}
 use Rattle.cli_stack.specs.Replies.{Told, only, missing_line, long_line, status_of}
 use Rattle.cli_stack.specs.Go.{go_stored, go_told}
 use Rattle.cli_stack.specs.Runs.{run_told}
@@ -41,14 +41,14 @@ text_at texts i = slice_index_or texts i []
 unfoldable pub stored_by : Command → List (List ℕ) → Option (List ℕ)
 stored_by Usage texts = None
 stored_by NotBuilt texts = None
-stored_by (Go source values control temporary budget image) texts = go_stored (source_of (text_at texts 0)) control temporary
+stored_by (Go source values control temporary budget image) texts = go_stored (built (text_at texts 0) control temporary)
 stored_by (Run image values budget) texts = None
 stored_by (Show image) texts = None
 
 unfoldable pub told_by : Command → List (List ℕ) → Told
 told_by Usage texts = only verdict.Usage
 told_by NotBuilt texts = only verdict.NotBuilt
-told_by (Go source values control temporary budget image) texts = go_told (source_of (text_at texts 0)) (text_at texts 1) control temporary budget
+told_by (Go source values control temporary budget image) texts = go_told (built (text_at texts 0) control temporary) (text_at texts 1) budget
 told_by (Run image values budget) texts = run_told (text_at texts 0) (text_at texts 1) budget
 told_by (Show image) texts = show_told (text_at texts 0)
 

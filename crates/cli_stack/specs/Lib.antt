@@ -1,16 +1,9 @@
 pub mod Answer
-pub mod Form
 pub mod Go
 pub mod Headline
-pub mod Image
-pub mod Meaning
-pub mod Numerals
-pub mod Piton
 pub mod Promise
-pub mod Placed
 pub mod Replies
 pub mod Runs
 pub mod Shows
-pub mod Source
 pub mod Stages
 pub mod Words

@@ -3,17 +3,17 @@ use Rattle.std.specs.Prelude.{◌≡◌, ◌≤◌, ℕ, ℤ, List, length, map,
 use Rattle.stack_shelf.specs.Files.{Files, file_at}
 use Rattle.cli_stack.specs.declared.command.Command.{Command}
 use Rattle.cli_stack.specs.declared.command.Command.TheVariants.{Usage, NotBuilt, Go, Run, Show}
-use Rattle.cli_stack.specs.declared.source.OneStatement.{OneStatement}
+use Rattle.stack_build.specs.declared.source.OneStatement.{OneStatement}
 use Rattle.fm_image.specs.Image.{ImageOf}
 use Rattle.fm_image.specs.Spelling.{Spelled}
 use Rattle.fm_loader.specs.Values.{values_in}
 use Rattle.display_maps.specs.declared.shown.Shown.{Shown}
 use Rattle.display_maps.specs.Report.{report_text}
 use Rattle.cli_stack.specs.declared.command.TheConstants.{TEXT_LIMIT, IMAGE_LIMIT}
-use Rattle.cli_stack.specs.Source.{source_of}
-use Rattle.cli_stack.specs.Go.{lack_of, go_image}
+use Rattle.stack_build.specs.Source.{source_of}
+use Rattle.stack_build.specs.Build.{shortage_of, source_image}
 use Rattle.cli_stack.specs.Answer.{Answer}
-use Rattle.cli_stack.specs.Meaning.{Done, integer, integers_read, meaning, instruction_count, FitsVariables, Implements}
+use Rattle.stack_build.specs.Meaning.{Done, integer, integers_read, meaning, instruction_count, FitsVariables, Implements}
 
 -- the bytes are an image file that can be read again, and its image implements the source in a file
 pub record HoldsImplementation (files : Files) (name bytes : List ℕ) : Type 0 where
@@ -45,8 +45,8 @@ pub record IsText (files : Files) (name text : List ℕ) : Type 0 where
 
 -- a source with room on both stacks, and the values of a text for its variables
 pub record IsRunnable (source : OneStatement) (control temporary : ℕ) (values_text : List ℕ) (values : List ℤ) : Type 0 where
-  pub room : lack_of source control temporary ≡ None
-  pub values_are : values_in (go_image source control temporary).slots values_text ≡ Ok (map integer values)
+  pub room : shortage_of source control temporary ≡ None
+  pub values_are : values_in (source_image source control temporary).slots values_text ≡ Ok (map integer values)
 
 -- an image file within the limit of image files
 pub record IsImageFile (files : Files) (name bytes : List ℕ) (image : ImageOf) : Type 0 where
@@ -72,7 +72,7 @@ TellsWhatIsMeant (Show image) files answer = Unit {0}
 TellsWhatIsMeant (Go source_name values_name control temporary budget image) files answer =
     (text values_text : List ℕ) (source : OneStatement) (values finals : List ℤ) (condition : Shown) (n : ℕ) → IsText files source_name text → IsText files values_name values_text
     → source_of text ≡ Some source → IsRunnable source control temporary values_text values → meaning source values n ≡ Done finals condition → instruction_count source ≤ budget
-    → TellsMeaning source (go_image source control temporary) finals condition answer
+    → TellsMeaning source (source_image source control temporary) finals condition answer
 TellsWhatIsMeant (Run image_name values_name budget) files answer =
     (bytes values_text : List ℕ) (image : ImageOf) (source : OneStatement) (values finals : List ℤ) (condition : Shown) (n : ℕ) → IsImageFile files image_name bytes image → IsText files values_name values_text
     → Implements image source → GivesNumbers source image values_text values → meaning source values n ≡ Done finals condition → instruction_count source ≤ budget

@@ -2,17 +2,11 @@
 #![tactic(auto)]
 
 mod command;
-mod emitter;
 mod end;
-mod form;
-mod generator;
 mod go;
 mod input;
-mod layout;
 mod name;
 mod number;
-mod piton;
-mod placer;
 mod print;
 mod program;
 mod reply;
@@ -20,12 +14,10 @@ mod row;
 mod run;
 mod runs;
 mod shows;
-mod source;
 mod stage;
 #[cfg(test)]
 mod tests;
 mod text;
-mod words;
 
 use program::cli;
 use stack_shelf::{FolderShelf, StdoutSink};

@@ -1,0 +1,119 @@
+-- The image of a program of one statement does what the source means.
+use Rattle.std.proofs.Common.{◌≡◌, ◌<◌, ◌≤◌, ◌+◌, ◌-◌, ℕ, ℤ, zero, suc, List, [], ◌∷◌, length, map, Some, None, refl, sym, ap, subst, ◌∙◌, arith, zero-add}
+use Rattle.std.specs.Prelude.{All, FitsSigned, slice_set}
+use Rattle.std.specs.Int.{w32}
+use Rattle.std.proofs.lemmas.List.{length-set, length-map, map-set}
+use Rattle.std.proofs.lemmas.List.Elements.{All-set}
+use Rattle.std.proofs.lemmas.List.FromFn.{length-range_with_len}
+use Rattle.fm_machine.specs.State.{Fm}
+use Rattle.fm_machine.specs.Run.{IsFirst}
+use Rattle.fm_machine.specs.Holds.{Holds}
+use Rattle.fm_machine.proofs.Rows.{moved, length-moved}
+use Rattle.fm_machine.proofs.Ends.{Ended, ended, reaches_from}
+use Rattle.stack_build.specs.declared.source.Statement.{Statement}
+use Rattle.stack_build.specs.declared.source.Statement.TheVariants as statement
+use Rattle.stack_build.specs.declared.source.OneStatement.{OneStatement}
+use Rattle.stack_build.specs.declared.piton.System.{System}
+use Rattle.stack_build.specs.Piton.{size_of_all, prelude_size}
+use Rattle.stack_build.specs.Placed.{assignment, generated, layout_of}
+use Rattle.stack_build.specs.Source.{source_of, IsSource}
+use Rattle.stack_build.specs.Image.{image_of}
+use Rattle.fm_loader.specs.Loaded.{word_of_number, loaded}
+use Rattle.display_maps.specs.declared.shown.Shown.{Shown}
+use Rattle.display_maps.specs.declared.shown.Shown.TheVariants.{Normal}
+use Rattle.display_maps.specs.Reading.{reading, word_of, condition_of}
+use Rattle.stack_build.specs.Build.{control_need, temporary_need, shortage_of, source_image}
+use Rattle.stack_build.specs.Meaning.{Done, integer, integers_read, variables_after, meaning, instruction_count, FitsVariables, Implements}
+use Rattle.stack_build.proofs.Standing.{parts_of, final_pc-parts_of, is_layout, is_laid, program_stands, main_stands, assignment_stands}
+use Rattle.stack_build.proofs.Walking.{with_pc, doing_nothing, assigning, passes, assigns}
+use Rattle.stack_build.proofs.ReadBack.{word_of_read, values_read, set_moved}
+use Rattle.stack_build.proofs.Sizes.{sizes_fit}
+use Rattle.stack_build.proofs.Sources.{source_is}
+
+-- the run of an image on values ends after exactly so many instructions, normally, with these values
+abbrev EndsNormally : List (List ℕ) → System → List ℤ → ℕ → List ℤ → Type 0
+EndsNormally names system values n finals =
+    (s : Fm) × IsFirst (loaded (image_of names system) (map integer values)) (layout_of system).final_pc n s × (reading (image_of names system) s ≡ integers_read names finals Normal)
+
+-- what is read of the state in which a run has ended
+ends_normally : (names : List (List ℕ)) (system : System) (values : List ℤ) (n : ℕ) (finals : List ℤ) (temp : List ℕ) → Ended (parts_of system) n (loaded (image_of names system) (map integer values)) 0 [] temp (2 ∷ []) → temp ≡ moved (map word_of_number finals) []
+    → length finals ≡ length names → All (FitsSigned w32) finals → length names < (layout_of system).end → EndsNormally names system values n finals
+unfolding condition_of
+ends_normally names system values n finals temp e is many fits below =
+    let top : ℕ = (layout_of system).end - length names in
+    let temp_many : length temp ≡ length finals = ap length is ∙ length-moved (map word_of_number finals) [] ∙ (let k = length-map finals word_of_number in omega arith) in
+    let end = e.temp_end in
+    let condition : condition_of [] (word_of e.state (layout_of system).condition) ≡ Normal = ap (condition_of []) (word_of_read e.state (layout_of system).condition 2 e.areas_held.0) in
+    let numbers = values_read e.state names ((layout_of system).end - 1) _ finals [] many (omega arith) (omega arith) fits (subst (Holds e.state.base e.state.memory _) is e.temp_held) in
+    (e.state, subst (λ a. IsFirst (loaded (image_of names system) (map integer values)) a n e.state) (final_pc-parts_of system) e.first, λ i. record { condition = Some (condition i); items = numbers i })
+
+-- the stacks are as large as the source needs
+abbrev HasRoom : OneStatement → ℕ → ℕ → Type 0
+HasRoom source control temporary = (control_need source ≤ control) × (temporary_need source ≤ temporary)
+
+module _ (variables : List (List ℕ)) (control temporary : ℕ) (few : length variables ≤ 200) (control_fits : control ≤ 65536) (temporary_fits : temporary ≤ 65536) (values : List ℤ) where
+  no_op_ends : HasRoom (doing_nothing variables) control temporary → FitsVariables (doing_nothing variables) values → EndsNormally variables (generated (doing_nothing variables) control temporary) values 6 values
+  unfolding size_of_all
+  no_op_ends room fits =
+      let source : OneStatement = doing_nothing variables in
+      let system : System = generated source control temporary in
+      let locals = length-range_with_len 0 (length variables) in
+      let c = room.0 in
+      let t = room.1 in
+      let is = is_layout system (omega arith) in
+      let laid = is_laid variables system values (omega arith) fits.many (omega arith) refl in
+      let start = with_pc (reaches_from is laid) (sym (zero-add (prelude_size system.main))) in
+      let code = program_stands (parts_of system) (layout_of system) 0 system.main (main_stands system) in
+      let h = passes (layout_of system) variables (0 + prelude_size system.main) (layout_of system).final_pc refl start code.1 laid.laid.ctrl_end in
+      ends_normally variables system values 6 values _ (ended h (sym (final_pc-parts_of system))) refl fits.many fits.numbers (omega arith)
+
+  assignment_ends : (variable : ℕ) (number : ℤ) → variable < length variables → FitsSigned w32 number → HasRoom (assigning variables variable number) control temporary
+      → FitsVariables (assigning variables variable number) values → EndsNormally variables (generated (assigning variables variable number) control temporary) values 28 (slice_set values variable number)
+  unfolding size_of_all
+  assignment_ends variable number below number_fits room fits =
+      let source : OneStatement = assigning variables variable number in
+      let system : System = generated source control temporary in
+      let locals = length-range_with_len 0 (length variables) in
+      let c = room.0 in
+      let t = room.1 in
+      let many = fits.many in
+      let numbers = length-map values word_of_number in
+      let temp : List ℕ = moved (map word_of_number values) [] in
+      let temp_many : length temp ≡ length variables = length-moved (map word_of_number values) [] ∙ omega arith in
+      let is = is_layout system (omega arith) in
+      let laid = is_laid variables system values (omega arith) fits.many (omega arith) refl in
+      let start = with_pc (reaches_from is laid) (sym (zero-add (prelude_size system.main))) in
+      let code = program_stands (parts_of system) (layout_of system) 0 system.main (main_stands system) in
+      let called = program_stands (parts_of system) (layout_of system) (layout_of system).assignment assignment (assignment_stands system) in
+      let h = assigns (layout_of system) variables variable number (0 + prelude_size system.main) (layout_of system).final_pc refl start code.1 called.0 called.1 laid.laid.ctrl_end (omega arith) (omega arith) refl below temp_many in
+      let set : slice_set temp (length temp - 1 - variable) (word_of_number number) ≡ moved (map word_of_number (slice_set values variable number)) [] =
+      set_moved (map word_of_number values) [] variable (length temp - 1 - variable) (word_of_number number) (omega arith) (omega arith) ∙ ap (λ (ws : List ℕ). moved ws []) (sym (map-set word_of_number values variable number)) in
+      let finals_many = length-set values variable number in
+      ends_normally variables system values 28 (slice_set values variable number) _ (ended h (sym (final_pc-parts_of system))) set (omega arith) (All-set (FitsSigned w32) values variable number number_fits fits.numbers) (omega arith)
+
+-- an end that the source means is what the image has to give
+as_meant : (source : OneStatement) (control temporary : ℕ) (values : List ℤ) → EndsNormally source.variables (generated source control temporary) values (instruction_count source) (variables_after source.statement values)
+    → (n : ℕ) (finals : List ℤ) (condition : Shown) → meaning source values n ≡ Done finals condition
+    → (s : Fm) × IsFirst (loaded (source_image source control temporary) (map integer values)) (source_image source control temporary).final_pc (instruction_count source) s × (reading (source_image source control temporary) s ≡ integers_read source.variables finals condition)
+unfolding source_image
+as_meant source control temporary values g zero finals condition h = cc
+as_meant source control temporary values g (suc n) finals condition h =
+    let ends : Normal ≡ condition = cc in
+    let sets : variables_after source.statement values ≡ finals = cc in
+    (g.0, g.1, g.2 ∙ (λ i. integers_read source.variables (sets i) (ends i)))
+
+by_statement : (variables : List (List ℕ)) (s : Statement) (control temporary : ℕ) → IsSource record { variables = variables; statement = s } → control ≤ 65536 → temporary ≤ 65536 → shortage_of record { variables = variables; statement = s } control temporary ≡ None
+    → Implements (source_image record { variables = variables; statement = s } control temporary) record { variables = variables; statement = s }
+by_statement variables statement.NoOp control temporary is c t none values n finals condition fits h =
+    as_meant (doing_nothing variables) control temporary values (no_op_ends variables control temporary is.variables.few c t values (sizes_fit (doing_nothing variables) control temporary none) fits) n finals condition h
+by_statement variables (statement.Assign variable number) control temporary is c t none values n finals condition fits h =
+    let source : OneStatement = assigning variables variable number in
+    as_meant source control temporary values (assignment_ends variables control temporary is.variables.few c t values variable number is.statement.0 is.statement.1 (sizes_fit source control temporary none) fits) n finals condition h
+
+-- the image of each source, at each size that is accepted, implements it
+pub source_implements : (source : OneStatement) (control temporary : ℕ) → IsSource source → control ≤ 65536 → temporary ≤ 65536 → shortage_of source control temporary ≡ None → Implements (source_image source control temporary) source
+source_implements source control temporary is c t none = by_statement source.variables source.statement control temporary is c t none
+
+-- so does that of each source that is read
+pub implements : (text : List ℕ) (source : OneStatement) (control temporary : ℕ) → source_of text ≡ Some source → control ≤ 65536 → temporary ≤ 65536 → shortage_of source control temporary ≡ None → Implements (source_image source control temporary) source
+implements text source control temporary read c t none = source_implements source control temporary (source_is text source read) c t none

@@ -1,0 +1,16 @@
+pub mod BuiltLaws
+pub mod Declared
+pub mod Emitted
+pub mod FittingValues
+pub mod ImageBytes
+pub mod ImageLimits
+pub mod ImageWords
+pub mod Implementing
+pub mod Laying
+pub mod Placing
+pub mod ReadBack
+pub mod Sizes
+pub mod Slots
+pub mod Sources
+pub mod Standing
+pub mod Walking
