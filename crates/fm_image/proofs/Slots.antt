@@ -2,13 +2,15 @@
 use Rattle.std.proofs.Common.{◌≡◌, ℕ, ◌+◌, ◌^◌, ◌<◌, ◌≤◌, Bool, true, false, not, cond, ◌&&◌, ltb, leb, eqb, List, ◌++◌, Option, Some, None, Result, Ok, refl, sym, ap, subst, ◌∙◌, append_assoc, arith, inl, inr}
 use Rattle.std.specs.List.{list_any}
 use Rattle.std.specs.Str.{bytes_eq}
-use Rattle.std.proofs.lemmas.Bool.{lt-ltb, ltb-true, leb-true, and_parts, and_from, eqb-true, ne_eqb, cases_Bool, agree_below_at}
+use Rattle.std.proofs.lemmas.Bool.{lt-ltb, le-leb, ltb-true, leb-true, and_parts, and_from, eqb-true, ne_eqb, cases_Bool, agree_below_at}
 use Rattle.stack_text.specs.declared.shape.Kind.{Kind}
 use Rattle.stack_text.specs.declared.shape.Kind.TheVariants.{Integer, Boolean, Character}
 use Rattle.stack_text.specs.declared.shape.Shape.{Shape}
 use Rattle.stack_text.specs.Names.{is_name}
 use Rattle.stack_text.specs.Values.{item_count}
+use Rattle.fm_words.specs.declared.condition.Flags.{Flags}
 use Rattle.fm_words.specs.Code.{flags_of, flags_number}
+use Rattle.fm_words.proofs.FlagsLaws.{flags_of_back, flags_number_back, flags_number_below}
 use Rattle.fm_image.specs.declared.slot.Slot.{Slot}
 use Rattle.fm_image.specs.declared.window.Window.{Window}
 use Rattle.fm_image.specs.Image.{is_size, is_inside, is_window, is_condition_address, is_slot, is_slot_address}
@@ -22,33 +24,21 @@ use Rattle.fm_image.proofs.Fields.{limited_reads, both, name_reads}
 
 -- ---- flags
 
-flags_there : (c v n z : Bool) → (flags_of (flags_number (record { c = c; v = v; n = n; z = z })) ≡ record { c = c; v = v; n = n; z = z }) × ((is_word (flags_number (record { c = c; v = v; n = n; z = z })) && is_flags (flags_number (record { c = c; v = v; n = n; z = z }))) ≡ true)
-flags_there false false false false = (refl, refl)
-flags_there false false false true = (refl, refl)
-flags_there false false true false = (refl, refl)
-flags_there false false true true = (refl, refl)
-flags_there false true false false = (refl, refl)
-flags_there false true false true = (refl, refl)
-flags_there false true true false = (refl, refl)
-flags_there false true true true = (refl, refl)
-flags_there true false false false = (refl, refl)
-flags_there true false false true = (refl, refl)
-flags_there true false true false = (refl, refl)
-flags_there true false true true = (refl, refl)
-flags_there true true false false = (refl, refl)
-flags_there true true false true = (refl, refl)
-flags_there true true true false = (refl, refl)
-flags_there true true true true = (refl, refl)
+flags_there : (f : Flags) → (flags_of (flags_number f) ≡ f) × ((is_word (flags_number f) && is_flags (flags_number f)) ≡ true)
+flags_there f =
+    let n = flags_number f in
+    let below : n < 16 = flags_number_below f in
+    (flags_of_back f, and_from (is_word n) (is_flags n) (lt-ltb n (2 ^ 32) (omega arith)) (le-leb n 15 (omega arith)))
 
 flags_back : (n : ℕ) → (is_word n && is_flags n) ≡ true → (flags_number (flags_of n) ≡ n) × (true ≡ true)
 flags_back n h =
     let le : n ≤ 15 = leb-true n 15 (and_parts (is_word n) (is_flags n) h).1 in
-    (eqb-true _ _ (agree_below_at (λ k. eqb (flags_number (flags_of k)) k) (λ k. true) 16 n refl (omega (arith, le))), refl)
+    (flags_number_back n (omega (arith, le)), refl)
 
 pub flags_reads : (end : ℕ) → Reads (flags_at end) flags_bytes (λ flags. true)
 flags_reads end =
     coded_reads flags_of flags_number (passing is_flags 5 end (number_at end)) number_bytes (λ n. is_word n && is_flags n) (λ flags. true) (limited_reads is_flags 5 end)
-    flags_back (λ f h. flags_there f.c f.v f.n f.z)
+    flags_back (λ f h. flags_there f)
 
 -- ---- the condition address
 

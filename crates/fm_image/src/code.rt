@@ -1,34 +1,13 @@
-//! The numbers that stand for flags, kinds and addresses.
+//! The numbers that stand for kinds and addresses.
 
-ghost use Rattle.std.specs.Prelude.{◌≡◌, ◌<◌, ◌≤◌};
-ghost use Rattle.fm_words.specs.Code.{flags_of, flags_number};
+ghost use Rattle.std.specs.Prelude.{◌≡◌, ◌≤◌};
 ghost use Rattle.fm_image.specs.Spelling.{address_number, kind_number};
 ghost use Rattle.fm_image.specs.Reading.{address_of, kind_of};
 
-use fm_words::Flags;
 use stack_text::Kind;
 
 /// The number that says that there is no condition word.
 const NO_ADDRESS: u32 = u32::MAX;
-
-/// The flags of a number, whose bits from the highest are c, v, n and z.
-pub(crate) fn flags_from(number: u32) -> Flags
-    ensures { result ≡ flags_of number }
-{
-    Flags {
-        c: number / 8 % 2 == 1,
-        v: number / 4 % 2 == 1,
-        n: number / 2 % 2 == 1,
-        z: number % 2 == 1,
-    }
-}
-
-/// The number of four flags.
-pub(crate) fn flags_bits(flags: Flags) -> u32
-    ensures { result ≡ flags_number flags }
-{
-    8 * u32::from(flags.c) + 4 * u32::from(flags.v) + 2 * u32::from(flags.n) + u32::from(flags.z)
-}
 
 /// The kind of a number.
 pub(crate) fn kind_from(number: u32) -> Kind

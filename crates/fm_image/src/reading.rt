@@ -8,7 +8,7 @@ ghost use Rattle.std.specs.Str.{bytes_eq};
 ghost use Rattle.fm_image.specs.Fields.{Gives, place, number_at, bytes_at, text_at};
 ghost use Rattle.fm_image.specs.Reading.{opening_at, window_at, numbers_at, flags_at, condition_address_at, name_at, condition_at, count_at, conditions_at, kind_at, shape_at, slot_name_at, slot_at, slots_at, words_at, image_at, read_of, TellsFault};
 
-use crate::code::{address_from, flags_from, kind_from};
+use crate::code::{address_from, kind_from};
 use crate::fault::ImageFault;
 use crate::image::Image;
 use crate::limit::{
@@ -117,7 +117,7 @@ fn flags(end: usize, left: &[u8]) -> Result<(Flags, &[u8]), ImageFault>
     if bits > 15 {
         return Err(refused(5, end, left));
     }
-    Ok((flags_from(bits), rest))
+    Ok((Flags::from_bits(bits), rest))
 }
 
 fn condition_address(

@@ -5,7 +5,7 @@ ghost use Rattle.std.specs.List.{flat_map};
 ghost use Rattle.fm_image.specs.Image.{window_of};
 ghost use Rattle.fm_image.specs.Spelling.{number_bytes, numbers_bytes, name_bytes, counted_bytes, slot_bytes, opening_bytes, window_bytes, flags_bytes, condition_address_bytes, spelling};
 
-use crate::code::{address_bits, flags_bits, kind_bits};
+use crate::code::{address_bits, kind_bits};
 use crate::image::Image;
 use crate::slot::Slot;
 use stack_text::{Memory, Name};
@@ -94,7 +94,7 @@ pub fn write_image(alloc: Global, image: &Image) -> Result<Vec<u8>, Memory>
 {
     let mut bytes = opening(alloc, image.base, image.size, image.final_pc)?;
     push_numbers(&mut bytes, &image.registers)?;
-    push_number(&mut bytes, flags_bits(image.flags))?;
+    push_number(&mut bytes, image.flags.bits())?;
     push_number(&mut bytes, address_bits(image.condition_address))?;
     push_conditions(&mut bytes, &image.conditions)?;
     push_slots(&mut bytes, &image.slots)?;

@@ -26,7 +26,8 @@ use Rattle.stack_text.specs.Options as options
 use Rattle.stack_text.specs.Results.{◌>>=◌}
 use Rattle.stack_text.proofs.ResultLaws.{bind_ok}
 use Rattle.stack_text.proofs.OptionLaws.{bind_some}
-use Rattle.fm_loader.specs.Written.{fits_32_bits, in_32_bits, character_of, scalar_of, scalar_at, scalars_of, written_of, name_at, pair_of, entry_of}
+use Rattle.fm_words.specs.Word.{is_int}
+use Rattle.fm_loader.specs.Written.{in_32_bits, character_of, scalar_of, scalar_at, scalars_of, written_of, name_at, pair_of, entry_of}
 use Rattle.fm_loader.specs.Values.{entry_at, entries_of, misfit, broken_by, slot_named, is_named, rule_of, entry_fault, number_of, numbers_of, numbers_for, value_with, value_for, unless_fault, found_in, all_found, values_at, values_on, values_in, HaveOwnNames}
 use Rattle.fm_loader.specs.Gives.{Gives}
 use Rattle.fm_loader.specs.Loaded.{Fits}
@@ -190,14 +191,10 @@ values_are slots text values own h =
 
 -- ---- each item has 32 signed bits
 
-pub fits_signed : (number : ℤ) → fits_32_bits number ≡ true → FitsSigned w32 number
-fits_signed (pos n) h = record { sfits = ltb-true n (2 ^ 31) h }
-fits_signed (negsuc n) h = record { sfits = ltb-true n (2 ^ 31) h }
-
-in_bits : (number : ℤ) → fits_32_bits (unwrap_or (in_32_bits number) (pos 0)) ≡ true
-in_bits number = by_test (fits_32_bits number) refl
+in_bits : (number : ℤ) → is_int (unwrap_or (in_32_bits number) (pos 0)) ≡ true
+in_bits number = by_test (is_int number) refl
   where
-    by_test : (b : Bool) → fits_32_bits number ≡ b → fits_32_bits (unwrap_or (cond b (Some number) None) (pos 0)) ≡ true
+    by_test : (b : Bool) → is_int number ≡ b → is_int (unwrap_or (cond b (Some number) None) (pos 0)) ≡ true
     by_test true e = e
     by_test false e = refl
 
@@ -206,29 +203,29 @@ where_true : (b : Bool) (s t : Scalar) → cond b (Some s) None ≡ Some t → s
 where_true true s t h = cc
 where_true false s t h = cc
 
-character_bits : (word : List ℕ) (s : Scalar) → character_of word ≡ Some s → fits_32_bits (number_of s) ≡ true
+character_bits : (word : List ℕ) (s : Scalar) → character_of word ≡ Some s → is_int (number_of s) ≡ true
 character_bits [] s h = cc
 character_bits (mark ∷ digits) s h =
     let is = where_true (eqb mark 35 && is_digits digits) (record { kind = Character; number = in_32_bits (numeral_value digits) }) s h in
-    subst (λ (t : Scalar). fits_32_bits (number_of t) ≡ true) is (in_bits (numeral_value digits))
+    subst (λ (t : Scalar). is_int (number_of t) ≡ true) is (in_bits (numeral_value digits))
 
-first_or : (b : Bool) (s t : Scalar) (o : Option Scalar) → cond b (Some s) o ≡ Some t → fits_32_bits (number_of s) ≡ true → (o ≡ Some t → fits_32_bits (number_of t) ≡ true) → fits_32_bits (number_of t) ≡ true
-first_or true s t o h fits later = let is : s ≡ t = cc in subst (λ (u : Scalar). fits_32_bits (number_of u) ≡ true) is fits
+first_or : (b : Bool) (s t : Scalar) (o : Option Scalar) → cond b (Some s) o ≡ Some t → is_int (number_of s) ≡ true → (o ≡ Some t → is_int (number_of t) ≡ true) → is_int (number_of t) ≡ true
+first_or true s t o h fits later = let is : s ≡ t = cc in subst (λ (u : Scalar). is_int (number_of u) ≡ true) is fits
 first_or false s t o h fits later = later h
 
-scalar_bits : (word : List ℕ) (s : Scalar) → scalar_of word ≡ Some s → fits_32_bits (number_of s) ≡ true
+scalar_bits : (word : List ℕ) (s : Scalar) → scalar_of word ≡ Some s → is_int (number_of s) ≡ true
 unfolding scalar_of
 scalar_bits word s h =
     first_or (bytes_eq word (codes "true")) (record { kind = Boolean; number = Some (pos 1) }) s (cond (bytes_eq word (codes "false")) (Some (record { kind = Boolean; number = Some (pos 0) })) (cond (is_numeral word) (Some (record { kind = Integer; number = in_32_bits (numeral_value word) })) (character_of word))) h refl (λ h.
     first_or (bytes_eq word (codes "false")) (record { kind = Boolean; number = Some (pos 0) }) s (cond (is_numeral word) (Some (record { kind = Integer; number = in_32_bits (numeral_value word) })) (character_of word)) h refl (λ h.
     first_or (is_numeral word) (record { kind = Integer; number = in_32_bits (numeral_value word) }) s (character_of word) h (in_bits (numeral_value word)) (character_bits word s)))
 
-scalar_at_bits : (tree : Node) (s : Scalar) → scalar_at tree ≡ Some s → fits_32_bits (number_of s) ≡ true
+scalar_at_bits : (tree : Node) (s : Scalar) → scalar_at tree ≡ Some s → is_int (number_of s) ≡ true
 scalar_at_bits (atom place word) s h = scalar_bits word s h
 scalar_at_bits (list place trees) s h = cc
 
 abbrev are_bits : List ℤ → Bool
-are_bits numbers = list_all fits_32_bits numbers
+are_bits numbers = list_all is_int numbers
 
 scalars_bits : (trees : Nodes) (scalars : List Scalar) → scalars_of trees ≡ Some scalars → are_bits (map number_of scalars) ≡ true
 unfolding scalars_of
@@ -239,7 +236,7 @@ scalars_bits (more tree trees) scalars h =
     let is : p.0 ∷ q.0 ≡ scalars = cc (q.2) in
     subst (λ (ss : List Scalar). are_bits (map number_of ss) ≡ true) is (and_from _ _ (scalar_at_bits tree p.0 p.1) (scalars_bits trees q.0 q.1))
 
-single_bits : (o : Option Scalar) (value : Written) → ((s : Scalar) → o ≡ Some s → fits_32_bits (number_of s) ≡ true) → option_map Single o ≡ Some value → are_bits (numbers_of value) ≡ true
+single_bits : (o : Option Scalar) (value : Written) → ((s : Scalar) → o ≡ Some s → is_int (number_of s) ≡ true) → option_map Single o ≡ Some value → are_bits (numbers_of value) ≡ true
 single_bits None value fits h = cc
 single_bits (Some s) value fits h = let is : Single s ≡ value = cc in subst (λ (w : Written). are_bits (numbers_of w) ≡ true) is (and_from _ _ (fits s refl) refl)
 
@@ -288,12 +285,12 @@ numbers_bits name (entry ∷ entries) numbers fit h =
     by_name true fits h later = let is : numbers_of entry.value ≡ numbers = cc in subst (λ (ns : List ℤ). are_bits ns ≡ true) is fits
     by_name false fits h later = later h
 
-pub values_have_32_bits : (slots : List Slot) (text : List ℕ) (values : List ValueOf) → values_in slots text ≡ Ok values → list_all (λ value. list_all fits_32_bits value.items) values ≡ true
+pub values_have_32_bits : (slots : List Slot) (text : List ℕ) (values : List ValueOf) → values_in slots text ≡ Ok values → list_all (λ value. list_all is_int value.items) values ≡ true
 values_have_32_bits slots text values h =
     let given = given_in slots text values h in
     let g = given.1 in
     let fit = entries_bits given.0 g.entries g.read in
-    all_from_gets (λ value. list_all fits_32_bits value.items) values (λ i value at.
+    all_from_gets (λ value. list_all is_int value.items) values (λ i value at.
     let p = paired g.entries slots values i value g.values_are at in
     let q = value_numbers p.slot.shape (numbers_for p.slot.name g.entries) value p.is in
     numbers_bits p.slot.name g.entries value.items fit q.0)

@@ -2,14 +2,10 @@
 use Rattle.std.specs.Prelude.{◌≡◌, ℕ, ◌+◌, ◌-◌, ◌^◌, ℤ, pos, negsuc, List, [], ◌∷◌, map, replicate, IsTrue, nat_le}
 use Rattle.std.specs.List.{list_all}
 use Rattle.stack_text.specs.Values.{ValueOf, item_count}
+use Rattle.fm_words.specs.Word.{word_of_int}
 use Rattle.fm_machine.specs.State.{Fm, with_word}
 use Rattle.fm_image.specs.declared.slot.Slot.{Slot}
 use Rattle.fm_image.specs.Image.{ImageOf}
-
--- a number of 32 signed bits, modulo 2^32
-abbrev pub word_of_number : ℤ → ℕ
-word_of_number (pos n) = n
-word_of_number (negsuc n) = 2 ^ 32 - 1 - n
 
 -- a value of its shape for each slot
 abbrev pub Fits : List Slot → List ValueOf → Type 0
@@ -27,7 +23,7 @@ with_words base address (word ∷ words) memory = with_words base (address + 1) 
 -- items stored from an address downwards
 abbrev pub with_items : ℕ → ℕ → List ℤ → List ℕ → List ℕ
 with_items base address [] memory = memory
-with_items base address (item ∷ items) memory = with_items base (address - 1) items (with_word base memory address (word_of_number item))
+with_items base address (item ∷ items) memory = with_items base (address - 1) items (with_word base memory address (word_of_int item))
 
 -- each value stored in its slot
 abbrev pub with_values : ℕ → List Slot → List ValueOf → List ℕ → List ℕ

@@ -2,6 +2,7 @@
 use Rattle.std.specs.Prelude.{ℕ, ℤ, pos, negsuc, ◌^◌, List, [], ◌∷◌, Option, Some, None, Bool, ◌&&◌, ◌==◌, nat_lt, if◌then◌else◌, codes}
 use Rattle.std.specs.Option.{option_map}
 use Rattle.std.specs.Str.{bytes_eq}
+use Rattle.fm_words.specs.Word.{is_int}
 use Rattle.stack_text.specs.declared.shape.Kind.TheVariants.{Integer, Boolean, Character}
 use Rattle.stack_text.specs.Options.{◌>>=◌}
 use Rattle.stack_text.specs.Numerals.{is_digits, is_numeral, numeral_value}
@@ -12,14 +13,10 @@ use Rattle.fm_loader.specs.declared.written.Written.{Written}
 use Rattle.fm_loader.specs.declared.written.Written.TheVariants.{Single, Several}
 use Rattle.fm_loader.specs.declared.written.Entry.{Entry}
 
--- from -2^31 to 2^31 - 1, where `negsuc n` is -(n + 1)
-abbrev pub fits_32_bits : ℤ → Bool
-fits_32_bits (pos n) = nat_lt n (2 ^ 31)
-fits_32_bits (negsuc n) = nat_lt n (2 ^ 31)
 
 -- the number, where it has 32 signed bits
 abbrev pub in_32_bits : ℤ → Option ℤ
-in_32_bits number = if fits_32_bits number then Some number else None
+in_32_bits number = if is_int number then Some number else None
 
 -- `#` and digits
 abbrev pub character_of : List ℕ → Option Scalar

@@ -3,19 +3,13 @@
 ghost use Rattle.std.specs.Prelude.{◌≡◌, ◌+◌, ◌≤◌, ◌<◌, ◌^◌, length, IfOk};
 ghost use Rattle.fm_machine.specs.State.{with_word};
 ghost use Rattle.stack_text.specs.Values.{item_count};
-ghost use Rattle.fm_loader.specs.Loaded.{word_of_number, Fits, HaveRoom, with_words, with_items, with_values, loaded};
+ghost use Rattle.fm_loader.specs.Loaded.{Fits, HaveRoom, with_words, with_items, with_values, loaded};
 
 use fm_image::{Image, Slot};
 use fm_machine::{Machine, NewFault};
+use fm_words::word_of_int;
 use stack_text::{Memory, Value};
 use std::alloc::Global;
-
-/// A number as a word.
-fn word_of_number(number: i32) -> u32
-    ensures { result ≡ word_of_number number }
-{
-    number.cast_unsigned()
-}
 
 /// Sets a word of the window from the base on. Beyond the end of the window there is nothing to set.
 fn set(machine: &mut Machine, base: u32, address: u32, word: u32)
@@ -44,7 +38,7 @@ fn set_items(machine: &mut Machine, base: u32, address: u32, items: &[i32])
     ensures { machine.new.state ≡ record machine.old.state { memory = with_items base address items.now machine.old.state.memory } }
 {
     for (place, item) in items.iter().enumerate() {
-        set(machine, base, address - place as u32, word_of_number(*item));
+        set(machine, base, address - place as u32, word_of_int(*item));
     }
 }
 

@@ -1,7 +1,7 @@
 //! How an instruction finds its operands in the registers, and which flags it sets.
 
 ghost use Rattle.std.specs.Prelude.{◌≡◌, ◌<◌};
-ghost use Rattle.fm_machine.specs.Step.{address_of, passed, word_of, reads_b, flags_set};
+ghost use Rattle.fm_machine.specs.Step.{address_of, passed, reads_b, flags_set};
 
 use fm_words::{AluOut, Flags, Mode, Op};
 
@@ -33,17 +33,6 @@ pub(crate) fn pass(mode: Mode, reg: u8, registers: &mut Registers)
         Mode::PreDecrement => registers[at] = registers[at].wrapping_sub(1),
         Mode::PostIncrement => registers[at] = registers[at].wrapping_add(1),
         Mode::Register | Mode::Indirect => {}
-    }
-}
-
-// An immediate as a word.
-pub(crate) fn immediate(number: i16) -> u32
-    ensures { result ≡ word_of number }
-{
-    if number >= 0 {
-        number as u32
-    } else {
-        (i64::from(number) + 0x1_0000_0000) as u32
     }
 }
 

@@ -1,14 +1,14 @@
 -- An instruction's word gives its fields back.
-use Rattle.std.proofs.Common.{◌≡◌, ℕ, zero, suc, ◌+◌, ◌-◌, ◌*◌, ◌/◌, ◌%◌, ◌^◌, ◌<◌, Bool, true, false, arith, refl, ap, ◌∙◌, add-zero}
+use Rattle.std.proofs.Common.{◌≡◌, ℕ, zero, suc, ◌+◌, ◌-◌, ◌*◌, ◌/◌, ◌%◌, ◌^◌, ◌<◌, true, arith, refl, ap, ◌∙◌, add-zero}
 use Rattle.std.proofs.lemmas.Bool.Decides.{nat_tests}
 use Rattle.std.proofs.lemmas.Int.{ints}
 use Rattle.std.specs.Prelude.{nat_lt, ℤ, pos, negsuc}
-use Rattle.fm_words.specs.Code.{op_of, cc_of, mode_of, flags_of, imm_of, operand_of, decode_of, op_number, cc_number, mode_number, flags_number, imm_number, operand_number, encode_of, IsOperand, IsInstr, significant}
+use Rattle.fm_words.specs.Code.{op_of, cc_of, mode_of, flags_of, imm_of, operand_of, decode_of, op_number, cc_number, mode_number, imm_number, operand_number, encode_of, IsOperand, IsInstr, significant}
+use Rattle.fm_words.proofs.FlagsLaws.{flags_of_back, flags_number_back, flags_number_below}
 use Rattle.fm_words.specs.declared.operation.Op.{Op}
 use Rattle.fm_words.specs.declared.operation.Op.TheVariants.{Move, Inc, Addc, Add, Neg, Dec, Subb, Sub, Ror, Asr, Lsr, Xor, Or, And, Not, M15}
 use Rattle.fm_words.specs.declared.condition.Cc.{Cc}
 use Rattle.fm_words.specs.declared.condition.Cc.TheVariants as cc
-use Rattle.fm_words.specs.declared.condition.Flags.{Flags}
 use Rattle.fm_words.specs.declared.instruction.Mode.{Mode}
 use Rattle.fm_words.specs.declared.instruction.Mode.TheVariants.{Register, Indirect, PreDecrement, PostIncrement}
 use Rattle.fm_words.specs.declared.instruction.OperandA.{OperandA}
@@ -61,27 +61,6 @@ mode_back Indirect = record { back = refl; below = omega arith }
 mode_back PreDecrement = record { back = refl; below = omega arith }
 mode_back PostIncrement = record { back = refl; below = omega arith }
 
-flags_from_bits : (c v n z : Bool) → IsOf flags_of flags_number 16 record { c = c; v = v; n = n; z = z }
-flags_from_bits false false false false = record { back = refl; below = omega arith }
-flags_from_bits false false false true = record { back = refl; below = omega arith }
-flags_from_bits false false true false = record { back = refl; below = omega arith }
-flags_from_bits false false true true = record { back = refl; below = omega arith }
-flags_from_bits false true false false = record { back = refl; below = omega arith }
-flags_from_bits false true false true = record { back = refl; below = omega arith }
-flags_from_bits false true true false = record { back = refl; below = omega arith }
-flags_from_bits false true true true = record { back = refl; below = omega arith }
-flags_from_bits true false false false = record { back = refl; below = omega arith }
-flags_from_bits true false false true = record { back = refl; below = omega arith }
-flags_from_bits true false true false = record { back = refl; below = omega arith }
-flags_from_bits true false true true = record { back = refl; below = omega arith }
-flags_from_bits true true false false = record { back = refl; below = omega arith }
-flags_from_bits true true false true = record { back = refl; below = omega arith }
-flags_from_bits true true true false = record { back = refl; below = omega arith }
-flags_from_bits true true true true = record { back = refl; below = omega arith }
-
-flags_back : (f : Flags) → IsOf flags_of flags_number 16 f
-flags_back f = flags_from_bits f.c f.v f.n f.z
-
 -- the six fields in one word
 word_from : ℕ → ℕ → ℕ → ℕ → ℕ → ℕ → ℕ
 word_from o c f m r a = 2 ^ 24 * o + 2 ^ 20 * c + 2 ^ 16 * f + 2 ^ 14 * m + 2 ^ 10 * r + a
@@ -133,13 +112,13 @@ pub decode_encode : (i : Instr) → IsInstr i → decode_of (encode_of i) ≡ i
 decode_encode i h =
     let o = op_back i.op in
     let k = cc_back i.cc in
-    let f = flags_back i.set in
+    let f_below = flags_number_below i.set in
     let m = mode_back i.mode_b in
     let b = operand_below i.a h.1 in
-    let s = fields (encode_of i) _ _ _ _ _ _ refl o.below k.below f.below m.below h.0 b in
+    let s = fields (encode_of i) _ _ _ _ _ _ refl o.below k.below f_below m.below h.0 b in
     let e_o : op_of (encode_of i / 2 ^ 24 % 16) ≡ i.op = ap op_of s.o_is ∙ o.back in
     let e_c : cc_of (encode_of i / 2 ^ 20 % 16) ≡ i.cc = ap cc_of s.c_is ∙ k.back in
-    let e_f : flags_of (encode_of i / 2 ^ 16 % 16) ≡ i.set = ap flags_of s.f_is ∙ f.back in
+    let e_f : flags_of (encode_of i / 2 ^ 16 % 16) ≡ i.set = ap flags_of s.f_is ∙ flags_of_back i.set in
     let e_m : mode_of (encode_of i / 2 ^ 14 % 4) ≡ i.mode_b = ap mode_of s.m_is ∙ m.back in
     let e_r : encode_of i / 2 ^ 10 % 16 ≡ i.reg_b = s.r_is in
     let e_a : operand_of (encode_of i) ≡ i.a = operand_back (encode_of i) i.a h.1 s.a_is in
@@ -191,25 +170,6 @@ mode_there (suc (suc zero)) h = refl
 mode_there (suc (suc (suc zero))) h = refl
 mode_there (suc (suc (suc (suc n)))) h = absurd (omega arith)
 
-flags_there : (n : ℕ) → n < 16 → flags_number (flags_of n) ≡ n
-flags_there zero h = refl
-flags_there (suc zero) h = refl
-flags_there (suc (suc zero)) h = refl
-flags_there (suc (suc (suc zero))) h = refl
-flags_there (suc (suc (suc (suc zero)))) h = refl
-flags_there (suc (suc (suc (suc (suc zero))))) h = refl
-flags_there (suc (suc (suc (suc (suc (suc zero)))))) h = refl
-flags_there (suc (suc (suc (suc (suc (suc (suc zero))))))) h = refl
-flags_there (suc (suc (suc (suc (suc (suc (suc (suc zero)))))))) h = refl
-flags_there (suc (suc (suc (suc (suc (suc (suc (suc (suc zero))))))))) h = refl
-flags_there (suc (suc (suc (suc (suc (suc (suc (suc (suc (suc zero)))))))))) h = refl
-flags_there (suc (suc (suc (suc (suc (suc (suc (suc (suc (suc (suc zero))))))))))) h = refl
-flags_there (suc (suc (suc (suc (suc (suc (suc (suc (suc (suc (suc (suc zero)))))))))))) h = refl
-flags_there (suc (suc (suc (suc (suc (suc (suc (suc (suc (suc (suc (suc (suc zero))))))))))))) h = refl
-flags_there (suc (suc (suc (suc (suc (suc (suc (suc (suc (suc (suc (suc (suc (suc zero)))))))))))))) h = refl
-flags_there (suc (suc (suc (suc (suc (suc (suc (suc (suc (suc (suc (suc (suc (suc (suc zero))))))))))))))) h = refl
-flags_there (suc (suc (suc (suc (suc (suc (suc (suc (suc (suc (suc (suc (suc (suc (suc (suc n)))))))))))))))) h = absurd (omega arith)
-
 imm_there : (n : ℕ) → n < 512 → imm_number (imm_of n) ≡ n
 imm_there n h = grind (arith, nat_tests, ints)
 
@@ -238,7 +198,7 @@ encode_decode w = by_bit (w / 512 % 2) refl (omega arith)
   where
     sum : (low : ℕ) → operand_number (operand_of w) + low ≡ w % 1024 → encode_of (decode_of w) ≡ w % 2 ^ 28 - low
     sum low e =
-        sum_is w _ _ _ _ _ low (op_there (w / 2 ^ 24 % 16) (omega arith)) (cc_there (w / 2 ^ 20 % 16) (omega arith)) (flags_there (w / 2 ^ 16 % 16) (omega arith)) (mode_there (w / 2 ^ 14 % 4) (omega arith)) e
+        sum_is w _ _ _ _ _ low (op_there (w / 2 ^ 24 % 16) (omega arith)) (cc_there (w / 2 ^ 20 % 16) (omega arith)) (flags_number_back (w / 2 ^ 16 % 16) (omega arith)) (mode_there (w / 2 ^ 14 % 4) (omega arith)) e
 
     by_bit : (t : ℕ) → w / 512 % 2 ≡ t → t < 2 → encode_of (decode_of w) ≡ significant w
     by_bit zero e h = sum (w / 64 % 8 * 64) (operand_zero w e) ∙ rw e refl

@@ -1,7 +1,7 @@
 -- The operations and the store conditions, as whole-number arithmetic.
 use Rattle.std.specs.Prelude.{ℕ, ◌+◌, ◌-◌, ◌*◌, ◌/◌, ◌%◌, ◌^◌, ◌==◌, Bool, true, false, not, ◌&&◌, ◌||◌, nat_lt, nat_le, pos, ◌+ℤ◌, ◌-ℤ◌, bit_and, bit_or, bit_xor}
 use Rattle.std.specs.Int.{from_bool as bit_of}
-use Rattle.fm_words.specs.Word.{signed_of, is_outside}
+use Rattle.fm_words.specs.Word.{signed_of, is_int}
 use Rattle.fm_words.specs.declared.operation.Op.{Op}
 use Rattle.fm_words.specs.declared.operation.Op.TheVariants.{Move, Inc, Addc, Add, Neg, Dec, Subb, Sub, Ror, Asr, Lsr, Xor, Or, And, Not, M15}
 use Rattle.fm_words.specs.declared.condition.Cc.{Cc}
@@ -17,18 +17,26 @@ plain word = record { word = word; c = false; v = false }
 abbrev pub alu_of : Op → Bool → ℕ → ℕ → AluOut
 alu_of Move c a b = plain a
 alu_of Inc c a b =
-    record { word = (a + 1) % 2 ^ 32; c = nat_le (2 ^ 32) (a + 1); v = is_outside (signed_of a +ℤ pos 1) }
+    record { word = (a + 1) % 2 ^ 32; c = nat_le (2 ^ 32) (a + 1); v = not (is_int (signed_of a +ℤ pos 1)) }
 alu_of Addc c a b =
-    record { word = (a + b + bit_of c) % 2 ^ 32; c = nat_le (2 ^ 32) (a + b + bit_of c); v = is_outside (signed_of a +ℤ signed_of b +ℤ pos (bit_of c)) }
+    record {
+      word = (a + b + bit_of c) % 2 ^ 32;
+      c = nat_le (2 ^ 32) (a + b + bit_of c);
+      v = not (is_int (signed_of a +ℤ signed_of b +ℤ pos (bit_of c)));
+    }
 alu_of Add c a b =
-    record { word = (a + b) % 2 ^ 32; c = nat_le (2 ^ 32) (a + b); v = is_outside (signed_of a +ℤ signed_of b) }
+    record { word = (a + b) % 2 ^ 32; c = nat_le (2 ^ 32) (a + b); v = not (is_int (signed_of a +ℤ signed_of b)) }
 alu_of Neg c a b = record { word = (2 ^ 32 - a) % 2 ^ 32; c = nat_lt 0 a; v = a == 2 ^ 31 }
 alu_of Dec c a b =
-    record { word = (a + 2 ^ 32 - 1) % 2 ^ 32; c = a == 0; v = is_outside (signed_of a -ℤ pos 1) }
+    record { word = (a + 2 ^ 32 - 1) % 2 ^ 32; c = a == 0; v = not (is_int (signed_of a -ℤ pos 1)) }
 alu_of Subb c a b =
-    record { word = (b + 2 ^ 32 - (a + bit_of c)) % 2 ^ 32; c = nat_lt b (a + bit_of c); v = is_outside (signed_of b -ℤ signed_of a -ℤ pos (bit_of c)) }
+    record {
+      word = (b + 2 ^ 32 - (a + bit_of c)) % 2 ^ 32;
+      c = nat_lt b (a + bit_of c);
+      v = not (is_int (signed_of b -ℤ signed_of a -ℤ pos (bit_of c)));
+    }
 alu_of Sub c a b =
-    record { word = (b + 2 ^ 32 - a) % 2 ^ 32; c = nat_lt b a; v = is_outside (signed_of b -ℤ signed_of a) }
+    record { word = (b + 2 ^ 32 - a) % 2 ^ 32; c = nat_lt b a; v = not (is_int (signed_of b -ℤ signed_of a)) }
 alu_of Ror c a b = record { word = a / 2 + bit_of c * 2 ^ 31; c = a % 2 == 1; v = false }
 alu_of Asr c a b = record { word = a / 2 + a / 2 ^ 31 * 2 ^ 31; c = a % 2 == 1; v = false }
 alu_of Lsr c a b = record { word = a / 2; c = a % 2 == 1; v = false }

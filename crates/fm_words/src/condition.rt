@@ -16,6 +16,43 @@ pub struct Flags {
     pub z: bool,
 }
 
+impl Flags {
+    ghost use Rattle.std.specs.Prelude.{◌<◌};
+    ghost use Rattle.fm_words.specs.Code.{flags_of, flags_number};
+
+    /// Each flag clear.
+    pub const NONE: Flags = Flags {
+        c: false,
+        v: false,
+        n: false,
+        z: false,
+    };
+
+    /// The flags of the number 8c + 4v + 2n + z. Above 15 its lowest four bits count.
+    #[tactic(auto, using(crate::proofs::FlagsLaws::flags_number_back))]
+    pub fn from_bits(number: u32) -> Flags
+        ensures value { result ≡ flags_of number }
+        ensures back { number < 16 → flags_number result ≡ number }
+    {
+        Flags {
+            c: number / 8 % 2 == 1,
+            v: number / 4 % 2 == 1,
+            n: number / 2 % 2 == 1,
+            z: number % 2 == 1,
+        }
+    }
+
+    /// The number 8c + 4v + 2n + z of four flags, from 0 to 15.
+    #[tactic(auto, using(crate::proofs::FlagsLaws::flags_of_back))]
+    pub fn bits(self) -> u32
+        ensures value { result ≡ flags_number self }
+        ensures below { result < 16 }
+        ensures back { flags_of result ≡ self }
+    {
+        8 * u32::from(self.c) + 4 * u32::from(self.v) + 2 * u32::from(self.n) + u32::from(self.z)
+    }
+}
+
 /// A store condition, in the order of their numbers from 0 to 15.
 #[derive(Clone, Copy, PartialEq, Eq, Debug)]
 pub enum Cc {
@@ -55,7 +92,7 @@ pub enum Cc {
 
 /// Whether a store condition holds of the flags.
 #[inline(always)]
-pub fn holds(cc: Cc, flags: Flags) -> bool
+pub fn does_hold(cc: Cc, flags: Flags) -> bool
     ensures { result ≡ does_hold cc flags }
 {
     let Flags { c, v, n, z } = flags;

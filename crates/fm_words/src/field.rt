@@ -1,14 +1,14 @@
 //! The fields of an instruction's word, each as a number of a few bits.
 
 ghost use Rattle.std.specs.Prelude.{◌≡◌, ◌<◌, ◌^◌};
-ghost use Rattle.fm_words.specs.Code.{op_of, cc_of, mode_of, op_number, cc_number, mode_number, imm_of, flags_of, flags_number, operand_of, operand_number, IsOperand};
+ghost use Rattle.fm_words.specs.Code.{op_of, cc_of, mode_of, op_number, cc_number, mode_number, imm_of, operand_of, operand_number, IsOperand};
 
-use crate::condition::{Cc, Flags};
+use crate::condition::Cc;
 use crate::instruction::{Mode, OperandA};
 use crate::operation::Op;
 
 // The operation of a number.
-pub(crate) fn op_from(number: u32) -> Op
+pub(crate) fn op_of(number: u32) -> Op
     requires { number < 16 }
     ensures { result ≡ op_of number }
 {
@@ -33,7 +33,7 @@ pub(crate) fn op_from(number: u32) -> Op
 }
 
 // The store condition of a number.
-pub(crate) fn cc_from(number: u32) -> Cc
+pub(crate) fn cc_of(number: u32) -> Cc
     requires { number < 16 }
     ensures { result ≡ cc_of number }
 {
@@ -58,7 +58,7 @@ pub(crate) fn cc_from(number: u32) -> Cc
 }
 
 // The mode of a number.
-pub(crate) fn mode_from(number: u32) -> Mode
+pub(crate) fn mode_of(number: u32) -> Mode
     requires { number < 4 }
     ensures { result ≡ mode_of number }
 {
@@ -70,34 +70,22 @@ pub(crate) fn mode_from(number: u32) -> Mode
     }
 }
 
-// The flags of a number, whose bits from the highest are c, v, n and z.
-pub(crate) fn flags_from(number: u32) -> Flags
-    ensures { result ≡ flags_of number }
-{
-    Flags {
-        c: number / 8 % 2 == 1,
-        v: number / 4 % 2 == 1,
-        n: number / 2 % 2 == 1,
-        z: number % 2 == 1,
-    }
-}
-
 // The first operand of an instruction's word.
-pub(crate) fn operand_from(word: u32) -> OperandA
+pub(crate) fn operand_of(word: u32) -> OperandA
     ensures { result ≡ operand_of word }
 {
     if (word >> 9) % 2 == 1 {
-        OperandA::Immediate(immediate_from((word % 512) as u16))
+        OperandA::Immediate(imm_of((word % 512) as u16))
     } else {
         OperandA::Place {
-            mode: mode_from((word >> 4) % 4),
+            mode: mode_of((word >> 4) % 4),
             reg: (word % 16) as u8,
         }
     }
 }
 
 // Nine bits as a signed number.
-fn immediate_from(bits: u16) -> i16
+fn imm_of(bits: u16) -> i16
     requires { bits < 2 ^ 9 }
     ensures { result ≡ imm_of bits }
 {
@@ -109,7 +97,7 @@ fn immediate_from(bits: u16) -> i16
 }
 
 // The number of an operation.
-pub(crate) fn op_bits(op: Op) -> u32
+pub(crate) fn op_number(op: Op) -> u32
     ensures value { result ≡ op_number op }
     ensures below { result < 16 }
 {
@@ -117,7 +105,7 @@ pub(crate) fn op_bits(op: Op) -> u32
 }
 
 // The number of a store condition.
-pub(crate) fn cc_bits(cc: Cc) -> u32
+pub(crate) fn cc_number(cc: Cc) -> u32
     ensures value { result ≡ cc_number cc }
     ensures below { result < 16 }
 {
@@ -125,23 +113,15 @@ pub(crate) fn cc_bits(cc: Cc) -> u32
 }
 
 // The number of a mode.
-pub(crate) fn mode_bits(mode: Mode) -> u32
+pub(crate) fn mode_number(mode: Mode) -> u32
     ensures value { result ≡ mode_number mode }
     ensures below { result < 4 }
 {
     mode as u32
 }
 
-// The number of four flags.
-pub(crate) fn flags_bits(flags: Flags) -> u32
-    ensures value { result ≡ flags_number flags }
-    ensures below { result < 16 }
-{
-    8 * u32::from(flags.c) + 4 * u32::from(flags.v) + 2 * u32::from(flags.n) + u32::from(flags.z)
-}
-
 // Bits 0 to 9 of a first operand.
-pub(crate) fn operand_bits(a: OperandA) -> u32
+pub(crate) fn operand_number(a: OperandA) -> u32
     requires { IsOperand a }
     ensures value { result ≡ operand_number a }
     ensures below { result < 1024 }
@@ -154,6 +134,6 @@ pub(crate) fn operand_bits(a: OperandA) -> u32
                 512 + n as u32
             }
         }
-        OperandA::Place { mode, reg } => 16 * mode_bits(mode) + u32::from(reg),
+        OperandA::Place { mode, reg } => 16 * mode_number(mode) + u32::from(reg),
     }
 }

@@ -5,8 +5,7 @@ ghost use Rattle.fm_words.specs.Code.{decode_of, encode_of, IsInstr, significant
 
 use crate::condition::{Cc, Flags};
 use crate::field::{
-    cc_bits, cc_from, flags_bits, flags_from, mode_bits, mode_from, op_bits, op_from, operand_bits,
-    operand_from,
+    cc_number, cc_of, mode_number, mode_of, op_number, op_of, operand_number, operand_of,
 };
 use crate::operation::Op;
 
@@ -81,12 +80,12 @@ fn taken_apart(word: u32) -> Instr
     ensures limits { IsInstr result }
 {
     Instr {
-        op: op_from((word >> 24) % 16),
-        cc: cc_from((word >> 20) % 16),
-        set: flags_from((word >> 16) % 16),
-        mode_b: mode_from((word >> 14) % 4),
+        op: op_of((word >> 24) % 16),
+        cc: cc_of((word >> 20) % 16),
+        set: Flags::from_bits((word >> 16) % 16),
+        mode_b: mode_of((word >> 14) % 4),
         reg_b: ((word >> 10) % 16) as u8,
-        a: operand_from(word),
+        a: operand_of(word),
     }
 }
 
@@ -95,10 +94,10 @@ fn put_together(instr: Instr) -> u32
     requires { IsInstr instr }
     ensures { result ≡ encode_of instr }
 {
-    (op_bits(instr.op) << 24)
-        + (cc_bits(instr.cc) << 20)
-        + (flags_bits(instr.set) << 16)
-        + (mode_bits(instr.mode_b) << 14)
+    (op_number(instr.op) << 24)
+        + (cc_number(instr.cc) << 20)
+        + (instr.set.bits() << 16)
+        + (mode_number(instr.mode_b) << 14)
         + (u32::from(instr.reg_b) << 10)
-        + operand_bits(instr.a)
+        + operand_number(instr.a)
 }

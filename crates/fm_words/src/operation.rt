@@ -1,9 +1,11 @@
 //! The sixteen operations on words.
 
-ghost use Rattle.std.specs.Prelude.{◌≡◌, ◌+◌, ◌-◌, ◌%◌, ◌^◌, pos, ◌+ℤ◌, ◌-ℤ◌, ◌*ℤ◌, nat_lt, false};
-ghost use Rattle.std.specs.Int.{from_bool};
-ghost use Rattle.fm_words.specs.Word.{signed_of, is_outside};
+ghost use Rattle.std.specs.Prelude.{◌≡◌, ◌+◌, ◌-◌, ◌%◌, ◌^◌, ℕ, pos, ◌+ℤ◌, ◌-ℤ◌, nat_lt, not, false};
+ghost use Rattle.std.specs.Int.{from_bool, int_div_euclid};
+ghost use Rattle.fm_words.specs.Word.{signed_of, is_int};
 ghost use Rattle.fm_words.specs.Alu.{alu_of, plain};
+
+use crate::word::{is_int, signed_of};
 
 /// An operation, in the order of their numbers from 0 to 15. Below, `a` and `b` are its operands
 /// and `c` is the carry flag as 0 or 1. Sums and differences are taken modulo 2^32.
@@ -54,13 +56,15 @@ pub struct AluOut {
     pub v: bool,
 }
 
-/// One of the sixteen operations on two words and the carry flag.
+/// One of the sixteen operations on two words and the carry flag. `Asr` halves the signed reading,
+/// rounded down.
 #[inline(always)]
 pub fn alu(op: Op, carry: bool, a: u32, b: u32) -> AluOut
-    ensures { result ≡ alu_of op carry a b }
+    ensures value { result ≡ alu_of op carry a b }
+    ensures halved { op ≡ Op.Asr → signed_of result.word ≡ int_div_euclid (signed_of a) (pos 2) }
 {
     match op {
-        Op::Move | Op::M15 => unflagged(a),
+        Op::Move | Op::M15 => plain(a),
         Op::Inc => increment(a),
         Op::Addc => add_with_carry(carry, a, b),
         Op::Add => add(a, b),
@@ -71,15 +75,15 @@ pub fn alu(op: Op, carry: bool, a: u32, b: u32) -> AluOut
         Op::Ror => rotate_right(carry, a),
         Op::Asr => arithmetic_shift_right(a),
         Op::Lsr => logical_shift_right(a),
-        Op::Xor => unflagged(a ^ b),
-        Op::Or => unflagged(a | b),
-        Op::And => unflagged(a & b),
-        Op::Not => unflagged(!a),
+        Op::Xor => plain(a ^ b),
+        Op::Or => plain(a | b),
+        Op::And => plain(a & b),
+        Op::Not => plain(!a),
     }
 }
 
 // A result with neither carry nor overflow.
-fn unflagged(word: u32) -> AluOut
+fn plain(word: u32) -> AluOut
     ensures { result ≡ plain word }
 {
     AluOut {
@@ -89,18 +93,18 @@ fn unflagged(word: u32) -> AluOut
     }
 }
 
-// The signed reading of a word.
+// The signed reading of a word, with room for sums.
 fn signed(word: u32) -> i64
     ensures { result ≡ signed_of word }
 {
-    i64::from(word.cast_signed())
+    i64::from(signed_of(word))
 }
 
 // Whether an exact signed result is outside 32 bits.
 fn overflows(exact: i64) -> bool
-    ensures { result ≡ is_outside exact }
+    ensures { result ≡ not (is_int exact) }
 {
-    !(-0x8000_0000 <= exact && exact < 0x8000_0000)
+    !is_int(exact)
 }
 
 fn increment(a: u32) -> AluOut
@@ -200,10 +204,10 @@ fn rotate_right(carry: bool, a: u32) -> AluOut
 }
 
 // The sign bit is kept, so the signed reading is halved, rounded down.
-#[tactic(auto, using(crate::proofs::Shift::halved))]
+#[tactic(auto, using(crate::proofs::ShiftLaws::halved))]
 fn arithmetic_shift_right(a: u32) -> AluOut
     ensures value { result ≡ alu_of Op.Asr false a 0 }
-    ensures halved { pos 2 *ℤ signed_of result.word +ℤ pos (a % 2) ≡ signed_of a }
+    ensures halved { signed_of result.word ≡ int_div_euclid (signed_of a) (pos 2) }
 {
     let half = a / 2;
     AluOut {

@@ -58,33 +58,47 @@ fn conditions_after_a_difference(rt: HostRuntime) {
         for b in numbers {
             let flags = flags_of_difference(a, b);
             let (low, high) = (a.cast_unsigned(), b.cast_unsigned());
-            assert_eq!(rt; holds(Cc::Zs, flags), b == a, "{b} == {a}");
-            assert_eq!(rt; holds(Cc::Zc, flags), b != a, "{b} != {a}");
-            assert_eq!(rt; holds(Cc::Lt, flags), b < a, "{b} < {a}");
-            assert_eq!(rt; holds(Cc::Le, flags), b <= a, "{b} <= {a}");
-            assert_eq!(rt; holds(Cc::Gt, flags), b > a, "{b} > {a}");
-            assert_eq!(rt; holds(Cc::Ge, flags), b >= a, "{b} >= {a}");
-            assert_eq!(rt; holds(Cc::Hi, flags), high > low, "{high} > {low}");
-            assert_eq!(rt; holds(Cc::Ls, flags), high <= low, "{high} <= {low}");
-            assert!(rt; holds(Cc::Al, flags));
-            assert!(rt; !holds(Cc::Nv, flags));
+            let borrows = high < low;
+            let overflows = b.checked_sub(a).is_none();
+            let is_negative = b.wrapping_sub(a) < 0;
+            assert_eq!(rt; does_hold(Cc::Cs, flags), borrows, "carry of {b} - {a}");
+            assert_eq!(rt; does_hold(Cc::Cc, flags), !borrows, "no carry of {b} - {a}");
+            assert_eq!(rt;
+                does_hold(Cc::Vs, flags),
+                overflows,
+                "overflow of {b} - {a}"
+            );
+            assert_eq!(rt;
+                does_hold(Cc::Vc, flags),
+                !overflows,
+                "no overflow of {b} - {a}"
+            );
+            assert_eq!(rt; does_hold(Cc::Ns, flags), is_negative, "sign of {b} - {a}");
+            assert_eq!(rt;
+                does_hold(Cc::Nc, flags),
+                !is_negative,
+                "no sign of {b} - {a}"
+            );
+            assert_eq!(rt; does_hold(Cc::Zs, flags), b == a, "{b} == {a}");
+            assert_eq!(rt; does_hold(Cc::Zc, flags), b != a, "{b} != {a}");
+            assert_eq!(rt; does_hold(Cc::Lt, flags), b < a, "{b} < {a}");
+            assert_eq!(rt; does_hold(Cc::Le, flags), b <= a, "{b} <= {a}");
+            assert_eq!(rt; does_hold(Cc::Gt, flags), b > a, "{b} > {a}");
+            assert_eq!(rt; does_hold(Cc::Ge, flags), b >= a, "{b} >= {a}");
+            assert_eq!(rt; does_hold(Cc::Hi, flags), high > low, "{high} > {low}");
+            assert_eq!(rt; does_hold(Cc::Ls, flags), high <= low, "{high} <= {low}");
+            assert!(rt; does_hold(Cc::Al, flags));
+            assert!(rt; !does_hold(Cc::Nv, flags));
         }
     }
 }
-
-const NO_FLAGS: Flags = Flags {
-    c: false,
-    v: false,
-    n: false,
-    z: false,
-};
 
 #[test]
 fn words_of_instructions(rt: HostRuntime) {
     let move_five = Instr {
         op: Op::Move,
         cc: Cc::Al,
-        set: NO_FLAGS,
+        set: Flags::NONE,
         mode_b: Mode::Register,
         reg_b: 3,
         a: OperandA::Immediate(5),

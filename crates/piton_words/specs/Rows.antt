@@ -1,6 +1,7 @@
 -- The rows of the word operations, on the third word, the second and the top.
 use Rattle.std.specs.Prelude.{ℕ, ◌*◌, ◌-◌, ◌^◌, ◌/◌, ◌%◌, ℤ, pos, negsuc, ◌+ℤ◌, ◌-ℤ◌, ◌*ℤ◌, List, get_or, Result, Ok, Err, Bool, true, false, not, ◌&&◌, ◌||◌, ◌==◌, nat_lt, int_lt, unsigned_abs, bit_and, bit_or, bit_xor}
-use Rattle.std.specs.Int.{w32, from_bool as bit, int_rem_euclid, cast_signed}
+use Rattle.std.specs.Int.{w32, from_bool as bit, cast_signed}
+use Rattle.fm_words.specs.Word.{is_int, is_nat, wrapped}
 use Rattle.piton_words.specs.declared.word.Word.{Word}
 use Rattle.piton_words.specs.declared.word.Word.TheVariants.{Int, Nat, Bitv, Bool as Truth, Addr, Pc, Subr}
 use Rattle.piton_words.specs.declared.op.WordOp.{WordOp}
@@ -10,7 +11,7 @@ use Rattle.piton_words.specs.declared.outcome.Outcome.TheVariants.{One, Two}
 use Rattle.piton_words.specs.declared.outcome.WordError.{WordError}
 use Rattle.piton_words.specs.declared.outcome.WordError.TheVariants.{Tag}
 use Rattle.stack_text.specs.Results.{◌>>=◌}
-use Rattle.piton_words.specs.Views.{int_of, nat_of, bitv_of, bool_of, addr_of, where_true, is_int, is_nat}
+use Rattle.piton_words.specs.Views.{int_of, nat_of, bitv_of, bool_of, addr_of, where_true}
 
 -- an exact number as a word, where it is in range
 abbrev pub int_word : ℤ → Result Outcome WordError
@@ -24,10 +25,6 @@ bitv_word bits = Ok (One (Bitv bits))
 
 abbrev pub bool_word : Bool → Result Outcome WordError
 bool_word b = Ok (One (Truth b))
-
--- what 32 bits keep of an exact number
-abbrev pub wrapped : ℤ → ℕ
-wrapped i = unsigned_abs (int_rem_euclid i (pos (2 ^ 32)))
 
 -- whether an exact number is out of range, and then what 32 bits keep of it
 abbrev pub int_carried : ℤ → Result Outcome WordError

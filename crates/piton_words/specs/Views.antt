@@ -1,5 +1,5 @@
 -- What is in a word, and what goes back into one: each goes on or fails.
-use Rattle.std.specs.Prelude.{ℕ, ◌^◌, ℤ, pos, negsuc, Result, Ok, Err, Bool, true, false, nat_lt}
+use Rattle.std.specs.Prelude.{ℕ, ℤ, Result, Ok, Err, Bool, true, false}
 use Rattle.piton_words.specs.declared.word.Word.{Word}
 use Rattle.piton_words.specs.declared.word.Word.TheVariants.{Int, Nat, Bitv, Bool as Truth, Addr}
 use Rattle.piton_words.specs.declared.outcome.Outcome.{Outcome}
@@ -32,12 +32,3 @@ addr_of word = Err Tag
 abbrev pub where_true : Bool → Result Outcome WordError → Result Outcome WordError
 where_true true answer = answer
 where_true false answer = Err Range
-
--- the numbers of 32 bits with and without a sign
-abbrev pub is_int : ℤ → Bool
-is_int (pos n) = nat_lt n (2 ^ 31)
-is_int (negsuc n) = nat_lt n (2 ^ 31)
-
-abbrev pub is_nat : ℤ → Bool
-is_nat (pos n) = nat_lt n (2 ^ 32)
-is_nat (negsuc n) = false

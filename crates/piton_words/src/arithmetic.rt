@@ -1,22 +1,10 @@
 //! Numbers and addresses: exact results, and where they are in range.
 ghost use Rattle.std.specs.Prelude.{◌≡◌, ◌+ℤ◌, ◌-ℤ◌, ◌/◌, ◌%◌, pos, get_or, Ok};
-ghost use Rattle.piton_words.specs.Views.{is_int, is_nat};
-ghost use Rattle.piton_words.specs.Rows.{int_word, nat_word, wrapped, int_carried, nat_carried, carry, addr_word};
+ghost use Rattle.piton_words.specs.Rows.{int_word, nat_word, int_carried, nat_carried, carry, addr_word};
 
 use crate::outcome::{Outcome, WordError};
 use crate::word::Word;
-
-fn is_int(number: i64) -> bool
-    ensures { result ≡ is_int number }
-{
-    number >= i64::from(i32::MIN) && number <= i64::from(i32::MAX)
-}
-
-fn is_nat(number: i64) -> bool
-    ensures { result ≡ is_nat number }
-{
-    number >= 0 && number <= i64::from(u32::MAX)
-}
+use fm_words::{is_int, is_nat, wrapped};
 
 /// An exact number as a word, where it is in range.
 pub fn int_word(number: i64) -> Result<Outcome, WordError>
@@ -36,13 +24,6 @@ pub fn nat_word(number: i64) -> Result<Outcome, WordError>
         return Err(WordError::Range);
     }
     Ok(Outcome::One(Word::Nat(number as u32)))
-}
-
-/// What 32 bits keep of a number.
-fn wrapped(number: i64) -> u32
-    ensures { result ≡ wrapped number }
-{
-    number.rem_euclid(1 << 32) as u32
 }
 
 /// Whether a number is out of range, and then what 32 bits keep of it.

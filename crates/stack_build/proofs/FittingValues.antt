@@ -10,19 +10,20 @@ use Rattle.stack_text.specs.Values.{ValueOf}
 use Rattle.fm_image.specs.declared.slot.Slot.{Slot}
 use Rattle.fm_loader.specs.Loaded.{Fits}
 use Rattle.fm_loader.specs.Values.{values_in}
-use Rattle.fm_loader.specs.Written.{fits_32_bits}
-use Rattle.fm_loader.proofs.ValuesLaws.{values_fit as fits_slots, values_have_32_bits, fits_signed}
+use Rattle.fm_words.specs.Word.{is_int}
+use Rattle.fm_words.proofs.WordLaws.{fits_signed}
+use Rattle.fm_loader.proofs.ValuesLaws.{values_fit as fits_slots, values_have_32_bits}
 use Rattle.stack_build.specs.declared.source.OneStatement.{OneStatement}
 use Rattle.stack_build.specs.Placed.{generated, layout_of}
 use Rattle.stack_build.specs.Build.{source_image}
 use Rattle.stack_build.specs.Meaning.{integer, FitsVariables}
 use Rattle.stack_build.proofs.Slots.{length-slots_from}
 
-numbers_fit : (values : List ℤ) → list_all (λ value. list_all fits_32_bits value.items) (map integer values) ≡ true → All (FitsSigned w32) values
+numbers_fit : (values : List ℤ) → list_all (λ value. list_all is_int value.items) (map integer values) ≡ true → All (FitsSigned w32) values
 numbers_fit [] h = All-nil (FitsSigned w32)
 numbers_fit (value ∷ values) h =
-    let parts = and_parts (fits_32_bits value && true) (list_all (λ value. list_all fits_32_bits value.items) (map integer values)) h in
-    let one = and_parts (fits_32_bits value) true parts.0 in
+    let parts = and_parts (is_int value && true) (list_all (λ value. list_all is_int value.items) (map integer values)) h in
+    let one = and_parts (is_int value) true parts.0 in
     All-cons (FitsSigned w32) value values (fits_signed value one.0) (numbers_fit values parts.1)
 
 pub values_fit : (source : OneStatement) (control temporary : ℕ) (text : List ℕ) (values : List ℤ) → values_in (source_image source control temporary).slots text ≡ Ok (map integer values) → FitsVariables source values

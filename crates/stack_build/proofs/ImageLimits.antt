@@ -12,7 +12,7 @@ use Rattle.fm_image.specs.declared.slot.Slot.{Slot}
 use Rattle.fm_image.specs.declared.window.Window.{Window}
 use Rattle.fm_image.specs.Image.{ImageOf, window_of, is_slot, is_slot_address, all_behind, is_image}
 use Rattle.fm_image.proofs.Limits.{from_limits}
-use Rattle.fm_machine.specs.Words.{no_flags}
+use Rattle.fm_words.specs.Code.{no_flags}
 use Rattle.stack_build.specs.declared.piton.System.{System}
 use Rattle.stack_build.specs.declared.layout.Layout.{Layout}
 use Rattle.stack_build.specs.Placed.{layout_of, placed_words, start_registers, IsPlaceable}

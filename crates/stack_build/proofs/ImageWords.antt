@@ -9,7 +9,8 @@ use Rattle.std.proofs.lemmas.List.Folds.{list_all-append}
 use Rattle.std.proofs.lemmas.List.FromFn.{length-range_with_len}
 use Rattle.fm_machine.specs.Words.{reg, push, pop, mov, halt_word}
 use Rattle.fm_image.specs.Spelling.{are_words, spelling, Spelled}
-use Rattle.fm_loader.specs.Loaded.{word_of_number}
+use Rattle.fm_words.specs.Word.{word_of_int}
+use Rattle.fm_words.proofs.WordLaws.{word_of_int_below, is_int_from_fits}
 use Rattle.stack_build.specs.declared.source.Statement.{Statement}
 use Rattle.stack_build.specs.declared.source.Statement.TheVariants as statement
 use Rattle.stack_build.specs.declared.source.OneStatement.{OneStatement}
@@ -93,10 +94,6 @@ words-range a (suc n) h = and_from _ _ (a_word a (omega arith)) (words-range (a 
 
 -- 3. The words of programs.
 
-number_fits : (z : ℤ) → FitsSigned w32 z → word_of_number z < 4294967296
-number_fits (pos n) fits = let low : n < 2147483648 = fits.sfits in omega arith
-number_fits (negsuc n) fits = omega arith
-
 -- the operands of an instruction are words
 abbrev HasWords : Instruction → Type 0
 HasWords (PushInt number) = FitsSigned w32 number
@@ -112,7 +109,7 @@ module _ (L : Layout) (entry : ℕ) (p : Program) (small : IsSmall p) (low : ent
   words-template : (address : ℕ) (i : Instruction) → address ≤ 140000 → HasWords i → are_words (template L entry p address i) ≡ true
   unfolding template
   words-template address NoOp near h = refl
-  words-template address (PushInt number) near h = and_from _ _ refl (and_from _ _ (a_word (word_of_number number) (number_fits number h)) refl)
+  words-template address (PushInt number) near h = and_from _ _ refl (and_from _ _ (a_word (word_of_int number) (word_of_int_below number (is_int_from_fits number h))) refl)
   words-template address (PushNat number) near h = and_from _ _ refl (and_from _ _ (a_word number h) refl)
   words-template address (PushLocal offset) near h = and_from _ _ refl (and_from _ _ (a_word offset h) refl)
   words-template address PopGlobal near h = and_from _ _ refl (and_from _ _ (a_word L.condition (omega arith)) refl)

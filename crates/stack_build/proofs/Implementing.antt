@@ -18,7 +18,8 @@ use Rattle.stack_build.specs.Piton.{size_of_all, prelude_size}
 use Rattle.stack_build.specs.Placed.{assignment, generated, layout_of}
 use Rattle.stack_build.specs.Source.{source_of, IsSource}
 use Rattle.stack_build.specs.Image.{image_of}
-use Rattle.fm_loader.specs.Loaded.{word_of_number, loaded}
+use Rattle.fm_words.specs.Word.{word_of_int}
+use Rattle.fm_loader.specs.Loaded.{loaded}
 use Rattle.display_maps.specs.declared.shown.Shown.{Shown}
 use Rattle.display_maps.specs.declared.shown.Shown.TheVariants.{Normal}
 use Rattle.display_maps.specs.Reading.{reading, word_of, condition_of}
@@ -36,12 +37,12 @@ EndsNormally names system values n finals =
     (s : Fm) × IsFirst (loaded (image_of names system) (map integer values)) (layout_of system).final_pc n s × (reading (image_of names system) s ≡ integers_read names finals Normal)
 
 -- what is read of the state in which a run has ended
-ends_normally : (names : List (List ℕ)) (system : System) (values : List ℤ) (n : ℕ) (finals : List ℤ) (temp : List ℕ) → Ended (parts_of system) n (loaded (image_of names system) (map integer values)) 0 [] temp (2 ∷ []) → temp ≡ moved (map word_of_number finals) []
+ends_normally : (names : List (List ℕ)) (system : System) (values : List ℤ) (n : ℕ) (finals : List ℤ) (temp : List ℕ) → Ended (parts_of system) n (loaded (image_of names system) (map integer values)) 0 [] temp (2 ∷ []) → temp ≡ moved (map word_of_int finals) []
     → length finals ≡ length names → All (FitsSigned w32) finals → length names < (layout_of system).end → EndsNormally names system values n finals
 unfolding condition_of
 ends_normally names system values n finals temp e is many fits below =
     let top : ℕ = (layout_of system).end - length names in
-    let temp_many : length temp ≡ length finals = ap length is ∙ length-moved (map word_of_number finals) [] ∙ (let k = length-map finals word_of_number in omega arith) in
+    let temp_many : length temp ≡ length finals = ap length is ∙ length-moved (map word_of_int finals) [] ∙ (let k = length-map finals word_of_int in omega arith) in
     let end = e.temp_end in
     let condition : condition_of [] (word_of e.state (layout_of system).condition) ≡ Normal = ap (condition_of []) (word_of_read e.state (layout_of system).condition 2 e.areas_held.0) in
     let numbers = values_read e.state names ((layout_of system).end - 1) _ finals [] many (omega arith) (omega arith) fits (subst (Holds e.state.base e.state.memory _) is e.temp_held) in
@@ -77,17 +78,17 @@ module _ (variables : List (List ℕ)) (control temporary : ℕ) (few : length v
       let c = room.0 in
       let t = room.1 in
       let many = fits.many in
-      let numbers = length-map values word_of_number in
-      let temp : List ℕ = moved (map word_of_number values) [] in
-      let temp_many : length temp ≡ length variables = length-moved (map word_of_number values) [] ∙ omega arith in
+      let numbers = length-map values word_of_int in
+      let temp : List ℕ = moved (map word_of_int values) [] in
+      let temp_many : length temp ≡ length variables = length-moved (map word_of_int values) [] ∙ omega arith in
       let is = is_layout system (omega arith) in
       let laid = is_laid variables system values (omega arith) fits.many (omega arith) refl in
       let start = with_pc (reaches_from is laid) (sym (zero-add (prelude_size system.main))) in
       let code = program_stands (parts_of system) (layout_of system) 0 system.main (main_stands system) in
       let called = program_stands (parts_of system) (layout_of system) (layout_of system).assignment assignment (assignment_stands system) in
       let h = assigns (layout_of system) variables variable number (0 + prelude_size system.main) (layout_of system).final_pc refl start code.1 called.0 called.1 laid.laid.ctrl_end (omega arith) (omega arith) refl below temp_many in
-      let set : slice_set temp (length temp - 1 - variable) (word_of_number number) ≡ moved (map word_of_number (slice_set values variable number)) [] =
-      set_moved (map word_of_number values) [] variable (length temp - 1 - variable) (word_of_number number) (omega arith) (omega arith) ∙ ap (λ (ws : List ℕ). moved ws []) (sym (map-set word_of_number values variable number)) in
+      let set : slice_set temp (length temp - 1 - variable) (word_of_int number) ≡ moved (map word_of_int (slice_set values variable number)) [] =
+      set_moved (map word_of_int values) [] variable (length temp - 1 - variable) (word_of_int number) (omega arith) (omega arith) ∙ ap (λ (ws : List ℕ). moved ws []) (sym (map-set word_of_int values variable number)) in
       let finals_many = length-set values variable number in
       ends_normally variables system values 28 (slice_set values variable number) _ (ended h (sym (final_pc-parts_of system))) set (omega arith) (All-set (FitsSigned w32) values variable number number_fits fits.numbers) (omega arith)
 

@@ -6,7 +6,8 @@ use Rattle.fm_machine.proofs.Memory.{word_at-same, length-with_word, some_word, 
 use Rattle.fm_machine.proofs.Rows.{moved}
 use Rattle.fm_image.specs.declared.slot.Slot.{Slot}
 use Rattle.stack_build.specs.Image.{slots_from}
-use Rattle.fm_loader.specs.Loaded.{word_of_number, with_words, with_values}
+use Rattle.fm_words.specs.Word.{word_of_int}
+use Rattle.fm_loader.specs.Loaded.{with_words, with_values}
 use Rattle.stack_build.specs.Meaning.{integer}
 
 -- words in front of others, and those behind them
@@ -45,7 +46,7 @@ pub length-with_values : (slots : List Slot) (values : List ℤ) (m : List ℕ) 
 length-with_values [] values m = refl
 length-with_values (slot ∷ slots) [] m = refl
 length-with_values (slot ∷ slots) (value ∷ values) m =
-    length-with_values slots values (with_word 0 m slot.address (word_of_number value)) ∙ length-with_word 0 m slot.address (word_of_number value)
+    length-with_values slots values (with_word 0 m slot.address (word_of_int value)) ∙ length-with_word 0 m slot.address (word_of_int value)
 
 -- words stored behind others leave those
 words_above : (a : ℕ) (words m : List ℕ) (p : ℕ) (xs : List ℕ) → p + length xs ≤ a → Holds 0 m p xs → Holds 0 (with_words 0 a words m) p xs
@@ -68,11 +69,11 @@ pub values_above : (names : List (List ℕ)) (a : ℕ) (values : List ℤ) (m : 
 values_above [] a values m p xs low below h = h
 values_above (name ∷ names) a [] m p xs low below h = h
 values_above (name ∷ names) a (value ∷ values) m p xs low below h =
-    values_above names (a - 1) values (with_word 0 m a (word_of_number value)) p xs (omega arith) (omega arith) (Holds-store_above 0 m a (word_of_number value) p xs (omega arith) (omega arith) h)
+    values_above names (a - 1) values (with_word 0 m a (word_of_int value)) p xs (omega arith) (omega arith) (Holds-store_above 0 m a (word_of_int value) p xs (omega arith) (omega arith) h)
 
 -- they stand there, the last one first, in front of what stands above them
 pub values_stand : (names : List (List ℕ)) (a p : ℕ) (values : List ℤ) (m above : List ℕ) → length values ≡ length names → length values ≤ a → p + length values ≡ a + 1 → a < length m → Holds 0 m (a + 1) above
-    → Holds 0 (with_values 0 (slots_from a names) (map integer values) m) p (moved (map word_of_number values) above)
+    → Holds 0 (with_values 0 (slots_from a names) (map integer values) m) p (moved (map word_of_int values) above)
 values_stand [] a p [] m above same low e fits h =
     let here : a + 1 ≡ p = omega arith in
     subst (λ q. Holds 0 m q above) here h
@@ -80,8 +81,8 @@ values_stand [] a p (value ∷ values) m above same low e fits h = absurd (omega
 values_stand (name ∷ names) a p [] m above same low e fits h = absurd (omega arith)
 values_stand (name ∷ names) a p (value ∷ values) m above same low e fits h =
     let old = some_word 0 m a (omega arith) (omega arith) in
-    let m' : List ℕ = with_word 0 m a (word_of_number value) in
-    let many = length-with_word 0 m a (word_of_number value) in
+    let m' : List ℕ = with_word 0 m a (word_of_int value) in
+    let many = length-with_word 0 m a (word_of_int value) in
     let one : a ≡ a - 1 + 1 = omega arith in
-    let stands : Holds 0 m' a (word_of_number value ∷ above) = (word_at-same 0 m a (word_of_number value) old.0 old.1, Holds-store_below 0 m a (word_of_number value) (a + 1) above (omega arith) (omega arith) h) in
-    values_stand names (a - 1) p values m' (word_of_number value ∷ above) (omega arith) (omega arith) (omega arith) (omega arith) (subst (λ q. Holds 0 m' q (word_of_number value ∷ above)) one stands)
+    let stands : Holds 0 m' a (word_of_int value ∷ above) = (word_at-same 0 m a (word_of_int value) old.0 old.1, Holds-store_below 0 m a (word_of_int value) (a + 1) above (omega arith) (omega arith) h) in
+    values_stand names (a - 1) p values m' (word_of_int value ∷ above) (omega arith) (omega arith) (omega arith) (omega arith) (subst (λ q. Holds 0 m' q (word_of_int value ∷ above)) one stands)

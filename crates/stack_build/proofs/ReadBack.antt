@@ -6,28 +6,17 @@ use Rattle.std.specs.List.{zip}
 use Rattle.std.proofs.lemmas.Int.{ints}
 use Rattle.std.proofs.lemmas.Bool.{lt-ltb, le-ltb}
 use Rattle.std.proofs.lemmas.List.{length-map}
-use Rattle.fm_words.specs.Word.{signed_of}
+use Rattle.fm_words.specs.Word.{signed_of, word_of_int}
+use Rattle.fm_words.proofs.WordLaws.{signed_of-word_of_int, is_int_from_fits}
 use Rattle.fm_machine.specs.State.{Fm, word_at}
 use Rattle.fm_machine.specs.Holds.{Holds}
 use Rattle.fm_machine.proofs.Rows.{moved}
 use Rattle.stack_build.specs.Image.{slots_from}
-use Rattle.fm_loader.specs.Loaded.{word_of_number}
+use Rattle.fm_words.specs.Word.{word_of_int}
 use Rattle.display_maps.specs.declared.shown.Shown.{Shown}
 use Rattle.display_maps.specs.declared.shown.Shown.TheVariants.{Number}
 use Rattle.display_maps.specs.Reading.{word_of, item_of, variable_of}
 use Rattle.stack_build.proofs.Laying.{Holds-moved}
-
--- a number of 32 signed bits is read back from its word
-pub signed_of-word_of_number : (z : ℤ) → FitsSigned w32 z → signed_of (word_of_number z) ≡ z
-signed_of-word_of_number (pos n) fits =
-    let low : n < 2 ^ 31 = fits.sfits in
-    let e : nat_lt n (2 ^ 31) ≡ true = lt-ltb n (2 ^ 31) low in
-    ap (λ b. if b then pos n else pos n -ℤ pos (2 ^ 32)) e
-signed_of-word_of_number (negsuc n) fits =
-    let low : n < 2 ^ 31 = fits.sfits in
-    let e : nat_lt (2 ^ 32 - 1 - n) (2 ^ 31) ≡ false = le-ltb (2 ^ 32 - 1 - n) (2 ^ 31) (omega arith) in
-    let back : pos (2 ^ 32 - 1 - n) -ℤ pos (2 ^ 32) ≡ negsuc n = omega (arith, ints) in
-    ap (λ b. if b then pos (2 ^ 32 - 1 - n) else pos (2 ^ 32 - 1 - n) -ℤ pos (2 ^ 32)) e ∙ back
 
 -- the word at an address that is read
 pub word_of_read : (s : Fm) (a w : ℕ) → word_at s.base s.memory a ≡ Some w → word_of s a ≡ w
@@ -39,16 +28,16 @@ number_of variable = (variable.0, Number variable.1 ∷ [])
 
 -- the numbers that stand in variables, the last one first, are what is read
 pub values_read : (s : Fm) (names : List (List ℕ)) (a p : ℕ) (values : List ℤ) (above : List ℕ) → length values ≡ length names → length values ≤ a → p + length values ≡ a + 1 → All (FitsSigned w32) values
-    → Holds s.base s.memory p (moved (map word_of_number values) above) → map (variable_of s) (slots_from a names) ≡ map number_of (zip names values)
+    → Holds s.base s.memory p (moved (map word_of_int values) above) → map (variable_of s) (slots_from a names) ≡ map number_of (zip names values)
 unfolding item_of
 values_read s [] a p [] above same low e fits h = refl
 values_read s [] a p (value ∷ values) above same low e fits h = absurd (omega arith)
 values_read s (name ∷ names) a p [] above same low e fits h = absurd (omega arith)
 values_read s (name ∷ names) a p (value ∷ values) above same low e fits h =
-    let many = length-map values word_of_number in
-    let here : Holds s.base s.memory a (word_of_number value ∷ above) = Holds-moved s.base s.memory p a (map word_of_number values) (word_of_number value ∷ above) (omega arith) h in
-    let one : signed_of (word_of s a) ≡ value = ap signed_of (word_of_read s a (word_of_number value) here.0) ∙ signed_of-word_of_number value (fits 0 value (omega arith)) in
-    let rest = values_read s names (a - 1) p values (word_of_number value ∷ above) (omega arith) (omega arith) (omega arith) (λ k d lt. fits (suc k) d (omega arith)) h in
+    let many = length-map values word_of_int in
+    let here : Holds s.base s.memory a (word_of_int value ∷ above) = Holds-moved s.base s.memory p a (map word_of_int values) (word_of_int value ∷ above) (omega arith) h in
+    let one : signed_of (word_of s a) ≡ value = ap signed_of (word_of_read s a (word_of_int value) here.0) ∙ signed_of-word_of_int value (is_int_from_fits value (fits 0 value (omega arith))) in
+    let rest = values_read s names (a - 1) p values (word_of_int value ∷ above) (omega arith) (omega arith) (omega arith) (λ k d lt. fits (suc k) d (omega arith)) h in
     ap (λ (z : ℤ). (name, Number z ∷ []) ∷ map (variable_of s) (slots_from (a - 1) names)) one ∙ ap (λ (vs : List (List ℕ × List Shown)). (name, Number value ∷ []) ∷ vs) rest
 
 -- a word set behind words that are moved to the front of others

@@ -17,6 +17,8 @@ use Rattle.stack_build.specs.declared.source.OneStatement.{OneStatement}
 use Rattle.stack_build.specs.declared.form.FormFault.{FormFault}
 use Rattle.stack_text.specs.Options.{◌>>=◌}
 use Rattle.stack_build.specs.Form.{Gives, where_true, is_none, word_of, trees_of, only_of, word_at, behind, name_at, list_at, behind_empty, only_int}
+use Rattle.fm_words.specs.Word.{is_int}
+use Rattle.fm_words.proofs.WordLaws.{fits_signed}
 use Rattle.stack_build.specs.Numerals.{where_int, int_of}
 use Rattle.stack_build.specs.Source.{is_predefined, declaration_of, declarations_of, are_distinct, variables_at, assignment_of, statement_by, statement_of, procedure_body, procedure_named, program_of, source_in, source_of, AreVariables, IsStatement, IsSource}
 
@@ -41,23 +43,18 @@ same x y h = ap (λ o. elim o [ Some r ↦ r | None ↦ x ]) h
 
 -- 1. Numbers.
 
-by_int : (o : Option ℤ) (z : ℤ) → where_int o ≡ Some z → FitsSigned w32 z
+by_int : (o : Option ℤ) (z : ℤ) → where_int o ≡ Some z → is_int z ≡ true
 by_int None z h = cc
-by_int (Some (pos n)) z h = by_test (nat_lt n (2 ^ 31)) refl h
+by_int (Some y) z h = by_test (is_int y) refl h
   where
-    by_test : (b : Bool) → nat_lt n (2 ^ 31) ≡ b → (if b then Some (pos n) else None) ≡ Some z → FitsSigned w32 z
-    by_test true e h = let same : pos n ≡ z = cc in subst (FitsSigned w32) same (record { sfits = ltb-true n (2 ^ 31) e })
-    by_test false e h = cc
-by_int (Some (negsuc n)) z h = by_test (nat_lt n (2 ^ 31)) refl h
-  where
-    by_test : (b : Bool) → nat_lt n (2 ^ 31) ≡ b → (if b then Some (negsuc n) else None) ≡ Some z → FitsSigned w32 z
-    by_test true e h = let same : negsuc n ≡ z = cc in subst (FitsSigned w32) same (record { sfits = ltb-true n (2 ^ 31) e })
+    by_test : (b : Bool) → is_int y ≡ b → (if b then Some y else None) ≡ Some z → is_int z ≡ true
+    by_test true e h = let same : y ≡ z = cc in subst (λ x. is_int x ≡ true) same e
     by_test false e h = cc
 
 -- the number of a numeral has 32 signed bits
 pub int_of_fits : (text : List ℕ) (z : ℤ) → int_of text ≡ Some z → FitsSigned w32 z
 unfolding int_of
-int_of_fits text z h = by_int (numeral_of text) z h
+int_of_fits text z h = fits_signed z (by_int (numeral_of text) z h)
 
 only_int_fits : (trees : Nodes) (z : ℤ) → only_int trees ≡ Some z → FitsSigned w32 z
 unfolding only_int

@@ -14,7 +14,8 @@ use Rattle.stack_build.specs.declared.layout.Layout.{Layout}
 use Rattle.stack_build.specs.Piton.{size_of, prelude_size, program_size, template, words_at, prelude_words, program_words}
 use Rattle.stack_build.specs.Placed.{layout_of, code_words, control_words, placed_words}
 use Rattle.stack_build.specs.Image.{slots_from, image_of}
-use Rattle.fm_loader.specs.Loaded.{word_of_number, with_words, with_values, loaded}
+use Rattle.fm_words.specs.Word.{word_of_int}
+use Rattle.fm_loader.specs.Loaded.{with_words, with_values, loaded}
 use Rattle.stack_build.specs.Meaning.{integer}
 use Rattle.stack_build.proofs.Placing.{length-template, length-prelude_words, length-program_words, length-code_words, length-placed_words}
 use Rattle.stack_build.proofs.Laying.{Holds-front, Holds-behind, Holds-append, length-with_words, length-with_values, words_stand, values_above, values_stand}
@@ -64,14 +65,14 @@ module _ (names : List (List ℕ)) (system : System) (values : List ℤ) (room :
       values_above names ((layout_of system).end - 1) values (with_words 0 0 (placed_words system) zeros) 0 (placed_words system) (omega arith) (omega arith) (words_stand 0 (placed_words system) zeros (omega arith))
 
   -- so do the values, the last one first
-  values_hold : Holds 0 (memory_of names system values) ((layout_of system).end - length names) (moved (map word_of_number values) [])
+  values_hold : Holds 0 (memory_of names system values) ((layout_of system).end - length names) (moved (map word_of_int values) [])
   values_hold =
       let zeros : List ℕ = replicate (layout_of system).end 0 in
       let size : length zeros ≡ (layout_of system).end = length-replicate (layout_of system).end 0 in
       let same = length-with_words 0 (placed_words system) zeros in
       values_stand names ((layout_of system).end - 1) ((layout_of system).end - length names) values (with_words 0 0 (placed_words system) zeros) [] many (omega arith) (omega arith) (omega arith) tt
 
-  pub is_laid : system.variables ≡ length names → IsLaid (parts_of system) (loaded (image_of names system) (map integer values)) ((layout_of system).temporary_start - 2 - length system.main.temporaries) (prelude_size system.main) (first_frame system) (moved (map word_of_number values) []) (2 ∷ [])
+  pub is_laid : system.variables ≡ length names → IsLaid (parts_of system) (loaded (image_of names system) (map integer values)) ((layout_of system).temporary_start - 2 - length system.main.temporaries) (prelude_size system.main) (first_frame system) (moved (map word_of_int values) []) (2 ∷ [])
   unfolding placed_words
   is_laid same =
       let m : List ℕ = memory_of names system values in
@@ -95,12 +96,12 @@ module _ (names : List (List ℕ)) (system : System) (values : List ℤ) (room :
           code = Holds-append 0 m 0 (layout_of system).final_pc (code_words system) (halt_word ∷ []) (omega arith) code (behind.0, tt);
           areas_at = behind.1;
           ctrl_at = frame_at;
-          temp_at = subst (λ n. Holds 0 m ((layout_of system).end - n) (moved (map word_of_number values) [])) (sym same) values_hold;
+          temp_at = subst (λ n. Holds 0 m ((layout_of system).end - n) (moved (map word_of_int values) [])) (sym same) values_hold;
           areas_fit = omega arith;
           ctrl_fits = omega arith;
           ctrl_end = omega (arith, length-append system.main.temporaries (0 ∷ (layout_of system).final_pc ∷ []));
           temp_fits = omega arith;
-          temp_end = omega (arith, length-moved (map word_of_number values) [], length-map values word_of_number);
+          temp_end = omega (arith, length-moved (map word_of_int values) [], length-map values word_of_int);
         };
       }
 

@@ -6,7 +6,7 @@ use Rattle.fm_machine.specs.State.{Fm}
 use Rattle.fm_machine.specs.Words.{reg, at, pop, next_word, mov, add, sub}
 use Rattle.fm_machine.specs.Holds.{Layout as Parts, CodeAt}
 use Rattle.fm_machine.proofs.Rows.{Reaches, push_local, push_constant, call, deposit_temp_stk, ret, jump, no_op}
-use Rattle.fm_loader.specs.Loaded.{word_of_number}
+use Rattle.fm_words.specs.Word.{word_of_int}
 use Rattle.stack_build.specs.declared.source.Statement.TheVariants as statement
 use Rattle.stack_build.specs.declared.source.OneStatement.{OneStatement}
 use Rattle.stack_build.specs.declared.piton.Instruction.TheVariants.{NoOp, PushInt, PushNat, PushLocal, PopGlobal, DepositTempStk, Call, Jump, Ret}
@@ -94,7 +94,7 @@ pub assigns : {L : Parts} (layout : Layout) (variables : List (List ℕ)) (varia
     → CodeAt L (layout.assignment + 4) (words_at layout layout.assignment assignment (layout.assignment + 4) assignment.instructions)
     → f + length (frame_of (assigning variables variable number) final) ≡ L.temp_at → L.ctrl_at + 4 ≤ f
     → L.temp_at + length temp + 2 ≤ L.end → layout.end ≡ L.end → variable < length variables → length temp ≡ length variables
-    → Reaches L 28 s 0 final [] (slice_set temp (length temp - 1 - variable) (word_of_number number)) areas
+    → Reaches L 28 s 0 final [] (slice_set temp (length temp - 1 - variable) (word_of_int number)) areas
 unfolding template size_of_all prelude_words
 assigns {L} layout variables variable number {s} {f} a final {temp} {areas} start h code begins called top ctrl_room room end below many =
     let source : OneStatement = assigning variables variable number in
@@ -109,9 +109,9 @@ assigns {L} layout variables variable number {s} {f} a final {temp} {areas} star
     let exit : place_address 0 p 6 ≡ a + 4 + 2 + 4 + 2 + 2 + 3 = omega arith in
     let there : slice_get (frame_of source final) variable ≡ Some variable = index_at 0 (length variables) variable (0 ∷ final ∷ []) below ∙ ap Some (zero-add variable) in
     let h1 = push_local variable variable h c1.0 there top (omega arith) in
-    let h2 = push_constant (word_of_number number) h1 c2.0 (omega arith) in
-    let h3 = call (a + 4 + 2 + 4) layout.assignment (f - 4) (word_of_number number ∷ variable ∷ []) h2 c3.0 begins (omega arith) (omega arith) in
+    let h2 = push_constant (word_of_int number) h1 c2.0 (omega arith) in
+    let h3 = call (a + 4 + 2 + 4) layout.assignment (f - 4) (word_of_int number ∷ variable ∷ []) h2 c3.0 begins (omega arith) (omega arith) in
     let inside : layout.assignment + 2 + 2 ≡ layout.assignment + 4 = omega arith in
-    let h4 = assigned layout variable (word_of_number number) f (a + 4 + 2 + 4) (with_pc h3 inside) called (omega arith) room end (omega arith) in
+    let h4 = assigned layout variable (word_of_int number) f (a + 4 + 2 + 4) (with_pc h3 inside) called (omega arith) room end (omega arith) in
     let h5 = jump (place_address 0 p 6) h4 c4.0 in
     leaves layout source final (with_pc h5 exit) c7.0 top

@@ -2,7 +2,7 @@
 use Rattle.std.specs.Prelude.{ℕ, ◌+◌, ◌*◌, ◌-◌, ◌≤◌, List, [], ◌∷◌, ◌++◌, length, map, reverse, replicate, sum, take}
 use Rattle.std.specs.List.{flat_map}
 use Rattle.fm_machine.specs.Words.{reg, at, push, pop, next_word, mov, add, sub}
-use Rattle.fm_loader.specs.Loaded.{word_of_number}
+use Rattle.fm_words.specs.Word.{word_of_int}
 use Rattle.stack_build.specs.declared.piton.Instruction.{Instruction}
 use Rattle.stack_build.specs.declared.piton.Instruction.TheVariants.{NoOp, PushInt, PushNat, PushLocal, PopGlobal, DepositTempStk, Call, Jump, Ret}
 use Rattle.stack_build.specs.declared.piton.Program.{Program}
@@ -42,7 +42,7 @@ return_words p =
 -- the words of an instruction that stands at an address, of a program that begins at entry
 unfoldable pub template : Layout → ℕ → Program → ℕ → Instruction → List ℕ
 template L entry p address NoOp = mov (reg 3) (reg 3) ∷ []
-template L entry p address (PushInt number) = mov (push 2) next_word ∷ word_of_number number ∷ []
+template L entry p address (PushInt number) = mov (push 2) next_word ∷ word_of_int number ∷ []
 template L entry p address (PushNat number) = mov (push 2) next_word ∷ number ∷ []
 template L entry p address (PushLocal offset) = mov (reg 3) next_word ∷ offset ∷ add (reg 3) (reg 0) ∷ mov (push 2) (at 3) ∷ []
 template L entry p address PopGlobal = mov (reg 3) next_word ∷ L.condition ∷ mov (at 3) (pop 2) ∷ []

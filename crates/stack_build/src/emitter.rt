@@ -2,24 +2,13 @@
 ghost use Rattle.std.specs.Prelude.{◌≡◌, ◌+◌, ◌*◌, ◌<◌, ◌≤◌, ◌++◌, length, replicate, reverse, OnOk};
 ghost use Rattle.std.specs.List.{flat_map};
 ghost use Rattle.fm_machine.specs.Words.{push, pop, next_word, mov};
-ghost use Rattle.fm_loader.specs.Loaded.{word_of_number};
 ghost use Rattle.stack_build.specs.Piton.{IsSmall, template, return_words, pushes, prelude_size, words_at, prelude_words, program_words};
 
 use crate::layout::Layout;
 use crate::piton::{Instruction, Program};
 use crate::words::{add, at, mov, next_word, pop, push, reg, sub};
+use fm_words::word_of_int;
 use stack_text::Memory;
-
-/// A signed number modulo 2^32.
-pub fn int_number(number: i32) -> u32
-    ensures { result ≡ word_of_number number }
-{
-    if number >= 0 {
-        number as u32
-    } else {
-        (i64::from(number) + 0x1_0000_0000) as u32
-    }
-}
 
 /// The words of an instruction that stands at an address, of a program that begins at `entry`.
 #[tactic(auto, unfolding(crate::specs::Piton::template))]
@@ -41,7 +30,7 @@ fn emit(
         Instruction::NoOp => out.push(mov(reg(3), reg(3)))?,
         Instruction::PushInt(number) => out.extend_from_slice(&[
             mov(push(2), next_word()),
-            int_number(number),
+            word_of_int(number),
         ])?,
         Instruction::PushNat(number) => out.extend_from_slice(&[
             mov(push(2), next_word()),

@@ -20,14 +20,6 @@ const ONE_INTEGER: Shape = Shape {
     length: 0,
 };
 
-/// No flag is set.
-const NO_FLAGS: Flags = Flags {
-    c: false,
-    v: false,
-    n: false,
-    z: false,
-};
-
 /// Zeros at the end.
 fn push_zeros(out: &mut Vec<u32>, count: u32) -> Result<(), Memory>
     ensures { OnOk result (out.new.items ≡ out.old.items ++ replicate count 0) }
@@ -114,7 +106,7 @@ pub fn place(alloc: Global, system: &System, names: Seq<Name>) -> Result<Image, 
         size: layout.end,
         final_pc: layout.final_pc,
         registers: Vec::from_slice(alloc, &registers)?,
-        flags: NO_FLAGS,
+        flags: Flags::NONE,
         condition_address: Some(layout.condition),
         conditions: Vec::new(alloc),
         slots: slots_from(alloc, layout.end - 1, names)?,

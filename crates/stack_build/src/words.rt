@@ -51,12 +51,7 @@ fn plainly(op: Op, target: Operand, source: Operand) -> Instr
     Instr {
         op,
         cc: Cc::Al,
-        set: Flags {
-            c: false,
-            v: false,
-            n: false,
-            z: false,
-        },
+        set: Flags::NONE,
         mode_b: target.0,
         reg_b: target.1,
         a: OperandA::Place {
