@@ -1,5 +1,5 @@
 -- Items one below the other.
-use Rattle.std.proofs.Common.{◌≡◌, ◌<◌, ◌+◌, ◌-◌, ℕ, suc, List, ◌∷◌, map, ap, arith}
+use Rattle.std.proofs.Common.{◌≡◌, ◌<◌, ◌+◌, ◌-◌, ℕ, suc, ◌∷◌, map, ap, arith}
 use Rattle.stack_text.specs.declared.shape.Kind.{Kind}
 use Rattle.fm_machine.specs.State.{Fm}
 use Rattle.display_maps.specs.Reading.{word_of, item_of, words_down}

@@ -1,5 +1,5 @@
 -- The machine as it is loaded.
-use Rattle.std.specs.Prelude.{◌≡◌, ℕ, ◌+◌, ◌-◌, ◌^◌, ℤ, pos, negsuc, List, [], ◌∷◌, map, replicate, IsTrue, nat_le}
+use Rattle.std.specs.Prelude.{◌≡◌, ℕ, ◌+◌, ◌-◌, ℤ, List, [], ◌∷◌, map, replicate, IsTrue, nat_le}
 use Rattle.std.specs.List.{list_all}
 use Rattle.stack_text.specs.Values.{ValueOf, item_count}
 use Rattle.fm_words.specs.Word.{word_of_int}

@@ -1,5 +1,5 @@
 -- Words of 32 bits, and the integers that they are read as.
-use Rattle.std.specs.Prelude.{ℕ, ◌-◌, ◌^◌, Bool, false, nat_lt, if◌then◌else◌, ℤ, pos, negsuc, ◌-ℤ◌, unsigned_abs}
+use Rattle.std.specs.Prelude.{ℕ, ◌-◌, ◌^◌, ◌==◌, Bool, false, nat_lt, if◌then◌else◌, ℤ, pos, negsuc, ◌-ℤ◌, unsigned_abs}
 use Rattle.std.specs.Int.{int_rem_euclid}
 
 -- the signed reading: the word itself below 2^31, else the word minus 2^32
@@ -24,3 +24,9 @@ word_of_int (negsuc n) = 2 ^ 32 - 1 - n
 -- what 32 bits keep of any integer: the integer modulo 2^32
 abbrev pub wrapped : ℤ → ℕ
 wrapped z = unsigned_abs (int_rem_euclid z (pos (2 ^ 32)))
+
+-- equality of integers, as a test
+abbrev pub are_same_ints : ℤ → ℤ → Bool
+are_same_ints (pos m) (pos n) = m == n
+are_same_ints (negsuc m) (negsuc n) = m == n
+are_same_ints s t = false

@@ -1,7 +1,8 @@
 -- The rows of the word operations, on the third word, the second and the top.
-use Rattle.std.specs.Prelude.{ℕ, ◌*◌, ◌-◌, ◌^◌, ◌/◌, ◌%◌, ℤ, pos, negsuc, ◌+ℤ◌, ◌-ℤ◌, ◌*ℤ◌, List, get_or, Result, Ok, Err, Bool, true, false, not, ◌&&◌, ◌||◌, ◌==◌, nat_lt, int_lt, unsigned_abs, bit_and, bit_or, bit_xor}
+use Rattle.std.specs.Prelude.{ℕ, ◌*◌, ◌-◌, ◌^◌, ◌/◌, ◌%◌, ℤ, pos, negsuc, ◌+ℤ◌, ◌-ℤ◌, ◌*ℤ◌, List, get_or, Result, Ok, Err, Bool, false, not, ◌&&◌, ◌||◌, ◌==◌, nat_lt, int_lt, unsigned_abs, bit_and, bit_or, bit_xor}
 use Rattle.std.specs.Int.{w32, from_bool as bit, cast_signed}
-use Rattle.fm_words.specs.Word.{is_int, is_nat, wrapped}
+use Rattle.fm_words.specs.Word.{is_int, is_nat, wrapped, are_same_ints}
+use Rattle.fm_words.specs.Alu.{are_same as are_same_bools}
 use Rattle.piton_words.specs.declared.word.Word.{Word}
 use Rattle.piton_words.specs.declared.word.Word.TheVariants.{Int, Nat, Bitv, Bool as Truth, Addr, Pc, Subr}
 use Rattle.piton_words.specs.declared.op.WordOp.{WordOp}
@@ -44,16 +45,6 @@ is_offset areas area (negsuc n) = false
 
 abbrev pub addr_word : List ℕ → ℕ → ℤ → Result Outcome WordError
 addr_word areas area offset = where_true (is_offset areas area offset) (Ok (One (Addr area (unsigned_abs offset))))
-
--- equality of integers and of truth values
-abbrev pub are_same_ints : ℤ → ℤ → Bool
-are_same_ints (pos m) (pos n) = m == n
-are_same_ints (negsuc m) (negsuc n) = m == n
-are_same_ints s t = false
-
-abbrev pub are_same_bools : Bool → Bool → Bool
-are_same_bools true t = t
-are_same_bools false t = not t
 
 -- whether two words of one tag are the same
 abbrev pub are_same : Word → Word → Result Bool WordError

@@ -12,7 +12,6 @@ use Rattle.fm_machine.specs.State.{Fm, word_at}
 use Rattle.fm_machine.specs.Holds.{Holds}
 use Rattle.fm_machine.proofs.Rows.{moved}
 use Rattle.stack_build.specs.Image.{slots_from}
-use Rattle.fm_words.specs.Word.{word_of_int}
 use Rattle.display_maps.specs.declared.shown.Shown.{Shown}
 use Rattle.display_maps.specs.declared.shown.Shown.TheVariants.{Number}
 use Rattle.display_maps.specs.Reading.{word_of, item_of, variable_of}
