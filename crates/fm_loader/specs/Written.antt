@@ -13,7 +13,6 @@ use Rattle.fm_loader.specs.declared.written.Written.{Written}
 use Rattle.fm_loader.specs.declared.written.Written.TheVariants.{Single, Several}
 use Rattle.fm_loader.specs.declared.written.Entry.{Entry}
 
-
 -- the number, where it has 32 signed bits
 abbrev pub in_32_bits : ℤ → Option ℤ
 in_32_bits number = if is_int number then Some number else None

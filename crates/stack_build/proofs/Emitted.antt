@@ -1,6 +1,6 @@
 -- The words of instructions, one after another.
 use Rattle.std.proofs.Common.{◌≡◌, ◌<◌, ◌≤◌, ◌+◌, ℕ, List, [], ◌∷◌, ◌++◌, length, drop, get_or, zero, suc, refl, sym, subst, ap, ◌∙◌, append_assoc, arith}
-use Rattle.std.specs.List.{range_with_len, flat_map}
+use Rattle.std.specs.List.{range_with_len}
 use Rattle.std.proofs.lemmas.List.{drop_all, drop_more}
 use Rattle.stack_build.specs.declared.piton.Instruction.{Instruction}
 use Rattle.stack_build.specs.declared.piton.Program.{Program}

@@ -1,5 +1,5 @@
 -- The words of a placed system are numbers of 32 bits, so its image has a spelling.
-use Rattle.std.proofs.Common.{◌≡◌, ◌<◌, ◌≤◌, ◌+◌, ◌-◌, ◌*◌, ℕ, ℤ, pos, negsuc, zero, suc, List, [], ◌∷◌, ◌++◌, length, true, None, refl, ap, ◌∙◌, arith}
+use Rattle.std.proofs.Common.{◌≡◌, ◌<◌, ◌≤◌, ◌+◌, ◌-◌, ◌*◌, ℕ, zero, suc, List, [], ◌∷◌, ◌++◌, length, true, None, refl, ap, ◌∙◌, arith}
 use Rattle.std.specs.Prelude.{FitsSigned, nat_lt, replicate, reverse, take}
 use Rattle.std.specs.Int.{w32}
 use Rattle.std.specs.List.{range_with_len}

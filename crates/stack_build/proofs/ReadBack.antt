@@ -1,10 +1,8 @@
 -- A window read as a condition and variables.
-use Rattle.std.proofs.Common.{◌≡◌, ◌<◌, ◌≤◌, ◌+◌, ◌-◌, ◌^◌, ℕ, ℤ, pos, negsuc, zero, suc, List, [], ◌∷◌, length, map, Some, true, false, refl, ap, ◌∙◌, arith}
-use Rattle.std.specs.Prelude.{All, FitsSigned, slice_set, unwrap_or, nat_lt, if◌then◌else◌, ◌-ℤ◌}
+use Rattle.std.proofs.Common.{◌≡◌, ◌<◌, ◌≤◌, ◌+◌, ◌-◌, ℕ, ℤ, zero, suc, List, [], ◌∷◌, length, map, Some, refl, ap, ◌∙◌, arith}
+use Rattle.std.specs.Prelude.{All, FitsSigned, slice_set, unwrap_or}
 use Rattle.std.specs.Int.{w32}
 use Rattle.std.specs.List.{zip}
-use Rattle.std.proofs.lemmas.Int.{ints}
-use Rattle.std.proofs.lemmas.Bool.{lt-ltb, le-ltb}
 use Rattle.std.proofs.lemmas.List.{length-map}
 use Rattle.fm_words.specs.Word.{signed_of, word_of_int}
 use Rattle.fm_words.proofs.WordLaws.{signed_of-word_of_int, is_int_from_fits}

@@ -1,10 +1,10 @@
 -- What is read keeps its limits: variables are few and differ, a variable that is assigned is one of them, and numbers have 32 signed bits.
-use Rattle.std.proofs.Common.{IfOk, ◌≡◌, ℕ, ℤ, pos, negsuc, List, [], ◌∷◌, Bool, true, false, not, ◌&&◌, Option, Some, None, Result, Ok, Err, length, refl, subst, ap}
-use Rattle.std.specs.Prelude.{◌^◌, nat_lt, nat_le, if◌then◌else◌, position, codes, FitsSigned}
+use Rattle.std.proofs.Common.{IfOk, ◌≡◌, ℕ, ℤ, List, [], ◌∷◌, Bool, true, false, not, ◌&&◌, Option, Some, None, Result, Ok, Err, length, refl, subst, ap}
+use Rattle.std.specs.Prelude.{nat_le, if◌then◌else◌, position, codes, FitsSigned}
 use Rattle.std.specs.Int.{w32}
 use Rattle.std.specs.List.{list_all}
 use Rattle.std.specs.Str.{bytes_eq}
-use Rattle.std.proofs.lemmas.Bool.{and_parts, and_from, ltb-true, leb-true}
+use Rattle.std.proofs.lemmas.Bool.{and_parts, and_from, leb-true}
 use Rattle.std.proofs.lemmas.List.Quantifiers.{position-Some}
 use Rattle.stack_text.specs.declared.text_fault.TextRule.{TextRule}
 use Rattle.stack_text.specs.Names.{is_name, name_of}
