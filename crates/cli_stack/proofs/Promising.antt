@@ -3,9 +3,7 @@ use Rattle.std.proofs.Common.{IfSome, IfOk, ◌≡◌, ◌≤◌, ℕ, ℤ, pos,
 use Rattle.std.specs.Prelude.{nat_lt, nat_le, ◌&&◌, if◌then◌else◌}
 use Rattle.std.proofs.lemmas.Bool.Decides.{nat_tests}
 use Rattle.stack_shelf.specs.Files.{Files, file_at}
-use Rattle.stack_shelf.specs.Shelf.{fetched, within}
-use Rattle.stack_shelf.specs.declared.fault.FetchFault.{FetchFault}
-use Rattle.stack_shelf.specs.declared.fault.FetchFault.TheVariants.{Missing, TooLong, Failed, Memory}
+use Rattle.stack_shelf.specs.Shelf.{Refusal, Missing, TooLong, fetched, within}
 use Rattle.cli_stack.specs.declared.command.TheConstants.{TEXT_LIMIT}
 use Rattle.cli_stack.specs.declared.command.Command.{Command}
 use Rattle.cli_stack.specs.declared.command.Command.TheVariants.{Usage, NotBuilt, Go, Run, Show}
@@ -103,12 +101,10 @@ module _ (files : Files) (source image text : List ℕ) (there : file_at files s
 
 -- 3. Before the texts are there, nothing is set.
 
-no_output : (name : List ℕ) (limit : ℕ) (r : Result (List ℕ) FetchFault) (early : Answer) → text_of name limit r ≡ Err early → early.output ≡ None
+no_output : (name : List ℕ) (limit : ℕ) (r : Result (List ℕ) Refusal) (early : Answer) → text_of name limit r ≡ Err early → early.output ≡ None
 no_output name limit (Ok text) early h = cc
 no_output name limit (Err Missing) early h = let e : Rattle.cli_stack.specs.Answer.ends 9 (Rattle.cli_stack.specs.Replies.missing_line name) ≡ early = cc in ap (λ (a : Answer). a.output) (sym e)
 no_output name limit (Err TooLong) early h = let e : Rattle.cli_stack.specs.Answer.ends 12 (Rattle.cli_stack.specs.Replies.long_line limit) ≡ early = cc in ap (λ (a : Answer). a.output) (sym e)
-no_output name limit (Err Failed) early h = let e : Rattle.cli_stack.specs.Answer.ends 12 (Rattle.cli_stack.specs.Replies.long_line limit) ≡ early = cc in ap (λ (a : Answer). a.output) (sym e)
-no_output name limit (Err Memory) early h = let e : Rattle.cli_stack.specs.Answer.ends 12 (Rattle.cli_stack.specs.Replies.long_line limit) ≡ early = cc in ap (λ (a : Answer). a.output) (sym e)
 
 was_there : (name : List ℕ) (limit : ℕ) (o : Option (List ℕ)) (text : List ℕ) → text_of name limit (within limit o) ≡ Ok text → o ≡ Some text
 was_there name limit None text h = cc

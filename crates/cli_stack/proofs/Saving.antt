@@ -4,7 +4,7 @@ use Rattle.std.specs.Prelude.{Contains}
 use Rattle.std.specs.Option.{option_to_list}
 use Rattle.stack_shelf.specs.Files.{Files}
 use Rattle.stack_shelf.specs.Causes.{Counts, NoneFell}
-use Rattle.stack_shelf.specs.Shelf.{HalfStored}
+use Rattle.stack_shelf.specs.Shelf.{PartlyStored}
 use Rattle.cli_stack.specs.declared.command.Command.{Command}
 use Rattle.cli_stack.specs.declared.end.End.{End}
 use Rattle.cli_stack.specs.declared.end.End.TheVariants.{Missing, TooLong, ShelfFault, Memory}
@@ -38,13 +38,13 @@ part files mid new before between after command name bytes o (TooLong text) was 
 part files mid new before between after command name bytes o (ShelfFault text) was is says fell left fault a e =
     rw (e, says) (⊎_elim (λ same. inl (same ∙ was)) (λ half. moved half.0) left)
   where
-    moved : HalfStored mid new name bytes → HalfStored (Some files) new name bytes
-    moved half = subst (λ (m : Option Files). HalfStored m new name bytes) was half
+    moved : PartlyStored mid new name bytes → PartlyStored (Some files) new name bytes
+    moved half = subst (λ (m : Option Files). PartlyStored m new name bytes) was half
 part files mid new before between after command name bytes o Memory was is says fell left fault a e =
     ⊎_elim (λ same. inl (same ∙ was)) (λ half. inr (inr (rw (e, says) (moved half.0), (name, own command name is, rose_from _ _ _ (fell.faults name) half.1)))) left
   where
-    moved : HalfStored mid new name bytes → HalfStored (Some files) new name bytes
-    moved half = subst (λ (m : Option Files). HalfStored m new name bytes) was half
+    moved : PartlyStored mid new name bytes → PartlyStored (Some files) new name bytes
+    moved half = subst (λ (m : Option Files). PartlyStored m new name bytes) was half
 
 pub save_leaves : (old mid new : Option Files) (before between after : Counts) (command : Command) (inputs : List (List ℕ × ℕ)) (texts : List (List ℕ)) (name bytes : List ℕ) (end : End)
     → mid ≡ old → inputs ≡ inputs_of command → IfSome old (λ files. gathered files inputs ≡ Ok texts) → stored_by command texts ≡ Some bytes → output_of command ≡ Some name → NoneFell before between

@@ -3,9 +3,7 @@ use Rattle.std.specs.Prelude.{ℕ, List, [], ◌∷◌, ◌++◌, Option, Some, 
 use Rattle.std.specs.Option.{option_to_list}
 use Rattle.fm_machine.specs.State.{Fm}
 use Rattle.stack_shelf.specs.Files.{Files, put_file}
-use Rattle.stack_shelf.specs.Shelf.{fetched}
-use Rattle.stack_shelf.specs.declared.fault.FetchFault.{FetchFault}
-use Rattle.stack_shelf.specs.declared.fault.FetchFault.TheVariants as fault
+use Rattle.stack_shelf.specs.Shelf.{Refusal, Missing, TooLong, fetched}
 use Rattle.cli_stack.specs.declared.command.TheConstants.{TEXT_LIMIT, IMAGE_LIMIT}
 use Rattle.cli_stack.specs.declared.command.Command.{Command}
 use Rattle.cli_stack.specs.declared.command.Command.TheVariants.{Usage, NotBuilt, Go, Run, Show}
@@ -64,10 +62,10 @@ pub record Answer : Type 0 where
 abbrev pub ends : ℕ → List ℕ → Answer
 ends status text = record { status = status; text = text; output = None; machine = None }
 
-abbrev pub text_of : List ℕ → ℕ → Result (List ℕ) FetchFault → Result (List ℕ) Answer
+abbrev pub text_of : List ℕ → ℕ → Result (List ℕ) Refusal → Result (List ℕ) Answer
 text_of name limit (Ok text) = Ok text
-text_of name limit (Err fault.Missing) = Err (ends 9 (missing_line name))
-text_of name limit (Err _) = Err (ends 12 (long_line limit))
+text_of name limit (Err Missing) = Err (ends 9 (missing_line name))
+text_of name limit (Err TooLong) = Err (ends 12 (long_line limit))
 
 abbrev pub before_texts : Result (List ℕ) Answer → Result (List (List ℕ)) Answer → Result (List (List ℕ)) Answer
 before_texts (Err early) rest = Err early

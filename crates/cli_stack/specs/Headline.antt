@@ -3,7 +3,7 @@ use Rattle.std.specs.Prelude.{◌≡◌, ◌⊎◌, ℕ, List, Option, Some, Non
 use Rattle.std.specs.Global.{Global}
 use Rattle.stack_shelf.specs.Files.{Files}
 use Rattle.stack_shelf.specs.Causes.{Counts, Rose}
-use Rattle.stack_shelf.specs.Shelf.{HalfStored, appended, FrontAppended}
+use Rattle.stack_shelf.specs.Shelf.{PartlyStored, appended, PrefixAppended}
 use Rattle.cli_stack.specs.declared.command.Command.{Command}
 use Rattle.fm_machine.specs.State.{Fm, Seen}
 use Rattle.cli_stack.specs.declared.reply.Reply.{Reply}
@@ -42,7 +42,7 @@ HasReason before after command end = EndsAtOne before after (file_names command)
 -- the file that a command writes holds part of its bytes
 abbrev pub HoldsPart : Option Files → Option Files → Option (List ℕ × List ℕ) → Type 0
 HoldsPart old new None = new ≡ old
-HoldsPart old new (Some output) = HalfStored old new output.0 output.1
+HoldsPart old new (Some output) = PartlyStored old new output.0 output.1
 
 -- a count of faults rose for one of these names
 abbrev pub FaultRose : Counts → Counts → List (List ℕ) → Type 0
@@ -50,7 +50,7 @@ FaultRose before after names = (name : List ℕ) × Contains names name × Rose 
 
 -- what a store that failed, or whose line could not be made, leaves
 abbrev pub LeavesPart : Option Files → Option Files → Counts → Counts → List ℕ → List ℕ → Type 0
-LeavesPart old new before after name bytes = (new ≡ old) ⊎ (HalfStored old new name bytes × Rose (before.faults name) (after.faults name))
+LeavesPart old new before after name bytes = (new ≡ old) ⊎ (PartlyStored old new name bytes × Rose (before.faults name) (after.faults name))
 
 -- the files and the reply of a command, where files are told
 abbrev pub Leaves : Files → Option Files → Counts → Counts → List (List ℕ) → Answer → Result Reply End → Type 0
@@ -91,7 +91,7 @@ pub record Agrees (answer : Answer) (files_before : Files) (result : ℕ) (left 
 
 -- printing stopped before its end: the sink failed, or memory ran out
 abbrev pub PrintingStopped : ℕ → Option (List ℕ) → Option (List ℕ) → ℕ → ℕ → List ℕ → Type 0
-PrintingStopped status taken now before after text = FrontAppended taken now text × (((status ≡ 11) × Rose before after) ⊎ (status ≡ 14))
+PrintingStopped status taken now before after text = PrefixAppended taken now text × (((status ≡ 11) × Rose before after) ⊎ (status ≡ 14))
 
 -- a text was printed, and this status answered, or printing stopped
 abbrev pub Prints : ℕ → List ℕ → ℕ → Option (List ℕ) → Option (List ℕ) → ℕ → ℕ → Type 0
@@ -121,7 +121,7 @@ SizeTold taken now = (need : ℕ) × ((now ≡ appended taken (verdict_line (Sma
 -- a front of the answer's text was printed, or where the shelf failed, of that line
 abbrev pub PrintsFront : Counts → Counts → List (List ℕ) → Option (List ℕ) → Option (List ℕ) → List ℕ → Type 0
 PrintsFront before after names taken now text =
-    FrontAppended taken now text ⊎ ((name : List ℕ) × Contains names name × Rose (before.faults name) (after.faults name) × FrontAppended taken now (fault_line name))
+    PrefixAppended taken now text ⊎ ((name : List ℕ) × Contains names name × Rose (before.faults name) (after.faults name) × PrefixAppended taken now (fault_line name))
 
 -- the files are those of the answer, or where the shelf failed, its file holds part of its bytes
 abbrev pub LeavesAfter : Files → Option Files → Counts → Counts → List (List ℕ) → Option (List ℕ × List ℕ) → Type 0

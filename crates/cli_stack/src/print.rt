@@ -1,7 +1,7 @@
 //! Prints texts, a line at a time.
 ghost use Rattle.std.specs.Prelude.{◌≡◌, ◌≤◌, ◌<◌, ◌++◌, ◌≢◌, length, Ok, OnOk, OnErr, IsErrOf};
 ghost use Rattle.stack_shelf.specs.Causes.{Rose};
-ghost use Rattle.stack_shelf.specs.Shelf.{appended, FrontAppended};
+ghost use Rattle.stack_shelf.specs.Shelf.{appended, PrefixAppended};
 ghost use Rattle.cli_stack.specs.Headline.{Prints, Concludes, held_after};
 
 use crate::end::End;
@@ -24,7 +24,7 @@ fn first_line(text: &[u8]) -> (&[u8], &[u8])
 /// Prints a text, each of its lines by one call of `put`.
 pub fn print<K: Sink>(out: &mut K, text: &[u8]) -> Result<(), PutFault>
     ensures ok { OnOk result (K.taken out.new ≡ appended (K.taken out.old) text.now) }
-    ensures front { OnErr result (FrontAppended (K.taken out.old) (K.taken out.new) text.now) }
+    ensures front { OnErr result (PrefixAppended (K.taken out.old) (K.taken out.new) text.now) }
     ensures failed { IsErrOf result PutFault.Failed → Rose (K.faults out.old) (K.faults out.new) }
     ensures faults { K.faults out.old ≤ K.faults out.new }
 {

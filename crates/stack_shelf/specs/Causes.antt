@@ -7,7 +7,7 @@ pub record Counts : Type 0 where
   pub absences : List ℕ → ℕ
   pub overruns : List ℕ → ℕ
 
--- a count went up, or can go no higher: it stands at the last value of its type
+-- a count went up, or can go no higher: it is the last value of its type
 abbrev pub Rose : ℕ → ℕ → Type 0
 Rose before after = min (before + 1) (2 ^ 64 - 1) ≤ after
 
@@ -18,5 +18,5 @@ pub record NoneFell (before after : Counts) : Type 0 where
   pub overruns : (name : List ℕ) → before.overruns name ≤ after.overruns name
 
 -- one more, up to the last value of its type
-abbrev pub next : ℕ → ℕ
-next n = min (n + 1) (2 ^ 64 - 1)
+abbrev pub saturating_increment : ℕ → ℕ
+saturating_increment n = min (n + 1) (2 ^ 64 - 1)

@@ -1,5 +1,9 @@
-pub mod Causes
-pub mod Edge
+-- what the traits promise
 pub mod Files
-pub mod Memory
+pub mod Causes
 pub mod Shelf
+-- what the four implementations are
+pub mod InMemory
+pub mod System
+-- what is read from streams and written to them
+pub mod Streams

@@ -1,6 +1,6 @@
 //! Which calls of a shelf or a sink in memory are to fail.
 ghost use Rattle.std.specs.Prelude.{◌≡◌};
-ghost use Rattle.stack_shelf.specs.Memory.{kept_by};
+ghost use Rattle.stack_shelf.specs.InMemory.{kept_by};
 
 /// How many bytes the call with this number keeps, where it is to fail: the second number of the
 /// first pair that begins with the call's.

@@ -1,24 +1,24 @@
 //! A shelf over the files of a folder.
 ghost use Rattle.std.specs.Prelude.{◌≡◌, ◌≤◌, length, IfOk};
 ghost use Rattle.stack_shelf.specs.Causes.{NoneFell};
-ghost use Rattle.stack_shelf.specs.Edge.{for_each_name, tally_after_fetch, tally_after_store};
+ghost use Rattle.stack_shelf.specs.System.{for_each_name, folder_after_fetch, folder_after_store};
 
-use crate::streams::{read_within, write_whole};
+use crate::streams::{fetch_from, store_into};
 use crate::{FetchFault, Shelf, StoreFault};
 use std::alloc::Global;
 use std::fs;
-use std::io::ErrorKind;
 use std::marker::Model;
 use std::path::PathBuf;
 use std::rt::Files;
 
 /// The files of one folder, through the system.
 ///
-/// A name is a path from that folder on, so `""` as the folder stands for the current one. The
-/// shelf tells nothing of its files, since other programs may change them. It keeps one count of
-/// each kind for all names together, and adds one at each `Err` of that kind, up to `u64::MAX`.
+/// A name is a path from that folder on; `""` as the folder is the current one. Contracts say nothing of
+/// the files, since other programs may change them. The shelf keeps one count of each kind for all names
+/// together, and adds one at each `Err` of that kind, up to `u64::MAX`.
 ///
-/// A failing `store` may leave a front of the bytes: the file is written in place.
+/// A failing `store` may leave a prefix of the bytes: the file is written in place. Reads and writes that
+/// were interrupted are tried again.
 #[derive(Drop)]
 pub struct FolderShelf<R: Files + Drop> {
     rt: R,
@@ -30,9 +30,9 @@ pub struct FolderShelf<R: Files + Drop> {
 }
 
 impl<R: Files + Drop> Model for FolderShelf<R> {
-    ghost use Rattle.stack_shelf.specs.Edge.{Tally};
+    ghost use Rattle.stack_shelf.specs.System.{FolderShelfOf};
 
-    ghost Value = { Tally };
+    ghost Value = { FolderShelfOf };
 
     ghost view = { λ s. record { faults = s.faults; absences = s.absences; overruns = s.overruns } };
 }
@@ -55,7 +55,7 @@ impl<R: Files + Drop> FolderShelf<R> {
 
 impl<R: Files + Drop> Shelf for FolderShelf<R> {
     ghost use Rattle.std.specs.Prelude.{None};
-    ghost use Rattle.stack_shelf.specs.Edge.{for_each_name};
+    ghost use Rattle.stack_shelf.specs.System.{for_each_name};
 
     ghost files = { λ _. None };
 
@@ -64,36 +64,28 @@ impl<R: Files + Drop> Shelf for FolderShelf<R> {
     fn fetch(&mut self, alloc: Global, name: &str, limit: u64) -> Result<Vec<u8>, FetchFault>
         ensures length { IfOk result (λ bytes. length bytes.items ≤ limit) }
         ensures counts { NoneFell (for_each_name self.old) (for_each_name self.new) }
-        ensures after { self.new ≡ tally_after_fetch self.old result }
+        ensures after { self.new ≡ folder_after_fetch self.old result }
     {
         let path = self.folder.join(alloc, name)?;
-        let got = match fs::open(&self.rt, path.as_path()) {
-            Ok(mut file) => read_within(alloc, &mut file, limit),
-            Err(e) if e.kind() == ErrorKind::NotFound => Err(FetchFault::Missing),
-            Err(_) => Err(FetchFault::Failed),
-        };
-        match got {
+        let fetched = fetch_from(alloc, fs::open(&self.rt, path.as_path()), limit);
+        match fetched {
             Err(FetchFault::Missing) => self.absences = self.absences.saturating_add(1),
             Err(FetchFault::TooLong) => self.overruns = self.overruns.saturating_add(1),
             Err(FetchFault::Failed) => self.faults = self.faults.saturating_add(1),
             Ok(_) | Err(FetchFault::Memory) => {}
         }
-        got
+        fetched
     }
 
     fn store(&mut self, name: &str, bytes: &[u8]) -> Result<(), StoreFault>
         ensures counts { NoneFell (for_each_name self.old) (for_each_name self.new) }
-        ensures after { self.new ≡ tally_after_store self.old result }
+        ensures after { self.new ≡ folder_after_store self.old result }
     {
         let path = self.folder.join(self.alloc, name)?;
-        let written = match fs::create(&self.rt, path.as_path()) {
-            Ok(mut file) => write_whole(&mut file, bytes),
-            Err(e) => Err(e),
-        };
-        if written.is_err() {
+        let stored = store_into(&mut fs::create(&self.rt, path.as_path()), bytes);
+        if stored.is_err() {
             self.faults = self.faults.saturating_add(1);
-            return Err(StoreFault::Failed);
         }
-        Ok(())
+        stored
     }
 }

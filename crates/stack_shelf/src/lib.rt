@@ -1,28 +1,35 @@
-//! Where a program's files and its output come from and go to.
+//! A program's files and its output.
 //!
 //! Code above this crate reads and writes through two traits, and never through the system itself:
-//! a [`Shelf`] has files under names, and a [`Sink`] takes bytes in order. Each comes twice.
-//! [`MemoryShelf`] and [`MemorySink`] tell all that they hold, and fail at the calls that they are
-//! told to fail at, so a proof or a test can speak of every file and of every fault.
-//! [`FolderShelf`] and [`StdoutSink`] are the edge to the system, and tell their counts alone.
+//! a [`Shelf`] has files under names, and a [`Sink`] takes bytes in order. Each has two implementations.
+//! Of [`MemoryShelf`] and [`MemorySink`] all content is known, and they fail at the calls that their
+//! makers name, so a proof or a test can speak of every file and of every fault.
+//! [`FolderShelf`] and [`StdoutSink`] are the edge to the system; of these only the counts are known.
 //!
-//! # What a shelf or a sink tells
+//! # What contracts know of a shelf or a sink
 //!
 //! An implementation says by ghost members what it is to a proof. `files` and `taken` are its
 //! content, or `None` where other programs may change it unseen; then no clause speaks of content.
 //! `counts` and `faults` say how often something went wrong. A count never falls, and it rises at
 //! each fault of its kind. Code that holds a shelf only by its trait can't raise a count except by
-//! a call, so a count that rose is evidence that the shelf itself gave that answer.
+//! a call, so a count that rose is evidence that a call of the shelf raised it.
+//!
+//! # The edge
+//!
+//! `FolderShelf` and `StdoutSink` open a stream and hand it to a function that is generic over `Read`
+//! or `Write`, whose contract names the bytes: which fault an error is, and that all bytes are read or
+//! written, is proved there. What is left to trust is that the stream is opened at the right path and that the
+//! call's own arguments are handed on.
 //!
 //! # Another shelf
 //!
 //! 1. Keep the counts as `u64`, and add with `saturating_add`: `Rose` allows for the last value.
 //!    One count of each kind may serve all names; `Counts` is then three functions that look at no
 //!    name.
-//! 2. Give the struct an `impl Model` whose value is a record of what the members read, as `Tally`
-//!    or `MemoryFiles`.
+//! 2. Give the struct an `impl Model` whose value is a record of what the members read, as
+//!    `FolderShelfOf` or `MemoryShelfOf`.
 //! 3. Say in a clause of your own what the value is after each answer, as `after` does in the four
-//!    of this crate. Such clauses stand in place of the trait's and have to imply them. Repeat
+//!    of this crate. Such clauses replace the trait's and have to imply them. Repeat
 //!    `counts` (of a sink, `faults`), since a model doesn't show that a count fits a `u64`.
 #![tactic(auto)]
 

@@ -1,16 +1,16 @@
 //! A sink over standard output.
 ghost use Rattle.std.specs.Prelude.{◌≡◌, ◌≤◌, IsErrOf};
-ghost use Rattle.stack_shelf.specs.Edge.{faults_after_put};
+ghost use Rattle.stack_shelf.specs.System.{faults_after_put};
 
-use crate::streams::write_whole;
+use crate::streams::put_into;
 use crate::{PutFault, Sink};
 use std::io;
 use std::marker::Model;
 
 /// Standard output, with nothing kept back: what `put` took has been written.
 ///
-/// It tells nothing of what it has taken. It counts its failures, up to `u64::MAX`, and takes no
-/// memory.
+/// Contracts say nothing of what it has taken. It counts its failures, up to `u64::MAX`, and takes no
+/// memory. Writes that were interrupted are tried again.
 #[derive(Drop)]
 pub struct StdoutSink<P: Print + Drop> {
     rt: P,
@@ -46,10 +46,10 @@ impl<P: Print + Drop> Sink for StdoutSink<P> {
         ensures after { self.new ≡ faults_after_put self.old result }
         ensures memory { ¬ IsErrOf result PutFault.Memory }
     {
-        if write_whole(&mut io::writer(&self.rt), bytes).is_err() {
+        let put = put_into(&mut io::writer(&self.rt), bytes);
+        if put.is_err() {
             self.faults = self.faults.saturating_add(1);
-            return Err(PutFault::Failed);
         }
-        Ok(())
+        put
     }
 }

@@ -8,7 +8,7 @@ returns-in_err-put-clause-front g c =
     let p = err_from_is_err_and c.from_residual.result c.from_residual.ensures.1 in
     let printed = c.loop-rest.invariant.printed in
     let whole : printed.0 ++ (c.first_line.result.0.now ++ c.first_line.result.1.now) ≡ c.args.text.now = rw (c.first_line.ensures.whole, printed.1) in
-    rw p.1 (later_front _ _ _ printed.0 _ _ _ whole printed.2 c.in_err-put.ensures.front)
+    rw p.1 (later_front _ _ _ printed.0 _ _ _ whole printed.2 c.in_err-put.ensures.prefix)
 
 pub loop-rest-preserved : goal.loop-rest-preserved
 loop-rest-preserved g c =

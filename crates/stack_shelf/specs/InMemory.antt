@@ -1,0 +1,78 @@
+-- What a shelf and a sink in memory are.
+use Rattle.std.specs.Prelude.{ℕ, List, ◌++◌, take, Option, unwrap_or, Result, Ok, Err, String, ◌==◌, map, find}
+use Rattle.std.specs.Option.{option_map}
+use Rattle.std.specs.Global.{Vec, Global}
+use Rattle.std.specs.String.{string_bytes}
+use Rattle.stack_shelf.specs.Causes.{Counts, saturating_increment}
+use Rattle.stack_shelf.specs.Files.{Files, put_file}
+use Rattle.stack_shelf.specs.declared.fault.FetchFault.{FetchFault}
+use Rattle.stack_shelf.specs.declared.fault.FetchFault.TheVariants as fetching
+use Rattle.stack_shelf.specs.declared.fault.StoreFault.{StoreFault}
+use Rattle.stack_shelf.specs.declared.fault.StoreFault.TheVariants as storing
+use Rattle.stack_shelf.specs.declared.fault.PutFault.{PutFault}
+use Rattle.stack_shelf.specs.declared.fault.PutFault.TheVariants as putting
+
+-- a shelf in memory: its files, which calls are to fail and how many bytes they keep, the calls so far, and its counts
+pub record MemoryShelfOf : Type 0 where
+  pub files : Files
+  pub failing : List (ℕ × ℕ)
+  pub calls : ℕ
+  pub faults : ℕ
+  pub absences : ℕ
+  pub overruns : ℕ
+
+-- one count of each kind serves all names
+abbrev pub counts_of : MemoryShelfOf → Counts
+counts_of shelf = record { faults = λ _. shelf.faults; absences = λ _. shelf.absences; overruns = λ _. shelf.overruns }
+
+-- a sink in memory: what it has taken, and the rest likewise
+pub record MemorySinkOf : Type 0 where
+  pub taken : List ℕ
+  pub failing : List (ℕ × ℕ)
+  pub calls : ℕ
+  pub faults : ℕ
+
+-- how many bytes a call with this number keeps, where it is to fail: the second number of the first such pair
+abbrev pub kept_by : List (ℕ × ℕ) → ℕ → Option ℕ
+kept_by failing call = option_map (λ pair. pair.1) (find (λ pair. pair.0 == call) failing)
+
+-- the bytes of the names and of the files
+abbrev pub shown : List (String Global × Vec ℕ) → Files
+shown files = map (λ file. (string_bytes file.0, file.1.items)) files
+
+-- the prefix that a failing call keeps
+abbrev pub kept_prefix : List (ℕ × ℕ) → ℕ → List ℕ → List ℕ
+kept_prefix failing call bytes = take (unwrap_or (kept_by failing call) 0) bytes
+
+-- a sink after a call with this result
+abbrev pub after_put : {X : Type 0} → MemorySinkOf → List ℕ → Result X PutFault → MemorySinkOf
+after_put sink bytes (Ok _) = record sink { taken = sink.taken ++ bytes; calls = saturating_increment sink.calls }
+after_put sink bytes (Err putting.Failed) =
+    record sink {
+      taken = sink.taken ++ kept_prefix sink.failing sink.calls bytes;
+      calls = saturating_increment sink.calls;
+      faults = saturating_increment sink.faults;
+    }
+after_put sink bytes (Err putting.Memory) = record sink { calls = saturating_increment sink.calls }
+
+-- a shelf after a fetch with this result
+abbrev pub after_fetch : {X : Type 0} → MemoryShelfOf → Result X FetchFault → MemoryShelfOf
+after_fetch shelf (Err fetching.Failed) =
+    record shelf { calls = saturating_increment shelf.calls; faults = saturating_increment shelf.faults }
+after_fetch shelf (Err fetching.Missing) =
+    record shelf { calls = saturating_increment shelf.calls; absences = saturating_increment shelf.absences }
+after_fetch shelf (Err fetching.TooLong) =
+    record shelf { calls = saturating_increment shelf.calls; overruns = saturating_increment shelf.overruns }
+after_fetch shelf _ = record shelf { calls = saturating_increment shelf.calls }
+
+-- a shelf after a store with this result
+abbrev pub after_store : {X : Type 0} → MemoryShelfOf → List ℕ → List ℕ → Result X StoreFault → MemoryShelfOf
+after_store shelf name bytes (Ok _) =
+    record shelf { files = put_file shelf.files name bytes; calls = saturating_increment shelf.calls }
+after_store shelf name bytes (Err storing.Failed) =
+    record shelf {
+      files = put_file shelf.files name (kept_prefix shelf.failing shelf.calls bytes);
+      calls = saturating_increment shelf.calls;
+      faults = saturating_increment shelf.faults;
+    }
+after_store shelf name bytes (Err storing.Memory) = record shelf { calls = saturating_increment shelf.calls }

@@ -1,0 +1,26 @@
+-- What is read from a stream and written to one.
+use Rattle.std.specs.Prelude.{◌≡◌, ◌≤◌, ◌<◌, ℕ, List, length, Option, IfSome, Result, Ok, Err}
+use Rattle.std.specs.Global.{Vec}
+use Rattle.std.specs.declared.io.ErrorKind.{ErrorKind}
+use Rattle.std.specs.declared.io.ErrorKind.TheVariants.{NotFound}
+use Rattle.stack_shelf.specs.declared.fault.FetchFault.{FetchFault}
+use Rattle.stack_shelf.specs.declared.fault.FetchFault.TheVariants.{Missing, TooLong, Failed, Memory}
+
+-- why a file that could not be opened has no bytes, by the kind of the error
+abbrev pub opening_fault : ErrorKind → FetchFault
+opening_fault NotFound = Missing
+opening_fault kind = Failed
+
+-- what reading a stream of known bytes within a limit returns: all of them, or that they are more; other faults are the stream's
+abbrev pub ReadsWithin : Option (List ℕ) → ℕ → Result (Vec ℕ) FetchFault → Type 0
+ReadsWithin known limit (Ok bytes) = (length bytes.items ≤ limit) × IfSome known (λ all. bytes.items ≡ all)
+ReadsWithin known limit (Err TooLong) = IfSome known (λ all. limit < length all)
+ReadsWithin known limit (Err Missing) = ⊥
+ReadsWithin known limit (Err Failed) = Unit {0}
+ReadsWithin known limit (Err Memory) = Unit {0}
+
+-- there was a writer and there is one, with this between them
+abbrev pub WithWriter : {W E : Type 0} → Result W E → Result W E → (W → W → Type 0) → Type 0
+WithWriter (Ok old) (Ok new) P = P old new
+WithWriter (Ok old) (Err e) P = ⊥
+WithWriter (Err e) new P = ⊥

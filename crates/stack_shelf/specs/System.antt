@@ -1,0 +1,39 @@
+-- What the shelf over a folder and the sink over standard output keep: their counts, and nothing of the content.
+use Rattle.std.specs.Prelude.{ℕ, Result, Ok, Err}
+use Rattle.stack_shelf.specs.Causes.{Counts, saturating_increment}
+use Rattle.stack_shelf.specs.declared.fault.FetchFault.{FetchFault}
+use Rattle.stack_shelf.specs.declared.fault.FetchFault.TheVariants as fetching
+use Rattle.stack_shelf.specs.declared.fault.StoreFault.{StoreFault}
+use Rattle.stack_shelf.specs.declared.fault.StoreFault.TheVariants as storing
+use Rattle.stack_shelf.specs.declared.fault.PutFault.{PutFault}
+use Rattle.stack_shelf.specs.declared.fault.PutFault.TheVariants as putting
+
+-- a shelf over a folder: one count of each kind, for all names together
+pub record FolderShelfOf : Type 0 where
+  pub faults : ℕ
+  pub absences : ℕ
+  pub overruns : ℕ
+
+-- the same three counts at each name
+abbrev pub for_each_name : FolderShelfOf → Counts
+for_each_name shelf = record { faults = λ _. shelf.faults; absences = λ _. shelf.absences; overruns = λ _. shelf.overruns }
+
+-- the shelf after a fetch with this result: its count goes up, and no other
+abbrev pub folder_after_fetch : {X : Type 0} → FolderShelfOf → Result X FetchFault → FolderShelfOf
+folder_after_fetch shelf (Ok _) = shelf
+folder_after_fetch shelf (Err fetching.Missing) = record shelf { absences = saturating_increment shelf.absences }
+folder_after_fetch shelf (Err fetching.TooLong) = record shelf { overruns = saturating_increment shelf.overruns }
+folder_after_fetch shelf (Err fetching.Failed) = record shelf { faults = saturating_increment shelf.faults }
+folder_after_fetch shelf (Err fetching.Memory) = shelf
+
+-- the shelf after a store with this result
+abbrev pub folder_after_store : {X : Type 0} → FolderShelfOf → Result X StoreFault → FolderShelfOf
+folder_after_store shelf (Ok _) = shelf
+folder_after_store shelf (Err storing.Failed) = record shelf { faults = saturating_increment shelf.faults }
+folder_after_store shelf (Err storing.Memory) = shelf
+
+-- how often standard output failed, after a put with this result
+abbrev pub faults_after_put : {X : Type 0} → ℕ → Result X PutFault → ℕ
+faults_after_put faults (Ok _) = faults
+faults_after_put faults (Err putting.Failed) = saturating_increment faults
+faults_after_put faults (Err putting.Memory) = faults
