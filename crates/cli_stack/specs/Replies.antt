@@ -2,9 +2,8 @@
 use Rattle.std.specs.Prelude.{ℕ, List, [], ◌∷◌, ◌++◌, Option, None, codes}
 use Rattle.std.specs.Option.{option_map}
 use Rattle.std.specs.Fmt.{decimal}
-use Rattle.std.specs.Int.{w32, to_be_bytes}
-use Rattle.hex.specs.Hex.{encode_lower}
 use Rattle.fm_machine.specs.State.{Fm, Seen}
+use Rattle.fm_show.specs.Digits.{hex_digits}
 use Rattle.cli_stack.specs.declared.reply.Reply.{Reply}
 use Rattle.cli_stack.specs.declared.reply.Verdict.{Verdict}
 use Rattle.cli_stack.specs.declared.reply.Verdict.TheVariants.{Done, Usage, Values, Image, Unfinished, Outside, SmallControl, SmallTemporary, NotBuilt}
@@ -21,10 +20,6 @@ long_line limit = line (codes "size file " ++ decimal limit)
 
 abbrev pub fault_line : List ℕ → List ℕ
 fault_line name = line (codes "shelf fault " ++ name)
-
--- an address in eight hexadecimal digits
-unfoldable pub address_text : ℕ → List ℕ
-address_text address = encode_lower (to_be_bytes w32 address)
 
 -- the exit status
 abbrev pub status_of : Verdict → ℕ
@@ -45,7 +40,7 @@ verdict_line Usage = line (codes "usage")
 verdict_line (Values rule place) = line (codes "values V" ++ decimal rule ++ codes " at " ++ decimal place)
 verdict_line (Image rule place) = line (codes "image I" ++ decimal rule ++ codes " at " ++ decimal place)
 verdict_line (Unfinished budget) = line (codes "unfinished " ++ decimal budget)
-verdict_line (Outside address count) = line (codes "outside " ++ address_text address ++ codes " after " ++ decimal count)
+verdict_line (Outside address count) = line (codes "outside " ++ hex_digits address ++ codes " after " ++ decimal count)
 verdict_line (SmallControl need) = line (codes "size control " ++ decimal need)
 verdict_line (SmallTemporary need) = line (codes "size temporary " ++ decimal need)
 verdict_line NotBuilt = line (codes "not built")

@@ -1,9 +1,10 @@
 //! What a command answers.
 ghost use Rattle.std.specs.Prelude.{◌≡◌, IfOk, None, string_bytes};
 ghost use Rattle.std.specs.Option.{option_map};
-ghost use Rattle.cli_stack.specs.Replies.{address_text, status_of, verdict_line, only, told_of, missing_line, long_line, fault_line};
+ghost use Rattle.cli_stack.specs.Replies.{status_of, verdict_line, only, told_of, missing_line, long_line, fault_line};
 
 use fm_machine::Machine;
+use fm_show::hex_digits;
 use stack_text::{Memory, Seq};
 use std::alloc::Global;
 
@@ -81,19 +82,11 @@ fn image_line(alloc: Global, rule: u8, place: u64) -> Result<String, Memory>
     Ok(format!(in alloc; "image I{rule} at {place}\n")?)
 }
 
-/// An address in eight hexadecimal digits.
-#[tactic(auto, unfolding(crate::specs::Replies::address_text))]
-fn address_text(alloc: Global, address: u32) -> Result<String, Memory>
-    ensures { IfOk result (λ text. string_bytes text ≡ address_text address) }
-{
-    Ok(hex::encode(alloc, address.to_be_bytes().as_slice())?)
-}
-
 /// The line of an address outside the window.
 fn outside_line(alloc: Global, address: u32, count: u64) -> Result<String, Memory>
     ensures { IfOk result (λ line. string_bytes line ≡ verdict_line (Verdict.Outside address count)) }
 {
-    let address = address_text(alloc, address)?;
+    let address = hex_digits(alloc, address)?;
     Ok(format!(in alloc; "outside {address} after {count}\n")?)
 }
 

@@ -1,7 +1,7 @@
 -- The limits of an image, one by one.
-use Rattle.std.proofs.Common.{◌≡◌, ◌≤◌, ◌+◌, true, ◌&&◌, eqb, leb, [], length, arith}
+use Rattle.std.proofs.Common.{◌≡◌, ◌≤◌, ◌<◌, ◌+◌, true, ◌&&◌, eqb, leb, [], length, arith}
 use Rattle.std.specs.Prelude.{IsTrue}
-use Rattle.std.proofs.lemmas.Bool.{and_parts, and_from, leb-true}
+use Rattle.std.proofs.lemmas.Bool.{and_parts, and_from, leb-true, eqb-true}
 use Rattle.fm_image.specs.Image.{ImageOf, window_of, is_size, is_inside, is_window, is_condition_address, is_count, is_condition, is_slot, all_behind, is_image}
 
 pub record Limits (image : ImageOf) : Type 0 where
@@ -37,13 +37,35 @@ condition_count image h = leb-true _ _ (limits_of image h).condition_count
 pub slot_count : (image : ImageOf) → IsTrue (is_image image) → length image.slots ≤ 200
 slot_count image h = leb-true _ _ (limits_of image h).slot_count
 
+-- what an image's window keeps
+pub record Sized (image : ImageOf) : Type 0 where
+  pub some : 1 ≤ image.size
+  pub few : image.size ≤ 1048576
+  pub below : image.base + image.size ≤ 4294967295
+
+pub sized : (image : ImageOf) → IsTrue (is_image image) → Sized image
+sized image h =
+    let window = and_parts (is_size image.base image.size) (is_inside image.base image.size image.final_pc) (limits_of image h).window in
+    let below = and_parts (leb 1 image.size && leb image.size 1048576) (leb (image.base + image.size) 4294967295) window.0 in
+    let size = and_parts (leb 1 image.size) (leb image.size 1048576) below.0 in
+    record { some = leb-true 1 image.size size.0; few = leb-true image.size 1048576 size.1; below = leb-true (image.base + image.size) 4294967295 below.1 }
+
+pub sixteen : (image : ImageOf) → IsTrue (is_image image) → length image.registers ≡ 16
+sixteen image h = eqb-true _ _ (limits_of image h).registers
+
+within_window : (image : ImageOf) → IsTrue (is_image image) → length image.words ≤ image.size
+within_window image h = leb-true (length image.words) image.size (limits_of image h).words
+
 -- at most 2^20 words
 pub word_count : (image : ImageOf) → IsTrue (is_image image) → length image.words ≤ 1048576
 word_count image h =
-    let l = limits_of image h in
-    let window = and_parts (is_size image.base image.size) (is_inside image.base image.size image.final_pc) l.window in
-    let sized = and_parts (leb 1 image.size && leb image.size 1048576) (leb (image.base + image.size) 4294967295) window.0 in
-    let size = and_parts (leb 1 image.size) (leb image.size 1048576) sized.0 in
-    let small : image.size ≤ 1048576 = leb-true image.size 1048576 size.1 in
-    let within : length image.words ≤ image.size = leb-true (length image.words) image.size l.words in
+    let within = within_window image h in
+    let small = (sized image h).few in
     omega (arith, within, small)
+
+-- each word has an address of 32 bits
+pub words_below : (image : ImageOf) → IsTrue (is_image image) → image.base + length image.words < 4294967296
+words_below image h =
+    let within = within_window image h in
+    let below = (sized image h).below in
+    omega (arith, within, below)

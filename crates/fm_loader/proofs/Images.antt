@@ -13,7 +13,7 @@ use Rattle.fm_machine.specs.State.{is_refused}
 use Rattle.fm_image.specs.declared.slot.Slot.{Slot}
 use Rattle.fm_image.specs.declared.window.Window.{Window}
 use Rattle.fm_image.specs.Image.{ImageOf, window_of, is_size, is_inside, is_slot, is_slot_address, all_behind, is_image}
-use Rattle.fm_image.proofs.Limits.{limits_of}
+use Rattle.fm_image.proofs.Limits.{limits_of, sized}
 use Rattle.fm_loader.specs.Values.{HaveOwnNames}
 use Rattle.fm_loader.specs.Loaded.{HaveRoom}
 
@@ -63,20 +63,6 @@ room_behind window earlier (slot ∷ slots) h =
 pub has_room : (image : ImageOf) → IsTrue (is_image image) → HaveRoom image.base image.slots
 has_room image h = room_behind (window_of image) [] image.slots (limits_of image h).slots
 
--- ---- the window
-
-pub record Sized (image : ImageOf) : Type 0 where
-  pub some : 1 ≤ image.size
-  pub few : image.size ≤ 1048576
-  pub below : image.base + image.size ≤ 4294967295
-
-pub sized : (image : ImageOf) → IsTrue (is_image image) → Sized image
-sized image h =
-    let window = and_parts (is_size image.base image.size) (is_inside image.base image.size image.final_pc) (limits_of image h).window in
-    let below = and_parts (leb 1 image.size && leb image.size 1048576) (leb (image.base + image.size) 4294967295) window.0 in
-    let size = and_parts (leb 1 image.size) (leb image.size 1048576) below.0 in
-    record { some = leb-true 1 image.size size.0; few = leb-true image.size 1048576 size.1; below = leb-true (image.base + image.size) 4294967295 below.1 }
-
 -- a machine has such a window
 pub has_window : (image : ImageOf) → IsTrue (is_image image) → is_refused image.base image.size ≡ false
 has_window image h =
@@ -88,12 +74,3 @@ has_window image h =
     let b : ltb 1048576 image.size ≡ false = le-ltb 1048576 image.size few in
     let c : leb 4294967296 (image.base + image.size) ≡ false = lt-leb 4294967296 (image.base + image.size) (omega (arith, below)) in
     rw (a, b, c) refl
-
-pub sixteen : (image : ImageOf) → IsTrue (is_image image) → length image.registers ≡ 16
-sixteen image h = eqb-true _ _ (limits_of image h).registers
-
-pub words_below : (image : ImageOf) → IsTrue (is_image image) → image.base + length image.words < 4294967296
-words_below image h =
-    let within : length image.words ≤ image.size = leb-true (length image.words) image.size (limits_of image h).words in
-    let below = (sized image h).below in
-    omega (arith, within, below)

@@ -1,3 +1,2 @@
-pub mod Lines
 pub mod Lossless
-pub mod ImageLines
+pub mod NumberedLines

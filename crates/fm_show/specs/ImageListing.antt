@@ -1,23 +1,27 @@
 -- An image as lines of text.
-use Rattle.std.specs.Prelude.{ℕ, ◌+◌, List, [], ◌∷◌, ◌++◌, Option, None, Some, codes}
+use Rattle.std.specs.Prelude.{ℕ, List, [], ◌++◌, Option, None, Some, codes}
 use Rattle.std.specs.Fmt.{decimal}
 use Rattle.std.specs.List.{flat_map}
 use Rattle.stack_text.specs.declared.shape.Kind.{Kind}
 use Rattle.stack_text.specs.declared.shape.Kind.TheVariants.{Integer, Boolean, Character}
+use Rattle.stack_text.specs.declared.shape.Shape.{Shape}
 use Rattle.fm_image.specs.declared.slot.Slot.{Slot}
 use Rattle.fm_image.specs.Image.{ImageOf}
+use Rattle.fm_show.specs.Digits.{hex_digits}
 use Rattle.fm_show.specs.Disassembly.{disassembly_text}
-use Rattle.fm_show.specs.Listing.{line_end, word_text, register_lines, flags_line}
+use Rattle.fm_show.specs.Listing.{line_end, numbered_lines, register_lines, flags_line}
 
 -- `base 00000000`, `size 11` and `final 00000007`, each on its line
 abbrev pub window_lines : ImageOf → List ℕ
 window_lines image =
-    codes "base " ++ word_text image.base ++ codes "\nsize " ++ decimal image.size ++ codes "\nfinal " ++ word_text image.final_pc ++ line_end
+    codes "base " ++ hex_digits image.base
+    ++ codes "\nsize " ++ decimal image.size
+    ++ codes "\nfinal " ++ hex_digits image.final_pc ++ line_end
 
 -- `condition 00000008`, and nothing where there is no condition word
 abbrev pub condition_line : Option ℕ → List ℕ
 condition_line None = []
-condition_line (Some address) = codes "condition " ++ word_text address ++ line_end
+condition_line (Some address) = codes "condition " ++ hex_digits address ++ line_end
 
 -- `name disorder`
 abbrev pub name_line : List ℕ → List ℕ
@@ -28,21 +32,25 @@ kind_name Integer = codes "integer"
 kind_name Boolean = codes "boolean"
 kind_name Character = codes "character"
 
--- `slot x integer 0 00000274`, where the length of a simple type is 0
+-- `integer 0`, where the length of a simple type is 0
+abbrev pub shape_text : Shape → List ℕ
+shape_text shape = kind_name shape.kind ++ codes " " ++ decimal shape.length
+
+-- `slot x integer 0 00000274`
 abbrev pub slot_line : Slot → List ℕ
-slot_line slot =
-    codes "slot " ++ slot.name ++ codes " " ++ kind_name slot.shape.kind ++ codes " " ++ decimal slot.shape.length ++ codes " " ++ word_text slot.address ++ line_end
+slot_line slot = codes "slot " ++ slot.name ++ codes " " ++ shape_text slot.shape ++ codes " " ++ hex_digits slot.address ++ line_end
 
 -- `00000007 05e03c0f DEC r15,r15`
 abbrev pub word_line : ℕ → ℕ → List ℕ
-word_line address word = word_text address ++ codes " " ++ word_text word ++ codes " " ++ disassembly_text word ++ line_end
-
--- the lines of words from an address upwards
-unfoldable pub word_lines : ℕ → List ℕ → List ℕ
-word_lines address [] = []
-word_lines address (word ∷ words) = word_line address word ++ word_lines (address + 1) words
+word_line address word = hex_digits address ++ codes " " ++ hex_digits word ++ codes " " ++ disassembly_text word ++ line_end
 
 -- the window, the sixteen registers, the flags, the condition word, the names of conditions, the slots and the words
 abbrev pub image_listing : ImageOf → List ℕ
 image_listing image =
-    window_lines image ++ register_lines image.registers 16 ++ flags_line image.flags ++ condition_line image.condition_address ++ flat_map name_line image.conditions ++ flat_map slot_line image.slots ++ word_lines image.base image.words
+    window_lines image
+    ++ register_lines image.registers
+    ++ flags_line image.flags
+    ++ condition_line image.condition_address
+    ++ flat_map name_line image.conditions
+    ++ flat_map slot_line image.slots
+    ++ numbered_lines word_line image.base image.words

@@ -1,3 +1,4 @@
+pub mod Digits
 pub mod Disassembly
 pub mod Listing
 pub mod ImageListing

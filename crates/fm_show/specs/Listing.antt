@@ -1,28 +1,27 @@
 -- A machine's registers and flags as lines of text.
-use Rattle.std.specs.Prelude.{ℕ, zero, suc, List, [], ◌++◌, Bool, if◌then◌else◌, slice_index, codes}
+use Rattle.std.specs.Prelude.{ℕ, ◌+◌, List, [], ◌∷◌, ◌++◌, Bool, if◌then◌else◌, codes}
 use Rattle.std.specs.Fmt.{decimal}
-use Rattle.std.specs.Int.{w32, to_be_bytes}
-use Rattle.hex.specs.Hex.{encode_lower}
 use Rattle.fm_words.specs.declared.condition.Flags.{Flags}
 use Rattle.fm_machine.specs.State.{Fm}
+use Rattle.fm_show.specs.Digits.{hex_digits}
 use Rattle.fm_show.specs.Disassembly.{register_name}
 
 -- LF
 abbrev pub line_end : List ℕ
 line_end = codes "\n"
 
--- a word as eight hexadecimal digits, with lower-case letters and the highest digit first
-abbrev pub word_text : ℕ → List ℕ
-word_text word = encode_lower (to_be_bytes w32 word)
+-- a line for each word, by its number, where the first word has this number
+unfoldable pub numbered_lines : (ℕ → ℕ → List ℕ) → ℕ → List ℕ → List ℕ
+numbered_lines line number [] = []
+numbered_lines line number (word ∷ words) = line number word ++ numbered_lines line (number + 1) words
 
 -- `r3 0000000f`
 abbrev pub register_line : ℕ → ℕ → List ℕ
-register_line r word = register_name r ++ codes " " ++ word_text word ++ line_end
+register_line r word = register_name r ++ codes " " ++ hex_digits word ++ line_end
 
--- the lines of the registers below n, from r0 on
-unfoldable pub register_lines : List ℕ → ℕ → List ℕ
-register_lines registers zero = []
-register_lines registers (suc n) = register_lines registers n ++ register_line n (slice_index registers n)
+-- the lines of registers, from r0 on
+abbrev pub register_lines : List ℕ → List ℕ
+register_lines registers = numbered_lines register_line 0 registers
 
 -- a flag's letter, or `-` where it is clear
 abbrev pub flag_letter : Bool → List ℕ → List ℕ
@@ -43,4 +42,4 @@ count_line count = codes "count " ++ decimal count ++ line_end
 
 -- the count, the sixteen registers and the flags, each on its line
 abbrev pub machine_listing : Fm → ℕ → List ℕ
-machine_listing state count = count_line count ++ register_lines state.registers 16 ++ flags_line state.flags
+machine_listing state count = count_line count ++ register_lines state.registers ++ flags_line state.flags

@@ -24,7 +24,7 @@ pub fn disassemble(alloc: Global, word: u32) -> Result<Vec<u8>, Memory>
     Ok(text.into_bytes())
 }
 
-// A whole instruction.
+/// A whole instruction.
 #[derive(Clone, Copy)]
 struct Line(Instr);
 
@@ -50,7 +50,7 @@ impl fmt::Display for Line {
     }
 }
 
-// The name of an operation.
+/// The name of an operation.
 fn name_of_operation(op: Op) -> &'static str
     ensures { result.now ≡ operation_name op }
 {
@@ -74,7 +74,7 @@ fn name_of_operation(op: Op) -> &'static str
     }
 }
 
-// The name of a store condition.
+/// The name of a store condition.
 fn name_of_condition(cc: Cc) -> &'static str
     ensures { result.now ≡ condition_name cc }
 {
@@ -98,7 +98,7 @@ fn name_of_condition(cc: Cc) -> &'static str
     }
 }
 
-// A store condition in brackets, and nothing where it is always.
+/// A store condition in brackets, and nothing where it is always.
 #[derive(Clone, Copy)]
 struct Condition(Cc);
 
@@ -116,7 +116,7 @@ impl fmt::Display for Condition {
     }
 }
 
-// The flags that an instruction sets, in braces, and nothing where there are none.
+/// The flags that an instruction sets, in braces, and nothing where there are none.
 #[derive(Clone, Copy)]
 struct FlagSet(Flags);
 
@@ -136,7 +136,7 @@ impl fmt::Display for FlagSet {
     }
 }
 
-// A register, or the memory that it names.
+/// A register, or the memory that it names.
 #[derive(Clone, Copy)]
 struct Place(Mode, u8);
 
@@ -154,7 +154,7 @@ impl fmt::Display for Place {
     }
 }
 
-// The first operand.
+/// The first operand.
 #[derive(Clone, Copy)]
 struct Operand(OperandA);
 

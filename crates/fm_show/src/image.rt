@@ -1,101 +1,82 @@
 //! An image as lines of text.
 
-ghost use Rattle.std.specs.Prelude.{◌≡◌, ◌++◌, ◌+◌, ◌<◌, ◌^◌, length, IfOk, OnOk, string_bytes};
+ghost use Rattle.std.specs.Prelude.{◌≡◌, ◌++◌, ◌+◌, ◌<◌, ◌^◌, length, IfOk, OnOk, Some};
 ghost use Rattle.std.specs.List.{flat_map};
-ghost use Rattle.fm_show.specs.Listing.{register_lines, word_text};
-ghost use Rattle.fm_show.specs.ImageListing.{window_lines, condition_line, name_line, kind_name, slot_line, word_line, word_lines, image_listing};
+ghost use Rattle.fm_show.specs.Listing.{numbered_lines};
+ghost use Rattle.fm_show.specs.ImageListing.{window_lines, condition_line, name_line, kind_name, shape_text, slot_line, word_line, image_listing};
 
+use crate::digits::hex_digits;
 use crate::disassembly::disassemble;
-use crate::listing::{Letters, write_register};
+use crate::listing::{push_flags, push_registers};
 use fm_image::{Image, Slot};
-use stack_text::{Kind, Memory, Name};
-use std::alloc::{AllocError, Global};
-use std::fmt::Write;
+use stack_text::{Kind, Memory, Name, Shape};
+use std::alloc::Global;
+use std::fmt;
 
 /// An image as lines, each of which ends in LF: `base`, `size` and `final` with the window, the sixteen registers and
 /// the flags as `show_machine` has them, `condition` with the address of the condition word where there is one, `name`
 /// with each condition, `slot` with the name, kind, length and address of each slot, and each word with its address and
 /// its instruction. Addresses and words have eight hexadecimal digits; a simple type's length is 0.
 ///
-/// The only error is want of memory.
+/// The only error is out of memory.
 pub fn show_image(alloc: Global, image: &Image) -> Result<Vec<u8>, Memory>
     ensures { IfOk result (λ text. text.items ≡ image_listing image.now) }
 {
-    let mut text = String::new(alloc);
-    write_window(alloc, &mut text, image)?;
-    write_registers(alloc, &mut text, image.registers.as_slice())?;
-    let letters = Letters(image.flags);
-    writeln!(text, "flags {letters}")?;
-    write_condition(alloc, &mut text, image.condition_address)?;
-    let mut bytes = text.into_bytes();
-    push_names(&mut bytes, image.conditions.as_slice())?;
-    push_slots(alloc, &mut bytes, image.slots.as_slice())?;
-    push_words(alloc, &mut bytes, image.base, image.words.as_slice())?;
-    Ok(bytes)
+    let mut text = Vec::new(alloc);
+    push_window(alloc, &mut text, image)?;
+    push_registers(alloc, &mut text, &image.registers)?;
+    push_flags(alloc, &mut text, image.flags)?;
+    push_condition(alloc, &mut text, image.condition_address)?;
+    push_names(&mut text, &image.conditions)?;
+    push_slots(alloc, &mut text, &image.slots)?;
+    push_words(alloc, &mut text, image.base, &image.words)?;
+    Ok(text)
 }
 
-// The eight hexadecimal digits of a word.
-fn digits(alloc: Global, word: u32) -> Result<String, AllocError>
-    ensures { IfOk result (λ digits. string_bytes digits ≡ word_text word) }
+/// Appends the lines of the window.
+fn push_window(alloc: Global, text: &mut Vec<u8>, image: &Image) -> Result<(), Memory>
+    ensures { OnOk result (text.new.items ≡ text.old.items ++ window_lines image.now) }
 {
-    hex::encode(alloc, word.to_be_bytes())
-}
-
-// Puts the lines of the window behind the text.
-fn write_window(alloc: Global, text: &mut String, image: &Image) -> Result<(), AllocError>
-    ensures { OnOk result (string_bytes text.new ≡ string_bytes text.old ++ window_lines image.now) }
-{
-    let base = digits(alloc, image.base)?;
+    let base = hex_digits(alloc, image.base)?;
     let size = image.size;
-    let final_pc = digits(alloc, image.final_pc)?;
-    writeln!(text, "base {base}\nsize {size}\nfinal {final_pc}")
+    let final_pc = hex_digits(alloc, image.final_pc)?;
+    let lines = format!(in alloc; "base {base}\nsize {size}\nfinal {final_pc}\n")?;
+    Ok(text.extend_from_slice(lines.as_bytes())?)
 }
 
-// Puts the lines of sixteen registers behind the text.
-fn write_registers(alloc: Global, text: &mut String, registers: &[u32]) -> Result<(), AllocError>
-    requires { length registers.now ≡ 16 }
-    ensures { OnOk result (string_bytes text.new ≡ string_bytes text.old ++ register_lines registers.now 16) }
+/// Appends the line of the condition word, where there is one.
+fn push_condition(alloc: Global, text: &mut Vec<u8>, address: Option<u32>) -> Result<(), Memory>
+    ensures { OnOk result (text.new.items ≡ text.old.items ++ condition_line address) }
 {
-    for (r, word) in registers.iter().enumerate() {
-        write_register(alloc, text, r as u8, *word)?;
-    }
-    Ok(())
+    let Some(address) = address else {
+        return Ok(());
+    };
+    let address = hex_digits(alloc, address)?;
+    let line = format!(in alloc; "condition {address}\n")?;
+    Ok(text.extend_from_slice(line.as_bytes())?)
 }
 
-// Puts the line of the condition word, where there is one, behind the text.
-fn write_condition(alloc: Global, text: &mut String, address: Option<u32>) -> Result<(), AllocError>
-    ensures { OnOk result (string_bytes text.new ≡ string_bytes text.old ++ condition_line address) }
+/// Appends the line of a condition's name.
+fn push_name(text: &mut Vec<u8>, name: &Name) -> Result<(), Memory>
+    ensures { OnOk result (text.new.items ≡ text.old.items ++ name_line name.now) }
 {
-    match address {
-        None => Ok(()),
-        Some(address) => {
-            let address = digits(alloc, address)?;
-            writeln!(text, "condition {address}")
-        }
-    }
+    text.extend_from_slice(b"name ")?;
+    text.extend_from_slice(name.bytes())?;
+    Ok(text.push(b'\n')?)
 }
 
-// Puts the line of a condition's name behind the others.
-fn push_name(bytes: &mut Vec<u8>, name: &Name) -> Result<(), Memory>
-    ensures { OnOk result (bytes.new.items ≡ bytes.old.items ++ name_line name.now) }
-{
-    bytes.extend_from_slice(b"name ")?;
-    bytes.extend_from_slice(name.bytes())?;
-    Ok(bytes.push(b'\n')?)
-}
-
-// Puts the lines of names behind the others.
-fn push_names(bytes: &mut Vec<u8>, names: &[Name]) -> Result<(), Memory>
-    ensures { OnOk result (bytes.new.items ≡ bytes.old.items ++ flat_map name_line names.now) }
+/// Appends the lines of names.
+fn push_names(text: &mut Vec<u8>, names: &[Name]) -> Result<(), Memory>
+    ensures { OnOk result (text.new.items ≡ text.old.items ++ flat_map name_line names.now) }
 {
     for name in names {
-        push_name(bytes, name)?;
+        push_name(text, name)?;
     }
     Ok(())
 }
 
-// The word for a kind.
-fn name_of_kind(kind: Kind) -> &'static str
+/// The word for a kind.
+fn kind_name(kind: Kind) -> &'static str
     ensures { result.now ≡ kind_name kind }
 {
     match kind {
@@ -105,49 +86,62 @@ fn name_of_kind(kind: Kind) -> &'static str
     }
 }
 
-// Puts the line of a slot behind the others.
-fn push_slot(alloc: Global, bytes: &mut Vec<u8>, slot: &Slot) -> Result<(), Memory>
-    ensures { OnOk result (bytes.new.items ≡ bytes.old.items ++ slot_line slot.now) }
-{
-    let kind = name_of_kind(slot.shape.kind);
-    let length = slot.shape.length;
-    let address = digits(alloc, slot.address)?;
-    let rest = format!(in alloc; " {kind} {length} {address}\n")?;
-    bytes.extend_from_slice(b"slot ")?;
-    bytes.extend_from_slice(slot.name.bytes())?;
-    Ok(bytes.extend_from_slice(rest.as_bytes())?)
+/// The kind and the length of a shape.
+#[derive(Clone, Copy)]
+struct ShapeText(Shape);
+
+impl fmt::Display for ShapeText {
+    ghost output = { λ shape. Some (shape_text shape.0) };
+
+    fn fmt<W: fmt::Write>(&self, f: &mut fmt::Formatter<W>) -> fmt::Result {
+        let kind = kind_name(self.0.kind);
+        let length = self.0.length;
+        write!(f, "{kind} {length}")
+    }
 }
 
-// Puts the lines of slots behind the others.
-fn push_slots(alloc: Global, bytes: &mut Vec<u8>, slots: &[Slot]) -> Result<(), Memory>
-    ensures { OnOk result (bytes.new.items ≡ bytes.old.items ++ flat_map slot_line slots.now) }
+/// Appends the line of a slot.
+fn push_slot(alloc: Global, text: &mut Vec<u8>, slot: &Slot) -> Result<(), Memory>
+    ensures { OnOk result (text.new.items ≡ text.old.items ++ slot_line slot.now) }
+{
+    let shape = ShapeText(slot.shape);
+    let address = hex_digits(alloc, slot.address)?;
+    let rest = format!(in alloc; " {shape} {address}\n")?;
+    text.extend_from_slice(b"slot ")?;
+    text.extend_from_slice(slot.name.bytes())?;
+    Ok(text.extend_from_slice(rest.as_bytes())?)
+}
+
+/// Appends the lines of slots.
+fn push_slots(alloc: Global, text: &mut Vec<u8>, slots: &[Slot]) -> Result<(), Memory>
+    ensures { OnOk result (text.new.items ≡ text.old.items ++ flat_map slot_line slots.now) }
 {
     for slot in slots {
-        push_slot(alloc, bytes, slot)?;
+        push_slot(alloc, text, slot)?;
     }
     Ok(())
 }
 
-// Puts the line of a word behind the others.
-fn push_word(alloc: Global, bytes: &mut Vec<u8>, address: u32, word: u32) -> Result<(), Memory>
-    ensures { OnOk result (bytes.new.items ≡ bytes.old.items ++ word_line address word) }
+/// Appends the line of a word.
+fn push_word(alloc: Global, text: &mut Vec<u8>, address: u32, word: u32) -> Result<(), Memory>
+    ensures { OnOk result (text.new.items ≡ text.old.items ++ word_line address word) }
 {
-    let place = digits(alloc, address)?;
-    let number = digits(alloc, word)?;
+    let place = hex_digits(alloc, address)?;
+    let digits = hex_digits(alloc, word)?;
     let instruction = disassemble(alloc, word)?;
-    let start = format!(in alloc; "{place} {number} ")?;
-    bytes.extend_from_slice(start.as_bytes())?;
-    bytes.extend_from_slice(instruction.as_slice())?;
-    Ok(bytes.push(b'\n')?)
+    let start = format!(in alloc; "{place} {digits} ")?;
+    text.extend_from_slice(start.as_bytes())?;
+    text.extend_from_slice(instruction.as_slice())?;
+    Ok(text.push(b'\n')?)
 }
 
-// Puts the lines of words, from the base upwards, behind the others.
-fn push_words(alloc: Global, bytes: &mut Vec<u8>, base: u32, words: &[u32]) -> Result<(), Memory>
+/// Appends the lines of words, from the base upwards.
+fn push_words(alloc: Global, text: &mut Vec<u8>, base: u32, words: &[u32]) -> Result<(), Memory>
     requires { base + length words.now < 2 ^ 32 }
-    ensures { OnOk result (bytes.new.items ≡ bytes.old.items ++ word_lines base words.now) }
+    ensures { OnOk result (text.new.items ≡ text.old.items ++ numbered_lines word_line base words.now) }
 {
     for (place, word) in words.iter().enumerate() {
-        push_word(alloc, bytes, base + place as u32, *word)?;
+        push_word(alloc, text, base + place as u32, *word)?;
     }
     Ok(())
 }

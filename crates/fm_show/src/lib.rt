@@ -3,10 +3,12 @@
 //! `docs/fm9001.md` has the notation, with examples.
 #![tactic(auto)]
 
+mod digits;
 mod disassembly;
 mod image;
 mod listing;
 
+pub use digits::hex_digits;
 pub use disassembly::disassemble;
 pub use image::show_image;
 pub use listing::show_machine;

@@ -1,57 +1,64 @@
 //! A machine as lines of text.
 
-ghost use Rattle.std.specs.Prelude.{◌≡◌, ◌++◌, IfOk, OnOk, Some, string_bytes};
-ghost use Rattle.fm_show.specs.Listing.{flag_letters, machine_listing, register_line, register_lines};
+ghost use Rattle.std.specs.Prelude.{◌≡◌, ◌++◌, IfOk, OnOk, Some};
+ghost use Rattle.fm_show.specs.Listing.{flag_letters, flags_line, machine_listing, register_line, register_lines};
 
+use crate::digits::hex_digits;
 use fm_machine::Machine;
 use fm_words::Flags;
 use stack_text::Memory;
-use std::alloc::{AllocError, Global};
+use std::alloc::Global;
 use std::fmt;
-use std::fmt::Write;
 
 /// A machine after `count` instructions, as eighteen lines: `count` with the number, each register
 /// with its word as eight hexadecimal digits, and `flags` with the letters of c, v, n and z, each
 /// of which is `-` where the flag is clear. Each line ends in LF.
 ///
-/// The only error is want of memory.
+/// The only error is out of memory.
 pub fn show_machine(alloc: Global, machine: &Machine, count: u64) -> Result<Vec<u8>, Memory>
     ensures { IfOk result (λ text. text.items ≡ machine_listing machine.now.state count) }
 {
-    let mut text = String::new(alloc);
-    writeln!(text, "count {count}")?;
-    write_registers(alloc, &mut text, machine)?;
-    let letters = Letters(machine.flags());
-    writeln!(text, "flags {letters}")?;
-    Ok(text.into_bytes())
+    let mut text = format!(in alloc; "count {count}\n")?.into_bytes();
+    push_registers(alloc, &mut text, machine.registers().as_slice())?;
+    push_flags(alloc, &mut text, machine.flags())?;
+    Ok(text)
 }
 
-// Puts the lines of the sixteen registers behind the text.
-fn write_registers(alloc: Global, text: &mut String, machine: &Machine) -> Result<(), AllocError>
-    ensures { OnOk result (string_bytes text.new ≡ string_bytes text.old ++ register_lines machine.now.state.registers 16) }
+/// Appends the lines of registers, from r0 on.
+pub(crate) fn push_registers(
+    alloc: Global,
+    text: &mut Vec<u8>,
+    registers: &[u32],
+) -> Result<(), Memory>
+    ensures { OnOk result (text.new.items ≡ text.old.items ++ register_lines registers.now) }
 {
-    for r in 0..16 {
-        write_register(alloc, text, r, machine.register(r))?;
+    for (r, word) in registers.iter().enumerate() {
+        push_register(alloc, text, r, *word)?;
     }
     Ok(())
 }
 
-// Puts the line of one register behind the text.
-pub(crate) fn write_register(
-    alloc: Global,
-    text: &mut String,
-    r: u8,
-    word: u32,
-) -> Result<(), AllocError>
-    ensures { OnOk result (string_bytes text.new ≡ string_bytes text.old ++ register_line r word) }
+/// Appends the line of one register.
+fn push_register(alloc: Global, text: &mut Vec<u8>, r: usize, word: u32) -> Result<(), Memory>
+    ensures { OnOk result (text.new.items ≡ text.old.items ++ register_line r word) }
 {
-    let digits = hex::encode(alloc, word.to_be_bytes())?;
-    writeln!(text, "r{r} {digits}")
+    let digits = hex_digits(alloc, word)?;
+    let line = format!(in alloc; "r{r} {digits}\n")?;
+    Ok(text.extend_from_slice(line.as_bytes())?)
 }
 
-// The letters of the flags, with `-` for each that is clear.
+/// Appends the line of flags.
+pub(crate) fn push_flags(alloc: Global, text: &mut Vec<u8>, flags: Flags) -> Result<(), Memory>
+    ensures { OnOk result (text.new.items ≡ text.old.items ++ flags_line flags) }
+{
+    let letters = Letters(flags);
+    let line = format!(in alloc; "flags {letters}\n")?;
+    Ok(text.extend_from_slice(line.as_bytes())?)
+}
+
+/// The letters of the flags, with `-` for each that is clear.
 #[derive(Clone, Copy)]
-pub(crate) struct Letters(pub(crate) Flags);
+struct Letters(Flags);
 
 impl fmt::Display for Letters {
     ghost output = { λ letters. Some (flag_letters letters.0) };

@@ -1,11 +1,13 @@
-use Rattle.std.proofs.Common.{◌++◌, refl}
-use Rattle.fm_show.specs.ImageListing.{word_lines}
-use Rattle.fm_show.proofs.ImageLines.{words_next, words_end}
+use Rattle.std.proofs.Common.{◌++◌, ◌+◌, refl, arith}
+use Rattle.fm_show.specs.Listing.{numbered_lines}
+use Rattle.fm_show.specs.ImageListing.{word_line}
+use Rattle.fm_show.proofs.NumberedLines.{lines_next, lines_end}
 use Rattle.fm_show.proofs.image.push_words.Goals as goal
 
 pub loop-place-preserved : goal.loop-place-preserved
 loop-place-preserved c =
-    words_next c.args.base c.args.words.now c.loop-place.place _ c.loop-place.bytes.items c.push_word.new.bytes.items (c.args.bytes.now.items ++ word_lines c.args.base c.args.words.now) c.loop-place-test.true refl c.in_ok-push_word.ensures c.loop-place.invariant
+    lines_next word_line c.args.words.now c.loop-place.place (c.args.base + c.loop-place.place) (c.args.base + (c.loop-place.place + 1)) _ c.loop-place.text.items c.push_word.new.text.items (c.args.text.now.items ++ numbered_lines word_line c.args.base c.args.words.now) c.loop-place-test.true (omega arith) refl c.in_ok-push_word.ensures c.loop-place.invariant
 
 pub returns : goal.returns
-returns c = words_end c.args.base c.args.words.now c.loop-place.place c.loop-place.bytes.items (c.args.bytes.now.items ++ word_lines c.args.base c.args.words.now) c.loop-place-test.false c.loop-place.invariant
+returns c =
+    lines_end word_line c.args.words.now c.loop-place.place (c.args.base + c.loop-place.place) c.loop-place.text.items (c.args.text.now.items ++ numbered_lines word_line c.args.base c.args.words.now) c.loop-place-test.false c.loop-place.invariant
