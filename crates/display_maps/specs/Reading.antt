@@ -16,9 +16,13 @@ pub record ReadingOf : Type 0 where
   pub condition : Option Shown
   pub items : List (List ℕ × List Shown)
 
--- the word at an address of the window
+-- the word at an address, where that is in the window
+abbrev pub word_in : Fm → ℕ → Option ℕ
+word_in s address = word_at s.base s.memory address
+
+-- the same, and 0 for an address outside the window
 abbrev pub word_of : Fm → ℕ → ℕ
-word_of s address = unwrap_or (word_at s.base s.memory address) 0
+word_of s address = unwrap_or (word_in s address) 0
 
 -- 0 is leave, 1 routineerror, 2 normal, and the named conditions are counted from 3 on
 abbrev pub named_or_odd : Option (List ℕ) → ℕ → Shown

@@ -1,6 +1,7 @@
 -- A reading as text.
 use Rattle.std.specs.Prelude.{ℕ, List, [], ◌∷◌, ◌++◌, Option, Some, None, true, false, ◌==◌, if◌then◌else◌, codes}
 use Rattle.std.specs.Fmt.{decimal, signed_decimal}
+use Rattle.std.specs.List.{flat_map}
 use Rattle.stack_text.specs.declared.shape.Shape.{Shape}
 use Rattle.fm_image.specs.declared.slot.Slot.{Slot}
 use Rattle.fm_image.specs.Image.{ImageOf}
@@ -20,7 +21,7 @@ shown_text (Truth false) = codes "false"
 shown_text (Code code) = codes "#" ++ decimal code
 shown_text (Odd word) = codes "?" ++ decimal word
 
--- LF behind a text
+-- a text and LF
 abbrev pub line : List ℕ → List ℕ
 line text = text ++ codes "\n"
 
@@ -38,23 +39,31 @@ items_text (item ∷ items) = shown_text item ++ spaced items
 abbrev pub value_text : Shape → List Shown → List ℕ
 value_text shape items = if shape.length == 0 then items_text items else codes "(" ++ items_text items ++ codes ")"
 
+-- what the line of a variable says: its name, its shape and its items
+pub record VariableOf : Type 0 where
+  pub name : List ℕ
+  pub shape : Shape
+  pub items : List Shown
+
 -- `x = 7`
-abbrev pub variable_line : Shape → List ℕ × List Shown → List ℕ
-variable_line shape variable = line (variable.0 ++ codes " = " ++ value_text shape variable.1)
+abbrev pub variable_line : VariableOf → List ℕ
+variable_line variable = line (variable.name ++ codes " = " ++ value_text variable.shape variable.items)
 
-unfoldable pub variable_lines : List Slot → List (List ℕ × List Shown) → List ℕ
-variable_lines [] variables = []
-variable_lines (slot ∷ slots) [] = []
-variable_lines (slot ∷ slots) (variable ∷ variables) = variable_line slot.shape variable ++ variable_lines slots variables
-
+-- `condition normal`, and nothing where there is no condition
 abbrev pub condition_line : Option Shown → List ℕ
 condition_line None = []
 condition_line (Some condition) = line (codes "condition " ++ shown_text condition)
 
 -- the condition, where there is one, and the variables, each on its line
-abbrev pub reading_text : ImageOf → ReadingOf → List ℕ
-reading_text image read = condition_line read.condition ++ variable_lines image.slots read.items
+abbrev pub reading_lines : Option Shown → List VariableOf → List ℕ
+reading_lines condition variables = condition_line condition ++ flat_map variable_line variables
 
--- the same behind the number of instructions
+-- the variables of a reading, each with the shape of its slot
+unfoldable pub shaped : List Slot → List (List ℕ × List Shown) → List VariableOf
+shaped [] read = []
+shaped (slot ∷ slots) [] = []
+shaped (slot ∷ slots) (first ∷ others) = record { name = first.0; shape = slot.shape; items = first.1 } ∷ shaped slots others
+
+-- the number of instructions, and the lines of a reading of the image
 abbrev pub report_text : ImageOf → ReadingOf → ℕ → List ℕ
-report_text image read count = line (codes "finished " ++ decimal count) ++ reading_text image read
+report_text image read count = line (codes "finished " ++ decimal count) ++ reading_lines read.condition (shaped image.slots read.items)

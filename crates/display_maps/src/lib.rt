@@ -7,6 +7,6 @@ mod shown;
 #[cfg(test)]
 mod tests;
 
-pub use printing::report;
+pub use printing::{Variable, push_lines, report};
 pub use reading::{Reading, read_up};
-pub use shown::Shown;
+pub use shown::{Shown, condition_of, item_of};

@@ -1,8 +1,10 @@
 //! The report of a run.
 
 ghost use Rattle.std.specs.Prelude.{◌≡◌, ◌++◌, map, IfOk, OnOk};
+ghost use Rattle.std.specs.List.{flat_map};
 ghost use Rattle.std.specs.Option.{option_copied};
-ghost use Rattle.display_maps.specs.Report.{shown_text, spaced, items_text, value_text, variable_line, variable_lines, condition_line, reading_text, report_text};
+ghost use Rattle.display_maps.specs.Report.{shown_text, spaced, items_text, value_text, variable_line, condition_line, reading_lines, shaped, report_text};
+ghost use Rattle.display_maps.specs.Variable.{variable_of_line};
 
 use crate::reading::Reading;
 use crate::shown::{Shown, push};
@@ -10,7 +12,16 @@ use fm_image::{Image, Slot};
 use stack_text::{Memory, Name, Shape};
 use std::alloc::Global;
 
-/// Each item with a space before it.
+/// What the line of a variable says.
+#[derive(Clone, Copy, Debug)]
+pub struct Variable<'a> {
+    pub name: &'a Name,
+    /// An array's items are printed in parentheses.
+    pub shape: Shape,
+    pub items: &'a [Shown],
+}
+
+/// Appends each item with a space before it.
 fn push_spaced(alloc: Global, text: &mut Vec<u8>, items: &[Shown]) -> Result<(), Memory>
     ensures { OnOk result (text.new.items ≡ text.old.items ++ spaced items.now) }
 {
@@ -21,7 +32,7 @@ fn push_spaced(alloc: Global, text: &mut Vec<u8>, items: &[Shown]) -> Result<(),
     Ok(())
 }
 
-/// The items with spaces between.
+/// Appends the items with spaces between.
 #[tactic(auto, unfolding(crate::specs::Report::items_text))]
 fn push_items(alloc: Global, text: &mut Vec<u8>, items: &[Shown]) -> Result<(), Memory>
     ensures { OnOk result (text.new.items ≡ text.old.items ++ items_text items.now) }
@@ -35,7 +46,7 @@ fn push_items(alloc: Global, text: &mut Vec<u8>, items: &[Shown]) -> Result<(), 
     }
 }
 
-/// The value of a variable: in parentheses for an array.
+/// Appends the value of a variable: in parentheses for an array.
 fn push_value(
     alloc: Global,
     text: &mut Vec<u8>,
@@ -52,43 +63,17 @@ fn push_value(
     push(text, ")")
 }
 
-/// The line of a variable.
-fn push_variable(
-    alloc: Global,
-    text: &mut Vec<u8>,
-    shape: Shape,
-    name: &Name,
-    items: &[Shown],
-) -> Result<(), Memory>
-    ensures { OnOk result (text.new.items ≡ text.old.items ++ variable_line shape (name.now, items.now)) }
+/// Appends the line of a variable.
+fn push_variable(alloc: Global, text: &mut Vec<u8>, variable: &Variable) -> Result<(), Memory>
+    ensures { OnOk result (text.new.items ≡ text.old.items ++ variable_line (variable_of_line variable.now)) }
 {
-    text.extend_from_slice(name.bytes())?;
+    text.extend_from_slice(variable.name.bytes())?;
     push(text, " = ")?;
-    push_value(alloc, text, shape, items)?;
+    push_value(alloc, text, variable.shape, variable.items)?;
     push(text, "\n")
 }
 
-/// The lines of the variables.
-#[tactic(auto, unfolding(crate::specs::Report::variable_lines))]
-fn push_variables(
-    alloc: Global,
-    text: &mut Vec<u8>,
-    slots: &[Slot],
-    variables: &[(Name, Vec<Shown>)],
-) -> Result<(), Memory>
-    ensures { OnOk result (text.new.items
-        ≡ text.old.items ++ variable_lines slots.now (map (λ item. (item.0, item.1.items)) variables.now)) }
-{
-    for (place, slot) in slots.iter().enumerate() {
-        match variables.get(place) {
-            Some((name, items)) => push_variable(alloc, text, slot.shape, name, items)?,
-            None => return Ok(()),
-        }
-    }
-    Ok(())
-}
-
-/// The line of a condition, where there is one.
+/// Appends the line of a condition, where there is one.
 fn push_condition(
     alloc: Global,
     text: &mut Vec<u8>,
@@ -106,16 +91,48 @@ fn push_condition(
     }
 }
 
-fn push_reading(
+/// Appends the lines of a reading, each of which ends in LF: `condition` with the condition, where there is one, and
+/// each variable as `NAME = VALUE`.
+///
+/// The only error is out of memory; the text is then a prefix of these lines after the text before.
+pub fn push_lines(
     alloc: Global,
     text: &mut Vec<u8>,
-    image: &Image,
-    reading: &Reading,
+    condition: Option<&Shown>,
+    variables: &[Variable],
 ) -> Result<(), Memory>
-    ensures { OnOk result (text.new.items ≡ text.old.items ++ reading_text image.now reading.now) }
+    ensures { OnOk result (text.new.items
+        ≡ text.old.items ++ reading_lines (option_copied condition.entry) (map variable_of_line variables.now)) }
 {
-    push_condition(alloc, text, reading.condition.as_ref())?;
-    push_variables(alloc, text, &image.slots, &reading.items)
+    push_condition(alloc, text, condition)?;
+    for variable in variables {
+        push_variable(alloc, text, variable)?;
+    }
+    Ok(())
+}
+
+/// The variables of a reading, each with the shape of its slot.
+#[tactic(auto, unfolding(crate::specs::Report::shaped))]
+fn shaped<'a>(
+    alloc: Global,
+    slots: &[Slot],
+    read: &'a [(Name, Vec<Shown>)],
+) -> Result<Vec<Variable<'a>>, Memory>
+    ensures { IfOk result (λ variables. map variable_of_line variables.items
+        ≡ shaped slots.now (map (λ item. (item.0, item.1.items)) read.now)) }
+{
+    let mut variables = Vec::new(alloc);
+    for (place, slot) in slots.iter().enumerate() {
+        match read.get(place) {
+            Some((name, items)) => variables.push(Variable {
+                name,
+                shape: slot.shape,
+                items,
+            })?,
+            None => return Ok(variables),
+        }
+    }
+    Ok(variables)
 }
 
 /// The report of a run that finished after so many instructions: the count, the condition where the image has a
@@ -132,6 +149,7 @@ pub fn report(
     ensures { IfOk result (λ text. text.items ≡ report_text image.now reading.now count) }
 {
     let mut text = format!(in alloc; "finished {count}\n")?.into_bytes();
-    push_reading(alloc, &mut text, image, reading)?;
+    let variables = shaped(alloc, &image.slots, &reading.items)?;
+    push_lines(alloc, &mut text, reading.condition.as_ref(), &variables)?;
     Ok(text)
 }

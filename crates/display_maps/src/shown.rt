@@ -84,10 +84,9 @@ impl Shown {
     ghost use Rattle.std.specs.Prelude.{◌≡◌, ◌++◌, OnOk};
     ghost use Rattle.display_maps.specs.Report.{shown_text};
 
-    /// Puts its text behind another: the word or the name of a condition, `-7`, `true`, `#65`, or `?9` for a word
-    /// that is odd.
+    /// Appends its text: the word or the name of a condition, `-7`, `true`, `#65`, or `?9` for a word that is odd.
     #[tactic(auto, unfolding(crate::specs::Report::shown_text))]
-    pub fn push_text(&self, alloc: Global, text: &mut Vec<u8>) -> Result<(), Memory>
+    pub(crate) fn push_text(&self, alloc: Global, text: &mut Vec<u8>) -> Result<(), Memory>
         ensures { OnOk result (text.new.items ≡ text.old.items ++ shown_text self.now) }
     {
         match self {
@@ -104,8 +103,8 @@ impl Shown {
     }
 }
 
-/// Puts a word behind a text.
-pub fn push(text: &mut Vec<u8>, word: &str) -> Result<(), Memory>
+/// Appends a word.
+pub(crate) fn push(text: &mut Vec<u8>, word: &str) -> Result<(), Memory>
     ensures { OnOk result (text.new.items ≡ text.old.items ++ word.now) }
 {
     Ok(text.extend_from_slice(word.as_bytes())?)

@@ -93,7 +93,8 @@ operand_text (Place mode r) = place_text mode r
 -- the operation, the condition, the flags, a space, operand B, a comma and operand A
 unfoldable pub instruction_text : Instr → List ℕ
 instruction_text i =
-    operation_name i.op ++ condition_text i.cc ++ flags_text i.set ++ codes " " ++ place_text i.mode_b i.reg_b ++ codes "," ++ operand_text i.a
+    operation_name i.op ++ condition_text i.cc ++ flags_text i.set
+    ++ codes " " ++ place_text i.mode_b i.reg_b ++ codes "," ++ operand_text i.a
 
 -- the text of the instruction that a word is
 abbrev pub disassembly_text : ℕ → List ℕ
