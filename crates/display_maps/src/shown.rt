@@ -8,7 +8,7 @@ ghost use Rattle.display_maps.specs.Report.{shown_text};
 use stack_text::{Kind, Memory, Name};
 use std::alloc::Global;
 
-/// A word of memory, as the type of what stands there reads it.
+/// A word of memory, as a condition or an item of some type.
 #[derive(Debug, Drop)]
 pub enum Shown {
     /// The standing conditions, by their numbers 2, 1 and 0.

@@ -6,7 +6,7 @@ use fm_machine::Machine;
 use std::alloc::Global;
 use std::test::Fail;
 
-/// The fields of an image behind the magic and before its slots: a window of 16 words from address 16, of which the
+/// The fields of an image after the magic and before its slots: a window of 16 words from address 16, of which the
 /// last is the condition word, and the condition `mine`.
 const HEAD: [u32; 24] = [
     1, 16, 16, 16, 0, 0, 0, 0, 0, 0, 0, 0, 0, 0, 0, 0, 0, 0, 0, 0, 0, 31, 1, 4,
@@ -39,7 +39,7 @@ fn image(alloc: Global) -> Result<Image, Fail> {
     Ok(read_image(alloc, &bytes)?)
 }
 
-/// The report of the image's memory, where these words stand from address 24 upwards.
+/// The report of the image's memory, with these words from address 24 upwards.
 fn report_of(alloc: Global, words: [u32; 8]) -> Result<Vec<u8>, Fail> {
     let image = image(alloc)?;
     let mut machine = Machine::new(alloc, 16, 16)?;

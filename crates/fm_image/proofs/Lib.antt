@@ -1,6 +1,7 @@
-pub mod Items
+pub mod ItemLoops
 pub mod Limits
+pub mod NameLaws
 pub mod Readers
-pub mod Fields
-pub mod Slots
+pub mod FieldLaws
+pub mod SlotLaws
 pub mod Whole

@@ -6,10 +6,13 @@ use Rattle.std.proofs.lemmas.Bool.{cases_lt, ltb-false, le-ltb, lt-ltb, ltb-true
 use Rattle.std.proofs.lemmas.List.{take_at, drop_at, take-append-drop, length-append, length-take, get_or-drop, get_or-take, get_or_past, append-nil}
 use Rattle.std.proofs.lemmas.List.Concat.{flat_map-cons}
 use Rattle.std.proofs.lemmas.Nat.{be_bytes_4, from_be_bytes-to_be_bytes_4}
+use Rattle.fm_image.specs.declared.fault.Rule.{Rule}
+use Rattle.fm_image.specs.declared.fault.Rule.TheVariants as rules
 use Rattle.fm_image.specs.Image.{all_behind}
 use Rattle.fm_image.specs.Spelling.{number_bytes, counted_bytes}
 use Rattle.stack_text.specs.Results.{◌>>=◌}
 use Rattle.stack_text.proofs.ResultLaws.{bind_ok, bind_at}
+use Rattle.fm_image.specs.Rules.{rule_number, Fault}
 use Rattle.fm_image.specs.Fields.{place, number_at, passing, bytes_at, items_at}
 
 abbrev pub IsBytes : List ℕ → Type 0
@@ -34,13 +37,13 @@ pub guard_passed : {A : Type 0} (b : Bool) (d : ℕ × ℕ) (x y : A) → cond b
 guard_passed true d x y e = (refl, cc)
 guard_passed false d x y e = absurd cc
 
-abbrev done : {A : Type 0} → A → Result A (ℕ × ℕ)
+abbrev done : {A : Type 0} → A → Result A Fault
 done x = Ok x
 
 pub ok_is : {A : Type 0} (x y : A) → done x ≡ done y → x ≡ y
 ok_is x y e = cc
 
--- what a reader took from the front
+-- what a reader took from the left
 pub record Took (bytes text rest : List ℕ) : Type 0 where
   pub parts : bytes ≡ text ++ rest
   pub rest_fits : IsBytes rest
@@ -49,7 +52,7 @@ pub Took-then : (a x b y c : List ℕ) → Took a x b → Took b y c → Took a 
 Took-then a x b y c p q = record { parts = p.parts ∙ ap (λ (t : List ℕ). x ++ t) q.parts ∙ sym (append_assoc x y c); rest_fits = q.rest_fits }
 
 -- a reader takes the spelling of its value, which fits, and takes it again
-pub record Reads {A : Type 0} (read : List ℕ → Result (A × List ℕ) (ℕ × ℕ)) (spell : A → List ℕ) (fits : A → Bool) : Type 0 where
+pub record Reads {A : Type 0} (read : List ℕ → Result (A × List ℕ) Fault) (spell : A → List ℕ) (fits : A → Bool) : Type 0 where
   pub takes : (bytes : List ℕ) (x : A) (rest : List ℕ) → IsBytes bytes → read bytes ≡ Ok (x, rest) → Took bytes (spell x) rest × (fits x ≡ true)
   pub again : (x : A) (rest : List ℕ) → fits x ≡ true → read (spell x ++ rest) ≡ Ok (x, rest)
 
@@ -88,10 +91,10 @@ four_again : (end n : ℕ) (text rest : List ℕ) → length text ≡ 4 → from
 four_again end n text rest len is =
     let long : ltb (length (text ++ rest)) 4 ≡ false = le-ltb _ _ (omega (arith, length-append text rest)) in
     let front : from_be_bytes w32 (take 4 (text ++ rest)) ≡ n = ap (from_be_bytes w32) (take_at text rest 4 len) ∙ is in
-    let behind : drop 4 (text ++ rest) ≡ rest = drop_at text rest 4 len in
+    let later : drop 4 (text ++ rest) ≡ rest = drop_at text rest 4 len in
     ap (λ (b : Bool). cond b (Err (3, end)) (Ok (from_be_bytes w32 (take 4 (text ++ rest)), drop 4 (text ++ rest)))) long
     ∙ ap (λ (m : ℕ). done (m, drop 4 (text ++ rest))) front
-    ∙ ap (λ (r : List ℕ). done (n, r)) behind
+    ∙ ap (λ (r : List ℕ). done (n, r)) later
 
 number_again : (end n : ℕ) (rest : List ℕ) → is_word n ≡ true → number_at end (number_bytes n ++ rest) ≡ Ok (n, rest)
 number_again end n rest h = four_again end n (number_bytes n) rest refl (from_be_bytes-to_be_bytes_4 n (ltb-true _ _ h))
@@ -101,23 +104,23 @@ number_reads end = record { takes = number_takes end; again = number_again end }
 
 -- ---- a test
 
-pub passing_reads : {A : Type 0} (test : A → Bool) (rule end : ℕ) (read : List ℕ → Result (A × List ℕ) (ℕ × ℕ)) (spell : A → List ℕ) (fits : A → Bool)
+pub passing_reads : {A : Type 0} (test : A → Bool) (rule : Rule) (end : ℕ) (read : List ℕ → Result (A × List ℕ) Fault) (spell : A → List ℕ) (fits : A → Bool)
     → Reads read spell fits → Reads (passing test rule end read) spell (λ x. fits x && test x)
 passing_reads {A} test rule end read spell fits r = record {
   takes = λ bytes x rest ok e.
-      let b = bind_ok (read bytes) (λ y. cond (test y.0) (Ok y) (Err (rule, place end bytes))) (x, rest) e in
-      let g = guard_passed (test b.0.0) (rule, place end bytes) b.0 (x, rest) b.2 in
+      let b = bind_ok (read bytes) (λ y. cond (test y.0) (Ok y) (Err (rule_number rule, place end bytes))) (x, rest) e in
+      let g = guard_passed (test b.0.0) (rule_number rule, place end bytes) b.0 (x, rest) b.2 in
       let t = r.takes bytes b.0.0 b.0.1 ok b.1 in
       subst (λ (p : A × List ℕ). Took bytes (spell p.0) p.1 × ((fits p.0 && test p.0) ≡ true)) g.1 (t.0, and_from _ _ t.1 g.0);
   again = λ x rest h.
       let p = and_parts (fits x) (test x) h in
       let passed : test x ≡ true = p.1 in
-      bind_at (read (spell x ++ rest)) (λ y. cond (test y.0) (Ok y) (Err (rule, place end (spell x ++ rest)))) (x, rest) (r.again x rest p.0) ∙ rw passed refl;
+      bind_at (read (spell x ++ rest)) (λ y. cond (test y.0) (Ok y) (Err (rule_number rule, place end (spell x ++ rest)))) (x, rest) (r.again x rest p.0) ∙ rw passed refl;
 }
 
 -- ---- a value by its number
 
-pub coded_reads : {A B : Type 0} (f : A → B) (g : B → A) (read : List ℕ → Result (A × List ℕ) (ℕ × ℕ)) (spell : A → List ℕ) (fits : A → Bool) (fit : B → Bool)
+pub coded_reads : {A B : Type 0} (f : A → B) (g : B → A) (read : List ℕ → Result (A × List ℕ) Fault) (spell : A → List ℕ) (fits : A → Bool) (fit : B → Bool)
     → Reads read spell fits → ((x : A) → fits x ≡ true → (g (f x) ≡ x) × (fit (f x) ≡ true)) → ((y : B) → fit y ≡ true → (f (g y) ≡ y) × (fits (g y) ≡ true))
     → Reads (λ bytes. read bytes >>= λ x. Ok (f x.0, x.1)) (λ y. spell (g y)) fit
 coded_reads {A} {B} f g read spell fits fit r back there = record {
@@ -133,7 +136,7 @@ coded_reads {A} {B} f g read spell fits fit r back there = record {
 }
 
 -- the same reader under an equal test
-pub refit_reads : {A : Type 0} (read : List ℕ → Result (A × List ℕ) (ℕ × ℕ)) (spell : A → List ℕ) (fits fit : A → Bool) → Reads read spell fits → ((x : A) → fits x ≡ fit x) → Reads read spell fit
+pub refit_reads : {A : Type 0} (read : List ℕ → Result (A × List ℕ) Fault) (spell : A → List ℕ) (fits fit : A → Bool) → Reads read spell fits → ((x : A) → fits x ≡ fit x) → Reads read spell fit
 refit_reads read spell fits fit r same = record {
   takes = λ bytes x rest ok e. let t = r.takes bytes x rest ok e in (t.0, sym (same x) ∙ t.1);
   again = λ x rest h. r.again x rest (same x ∙ h);
@@ -148,7 +151,7 @@ pub record TookItems {A : Type 0} (spell : A → List ℕ) (test : List A → A 
   pub took : Took bytes (flat_map spell items) rest
   pub fit : all_behind test earlier items ≡ true
 
-pub items_take : {A : Type 0} (item : List A → List ℕ → Result (A × List ℕ) (ℕ × ℕ)) (spell : A → List ℕ) (test : List A → A → Bool) → ((earlier : List A) → Reads (item earlier) spell (test earlier))
+pub items_take : {A : Type 0} (item : List A → List ℕ → Result (A × List ℕ) Fault) (spell : A → List ℕ) (test : List A → A → Bool) → ((earlier : List A) → Reads (item earlier) spell (test earlier))
     → (count : ℕ) (earlier : List A) (bytes : List ℕ) (all : List A) (rest : List ℕ) → IsBytes bytes → items_at item count earlier bytes ≡ Ok (all, rest) → TookItems spell test count earlier all bytes rest
 unfolding items_at all_behind
 items_take {A} item spell test reads zero earlier bytes all rest ok e =
@@ -167,7 +170,7 @@ items_take {A} item spell test reads (suc n) earlier bytes all rest ok e =
       fit = and_from _ _ t.1 more.fit;
     }
 
-pub items_again : {A : Type 0} (item : List A → List ℕ → Result (A × List ℕ) (ℕ × ℕ)) (spell : A → List ℕ) (test : List A → A → Bool) → ((earlier : List A) → Reads (item earlier) spell (test earlier))
+pub items_again : {A : Type 0} (item : List A → List ℕ → Result (A × List ℕ) Fault) (spell : A → List ℕ) (test : List A → A → Bool) → ((earlier : List A) → Reads (item earlier) spell (test earlier))
     → (items earlier : List A) (rest : List ℕ) → all_behind test earlier items ≡ true → items_at item (length items) earlier (flat_map spell items ++ rest) ≡ Ok (earlier ++ items, rest)
 unfolding items_at all_behind
 items_again {A} item spell test reads [] earlier rest fit = ap (λ (all : List A). done (all, rest)) (sym (append-nil earlier))
@@ -179,14 +182,14 @@ items_again {A} item spell test reads (x ∷ items) earlier rest fit =
     ∙ items_again item spell test reads items (earlier ++ x ∷ []) rest p.1
     ∙ ap (λ (all : List A). done (all, rest)) (append_assoc earlier (x ∷ []) items)
 
--- items behind their number
-pub counted_reads : {A : Type 0} (item : List A → List ℕ → Result (A × List ℕ) (ℕ × ℕ)) (spell : A → List ℕ) (test : List A → A → Bool) → ((earlier : List A) → Reads (item earlier) spell (test earlier))
+-- items after their number
+pub counted_reads : {A : Type 0} (item : List A → List ℕ → Result (A × List ℕ) Fault) (spell : A → List ℕ) (test : List A → A → Bool) → ((earlier : List A) → Reads (item earlier) spell (test earlier))
     → (limit : ℕ → Bool) (end : ℕ) → ((n : ℕ) → limit n ≡ true → is_word n ≡ true)
-    → Reads (λ bytes. passing limit 5 end (number_at end) bytes >>= λ count. items_at item count.0 [] count.1) (counted_bytes spell) (λ items. limit (length items) && all_behind test [] items)
+    → Reads (λ bytes. passing limit rules.Limit end (number_at end) bytes >>= λ count. items_at item count.0 [] count.1) (counted_bytes spell) (λ items. limit (length items) && all_behind test [] items)
 counted_reads {A} item spell test reads limit end small = record {
   takes = λ bytes all rest ok e.
-      let b = bind_ok (passing limit 5 end (number_at end) bytes) (λ count. items_at item count.0 [] count.1) (all, rest) e in
-      let t = (passing_reads limit 5 end (number_at end) number_bytes is_word (number_reads end)).takes bytes b.0.0 b.0.1 ok b.1 in
+      let b = bind_ok (passing limit rules.Limit end (number_at end) bytes) (λ count. items_at item count.0 [] count.1) (all, rest) e in
+      let t = (passing_reads limit rules.Limit end (number_at end) number_bytes is_word (number_reads end)).takes bytes b.0.0 b.0.1 ok b.1 in
       let s = items_take item spell test reads b.0.0 [] b.0.1 all rest t.0.rest_fits b.2 in
       let n-fits : limit b.0.0 ≡ true = (and_parts (is_word b.0.0) (limit b.0.0) t.1).1 in
       let whole = Took-then bytes (number_bytes b.0.0) b.0.1 (flat_map spell s.items) rest t.0 s.took in
@@ -195,8 +198,8 @@ counted_reads {A} item spell test reads limit end small = record {
   again = λ items rest h.
       let p = and_parts (limit (length items)) (all_behind test [] items) h in
       let after : List ℕ = flat_map spell items ++ rest in
-      ap (λ bytes. passing limit 5 end (number_at end) bytes >>= λ count. items_at item count.0 [] count.1) (append_assoc (number_bytes (length items)) (flat_map spell items) rest)
-      ∙ bind_at (passing limit 5 end (number_at end) (number_bytes (length items) ++ (flat_map spell items ++ rest))) (λ count. items_at item count.0 [] count.1) (length items, flat_map spell items ++ rest)
-      ((passing_reads limit 5 end (number_at end) number_bytes is_word (number_reads end)).again (length items) (flat_map spell items ++ rest) (and_from _ _ (small (length items) p.0) p.0))
+      ap (λ bytes. passing limit rules.Limit end (number_at end) bytes >>= λ count. items_at item count.0 [] count.1) (append_assoc (number_bytes (length items)) (flat_map spell items) rest)
+      ∙ bind_at (passing limit rules.Limit end (number_at end) (number_bytes (length items) ++ (flat_map spell items ++ rest))) (λ count. items_at item count.0 [] count.1) (length items, flat_map spell items ++ rest)
+      ((passing_reads limit rules.Limit end (number_at end) number_bytes is_word (number_reads end)).again (length items) (flat_map spell items ++ rest) (and_from _ _ (small (length items) p.0) p.0))
       ∙ items_again item spell test reads items [] rest p.1;
 }

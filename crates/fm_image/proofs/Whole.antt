@@ -11,13 +11,14 @@ use Rattle.fm_image.specs.declared.window.Window.{Window}
 use Rattle.fm_image.specs.Image.{ImageOf, window_of, is_size, is_inside, is_window, is_condition, is_count, is_slot, all_behind, is_image}
 use Rattle.fm_image.specs.Spelling.{number_bytes, numbers_bytes, name_bytes, counted_bytes, window_bytes, flags_bytes, condition_address_bytes, slot_bytes, opening_bytes, spelling, are_words, Spelled}
 use Rattle.stack_text.specs.Results.{◌>>=◌}
-use Rattle.fm_image.specs.Fields.{Gives, place, number_at}
-use Rattle.fm_image.specs.Reading.{opening_at, window_at, numbers_at, flags_at, condition_address_at, condition_at, conditions_at, slot_at, slots_at, words_at, image_at, read_of, fault_of, TellsFault}
+use Rattle.fm_image.specs.Rules.{rule_number, Fault, Gives}
+use Rattle.fm_image.specs.Fields.{place, number_at}
+use Rattle.fm_image.specs.Reading.{opening_at, window_at, numbers_at, flags_at, condition_address_at, condition_at, conditions_at, slot_at, slots_at, words_at, image_at, read_of, error_of, TellsFault}
 use Rattle.fm_image.proofs.Limits.{Limits, limits_of, from_limits}
 use Rattle.stack_text.proofs.ResultLaws.{bind_ok, bind_at}
 use Rattle.fm_image.proofs.Readers.{IsBytes, ok_is, guard_passed, Took, Took-then, Reads, is_word, number_reads, items_take, items_again, counted_reads}
-use Rattle.fm_image.proofs.Fields.{opening_takes, opening_again, window_reads, condition_reads}
-use Rattle.fm_image.proofs.Slots.{flags_reads, address_reads, slot_reads}
+use Rattle.fm_image.proofs.FieldLaws.{opening_takes, opening_again, window_reads, condition_reads}
+use Rattle.fm_image.proofs.SlotLaws.{flags_reads, address_reads, slot_reads}
 
 abbrev is_number : List ℕ → ℕ → Bool
 is_number earlier n = is_word n
@@ -49,35 +50,35 @@ words_reads end window sized =
     counted_reads (λ earlier. number_at end) number_bytes is_number (λ earlier. number_reads end) (λ n. leb n window.size) end
     (λ n h. let le : n ≤ window.size = leb-true n window.size h in lt-ltb n (2 ^ 32) (omega (arith, le, last)))
 
--- ---- what is done behind each field
+-- ---- what is done after each field
 
 abbrev made : Window → List ℕ → Flags → Option ℕ → List (List ℕ) → List Slot → List ℕ → ImageOf
 made w registers flags address conditions slots words =
     record { base = w.base; size = w.size; final_pc = w.final_pc; registers = registers; flags = flags; condition_address = address; conditions = conditions; slots = slots; words = words }
 
-abbrev ended : ℕ → Window → List ℕ → Flags → Option ℕ → List (List ℕ) → List Slot → List ℕ × List ℕ → Result ImageOf (ℕ × ℕ)
+abbrev ended : ℕ → Window → List ℕ → Flags → Option ℕ → List (List ℕ) → List Slot → List ℕ × List ℕ → Result ImageOf Fault
 ended end w registers flags address conditions slots words =
     cond (eqb (length words.1) 0) (Ok (made w registers flags address conditions slots words.0)) (Err (4, place end words.1))
 
-abbrev after_slots : ℕ → Window → List ℕ → Flags → Option ℕ → List (List ℕ) → List Slot × List ℕ → Result ImageOf (ℕ × ℕ)
+abbrev after_slots : ℕ → Window → List ℕ → Flags → Option ℕ → List (List ℕ) → List Slot × List ℕ → Result ImageOf Fault
 after_slots end w registers flags address conditions slots = words_at end w slots.1 >>= ended end w registers flags address conditions slots.0
 
-abbrev after_conditions : ℕ → Window → List ℕ → Flags → Option ℕ → List (List ℕ) × List ℕ → Result ImageOf (ℕ × ℕ)
+abbrev after_conditions : ℕ → Window → List ℕ → Flags → Option ℕ → List (List ℕ) × List ℕ → Result ImageOf Fault
 after_conditions end w registers flags address conditions = slots_at end w conditions.1 >>= after_slots end w registers flags address conditions.0
 
-abbrev after_address : ℕ → Window → List ℕ → Flags → Option ℕ × List ℕ → Result ImageOf (ℕ × ℕ)
+abbrev after_address : ℕ → Window → List ℕ → Flags → Option ℕ × List ℕ → Result ImageOf Fault
 after_address end w registers flags address = conditions_at end address.1 >>= after_conditions end w registers flags address.0
 
-abbrev after_flags : ℕ → Window → List ℕ → Flags × List ℕ → Result ImageOf (ℕ × ℕ)
+abbrev after_flags : ℕ → Window → List ℕ → Flags × List ℕ → Result ImageOf Fault
 after_flags end w registers flags = condition_address_at end w flags.1 >>= after_address end w registers flags.0
 
-abbrev after_registers : ℕ → Window → List ℕ × List ℕ → Result ImageOf (ℕ × ℕ)
+abbrev after_registers : ℕ → Window → List ℕ × List ℕ → Result ImageOf Fault
 after_registers end w registers = flags_at end registers.1 >>= after_flags end w registers.0
 
-abbrev after_window : ℕ → Window × List ℕ → Result ImageOf (ℕ × ℕ)
+abbrev after_window : ℕ → Window × List ℕ → Result ImageOf Fault
 after_window end w = numbers_at end 16 w.1 >>= after_registers end w.0
 
-abbrev after_opening : ℕ → ℕ × List ℕ → Result ImageOf (ℕ × ℕ)
+abbrev after_opening : ℕ → ℕ × List ℕ → Result ImageOf Fault
 after_opening end opening = window_at end opening.1 >>= after_window end
 
 -- ---- the two laws
@@ -180,14 +181,14 @@ is_found bytes (Ok image) ok given = read_spells bytes image ok given
 is_found bytes (Err e) ok given = tt
 
 pub tells : (bytes : List ℕ) (r : Result ImageOf ImageFault) → Gives (λ image. image) r (read_of bytes) → TellsFault bytes r
-tells bytes (Ok image) given = ap fault_of given
-tells bytes (Err (Refused rule place)) given = ap fault_of given
+tells bytes (Ok image) given = ap error_of given
+tells bytes (Err (Refused rule place)) given = ap error_of given
 tells bytes (Err Memory) given = tt
 
 pub is_read_again : (image : ImageOf) → IsTrue (is_image image) → IsTrue (are_words image.registers) → IsTrue (are_words image.words) → read_of (spelling image) ≡ Ok image
 is_read_again image limits registers words = spelled_reads (spelling image) image (record { limits = limits; registers = registers; words = words; fields = refl })
 
--- The limits hold of the fields that were read one behind the other.
+-- The limits hold of the fields that were read one after the other.
 pub fields_hold : (end : ℕ) (bytes : List ℕ) (o : ℕ × List ℕ) (w : Window × List ℕ) (registers : List ℕ × List ℕ) (flags : Flags × List ℕ) (address : Option ℕ × List ℕ) (conditions : List (List ℕ) × List ℕ) (slots : List Slot × List ℕ) (words : List ℕ × List ℕ)
     → IsBytes bytes → opening_at end bytes ≡ Ok o → window_at end o.1 ≡ Ok w → numbers_at end 16 w.1 ≡ Ok registers → flags_at end registers.1 ≡ Ok flags → condition_address_at end w.0 flags.1 ≡ Ok address
     → conditions_at end address.1 ≡ Ok conditions → slots_at end w.0 conditions.1 ≡ Ok slots → words_at end w.0 slots.1 ≡ Ok words → length words.1 ≡ 0

@@ -43,18 +43,23 @@ is_condition_address window (Some address) = is_inside window.base window.size a
 abbrev pub is_count : ℕ → Bool
 is_count count = nat_le count 200
 
--- the items stand in the window, from the address downwards
+-- the items, from the address downwards, are all in the window
 abbrev pub is_slot_address : Window → Shape → ℕ → Bool
 is_slot_address window shape address = nat_le (window.base + item_count shape) (address + 1) && nat_lt address (window.base + window.size)
 
+-- no earlier item has the name
+abbrev pub is_new : {A : Type 0} → (A → List ℕ) → List A → List ℕ → Bool
+is_new name_of earlier name = not (list_any (λ other. bytes_eq (name_of other) name) earlier)
+
 -- a name that no earlier condition has
 abbrev pub is_condition : List (List ℕ) → List ℕ → Bool
-is_condition earlier name = is_name name && not (list_any (λ other. bytes_eq other name) earlier)
+is_condition earlier name = is_name name && is_new (λ other. other) earlier name
 
 -- a slot within the limits, under a name that no earlier slot has
 abbrev pub is_slot : Window → List Slot → Slot → Bool
 is_slot window earlier slot =
-    is_name slot.name && not (list_any (λ other. bytes_eq other.name slot.name) earlier) && nat_le slot.shape.length 4096 && is_slot_address window slot.shape slot.address
+    is_name slot.name && is_new (λ other. other.name) earlier slot.name
+    && nat_le slot.shape.length 4096 && is_slot_address window slot.shape slot.address
 
 -- each item passes a test that knows the items before it
 unfoldable pub all_behind : {A : Type 0} → (List A → A → Bool) → List A → List A → Bool

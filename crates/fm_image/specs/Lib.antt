@@ -1,4 +1,6 @@
+-- what is promised
 pub mod Image
 pub mod Spelling
+pub mod Rules
 pub mod Fields
 pub mod Reading

@@ -1,127 +1,129 @@
 -- Reading an image field by field, from left to right, with the first fault.
-use Rattle.std.specs.Prelude.{◌≡◌, ℕ, ◌-◌, ◌^◌, List, [], length, Result, Ok, Err, Option, Some, None, Bool, not, nat_le, ◌==◌, if◌then◌else◌, codes, zero, suc}
-use Rattle.std.specs.List.{list_any}
+use Rattle.std.specs.Prelude.{◌≡◌, ℕ, zero, suc, ◌-◌, ◌^◌, List, [], length, Result, Ok, Err, Option, Some, None, Bool, nat_le, ◌==◌, if◌then◌else◌, codes}
 use Rattle.std.specs.Str.{bytes_eq}
 use Rattle.stack_text.specs.declared.shape.Kind.{Kind}
 use Rattle.stack_text.specs.declared.shape.Kind.TheVariants.{Integer, Boolean, Character}
 use Rattle.stack_text.specs.declared.shape.Shape.{Shape}
 use Rattle.stack_text.specs.Names.{is_name}
+use Rattle.stack_text.specs.Results.{◌>>=◌}
 use Rattle.fm_words.specs.declared.condition.Flags.{Flags}
 use Rattle.fm_words.specs.Code.{flags_of}
 use Rattle.fm_image.specs.declared.fault.ImageFault.{ImageFault}
 use Rattle.fm_image.specs.declared.fault.ImageFault.TheVariants.{Refused, Memory}
+use Rattle.fm_image.specs.declared.fault.Rule.TheVariants as rules
 use Rattle.fm_image.specs.declared.slot.Slot.{Slot}
 use Rattle.fm_image.specs.declared.window.Window.{Window}
-use Rattle.fm_image.specs.Image.{ImageOf, is_size, is_inside, is_condition_address, is_count, is_slot_address}
-use Rattle.stack_text.specs.Results.{◌>>=◌}
+use Rattle.fm_image.specs.Image.{ImageOf, is_size, is_inside, is_condition_address, is_count, is_new, is_slot_address}
+use Rattle.fm_image.specs.Rules.{rule_number, Fault, Parser}
 use Rattle.fm_image.specs.Fields.{place, number_at, passing, bytes_at, text_at, items_at}
 
--- I1 for another magic, at its place; I2 for another version
 abbrev pub is_magic : List ℕ → Bool
 is_magic bytes = bytes_eq bytes (codes "FM91")
 
 abbrev pub is_version : ℕ → Bool
 is_version version = version == 1
 
-abbrev pub opening_at : ℕ → List ℕ → Result (ℕ × List ℕ) (ℕ × ℕ)
+-- the magic and the version
+abbrev pub opening_at : ℕ → Parser ℕ
 opening_at end left = do
-  magic ← passing is_magic 1 end (bytes_at end 4) left
-  passing is_version 2 end (number_at end) magic.1
+  magic ← passing is_magic rules.Magic end (bytes_at end 4) left
+  passing is_version rules.Version end (number_at end) magic.1
 
--- I5 for a size or a final program counter beyond its limits
-abbrev pub window_at : ℕ → List ℕ → Result (Window × List ℕ) (ℕ × ℕ)
+-- the base, the size and the final program counter
+abbrev pub window_at : ℕ → Parser Window
 window_at end left = do
   base ← number_at end left
-  size ← passing (is_size base.0) 5 end (number_at end) base.1
-  final_pc ← passing (is_inside base.0 size.0) 5 end (number_at end) size.1
+  size ← passing (is_size base.0) rules.Limit end (number_at end) base.1
+  final_pc ← passing (is_inside base.0 size.0) rules.Limit end (number_at end) size.1
   Ok (record { base = base.0; size = size.0; final_pc = final_pc.0 }, final_pc.1)
 
-abbrev pub numbers_at : ℕ → ℕ → List ℕ → Result (List ℕ × List ℕ) (ℕ × ℕ)
+-- so many numbers
+abbrev pub numbers_at : ℕ → ℕ → Parser (List ℕ)
 numbers_at end count left = items_at (λ earlier. number_at end) count [] left
 
--- 8 for c, 4 for v, 2 for n and 1 for z; I5 where there is more
+-- 8 for c, 4 for v, 2 for n and 1 for z
 abbrev pub is_flags : ℕ → Bool
 is_flags number = nat_le number 15
 
-abbrev pub flags_at : ℕ → List ℕ → Result (Flags × List ℕ) (ℕ × ℕ)
+abbrev pub flags_at : ℕ → Parser Flags
 flags_at end left = do
-  number ← passing is_flags 5 end (number_at end) left
+  number ← passing is_flags rules.Limit end (number_at end) left
   Ok (flags_of number.0, number.1)
 
--- 2^32 - 1 says that there is no condition word; I7 for an address outside the window
+-- 2^32 - 1 says that there is no condition word
 abbrev pub address_of : ℕ → Option ℕ
 address_of number = if number == 2 ^ 32 - 1 then None else Some number
 
-abbrev pub condition_address_at : ℕ → Window → List ℕ → Result (Option ℕ × List ℕ) (ℕ × ℕ)
+abbrev pub condition_address_at : ℕ → Window → Parser (Option ℕ)
 condition_address_at end window left = do
-  number ← passing (λ n. is_condition_address window (address_of n)) 7 end (number_at end) left
+  number ← passing (λ n. is_condition_address window (address_of n)) rules.Address end (number_at end) left
   Ok (address_of number.0, number.1)
 
--- I6 for a length that no name has, or bytes that are no name, at the length
-abbrev pub name_at : ℕ → List ℕ → Result (List ℕ × List ℕ) (ℕ × ℕ)
-name_at end left = passing is_name 6 end (text_at end) left
+-- a length that no name has, and bytes that are no name, break one rule, at the length
+abbrev pub name_at : ℕ → Parser (List ℕ)
+name_at end left = passing is_name rules.Name end (text_at end) left
 
--- I8 for the name of an earlier condition
-abbrev pub condition_at : ℕ → List (List ℕ) → List ℕ → Result (List ℕ × List ℕ) (ℕ × ℕ)
-condition_at end earlier left = passing (λ name. not (list_any (λ other. bytes_eq other name) earlier)) 8 end (name_at end) left
+-- the name of a condition, after earlier ones
+abbrev pub condition_at : ℕ → List (List ℕ) → Parser (List ℕ)
+condition_at end earlier left = passing (is_new (λ other. other) earlier) rules.Repeated end (name_at end) left
 
--- I5 for more than 200
-abbrev pub count_at : ℕ → List ℕ → Result (ℕ × List ℕ) (ℕ × ℕ)
-count_at end left = passing is_count 5 end (number_at end) left
+-- how many names or slots follow
+abbrev pub count_at : ℕ → Parser ℕ
+count_at end left = passing is_count rules.Limit end (number_at end) left
 
-unfoldable pub conditions_at : ℕ → List ℕ → Result (List (List ℕ) × List ℕ) (ℕ × ℕ)
+unfoldable pub conditions_at : ℕ → Parser (List (List ℕ))
 conditions_at end left = do
   count ← count_at end left
   items_at (condition_at end) count.0 [] count.1
 
+-- 0, 1 or 2
 abbrev pub kind_of : ℕ → Kind
 kind_of zero = Integer
 kind_of (suc zero) = Boolean
 kind_of (suc (suc number)) = Character
 
--- I5 for another number
 abbrev pub is_kind : ℕ → Bool
 is_kind number = nat_le number 2
 
-abbrev pub kind_at : ℕ → List ℕ → Result (Kind × List ℕ) (ℕ × ℕ)
+abbrev pub kind_at : ℕ → Parser Kind
 kind_at end left = do
-  number ← passing is_kind 5 end (number_at end) left
+  number ← passing is_kind rules.Limit end (number_at end) left
   Ok (kind_of number.0, number.1)
 
 abbrev pub is_length : ℕ → Bool
 is_length number = nat_le number 4096
 
-abbrev pub shape_at : ℕ → List ℕ → Result (Shape × List ℕ) (ℕ × ℕ)
+abbrev pub shape_at : ℕ → Parser Shape
 shape_at end left = do
   kind ← kind_at end left
-  count ← passing is_length 5 end (number_at end) kind.1
+  count ← passing is_length rules.Limit end (number_at end) kind.1
   Ok (record { kind = kind.0; length = count.0 }, count.1)
 
--- I8 for the name of an earlier slot
-abbrev pub slot_name_at : ℕ → List Slot → List ℕ → Result (List ℕ × List ℕ) (ℕ × ℕ)
-slot_name_at end earlier left = passing (λ name. not (list_any (λ other. bytes_eq other.name name) earlier)) 8 end (name_at end) left
+-- the name of a slot, after earlier ones
+abbrev pub slot_name_at : ℕ → List Slot → Parser (List ℕ)
+slot_name_at end earlier left = passing (is_new (λ other. other.name) earlier) rules.Repeated end (name_at end) left
 
--- I7 for an address at which an item is outside the window
-unfoldable pub slot_at : ℕ → Window → List Slot → List ℕ → Result (Slot × List ℕ) (ℕ × ℕ)
+-- a name, a shape, and an address from which all items are in the window
+unfoldable pub slot_at : ℕ → Window → List Slot → Parser Slot
 slot_at end window earlier left = do
   name ← slot_name_at end earlier left
   shape ← shape_at end name.1
-  address ← passing (is_slot_address window shape.0) 7 end (number_at end) shape.1
+  address ← passing (is_slot_address window shape.0) rules.Address end (number_at end) shape.1
   Ok (record { name = name.0; shape = shape.0; address = address.0 }, address.1)
 
-unfoldable pub slots_at : ℕ → Window → List ℕ → Result (List Slot × List ℕ) (ℕ × ℕ)
+unfoldable pub slots_at : ℕ → Window → Parser (List Slot)
 slots_at end window left = do
   count ← count_at end left
   items_at (slot_at end window) count.0 [] count.1
 
--- I5 for more words than the window has
-unfoldable pub words_at : ℕ → Window → List ℕ → Result (List ℕ × List ℕ) (ℕ × ℕ)
+-- at most as many words as the window has
+unfoldable pub words_at : ℕ → Window → Parser (List ℕ)
 words_at end window left = do
-  count ← passing (λ n. nat_le n window.size) 5 end (number_at end) left
+  count ← passing (λ n. nat_le n window.size) rules.Limit end (number_at end) left
   numbers_at end count.0 count.1
 
--- the fields of version 1; I4 for bytes behind them, at the first
-unfoldable pub image_at : ℕ → List ℕ → Result ImageOf (ℕ × ℕ)
+-- the fields of version 1, and no byte after them
+unfoldable pub image_at : ℕ → List ℕ → Result ImageOf Fault
 image_at end left = do
   opening ← opening_at end left
   window ← window_at end opening.1
@@ -131,23 +133,33 @@ image_at end left = do
   conditions ← conditions_at end condition_address.1
   slots ← slots_at end window.0 conditions.1
   words ← words_at end window.0 slots.1
-  let image : ImageOf = record { base = window.0.base; size = window.0.size; final_pc = window.0.final_pc; registers = registers.0; flags = flags.0; condition_address = condition_address.0; conditions = conditions.0; slots = slots.0; words = words.0 } in
-      if length words.1 == 0 then Ok image else Err (4, place end words.1)
+  let image : ImageOf = record {
+    base = window.0.base;
+    size = window.0.size;
+    final_pc = window.0.final_pc;
+    registers = registers.0;
+    flags = flags.0;
+    condition_address = condition_address.0;
+    conditions = conditions.0;
+    slots = slots.0;
+    words = words.0;
+  } in
+      if length words.1 == 0 then Ok image else Err (rule_number rules.Trailing, place end words.1)
 
 -- the image that a file has, or else its first fault
-abbrev pub read_of : List ℕ → Result ImageOf (ℕ × ℕ)
+abbrev pub read_of : List ℕ → Result ImageOf Fault
 read_of bytes = image_at (length bytes) bytes
 
-abbrev pub fault_of : {A : Type 0} → Result A (ℕ × ℕ) → Option (ℕ × ℕ)
-fault_of (Ok x) = None
-fault_of (Err fault) = Some fault
+abbrev pub error_of : {A : Type 0} → Result A Fault → Option Fault
+error_of (Ok x) = None
+error_of (Err fault) = Some fault
 
 -- the first fault of a file, by its rule and its place
-abbrev pub image_fault : List ℕ → Option (ℕ × ℕ)
-image_fault bytes = fault_of (read_of bytes)
+abbrev pub image_fault : List ℕ → Option Fault
+image_fault bytes = error_of (read_of bytes)
 
--- What a call says of the faults of a file: an image is read only where there is none, and else the answer is the
--- first. Want of memory alone is free.
+-- What a call says of the faults of a file: an image is read only where there is none, and else the error is the
+-- first. Out of memory alone is free.
 abbrev pub TellsFault : {X : Type 0} → List ℕ → Result X ImageFault → Type 0
 TellsFault bytes (Ok x) = image_fault bytes ≡ None
 TellsFault bytes (Err (Refused rule place)) = image_fault bytes ≡ Some (rule, place)

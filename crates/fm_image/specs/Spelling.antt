@@ -1,4 +1,4 @@
--- The one spelling of an image: its fields, one behind the other.
+-- The one spelling of an image: its fields, one after the other.
 use Rattle.std.specs.Prelude.{◌≡◌, ℕ, ◌-◌, ◌^◌, List, ◌++◌, length, Option, Some, None, Bool, IsTrue, nat_lt, codes}
 use Rattle.std.specs.Int.{w32, to_be_bytes}
 use Rattle.std.specs.List.{flat_map, list_all}

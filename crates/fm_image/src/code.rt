@@ -1,4 +1,4 @@
-//! The numbers that stand for kinds and addresses.
+//! The numbers of kinds and addresses.
 
 ghost use Rattle.std.specs.Prelude.{◌≡◌, ◌≤◌};
 ghost use Rattle.fm_image.specs.Spelling.{address_number, kind_number};

@@ -1,4 +1,4 @@
-//! The limits of the fields.
+//! The version and the limits of the fields.
 
 ghost use Rattle.std.specs.Prelude.{◌≡◌};
 ghost use Rattle.fm_image.specs.Image.{is_size, is_inside, is_condition_address, is_count, is_slot_address};
@@ -6,6 +6,9 @@ ghost use Rattle.fm_image.specs.Fields.{is_name_length};
 
 use crate::window::Window;
 use stack_text::Shape;
+
+/// The only version of the file.
+pub(crate) const VERSION: u32 = 1;
 
 /// The most words that a window has.
 const MAX_WINDOW_SIZE: u32 = 1 << 20;

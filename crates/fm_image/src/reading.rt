@@ -5,14 +5,15 @@ ghost use Rattle.fm_image.specs.Image.{ImageOf};
 ghost use Rattle.fm_image.specs.Spelling.{Spelled};
 ghost use Rattle.std.specs.List.{list_any};
 ghost use Rattle.std.specs.Str.{bytes_eq};
-ghost use Rattle.fm_image.specs.Fields.{Gives, place, number_at, bytes_at, text_at};
+ghost use Rattle.fm_image.specs.Rules.{GivesExactly, Gives};
+ghost use Rattle.fm_image.specs.Fields.{place, number_at, bytes_at, text_at};
 ghost use Rattle.fm_image.specs.Reading.{opening_at, window_at, numbers_at, flags_at, condition_address_at, name_at, condition_at, count_at, conditions_at, kind_at, shape_at, slot_name_at, slot_at, slots_at, words_at, image_at, read_of, TellsFault};
 
 use crate::code::{address_from, kind_from};
-use crate::fault::ImageFault;
+use crate::fault::{ImageFault, Refusal, Rule};
 use crate::image::Image;
 use crate::limit::{
-    is_condition_address, is_count, is_inside, is_name_length, is_size, is_slot_address,
+    VERSION, is_condition_address, is_count, is_inside, is_name_length, is_size, is_slot_address,
 };
 use crate::slot::Slot;
 use crate::window::Window;
@@ -20,36 +21,33 @@ use fm_words::Flags;
 use stack_text::{Kind, Name, Shape, read_name};
 use std::alloc::Global;
 
-/// The only version of the file.
-const VERSION: u32 = 1;
-
 /// The longest array.
 const MAX_LENGTH: u32 = 4096;
 
 /// A broken rule, at the field that begins what is left of a file that ends at a place.
-fn refused(rule: u8, end: usize, left: &[u8]) -> ImageFault
-    ensures { result ≡ ImageFault.Refused rule (place end left.now) }
+fn refused(rule: Rule, end: usize, left: &[u8]) -> Refusal
+    ensures { result ≡ record { rule = rule; place = place end left.now } }
 {
-    ImageFault::Refused {
+    Refusal {
         rule,
         place: end.saturating_sub(left.len()) as u64,
     }
 }
 
-fn bytes(end: usize, count: usize, left: &[u8]) -> Result<(&[u8], &[u8]), ImageFault>
-    ensures { Gives (λ x. (x.0.now, x.1.now)) result (bytes_at end count left.now) }
+fn bytes(end: usize, count: usize, left: &[u8]) -> Result<(&[u8], &[u8]), Refusal>
+    ensures { GivesExactly (λ x. (x.0.now, x.1.now)) result (bytes_at end count left.now) }
 {
     if left.len() < count {
-        return Err(refused(3, end, &[]));
+        return Err(refused(Rule::Truncated, end, &[]));
     }
     Ok(left.split_at(count))
 }
 
-fn number(end: usize, left: &[u8]) -> Result<(u32, &[u8]), ImageFault>
-    ensures { Gives (λ x. (x.0, x.1.now)) result (number_at end left.now) }
+fn number(end: usize, left: &[u8]) -> Result<(u32, &[u8]), Refusal>
+    ensures { GivesExactly (λ x. (x.0, x.1.now)) result (number_at end left.now) }
 {
     if left.len() < 4 {
-        return Err(refused(3, end, &[]));
+        return Err(refused(Rule::Truncated, end, &[]));
     }
     let (front, rest) = left.split_at(4);
     let number = u32::from_be_bytes([front[0], front[1], front[2], front[3]]);
@@ -57,38 +55,38 @@ fn number(end: usize, left: &[u8]) -> Result<(u32, &[u8]), ImageFault>
 }
 
 /// The magic and the version.
-fn opening(end: usize, left: &[u8]) -> Result<(u32, &[u8]), ImageFault>
-    ensures { Gives (λ x. (x.0, x.1.now)) result (opening_at end left.now) }
+fn opening(end: usize, left: &[u8]) -> Result<(u32, &[u8]), Refusal>
+    ensures { GivesExactly (λ x. (x.0, x.1.now)) result (opening_at end left.now) }
 {
     let (magic, rest) = bytes(end, 4, left)?;
     if magic != b"FM91".as_slice() {
-        return Err(refused(1, end, left));
+        return Err(refused(Rule::Magic, end, left));
     }
-    let (version, behind) = number(end, rest)?;
+    let (version, after) = number(end, rest)?;
     if version != VERSION {
-        return Err(refused(2, end, rest));
+        return Err(refused(Rule::Version, end, rest));
     }
-    Ok((version, behind))
+    Ok((version, after))
 }
 
-fn window(end: usize, left: &[u8]) -> Result<(Window, &[u8]), ImageFault>
-    ensures { Gives (λ x. (x.0, x.1.now)) result (window_at end left.now) }
+fn window(end: usize, left: &[u8]) -> Result<(Window, &[u8]), Refusal>
+    ensures { GivesExactly (λ x. (x.0, x.1.now)) result (window_at end left.now) }
 {
     let (base, left) = number(end, left)?;
     let (size, rest) = number(end, left)?;
     if !is_size(base, size) {
-        return Err(refused(5, end, left));
+        return Err(refused(Rule::Limit, end, left));
     }
-    let (final_pc, behind) = number(end, rest)?;
+    let (final_pc, after) = number(end, rest)?;
     if !is_inside(base, size, final_pc) {
-        return Err(refused(5, end, rest));
+        return Err(refused(Rule::Limit, end, rest));
     }
     let window = Window {
         base,
         size,
         final_pc,
     };
-    Ok((window, behind))
+    Ok((window, after))
 }
 
 /// So many numbers.
@@ -103,19 +101,19 @@ fn numbers(
     let mut numbers = Vec::new(alloc);
     let mut rest = left;
     for _ in 0..count {
-        let (next, behind) = number(end, rest)?;
+        let (next, after) = number(end, rest)?;
         numbers.push(next)?;
-        rest = behind;
+        rest = after;
     }
     Ok((numbers, rest))
 }
 
-fn flags(end: usize, left: &[u8]) -> Result<(Flags, &[u8]), ImageFault>
-    ensures { Gives (λ x. (x.0, x.1.now)) result (flags_at end left.now) }
+fn flags(end: usize, left: &[u8]) -> Result<(Flags, &[u8]), Refusal>
+    ensures { GivesExactly (λ x. (x.0, x.1.now)) result (flags_at end left.now) }
 {
     let (bits, rest) = number(end, left)?;
     if bits > 15 {
-        return Err(refused(5, end, left));
+        return Err(refused(Rule::Limit, end, left));
     }
     Ok((Flags::from_bits(bits), rest))
 }
@@ -124,24 +122,24 @@ fn condition_address(
     end: usize,
     window: Window,
     left: &[u8],
-) -> Result<(Option<u32>, &[u8]), ImageFault>
-    ensures { Gives (λ x. (x.0, x.1.now)) result (condition_address_at end window left.now) }
+) -> Result<(Option<u32>, &[u8]), Refusal>
+    ensures { GivesExactly (λ x. (x.0, x.1.now)) result (condition_address_at end window left.now) }
 {
     let (bits, rest) = number(end, left)?;
     let address = address_from(bits);
     if !is_condition_address(window, address) {
-        return Err(refused(7, end, left));
+        return Err(refused(Rule::Address, end, left));
     }
     Ok((address, rest))
 }
 
-/// The bytes behind their length.
-fn text(end: usize, left: &[u8]) -> Result<(&[u8], &[u8]), ImageFault>
-    ensures { Gives (λ x. (x.0.now, x.1.now)) result (text_at end left.now) }
+/// The bytes after their length.
+fn text(end: usize, left: &[u8]) -> Result<(&[u8], &[u8]), Refusal>
+    ensures { GivesExactly (λ x. (x.0.now, x.1.now)) result (text_at end left.now) }
 {
     let (length, rest) = number(end, left)?;
     if !is_name_length(length) {
-        return Err(refused(6, end, left));
+        return Err(refused(Rule::Name, end, left));
     }
     bytes(end, length as usize, rest)
 }
@@ -152,7 +150,7 @@ fn name(alloc: Global, end: usize, left: &[u8]) -> Result<(Name, &[u8]), ImageFa
     let (text, rest) = text(end, left)?;
     match read_name(alloc, text)? {
         Some(name) => Ok((name, rest)),
-        None => Err(refused(6, end, left)),
+        None => Err(refused(Rule::Name, end, left).into()),
     }
 }
 
@@ -163,7 +161,7 @@ fn is_among(earlier: &[Name], name: &Name) -> bool
     earlier.iter().any(|other| *other == *name)
 }
 
-/// The name of a condition, behind those that were read before.
+/// The name of a condition, after those that were read before.
 fn condition<'a>(
     alloc: Global,
     end: usize,
@@ -174,18 +172,18 @@ fn condition<'a>(
 {
     let (name, rest) = name(alloc, end, left)?;
     if is_among(earlier, &name) {
-        return Err(refused(8, end, left));
+        return Err(refused(Rule::Repeated, end, left).into());
     }
     Ok((name, rest))
 }
 
 /// How many names of conditions, or slots, follow.
-fn count(end: usize, left: &[u8]) -> Result<(u32, &[u8]), ImageFault>
-    ensures { Gives (λ x. (x.0, x.1.now)) result (count_at end left.now) }
+fn count(end: usize, left: &[u8]) -> Result<(u32, &[u8]), Refusal>
+    ensures { GivesExactly (λ x. (x.0, x.1.now)) result (count_at end left.now) }
 {
     let (count, rest) = number(end, left)?;
     if !is_count(count) {
-        return Err(refused(5, end, left));
+        return Err(refused(Rule::Limit, end, left));
     }
     Ok((count, rest))
 }
@@ -197,32 +195,32 @@ fn conditions(alloc: Global, end: usize, left: &[u8]) -> Result<(Vec<Name>, &[u8
     let (count, mut rest) = count(end, left)?;
     let mut conditions = Vec::new(alloc);
     for _ in 0..count {
-        let (next, behind) = condition(alloc, end, &conditions, rest)?;
+        let (next, after) = condition(alloc, end, &conditions, rest)?;
         conditions.push(next)?;
-        rest = behind;
+        rest = after;
     }
     Ok((conditions, rest))
 }
 
-fn kind(end: usize, left: &[u8]) -> Result<(Kind, &[u8]), ImageFault>
-    ensures { Gives (λ x. (x.0, x.1.now)) result (kind_at end left.now) }
+fn kind(end: usize, left: &[u8]) -> Result<(Kind, &[u8]), Refusal>
+    ensures { GivesExactly (λ x. (x.0, x.1.now)) result (kind_at end left.now) }
 {
     let (bits, rest) = number(end, left)?;
     if bits > 2 {
-        return Err(refused(5, end, left));
+        return Err(refused(Rule::Limit, end, left));
     }
     Ok((kind_from(bits), rest))
 }
 
-fn shape(end: usize, left: &[u8]) -> Result<(Shape, &[u8]), ImageFault>
-    ensures { Gives (λ x. (x.0, x.1.now)) result (shape_at end left.now) }
+fn shape(end: usize, left: &[u8]) -> Result<(Shape, &[u8]), Refusal>
+    ensures { GivesExactly (λ x. (x.0, x.1.now)) result (shape_at end left.now) }
 {
     let (kind, rest) = kind(end, left)?;
-    let (length, behind) = number(end, rest)?;
+    let (length, after) = number(end, rest)?;
     if length > MAX_LENGTH {
-        return Err(refused(5, end, rest));
+        return Err(refused(Rule::Limit, end, rest));
     }
-    Ok((Shape { kind, length }, behind))
+    Ok((Shape { kind, length }, after))
 }
 
 /// Whether an earlier slot has the name.
@@ -232,7 +230,7 @@ fn is_among_slots(earlier: &[Slot], name: &Name) -> bool
     earlier.iter().any(|other| other.name == *name)
 }
 
-/// The name of a slot, behind the slots that were read before.
+/// The name of a slot, after the slots that were read before.
 fn slot_name<'a>(
     alloc: Global,
     end: usize,
@@ -243,12 +241,12 @@ fn slot_name<'a>(
 {
     let (name, rest) = name(alloc, end, left)?;
     if is_among_slots(earlier, &name) {
-        return Err(refused(8, end, left));
+        return Err(refused(Rule::Repeated, end, left).into());
     }
     Ok((name, rest))
 }
 
-/// A slot, behind those that were read before.
+/// A slot, after those that were read before.
 #[tactic(auto, unfolding(crate::specs::Reading::slot_at))]
 fn slot<'a>(
     alloc: Global,
@@ -263,7 +261,7 @@ fn slot<'a>(
     let (shape, left) = shape(end, left)?;
     let (address, rest) = number(end, left)?;
     if !is_slot_address(window, shape, address) {
-        return Err(refused(7, end, left));
+        return Err(refused(Rule::Address, end, left).into());
     }
     let slot = Slot {
         name,
@@ -285,9 +283,9 @@ fn slots(
     let (count, mut rest) = count(end, left)?;
     let mut slots = Vec::new(alloc);
     for _ in 0..count {
-        let (next, behind) = slot(alloc, end, window, &slots, rest)?;
+        let (next, after) = slot(alloc, end, window, &slots, rest)?;
         slots.push(next)?;
-        rest = behind;
+        rest = after;
     }
     Ok((slots, rest))
 }
@@ -303,12 +301,12 @@ fn words(
 {
     let (count, rest) = number(end, left)?;
     if count > window.size {
-        return Err(refused(5, end, left));
+        return Err(refused(Rule::Limit, end, left).into());
     }
     numbers(alloc, end, count, rest)
 }
 
-/// The fields of version 1, and nothing behind them.
+/// The fields of version 1, and nothing after them.
 #[tactic(auto, unfolding(crate::specs::Reading::image_at))]
 fn image(alloc: Global, end: usize, left: &[u8]) -> Result<Image, ImageFault>
     ensures { Gives (λ image. image) result (image_at end left.now) }
@@ -322,7 +320,7 @@ fn image(alloc: Global, end: usize, left: &[u8]) -> Result<Image, ImageFault>
     let (slots, rest) = slots(alloc, end, window, rest)?;
     let (words, rest) = words(alloc, end, window, rest)?;
     if !rest.is_empty() {
-        return Err(refused(4, end, rest));
+        return Err(refused(Rule::Trailing, end, rest).into());
     }
     Ok(Image {
         base: window.base,
@@ -339,16 +337,16 @@ fn image(alloc: Global, end: usize, left: &[u8]) -> Result<Image, ImageFault>
 
 /// The image that an image file has.
 ///
-/// Memory is taken for what is read, and never for a count alone: a count that the file has no bytes for costs nothing.
+/// It reserves for what it has read, and not by a count alone: a count that the file has no bytes for costs nothing.
 ///
 /// # Errors
 ///
-/// The first rule of `docs/image-file.md` that the bytes break, read from left to right, and its place; or want of
-/// memory.
+/// The first rule of `docs/image-file.md` that the bytes break, read from left to right, and its place; or out
+/// of memory.
 pub fn read_image(alloc: Global, bytes: &[u8]) -> Result<Image, ImageFault>
     // What is read is spelled so, each byte of the file.
     ensures found { IfOk result (λ image. Spelled bytes.now image) }
-    // Where the bytes spell an image, that image is read, unless memory runs out.
+    // Where the bytes spell an image, that image is read, or memory runs out.
     ensures only { (image : ImageOf) → Spelled bytes.now image → Gives (λ read. read) result (Ok image) }
     // An error is the first fault of the file.
     ensures fault { TellsFault bytes.now result }

@@ -1,4 +1,4 @@
-//! Where a variable stands in memory.
+//! Where a variable is in memory.
 
 use stack_text::{Name, Shape};
 

@@ -4,7 +4,7 @@ use crate::{ImageFault, read_image, write_image};
 use std::alloc::Global;
 use std::test::Fail;
 
-/// The fields behind the magic of the image that `(piton main 2 1 0 () () (main () () (ret)))` is built to: 144 bytes.
+/// The fields after the magic of the image that `(piton main 2 1 0 () () (main () () (ret)))` is built to: 144 bytes.
 const FIELDS: [u32; 35] = [
     1,
     0,
@@ -70,8 +70,8 @@ fn fault_with(alloc: Global, index: usize, number: u32) -> Result<Option<(u8, u6
     fault_of(alloc, &file_of(alloc, &fields)?)
 }
 
-/// The fault of the file with other bytes behind its condition address, from place 92 on.
-fn fault_behind(alloc: Global, tail: &[u8]) -> Result<Option<(u8, u64)>, Fail> {
+/// The fault of the file with other bytes after its condition address, from place 92 on.
+fn fault_after(alloc: Global, tail: &[u8]) -> Result<Option<(u8, u64)>, Fail> {
     let mut bytes = Vec::new(alloc);
     for byte in file_of(alloc, &FIELDS)?.iter().take(92) {
         bytes.push(*byte)?;
@@ -154,13 +154,13 @@ fn keeps_the_limits_of_numbers(rt: HostRuntime) -> Result<(), Fail> {
 #[test]
 fn reads_names_of_conditions(rt: HostRuntime) -> Result<(), Fail> {
     let alloc = rt.alloc();
-    assert!(rt; fault_behind(alloc, b"\xff\xff\xff\xff")? == Some((5, 92)));
-    assert!(rt; fault_behind(alloc, b"\0\0\0\x01\0\0\0\0")? == Some((6, 96)));
-    assert!(rt; fault_behind(alloc, b"\0\0\0\x01\0\0\0\x41")? == Some((6, 96)));
-    assert!(rt; fault_behind(alloc, b"\0\0\0\x01\0\0\0\x04true")? == Some((6, 96)));
-    assert!(rt; fault_behind(alloc, b"\0\0\0\x01\0\0\0\x04tru")? == Some((3, 103)));
-    assert!(rt; fault_behind(alloc, b"\0\0\0\x02\0\0\0\x01a\0\0\0\x01(")? == Some((6, 101)));
-    assert!(rt; fault_behind(alloc, b"\0\0\0\x02\0\0\0\x01a\0\0\0\x01a")? == Some((8, 101)));
+    assert!(rt; fault_after(alloc, b"\xff\xff\xff\xff")? == Some((5, 92)));
+    assert!(rt; fault_after(alloc, b"\0\0\0\x01\0\0\0\0")? == Some((6, 96)));
+    assert!(rt; fault_after(alloc, b"\0\0\0\x01\0\0\0\x41")? == Some((6, 96)));
+    assert!(rt; fault_after(alloc, b"\0\0\0\x01\0\0\0\x04true")? == Some((6, 96)));
+    assert!(rt; fault_after(alloc, b"\0\0\0\x01\0\0\0\x04tru")? == Some((3, 103)));
+    assert!(rt; fault_after(alloc, b"\0\0\0\x02\0\0\0\x01a\0\0\0\x01(")? == Some((6, 101)));
+    assert!(rt; fault_after(alloc, b"\0\0\0\x02\0\0\0\x01a\0\0\0\x01a")? == Some((8, 101)));
     Ok(())
 }
 
@@ -168,56 +168,56 @@ fn reads_names_of_conditions(rt: HostRuntime) -> Result<(), Fail> {
 fn reads_slots(rt: HostRuntime) -> Result<(), Fail> {
     let alloc = rt.alloc();
     assert!(rt;
-        fault_behind(
+        fault_after(
             alloc,
             b"\0\0\0\0\0\0\0\x01\0\0\0\x01a\0\0\0\x00\0\0\x00\x00\0\0\0\x0a\0\0\0\0"
         )? == None
     );
     assert!(rt;
-        fault_behind(
+        fault_after(
             alloc,
             b"\0\0\0\0\0\0\0\x01\0\0\0\x01a\0\0\0\x03\0\0\x00\x00\0\0\0\x0a"
         )? == Some((5, 105))
     );
     assert!(rt;
-        fault_behind(
+        fault_after(
             alloc,
             b"\0\0\0\0\0\0\0\x01\0\0\0\x01a\0\0\0\x02\0\0\x10\x01\0\0\0\x0a"
         )? == Some((5, 109))
     );
     assert!(rt;
-        fault_behind(
+        fault_after(
             alloc,
             b"\0\0\0\0\0\0\0\x01\0\0\0\x01a\0\0\0\x01\0\0\x10\x00\0\0\0\x0a"
         )? == Some((7, 113))
     );
     assert!(rt;
-        fault_behind(
+        fault_after(
             alloc,
             b"\0\0\0\0\0\0\0\x01\0\0\0\x01a\0\0\0\x02\0\0\x00\x0b\0\0\0\x0a\0\0\0\0"
         )? == None
     );
     assert!(rt;
-        fault_behind(
+        fault_after(
             alloc,
             b"\0\0\0\0\0\0\0\x01\0\0\0\x01a\0\0\0\x00\0\0\x00\x0b\0\0\0\x09"
         )? == Some((7, 113))
     );
     assert!(rt;
-        fault_behind(
+        fault_after(
             alloc,
             b"\0\0\0\0\0\0\0\x01\0\0\0\x01a\0\0\0\x00\0\0\x00\x00\0\0\0\x0b"
         )? == Some((7, 113))
     );
     assert!(rt;
-        fault_behind(
+        fault_after(
             alloc,
             b"\0\0\0\0\0\0\0\x02\0\0\0\x01a\0\0\0\x00\0\0\x00\x00\0\0\0\x0a\0\0\0\x01a"
         )? == Some((8, 117))
     );
     // A condition and a slot may have one name.
     assert!(rt;
-        fault_behind(
+        fault_after(
             alloc,
             b"\0\0\0\x01\0\0\0\x01a\0\0\0\x01\0\0\0\x01a\0\0\0\x00\0\0\x00\x00\0\0\0\x0a\0\0\0\0"
         )? == None

@@ -7,12 +7,10 @@ ghost use Rattle.fm_image.specs.Spelling.{number_bytes, numbers_bytes, name_byte
 
 use crate::code::{address_bits, kind_bits};
 use crate::image::Image;
+use crate::limit::VERSION;
 use crate::slot::Slot;
 use stack_text::{Memory, Name};
 use std::alloc::Global;
-
-/// The version of the file.
-const VERSION: u32 = 1;
 
 fn push_number(bytes: &mut Vec<u8>, number: u32) -> Result<(), Memory>
     ensures { OnOk result (bytes.new.items ≡ bytes.old.items ++ number_bytes number) }
@@ -78,7 +76,7 @@ fn push_words(bytes: &mut Vec<u8>, words: &[u32]) -> Result<(), Memory>
     push_numbers(bytes, words)
 }
 
-/// What stands before the registers.
+/// The fields before the registers.
 fn opening(alloc: Global, base: u32, size: u32, final_pc: u32) -> Result<Vec<u8>, Memory>
     ensures { IfOk result (λ bytes. bytes.items ≡ opening_bytes ++ window_bytes (record { base = base; size = size; final_pc = final_pc })) }
 {

@@ -304,7 +304,7 @@ same_operand (Place m r) (Place n s) ha hb e =
     let register = same.register in
     cc
 
--- the operands of an instruction, and what stands before them
+-- the operands of an instruction, and what is before them
 operands_text : Instr → List ℕ
 operands_text i = 32 ∷ (place_text i.mode_b i.reg_b ++ (44 ∷ operand_text i.a))
 

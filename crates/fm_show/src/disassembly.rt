@@ -14,7 +14,7 @@ use std::fmt;
 /// comma and the first operand, as in `MOVE r3,#5` and `ADD[zs]{cz} -(r2),(r15)+`.
 ///
 /// Two words have one text exactly where they are one but for the bits that decoding passes over.
-/// The only error is want of memory.
+/// The only error is out of memory.
 #[tactic(auto, using(crate::proofs::Lossless::lossless))]
 pub fn disassemble(alloc: Global, word: u32) -> Result<Vec<u8>, Memory>
     ensures text { IfOk result (λ text. text.items ≡ disassembly_text word) }

@@ -2,7 +2,7 @@ use Rattle.std.proofs.Common.{◌≡◌, [], refl, sym, ◌∙◌}
 use Rattle.std.proofs.lemmas.Result.{err_from_is_err_and}
 use Rattle.fm_image.specs.Fields.{items_at}
 use Rattle.fm_image.specs.Reading.{condition_at, conditions_at}
-use Rattle.fm_image.proofs.Items.{goes_on, ends, is_done}
+use Rattle.fm_image.proofs.ItemLoops.{goes_on, ends, is_done}
 use Rattle.fm_image.proofs.reading.conditions.Goals as goal
 
 pub returns-in_err-next : goal.returns-in_err-next
@@ -14,7 +14,7 @@ returns-in_err-next c =
 
 pub loop-preserved : goal.loop-preserved
 loop-preserved c =
-    rw c.in_ok-push.ensures.items (goes_on (condition_at c.args.end) c.loop.conditions.items c.in_ok-count.count c.loop.counter c.loop.rest.now c.in_ok-next.next c.in_ok-next.behind.now (items_at (condition_at c.args.end) c.in_ok-count.count [] c.in_ok-count.rest.now) c.loop-test.true (rw c.deref.ensures.value at c.in_ok-next.ensures) c.loop.invariant)
+    rw c.in_ok-push.ensures.items (goes_on (condition_at c.args.end) c.loop.conditions.items c.in_ok-count.count c.loop.counter c.loop.rest.now c.in_ok-next.next c.in_ok-next.after.now (items_at (condition_at c.args.end) c.in_ok-count.count [] c.in_ok-count.rest.now) c.loop-test.true (rw c.deref.ensures.value at c.in_ok-next.ensures) c.loop.invariant)
 
 pub returns : goal.returns
 unfolding conditions_at

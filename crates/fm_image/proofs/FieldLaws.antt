@@ -6,8 +6,10 @@ use Rattle.std.specs.Prelude.{codes}
 use Rattle.std.proofs.lemmas.Bool.{lt-ltb, ltb-true, leb-true, le-leb, and_parts, and_from, eqb-true, eq-eqb, and_right}
 use Rattle.std.proofs.lemmas.Slice.Eq.{bytes_eq-Decides}
 use Rattle.stack_text.specs.Names.{is_name}
+use Rattle.fm_image.specs.declared.fault.Rule.{Rule}
+use Rattle.fm_image.specs.declared.fault.Rule.TheVariants as rules
 use Rattle.fm_image.specs.declared.window.Window.{Window}
-use Rattle.fm_image.specs.Image.{is_size, is_inside, is_window, is_condition}
+use Rattle.fm_image.specs.Image.{is_size, is_inside, is_window, is_new, is_condition}
 use Rattle.fm_image.specs.Spelling.{number_bytes, name_bytes, window_bytes, opening_bytes}
 use Rattle.stack_text.specs.Results.{◌>>=◌}
 use Rattle.fm_image.specs.Fields.{number_at, passing, bytes_at, is_name_length, text_at}
@@ -15,7 +17,7 @@ use Rattle.fm_image.specs.Reading.{opening_at, is_magic, is_version, window_at, 
 use Rattle.stack_text.proofs.ResultLaws.{bind_ok, bind_at}
 use Rattle.fm_image.proofs.Readers.{IsBytes, ok_is, Took, Took-then, Reads, bytes_reads, is_word, number_reads, passing_reads, refit_reads}
 
-abbrev pub limited_reads : (test : ℕ → Bool) (rule end : ℕ) → Reads (passing test rule end (number_at end)) number_bytes (λ n. is_word n && test n)
+abbrev pub limited_reads : (test : ℕ → Bool) (rule : Rule) (end : ℕ) → Reads (passing test rule end (number_at end)) number_bytes (λ n. is_word n && test n)
 limited_reads test rule end = passing_reads test rule end (number_at end) number_bytes is_word (number_reads end)
 
 -- what a test lets pass is below 2^32
@@ -26,8 +28,8 @@ both n limit test le lt h = let below : n < 2 ^ 32 = omega (arith, le, lt) in an
 
 text_takes : (end : ℕ) (bytes text rest : List ℕ) → IsBytes bytes → text_at end bytes ≡ Ok (text, rest) → Took bytes (name_bytes text) rest × (is_name_length (length text) ≡ true)
 text_takes end bytes text rest ok e =
-    let b = bind_ok (passing is_name_length 6 end (number_at end) bytes) (λ count. bytes_at end count.0 count.1) (text, rest) e in
-    let t = (limited_reads is_name_length 6 end).takes bytes b.0.0 b.0.1 ok b.1 in
+    let b = bind_ok (passing is_name_length rules.Name end (number_at end) bytes) (λ count. bytes_at end count.0 count.1) (text, rest) e in
+    let t = (limited_reads is_name_length rules.Name end).takes bytes b.0.0 b.0.1 ok b.1 in
     let s = (bytes_reads end b.0.0).takes b.0.1 text rest t.0.rest_fits b.2 in
     let len : length text ≡ b.0.0 = eqb-true _ _ s.1 in
     let p = and_parts (is_word b.0.0) (is_name_length b.0.0) t.1 in
@@ -39,8 +41,8 @@ text_again end text rest h =
     let p = and_parts (leb 1 (length text)) (leb (length text) 64) h in
     let small : length text ≤ 64 = leb-true _ _ p.1 in
     ap (text_at end) (append_assoc (number_bytes (length text)) text rest)
-    ∙ bind_at (passing is_name_length 6 end (number_at end) (number_bytes (length text) ++ (text ++ rest))) (λ count. bytes_at end count.0 count.1) (length text, text ++ rest)
-    ((limited_reads is_name_length 6 end).again (length text) (text ++ rest) (both (length text) 64 (is_name_length (length text)) small (omega arith) h))
+    ∙ bind_at (passing is_name_length rules.Name end (number_at end) (number_bytes (length text) ++ (text ++ rest))) (λ count. bytes_at end count.0 count.1) (length text, text ++ rest)
+    ((limited_reads is_name_length rules.Name end).again (length text) (text ++ rest) (both (length text) 64 (is_name_length (length text)) small (omega arith) h))
     ∙ (bytes_reads end (length text)).again text rest (eq-eqb _ _ refl)
 
 text_reads : (end : ℕ) → Reads (text_at end) name_bytes (λ text. is_name_length (length text))
@@ -65,10 +67,10 @@ length_implied name false h = and_right _ _ refl
 pub name_reads : (end : ℕ) → Reads (name_at end) name_bytes is_name
 name_reads end =
     refit_reads (name_at end) name_bytes (λ name. is_name_length (length name) && is_name name) is_name
-    (passing_reads is_name 6 end (text_at end) name_bytes (λ text. is_name_length (length text)) (text_reads end)) (λ name. length_implied name (is_name name) refl)
+    (passing_reads is_name rules.Name end (text_at end) name_bytes (λ text. is_name_length (length text)) (text_reads end)) (λ name. length_implied name (is_name name) refl)
 
 pub condition_reads : (end : ℕ) (earlier : List (List ℕ)) → Reads (condition_at end earlier) name_bytes (is_condition earlier)
-condition_reads end earlier = passing_reads (λ name. not (list_any (λ other. bytes_eq other name) earlier)) 8 end (name_at end) name_bytes is_name (name_reads end)
+condition_reads end earlier = passing_reads (is_new (λ other. other) earlier) rules.Repeated end (name_at end) name_bytes is_name (name_reads end)
 
 -- ---- the opening
 
@@ -77,9 +79,9 @@ bytes_eq-same xs ys h = (bytes_eq-Decides xs ys).0 h
 
 pub opening_takes : (end : ℕ) (bytes : List ℕ) (version : ℕ) (rest : List ℕ) → IsBytes bytes → opening_at end bytes ≡ Ok (version, rest) → Took bytes opening_bytes rest
 opening_takes end bytes version rest ok e =
-    let b = bind_ok (passing is_magic 1 end (bytes_at end 4) bytes) (λ magic. passing is_version 2 end (number_at end) magic.1) (version, rest) e in
-    let t = (passing_reads is_magic 1 end (bytes_at end 4) (λ text. text) (λ text. eqb (length text) 4) (bytes_reads end 4)).takes bytes b.0.0 b.0.1 ok b.1 in
-    let s = (limited_reads is_version 2 end).takes b.0.1 version rest t.0.rest_fits b.2 in
+    let b = bind_ok (passing is_magic rules.Magic end (bytes_at end 4) bytes) (λ magic. passing is_version rules.Version end (number_at end) magic.1) (version, rest) e in
+    let t = (passing_reads is_magic rules.Magic end (bytes_at end 4) (λ text. text) (λ text. eqb (length text) 4) (bytes_reads end 4)).takes bytes b.0.0 b.0.1 ok b.1 in
+    let s = (limited_reads is_version rules.Version end).takes b.0.1 version rest t.0.rest_fits b.2 in
     let magic : b.0.0 ≡ codes "FM91" = bytes_eq-same b.0.0 (codes "FM91") (and_parts (eqb (length b.0.0) 4) (is_magic b.0.0) t.1).1 in
     let one : version ≡ 1 = eqb-true _ _ (and_parts (is_word version) (is_version version) s.1).1 in
     let whole = Took-then bytes b.0.0 b.0.1 (number_bytes version) rest t.0 s.0 in
@@ -87,21 +89,21 @@ opening_takes end bytes version rest ok e =
 
 pub opening_again : (end : ℕ) (rest : List ℕ) → opening_at end (opening_bytes ++ rest) ≡ Ok (1, rest)
 opening_again end rest =
-    bind_at (passing is_magic 1 end (bytes_at end 4) (codes "FM91" ++ (number_bytes 1 ++ rest))) (λ magic. passing is_version 2 end (number_at end) magic.1) (codes "FM91", number_bytes 1 ++ rest)
-    ((passing_reads is_magic 1 end (bytes_at end 4) (λ text. text) (λ text. eqb (length text) 4) (bytes_reads end 4)).again (codes "FM91") (number_bytes 1 ++ rest) refl)
-    ∙ (limited_reads is_version 2 end).again 1 rest refl
+    bind_at (passing is_magic rules.Magic end (bytes_at end 4) (codes "FM91" ++ (number_bytes 1 ++ rest))) (λ magic. passing is_version rules.Version end (number_at end) magic.1) (codes "FM91", number_bytes 1 ++ rest)
+    ((passing_reads is_magic rules.Magic end (bytes_at end 4) (λ text. text) (λ text. eqb (length text) 4) (bytes_reads end 4)).again (codes "FM91") (number_bytes 1 ++ rest) refl)
+    ∙ (limited_reads is_version rules.Version end).again 1 rest refl
 
 -- ---- the window
 
 pub window_reads : (end : ℕ) → Reads (window_at end) window_bytes is_window
 window_reads end = record {
   takes = λ bytes w rest ok e.
-      let a = bind_ok (number_at end bytes) (λ base. passing (is_size base.0) 5 end (number_at end) base.1 >>= λ size. passing (is_inside base.0 size.0) 5 end (number_at end) size.1 >>= λ pc. Ok (record { base = base.0; size = size.0; final_pc = pc.0 }, pc.1)) (w, rest) e in
-      let b = bind_ok (passing (is_size a.0.0) 5 end (number_at end) a.0.1) (λ size. passing (is_inside a.0.0 size.0) 5 end (number_at end) size.1 >>= λ pc. Ok (record { base = a.0.0; size = size.0; final_pc = pc.0 }, pc.1)) (w, rest) a.2 in
-      let c = bind_ok (passing (is_inside a.0.0 b.0.0) 5 end (number_at end) b.0.1) (λ pc. Ok (record { base = a.0.0; size = b.0.0; final_pc = pc.0 }, pc.1)) (w, rest) b.2 in
+      let a = bind_ok (number_at end bytes) (λ base. passing (is_size base.0) rules.Limit end (number_at end) base.1 >>= λ size. passing (is_inside base.0 size.0) rules.Limit end (number_at end) size.1 >>= λ pc. Ok (record { base = base.0; size = size.0; final_pc = pc.0 }, pc.1)) (w, rest) e in
+      let b = bind_ok (passing (is_size a.0.0) rules.Limit end (number_at end) a.0.1) (λ size. passing (is_inside a.0.0 size.0) rules.Limit end (number_at end) size.1 >>= λ pc. Ok (record { base = a.0.0; size = size.0; final_pc = pc.0 }, pc.1)) (w, rest) a.2 in
+      let c = bind_ok (passing (is_inside a.0.0 b.0.0) rules.Limit end (number_at end) b.0.1) (λ pc. Ok (record { base = a.0.0; size = b.0.0; final_pc = pc.0 }, pc.1)) (w, rest) b.2 in
       let t0 = (number_reads end).takes bytes a.0.0 a.0.1 ok a.1 in
-      let t1 = (limited_reads (is_size a.0.0) 5 end).takes a.0.1 b.0.0 b.0.1 t0.0.rest_fits b.1 in
-      let t2 = (limited_reads (is_inside a.0.0 b.0.0) 5 end).takes b.0.1 c.0.0 c.0.1 t1.0.rest_fits c.1 in
+      let t1 = (limited_reads (is_size a.0.0) rules.Limit end).takes a.0.1 b.0.0 b.0.1 t0.0.rest_fits b.1 in
+      let t2 = (limited_reads (is_inside a.0.0 b.0.0) rules.Limit end).takes b.0.1 c.0.0 c.0.1 t1.0.rest_fits c.1 in
       let made : Window × List ℕ = (record { base = a.0.0; size = b.0.0; final_pc = c.0.0 }, c.0.1) in
       subst (λ (y : Window × List ℕ). Took bytes (window_bytes y.0) y.1 × (is_window y.0 ≡ true)) (ok_is made (w, rest) c.2) (
         Took-then bytes (number_bytes a.0.0 ++ number_bytes b.0.0) b.0.1 (number_bytes c.0.0) c.0.1 (Took-then bytes (number_bytes a.0.0) a.0.1 (number_bytes b.0.0) b.0.1 t0.0 t1.0) t2.0,
@@ -123,11 +125,11 @@ window_reads end = record {
         let after_pc : Window × List ℕ = (w, rest) in
         ap (window_at end) (append_assoc (number_bytes w.base ++ number_bytes w.size) (number_bytes w.final_pc) rest ∙ append_assoc (number_bytes w.base) (number_bytes w.size) (number_bytes w.final_pc ++ rest))
         ∙ bind_at (number_at end (number_bytes w.base ++ (number_bytes w.size ++ (number_bytes w.final_pc ++ rest))))
-        (λ base. passing (is_size base.0) 5 end (number_at end) base.1 >>= λ size. passing (is_inside base.0 size.0) 5 end (number_at end) size.1 >>= λ pc. Ok (record { base = base.0; size = size.0; final_pc = pc.0 }, pc.1))
+        (λ base. passing (is_size base.0) rules.Limit end (number_at end) base.1 >>= λ size. passing (is_inside base.0 size.0) rules.Limit end (number_at end) size.1 >>= λ pc. Ok (record { base = base.0; size = size.0; final_pc = pc.0 }, pc.1))
         (w.base, number_bytes w.size ++ (number_bytes w.final_pc ++ rest)) ((number_reads end).again w.base (number_bytes w.size ++ (number_bytes w.final_pc ++ rest)) base_word)
-        ∙ bind_at (passing (is_size w.base) 5 end (number_at end) (number_bytes w.size ++ (number_bytes w.final_pc ++ rest)))
-        (λ size. passing (is_inside w.base size.0) 5 end (number_at end) size.1 >>= λ pc. Ok (record { base = w.base; size = size.0; final_pc = pc.0 }, pc.1))
-        (w.size, number_bytes w.final_pc ++ rest) ((limited_reads (is_size w.base) 5 end).again w.size (number_bytes w.final_pc ++ rest) size_fits)
-        ∙ bind_at (passing (is_inside w.base w.size) 5 end (number_at end) (number_bytes w.final_pc ++ rest))
+        ∙ bind_at (passing (is_size w.base) rules.Limit end (number_at end) (number_bytes w.size ++ (number_bytes w.final_pc ++ rest)))
+        (λ size. passing (is_inside w.base size.0) rules.Limit end (number_at end) size.1 >>= λ pc. Ok (record { base = w.base; size = size.0; final_pc = pc.0 }, pc.1))
+        (w.size, number_bytes w.final_pc ++ rest) ((limited_reads (is_size w.base) rules.Limit end).again w.size (number_bytes w.final_pc ++ rest) size_fits)
+        ∙ bind_at (passing (is_inside w.base w.size) rules.Limit end (number_at end) (number_bytes w.final_pc ++ rest))
         (λ pc. Ok (record { base = w.base; size = w.size; final_pc = pc.0 }, pc.1))
-        (w.final_pc, rest) ((limited_reads (is_inside w.base w.size) 5 end).again w.final_pc rest pc_fits)
+        (w.final_pc, rest) ((limited_reads (is_inside w.base w.size) rules.Limit end).again w.final_pc rest pc_fits)
