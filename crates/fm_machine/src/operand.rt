@@ -9,7 +9,7 @@ use fm_words::{AluOut, Flags, Mode, Op};
 pub(crate) type Registers = [u32; 16];
 
 // The address of an operand's place, or None for the register itself.
-pub(crate) fn address(mode: Mode, reg: u8, registers: &Registers) -> Option<u32>
+pub(crate) fn address_of(mode: Mode, reg: u8, registers: &Registers) -> Option<u32>
     requires { reg < 16 }
     ensures { result ≡ address_of mode reg registers.now }
 {
@@ -37,7 +37,7 @@ pub(crate) fn pass(mode: Mode, reg: u8, registers: &mut Registers)
 }
 
 // Whether an operation reads the second operand.
-pub(crate) fn reads_second(op: Op) -> bool
+pub(crate) fn reads_b(op: Op) -> bool
     ensures { result ≡ reads_b op }
 {
     matches!(
@@ -47,7 +47,7 @@ pub(crate) fn reads_second(op: Op) -> bool
 }
 
 // The flags after an operation: those of the mask are new.
-pub(crate) fn new_flags(set: Flags, old: Flags, out: AluOut) -> Flags
+pub(crate) fn flags_set(set: Flags, old: Flags, out: AluOut) -> Flags
     ensures { result ≡ flags_set set old out }
 {
     Flags {
