@@ -1,0 +1,14 @@
+pub mod ListLaws
+pub mod HoldsLaws
+pub mod LayoutLaws
+pub mod CodeLaws
+pub mod RegisterLaws
+pub mod OperandLaws
+pub mod TargetLaws
+pub mod RunLaws
+pub mod MoveLaws
+pub mod JumpLaws
+pub mod XorLaws
+pub mod ArithmeticLaws
+pub mod NumberLaws
+pub mod RowLaws

@@ -1,0 +1,212 @@
+-- What the words of each of Piton's instructions do, and in how many steps. Stacks are listed from their tops.
+use Rattle.std.specs.Prelude.{◌≡◌, ℕ, ◌+◌, ◌-◌, ◌*◌, ◌/◌, ◌%◌, ◌^◌, ◌<◌, ◌≤◌, ◌==◌, Some, Bool, true, not, ◌&&◌, ◌||◌, ℤ, pos, ◌+ℤ◌, ◌-ℤ◌, ◌*ℤ◌, int_lt, nat_lt, if◌then◌else◌, List, ◌∷◌, ◌++◌, length, reverse, slice_get, slice_set, bit_and, bit_or, bit_xor}
+use Rattle.std.specs.Int.{from_bool as bit_of}
+use Rattle.fm_words.specs.declared.condition.Cc.{Cc}
+use Rattle.fm_words.specs.declared.condition.Cc.TheVariants.{Cs, Vs, Nc, Ns, Zc, Zs, Lt, Gt, Le}
+use Rattle.fm_words.specs.declared.operation.Op.TheVariants.{Inc, Addc, Add, Neg, Dec, Subb, Sub, Lsr, Xor, Or, And, Not}
+use Rattle.fm_words.specs.Word.{is_int, is_nat, word_of_int, wrapped, are_same_ints}
+use Rattle.fm_words.specs.Alu.{does_hold, are_same}
+use Rattle.fm_code.specs.Flags.{flags_of_word}
+use Rattle.fm_code.specs.Execution.{Parts, CodeAt, Executes, view}
+use Rattle.fm_code.specs.Templates.{below_end, push_constant_code, push_local_code, pop_local_code, set_local_code, push_global_code, pop_global_code, set_global_code, push_temp_stk_index_code, push_temp_stk_free_size_code, push_ctrl_stk_free_size_code, fetch_temp_stk_code, deposit_temp_stk_code, fetch_code, deposit_code, pop_code, pop_star_code, popn_code, no_op_code, jump_code, jump_if_top_code, jump_case_code, pushj_code, popj_code, test_and_jump_code, call_code, pop_call_code, ret_code, prelude_code, two_code, one_code, not_bool_code, eq_code, lt_code, carry_code, mult2_carry_code, div2_code}
+
+-- the temporary stack has room for another word
+abbrev pub HasRoom : Parts → List ℕ → Type 0
+HasRoom P temp = P.temp_at + length temp < P.end
+
+-- r0 is the first address of the control stack's words
+abbrev pub IsFrame : Parts → ℕ → List ℕ → Type 0
+IsFrame P f ctrl = f + length ctrl ≡ P.temp_at
+
+-- a is the address of the k-th word of the areas
+abbrev pub IsIn : Parts → ℕ → ℕ → Type 0
+IsIn P a k = a ≡ P.areas_at + k
+
+-- the control stack after a call: the formals xs, which were on the temporary stack with the last one at its top, so
+-- that the first one has offset 0; the temporaries ts; r0 of the caller; and the address after the call
+abbrev pub framed : List ℕ → List ℕ → ℕ → ℕ → List ℕ → List ℕ
+framed xs ts f after ctrl = reverse xs ++ (ts ++ (f ∷ after ∷ ctrl))
+
+-- what an operation with a carry pushes for its exact result: whether that is out of range, and then what 32 bits keep of
+-- it. The first is for integers, the second for numbers without a sign.
+abbrev pub int_carried : ℤ → List ℕ → List ℕ
+int_carried z temp = wrapped z ∷ bit_of (not (is_int z)) ∷ temp
+
+abbrev pub nat_carried : ℤ → List ℕ → List ℕ
+nat_carried z temp = wrapped z ∷ bit_of (not (is_nat z)) ∷ temp
+
+-- moves
+pub record MoveRows (P : Parts) (f pc : ℕ) (ctrl temp areas : List ℕ) : Type 0 where
+  pub push_constant : (w : ℕ) → HasRoom P temp →
+      Executes P (push_constant_code w) 1 (view f pc ctrl temp areas) (view f (pc + 2) ctrl (w ∷ temp) areas)
+  pub push_local : (k w : ℕ) → slice_get ctrl k ≡ Some w → IsFrame P f ctrl → HasRoom P temp →
+      Executes P (push_local_code k) 3 (view f pc ctrl temp areas) (view f (pc + 4) ctrl (w ∷ temp) areas)
+  pub pop_local : (k v : ℕ) → k < length ctrl → IsFrame P f ctrl →
+      Executes P (pop_local_code k) 3 (view f pc ctrl (v ∷ temp) areas) (view f (pc + 4) (slice_set ctrl k v) temp areas)
+  pub set_local : (k v : ℕ) → k < length ctrl → IsFrame P f ctrl →
+      Executes P (set_local_code k) 3 (view f pc ctrl (v ∷ temp) areas) (view f (pc + 4) (slice_set ctrl k v) (v ∷ temp) areas)
+  pub push_global : (a k w : ℕ) → IsIn P a k → slice_get areas k ≡ Some w → HasRoom P temp →
+      Executes P (push_global_code a) 2 (view f pc ctrl temp areas) (view f (pc + 3) ctrl (w ∷ temp) areas)
+  pub pop_global : (a k v : ℕ) → IsIn P a k → k < length areas →
+      Executes P (pop_global_code a) 2 (view f pc ctrl (v ∷ temp) areas) (view f (pc + 3) ctrl temp (slice_set areas k v))
+  pub set_global : (a k v : ℕ) → IsIn P a k → k < length areas →
+      Executes P (set_global_code a) 2 (view f pc ctrl (v ∷ temp) areas) (view f (pc + 3) ctrl (v ∷ temp) (slice_set areas k v))
+  -- the index from the bottom of the k-th word from the top, and how many words are free on each stack
+  pub push_temp_stk_index : (k : ℕ) → k < length temp → HasRoom P temp →
+      Executes P (push_temp_stk_index_code P.end k) 3 (view f pc ctrl temp areas)
+      (view f (pc + 4) ctrl ((length temp - 1 - k) ∷ temp) areas)
+  pub push_temp_stk_free_size : HasRoom P temp →
+      Executes P (push_temp_stk_free_size_code P.temp_at) 3 (view f pc ctrl temp areas)
+      (view f (pc + 4) ctrl ((P.end - P.temp_at - length temp) ∷ temp) areas)
+  pub push_ctrl_stk_free_size : HasRoom P temp →
+      Executes P (push_ctrl_stk_free_size_code P.ctrl_at) 3 (view f pc ctrl temp areas)
+      (view f (pc + 4) ctrl ((P.temp_at - P.ctrl_at - length ctrl) ∷ temp) areas)
+  -- the index t counts from the bottom
+  pub fetch_temp_stk : (t w : ℕ) → t < length temp → slice_get temp (length temp - 1 - t) ≡ Some w →
+      Executes P (fetch_temp_stk_code P.end) 3 (view f pc ctrl (t ∷ temp) areas) (view f (pc + 4) ctrl (w ∷ temp) areas)
+  pub deposit_temp_stk : (t v : ℕ) → t < length temp →
+      Executes P (deposit_temp_stk_code P.end) 3 (view f pc ctrl (t ∷ v ∷ temp) areas)
+      (view f (pc + 4) ctrl (slice_set temp (length temp - 1 - t) v) areas)
+  pub fetch : (a k w : ℕ) → IsIn P a k → slice_get areas k ≡ Some w →
+      Executes P fetch_code 2 (view f pc ctrl (a ∷ temp) areas) (view f (pc + 2) ctrl (w ∷ temp) areas)
+  pub deposit : (a k v : ℕ) → IsIn P a k → k < length areas →
+      Executes P deposit_code 2 (view f pc ctrl (a ∷ v ∷ temp) areas) (view f (pc + 2) ctrl temp (slice_set areas k v))
+  pub pop : (v : ℕ) →
+      Executes P pop_code 1 (view f pc ctrl (v ∷ temp) areas) (view f (pc + 1) ctrl temp areas)
+  pub pop_star : (xs : List ℕ) →
+      Executes P (pop_star_code (length xs)) 1 (view f pc ctrl (xs ++ temp) areas) (view f (pc + 2) ctrl temp areas)
+  pub popn : (xs : List ℕ) →
+      Executes P popn_code 2 (view f pc ctrl (length xs ∷ xs ++ temp) areas) (view f (pc + 2) ctrl temp areas)
+  -- also int-to-nat
+  pub no_op :
+      Executes P no_op_code 1 (view f pc ctrl temp areas) (view f (pc + 1) ctrl temp areas)
+
+-- jumps and calls
+pub record JumpRows (P : Parts) (f pc : ℕ) (ctrl temp areas : List ℕ) : Type 0 where
+  pub jump : (to : ℕ) →
+      Executes P (jump_code to) 1 (view f pc ctrl temp areas) (view f to ctrl temp areas)
+  pub jump_if_temp_stk_full : (to : ℕ) →
+      Executes P (jump_if_top_code P.temp_at to) 3 (view f pc ctrl temp areas)
+      (view f (if length temp == P.end - P.temp_at then to else pc + 5) ctrl temp areas)
+  pub jump_if_temp_stk_empty : (to : ℕ) →
+      Executes P (jump_if_top_code (below_end P.end 0) to) 3 (view f pc ctrl temp areas)
+      (view f (if length temp == 0 then to else pc + 5) ctrl temp areas)
+  pub jump_case : (t to : ℕ) (targets : List ℕ) → slice_get targets t ≡ Some to →
+      Executes P (jump_case_code pc targets) 3 (view f pc ctrl (t ∷ temp) areas) (view f to ctrl temp areas)
+  pub pushj : (after to : ℕ) → HasRoom P temp →
+      Executes P (pushj_code after to) 2 (view f pc ctrl temp areas) (view f to ctrl (after ∷ temp) areas)
+  pub popj : (to : ℕ) →
+      Executes P popj_code 1 (view f pc ctrl (to ∷ temp) areas) (view f to ctrl temp areas)
+  pub test_and_jump : (k : Cc) (x to : ℕ) →
+      Executes P (test_and_jump_code k to) 2 (view f pc ctrl (x ∷ temp) areas)
+      (view f (if does_hold k (flags_of_word x) then to else pc + 3) ctrl temp areas)
+  -- the prelude of a program with the formals xs and the temporaries ts, whose frame is then at g
+  pub prelude : (after g : ℕ) (xs ts : List ℕ) →
+      P.ctrl_at + length (framed xs ts f after ctrl) ≤ P.temp_at →
+      IsFrame P g (framed xs ts f after ctrl) →
+      Executes P (prelude_code (length xs) ts) (2 + length xs + length ts) (view f pc (after ∷ ctrl) (xs ++ temp) areas)
+      (view g (pc + length (prelude_code (length xs) ts)) (framed xs ts f after ctrl) temp areas)
+  -- a call of such a program, whose prelude is at entry
+  pub call : (after entry g : ℕ) (xs ts : List ℕ) →
+      CodeAt P entry (prelude_code (length xs) ts) →
+      P.ctrl_at + length (framed xs ts f after ctrl) ≤ P.temp_at →
+      IsFrame P g (framed xs ts f after ctrl) →
+      Executes P (call_code after entry) (4 + length xs + length ts) (view f pc ctrl (xs ++ temp) areas)
+      (view g (entry + length (prelude_code (length xs) ts)) (framed xs ts f after ctrl) temp areas)
+  pub pop_call : (after entry g : ℕ) (xs ts : List ℕ) →
+      CodeAt P entry (prelude_code (length xs) ts) →
+      P.ctrl_at + length (framed xs ts f after ctrl) ≤ P.temp_at →
+      IsFrame P g (framed xs ts f after ctrl) →
+      Executes P (pop_call_code after) (5 + length xs + length ts) (view f pc ctrl (entry ∷ (xs ++ temp)) areas)
+      (view g (entry + length (prelude_code (length xs) ts)) (framed xs ts f after ctrl) temp areas)
+  pub ret : (older back : ℕ) (locals : List ℕ) → IsFrame P f (locals ++ (older ∷ back ∷ ctrl)) →
+      Executes P (ret_code (length locals)) 4 (view f pc (locals ++ (older ∷ back ∷ ctrl)) temp areas) (view older back ctrl temp areas)
+
+-- operations on words, where x is at the top
+pub record WordRows (P : Parts) (f pc : ℕ) (ctrl temp areas : List ℕ) : Type 0 where
+  pub eq : (y x : ℕ) →
+      Executes P eq_code 4 (view f pc ctrl (x ∷ y ∷ temp) areas) (view f (pc + 4) ctrl (bit_of (y == x) ∷ temp) areas)
+  pub eq_int : (y x : ℤ) → is_int y ≡ true → is_int x ≡ true →
+      Executes P eq_code 4 (view f pc ctrl (word_of_int x ∷ word_of_int y ∷ temp) areas)
+      (view f (pc + 4) ctrl (bit_of (are_same_ints y x) ∷ temp) areas)
+  pub eq_bool : (y x : Bool) →
+      Executes P eq_code 4 (view f pc ctrl (bit_of x ∷ bit_of y ∷ temp) areas) (view f (pc + 4) ctrl (bit_of (are_same y x) ∷ temp) areas)
+  pub add_int : (y x : ℤ) → is_int y ≡ true → is_int x ≡ true → is_int (y +ℤ x) ≡ true →
+      Executes P (two_code Add) 1 (view f pc ctrl (word_of_int x ∷ word_of_int y ∷ temp) areas)
+      (view f (pc + 1) ctrl (word_of_int (y +ℤ x) ∷ temp) areas)
+  pub sub_int : (y x : ℤ) → is_int y ≡ true → is_int x ≡ true → is_int (y -ℤ x) ≡ true →
+      Executes P (two_code Sub) 1 (view f pc ctrl (word_of_int x ∷ word_of_int y ∷ temp) areas)
+      (view f (pc + 1) ctrl (word_of_int (y -ℤ x) ∷ temp) areas)
+  -- also of addresses
+  pub add_nat : (y x : ℕ) → y + x < 2 ^ 32 →
+      Executes P (two_code Add) 1 (view f pc ctrl (x ∷ y ∷ temp) areas) (view f (pc + 1) ctrl ((y + x) ∷ temp) areas)
+  pub sub_nat : (y x : ℕ) → x ≤ y → y < 2 ^ 32 →
+      Executes P (two_code Sub) 1 (view f pc ctrl (x ∷ y ∷ temp) areas) (view f (pc + 1) ctrl ((y - x) ∷ temp) areas)
+  pub lt_int : (y x : ℤ) → is_int y ≡ true → is_int x ≡ true →
+      Executes P (lt_code Lt) 5 (view f pc ctrl (word_of_int x ∷ word_of_int y ∷ temp) areas)
+      (view f (pc + 5) ctrl (bit_of (int_lt y x) ∷ temp) areas)
+  pub lt_nat : (y x : ℕ) →
+      Executes P (lt_code Cs) 5 (view f pc ctrl (x ∷ y ∷ temp) areas) (view f (pc + 5) ctrl (bit_of (nat_lt y x) ∷ temp) areas)
+  pub add1_int : (x : ℤ) → is_int x ≡ true → is_int (x +ℤ pos 1) ≡ true →
+      Executes P (one_code Inc) 1 (view f pc ctrl (word_of_int x ∷ temp) areas)
+      (view f (pc + 1) ctrl (word_of_int (x +ℤ pos 1) ∷ temp) areas)
+  pub add1_nat : (x : ℕ) → x + 1 < 2 ^ 32 →
+      Executes P (one_code Inc) 1 (view f pc ctrl (x ∷ temp) areas) (view f (pc + 1) ctrl ((x + 1) ∷ temp) areas)
+  pub sub1_int : (x : ℤ) → is_int x ≡ true → is_int (x -ℤ pos 1) ≡ true →
+      Executes P (one_code Dec) 1 (view f pc ctrl (word_of_int x ∷ temp) areas)
+      (view f (pc + 1) ctrl (word_of_int (x -ℤ pos 1) ∷ temp) areas)
+  pub sub1_nat : (x : ℕ) → 0 < x → x < 2 ^ 32 →
+      Executes P (one_code Dec) 1 (view f pc ctrl (x ∷ temp) areas) (view f (pc + 1) ctrl ((x - 1) ∷ temp) areas)
+  pub neg_int : (x : ℤ) → is_int x ≡ true → is_int (pos 0 -ℤ x) ≡ true →
+      Executes P (one_code Neg) 1 (view f pc ctrl (word_of_int x ∷ temp) areas)
+      (view f (pc + 1) ctrl (word_of_int (pos 0 -ℤ x) ∷ temp) areas)
+  pub mult2_nat : (x : ℕ) → 2 * x < 2 ^ 32 →
+      Executes P (one_code Add) 1 (view f pc ctrl (x ∷ temp) areas) (view f (pc + 1) ctrl ((2 * x) ∷ temp) areas)
+  pub add_int_with_carry : (u : Bool) (y x : ℤ) → is_int y ≡ true → is_int x ≡ true →
+      Executes P (carry_code Addc Vs) 7 (view f pc ctrl (word_of_int x ∷ word_of_int y ∷ bit_of u ∷ temp) areas)
+      (view f (pc + 7) ctrl (int_carried (y +ℤ x +ℤ pos (bit_of u)) temp) areas)
+  pub sub_int_with_carry : (u : Bool) (y x : ℤ) → is_int y ≡ true → is_int x ≡ true →
+      Executes P (carry_code Subb Vs) 7 (view f pc ctrl (word_of_int x ∷ word_of_int y ∷ bit_of u ∷ temp) areas)
+      (view f (pc + 7) ctrl (int_carried (y -ℤ x -ℤ pos (bit_of u)) temp) areas)
+  pub add_nat_with_carry : (u : Bool) (y x : ℕ) →
+      Executes P (carry_code Addc Cs) 7 (view f pc ctrl (x ∷ y ∷ bit_of u ∷ temp) areas)
+      (view f (pc + 7) ctrl (nat_carried (pos y +ℤ pos x +ℤ pos (bit_of u)) temp) areas)
+  pub sub_nat_with_carry : (u : Bool) (y x : ℕ) → y < 2 ^ 32 → x < 2 ^ 32 →
+      Executes P (carry_code Subb Cs) 7 (view f pc ctrl (x ∷ y ∷ bit_of u ∷ temp) areas)
+      (view f (pc + 7) ctrl (nat_carried (pos y -ℤ pos x -ℤ pos (bit_of u)) temp) areas)
+  pub mult2_nat_with_carry_out : (x : ℕ) → HasRoom P (x ∷ temp) →
+      Executes P mult2_carry_code 5 (view f pc ctrl (x ∷ temp) areas)
+      (view f (pc + 5) ctrl (nat_carried (pos 2 *ℤ pos x) temp) areas)
+  pub div2_nat : (x : ℕ) → HasRoom P (x ∷ temp) →
+      Executes P div2_code 5 (view f pc ctrl (x ∷ temp) areas) (view f (pc + 5) ctrl ((x % 2) ∷ (x / 2) ∷ temp) areas)
+  pub or_bitv : (y x : ℕ) →
+      Executes P (two_code Or) 1 (view f pc ctrl (x ∷ y ∷ temp) areas) (view f (pc + 1) ctrl (bit_or x y ∷ temp) areas)
+  pub and_bitv : (y x : ℕ) →
+      Executes P (two_code And) 1 (view f pc ctrl (x ∷ y ∷ temp) areas) (view f (pc + 1) ctrl (bit_and x y ∷ temp) areas)
+  pub xor_bitv : (y x : ℕ) →
+      Executes P (two_code Xor) 1 (view f pc ctrl (x ∷ y ∷ temp) areas) (view f (pc + 1) ctrl (bit_xor x y ∷ temp) areas)
+  pub or_bool : (y x : Bool) →
+      Executes P (two_code Or) 1 (view f pc ctrl (bit_of x ∷ bit_of y ∷ temp) areas) (view f (pc + 1) ctrl (bit_of (y || x) ∷ temp) areas)
+  pub and_bool : (y x : Bool) →
+      Executes P (two_code And) 1 (view f pc ctrl (bit_of x ∷ bit_of y ∷ temp) areas) (view f (pc + 1) ctrl (bit_of (y && x) ∷ temp) areas)
+  pub not_bitv : (x : ℕ) →
+      Executes P (one_code Not) 1 (view f pc ctrl (x ∷ temp) areas) (view f (pc + 1) ctrl ((2 ^ 32 - 1 - x) ∷ temp) areas)
+  pub rsh_bitv : (x : ℕ) →
+      Executes P (one_code Lsr) 1 (view f pc ctrl (x ∷ temp) areas) (view f (pc + 1) ctrl ((x / 2) ∷ temp) areas)
+  pub lsh_bitv : (x : ℕ) →
+      Executes P (one_code Add) 1 (view f pc ctrl (x ∷ temp) areas) (view f (pc + 1) ctrl ((2 * x % 2 ^ 32) ∷ temp) areas)
+  pub not_bool : (x : Bool) →
+      Executes P not_bool_code 1 (view f pc ctrl (bit_of x ∷ temp) areas) (view f (pc + 1) ctrl (bit_of (not x) ∷ temp) areas)
+
+-- what the conditions of the tests say, after a word was moved
+pub record TestRows : Type 0 where
+  pub is_zero : (x : ℕ) → does_hold Zs (flags_of_word x) ≡ (x == 0)
+  pub not_zero : (x : ℕ) → does_hold Zc (flags_of_word x) ≡ not (x == 0)
+  pub is_zero_int : (x : ℤ) → is_int x ≡ true → does_hold Zs (flags_of_word (word_of_int x)) ≡ are_same_ints x (pos 0)
+  pub not_zero_int : (x : ℤ) → is_int x ≡ true → does_hold Zc (flags_of_word (word_of_int x)) ≡ not (are_same_ints x (pos 0))
+  pub is_neg : (x : ℤ) → is_int x ≡ true → does_hold Ns (flags_of_word (word_of_int x)) ≡ int_lt x (pos 0)
+  pub not_neg : (x : ℤ) → is_int x ≡ true → does_hold Nc (flags_of_word (word_of_int x)) ≡ not (int_lt x (pos 0))
+  pub is_pos : (x : ℤ) → is_int x ≡ true → does_hold Gt (flags_of_word (word_of_int x)) ≡ int_lt (pos 0) x
+  pub not_pos : (x : ℤ) → is_int x ≡ true → does_hold Le (flags_of_word (word_of_int x)) ≡ not (int_lt (pos 0) x)
+  pub is_true : (x : Bool) → does_hold Zc (flags_of_word (bit_of x)) ≡ x
+  pub is_false : (x : Bool) → does_hold Zs (flags_of_word (bit_of x)) ≡ not x

@@ -1,0 +1,16 @@
+//! The code of Piton's instructions on the FM9001: its words, and what they do.
+//!
+//! A program's memory has four parts: the code, areas, a control stack and a temporary stack.
+//! `word` has the notation of instruction words, and `template` the templates without literals.
+//! `move_rows`, `jump_rows`, `word_rows` and `test_rows` say what the words of each instruction do
+//! to the frame pointer, the program counter, both stacks and the areas, and in how many steps.
+//! Everything is said of numbers; how they stand for Piton's words is for the crates above.
+#![tactic(auto)]
+
+mod law;
+pub mod template;
+#[cfg(test)]
+mod tests;
+pub mod word;
+
+pub use law::{jump_rows, move_rows, test_rows, word_rows};
