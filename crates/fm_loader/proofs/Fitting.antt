@@ -7,10 +7,12 @@ use Rattle.stack_text.specs.declared.shape.Kind.{Kind}
 use Rattle.stack_text.specs.declared.shape.Kind.TheVariants.{Integer, Boolean, Character}
 use Rattle.stack_text.specs.declared.shape.Shape.{Shape}
 use Rattle.stack_text.specs.Values.{is_item, is_value}
-use Rattle.fm_loader.specs.declared.written.Scalar.{Scalar}
-use Rattle.fm_loader.specs.declared.written.Written.{Written}
-use Rattle.fm_loader.specs.declared.written.Written.TheVariants.{Single, Several}
-use Rattle.fm_loader.specs.Values.{is_kind, is_there, is_within, misfit, number_of, numbers_of}
+use Rattle.fm_loader.specs.declared.fault.Rule.{Rule}
+use Rattle.fm_loader.specs.declared.fault.Rule.TheVariants as rules
+use Rattle.fm_loader.specs.declared.parsed.Scalar.{Scalar}
+use Rattle.fm_loader.specs.declared.parsed.ParsedValue.{ParsedValue}
+use Rattle.fm_loader.specs.declared.parsed.ParsedValue.TheVariants.{Single, Several}
+use Rattle.fm_loader.specs.Values.{is_kind, is_there, is_within, mismatch, number_of, numbers_of}
 
 one_kind : (kind other : Kind) → is_kind kind other ≡ true → kind ≡ other
 one_kind Integer Integer h = refl
@@ -38,23 +40,23 @@ are_items kind (scalar ∷ scalars) same within =
     and_from _ _ (scalar_is_item kind scalar p.0 q.0) (are_items kind scalars p.1 q.1)
 
 -- what a chain of tests that each refuse lets pass
-passes : (a : Bool) (n : ℕ) (rest : Option ℕ) → cond (not a) (Some n) rest ≡ None → (a ≡ true) × (rest ≡ None)
+passes : (a : Bool) (n : Rule) (rest : Option Rule) → cond (not a) (Some n) rest ≡ None → (a ≡ true) × (rest ≡ None)
 passes true n rest h = (refl, h)
 passes false n rest h = cc
 
-either_passes : (a b : Bool) (n : ℕ) (rest : Option ℕ) → cond (a || not b) (Some n) rest ≡ None → (a ≡ false) × (b ≡ true) × (rest ≡ None)
+either_passes : (a b : Bool) (n : Rule) (rest : Option Rule) → cond (a || not b) (Some n) rest ≡ None → (a ≡ false) × (b ≡ true) × (rest ≡ None)
 either_passes true b n rest h = cc
 either_passes false true n rest h = (refl, refl, h)
 either_passes false false n rest h = cc
 
-pub fits_is_value : (shape : Shape) (value : Written) → misfit shape value ≡ None → is_value shape (numbers_of value) ≡ true
+pub fits_is_value : (shape : Shape) (value : ParsedValue) → mismatch shape value ≡ None → is_value shape (numbers_of value) ≡ true
 fits_is_value shape (Single scalar) h =
-    let p = passes (eqb shape.length 0 && is_kind shape.kind scalar.kind) 5 (cond (not (is_within scalar)) (Some 7) None) h in
+    let p = passes (eqb shape.length 0 && is_kind shape.kind scalar.kind) rules.Kind (cond (not (is_within scalar)) (Some rules.Range) None) h in
     let q = and_parts (eqb shape.length 0) (is_kind shape.kind scalar.kind) p.0 in
-    let r = passes (is_within scalar) 7 None p.1 in
+    let r = passes (is_within scalar) rules.Range None p.1 in
     rw (q.0, scalar_is_item shape.kind scalar q.1 r.0) refl
 fits_is_value shape (Several scalars) h =
-    let p = either_passes (eqb shape.length 0) (list_all (λ scalar. is_kind shape.kind scalar.kind) scalars) 5 (cond (not (eqb (length scalars) shape.length)) (Some 6) (cond (not (list_all is_within scalars)) (Some 7) None)) h in
-    let q = passes (eqb (length scalars) shape.length) 6 (cond (not (list_all is_within scalars)) (Some 7) None) p.2 in
-    let r = passes (list_all is_within scalars) 7 None q.1 in
+    let p = either_passes (eqb shape.length 0) (list_all (λ scalar. is_kind shape.kind scalar.kind) scalars) rules.Kind (cond (not (eqb (length scalars) shape.length)) (Some rules.Length) (cond (not (list_all is_within scalars)) (Some rules.Range) None)) h in
+    let q = passes (eqb (length scalars) shape.length) rules.Length (cond (not (list_all is_within scalars)) (Some rules.Range) None) p.2 in
+    let r = passes (list_all is_within scalars) rules.Range None q.1 in
     rw p.0 (and_from _ _ (eq-eqb _ _ (length-map scalars number_of ∙ eqb-true _ _ q.0)) (are_items shape.kind scalars p.1 r.0))

@@ -9,32 +9,34 @@ use Rattle.std.proofs.lemmas.Slice.Eq.{bytes_eq-Decides}
 use Rattle.stack_text.specs.declared.shape.Shape.{Shape}
 use Rattle.stack_text.specs.Values.{ValueOf}
 use Rattle.fm_image.specs.declared.slot.Slot.{Slot}
-use Rattle.fm_loader.specs.declared.written.Entry.{Entry}
+use Rattle.fm_loader.specs.declared.parsed.Entry.{Entry}
+use Rattle.fm_loader.specs.declared.fault.Rule.{Rule}
+use Rattle.fm_loader.specs.declared.fault.Rule.TheVariants as rules
 use Rattle.fm_loader.specs.declared.fault.ValuesFault.{ValuesFault}
 use Rattle.fm_loader.specs.declared.fault.ValuesFault.TheVariants.{Refused, Memory}
-use Rattle.fm_loader.specs.Gives.{Fails}
-use Rattle.fm_loader.specs.Values.{misfit, broken_by, unless_fault, value_or_fault, found_in, is_named, slot_named, rule_of, entry_fault, numbers_of, numbers_for, value_with, value_for, all_found, HaveOwnNames}
+use Rattle.fm_loader.specs.Rules.{rule_number, Fault, Fails}
+use Rattle.fm_loader.specs.Values.{mismatch, rule_broken, unless_fault, value_or_fault, found_in, is_named, slot_named, rule_of, fault_at, entry_fault, numbers_of, numbers_for, value_with, value_for, all_found, HaveOwnNames}
 use Rattle.fm_loader.proofs.Names.{not_equal, index_within, named_same}
 
 -- ---- all are there
 
-abbrev pub behind_values : List ValueOf → Result (List ValueOf) (ℕ × ℕ) → Result (List ValueOf) (ℕ × ℕ)
+abbrev pub behind_values : List ValueOf → Result (List ValueOf) Fault → Result (List ValueOf) Fault
 behind_values front (Ok others) = Ok (front ++ others)
 behind_values front (Err fault) = Err fault
 
-value_before : (place : ℕ) (front : List ValueOf) (x : ValueOf) (rest : List (Option ValueOf)) (r : Result (List ValueOf) (ℕ × ℕ)) → all_found place rest ≡ r → behind_values front (all_found place (Some x ∷ rest)) ≡ behind_values (front ++ x ∷ []) r
+value_before : (place : ℕ) (front : List ValueOf) (x : ValueOf) (rest : List (Option ValueOf)) (r : Result (List ValueOf) Fault) → all_found place rest ≡ r → behind_values front (all_found place (Some x ∷ rest)) ≡ behind_values (front ++ x ∷ []) r
 unfolding all_found
 value_before place front x rest (Ok others) e = rw e (ap Ok (sym (append_assoc front (x ∷ []) others)))
 value_before place front x rest (Err fault) e = rw e refl
 
-pub found_next : (place : ℕ) (front : List ValueOf) (x : ValueOf) (left rest : List (Option ValueOf)) (all : Result (List ValueOf) (ℕ × ℕ)) → left ≡ Some x ∷ rest → all ≡ behind_values front (all_found place left) → all ≡ behind_values (front ++ x ∷ []) (all_found place rest)
+pub found_next : (place : ℕ) (front : List ValueOf) (x : ValueOf) (left rest : List (Option ValueOf)) (all : Result (List ValueOf) Fault) → left ≡ Some x ∷ rest → all ≡ behind_values front (all_found place left) → all ≡ behind_values (front ++ x ∷ []) (all_found place rest)
 found_next place front x left rest all is so_far = so_far ∙ ap (λ (l : List (Option ValueOf)). behind_values front (all_found place l)) is ∙ value_before place front x rest (all_found place rest) refl
 
-pub found_stop : (place : ℕ) (front : List ValueOf) (left rest : List (Option ValueOf)) (all : Result (List ValueOf) (ℕ × ℕ)) → left ≡ None ∷ rest → all ≡ behind_values front (all_found place left) → all ≡ Err (4, place)
+pub found_stop : (place : ℕ) (front : List ValueOf) (left rest : List (Option ValueOf)) (all : Result (List ValueOf) Fault) → left ≡ None ∷ rest → all ≡ behind_values front (all_found place left) → all ≡ Err (rule_number rules.Missing, place)
 unfolding all_found
 found_stop place front left rest all is so_far = so_far ∙ ap (λ (l : List (Option ValueOf)). behind_values front (all_found place l)) is
 
-pub found_end : (place : ℕ) (front : List ValueOf) (left : List (Option ValueOf)) (all : Result (List ValueOf) (ℕ × ℕ)) → left ≡ [] → all ≡ behind_values front (all_found place left) → all ≡ Ok front
+pub found_end : (place : ℕ) (front : List ValueOf) (left : List (Option ValueOf)) (all : Result (List ValueOf) Fault) → left ≡ [] → all ≡ behind_values front (all_found place left) → all ≡ Ok front
 unfolding all_found
 found_end place front left all is so_far = so_far ∙ ap (λ (l : List (Option ValueOf)). behind_values front (all_found place l)) is ∙ ap Ok (append-nil front)
 
@@ -47,13 +49,13 @@ entry_behind : (entries : List Entry) (i : ℕ) (entry : Entry) → i < length e
 entry_behind entries i entry lt is = take_more entries i entry lt ∙ ap (λ (e : Entry). take i entries ++ e ∷ []) (sym is)
 
 -- the entry breaks a rule
-pub fault_now : (slots : List Slot) (entries : List Entry) (i : ℕ) (entry : Entry) (rule : ℕ) (all : Option (ℕ × ℕ)) → i < length entries → entry ≡ get_or entries i entry → rule_of slots (take i entries) entry ≡ Some rule
-    → all ≡ entry_fault slots (take i entries) (drop i entries) → all ≡ Some (rule, entry.place)
+pub fault_now : (slots : List Slot) (entries : List Entry) (i : ℕ) (entry : Entry) (rule : Rule) (all : Option Fault) → i < length entries → entry ≡ get_or entries i entry → rule_of slots (take i entries) entry ≡ Some rule
+    → all ≡ entry_fault slots (take i entries) (drop i entries) → all ≡ Some (fault_at entry.place rule)
 unfolding entry_fault
 fault_now slots entries i entry rule all lt is breaks so_far = so_far ∙ ap (entry_fault slots (take i entries)) (first_entry entries i entry lt is) ∙ rw breaks refl
 
 -- it breaks none
-pub fault_later : (slots : List Slot) (entries : List Entry) (i : ℕ) (entry : Entry) (all : Option (ℕ × ℕ)) → i < length entries → entry ≡ get_or entries i entry → rule_of slots (take i entries) entry ≡ None
+pub fault_later : (slots : List Slot) (entries : List Entry) (i : ℕ) (entry : Entry) (all : Option Fault) → i < length entries → entry ≡ get_or entries i entry → rule_of slots (take i entries) entry ≡ None
     → all ≡ entry_fault slots (take i entries) (drop i entries) → all ≡ entry_fault slots (take (i + 1) entries) (drop (i + 1) entries)
 unfolding entry_fault
 fault_later slots entries i entry all lt is breaks so_far =
@@ -127,51 +129,42 @@ within_found slots entries found index slot found_is at =
     let lt = index_within slots index slot at in
     omega (arith, lt, ap length found_is, length-map slots (value_for entries))
 
-refused : (slots : List Slot) (entries : List Entry) (i : ℕ) (entry : Entry) (rule : ℕ) → i < length entries → entry ≡ get_or entries i entry → rule_of slots (take i entries) entry ≡ Some rule
-    → entry_fault slots [] entries ≡ entry_fault slots (take i entries) (drop i entries) → found_in slots entries ≡ Err (rule, entry.place)
+refused : (slots : List Slot) (entries : List Entry) (i : ℕ) (entry : Entry) (rule : Rule) → i < length entries → entry ≡ get_or entries i entry → rule_of slots (take i entries) entry ≡ Some rule
+    → entry_fault slots [] entries ≡ entry_fault slots (take i entries) (drop i entries) → found_in slots entries ≡ Err (fault_at entry.place rule)
 refused slots entries i entry rule lt is breaks so_far = rw (fault_now slots entries i entry rule (entry_fault slots [] entries) lt is breaks so_far) refl
 
 pub no_such_slot : (slots : List Slot) (entries : List Entry) (i : ℕ) (entry : Entry) → i < length entries → entry ≡ get_or entries i entry → None ≡ slot_named entry.name slots
-    → entry_fault slots [] entries ≡ entry_fault slots (take i entries) (drop i entries) → found_in slots entries ≡ Err (2, entry.place)
-no_such_slot slots entries i entry lt is named so_far = refused slots entries i entry 2 lt is (rw (← named) refl) so_far
+    → entry_fault slots [] entries ≡ entry_fault slots (take i entries) (drop i entries) → found_in slots entries ≡ Err (fault_at entry.place rules.Unknown)
+no_such_slot slots entries i entry lt is named so_far = refused slots entries i entry rules.Unknown lt is (rw (← named) refl) so_far
 
-rule_at : (slots : List Slot) (earlier : List Entry) (entry : Entry) (slot : Slot) (b : Bool) → Some slot ≡ slot_named entry.name slots → b ≡ is_named entry.name earlier → rule_of slots earlier entry ≡ broken_by (Some slot) b entry.value
+rule_at : (slots : List Slot) (earlier : List Entry) (entry : Entry) (slot : Slot) (b : Bool) → Some slot ≡ slot_named entry.name slots → b ≡ is_named entry.name earlier → rule_of slots earlier entry ≡ rule_broken (Some slot) b entry.value
 rule_at slots earlier entry slot b named repeated = rw (← named, ← repeated) refl
 
 pub second_time : (slots : List Slot) (entries : List Entry) (i : ℕ) (entry : Entry) (slot : Slot) → i < length entries → entry ≡ get_or entries i entry → Some slot ≡ slot_named entry.name slots → true ≡ is_named entry.name (take i entries)
-    → entry_fault slots [] entries ≡ entry_fault slots (take i entries) (drop i entries) → found_in slots entries ≡ Err (3, entry.place)
-second_time slots entries i entry slot lt is named repeated so_far = refused slots entries i entry 3 lt is (rule_at slots (take i entries) entry slot true named repeated) so_far
+    → entry_fault slots [] entries ≡ entry_fault slots (take i entries) (drop i entries) → found_in slots entries ≡ Err (fault_at entry.place rules.Repeated)
+second_time slots entries i entry slot lt is named repeated so_far = refused slots entries i entry rules.Repeated lt is (rule_at slots (take i entries) entry slot true named repeated) so_far
 
 -- the rule of a value that doesn't fit
-unfit_rule : (m : Option ℕ) (place : ℕ) (value : ValueOf) (rule at : ℕ) → unless_fault (option_map (λ r. (r, place)) m) value ≡ Err (rule, at) → (m ≡ Some rule) × (place ≡ at)
-unfit_rule None place value rule at h = cc
-unfit_rule (Some r) place value rule at h =
-    (ap (λ (e : Result ValueOf (ℕ × ℕ)). fst_of e (Some r)) h, ap (λ (e : Result ValueOf (ℕ × ℕ)). snd_of e place) h)
-  where
-    fst_of : Result ValueOf (ℕ × ℕ) → Option ℕ → Option ℕ
-    fst_of (Ok v) o = o
-    fst_of (Err p) o = Some p.0
+unfit_rule : (m : Option Rule) (place : ℕ) (value : ValueOf) (fault : Fault) → unless_fault (option_map (fault_at place) m) value ≡ Err fault → (rule : Rule) × (m ≡ Some rule) × (fault_at place rule ≡ fault)
+unfit_rule None place value fault h = cc
+unfit_rule (Some rule) place value fault h = (rule, refl, cc)
 
-    snd_of : Result ValueOf (ℕ × ℕ) → ℕ → ℕ
-    snd_of (Ok v) n = n
-    snd_of (Err p) n = p.1
-
-fit_rule : (m : Option ℕ) (place : ℕ) (value v : ValueOf) → unless_fault (option_map (λ r. (r, place)) m) value ≡ Ok v → (m ≡ None) × (v ≡ value)
+fit_rule : (m : Option Rule) (place : ℕ) (value v : ValueOf) → unless_fault (option_map (fault_at place) m) value ≡ Ok v → (m ≡ None) × (v ≡ value)
 fit_rule None place value v h = (refl, cc)
-fit_rule (Some r) place value v h = cc
+fit_rule (Some rule) place value v h = cc
 
 pub unfit : (e : ValuesFault) (slots : List Slot) (entries : List Entry) (i : ℕ) (entry : Entry) (slot : Slot) → i < length entries → entry ≡ get_or entries i entry → Some slot ≡ slot_named entry.name slots → false ≡ is_named entry.name (take i entries)
     → Fails e (value_or_fault slot.shape entry) → entry_fault slots [] entries ≡ entry_fault slots (take i entries) (drop i entries) → Fails e (found_in slots entries)
 unfit Memory slots entries i entry slot lt is named new fails so_far = tt
 unfit (Refused rule place) slots entries i entry slot lt is named new fails so_far =
-    let p = unfit_rule (misfit slot.shape entry.value) entry.place (value_with slot.shape (numbers_of entry.value)) rule place fails in
-    refused slots entries i entry rule lt is (rule_at slots (take i entries) entry slot false named new ∙ p.0) so_far ∙ ap (λ (n : ℕ). Err (rule, n)) p.1
+    let p = unfit_rule (mismatch slot.shape entry.value) entry.place (value_with slot.shape (numbers_of entry.value)) (rule, place) fails in
+    refused slots entries i entry p.0 lt is (rule_at slots (take i entries) entry slot false named new ∙ p.1) so_far ∙ ap (λ (fault : Fault). Err fault) p.2
 
 pub one_more : (slots : List Slot) (entries : List Entry) (i : ℕ) (entry : Entry) (index : ℕ) (slot : Slot) (found : List (Option ValueOf)) (value : ValueOf) → HaveOwnNames slots → i < length entries → entry ≡ get_or entries i entry
     → Some slot ≡ slot_named entry.name slots → slice_get slots index ≡ Some slot → false ≡ is_named entry.name (take i entries) → value_or_fault slot.shape entry ≡ Ok value → found ≡ map (value_for (take i entries)) slots
     → slice_set found index (Some value) ≡ map (value_for (take (i + 1) entries)) slots
 one_more slots entries i entry index slot found value own lt is named at new fits found_is =
-    let p = fit_rule (misfit slot.shape entry.value) entry.place (value_with slot.shape (numbers_of entry.value)) value fits in
+    let p = fit_rule (mismatch slot.shape entry.value) entry.place (value_with slot.shape (numbers_of entry.value)) value fits in
     ap (λ (vs : List (Option ValueOf)). slice_set vs index (Some value)) found_is ∙ ap (λ (v : ValueOf). slice_set (map (value_for (take i entries)) slots) index (Some v)) p.1
     ∙ value_set slots index slot (take i entries) entry own at (named_same entry.name slots slot named) (sym new)
     ∙ ap (λ (es : List Entry). map (value_for es) slots) (sym (entry_behind entries i entry lt is))
@@ -179,7 +172,7 @@ one_more slots entries i entry index slot found value own lt is named at new fit
 pub breaks_none : (slots : List Slot) (entries : List Entry) (i : ℕ) (entry : Entry) (slot : Slot) (value : ValueOf) → i < length entries → entry ≡ get_or entries i entry → Some slot ≡ slot_named entry.name slots → false ≡ is_named entry.name (take i entries)
     → value_or_fault slot.shape entry ≡ Ok value → entry_fault slots [] entries ≡ entry_fault slots (take i entries) (drop i entries) → entry_fault slots [] entries ≡ entry_fault slots (take (i + 1) entries) (drop (i + 1) entries)
 breaks_none slots entries i entry slot value lt is named new fits so_far =
-    let p = fit_rule (misfit slot.shape entry.value) entry.place (value_with slot.shape (numbers_of entry.value)) value fits in
+    let p = fit_rule (mismatch slot.shape entry.value) entry.place (value_with slot.shape (numbers_of entry.value)) value fits in
     fault_later slots entries i entry (entry_fault slots [] entries) lt is (rule_at slots (take i entries) entry slot false named new ∙ p.0) so_far
 
 pub all_judged : (slots : List Slot) (entries : List Entry) (i : ℕ) (found : List (Option ValueOf)) → length entries ≤ i → found ≡ map (value_for (take i entries)) slots → entry_fault slots [] entries ≡ entry_fault slots (take i entries) (drop i entries) → found_in slots entries ≡ Ok found

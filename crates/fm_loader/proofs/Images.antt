@@ -14,39 +14,13 @@ use Rattle.fm_image.specs.declared.slot.Slot.{Slot}
 use Rattle.fm_image.specs.declared.window.Window.{Window}
 use Rattle.fm_image.specs.Image.{ImageOf, window_of, is_size, is_inside, is_slot, is_slot_address, all_behind, is_image}
 use Rattle.fm_image.proofs.Limits.{limits_of, sized}
+use Rattle.fm_image.proofs.NameLaws.{slots_differ}
 use Rattle.fm_loader.specs.Values.{HaveOwnNames}
 use Rattle.fm_loader.specs.Loaded.{HaveRoom}
 
-not_true : (b : Bool) → not b ≡ true → b ≡ false
-not_true true h = cc
-not_true false h = refl
-
-flipped : (name : List ℕ) (slots : List Slot) → list_any (λ other. bytes_eq other.name name) slots ≡ list_any (bytes_eq name) (map (λ s. s.name) slots)
-flipped name [] = refl
-flipped name (slot ∷ slots) = rw (nat_list_eq_equiv.symm slot.name name) (ap (λ (b : Bool). bytes_eq name slot.name || b) (flipped name slots))
-
--- ---- names
-
-names_behind : (window : Window) (earlier slots : List Slot) → IsDistinct bytes_eq (map (λ s. s.name) earlier) → all_behind (is_slot window) earlier slots ≡ true → IsDistinct bytes_eq (map (λ s. s.name) (earlier ++ slots))
-unfolding all_behind
-names_behind window earlier [] own h = subst (λ (ss : List Slot). IsDistinct bytes_eq (map (λ s. s.name) ss)) (sym (append-nil earlier)) own
-names_behind window earlier (slot ∷ slots) own h =
-    let p = and_parts (is_slot window earlier slot) (all_behind (is_slot window) (earlier ++ slot ∷ []) slots) h in
-    let q = and_parts ((is_name slot.name && not (list_any (λ other. bytes_eq other.name slot.name) earlier)) && leb slot.shape.length 4096) (is_slot_address window slot.shape slot.address) p.0 in
-    let r = and_parts (is_name slot.name && not (list_any (λ other. bytes_eq other.name slot.name) earlier)) (leb slot.shape.length 4096) q.0 in
-    let s = and_parts (is_name slot.name) (not (list_any (λ other. bytes_eq other.name slot.name) earlier)) r.0 in
-    let new : list_any (bytes_eq slot.name) (map (λ s. s.name) earlier) ≡ false = sym (flipped slot.name earlier) ∙ not_true (list_any (λ other. bytes_eq other.name slot.name) earlier) s.1 in
-    let more = IsDistinct-push nat_list_eq_equiv (map (λ s. s.name) earlier) slot.name own new in
-    subst (λ (ss : List Slot). IsDistinct bytes_eq (map (λ s. s.name) ss)) (append_assoc earlier (slot ∷ []) slots)
-    (names_behind window (earlier ++ slot ∷ []) slots (subst (IsDistinct bytes_eq) (sym (map_push (λ (s : Slot). s.name) earlier slot)) more) p.1)
-
-no_names : IsDistinct bytes_eq []
-unfolding IsDistinct
-no_names = tt
-
 -- the slots of an image have different names
 pub own_names : (image : ImageOf) → IsTrue (is_image image) → HaveOwnNames image.slots
-own_names image h = names_behind (window_of image) [] image.slots no_names (limits_of image h).slots
+own_names image h = slots_differ (window_of image) image.slots (limits_of image h).slots
 
 -- ---- room
 
@@ -59,7 +33,7 @@ room_behind window earlier (slot ∷ slots) h =
     let r = and_parts (leb (window.base + item_count slot.shape) (slot.address + 1)) (ltb slot.address (window.base + window.size)) q.1 in
     and_from _ _ r.0 (room_behind window (earlier ++ slot ∷ []) slots p.1)
 
--- the items of each slot stand in the window
+-- the items of each slot are in the window
 pub has_room : (image : ImageOf) → IsTrue (is_image image) → HaveRoom image.base image.slots
 has_room image h = room_behind (window_of image) [] image.slots (limits_of image h).slots
 

@@ -4,13 +4,13 @@ use Rattle.std.proofs.lemmas.List.{drop_all, drop_more, append-nil}
 use Rattle.stack_text.specs.Trees.{Node, more}
 use Rattle.stack_text.specs.TreeView.{node_of, nodes_of}
 use Rattle.stack_text.specs.declared.tree.Tree.{Tree}
-use Rattle.fm_loader.specs.declared.written.Scalar.{Scalar}
-use Rattle.fm_loader.specs.declared.written.Entry.{Entry}
+use Rattle.fm_loader.specs.declared.parsed.Scalar.{Scalar}
+use Rattle.fm_loader.specs.declared.parsed.Entry.{Entry}
 use Rattle.fm_loader.specs.declared.fault.ValuesFault.{ValuesFault}
 use Rattle.fm_loader.specs.declared.fault.ValuesFault.TheVariants.{Refused, Memory}
-use Rattle.fm_loader.specs.Written.{scalar_at, scalars_of, pair_of}
+use Rattle.fm_loader.specs.Parsed.{scalar_at, scalars_of, pair_of}
 use Rattle.fm_loader.specs.Values.{entry_at, entries_of}
-use Rattle.fm_loader.specs.Gives.{Fails}
+use Rattle.fm_loader.specs.Rules.{Fault, Fails}
 
 -- ---- the single values of a list
 
@@ -63,30 +63,30 @@ is_pair (a ∷ b ∷ c ∷ trees) first second two is is' = absurd (omega arith)
 
 -- ---- the entries of a text
 
-abbrev pub behind_entries : List Entry → Result (List Entry) (ℕ × ℕ) → Result (List Entry) (ℕ × ℕ)
+abbrev pub behind_entries : List Entry → Result (List Entry) Fault → Result (List Entry) Fault
 behind_entries front (Ok others) = Ok (front ++ others)
 behind_entries front (Err fault) = Err fault
 
-entry_before : (front : List Entry) (x : Entry) (tree : Node) (trees : List Tree) → entry_at tree ≡ Ok x → (rest : Result (List Entry) (ℕ × ℕ)) → entries_of (nodes_of trees) ≡ rest →
+entry_before : (front : List Entry) (x : Entry) (tree : Node) (trees : List Tree) → entry_at tree ≡ Ok x → (rest : Result (List Entry) Fault) → entries_of (nodes_of trees) ≡ rest →
     behind_entries front (entries_of (more tree (nodes_of trees))) ≡ behind_entries (front ++ x ∷ []) rest
 unfolding entries_of
 entry_before front x tree trees is (Ok others) e = rw (is, e) (ap Ok (sym (append_assoc front (x ∷ []) others)))
 entry_before front x tree trees is (Err fault) e = rw (is, e) refl
 
-pub entries_next : (trees : List Tree) (i : ℕ) (tree : Tree) (front : List Entry) (x : Entry) (all : Result (List Entry) (ℕ × ℕ)) → i < length trees → tree ≡ get_or trees i tree → entry_at (node_of tree) ≡ Ok x
+pub entries_next : (trees : List Tree) (i : ℕ) (tree : Tree) (front : List Entry) (x : Entry) (all : Result (List Entry) Fault) → i < length trees → tree ≡ get_or trees i tree → entry_at (node_of tree) ≡ Ok x
     → all ≡ behind_entries front (entries_of (nodes_of (drop i trees))) → all ≡ behind_entries (front ++ x ∷ []) (entries_of (nodes_of (drop (i + 1) trees)))
 entries_next trees i tree front x all lt is read so_far =
     so_far ∙ ap (λ (ts : List Tree). behind_entries front (entries_of (nodes_of ts))) (first_tree trees i tree lt is)
     ∙ entry_before front x (node_of tree) (drop (i + 1) trees) read (entries_of (nodes_of (drop (i + 1) trees))) refl
 
-pub entries_stop : (e : ValuesFault) (trees : List Tree) (i : ℕ) (tree : Tree) (front : List Entry) (all : Result (List Entry) (ℕ × ℕ)) → i < length trees → tree ≡ get_or trees i tree → Fails e (entry_at (node_of tree))
+pub entries_stop : (e : ValuesFault) (trees : List Tree) (i : ℕ) (tree : Tree) (front : List Entry) (all : Result (List Entry) Fault) → i < length trees → tree ≡ get_or trees i tree → Fails e (entry_at (node_of tree))
     → all ≡ behind_entries front (entries_of (nodes_of (drop i trees))) → Fails e all
 unfolding entries_of
 entries_stop Memory trees i tree front all lt is fails so_far = tt
 entries_stop (Refused rule place) trees i tree front all lt is fails so_far =
     so_far ∙ ap (λ (ts : List Tree). behind_entries front (entries_of (nodes_of ts))) (first_tree trees i tree lt is) ∙ rw fails refl
 
-pub entries_end : (trees : List Tree) (i : ℕ) (front : List Entry) (all : Result (List Entry) (ℕ × ℕ)) → length trees ≤ i → all ≡ behind_entries front (entries_of (nodes_of (drop i trees))) → all ≡ Ok front
+pub entries_end : (trees : List Tree) (i : ℕ) (front : List Entry) (all : Result (List Entry) Fault) → length trees ≤ i → all ≡ behind_entries front (entries_of (nodes_of (drop i trees))) → all ≡ Ok front
 unfolding entries_of
 entries_end trees i front all past so_far =
     so_far ∙ ap (λ (ts : List Tree). behind_entries front (entries_of (nodes_of ts))) (drop_all i trees past) ∙ ap Ok (append-nil front)

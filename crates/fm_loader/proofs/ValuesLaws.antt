@@ -16,19 +16,21 @@ use Rattle.stack_text.specs.TreeIn.{tree_in}
 use Rattle.stack_text.specs.Numerals.{is_digits, is_numeral, numeral_value}
 use Rattle.stack_text.specs.Values.{ValueOf, is_value}
 use Rattle.fm_image.specs.declared.slot.Slot.{Slot}
-use Rattle.fm_loader.specs.declared.written.Scalar.{Scalar}
-use Rattle.fm_loader.specs.declared.written.Written.{Written}
-use Rattle.fm_loader.specs.declared.written.Written.TheVariants.{Single, Several}
-use Rattle.fm_loader.specs.declared.written.Entry.{Entry}
+use Rattle.fm_loader.specs.declared.parsed.Scalar.{Scalar}
+use Rattle.fm_loader.specs.declared.parsed.ParsedValue.{ParsedValue}
+use Rattle.fm_loader.specs.declared.parsed.ParsedValue.TheVariants.{Single, Several}
+use Rattle.fm_loader.specs.declared.parsed.Entry.{Entry}
+use Rattle.fm_loader.specs.declared.fault.Rule.{Rule}
+use Rattle.fm_loader.specs.declared.fault.Rule.TheVariants as rules
 use Rattle.fm_loader.specs.declared.fault.ValuesFault.{ValuesFault}
 use Rattle.stack_text.specs.Options as options
 use Rattle.stack_text.specs.Results.{◌>>=◌}
 use Rattle.stack_text.proofs.ResultLaws.{bind_ok}
 use Rattle.stack_text.proofs.OptionLaws.{bind_some}
 use Rattle.fm_words.specs.Word.{is_int}
-use Rattle.fm_loader.specs.Written.{in_32_bits, character_of, scalar_of, scalar_at, scalars_of, written_of, name_at, pair_of, entry_of}
-use Rattle.fm_loader.specs.Values.{entry_at, entries_of, misfit, broken_by, slot_named, is_named, rule_of, entry_fault, number_of, numbers_of, numbers_for, value_with, value_for, unless_fault, found_in, all_found, values_at, values_on, values_in, HaveOwnNames}
-use Rattle.fm_loader.specs.Gives.{Gives}
+use Rattle.fm_loader.specs.Parsed.{in_32_bits, character_of, scalar_of, scalar_at, scalars_of, parsed_value, name_at, pair_of, entry_of}
+use Rattle.fm_loader.specs.Values.{entry_at, entries_of, mismatch, rule_broken, slot_named, is_named, rule_of, fault_at, entry_fault, number_of, numbers_of, numbers_for, value_with, value_for, unless_fault, found_in, all_found, values_at, values_on, values_in, HaveOwnNames}
+use Rattle.fm_loader.specs.Rules.{rule_number, Fault, Gives}
 use Rattle.fm_loader.specs.Loaded.{Fits}
 use Rattle.fm_loader.proofs.Names.{not_equal, index_within}
 use Rattle.fm_loader.proofs.Found.{at_slot}
@@ -45,7 +47,7 @@ all_there place (Some v ∷ found) values h =
     let whole : v ∷ p.0 ≡ values = cc (p.2) in
     ap (λ (vs : List (Option ValueOf)). Some v ∷ vs) (all_there place found p.0 p.1) ∙ ap (map Some) whole
 
-nothing_wrong : {A : Type 0} (fault : Option (ℕ × ℕ)) (x y : A) → unless_fault fault x ≡ Ok y → (fault ≡ None) × (x ≡ y)
+nothing_wrong : {A : Type 0} (fault : Option Fault) (x y : A) → unless_fault fault x ≡ Ok y → (fault ≡ None) × (x ≡ y)
 nothing_wrong None x y h = (refl, cc)
 nothing_wrong (Some fault) x y h = cc
 
@@ -106,36 +108,36 @@ fits_if_ok slots tree (Err fault) h = tt
 -- ---- each value is one of its shape
 
 -- the slot that an entry is judged by, and that its value fits
-judged_by : (o : Option Slot) (b : Bool) (value : Written) → broken_by o b value ≡ None → (slot : Slot) × (o ≡ Some slot) × (misfit slot.shape value ≡ None)
+judged_by : (o : Option Slot) (b : Bool) (value : ParsedValue) → rule_broken o b value ≡ None → (slot : Slot) × (o ≡ Some slot) × (mismatch slot.shape value ≡ None)
 judged_by None b value h = cc
 judged_by (Some slot) true value h = cc
 judged_by (Some slot) false value h = (slot, refl, h)
 
-both_none : (first second : Option (ℕ × ℕ)) → option_or first second ≡ None → (first ≡ None) × (second ≡ None)
+both_none : (first second : Option Fault) → option_or first second ≡ None → (first ≡ None) × (second ≡ None)
 both_none None second h = (refl, h)
 both_none (Some fault) second h = cc
 
-no_rule : (o : Option ℕ) (place : ℕ) → option_map {U = ℕ × ℕ} (λ rule. (rule, place)) o ≡ None → o ≡ None
+no_rule : (o : Option Rule) (place : ℕ) → option_map (fault_at place) o ≡ None → o ≡ None
 no_rule None place h = refl
 no_rule (Some rule) place h = cc
 
 -- the entry of a name, where no entry breaks a rule
 pub record Fitting (slots : List Slot) (name : List ℕ) (numbers : List ℤ) : Type 0 where
   pub slot : Slot
-  pub value : Written
+  pub value : ParsedValue
   pub named : slot_named name slots ≡ Some slot
-  pub fits : misfit slot.shape value ≡ None
+  pub fits : mismatch slot.shape value ≡ None
   pub numbers_are : numbers_of value ≡ numbers
 
 pub entry_fits : (slots : List Slot) (earlier entries : List Entry) (name : List ℕ) (numbers : List ℤ) → entry_fault slots earlier entries ≡ None → numbers_for name entries ≡ Some numbers → Fitting slots name numbers
 unfolding entry_fault
 entry_fits slots earlier [] name numbers right given = cc
 entry_fits slots earlier (entry ∷ entries) name numbers right given =
-    let p = both_none (option_map {U = ℕ × ℕ} (λ rule. (rule, entry.place)) (rule_of slots earlier entry)) (entry_fault slots (earlier ++ entry ∷ []) entries) right in
+    let p = both_none (option_map (fault_at entry.place) (rule_of slots earlier entry)) (entry_fault slots (earlier ++ entry ∷ []) entries) right in
     let j = judged_by (slot_named entry.name slots) (is_named entry.name earlier) entry.value (no_rule (rule_of slots earlier entry) entry.place p.0) in
     by_name (bytes_eq name entry.name) refl j given (λ later. entry_fits slots (earlier ++ entry ∷ []) entries name numbers p.1 later)
   where
-    by_name : (b : Bool) → bytes_eq name entry.name ≡ b → (slot : Slot) × (slot_named entry.name slots ≡ Some slot) × (misfit slot.shape entry.value ≡ None) → cond b (Some (numbers_of entry.value)) (numbers_for name entries) ≡ Some numbers
+    by_name : (b : Bool) → bytes_eq name entry.name ≡ b → (slot : Slot) × (slot_named entry.name slots ≡ Some slot) × (mismatch slot.shape entry.value ≡ None) → cond b (Some (numbers_of entry.value)) (numbers_for name entries) ≡ Some numbers
         → (numbers_for name entries ≡ Some numbers → Fitting slots name numbers) → Fitting slots name numbers
     by_name true e j given later = record { slot = j.0; value = entry.value; named = ap (λ (n : List ℕ). slot_named n slots) ((bytes_eq-Decides name entry.name).0 e) ∙ j.1; fits = j.2; numbers_are = cc }
     by_name false e j given later = later given
@@ -152,7 +154,7 @@ named_itself (s ∷ slots) (suc i) slot own at =
     let other : bytes_eq s.name slot.name ≡ false = ap (bytes_eq s.name) (sym (at_slot (λ (s : Slot). s.name) slots i slot slot.name at)) ∙ apart in
     rw (not_equal s.name slot.name other) (named_itself slots i slot (IsDistinct-tail bytes_eq s.name names own) at)
 
--- a slot and its value stand at one index
+-- a slot and its value are at one index
 pub record Paired (entries : List Entry) (slots : List Slot) (i : ℕ) (value : ValueOf) : Type 0 where
   pub slot : Slot
   pub at : slice_get slots i ≡ Some slot
@@ -185,7 +187,7 @@ values_are slots text values own h =
     let q = value_numbers p.slot.shape (numbers_for p.slot.name g.entries) value p.is in
     let f = entry_fits slots [] g.entries p.slot.name value.items g.right q.0 in
     let same : f.slot ≡ p.slot = let itself = named_itself slots i p.slot own p.at in let named = f.named in cc in
-    let fits : misfit value.shape f.value ≡ None = ap (λ (shape : Shape). misfit shape f.value) (q.1 ∙ sym (ap (λ (s : Slot). s.shape) same)) ∙ f.fits in
+    let fits : mismatch value.shape f.value ≡ None = ap (λ (shape : Shape). mismatch shape f.value) (q.1 ∙ sym (ap (λ (s : Slot). s.shape) same)) ∙ f.fits in
     subst (λ (items : List ℤ). is_value value.shape items ≡ true) f.numbers_are (fits_is_value value.shape f.value fits))
 
 -- ---- each item has 32 signed bits
@@ -235,31 +237,31 @@ scalars_bits (more tree trees) scalars h =
     let is : p.0 ∷ q.0 ≡ scalars = cc (q.2) in
     subst (λ (ss : List Scalar). are_bits (map number_of ss) ≡ true) is (and_from _ _ (scalar_at_bits tree p.0 p.1) (scalars_bits trees q.0 q.1))
 
-single_bits : (o : Option Scalar) (value : Written) → ((s : Scalar) → o ≡ Some s → is_int (number_of s) ≡ true) → option_map Single o ≡ Some value → are_bits (numbers_of value) ≡ true
+single_bits : (o : Option Scalar) (value : ParsedValue) → ((s : Scalar) → o ≡ Some s → is_int (number_of s) ≡ true) → option_map Single o ≡ Some value → are_bits (numbers_of value) ≡ true
 single_bits None value fits h = cc
-single_bits (Some s) value fits h = let is : Single s ≡ value = cc in subst (λ (w : Written). are_bits (numbers_of w) ≡ true) is (and_from _ _ (fits s refl) refl)
+single_bits (Some s) value fits h = let is : Single s ≡ value = cc in subst (λ (w : ParsedValue). are_bits (numbers_of w) ≡ true) is (and_from _ _ (fits s refl) refl)
 
-several_bits : (o : Option (List Scalar)) (value : Written) → ((ss : List Scalar) → o ≡ Some ss → are_bits (map number_of ss) ≡ true) → option_map Several o ≡ Some value → are_bits (numbers_of value) ≡ true
+several_bits : (o : Option (List Scalar)) (value : ParsedValue) → ((ss : List Scalar) → o ≡ Some ss → are_bits (map number_of ss) ≡ true) → option_map Several o ≡ Some value → are_bits (numbers_of value) ≡ true
 several_bits None value fits h = cc
-several_bits (Some ss) value fits h = let is : Several ss ≡ value = cc in subst (λ (w : Written). are_bits (numbers_of w) ≡ true) is (fits ss refl)
+several_bits (Some ss) value fits h = let is : Several ss ≡ value = cc in subst (λ (w : ParsedValue). are_bits (numbers_of w) ≡ true) is (fits ss refl)
 
-written_bits : (tree : Node) (value : Written) → written_of tree ≡ Some value → are_bits (numbers_of value) ≡ true
-unfolding written_of
-written_bits (atom place word) value h = single_bits (scalar_of word) value (scalar_bits word) h
-written_bits (list place trees) value h = several_bits (scalars_of trees) value (scalars_bits trees) h
+value_bits : (tree : Node) (value : ParsedValue) → parsed_value tree ≡ Some value → are_bits (numbers_of value) ≡ true
+unfolding parsed_value
+value_bits (atom place word) value h = single_bits (scalar_of word) value (scalar_bits word) h
+value_bits (list place trees) value h = several_bits (scalars_of trees) value (scalars_bits trees) h
 
 entry_bits : (tree : Node) (entry : Entry) → entry_of tree ≡ Some entry → are_bits (numbers_of entry.value) ≡ true
 unfolding entry_of
 entry_bits (atom place word) entry h = cc
 entry_bits (list place trees) entry h =
-    let p = bind_some (pair_of trees) (λ pair. options.◌>>=◌ (name_at pair.0) (λ name. options.◌>>=◌ (written_of pair.1) (λ value. Some (record { place = place; name = name; value = value })))) entry h in
-    let q = bind_some (name_at p.0.0) (λ name. options.◌>>=◌ (written_of p.0.1) (λ value. Some (record { place = place; name = name; value = value }))) entry p.2 in
-    let r = bind_some (written_of p.0.1) (λ value. Some (record { place = place; name = q.0; value = value })) entry q.2 in
+    let p = bind_some (pair_of trees) (λ pair. options.◌>>=◌ (name_at pair.0) (λ name. options.◌>>=◌ (parsed_value pair.1) (λ value. Some (record { place = place; name = name; value = value })))) entry h in
+    let q = bind_some (name_at p.0.0) (λ name. options.◌>>=◌ (parsed_value p.0.1) (λ value. Some (record { place = place; name = name; value = value }))) entry p.2 in
+    let r = bind_some (parsed_value p.0.1) (λ value. Some (record { place = place; name = q.0; value = value })) entry q.2 in
     let made : Entry = record { place = place; name = q.0; value = r.0 } in
     let is : made ≡ entry = cc (r.2) in
-    subst (λ (e : Entry). are_bits (numbers_of e.value) ≡ true) is (written_bits p.0.1 r.0 r.1)
+    subst (λ (e : Entry). are_bits (numbers_of e.value) ≡ true) is (value_bits p.0.1 r.0 r.1)
 
-entry_ok : (o : Option Entry) (fault : ℕ × ℕ) (entry : Entry) → ok_or o fault ≡ Ok entry → o ≡ Some entry
+entry_ok : (o : Option Entry) (fault : Fault) (entry : Entry) → ok_or o fault ≡ Ok entry → o ≡ Some entry
 entry_ok None fault entry h = cc
 entry_ok (Some e) fault entry h = cc
 
@@ -273,7 +275,7 @@ entries_bits (more tree trees) entries h =
     let p = bind_ok (entry_at tree) (λ entry. entries_of trees >>= λ others. Ok (entry ∷ others)) entries h in
     let q = bind_ok (entries_of trees) (λ others. Ok (p.0 ∷ others)) entries p.2 in
     let is : p.0 ∷ q.0 ≡ entries = cc (q.2) in
-    subst (λ (es : List Entry). are_entries_bits es ≡ true) is (and_from _ _ (entry_bits tree p.0 (entry_ok (entry_of tree) (1, place_of tree) p.0 p.1)) (entries_bits trees q.0 q.1))
+    subst (λ (es : List Entry). are_entries_bits es ≡ true) is (and_from _ _ (entry_bits tree p.0 (entry_ok (entry_of tree) (rule_number rules.Form, place_of tree) p.0 p.1)) (entries_bits trees q.0 q.1))
 
 numbers_bits : (name : List ℕ) (entries : List Entry) (numbers : List ℤ) → are_entries_bits entries ≡ true → numbers_for name entries ≡ Some numbers → are_bits numbers ≡ true
 numbers_bits name [] numbers fit h = cc

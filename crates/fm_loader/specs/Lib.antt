@@ -1,4 +1,5 @@
-pub mod Written
+-- what is promised
+pub mod Parsed
+pub mod Rules
 pub mod Values
-pub mod Gives
 pub mod Loaded

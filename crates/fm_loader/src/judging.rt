@@ -3,11 +3,11 @@
 ghost use Rattle.std.specs.Prelude.{◌≡◌, map, length, replicate, None, Some, IfOk, IfSome, option_map, slice_get};
 ghost use Rattle.std.specs.List.{list_all};
 ghost use Rattle.stack_text.specs.Gives as memory;
-ghost use Rattle.fm_loader.specs.Gives.{Gives};
-ghost use Rattle.fm_loader.specs.Values.{is_kind, is_within, single_misfit, array_misfit, misfit, value_or_fault, number_of, numbers_of, slot_named, found_in, all_found, HaveOwnNames};
+ghost use Rattle.fm_loader.specs.Rules.{Gives};
+ghost use Rattle.fm_loader.specs.Values.{is_kind, is_within, single_mismatch, array_mismatch, mismatch, value_or_fault, number_of, numbers_of, slot_named, found_in, all_found, HaveOwnNames};
 
-use crate::fault::ValuesFault;
-use crate::written::{Entry, Scalar, Written};
+use crate::fault::{Rule, ValuesFault, refused};
+use crate::parsed::{Entry, Scalar, ParsedValue};
 use fm_image::Slot;
 use indexmap::IndexSet;
 use stack_text::{Kind, Memory, Shape, Value};
@@ -45,41 +45,41 @@ fn are_within(scalars: &[Scalar]) -> bool
 }
 
 /// The rule by which a single value doesn't fit the shape, if there is one.
-fn single_misfit(shape: Shape, scalar: Scalar) -> Option<u8>
-    ensures { result ≡ single_misfit shape scalar }
+fn single_mismatch(shape: Shape, scalar: Scalar) -> Option<Rule>
+    ensures { result ≡ single_mismatch shape scalar }
 {
     if shape.length != 0 || !is_kind(shape.kind, scalar.kind) {
-        return Some(5);
+        return Some(Rule::Kind);
     }
     if !is_within(scalar) {
-        return Some(7);
+        return Some(Rule::Range);
     }
     None
 }
 
 /// The rule by which the values of an array don't fit the shape, if there is one.
-fn array_misfit(shape: Shape, scalars: &[Scalar]) -> Option<u8>
-    ensures { result ≡ array_misfit shape scalars.now }
+fn array_mismatch(shape: Shape, scalars: &[Scalar]) -> Option<Rule>
+    ensures { result ≡ array_mismatch shape scalars.now }
 {
     if shape.length == 0 || !are_of_kind(shape.kind, scalars) {
-        return Some(5);
+        return Some(Rule::Kind);
     }
     if scalars.len() != shape.length as usize {
-        return Some(6);
+        return Some(Rule::Length);
     }
     if !are_within(scalars) {
-        return Some(7);
+        return Some(Rule::Range);
     }
     None
 }
 
 /// The rule by which a value doesn't fit the shape, if there is one.
-fn misfit(shape: Shape, value: &Written) -> Option<u8>
-    ensures { result ≡ misfit shape value.now }
+fn mismatch(shape: Shape, value: &ParsedValue) -> Option<Rule>
+    ensures { result ≡ mismatch shape value.now }
 {
     match value {
-        Written::Single(scalar) => single_misfit(shape, *scalar),
-        Written::Several(scalars) => array_misfit(shape, scalars.as_slice()),
+        ParsedValue::Single(scalar) => single_mismatch(shape, *scalar),
+        ParsedValue::Several(scalars) => array_mismatch(shape, scalars.as_slice()),
     }
 }
 
@@ -102,12 +102,12 @@ fn array_numbers(alloc: Global, scalars: &[Scalar]) -> Result<Vec<i32>, Memory>
 }
 
 /// The numbers of a value.
-fn numbers(alloc: Global, value: &Written) -> Result<Vec<i32>, Memory>
+fn numbers(alloc: Global, value: &ParsedValue) -> Result<Vec<i32>, Memory>
     ensures { memory.Returns (λ numbers. numbers.items) result (numbers_of value.now) }
 {
     match value {
-        Written::Single(scalar) => array_numbers(alloc, &[*scalar]),
-        Written::Several(scalars) => array_numbers(alloc, scalars.as_slice()),
+        ParsedValue::Single(scalar) => array_numbers(alloc, &[*scalar]),
+        ParsedValue::Several(scalars) => array_numbers(alloc, scalars.as_slice()),
     }
 }
 
@@ -115,11 +115,8 @@ fn numbers(alloc: Global, value: &Written) -> Result<Vec<i32>, Memory>
 fn value(alloc: Global, shape: Shape, entry: &Entry) -> Result<Value, ValuesFault>
     ensures { Gives (λ value. value) result (value_or_fault shape entry.now) }
 {
-    if let Some(rule) = misfit(shape, &entry.value) {
-        return Err(ValuesFault::Refused {
-            rule,
-            place: entry.place,
-        });
+    if let Some(rule) = mismatch(shape, &entry.value) {
+        return Err(refused(rule, entry.place));
     }
     let items = numbers(alloc, &entry.value)?;
     Ok(Value { shape, items })
@@ -177,10 +174,10 @@ pub(crate) fn found(
     for entry in entries {
         let place = entry.place;
         let Some((index, slot)) = slot_named(&names, slots, entry.name.bytes()) else {
-            return Err(ValuesFault::Refused { rule: 2, place });
+            return Err(refused(Rule::Unknown, place));
         };
         if found[index].is_some() {
-            return Err(ValuesFault::Refused { rule: 3, place });
+            return Err(refused(Rule::Repeated, place));
         }
         found[index] = Some(value(alloc, slot.shape, entry)?);
     }
@@ -199,7 +196,7 @@ pub(crate) fn all_found(
     for value in found {
         match value {
             Some(value) => values.push(value)?,
-            None => return Err(ValuesFault::Refused { rule: 4, place }),
+            None => return Err(refused(Rule::Missing, place)),
         }
     }
     Ok(values)

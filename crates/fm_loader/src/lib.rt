@@ -8,7 +8,7 @@ mod reading;
 #[cfg(test)]
 mod tests;
 mod values;
-mod written;
+mod parsed;
 
 pub use fault::ValuesFault;
 pub use loading::load;

@@ -4,16 +4,16 @@ ghost use Rattle.std.specs.Prelude.{◌≡◌, IsTrue, option_map};
 ghost use Rattle.stack_text.specs.Gives as memory;
 ghost use Rattle.stack_text.specs.Numerals.{is_numeral, numeral_value};
 ghost use Rattle.stack_text.specs.TreeView.{node_of, nodes_of};
-ghost use Rattle.fm_loader.specs.Gives.{Gives};
-ghost use Rattle.fm_loader.specs.Written.{in_32_bits, character_of, scalar_of, scalar_at, scalars_of, written_of, name_at, pair_of, entry_of};
+ghost use Rattle.fm_loader.specs.Rules.{Gives};
+ghost use Rattle.fm_loader.specs.Parsed.{in_32_bits, character_of, scalar_of, scalar_at, scalars_of, parsed_value, name_at, pair_of, entry_of};
 ghost use Rattle.fm_loader.specs.Values.{entries_of, entry_at};
 
-use crate::fault::ValuesFault;
-use crate::written::{Entry, Scalar, Written};
+use crate::fault::{Rule, ValuesFault, refused};
+use crate::parsed::{Entry, Scalar, ParsedValue};
 use stack_text::{Kind, Memory, Name, Seq, Tree, is_digits, is_numeral, read_name, read_numeral};
 use std::alloc::Global;
 
-/// What the numeral stands for, where that has 32 signed bits.
+/// The number of a numeral, where that has 32 signed bits.
 fn number(numeral: &[u8]) -> Option<i32>
     requires { IsTrue (is_numeral numeral.now) }
     ensures { result ≡ in_32_bits (numeral_value numeral.now) }
@@ -24,7 +24,7 @@ fn number(numeral: &[u8]) -> Option<i32>
     }
 }
 
-/// The character that `#` and digits stand for.
+/// The character of `#` and digits.
 fn character(word: &[u8]) -> Option<Scalar>
     ensures { result ≡ character_of word.now }
 {
@@ -43,7 +43,7 @@ fn character(word: &[u8]) -> Option<Scalar>
 }
 
 /// The single value that a word is, if it is one.
-#[tactic(auto, unfolding(crate::specs::Written::scalar_of))]
+#[tactic(auto, unfolding(crate::specs::Parsed::scalar_of))]
 fn scalar(word: &[u8]) -> Option<Scalar>
     ensures { result ≡ scalar_of word.now }
 {
@@ -93,17 +93,17 @@ fn scalars(alloc: Global, trees: &[Tree]) -> Result<Option<Seq<Scalar>>, Memory>
 }
 
 /// The value that a tree is, if it is one.
-#[tactic(auto, unfolding(crate::specs::Written::written_of))]
-fn written(alloc: Global, tree: &Tree) -> Result<Option<Written>, Memory>
-    ensures { memory.Returns (λ written. written) result (written_of (node_of tree.now)) }
+#[tactic(auto, unfolding(crate::specs::Parsed::parsed_value))]
+fn parsed_value(alloc: Global, tree: &Tree) -> Result<Option<ParsedValue>, Memory>
+    ensures { memory.Returns (λ value. value) result (parsed_value (node_of tree.now)) }
 {
     match tree {
         Tree::Atom { place: _, text } => match scalar(text) {
-            Some(scalar) => Ok(Some(Written::Single(scalar))),
+            Some(scalar) => Ok(Some(ParsedValue::Single(scalar))),
             None => Ok(None),
         },
         Tree::List { place: _, items } => match scalars(alloc, items)? {
-            Some(scalars) => Ok(Some(Written::Several(scalars))),
+            Some(scalars) => Ok(Some(ParsedValue::Several(scalars))),
             None => Ok(None),
         },
     }
@@ -130,7 +130,7 @@ fn pair(trees: &[Tree]) -> Option<(&Tree, &Tree)>
 }
 
 /// The entry that a tree is, if it is one.
-#[tactic(auto, unfolding(crate::specs::Written::entry_of))]
+#[tactic(auto, unfolding(crate::specs::Parsed::entry_of))]
 fn entry(alloc: Global, tree: &Tree) -> Result<Option<Entry>, Memory>
     ensures { memory.Returns (λ entry. entry) result (entry_of (node_of tree.now)) }
 {
@@ -143,7 +143,7 @@ fn entry(alloc: Global, tree: &Tree) -> Result<Option<Entry>, Memory>
     let Some(name) = name(alloc, first)? else {
         return Ok(None);
     };
-    let Some(value) = written(alloc, second)? else {
+    let Some(value) = parsed_value(alloc, second)? else {
         return Ok(None);
     };
     Ok(Some(Entry {
@@ -159,10 +159,7 @@ fn entry_or_fault(alloc: Global, tree: &Tree) -> Result<Entry, ValuesFault>
 {
     match entry(alloc, tree)? {
         Some(entry) => Ok(entry),
-        None => Err(ValuesFault::Refused {
-            rule: 1,
-            place: tree.place(),
-        }),
+        None => Err(refused(Rule::Form, tree.place())),
     }
 }
 

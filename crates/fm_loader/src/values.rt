@@ -2,11 +2,11 @@
 
 ghost use Rattle.std.specs.Prelude.{◌≡◌, ◌≤◌, ◌^◌, length, IfOk};
 ghost use Rattle.stack_text.specs.TreeView.{node_of};
-ghost use Rattle.fm_loader.specs.Gives.{Gives};
+ghost use Rattle.fm_loader.specs.Rules.{Gives};
 ghost use Rattle.fm_loader.specs.Loaded.{Fits};
 ghost use Rattle.fm_loader.specs.Values.{values_at, values_in, HaveOwnNames};
 
-use crate::fault::ValuesFault;
+use crate::fault::{Rule, ValuesFault, refused};
 use crate::judging::{all_found, found};
 use crate::reading::entries;
 use fm_image::Slot;
@@ -20,10 +20,7 @@ fn values(alloc: Global, tree: &Tree, slots: &[Slot]) -> Result<Vec<Value>, Valu
     ensures { Gives (λ values. values.items) result (values_at slots.now (node_of tree.now)) }
 {
     match tree {
-        Tree::Atom { place, text: _ } => Err(ValuesFault::Refused {
-            rule: 1,
-            place: *place,
-        }),
+        Tree::Atom { place, text: _ } => Err(refused(Rule::Form, *place)),
         Tree::List { place, items } => {
             let entries = entries(alloc, items)?;
             let found = found(alloc, slots, &entries)?;
@@ -38,7 +35,7 @@ fn values(alloc: Global, tree: &Tree, slots: &[Slot]) -> Result<Vec<Value>, Valu
 ///
 /// # Errors
 ///
-/// The rule that the text breaks, with its place, as `ValuesFault` lists them; or want of memory.
+/// The rule that the text breaks, with its place, as `ValuesFault` lists them; or out of memory.
 #[tactic(auto, unfolding(crate::specs::Values::values_in))]
 pub fn read_values(alloc: Global, text: &[u8], slots: &[Slot]) -> Result<Vec<Value>, ValuesFault>
     requires text { length text.now ≤ 2 ^ 31 }
@@ -50,7 +47,7 @@ pub fn read_values(alloc: Global, text: &[u8], slots: &[Slot]) -> Result<Vec<Val
 {
     match read_tree(alloc, text) {
         Ok(tree) => values(alloc, &tree, slots),
-        Err(TextFault::Fault { rule: _, place }) => Err(ValuesFault::Refused { rule: 1, place }),
+        Err(TextFault::Fault { rule: _, place }) => Err(refused(Rule::Form, place)),
         Err(TextFault::Memory) => Err(ValuesFault::Memory),
     }
 }

@@ -10,7 +10,7 @@ loop-value-preserved c =
 
 pub returns-in-None-value : goal.returns-in-None-value
 returns-in-None-value c =
-    found_stop c.args.place c.loop-value.values.items c.loop-value.value-iterator.rest.items c.next.new.self.rest.items (all_found c.args.place c.args.found.items) (rw c.in-None-value.is at c.in-Some.ensures.steps.0) c.loop-value.invariant
+    rw c.refused.ensures (found_stop c.args.place c.loop-value.values.items c.loop-value.value-iterator.rest.items c.next.new.self.rest.items (all_found c.args.place c.args.found.items) (rw c.in-None-value.is at c.in-Some.ensures.steps.0) c.loop-value.invariant)
 
 pub returns : goal.returns
 returns c =

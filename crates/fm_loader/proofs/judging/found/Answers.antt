@@ -8,7 +8,7 @@ loop-entry-init c = record { found_is = sym c.in_ok-found.ensures ∙ nothing_ye
 
 pub returns-in_default : goal.returns-in_default
 returns-in_default c =
-    no_such_slot c.args.slots.now c.args.entries.now c.loop-entry.entry-index c.entry-item.result c.loop-entry-test.true c.entry-item.is (rw c.bytes.ensures.bytes at c.in_default.ensures.slot) c.loop-entry.invariant.fault_is
+    rw c.refused.ensures (no_such_slot c.args.slots.now c.args.entries.now c.loop-entry.entry-index c.entry-item.result c.loop-entry-test.true c.entry-item.is (rw c.bytes.ensures.bytes at c.in_default.ensures.slot) c.loop-entry.invariant.fault_is)
 
 pub index-requires : goal.index-requires
 index-requires c =
@@ -18,7 +18,7 @@ index-requires c =
 pub returns-then-is_some : goal.returns-then-is_some
 returns-then-is_some c =
     let repeated = is_repeated c.args.slots.now (take c.loop-entry.entry-index c.args.entries.now) c.entry-item.result.name c.in-Some.index c.in-Some.slot.now c.loop-entry.found.items c.index.result.now (rw c.bytes.ensures.bytes at c.in-Some.ensures.slot) c.in-Some.ensures.position c.index.ensures c.loop-entry.invariant.found_is in
-    second_time c.args.slots.now c.args.entries.now c.loop-entry.entry-index c.entry-item.result c.in-Some.slot.now c.loop-entry-test.true c.entry-item.is (rw c.bytes.ensures.bytes at c.in-Some.ensures.slot) (c.if-is_some.ensures ∙ repeated) c.loop-entry.invariant.fault_is
+    rw c.refused-then-is_some.ensures (second_time c.args.slots.now c.args.entries.now c.loop-entry.entry-index c.entry-item.result c.in-Some.slot.now c.loop-entry-test.true c.entry-item.is (rw c.bytes.ensures.bytes at c.in-Some.ensures.slot) (c.if-is_some.ensures ∙ repeated) c.loop-entry.invariant.fault_is)
 
 pub returns-in_err-value : goal.returns-in_err-value
 returns-in_err-value c =

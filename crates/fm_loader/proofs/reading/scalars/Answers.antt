@@ -1,5 +1,5 @@
 use Rattle.stack_text.specs.TreeView.{nodes_of}
-use Rattle.fm_loader.specs.Written.{scalars_of}
+use Rattle.fm_loader.specs.Parsed.{scalars_of}
 use Rattle.fm_loader.proofs.Trees.{scalars_next, scalars_stop, scalars_end}
 use Rattle.fm_loader.proofs.reading.scalars.Goals as goal
 

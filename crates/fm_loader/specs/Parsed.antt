@@ -8,10 +8,10 @@ use Rattle.stack_text.specs.Options.{◌>>=◌}
 use Rattle.stack_text.specs.Numerals.{is_digits, is_numeral, numeral_value}
 use Rattle.stack_text.specs.Names.{name_of}
 use Rattle.stack_text.specs.Trees.{Node, Nodes, atom, list, none, more}
-use Rattle.fm_loader.specs.declared.written.Scalar.{Scalar}
-use Rattle.fm_loader.specs.declared.written.Written.{Written}
-use Rattle.fm_loader.specs.declared.written.Written.TheVariants.{Single, Several}
-use Rattle.fm_loader.specs.declared.written.Entry.{Entry}
+use Rattle.fm_loader.specs.declared.parsed.Scalar.{Scalar}
+use Rattle.fm_loader.specs.declared.parsed.ParsedValue.{ParsedValue}
+use Rattle.fm_loader.specs.declared.parsed.ParsedValue.TheVariants.{Single, Several}
+use Rattle.fm_loader.specs.declared.parsed.Entry.{Entry}
 
 -- the number, where it has 32 signed bits
 abbrev pub in_32_bits : ℤ → Option ℤ
@@ -20,7 +20,8 @@ in_32_bits number = if is_int number then Some number else None
 -- `#` and digits
 abbrev pub character_of : List ℕ → Option Scalar
 character_of [] = None
-character_of (mark ∷ digits) = if mark == 35 && is_digits digits then Some (record { kind = Character; number = in_32_bits (numeral_value digits) }) else None
+character_of (mark ∷ digits) =
+    if mark == 35 && is_digits digits then Some (record { kind = Character; number = in_32_bits (numeral_value digits) }) else None
 
 -- `true`, `false`, a numeral, or a character
 unfoldable pub scalar_of : List ℕ → Option Scalar
@@ -41,9 +42,9 @@ scalars_of (more tree trees) = do
   Some (first ∷ others)
 
 -- a single value, or those of an array in parentheses
-unfoldable pub written_of : Node → Option Written
-written_of (atom place word) = option_map Single (scalar_of word)
-written_of (list place trees) = option_map Several (scalars_of trees)
+unfoldable pub parsed_value : Node → Option ParsedValue
+parsed_value (atom place word) = option_map Single (scalar_of word)
+parsed_value (list place trees) = option_map Several (scalars_of trees)
 
 abbrev pub name_at : Node → Option (List ℕ)
 name_at (atom place word) = name_of word
@@ -60,5 +61,5 @@ entry_of (atom place word) = None
 entry_of (list place trees) = do
   pair ← pair_of trees
   name ← name_at pair.0
-  value ← written_of pair.1
+  value ← parsed_value pair.1
   Some (record { place = place; name = name; value = value })

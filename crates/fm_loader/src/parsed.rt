@@ -12,7 +12,7 @@ pub struct Scalar {
 
 /// A value.
 #[derive(Debug, Drop)]
-pub enum Written {
+pub enum ParsedValue {
     Single(Scalar),
     /// Those of an array, in parentheses.
     Several(Seq<Scalar>),
@@ -23,5 +23,5 @@ pub enum Written {
 pub struct Entry {
     pub place: u32,
     pub name: Name,
-    pub value: Written,
+    pub value: ParsedValue,
 }

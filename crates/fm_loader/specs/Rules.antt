@@ -1,0 +1,33 @@
+-- The rules of values files, and what a call says that breaks one.
+use Rattle.std.specs.Prelude.{ℕ, Option, Some, None, Result}
+use Rattle.stack_text.specs.Gives as common
+use Rattle.fm_loader.specs.declared.fault.Rule.{Rule}
+use Rattle.fm_loader.specs.declared.fault.Rule.TheVariants as rules
+use Rattle.fm_loader.specs.declared.fault.ValuesFault.{ValuesFault}
+use Rattle.fm_loader.specs.declared.fault.ValuesFault.TheVariants.{Refused, Memory}
+
+-- V1 to V7
+abbrev pub rule_number : Rule → ℕ
+rule_number rules.Form = 1
+rule_number rules.Unknown = 2
+rule_number rules.Repeated = 3
+rule_number rules.Missing = 4
+rule_number rules.Kind = 5
+rule_number rules.Length = 6
+rule_number rules.Range = 7
+
+-- the number of a rule, and a place
+abbrev pub Fault : Type 0
+Fault = ℕ × ℕ
+
+abbrev pub fault_of : ValuesFault → Option Fault
+fault_of (Refused rule place) = Some (rule, place)
+fault_of Memory = None
+
+-- the fault is the definition's; out of memory alone is free
+abbrev pub Fails : {Y : Type 0} → ValuesFault → Result Y Fault → Type 0
+Fails fault value = common.Fails (fault_of fault) value
+
+-- the call returned exactly what the definition gives, seen through the view
+abbrev pub Gives : {X Y : Type 0} → (X → Y) → Result X ValuesFault → Result Y Fault → Type 0
+Gives view result value = common.Gives fault_of view result value
