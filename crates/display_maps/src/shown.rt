@@ -1,10 +1,10 @@
 //! What a word of memory says.
 
 ghost use Rattle.std.specs.Prelude.{◌≡◌, ◌≤◌, ◌-◌, ◌++◌, slice_get, IfOk, OnOk};
-ghost use Rattle.fm_words.specs.Word.{signed_of};
 ghost use Rattle.display_maps.specs.Reading.{named_or_odd, condition_of, item_of};
 ghost use Rattle.display_maps.specs.Report.{shown_text};
 
+use fm_words::signed_of;
 use stack_text::{Kind, Memory, Name};
 use std::alloc::Global;
 
@@ -25,13 +25,6 @@ pub enum Shown {
     Code(u8),
     /// A word that is the number of no condition, or that the type does not have.
     Odd(u32),
-}
-
-/// The signed reading of a word.
-fn signed(word: u32) -> i32
-    ensures { result ≡ signed_of word }
-{
-    word.cast_signed()
 }
 
 /// The named condition of a number, where there is one.
@@ -64,7 +57,7 @@ pub fn item_of(kind: Kind, word: u32) -> Shown
     ensures { result ≡ item_of kind word }
 {
     match kind {
-        Kind::Integer => Shown::Number(signed(word)),
+        Kind::Integer => Shown::Number(signed_of(word)),
         Kind::Boolean => match word {
             0 => Shown::Truth(false),
             1 => Shown::Truth(true),

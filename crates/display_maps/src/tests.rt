@@ -1,5 +1,7 @@
 //! Readings and reports by hand.
 
+mod limits;
+
 use crate::{read_up, report};
 use fm_image::{Image, read_image};
 use fm_machine::Machine;

@@ -4,7 +4,7 @@ use Rattle.stack_text.specs.Values.{item_count}
 use Rattle.fm_machine.specs.State.{Fm}
 use Rattle.display_maps.specs.declared.shown.Shown.{Shown}
 use Rattle.display_maps.specs.Reading.{word_of, item_of, words_down}
-use Rattle.display_maps.proofs.Items.{items_next}
+use Rattle.display_maps.proofs.ItemLaws.{items_next}
 use Rattle.display_maps.proofs.reading.items_of.Goals as goal
 
 pub loop-preserved : goal.loop-preserved
