@@ -31,7 +31,7 @@ digits_ascii (d ∷ ds) h (suc i) = digits_ascii ds (and_parts (is_ascii_digit d
 digits_are_numeral : (ds : List ℕ) → is_digits ds ≡ true → IsNumeral 10 ds
 digits_are_numeral ds h = let p = and_parts (ltb 0 (length ds)) (list_all is_ascii_digit ds) h in (ltb-true 0 (length ds) p.0, all_digits ds p.1)
 
--- no plus stands before digits
+-- there is no plus before digits
 pub no_plus : (ds : List ℕ) → is_digits ds ≡ true → without_leading_plus ds ≡ ds
 no_plus [] h = absurd cc
 no_plus (d ∷ ds) h =
@@ -54,13 +54,13 @@ numeral_ascii bytes h = by_sign (starts_with_minus bytes) refl
     second : (ds : List ℕ) → is_digits ds ≡ true → list_all is_ascii_digit ds ≡ true
     second ds k = (and_parts (ltb 0 (length ds)) (list_all is_ascii_digit ds) k).1
 
-    behind_minus : (bs : List ℕ) → starts_with_minus bs ≡ true → list_all is_ascii_digit (drop 1 bs) ≡ true → IsAscii bs
-    behind_minus [] e k i = omega arith
-    behind_minus (b ∷ bs) e k zero = omega (arith, eqb-true b 45 e)
-    behind_minus (b ∷ bs) e k (suc i) = digits_ascii bs k i
+    after_minus : (bs : List ℕ) → starts_with_minus bs ≡ true → list_all is_ascii_digit (drop 1 bs) ≡ true → IsAscii bs
+    after_minus [] e k i = omega arith
+    after_minus (b ∷ bs) e k zero = omega (arith, eqb-true b 45 e)
+    after_minus (b ∷ bs) e k (suc i) = digits_ascii bs k i
 
     by_sign : (b : Bool) → starts_with_minus bytes ≡ b → IsAscii bytes
-    by_sign true e = behind_minus bytes e (second (drop 1 bytes) (subst (λ (b : Bool). is_digits (cond b (drop 1 bytes) bytes) ≡ true) e h))
+    by_sign true e = after_minus bytes e (second (drop 1 bytes) (subst (λ (b : Bool). is_digits (cond b (drop 1 bytes) bytes) ≡ true) e h))
     by_sign false e = digits_ascii bytes (second bytes (subst (λ (b : Bool). is_digits (cond b (drop 1 bytes) bytes) ≡ true) e h))
 
 fits_from_test : (z : ℤ) → fits_128_bits z ≡ true → FitsSigned w128 z

@@ -5,8 +5,8 @@ use Rattle.std.proofs.lemmas.Bool.{lt-ltb, le-ltb}
 use Rattle.stack_text.specs.Tokens.{Token, opens_at, closes_at, atom_at, between, tokens}
 use Rattle.stack_text.specs.Trees.{Node, tokens_of, tokens_of_all, as_kept}
 use Rattle.stack_text.specs.TreeView.{nodes, node_of, nodes_of}
-use Rattle.stack_text.specs.TextFaults.{Standing, before, within, behind, open_lists, behind_tree, fault, text_fault}
-use Rattle.stack_text.specs.OpenLists.{opened, standing_from, standing, Puts, Steps, ReadsText, Finishes}
+use Rattle.stack_text.specs.TextFaults.{Context, before, within, after, open_lists, after_tree, fault, text_fault}
+use Rattle.stack_text.specs.OpenLists.{opened, context_from, context, Puts, Steps, ReadsText, Finishes}
 use Rattle.stack_text.specs.declared.reader.OpenList.{OpenList}
 use Rattle.stack_text.specs.declared.tree.Tree.{Tree}
 use Rattle.stack_text.specs.declared.tree.Tree.TheBlock.{Atom}
@@ -22,9 +22,9 @@ opened-push (x ∷ os) o =
     ap (λ (ts : List Token). opens_at x.place ∷ (tokens_of_all (nodes_of x.items.items) ++ ts)) (opened-push os o)
     ∙ ap (λ (ts : List Token). opens_at x.place ∷ ts) (sym (append_assoc (tokens_of_all (nodes_of x.items.items)) (opened os) (opens_at o.place ∷ tokens_of_all (nodes_of o.items.items))))
 
-pub standing_from-push : (s : Standing) (os : List OpenList) (o : OpenList) → standing_from s (os ++ o ∷ []) ≡ within o.place (standing_from s os)
-standing_from-push s [] o = refl
-standing_from-push s (x ∷ os) o = standing_from-push (within x.place s) os o
+pub context_from-push : (s : Context) (os : List OpenList) (o : OpenList) → context_from s (os ++ o ∷ []) ≡ within o.place (context_from s os)
+context_from-push s [] o = refl
+context_from-push s (x ∷ os) o = context_from-push (within x.place s) os o
 
 pub tokens_of_all-push : (ts : List Node) (t : Node) → tokens_of_all (nodes (ts ++ t ∷ [])) ≡ tokens_of_all (nodes ts) ++ tokens_of t
 tokens_of_all-push [] t = append-nil (tokens_of t)
@@ -34,7 +34,7 @@ pub tokens_of_all-nodes_of-push : (ts : List Tree) (t : Tree) → tokens_of_all 
 tokens_of_all-nodes_of-push ts t = ap (λ (us : List Node). tokens_of_all (nodes us)) (map_push node_of ts t) ∙ tokens_of_all-push (map node_of ts) (node_of t)
 
 pub puts : (old rest new : List OpenList) (o p : OpenList) (t : Tree) → old ≡ rest ++ o ∷ [] → new ≡ rest ++ p ∷ [] → p.place ≡ o.place → p.items.items ≡ o.items.items ++ t ∷ [] →
-    (opened new ≡ opened old ++ tokens_of (node_of t)) × (standing new ≡ behind_tree (standing old))
+    (opened new ≡ opened old ++ tokens_of (node_of t)) × (context new ≡ after_tree (context old))
 puts old rest new o p t old_is new_is place_is items_is = (
   ap opened new_is ∙ opened-push rest p
       ∙ ap (λ (q : ℕ). opened rest ++ (opens_at q ∷ tokens_of_all (nodes_of p.items.items))) place_is
@@ -42,48 +42,48 @@ puts old rest new o p t old_is new_is place_is items_is = (
       ∙ ap (λ (ts : List Token). opened rest ++ (opens_at o.place ∷ ts)) (tokens_of_all-nodes_of-push o.items.items t)
       ∙ sym (append_assoc (opened rest) (opens_at o.place ∷ tokens_of_all (nodes_of o.items.items)) (tokens_of (node_of t)))
       ∙ ap (λ (ts : List Token). ts ++ tokens_of (node_of t)) (sym (opened-push rest o) ∙ sym (ap opened old_is)),
-  ap standing new_is ∙ standing_from-push before rest p ∙ ap (λ (q : ℕ). within q (standing rest)) place_is
-      ∙ sym (ap behind_tree (ap standing old_is ∙ standing_from-push before rest o)),
+  ap context new_is ∙ context_from-push before rest p ∙ ap (λ (q : ℕ). within q (context rest)) place_is
+      ∙ sym (ap after_tree (ap context old_is ∙ context_from-push before rest o)),
 )
 
--- ---- what a token makes of the standing
+-- ---- what a token makes of the context
 
-never_behind : (s : Standing) (os : List OpenList) → s ≢ behind → standing_from s os ≢ behind
-never_behind s [] ne = ne
-never_behind s (o ∷ os) ne = never_behind (within o.place s) os (λ e. cc)
+never_after : (s : Context) (os : List OpenList) → s ≢ after → context_from s os ≢ after
+never_after s [] ne = ne
+never_after s (o ∷ os) ne = never_after (within o.place s) os (λ e. cc)
 
-pub open_lists-standing_from : (s : Standing) (os : List OpenList) → open_lists (standing_from s os) ≡ open_lists s + length os
-open_lists-standing_from s [] = omega arith
-open_lists-standing_from s (o ∷ os) = omega (arith, open_lists-standing_from (within o.place s) os)
+pub open_lists-context_from : (s : Context) (os : List OpenList) → open_lists (context_from s os) ≡ open_lists s + length os
+open_lists-context_from s [] = omega arith
+open_lists-context_from s (o ∷ os) = omega (arith, open_lists-context_from (within o.place s) os)
 
-fault-atom_at : (s : Standing) (p : ℕ) (w : List ℕ) (end : ℕ) (ts : List Token) → s ≢ behind → fault end s (atom_at p w ∷ ts) ≡ fault end (behind_tree s) ts
+fault-atom_at : (s : Context) (p : ℕ) (w : List ℕ) (end : ℕ) (ts : List Token) → s ≢ after → fault end s (atom_at p w ∷ ts) ≡ fault end (after_tree s) ts
 fault-atom_at before p w end ts ne = refl
 fault-atom_at (within q s) p w end ts ne = refl
-fault-atom_at behind p w end ts ne = absurd (ne refl)
+fault-atom_at after p w end ts ne = absurd (ne refl)
 
-fault-open : (s : Standing) (p end : ℕ) (ts : List Token) → s ≢ behind → open_lists s < 200 → fault end s (opens_at p ∷ ts) ≡ fault end (within p s) ts
+fault-open : (s : Context) (p end : ℕ) (ts : List Token) → s ≢ after → open_lists s < 200 → fault end s (opens_at p ∷ ts) ≡ fault end (within p s) ts
 fault-open before p end ts ne lt = refl
 fault-open (within q s) p end ts ne lt = rw (lt-ltb (suc (open_lists s)) 200 lt) refl
-fault-open behind p end ts ne lt = absurd (ne refl)
+fault-open after p end ts ne lt = absurd (ne refl)
 
-fault-deep : (s : Standing) (p end : ℕ) (ts : List Token) → 200 ≤ open_lists s → fault end s (opens_at p ∷ ts) ≡ Some (G4, p)
+fault-deep : (s : Context) (p end : ℕ) (ts : List Token) → 200 ≤ open_lists s → fault end s (opens_at p ∷ ts) ≡ Some (G4, p)
 fault-deep before p end ts le = absurd (omega arith)
 fault-deep (within q s) p end ts le = rw (le-ltb (suc (open_lists s)) 200 le) refl
-fault-deep behind p end ts le = absurd (omega arith)
+fault-deep after p end ts le = absurd (omega arith)
 
 -- ---- the steps
 
 steps_put : (old rest new : List OpenList) (tok : Token) (t : Tree) (r : Result (Option Tree) TextFault) → Puts rest t r new → opened old ++ as_kept tok ∷ [] ≡ opened rest ++ tokens_of (node_of t) →
-    ((end : ℕ) (ts : List Token) → fault end (standing old) (tok ∷ ts) ≡ fault end (behind_tree (standing rest)) ts) → Steps old tok r new
-steps_put old rest new tok t (Ok None) h e f = (e ∙ sym h.0, λ end ts. f end ts ∙ ap (λ (s : Standing). fault end s ts) (sym h.1))
+    ((end : ℕ) (ts : List Token) → fault end (context old) (tok ∷ ts) ≡ fault end (after_tree (context rest)) ts) → Steps old tok r new
+steps_put old rest new tok t (Ok None) h e f = (e ∙ sym h.0, λ end ts. f end ts ∙ ap (λ (s : Context). fault end s ts) (sym h.1))
 steps_put old rest new tok t (Ok (Some u)) h e f =
-    (e ∙ ap (λ (os : List OpenList). opened os ++ tokens_of (node_of t)) h.0 ∙ ap (λ (x : Tree). tokens_of (node_of x)) (sym h.1), λ end ts. f end ts ∙ ap (λ (os : List OpenList). fault end (behind_tree (standing os)) ts) h.0)
+    (e ∙ ap (λ (os : List OpenList). opened os ++ tokens_of (node_of t)) h.0 ∙ ap (λ (x : Tree). tokens_of (node_of x)) (sym h.1), λ end ts. f end ts ∙ ap (λ (os : List OpenList). fault end (after_tree (context os)) ts) h.0)
 steps_put old rest new tok t (Err (Fault r p)) h e f = absurd h
 steps_put old rest new tok t (Err Memory) h e f = tt
 
 pub steps_atom : (old new : List OpenList) (p : ℕ) (w : List ℕ) (v : Vec ℕ Global) (r : Result (Option Tree) TextFault) → v.items ≡ w → Puts old (Atom p v) r new → Steps old (atom_at p w) r new
 steps_atom old new p w v r is h =
-    steps_put old old new (atom_at p w) (Atom p v) r h (ap (λ (x : List ℕ). opened old ++ atom_at p x ∷ []) (sym is) ∙ ap (λ (n : Node). opened old ++ tokens_of n) (sym (node_of-atom p v))) (λ end ts. fault-atom_at (standing old) p w end ts (never_behind before old (λ e. cc)))
+    steps_put old old new (atom_at p w) (Atom p v) r h (ap (λ (x : List ℕ). opened old ++ atom_at p x ∷ []) (sym is) ∙ ap (λ (n : Node). opened old ++ tokens_of n) (sym (node_of-atom p v))) (λ end ts. fault-atom_at (context old) p w end ts (never_after before old (λ e. cc)))
 
 pub steps_close : (old rest new : List OpenList) (o : OpenList) (q : ℕ) (r : Result (Option Tree) TextFault) → old ≡ rest ++ o ∷ [] → Puts rest (MadeList o.place o.items) r new → Steps old (closes_at q) r new
 steps_close old rest new o q r is h =
@@ -91,28 +91,28 @@ steps_close old rest new o q r is h =
     (ap (λ (os : List OpenList). opened os ++ closes_at 0 ∷ []) is ∙ ap (λ (ts : List Token). ts ++ closes_at 0 ∷ []) (opened-push rest o)
     ∙ append_assoc (opened rest) (opens_at o.place ∷ tokens_of_all (nodes_of o.items.items)) (closes_at 0 ∷ [])
     ∙ ap (λ (n : Node). opened rest ++ tokens_of n) (sym (node_of-list o.place o.items)))
-    (λ end ts. ap (λ (s : Standing). fault end s (closes_at q ∷ ts)) (ap standing is ∙ standing_from-push before rest o))
+    (λ end ts. ap (λ (s : Context). fault end s (closes_at q ∷ ts)) (ap context is ∙ context_from-push before rest o))
 
 pub steps_open : (old new : List OpenList) (p : ℕ) (v : Vec Tree Global) → v.items ≡ [] → length old < 200 → new ≡ old ++ record { place = p; items = v } ∷ [] → Steps old (opens_at p) (Ok None) new
 steps_open old new p v none_yet lt is = (
   sym (ap opened is ∙ opened-push old (record { place = p; items = v }) ∙ ap (λ (ts : List Tree). opened old ++ (opens_at p ∷ tokens_of_all (nodes_of ts))) none_yet),
-  λ end ts. fault-open (standing old) p end ts (never_behind before old (λ e. cc)) (omega (arith, open_lists-standing_from before old))
-      ∙ ap (λ (s : Standing). fault end s ts) (sym (ap standing is ∙ standing_from-push before old (record { place = p; items = v }))),
+  λ end ts. fault-open (context old) p end ts (never_after before old (λ e. cc)) (omega (arith, open_lists-context_from before old))
+      ∙ ap (λ (s : Context). fault end s ts) (sym (ap context is ∙ context_from-push before old (record { place = p; items = v }))),
 )
 
 pub steps_deep : (old new : List OpenList) (p : ℕ) → 200 ≤ length old → Steps old (opens_at p) (Err (Fault G4 p)) new
-steps_deep old new p le = λ end ts. fault-deep (standing old) p end ts (omega (arith, open_lists-standing_from before old))
+steps_deep old new p le = λ end ts. fault-deep (context old) p end ts (omega (arith, open_lists-context_from before old))
 
 -- ---- what a step says of the whole text
 
-pub text_ends : (text : List ℕ) (old new : List OpenList) (tok : Token) (e : TextFault) (ts : List Token) → Steps old tok (Err e) new → text_fault text ≡ fault (length text) (standing old) (tok ∷ ts) → ReadsText text (Err e)
+pub text_ends : (text : List ℕ) (old new : List OpenList) (tok : Token) (e : TextFault) (ts : List Token) → Steps old tok (Err e) new → text_fault text ≡ fault (length text) (context old) (tok ∷ ts) → ReadsText text (Err e)
 text_ends text old new tok (Fault r p) ts h is = is ∙ h (length text) ts
 text_ends text old new tok Memory ts h is = tt
 
 pub text_finishes : (text : List ℕ) (old new : List OpenList) (tok : Token) (t : Tree) (ts : List Token) (r : Result Tree TextFault) → Steps old tok (Ok (Some t)) new → Finishes (length text) t ts r →
-    map as_kept (tokens between 0 text) ≡ opened old ++ map as_kept (tok ∷ ts) → text_fault text ≡ fault (length text) (standing old) (tok ∷ ts) → ReadsText text r
+    map as_kept (tokens between 0 text) ≡ opened old ++ map as_kept (tok ∷ ts) → text_fault text ≡ fault (length text) (context old) (tok ∷ ts) → ReadsText text r
 text_finishes text old new tok t ts (Ok u) h f kept_is fault_is = (
-  fault_is ∙ h.1 (length text) ts ∙ ap (λ (us : List Token). fault (length text) behind us) f.0,
+  fault_is ∙ h.1 (length text) ts ∙ ap (λ (us : List Token). fault (length text) after us) f.0,
   kept_is ∙ ap (λ (us : List Token). opened old ++ map as_kept (tok ∷ us)) f.0 ∙ h.0 ∙ ap (λ (x : Tree). tokens_of (node_of x)) (sym f.1),
 )
 text_finishes text old new tok t ts (Err (Fault r p)) h f kept_is fault_is = fault_is ∙ h.1 (length text) ts ∙ f
@@ -121,5 +121,5 @@ text_finishes text old new tok t ts (Err Memory) h f kept_is fault_is = absurd f
 pub kept_goes_on : (all : List Token) (old new : List OpenList) (tok : Token) (ts : List Token) → Steps old tok (Ok None) new → all ≡ opened old ++ map as_kept (tok ∷ ts) → all ≡ opened new ++ map as_kept ts
 kept_goes_on all old new tok ts h is = is ∙ sym (append_assoc (opened old) (as_kept tok ∷ []) (map as_kept ts)) ∙ ap (λ (us : List Token). us ++ map as_kept ts) h.0
 
-pub unfinished : (text : List ℕ) (os rest : List OpenList) (o : OpenList) → os ≡ rest ++ o ∷ [] → text_fault text ≡ fault (length text) (standing os) [] → text_fault text ≡ Some (G2, o.place)
-unfinished text os rest o is h = h ∙ ap (λ (s : Standing). fault (length text) s []) (ap standing is ∙ standing_from-push before rest o)
+pub unfinished : (text : List ℕ) (os rest : List OpenList) (o : OpenList) → os ≡ rest ++ o ∷ [] → text_fault text ≡ fault (length text) (context os) [] → text_fault text ≡ Some (G2, o.place)
+unfinished text os rest o is h = h ∙ ap (λ (s : Context). fault (length text) s []) (ap context is ∙ context_from-push before rest o)

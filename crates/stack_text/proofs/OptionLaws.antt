@@ -7,6 +7,6 @@ pub bind_some : {A B : Type 0} (o : Option A) (go : A → Option B) (y : B) → 
 bind_some (Some x) go y h = (x, refl, h)
 bind_some None go y h = absurd cc
 
--- behind a step that came to a value
+-- after a step that came to a value
 pub bind_at : {A B : Type 0} (o : Option A) (go : A → Option B) (x : A) → o ≡ Some x → (o >>= go) ≡ go x
 bind_at {A} {B} o go x e = ap (λ (s : Option A). s >>= go) e

@@ -7,6 +7,6 @@ pub bind_ok : {A B F : Type 0} (r : Result A F) (go : A → Result B F) (y : B) 
 bind_ok (Ok x) go y h = (x, refl, h)
 bind_ok (Err fault) go y h = absurd cc
 
--- behind a step that came to a value
+-- after a step that came to a value
 pub bind_at : {A B F : Type 0} (r : Result A F) (go : A → Result B F) (x : A) → r ≡ Ok x → (r >>= go) ≡ go x
 bind_at {A} {B} {F} r go x e = ap (λ (s : Result A F). s >>= go) e

@@ -117,7 +117,7 @@ mutual
         as_deep = ap (λ (n : ℕ). max n (depths others.as_read)) first.as_deep ∙ ap (max (depth t)) others.as_deep;
       }
 
--- A text that spells a tree with any separators between items, and perhaps some behind it, is read as that tree but for places.
+-- A text that spells a tree with any separators between items, and perhaps some after it, is read as that tree but for places.
 pub spelled_is_read : (t : Node) (text gap : List ℕ) → IsWellFormed t → Spells t text → IsWhitespace gap → ReadsAs (text ++ gap) t
 spelled_is_read t text gap form h blank =
     let l = lies t 0 text gap form.atoms h (gap_stops gap blank) in

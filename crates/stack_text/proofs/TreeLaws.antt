@@ -5,7 +5,7 @@ use Rattle.std.proofs.lemmas.Bool.{lt-ltb, ltb-true}
 use Rattle.std.proofs.lemmas.List.{append-nil}
 use Rattle.stack_text.specs.Tokens.{Token, opens_at, closes_at, atom_at, invalid_at, between, tokens}
 use Rattle.stack_text.specs.Trees.{Node, Nodes, atom, list, none, more, tokens_of, tokens_of_all, depth, depths, as_kept, TreeOf}
-use Rattle.stack_text.specs.TextFaults.{Standing, before, within, behind, open_lists, behind_tree, fault, text_fault, TellsFault}
+use Rattle.stack_text.specs.TextFaults.{Context, before, within, after, open_lists, after_tree, fault, text_fault, ReportsFault}
 use Rattle.stack_text.specs.OpenLists.{ReadsText}
 use Rattle.stack_text.specs.TreeView.{node_of}
 use Rattle.stack_text.specs.declared.tree.Tree.{Tree}
@@ -48,36 +48,36 @@ if_same true x y z e = e
 if_same false x y z e = refl
 
 -- the place of a closing parenthesis is nothing to whether there is a fault
-fault-as_kept : (end : ℕ) (s : Standing) (ts : List Token) → is_some (fault end s ts) ≡ is_some (fault end s (map as_kept ts))
+fault-as_kept : (end : ℕ) (s : Context) (ts : List Token) → is_some (fault end s ts) ≡ is_some (fault end s (map as_kept ts))
 fault-as_kept end before [] = refl
 fault-as_kept end (within p s) [] = refl
-fault-as_kept end behind [] = refl
+fault-as_kept end after [] = refl
 fault-as_kept end before (opens_at q ∷ ts) = fault-as_kept end (within q before) ts
 fault-as_kept end before (closes_at q ∷ ts) = refl
-fault-as_kept end before (atom_at q w ∷ ts) = fault-as_kept end behind ts
+fault-as_kept end before (atom_at q w ∷ ts) = fault-as_kept end after ts
 fault-as_kept end before (invalid_at q ∷ ts) = refl
 fault-as_kept end (within p s) (opens_at q ∷ ts) = if_same (ltb (open_lists (within p s)) 200) (fault end (within q (within p s)) ts) (fault end (within q (within p s)) (map as_kept ts)) (G4, q) (fault-as_kept end (within q (within p s)) ts)
-fault-as_kept end (within p s) (closes_at q ∷ ts) = fault-as_kept end (behind_tree s) ts
+fault-as_kept end (within p s) (closes_at q ∷ ts) = fault-as_kept end (after_tree s) ts
 fault-as_kept end (within p s) (atom_at q w ∷ ts) = fault-as_kept end (within p s) ts
 fault-as_kept end (within p s) (invalid_at q ∷ ts) = refl
-fault-as_kept end behind (opens_at q ∷ ts) = refl
-fault-as_kept end behind (closes_at q ∷ ts) = refl
-fault-as_kept end behind (atom_at q w ∷ ts) = refl
-fault-as_kept end behind (invalid_at q ∷ ts) = refl
+fault-as_kept end after (opens_at q ∷ ts) = refl
+fault-as_kept end after (closes_at q ∷ ts) = refl
+fault-as_kept end after (atom_at q w ∷ ts) = refl
+fault-as_kept end after (invalid_at q ∷ ts) = refl
 
 mutual
-  pub fault-tokens_of : (t : Node) (end : ℕ) (s : Standing) (ts : List Token) → s ≢ behind → depth t + open_lists s ≤ 200 → fault end s (tokens_of t ++ ts) ≡ fault end (behind_tree s) ts
+  pub fault-tokens_of : (t : Node) (end : ℕ) (s : Context) (ts : List Token) → s ≢ after → depth t + open_lists s ≤ 200 → fault end s (tokens_of t ++ ts) ≡ fault end (after_tree s) ts
   fault-tokens_of (atom p w) end before ts ne le = refl
   fault-tokens_of (atom p w) end (within q s) ts ne le = refl
-  fault-tokens_of (atom p w) end behind ts ne le = absurd (ne refl)
+  fault-tokens_of (atom p w) end after ts ne le = absurd (ne refl)
   fault-tokens_of (list p us) end before ts ne le =
       ap (fault end (within p before)) (append_assoc (tokens_of_all us) (closes_at 0 ∷ []) ts) ∙ fault-tokens_of_all us end p before (closes_at 0 ∷ ts) (omega arith)
   fault-tokens_of (list p us) end (within q s) ts ne le =
       rw (lt-ltb (suc (open_lists s)) 200 (omega arith))
       (ap (fault end (within p (within q s))) (append_assoc (tokens_of_all us) (closes_at 0 ∷ []) ts) ∙ fault-tokens_of_all us end p (within q s) (closes_at 0 ∷ ts) (omega arith))
-  fault-tokens_of (list p us) end behind ts ne le = absurd (ne refl)
+  fault-tokens_of (list p us) end after ts ne le = absurd (ne refl)
 
-  pub fault-tokens_of_all : (us : Nodes) (end p : ℕ) (s : Standing) (ts : List Token) → depths us + open_lists (within p s) ≤ 200 → fault end (within p s) (tokens_of_all us ++ ts) ≡ fault end (within p s) ts
+  pub fault-tokens_of_all : (us : Nodes) (end p : ℕ) (s : Context) (ts : List Token) → depths us + open_lists (within p s) ≤ 200 → fault end (within p s) (tokens_of_all us ++ ts) ≡ fault end (within p s) ts
   fault-tokens_of_all none end p s ts le = refl
   fault-tokens_of_all (more u us) end p s ts le =
       ap (fault end (within p s)) (append_assoc (tokens_of u) (tokens_of_all us) ts) ∙ fault-tokens_of u end (within p s) (tokens_of_all us ++ ts) (λ e. cc) (omega arith) ∙ fault-tokens_of_all us end p s ts (omega arith)
@@ -87,7 +87,7 @@ guarded true x z e = (refl, e)
 guarded false x z e = absurd cc
 
 mutual
-  pub tokens_of-shallow : (t : Node) (end : ℕ) (s : Standing) (ts : List Token) → s ≢ behind → open_lists s ≤ 200 → fault end s (tokens_of t ++ ts) ≡ None → depth t + open_lists s ≤ 200
+  pub tokens_of-shallow : (t : Node) (end : ℕ) (s : Context) (ts : List Token) → s ≢ after → open_lists s ≤ 200 → fault end s (tokens_of t ++ ts) ≡ None → depth t + open_lists s ≤ 200
   tokens_of-shallow (atom p w) end s ts ne le e = omega arith
   tokens_of-shallow (list p us) end before ts ne le e =
       let h = tokens_of_all-shallow us end p before (closes_at 0 ∷ ts) (omega arith) (ap (fault end (within p before)) (sym (append_assoc (tokens_of_all us) (closes_at 0 ∷ []) ts)) ∙ e) in omega (arith, h)
@@ -95,9 +95,9 @@ mutual
       let g = guarded (ltb (suc (open_lists s)) 200) (fault end (within p (within q s)) ((tokens_of_all us ++ closes_at 0 ∷ []) ++ ts)) (G4, p) e in
       let lt = ltb-true _ _ g.0 in
       let h = tokens_of_all-shallow us end p (within q s) (closes_at 0 ∷ ts) (omega (arith, lt)) (ap (fault end (within p (within q s))) (sym (append_assoc (tokens_of_all us) (closes_at 0 ∷ []) ts)) ∙ g.1) in omega (arith, h)
-  tokens_of-shallow (list p us) end behind ts ne le e = absurd (ne refl)
+  tokens_of-shallow (list p us) end after ts ne le e = absurd (ne refl)
 
-  pub tokens_of_all-shallow : (us : Nodes) (end p : ℕ) (s : Standing) (ts : List Token) → open_lists (within p s) ≤ 200 → fault end (within p s) (tokens_of_all us ++ ts) ≡ None → depths us + open_lists (within p s) ≤ 200
+  pub tokens_of_all-shallow : (us : Nodes) (end p : ℕ) (s : Context) (ts : List Token) → open_lists (within p s) ≤ 200 → fault end (within p s) (tokens_of_all us ++ ts) ≡ None → depths us + open_lists (within p s) ≤ 200
   tokens_of_all-shallow none end p s ts le e = omega arith
   tokens_of_all-shallow (more u us) end p s ts le e =
       let e' = ap (fault end (within p s)) (sym (append_assoc (tokens_of u) (tokens_of_all us) ts)) ∙ e in
@@ -144,7 +144,7 @@ pub is_kept : (P : Node → Type 0) (text : List ℕ) (r : Result Tree TextFault
 is_kept P text (Ok t) h k = k (node_of t) (tree_from_no_fault text (node_of t) h.0 h.1)
 is_kept P text (Err e) h k = tt
 
-pub tells_fault : (text : List ℕ) (r : Result Tree TextFault) → ReadsText text r → TellsFault text r
-tells_fault text (Ok t) h = h.0
-tells_fault text (Err (Fault r p)) h = h
-tells_fault text (Err Memory) h = tt
+pub reports_fault : (text : List ℕ) (r : Result Tree TextFault) → ReadsText text r → ReportsFault text r
+reports_fault text (Ok t) h = h.0
+reports_fault text (Err (Fault r p)) h = h
+reports_fault text (Err Memory) h = tt

@@ -1,16 +1,19 @@
-pub mod Results
-pub mod Options
-pub mod Gives
-pub mod Names
-pub mod Numerals
-pub mod Values
+-- What the crate promises: texts, trees, names, numerals and values.
 pub mod Tokens
 pub mod Trees
 pub mod TextFaults
 pub mod TreeIn
 pub mod TreeText
-pub mod Spellings
 pub mod PlaceOrder
+pub mod Names
+pub mod Numerals
+pub mod Values
+-- What is shared: what a call gives, steps that may fail, and how clauses see a `Tree`.
+pub mod Gives
+pub mod Results
+pub mod Options
 pub mod TreeView
+-- Scaffold: what only private functions and lemmas say.
+pub mod Spellings
 pub mod TokenSpans
 pub mod OpenLists

@@ -11,7 +11,7 @@ is_digits bytes = nat_lt 0 (length bytes) && list_all is_ascii_digit bytes
 abbrev pub is_numeral : List ℕ → Bool
 is_numeral bytes = is_digits (if starts_with_minus bytes then drop 1 bytes else bytes)
 
--- what a numeral of any length stands for
+-- the number of a numeral of any length
 abbrev pub numeral_value : List ℕ → ℤ
 numeral_value bytes = signed_digits_value 10 bytes
 
@@ -20,6 +20,6 @@ abbrev pub fits_128_bits : ℤ → Bool
 fits_128_bits (pos n) = nat_lt n (2 ^ 127)
 fits_128_bits (negsuc n) = nat_lt n (2 ^ 127)
 
--- what a numeral stands for, if the bytes are one and it is in the 128-bit range
+-- the number of a numeral, if the bytes are one and it is in the 128-bit range
 abbrev pub numeral_of : List ℕ → Option ℤ
 numeral_of bytes = if is_numeral bytes && fits_128_bits (numeral_value bytes) then Some (numeral_value bytes) else None

@@ -3,7 +3,7 @@ use Rattle.std.specs.Prelude.{◌≡◌, ℕ, List, [], ◌∷◌, ◌++◌, map
 use Rattle.stack_text.specs.Tokens.{Token, opens_at, between, tokens}
 use Rattle.stack_text.specs.Trees.{tokens_of, tokens_of_all, as_kept}
 use Rattle.stack_text.specs.TreeView.{node_of, nodes_of}
-use Rattle.stack_text.specs.TextFaults.{Standing, before, within, behind, behind_tree, fault, text_fault}
+use Rattle.stack_text.specs.TextFaults.{Context, before, within, after, after_tree, fault, text_fault}
 use Rattle.stack_text.specs.declared.reader.OpenList.{OpenList}
 use Rattle.stack_text.specs.declared.tree.Tree.{Tree}
 use Rattle.stack_text.specs.declared.text_fault.TextFault.{TextFault}
@@ -14,32 +14,36 @@ abbrev pub opened : List OpenList → List Token
 opened [] = []
 opened (o ∷ os) = opens_at o.place ∷ (tokens_of_all (nodes_of o.items.items) ++ opened os)
 
-abbrev pub standing_from : Standing → List OpenList → Standing
-standing_from s [] = s
-standing_from s (o ∷ os) = standing_from (within o.place s) os
+abbrev pub context_from : Context → List OpenList → Context
+context_from s [] = s
+context_from s (o ∷ os) = context_from (within o.place s) os
 
--- where the next token stands
-abbrev pub standing : List OpenList → Standing
-standing os = standing_from before os
+-- where the next token is
+abbrev pub context : List OpenList → Context
+context os = context_from before os
 
 -- The tree went into the innermost list, or is given back where none is open.
 abbrev pub Puts : List OpenList → Tree → Result (Option Tree) TextFault → List OpenList → Type 0
-Puts old t (Ok None) new = (opened new ≡ opened old ++ tokens_of (node_of t)) × (standing new ≡ behind_tree (standing old))
+Puts old t (Ok None) new = (opened new ≡ opened old ++ tokens_of (node_of t)) × (context new ≡ after_tree (context old))
 Puts old t (Ok (Some u)) new = (old ≡ []) × (u ≡ t)
 Puts old t (Err (Fault rule place)) new = ⊥
 Puts old t (Err Memory) new = Unit {0}
 
 -- The token was taken in, or ended the whole tree, or is a fault, whatever tokens follow.
 abbrev pub Steps : List OpenList → Token → Result (Option Tree) TextFault → List OpenList → Type 0
-Steps old t (Ok None) new = (opened old ++ as_kept t ∷ [] ≡ opened new) × ((end : ℕ) (ts : List Token) → fault end (standing old) (t ∷ ts) ≡ fault end (standing new) ts)
-Steps old t (Ok (Some tree)) new = (opened old ++ as_kept t ∷ [] ≡ tokens_of (node_of tree)) × ((end : ℕ) (ts : List Token) → fault end (standing old) (t ∷ ts) ≡ fault end behind ts)
-Steps old t (Err (Fault rule place)) new = (end : ℕ) (ts : List Token) → fault end (standing old) (t ∷ ts) ≡ Some (rule, place)
+Steps old t (Ok None) new =
+    (opened old ++ as_kept t ∷ [] ≡ opened new)
+    × ((end : ℕ) (ts : List Token) → fault end (context old) (t ∷ ts) ≡ fault end (context new) ts)
+Steps old t (Ok (Some tree)) new =
+    (opened old ++ as_kept t ∷ [] ≡ tokens_of (node_of tree))
+    × ((end : ℕ) (ts : List Token) → fault end (context old) (t ∷ ts) ≡ fault end after ts)
+Steps old t (Err (Fault rule place)) new = (end : ℕ) (ts : List Token) → fault end (context old) (t ∷ ts) ≡ Some (rule, place)
 Steps old t (Err Memory) new = Unit {0}
 
--- The tree is the answer, if none of these tokens follows it.
+-- The tree is returned, if none of these tokens follows it.
 abbrev pub Finishes : ℕ → Tree → List Token → Result Tree TextFault → Type 0
 Finishes end t ts (Ok u) = (ts ≡ []) × (u ≡ t)
-Finishes end t ts (Err (Fault rule place)) = fault end behind ts ≡ Some (rule, place)
+Finishes end t ts (Err (Fault rule place)) = fault end after ts ≡ Some (rule, place)
 Finishes end t ts (Err Memory) = ⊥
 
 -- What was read of a whole text: a tree with the text's tokens and no fault, or the first fault.

@@ -29,4 +29,5 @@ abbrev mutual
   pub SpellsRest : Nodes → List ℕ → Type 0
   SpellsRest none text = text ≡ []
   SpellsRest (more t ts) text =
-      (gap : List ℕ) × (first : List ℕ) × (others : List ℕ) × (0 < length gap) × IsWhitespace gap × Spells t first × SpellsRest ts others × (text ≡ gap ++ (first ++ others))
+      (gap : List ℕ) × (first : List ℕ) × (others : List ℕ)
+      × (0 < length gap) × IsWhitespace gap × Spells t first × SpellsRest ts others × (text ≡ gap ++ (first ++ others))

@@ -6,49 +6,50 @@ use Rattle.stack_text.specs.declared.text_fault.TextFault.{TextFault}
 use Rattle.stack_text.specs.declared.text_fault.TextFault.TheVariants.{Fault, Memory}
 use Rattle.stack_text.specs.Tokens.{Token, opens_at, closes_at, atom_at, invalid_at, between, tokens}
 
--- where a token stands: before the tree, in a list that opened at a place and stands somewhere itself, or behind the tree
-pub data Standing : Type 0 where
-  before : Standing
-  within : ℕ → Standing → Standing
-  behind : Standing
+-- where a token is: before the tree, in a list that opened at a place and has a context itself, or after the tree
+pub data Context : Type 0 where
+  before : Context
+  within : ℕ → Context → Context
+  after : Context
 
 -- how many lists are open
-abbrev pub open_lists : Standing → ℕ
+abbrev pub open_lists : Context → ℕ
 open_lists before = 0
 open_lists (within p s) = suc (open_lists s)
-open_lists behind = 0
+open_lists after = 0
 
--- behind a tree that began there
-abbrev pub behind_tree : Standing → Standing
-behind_tree before = behind
-behind_tree (within p s) = within p s
-behind_tree behind = behind
+-- after a tree that began there
+abbrev pub after_tree : Context → Context
+after_tree before = after
+after_tree (within p s) = within p s
+after_tree after = after
 
--- the first fault of the tokens from a standing on, in a text that ends at a place
-abbrev pub fault : ℕ → Standing → List Token → Option (TextRule × ℕ)
+-- the first fault of the tokens from a context on, in a text that ends at a place
+abbrev pub fault : ℕ → Context → List Token → Option (TextRule × ℕ)
 fault end before [] = Some (G6, end)
 fault end (within p s) [] = Some (G2, p)
-fault end behind [] = None
+fault end after [] = None
 fault end before (opens_at q ∷ ts) = fault end (within q before) ts
 fault end before (closes_at q ∷ ts) = Some (G3, q)
-fault end before (atom_at q w ∷ ts) = fault end behind ts
+fault end before (atom_at q w ∷ ts) = fault end after ts
 fault end before (invalid_at q ∷ ts) = Some (G1, q)
-fault end (within p s) (opens_at q ∷ ts) = if nat_lt (open_lists (within p s)) 200 then fault end (within q (within p s)) ts else Some (G4, q)
-fault end (within p s) (closes_at q ∷ ts) = fault end (behind_tree s) ts
+fault end (within p s) (opens_at q ∷ ts) =
+    if nat_lt (open_lists (within p s)) 200 then fault end (within q (within p s)) ts else Some (G4, q)
+fault end (within p s) (closes_at q ∷ ts) = fault end (after_tree s) ts
 fault end (within p s) (atom_at q w ∷ ts) = fault end (within p s) ts
 fault end (within p s) (invalid_at q ∷ ts) = Some (G1, q)
-fault end behind (opens_at q ∷ ts) = Some (G5, q)
-fault end behind (closes_at q ∷ ts) = Some (G5, q)
-fault end behind (atom_at q w ∷ ts) = Some (G5, q)
-fault end behind (invalid_at q ∷ ts) = Some (G1, q)
+fault end after (opens_at q ∷ ts) = Some (G5, q)
+fault end after (closes_at q ∷ ts) = Some (G5, q)
+fault end after (atom_at q w ∷ ts) = Some (G5, q)
+fault end after (invalid_at q ∷ ts) = Some (G1, q)
 
 -- the first fault of a text, with its place
 abbrev pub text_fault : List ℕ → Option (TextRule × ℕ)
 text_fault text = fault (length text) before (tokens between 0 text)
 
--- What reading a text says of its faults: something is read only where there is none, and else the answer is the first.
--- Want of memory alone is free.
-abbrev pub TellsFault : {X : Type 0} → List ℕ → Result X TextFault → Type 0
-TellsFault text (Ok x) = text_fault text ≡ None
-TellsFault text (Err (Fault rule place)) = text_fault text ≡ Some (rule, place)
-TellsFault text (Err Memory) = Unit {0}
+-- What reading a text says of its faults: something is read only where there is none, and else the first is returned.
+-- Out of memory alone is free.
+abbrev pub ReportsFault : {X : Type 0} → List ℕ → Result X TextFault → Type 0
+ReportsFault text (Ok x) = text_fault text ≡ None
+ReportsFault text (Err (Fault rule place)) = text_fault text ≡ Some (rule, place)
+ReportsFault text (Err Memory) = Unit {0}

@@ -15,7 +15,7 @@ token_of Invalid at bytes = invalid_at at
 abbrev pub token_in : List ℕ → TokenSpan → Token
 token_in text found = token_of found.kind found.start (slice_range text found.start found.end)
 
--- the tokens from a place on are the one that was found, and those from behind it on
+-- the tokens from a place on are the one that was found, and those after it
 pub record FindsToken (text : List ℕ) (from : ℕ) (found : TokenSpan) : Type 0 where
   pub tokens_are : tokens between from (drop from text) ≡ token_in text found ∷ tokens between found.end (drop found.end text)
   pub in_order : (from ≤ found.start) × (found.start < found.end) × (found.end ≤ length text)

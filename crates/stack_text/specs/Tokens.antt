@@ -13,7 +13,7 @@ class_of byte =
     if byte == 41 then Closing else
     if nat_le 0x21 byte && nat_le byte 0x7E then AtomByte else Invalid
 
--- a token: a parenthesis, an atom with its bytes, or a byte that may not stand there
+-- a token: a parenthesis, an atom with its bytes, or a byte that no token has
 pub data Token : Type 0 where
   opens_at : ℕ → Token
   closes_at : ℕ → Token
@@ -26,7 +26,7 @@ pub data Mode : Type 0 where
   in_atom : Mode
   in_comment : Mode
 
--- what it is in behind a byte of a class: a comment ends at LF alone, and any byte but an atom's ends an atom
+-- what it is in after a byte of a class: a comment ends at LF alone, and any byte but an atom's ends an atom
 abbrev pub next : Mode → Class → Mode
 next in_comment LineEnd = between
 next in_comment _ = in_comment

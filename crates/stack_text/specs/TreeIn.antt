@@ -20,7 +20,7 @@ abbrev pub as_item : ℕ → List Nodes → List Nodes
 as_item place [] = []
 as_item place (items ∷ outer) = in_front (list place items) outer
 
--- the items that the tokens are, of each list whose `(` stands further to the left, the innermost first
+-- the items that the tokens are, of each list whose `(` is further to the left, the innermost first
 unfoldable pub items_of : List Token → List Nodes
 items_of [] = none ∷ []
 items_of (opens_at place ∷ ts) = as_item place (items_of ts)

@@ -7,7 +7,7 @@ ghost use Rattle.stack_text.specs.TokenSpans.{FindsToken};
 use crate::class::{Class, class_of_byte};
 use bstr::ByteSlice;
 
-/// What a token is. One byte that may not stand in a text is a token too.
+/// What a token is. One byte that no text may have is a token too.
 #[derive(Clone, Copy, Debug, PartialEq, Eq)]
 pub enum TokenKind {
     Opening,
@@ -56,7 +56,7 @@ fn atom_end(text: &[u8], from: usize) -> usize
     at
 }
 
-/// Where the comment that `from` is in ends: behind the next LF, or at the text's end.
+/// Where the comment that `from` is in ends: after the next LF, or at the text's end.
 fn comment_end(text: &[u8], from: usize) -> usize
     requires { from ≤ length text.now }
     ensures later { from ≤ result }

@@ -1,8 +1,9 @@
 //! The text form that every crate of the stack shares, and the vocabulary of their contracts: names, numerals, trees
-//! and values, lists in contracts, and want of memory.
+//! and values, lists in contracts, and out of memory.
 #![tactic(auto)]
 
 mod class;
+mod law;
 mod lexer;
 mod memory;
 mod name;
@@ -17,6 +18,7 @@ mod text_fault;
 mod tree;
 mod value;
 
+pub use law::tree_or_fault;
 pub use memory::Memory;
 pub use name::{Name, Named, is_name, read_name};
 pub use numeral::{is_digits, is_numeral, read_numeral};

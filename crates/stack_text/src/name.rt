@@ -14,10 +14,10 @@ use std::marker::Model;
 const MAX_NAME_LENGTH: usize = 64;
 
 /// A name: a letter, followed by up to 63 letters, digits and marks, which are `-`, `_`, `*` and `$`. The words `true`
-/// and `false` stand for values and are no names.
+/// and `false` are truth values and no names.
 ///
 /// Upper and lower case differ. Contracts see a name as its bytes, and it is compared and hashed by them, so that it
-/// can be a key of `indexmap`.
+/// can be a key of a map.
 #[derive(Debug, Drop)]
 pub struct Name {
     bytes: Vec<u8>,
@@ -102,7 +102,7 @@ fn is_mark(byte: u8) -> bool
     matches!(byte, b'-' | b'_' | b'*' | b'$')
 }
 
-/// Whether the byte may stand in a name.
+/// Whether a name may have the byte.
 fn is_name_byte(byte: u8) -> bool
     ensures { result ≡ is_name_byte byte }
 {
@@ -119,7 +119,7 @@ fn begins_with_letter(bytes: &[u8]) -> bool
     }
 }
 
-/// Whether each byte may stand in a name.
+/// Whether a name may have each of the bytes.
 fn are_name_bytes(bytes: &[u8]) -> bool
     ensures { result ≡ list_all is_name_byte bytes.now }
 {
@@ -133,7 +133,7 @@ fn is_truth_word(bytes: &[u8]) -> bool
     bytes == b"true".as_slice() || bytes == b"false".as_slice()
 }
 
-/// Whether the bytes are a name, as `read_name` tells, without taking memory.
+/// Whether the bytes are a name, for which `read_name` has `Some`. It takes no memory.
 pub fn is_name(bytes: &[u8]) -> bool
     ensures { result ≡ is_name bytes.now }
 {
@@ -157,7 +157,7 @@ pub fn read_name(alloc: Global, bytes: &[u8]) -> Result<Option<Name>, Memory>
 #[cfg(test)]
 mod tests {
     use super::*;
-    use indexmap::IndexMap;
+    use std::collections::HashMap;
     use std::test::Fail;
 
     /// Names by the rule's words, and bytes that just miss it.
@@ -201,7 +201,7 @@ mod tests {
 
     #[test]
     fn is_a_key(rt: HostRuntime) -> Result<(), Fail> {
-        let mut places: IndexMap<Name, u32> = IndexMap::new(rt.alloc());
+        let mut places: HashMap<Name, u32> = HashMap::new(rt.alloc());
         let name = read_name(rt.alloc(), b"x")?.ok_or("no name")?;
         places.insert(name.clone()?, 7)?;
         assert_eq!(rt; places.get(&name).copied(), Some(7));

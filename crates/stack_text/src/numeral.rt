@@ -32,7 +32,7 @@ pub fn is_numeral(bytes: &[u8]) -> bool
     }
 }
 
-/// What a numeral stands for, if it is in the 128-bit range.
+/// The number of a numeral, if it is in the 128-bit range.
 fn value_of(numeral: &[u8]) -> Option<i128>
     requires { IsTrue (is_numeral numeral.now) }
     ensures { SomeIff result (IsTrue (fits_128_bits (numeral_value numeral.now))) (numeral_value numeral.now) }
@@ -43,7 +43,7 @@ fn value_of(numeral: &[u8]) -> Option<i128>
     }
 }
 
-/// What the numeral stands for: `None` exactly where the bytes are no numeral, which `is_numeral` tells, or the number
+/// The number of the numeral: `None` exactly where the bytes are no numeral, which `is_numeral` tests, or the number
 /// is outside -2^127 to 2^127 - 1. A numeral may have any number of digits.
 pub fn read_numeral(bytes: &[u8]) -> Option<i128>
     ensures { result ≡ numeral_of bytes.now }

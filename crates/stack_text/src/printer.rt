@@ -44,7 +44,7 @@ fn print_into(out: &mut Vec<u8>, tree: &Tree) -> Result<(), Memory>
 ///
 /// It recurses once for each level, and a reader has to find the tree again, so it asks for the form of a tree that was
 /// read: atoms that are words, no more than 200 levels, no more than 2^31 atoms and lists. Printers that write line ends
-/// in place of some spaces stand on the law `spelled_is_read` of `proofs/SpellingLaws.antt`, which holds for any
+/// in place of some spaces rest on the law `spelled_is_read` of `proofs/SpellingLaws.antt`, which holds for any
 /// separators.
 pub fn print_tree(alloc: Global, tree: &Tree) -> Result<Vec<u8>, Memory>
     requires { IsWellFormed (node_of tree.now) }

@@ -4,7 +4,7 @@ ghost use Rattle.std.specs.Prelude.{◌≡◌, ◌<◌, ◌≤◌, ◌^◌, leng
 ghost use Rattle.stack_text.specs.Tokens.{tokens, between};
 ghost use Rattle.stack_text.specs.Trees.{Node, TreeOf, IsWellFormed};
 ghost use Rattle.stack_text.specs.TreeView.{node_of};
-ghost use Rattle.stack_text.specs.TextFaults.{TellsFault};
+ghost use Rattle.stack_text.specs.TextFaults.{ReportsFault};
 ghost use Rattle.stack_text.specs.TreeIn.{tree_in, GivesTree};
 ghost use Rattle.stack_text.specs.PlaceOrder.{IsInOrder};
 ghost use Rattle.stack_text.specs.TokenSpans.{token_in};
@@ -126,7 +126,7 @@ fn read(alloc: Global, text: &[u8]) -> Result<Tree, TextFault>
 ///
 /// # Errors
 ///
-/// The first thing from the left that is wrong with the text, and where; or want of memory. The time is linear in the
+/// The first thing from the left that is wrong with the text, and where; or out of memory. The time is linear in the
 /// text.
 pub fn read_tree(alloc: Global, text: &[u8]) -> Result<Tree, TextFault>
     requires { length text.now ≤ 2 ^ 31 }
@@ -135,8 +135,8 @@ pub fn read_tree(alloc: Global, text: &[u8]) -> Result<Tree, TextFault>
     // Where the text is a tree's, that tree is read, unless memory runs out.
     ensures only { (t : Node) → TreeOf text.now t → MatchResult result (λ u. node_of u ≡ t) (λ e. e ≡ Memory) }
     // An error is the text's first fault.
-    ensures fault { TellsFault text.now result }
-    // All three in one: the answer is a function of the text.
+    ensures fault { ReportsFault text.now result }
+    // All three in one: what is returned is a function of the text.
     ensures value { GivesTree result (tree_in text.now) }
 
     // What every tree that was read keeps.

@@ -71,7 +71,7 @@ impl<T> Seq<T> {
         self.items.is_empty()
     }
 
-    /// Puts an element behind the others. Where there is no memory the list stays, and the error has the element.
+    /// Appends an element. Where memory runs out the list is unchanged, and the error has the element.
     pub fn push(&mut self, item: T) -> Result<(), AllocFailed<T>>
         ensures ok { OnOk result (self.new ≡ self.old ++ item ∷ []) }
         ensures err { OnErr result (self.new ≡ self.old) }

@@ -2,14 +2,14 @@ use Rattle.std.proofs.Common.{◌≡◌, ◌≤◌, ◌-◌, ◌++◌, map, leng
 use Rattle.stack_text.specs.Tokens.{tokens, between}
 use Rattle.stack_text.specs.Trees.{as_kept}
 use Rattle.stack_text.specs.TextFaults.{fault, text_fault}
-use Rattle.stack_text.specs.OpenLists.{opened, standing}
+use Rattle.stack_text.specs.OpenLists.{opened, context}
 use Rattle.stack_text.proofs.reader.read.Given as goal
 
 abbrev pub invariant-loop-found : goal.invariant-loop-found
 invariant-loop-found l = record {
   within : l.at ≤ length l.text;
   kept_is : map as_kept (tokens between 0 l.text) ≡ opened l.stack.items ++ map as_kept (tokens between l.at (drop l.at l.text));
-  fault_is : text_fault l.text ≡ fault (length l.text) (standing l.stack.items) (tokens between l.at (drop l.at l.text));
+  fault_is : text_fault l.text ≡ fault (length l.text) (context l.stack.items) (tokens between l.at (drop l.at l.text));
 }
 
 abbrev pub decreases-loop-found : goal.decreases-loop-found

@@ -1,4 +1,4 @@
-use Rattle.stack_text.proofs.TreeLaws.{is_found, is_only, is_kept, tells_fault}
+use Rattle.stack_text.proofs.TreeLaws.{is_found, is_only, is_kept, reports_fault}
 use Rattle.stack_text.proofs.TreeInLaws.{gives_tree}
 use Rattle.stack_text.proofs.ReadLaws.{text_is_well_formed, text_is_in_order}
 use Rattle.stack_text.specs.Trees.{IsWellFormed}
@@ -18,7 +18,7 @@ pub returns-clause-order : goal.returns-clause-order
 returns-clause-order c = is_kept IsInOrder c.args.text.now c.read.result c.read.ensures (text_is_in_order c.args.text.now)
 
 pub returns-clause-fault : goal.returns-clause-fault
-returns-clause-fault c = tells_fault c.args.text.now c.read.result c.read.ensures
+returns-clause-fault c = reports_fault c.args.text.now c.read.result c.read.ensures
 
 pub returns-clause-value : goal.returns-clause-value
 returns-clause-value c = gives_tree c.args.text.now c.read.result c.read.ensures
