@@ -2,7 +2,7 @@
 use Rattle.std.proofs.Common.{◌≡◌, ◌↔◌, ℕ, ltb, List, [], ◌∷◌, ◌++◌, map, length, None, refl, sym, ap, ◌∙◌, append_assoc}
 use Rattle.stack_text.specs.Tokens.{Token, opens_at, closes_at, atom_at, invalid_at, between, tokens}
 use Rattle.stack_text.specs.Trees.{Node, Nodes, atom, list, none, more, tokens_of, tokens_of_all, as_kept, TreeOf}
-use Rattle.stack_text.specs.TextFaults.{Context, before, within, after, open_lists, after_tree, fault, text_fault}
+use Rattle.stack_text.specs.TextFaults.{Context, before, within, after, open_lists, after_tree, first_fault, text_fault}
 use Rattle.stack_text.specs.declared.text_fault.TextRule.TheVariants.{G4}
 use Rattle.stack_text.proofs.TreeLaws.{guarded, tree_has_no_fault, tree_from_no_fault}
 
@@ -30,7 +30,7 @@ after_closing before ts h = h
 after_closing (within p s) ts h = h
 after_closing after ts h = h
 
-completes : (ts : List Token) (end : ℕ) (s : Context) → fault end s ts ≡ None → Completes s (map as_kept ts)
+completes : (ts : List Token) (end : ℕ) (s : Context) → first_fault end s ts ≡ None → Completes s (map as_kept ts)
 completes [] end before e = absurd cc
 completes [] end (within p s) e = absurd cc
 completes [] end after e = refl
@@ -41,7 +41,7 @@ completes (closes_at q ∷ ts) end before e = absurd cc
 completes (atom_at q w ∷ ts) end before e = (atom q w, ap (λ (xs : List Token). atom_at q w ∷ xs) (completes ts end after e))
 completes (invalid_at q ∷ ts) end before e = absurd cc
 completes (opens_at q ∷ ts) end (within p s) e =
-    let g = guarded (ltb (open_lists (within p s)) 200) (fault end (within q (within p s)) ts) (G4, q) e in
+    let g = guarded (ltb (open_lists (within p s)) 200) (first_fault end (within q (within p s)) ts) (G4, q) e in
     let h = completes ts end (within q (within p s)) g.1 in
     (more (list q h.0) h.3.0, h.3.1, nested q h.0 h.3.0 (map as_kept ts) h.1 h.3.1 h.2 h.3.2, h.3.3)
 completes (closes_at q ∷ ts) end (within p s) e = (none, map as_kept ts, refl, after_closing s (map as_kept ts) (completes ts end (after_tree s) e))

@@ -17,3 +17,10 @@ pub mod PrintLaws
 pub mod NumeralLaws
 pub mod AtomLaws
 pub mod NumeralTextLaws
+pub mod TreeListLaws
+pub mod JudgedLaws
+pub mod PartLaws
+pub mod RiseLaws
+pub mod KeepsLaws
+pub mod PlacesLaws
+pub mod PartTextLaws

@@ -5,7 +5,7 @@ use Rattle.std.proofs.lemmas.Bool.{lt-ltb, le-ltb}
 use Rattle.stack_text.specs.Tokens.{Token, opens_at, closes_at, atom_at, between, tokens}
 use Rattle.stack_text.specs.Trees.{Node, tokens_of, tokens_of_all, as_kept}
 use Rattle.stack_text.specs.TreeView.{nodes, node_of, nodes_of}
-use Rattle.stack_text.specs.TextFaults.{Context, before, within, after, open_lists, after_tree, fault, text_fault}
+use Rattle.stack_text.specs.TextFaults.{Context, before, within, after, open_lists, after_tree, first_fault, text_fault}
 use Rattle.stack_text.specs.OpenLists.{opened, context_from, context, Puts, Steps, ReadsText, Finishes}
 use Rattle.stack_text.specs.declared.reader.OpenList.{OpenList}
 use Rattle.stack_text.specs.declared.tree.Tree.{Tree}
@@ -56,17 +56,17 @@ pub open_lists-context_from : (s : Context) (os : List OpenList) → open_lists 
 open_lists-context_from s [] = omega arith
 open_lists-context_from s (o ∷ os) = omega (arith, open_lists-context_from (within o.place s) os)
 
-fault-atom_at : (s : Context) (p : ℕ) (w : List ℕ) (end : ℕ) (ts : List Token) → s ≢ after → fault end s (atom_at p w ∷ ts) ≡ fault end (after_tree s) ts
+fault-atom_at : (s : Context) (p : ℕ) (w : List ℕ) (end : ℕ) (ts : List Token) → s ≢ after → first_fault end s (atom_at p w ∷ ts) ≡ first_fault end (after_tree s) ts
 fault-atom_at before p w end ts ne = refl
 fault-atom_at (within q s) p w end ts ne = refl
 fault-atom_at after p w end ts ne = absurd (ne refl)
 
-fault-open : (s : Context) (p end : ℕ) (ts : List Token) → s ≢ after → open_lists s < 200 → fault end s (opens_at p ∷ ts) ≡ fault end (within p s) ts
+fault-open : (s : Context) (p end : ℕ) (ts : List Token) → s ≢ after → open_lists s < 200 → first_fault end s (opens_at p ∷ ts) ≡ first_fault end (within p s) ts
 fault-open before p end ts ne lt = refl
 fault-open (within q s) p end ts ne lt = rw (lt-ltb (suc (open_lists s)) 200 lt) refl
 fault-open after p end ts ne lt = absurd (ne refl)
 
-fault-deep : (s : Context) (p end : ℕ) (ts : List Token) → 200 ≤ open_lists s → fault end s (opens_at p ∷ ts) ≡ Some (G4, p)
+fault-deep : (s : Context) (p end : ℕ) (ts : List Token) → 200 ≤ open_lists s → first_fault end s (opens_at p ∷ ts) ≡ Some (G4, p)
 fault-deep before p end ts le = absurd (omega arith)
 fault-deep (within q s) p end ts le = rw (le-ltb (suc (open_lists s)) 200 le) refl
 fault-deep after p end ts le = absurd (omega arith)
@@ -74,10 +74,10 @@ fault-deep after p end ts le = absurd (omega arith)
 -- ---- the steps
 
 steps_put : (old rest new : List OpenList) (tok : Token) (t : Tree) (r : Result (Option Tree) TextFault) → Puts rest t r new → opened old ++ as_kept tok ∷ [] ≡ opened rest ++ tokens_of (node_of t) →
-    ((end : ℕ) (ts : List Token) → fault end (context old) (tok ∷ ts) ≡ fault end (after_tree (context rest)) ts) → Steps old tok r new
-steps_put old rest new tok t (Ok None) h e f = (e ∙ sym h.0, λ end ts. f end ts ∙ ap (λ (s : Context). fault end s ts) (sym h.1))
+    ((end : ℕ) (ts : List Token) → first_fault end (context old) (tok ∷ ts) ≡ first_fault end (after_tree (context rest)) ts) → Steps old tok r new
+steps_put old rest new tok t (Ok None) h e f = (e ∙ sym h.0, λ end ts. f end ts ∙ ap (λ (s : Context). first_fault end s ts) (sym h.1))
 steps_put old rest new tok t (Ok (Some u)) h e f =
-    (e ∙ ap (λ (os : List OpenList). opened os ++ tokens_of (node_of t)) h.0 ∙ ap (λ (x : Tree). tokens_of (node_of x)) (sym h.1), λ end ts. f end ts ∙ ap (λ (os : List OpenList). fault end (after_tree (context os)) ts) h.0)
+    (e ∙ ap (λ (os : List OpenList). opened os ++ tokens_of (node_of t)) h.0 ∙ ap (λ (x : Tree). tokens_of (node_of x)) (sym h.1), λ end ts. f end ts ∙ ap (λ (os : List OpenList). first_fault end (after_tree (context os)) ts) h.0)
 steps_put old rest new tok t (Err (Fault r p)) h e f = absurd h
 steps_put old rest new tok t (Err Memory) h e f = tt
 
@@ -91,13 +91,13 @@ steps_close old rest new o q r is h =
     (ap (λ (os : List OpenList). opened os ++ closes_at 0 ∷ []) is ∙ ap (λ (ts : List Token). ts ++ closes_at 0 ∷ []) (opened-push rest o)
     ∙ append_assoc (opened rest) (opens_at o.place ∷ tokens_of_all (nodes_of o.items.items)) (closes_at 0 ∷ [])
     ∙ ap (λ (n : Node). opened rest ++ tokens_of n) (sym (node_of-list o.place o.items)))
-    (λ end ts. ap (λ (s : Context). fault end s (closes_at q ∷ ts)) (ap context is ∙ context_from-push before rest o))
+    (λ end ts. ap (λ (s : Context). first_fault end s (closes_at q ∷ ts)) (ap context is ∙ context_from-push before rest o))
 
 pub steps_open : (old new : List OpenList) (p : ℕ) (v : Vec Tree Global) → v.items ≡ [] → length old < 200 → new ≡ old ++ record { place = p; items = v } ∷ [] → Steps old (opens_at p) (Ok None) new
 steps_open old new p v none_yet lt is = (
   sym (ap opened is ∙ opened-push old (record { place = p; items = v }) ∙ ap (λ (ts : List Tree). opened old ++ (opens_at p ∷ tokens_of_all (nodes_of ts))) none_yet),
   λ end ts. fault-open (context old) p end ts (never_after before old (λ e. cc)) (omega (arith, open_lists-context_from before old))
-      ∙ ap (λ (s : Context). fault end s ts) (sym (ap context is ∙ context_from-push before old (record { place = p; items = v }))),
+      ∙ ap (λ (s : Context). first_fault end s ts) (sym (ap context is ∙ context_from-push before old (record { place = p; items = v }))),
 )
 
 pub steps_deep : (old new : List OpenList) (p : ℕ) → 200 ≤ length old → Steps old (opens_at p) (Err (Fault G4 p)) new
@@ -105,14 +105,14 @@ steps_deep old new p le = λ end ts. fault-deep (context old) p end ts (omega (a
 
 -- ---- what a step says of the whole text
 
-pub text_ends : (text : List ℕ) (old new : List OpenList) (tok : Token) (e : TextFault) (ts : List Token) → Steps old tok (Err e) new → text_fault text ≡ fault (length text) (context old) (tok ∷ ts) → ReadsText text (Err e)
+pub text_ends : (text : List ℕ) (old new : List OpenList) (tok : Token) (e : TextFault) (ts : List Token) → Steps old tok (Err e) new → text_fault text ≡ first_fault (length text) (context old) (tok ∷ ts) → ReadsText text (Err e)
 text_ends text old new tok (Fault r p) ts h is = is ∙ h (length text) ts
 text_ends text old new tok Memory ts h is = tt
 
 pub text_finishes : (text : List ℕ) (old new : List OpenList) (tok : Token) (t : Tree) (ts : List Token) (r : Result Tree TextFault) → Steps old tok (Ok (Some t)) new → Finishes (length text) t ts r →
-    map as_kept (tokens between 0 text) ≡ opened old ++ map as_kept (tok ∷ ts) → text_fault text ≡ fault (length text) (context old) (tok ∷ ts) → ReadsText text r
+    map as_kept (tokens between 0 text) ≡ opened old ++ map as_kept (tok ∷ ts) → text_fault text ≡ first_fault (length text) (context old) (tok ∷ ts) → ReadsText text r
 text_finishes text old new tok t ts (Ok u) h f kept_is fault_is = (
-  fault_is ∙ h.1 (length text) ts ∙ ap (λ (us : List Token). fault (length text) after us) f.0,
+  fault_is ∙ h.1 (length text) ts ∙ ap (λ (us : List Token). first_fault (length text) after us) f.0,
   kept_is ∙ ap (λ (us : List Token). opened old ++ map as_kept (tok ∷ us)) f.0 ∙ h.0 ∙ ap (λ (x : Tree). tokens_of (node_of x)) (sym f.1),
 )
 text_finishes text old new tok t ts (Err (Fault r p)) h f kept_is fault_is = fault_is ∙ h.1 (length text) ts ∙ f
@@ -121,5 +121,5 @@ text_finishes text old new tok t ts (Err Memory) h f kept_is fault_is = absurd f
 pub kept_goes_on : (all : List Token) (old new : List OpenList) (tok : Token) (ts : List Token) → Steps old tok (Ok None) new → all ≡ opened old ++ map as_kept (tok ∷ ts) → all ≡ opened new ++ map as_kept ts
 kept_goes_on all old new tok ts h is = is ∙ sym (append_assoc (opened old) (as_kept tok ∷ []) (map as_kept ts)) ∙ ap (λ (us : List Token). us ++ map as_kept ts) h.0
 
-pub unfinished : (text : List ℕ) (os rest : List OpenList) (o : OpenList) → os ≡ rest ++ o ∷ [] → text_fault text ≡ fault (length text) (context os) [] → text_fault text ≡ Some (G2, o.place)
-unfinished text os rest o is h = h ∙ ap (λ (s : Context). fault (length text) s []) (ap context is ∙ context_from-push before rest o)
+pub unfinished : (text : List ℕ) (os rest : List OpenList) (o : OpenList) → os ≡ rest ++ o ∷ [] → text_fault text ≡ first_fault (length text) (context os) [] → text_fault text ≡ Some (G2, o.place)
+unfinished text os rest o is h = h ∙ ap (λ (s : Context). first_fault (length text) s []) (ap context is ∙ context_from-push before rest o)

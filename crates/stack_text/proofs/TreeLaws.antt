@@ -5,7 +5,7 @@ use Rattle.std.proofs.lemmas.Bool.{lt-ltb, ltb-true}
 use Rattle.std.proofs.lemmas.List.{append-nil}
 use Rattle.stack_text.specs.Tokens.{Token, opens_at, closes_at, atom_at, invalid_at, between, tokens}
 use Rattle.stack_text.specs.Trees.{Node, Nodes, atom, list, none, more, tokens_of, tokens_of_all, depth, depths, as_kept, TreeOf}
-use Rattle.stack_text.specs.TextFaults.{Context, before, within, after, open_lists, after_tree, fault, text_fault, ReportsFault}
+use Rattle.stack_text.specs.TextFaults.{Context, before, within, after, open_lists, after_tree, first_fault, text_fault, ReportsFault}
 use Rattle.stack_text.specs.OpenLists.{ReadsText}
 use Rattle.stack_text.specs.TreeView.{node_of}
 use Rattle.stack_text.specs.declared.tree.Tree.{Tree}
@@ -48,7 +48,7 @@ if_same true x y z e = e
 if_same false x y z e = refl
 
 -- the place of a closing parenthesis is nothing to whether there is a fault
-fault-as_kept : (end : ℕ) (s : Context) (ts : List Token) → is_some (fault end s ts) ≡ is_some (fault end s (map as_kept ts))
+fault-as_kept : (end : ℕ) (s : Context) (ts : List Token) → is_some (first_fault end s ts) ≡ is_some (first_fault end s (map as_kept ts))
 fault-as_kept end before [] = refl
 fault-as_kept end (within p s) [] = refl
 fault-as_kept end after [] = refl
@@ -56,7 +56,7 @@ fault-as_kept end before (opens_at q ∷ ts) = fault-as_kept end (within q befor
 fault-as_kept end before (closes_at q ∷ ts) = refl
 fault-as_kept end before (atom_at q w ∷ ts) = fault-as_kept end after ts
 fault-as_kept end before (invalid_at q ∷ ts) = refl
-fault-as_kept end (within p s) (opens_at q ∷ ts) = if_same (ltb (open_lists (within p s)) 200) (fault end (within q (within p s)) ts) (fault end (within q (within p s)) (map as_kept ts)) (G4, q) (fault-as_kept end (within q (within p s)) ts)
+fault-as_kept end (within p s) (opens_at q ∷ ts) = if_same (ltb (open_lists (within p s)) 200) (first_fault end (within q (within p s)) ts) (first_fault end (within q (within p s)) (map as_kept ts)) (G4, q) (fault-as_kept end (within q (within p s)) ts)
 fault-as_kept end (within p s) (closes_at q ∷ ts) = fault-as_kept end (after_tree s) ts
 fault-as_kept end (within p s) (atom_at q w ∷ ts) = fault-as_kept end (within p s) ts
 fault-as_kept end (within p s) (invalid_at q ∷ ts) = refl
@@ -66,41 +66,41 @@ fault-as_kept end after (atom_at q w ∷ ts) = refl
 fault-as_kept end after (invalid_at q ∷ ts) = refl
 
 mutual
-  pub fault-tokens_of : (t : Node) (end : ℕ) (s : Context) (ts : List Token) → s ≢ after → depth t + open_lists s ≤ 200 → fault end s (tokens_of t ++ ts) ≡ fault end (after_tree s) ts
+  pub fault-tokens_of : (t : Node) (end : ℕ) (s : Context) (ts : List Token) → s ≢ after → depth t + open_lists s ≤ 200 → first_fault end s (tokens_of t ++ ts) ≡ first_fault end (after_tree s) ts
   fault-tokens_of (atom p w) end before ts ne le = refl
   fault-tokens_of (atom p w) end (within q s) ts ne le = refl
   fault-tokens_of (atom p w) end after ts ne le = absurd (ne refl)
   fault-tokens_of (list p us) end before ts ne le =
-      ap (fault end (within p before)) (append_assoc (tokens_of_all us) (closes_at 0 ∷ []) ts) ∙ fault-tokens_of_all us end p before (closes_at 0 ∷ ts) (omega arith)
+      ap (first_fault end (within p before)) (append_assoc (tokens_of_all us) (closes_at 0 ∷ []) ts) ∙ fault-tokens_of_all us end p before (closes_at 0 ∷ ts) (omega arith)
   fault-tokens_of (list p us) end (within q s) ts ne le =
       rw (lt-ltb (suc (open_lists s)) 200 (omega arith))
-      (ap (fault end (within p (within q s))) (append_assoc (tokens_of_all us) (closes_at 0 ∷ []) ts) ∙ fault-tokens_of_all us end p (within q s) (closes_at 0 ∷ ts) (omega arith))
+      (ap (first_fault end (within p (within q s))) (append_assoc (tokens_of_all us) (closes_at 0 ∷ []) ts) ∙ fault-tokens_of_all us end p (within q s) (closes_at 0 ∷ ts) (omega arith))
   fault-tokens_of (list p us) end after ts ne le = absurd (ne refl)
 
-  pub fault-tokens_of_all : (us : Nodes) (end p : ℕ) (s : Context) (ts : List Token) → depths us + open_lists (within p s) ≤ 200 → fault end (within p s) (tokens_of_all us ++ ts) ≡ fault end (within p s) ts
+  pub fault-tokens_of_all : (us : Nodes) (end p : ℕ) (s : Context) (ts : List Token) → depths us + open_lists (within p s) ≤ 200 → first_fault end (within p s) (tokens_of_all us ++ ts) ≡ first_fault end (within p s) ts
   fault-tokens_of_all none end p s ts le = refl
   fault-tokens_of_all (more u us) end p s ts le =
-      ap (fault end (within p s)) (append_assoc (tokens_of u) (tokens_of_all us) ts) ∙ fault-tokens_of u end (within p s) (tokens_of_all us ++ ts) (λ e. cc) (omega arith) ∙ fault-tokens_of_all us end p s ts (omega arith)
+      ap (first_fault end (within p s)) (append_assoc (tokens_of u) (tokens_of_all us) ts) ∙ fault-tokens_of u end (within p s) (tokens_of_all us ++ ts) (λ e. cc) (omega arith) ∙ fault-tokens_of_all us end p s ts (omega arith)
 
 pub guarded : (b : Bool) (x : Option (TextRule × ℕ)) (z : TextRule × ℕ) → cond b x (Some z) ≡ None → (b ≡ true) × (x ≡ None)
 guarded true x z e = (refl, e)
 guarded false x z e = absurd cc
 
 mutual
-  pub tokens_of-shallow : (t : Node) (end : ℕ) (s : Context) (ts : List Token) → s ≢ after → open_lists s ≤ 200 → fault end s (tokens_of t ++ ts) ≡ None → depth t + open_lists s ≤ 200
+  pub tokens_of-shallow : (t : Node) (end : ℕ) (s : Context) (ts : List Token) → s ≢ after → open_lists s ≤ 200 → first_fault end s (tokens_of t ++ ts) ≡ None → depth t + open_lists s ≤ 200
   tokens_of-shallow (atom p w) end s ts ne le e = omega arith
   tokens_of-shallow (list p us) end before ts ne le e =
-      let h = tokens_of_all-shallow us end p before (closes_at 0 ∷ ts) (omega arith) (ap (fault end (within p before)) (sym (append_assoc (tokens_of_all us) (closes_at 0 ∷ []) ts)) ∙ e) in omega (arith, h)
+      let h = tokens_of_all-shallow us end p before (closes_at 0 ∷ ts) (omega arith) (ap (first_fault end (within p before)) (sym (append_assoc (tokens_of_all us) (closes_at 0 ∷ []) ts)) ∙ e) in omega (arith, h)
   tokens_of-shallow (list p us) end (within q s) ts ne le e =
-      let g = guarded (ltb (suc (open_lists s)) 200) (fault end (within p (within q s)) ((tokens_of_all us ++ closes_at 0 ∷ []) ++ ts)) (G4, p) e in
+      let g = guarded (ltb (suc (open_lists s)) 200) (first_fault end (within p (within q s)) ((tokens_of_all us ++ closes_at 0 ∷ []) ++ ts)) (G4, p) e in
       let lt = ltb-true _ _ g.0 in
-      let h = tokens_of_all-shallow us end p (within q s) (closes_at 0 ∷ ts) (omega (arith, lt)) (ap (fault end (within p (within q s))) (sym (append_assoc (tokens_of_all us) (closes_at 0 ∷ []) ts)) ∙ g.1) in omega (arith, h)
+      let h = tokens_of_all-shallow us end p (within q s) (closes_at 0 ∷ ts) (omega (arith, lt)) (ap (first_fault end (within p (within q s))) (sym (append_assoc (tokens_of_all us) (closes_at 0 ∷ []) ts)) ∙ g.1) in omega (arith, h)
   tokens_of-shallow (list p us) end after ts ne le e = absurd (ne refl)
 
-  pub tokens_of_all-shallow : (us : Nodes) (end p : ℕ) (s : Context) (ts : List Token) → open_lists (within p s) ≤ 200 → fault end (within p s) (tokens_of_all us ++ ts) ≡ None → depths us + open_lists (within p s) ≤ 200
+  pub tokens_of_all-shallow : (us : Nodes) (end p : ℕ) (s : Context) (ts : List Token) → open_lists (within p s) ≤ 200 → first_fault end (within p s) (tokens_of_all us ++ ts) ≡ None → depths us + open_lists (within p s) ≤ 200
   tokens_of_all-shallow none end p s ts le e = omega arith
   tokens_of_all-shallow (more u us) end p s ts le e =
-      let e' = ap (fault end (within p s)) (sym (append_assoc (tokens_of u) (tokens_of_all us) ts)) ∙ e in
+      let e' = ap (first_fault end (within p s)) (sym (append_assoc (tokens_of u) (tokens_of_all us) ts)) ∙ e in
       let h = tokens_of-shallow u end (within p s) (tokens_of_all us ++ ts) (λ x. cc) le e' in
       let k = tokens_of_all-shallow us end p s ts le (sym (fault-tokens_of u end (within p s) (tokens_of_all us ++ ts) (λ x. cc) h) ∙ e') in
       omega (arith, h, k)
@@ -112,16 +112,16 @@ none_from_is_some (Some x) e = absurd cc
 -- a text that is a tree has no fault
 pub tree_has_no_fault : (text : List ℕ) (t : Node) → TreeOf text t → text_fault text ≡ None
 tree_has_no_fault text t h =
-    let clean : fault (length text) before (map as_kept (tokens between 0 text)) ≡ None =
-    ap (fault (length text) before) (h.tokens_are ∙ sym (append-nil (tokens_of t))) ∙ fault-tokens_of t (length text) before [] (λ e. cc) (omega (arith, h.shallow)) in
+    let clean : first_fault (length text) before (map as_kept (tokens between 0 text)) ≡ None =
+    ap (first_fault (length text) before) (h.tokens_are ∙ sym (append-nil (tokens_of t))) ∙ fault-tokens_of t (length text) before [] (λ e. cc) (omega (arith, h.shallow)) in
     none_from_is_some (text_fault text) (fault-as_kept (length text) before (tokens between 0 text) ∙ ap is_some clean)
 
 -- a text with no fault that has the tokens of a tree is that tree
 pub tree_from_no_fault : (text : List ℕ) (t : Node) → text_fault text ≡ None → map as_kept (tokens between 0 text) ≡ tokens_of t → TreeOf text t
 tree_from_no_fault text t none_is tokens_is =
-    let clean : fault (length text) before (tokens_of t ++ []) ≡ None =
-    ap (fault (length text) before) (append-nil (tokens_of t) ∙ sym tokens_is)
-    ∙ none_from_is_some (fault (length text) before (map as_kept (tokens between 0 text))) (sym (fault-as_kept (length text) before (tokens between 0 text)) ∙ ap is_some none_is) in
+    let clean : first_fault (length text) before (tokens_of t ++ []) ≡ None =
+    ap (first_fault (length text) before) (append-nil (tokens_of t) ∙ sym tokens_is)
+    ∙ none_from_is_some (first_fault (length text) before (map as_kept (tokens between 0 text))) (sym (fault-as_kept (length text) before (tokens between 0 text)) ∙ ap is_some none_is) in
     let h = tokens_of-shallow t (length text) before [] (λ e. cc) (omega arith) clean in
     record { tokens_are = tokens_is; shallow = omega (arith, h) }
 

@@ -13,6 +13,8 @@ pub mod Gives
 pub mod Results
 pub mod Options
 pub mod TreeView
+-- Grammars, which the crates above read and print their texts by.
+pub mod Grammar
 -- Scaffold: what only private functions and lemmas say.
 pub mod Spellings
 pub mod TokenSpans

@@ -3,7 +3,7 @@ use Rattle.std.specs.Prelude.{◌≡◌, ℕ, List, [], ◌∷◌, ◌++◌, map
 use Rattle.stack_text.specs.Tokens.{Token, opens_at, between, tokens}
 use Rattle.stack_text.specs.Trees.{tokens_of, tokens_of_all, as_kept}
 use Rattle.stack_text.specs.TreeView.{node_of, nodes_of}
-use Rattle.stack_text.specs.TextFaults.{Context, before, within, after, after_tree, fault, text_fault}
+use Rattle.stack_text.specs.TextFaults.{Context, before, within, after, after_tree, first_fault, text_fault}
 use Rattle.stack_text.specs.declared.reader.OpenList.{OpenList}
 use Rattle.stack_text.specs.declared.tree.Tree.{Tree}
 use Rattle.stack_text.specs.declared.text_fault.TextFault.{TextFault}
@@ -33,17 +33,17 @@ Puts old t (Err Memory) new = Unit {0}
 abbrev pub Steps : List OpenList → Token → Result (Option Tree) TextFault → List OpenList → Type 0
 Steps old t (Ok None) new =
     (opened old ++ as_kept t ∷ [] ≡ opened new)
-    × ((end : ℕ) (ts : List Token) → fault end (context old) (t ∷ ts) ≡ fault end (context new) ts)
+    × ((end : ℕ) (ts : List Token) → first_fault end (context old) (t ∷ ts) ≡ first_fault end (context new) ts)
 Steps old t (Ok (Some tree)) new =
     (opened old ++ as_kept t ∷ [] ≡ tokens_of (node_of tree))
-    × ((end : ℕ) (ts : List Token) → fault end (context old) (t ∷ ts) ≡ fault end after ts)
-Steps old t (Err (Fault rule place)) new = (end : ℕ) (ts : List Token) → fault end (context old) (t ∷ ts) ≡ Some (rule, place)
+    × ((end : ℕ) (ts : List Token) → first_fault end (context old) (t ∷ ts) ≡ first_fault end after ts)
+Steps old t (Err (Fault rule place)) new = (end : ℕ) (ts : List Token) → first_fault end (context old) (t ∷ ts) ≡ Some (rule, place)
 Steps old t (Err Memory) new = Unit {0}
 
 -- The tree is returned, if none of these tokens follows it.
 abbrev pub Finishes : ℕ → Tree → List Token → Result Tree TextFault → Type 0
 Finishes end t ts (Ok u) = (ts ≡ []) × (u ≡ t)
-Finishes end t ts (Err (Fault rule place)) = fault end after ts ≡ Some (rule, place)
+Finishes end t ts (Err (Fault rule place)) = first_fault end after ts ≡ Some (rule, place)
 Finishes end t ts (Err Memory) = ⊥
 
 -- What was read of a whole text: a tree with the text's tokens and no fault, or the first fault.

@@ -25,27 +25,27 @@ after_tree (within p s) = within p s
 after_tree after = after
 
 -- the first fault of the tokens from a context on, in a text that ends at a place
-abbrev pub fault : ℕ → Context → List Token → Option (TextRule × ℕ)
-fault end before [] = Some (G6, end)
-fault end (within p s) [] = Some (G2, p)
-fault end after [] = None
-fault end before (opens_at q ∷ ts) = fault end (within q before) ts
-fault end before (closes_at q ∷ ts) = Some (G3, q)
-fault end before (atom_at q w ∷ ts) = fault end after ts
-fault end before (invalid_at q ∷ ts) = Some (G1, q)
-fault end (within p s) (opens_at q ∷ ts) =
-    if nat_lt (open_lists (within p s)) 200 then fault end (within q (within p s)) ts else Some (G4, q)
-fault end (within p s) (closes_at q ∷ ts) = fault end (after_tree s) ts
-fault end (within p s) (atom_at q w ∷ ts) = fault end (within p s) ts
-fault end (within p s) (invalid_at q ∷ ts) = Some (G1, q)
-fault end after (opens_at q ∷ ts) = Some (G5, q)
-fault end after (closes_at q ∷ ts) = Some (G5, q)
-fault end after (atom_at q w ∷ ts) = Some (G5, q)
-fault end after (invalid_at q ∷ ts) = Some (G1, q)
+abbrev pub first_fault : ℕ → Context → List Token → Option (TextRule × ℕ)
+first_fault end before [] = Some (G6, end)
+first_fault end (within p s) [] = Some (G2, p)
+first_fault end after [] = None
+first_fault end before (opens_at q ∷ ts) = first_fault end (within q before) ts
+first_fault end before (closes_at q ∷ ts) = Some (G3, q)
+first_fault end before (atom_at q w ∷ ts) = first_fault end after ts
+first_fault end before (invalid_at q ∷ ts) = Some (G1, q)
+first_fault end (within p s) (opens_at q ∷ ts) =
+    if nat_lt (open_lists (within p s)) 200 then first_fault end (within q (within p s)) ts else Some (G4, q)
+first_fault end (within p s) (closes_at q ∷ ts) = first_fault end (after_tree s) ts
+first_fault end (within p s) (atom_at q w ∷ ts) = first_fault end (within p s) ts
+first_fault end (within p s) (invalid_at q ∷ ts) = Some (G1, q)
+first_fault end after (opens_at q ∷ ts) = Some (G5, q)
+first_fault end after (closes_at q ∷ ts) = Some (G5, q)
+first_fault end after (atom_at q w ∷ ts) = Some (G5, q)
+first_fault end after (invalid_at q ∷ ts) = Some (G1, q)
 
 -- the first fault of a text, with its place
 abbrev pub text_fault : List ℕ → Option (TextRule × ℕ)
-text_fault text = fault (length text) before (tokens between 0 text)
+text_fault text = first_fault (length text) before (tokens between 0 text)
 
 -- What reading a text says of its faults: something is read only where there is none, and else the first is returned.
 -- Out of memory alone is free.

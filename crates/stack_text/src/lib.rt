@@ -3,6 +3,7 @@
 #![tactic(auto)]
 
 mod class;
+pub mod grammar;
 mod law;
 mod lexer;
 mod memory;

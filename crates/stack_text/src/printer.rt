@@ -10,7 +10,7 @@ use crate::tree::Tree;
 use std::alloc::Global;
 
 /// A space before each item but the first.
-fn separate(out: &mut Vec<u8>, index: usize) -> Result<(), Memory>
+pub fn separate(out: &mut Vec<u8>, index: usize) -> Result<(), Memory>
     ensures { OnOk result (out.new.items ≡ out.old.items ++ (if index == 0 then [] else 32 ∷ [])) }
 {
     if index > 0 {

@@ -2,7 +2,7 @@ use Rattle.std.proofs.Common.{◌∙◌, ap, List, map, ◌++◌, drop, length}
 use Rattle.std.proofs.lemmas.Result.{err_from_is_err_and}
 use Rattle.stack_text.specs.Tokens.{Token, tokens, between}
 use Rattle.stack_text.specs.Trees.{as_kept}
-use Rattle.stack_text.specs.TextFaults.{fault}
+use Rattle.stack_text.specs.TextFaults.{first_fault}
 use Rattle.stack_text.specs.OpenLists.{opened, context}
 use Rattle.stack_text.specs.TokenSpans.{token_in}
 use Rattle.stack_text.proofs.OpenListLaws.{text_ends, text_finishes, kept_goes_on, unfinished}
@@ -14,7 +14,7 @@ returns-in_err-tree c =
     let old = c.loop-found.stack.items in
     let p = err_from_is_err_and c.from_residual.result c.from_residual.ensures.1 in
     rw (p.1, p.2) (text_ends c.args.text.now old c.step.new.stack.items (token_in c.args.text.now c.in-Some.found) c.in_err-tree.field-0.0 (tokens between c.in-Some.found.end (drop c.in-Some.found.end c.args.text.now))
-    c.in_err-tree.ensures (c.loop-found.invariant.fault_is ∙ ap (λ (ts : List Token). fault (length c.args.text.now) (context old) ts) toks))
+    c.in_err-tree.ensures (c.loop-found.invariant.fault_is ∙ ap (λ (ts : List Token). first_fault (length c.args.text.now) (context old) ts) toks))
 
 pub returns-in-Some-2 : goal.returns-in-Some-2
 returns-in-Some-2 c =
@@ -23,7 +23,7 @@ returns-in-Some-2 c =
     text_finishes c.args.text.now old c.step.new.stack.items (token_in c.args.text.now c.in-Some.found) c.in-Some-2.tree (tokens between c.in-Some.found.end (drop c.in-Some.found.end c.args.text.now)) c.finish.result
     (rw c.in-Some-2.is at c.in_ok-tree.ensures) c.finish.ensures
     (c.loop-found.invariant.kept_is ∙ ap (λ (ts : List Token). opened old ++ map as_kept ts) toks)
-    (c.loop-found.invariant.fault_is ∙ ap (λ (ts : List Token). fault (length c.args.text.now) (context old) ts) toks)
+    (c.loop-found.invariant.fault_is ∙ ap (λ (ts : List Token). first_fault (length c.args.text.now) (context old) ts) toks)
 
 pub loop-found-preserved : goal.loop-found-preserved
 loop-found-preserved c =
@@ -35,9 +35,9 @@ loop-found-preserved c =
       within = c.in-Some.ensures.some.in_order.2;
       kept_is = kept_goes_on (map as_kept (tokens between 0 c.args.text.now)) old c.step.new.stack.items (token_in c.args.text.now c.in-Some.found) rest h
           (c.loop-found.invariant.kept_is ∙ ap (λ (ts : List Token). opened old ++ map as_kept ts) toks);
-      fault_is = c.loop-found.invariant.fault_is ∙ ap (λ (ts : List Token). fault (length c.args.text.now) (context old) ts) toks ∙ h.1 (length c.args.text.now) rest;
+      fault_is = c.loop-found.invariant.fault_is ∙ ap (λ (ts : List Token). first_fault (length c.args.text.now) (context old) ts) toks ∙ h.1 (length c.args.text.now) rest;
     }
 
 pub returns-in-Some-pop : goal.returns-in-Some-pop
 returns-in-Some-pop c = unfinished c.args.text.now c.loop-found.stack.items c.pop.new.self.items c.in-Some-pop.innermost c.in-Some-pop.ensures.items
-    (c.loop-found.invariant.fault_is ∙ ap (λ (ts : List Token). fault (length c.args.text.now) (context c.loop-found.stack.items) ts) c.in_default.ensures.none)
+    (c.loop-found.invariant.fault_is ∙ ap (λ (ts : List Token). first_fault (length c.args.text.now) (context c.loop-found.stack.items) ts) c.in_default.ensures.none)

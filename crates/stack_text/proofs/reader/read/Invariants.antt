@@ -1,7 +1,7 @@
 use Rattle.std.proofs.Common.{◌≡◌, ◌≤◌, ◌-◌, ◌++◌, map, length, drop}
 use Rattle.stack_text.specs.Tokens.{tokens, between}
 use Rattle.stack_text.specs.Trees.{as_kept}
-use Rattle.stack_text.specs.TextFaults.{fault, text_fault}
+use Rattle.stack_text.specs.TextFaults.{first_fault, text_fault}
 use Rattle.stack_text.specs.OpenLists.{opened, context}
 use Rattle.stack_text.proofs.reader.read.Given as goal
 
@@ -9,7 +9,7 @@ abbrev pub invariant-loop-found : goal.invariant-loop-found
 invariant-loop-found l = record {
   within : l.at ≤ length l.text;
   kept_is : map as_kept (tokens between 0 l.text) ≡ opened l.stack.items ++ map as_kept (tokens between l.at (drop l.at l.text));
-  fault_is : text_fault l.text ≡ fault (length l.text) (context l.stack.items) (tokens between l.at (drop l.at l.text));
+  fault_is : text_fault l.text ≡ first_fault (length l.text) (context l.stack.items) (tokens between l.at (drop l.at l.text));
 }
 
 abbrev pub decreases-loop-found : goal.decreases-loop-found

@@ -1,0 +1,9 @@
+use Rattle.std.proofs.Common.{◌≡◌, ◌++◌, map, drop}
+use Rattle.stack_text.specs.TreeView.{nodes}
+use Rattle.stack_text.specs.TreeText.{items_text}
+use Rattle.stack_text.specs.Grammar.Printed.{items_after}
+use Rattle.stack_text.proofs.grammar.printing.print_items.Given as goal
+
+abbrev pub invariant-loop-index : goal.invariant-loop-index
+invariant-loop-index g l =
+    l.out.items ++ items_after l.index (nodes (map g.T.Print.tree (drop l.index l.items))) ≡ l.fn.out.items ++ items_text (nodes (map g.T.Print.tree l.items))

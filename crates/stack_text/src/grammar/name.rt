@@ -1,0 +1,63 @@
+//! Names.
+
+ghost use Rattle.stack_text.specs.TreeView.{node_of, nodes_of};
+ghost use Rattle.stack_text.specs.Grammar.Judged.{each_of};
+ghost use Rattle.stack_text.specs.Grammar.Parts.{list_or, name_or};
+ghost use Rattle.stack_text.specs.Grammar.Reading.{Reads};
+
+use crate::grammar::fault::FormFault;
+use crate::{Named, Tree, read_name};
+use std::alloc::Global;
+
+/// The name that a tree is; where it is none, it breaks the rule.
+pub fn named(alloc: Global, rule: u8, tree: &Tree) -> Result<Named, FormFault>
+    ensures { Reads (λ name. name) result (name_or rule (node_of tree.now)) }
+{
+    match tree {
+        Tree::List { place, items: _ } => Err(FormFault::Form {
+            rule,
+            place: *place,
+        }),
+        Tree::Atom { place, text } => match read_name(alloc, text)? {
+            Some(name) => Ok(Named {
+                place: *place,
+                name,
+            }),
+            None => Err(FormFault::Form {
+                rule,
+                place: *place,
+            }),
+        },
+    }
+}
+
+/// The name that each item of a list is. A tree that is no list breaks the first rule, and an item that is no name the
+/// other.
+pub fn names(
+    alloc: Global,
+    list_rule: u8,
+    name_rule: u8,
+    tree: &Tree,
+) -> Result<Vec<Named>, FormFault>
+    ensures { Reads (λ names. names.items) result (list_or list_rule (name_or name_rule) (node_of tree.now)) }
+{
+    match tree {
+        Tree::Atom { place, text: _ } => Err(FormFault::Form {
+            rule: list_rule,
+            place: *place,
+        }),
+        Tree::List { place: _, items } => each_name(alloc, name_rule, items),
+    }
+}
+
+/// The name that each tree is.
+fn each_name(alloc: Global, rule: u8, trees: &[Tree]) -> Result<Vec<Named>, FormFault>
+    ensures { Reads (λ names. names.items) result (each_of (name_or rule) (nodes_of trees.now)) }
+{
+    let mut names = Vec::new(alloc);
+    for tree in trees {
+        let name = named(alloc, rule, tree)?;
+        names.push(name)?;
+    }
+    Ok(names)
+}
