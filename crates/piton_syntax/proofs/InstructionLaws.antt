@@ -5,14 +5,14 @@ use Rattle.stack_text.specs.TreeView.{node_of, nodes_of}
 use Rattle.stack_text.specs.declared.tree.Tree.{Tree}
 use Rattle.stack_text.specs.declared.tree.Tree.{Atom, List as ListOf}
 use Rattle.stack_text.proofs.TreeViewLaws.{node_of-atom, node_of-list}
-use Rattle.piton_syntax.specs.declared.fault.PitonFault.{PitonFault}
+use Rattle.stack_text.specs.declared.grammar.fault.FormFault.{FormFault}
 use Rattle.piton_syntax.specs.declared.op.PitonOp.{PitonOp}
-use Rattle.piton_syntax.specs.Judged.{fault, ◌⊛◌}
+use Rattle.stack_text.specs.Grammar.Judged.{fault, ◌⊛◌}
 use Rattle.piton_syntax.specs.Grammar.{arguments_of, called_of, labelled_of, named_of}
 use Rattle.piton_syntax.specs.Operations.{op_arguments, operation_named}
-use Rattle.piton_syntax.specs.Reading.{IsFirst}
+use Rattle.stack_text.specs.Grammar.Reading.{IsFirstFault}
 use Rattle.piton_syntax.specs.Systems.{new_instruction}
-use Rattle.piton_syntax.proofs.ReadingLaws.{first_of_parts, first_of_value}
+use Rattle.stack_text.proofs.PartLaws.{first_of_parts, first_of_value}
 
 two_behind : (p : ℕ) (t u : Node) → labelled_of p (more t (more u none)) ≡ fault p 6
 two_behind p t (atom q bytes) = refl
@@ -51,8 +51,8 @@ behind_items p (t ∷ []) gap e is q items gap_is ne = absurd (omega (arith, e))
 behind_items p (t ∷ u ∷ ts) gap e is q items gap_is ne = rw (sym is ∙ gap_is, node_of-list q items) (no_gap p (node_of t) q items.items (nodes_of ts) ne)
 
 -- the first fault of a labelled instruction whose operation is known
-pub fault_in_label : (e : PitonFault) (p q : ℕ) (label : Node) (name : List ℕ) (o : PitonOp) (ts : Nodes) → operation_named name ≡ Some o → IsFirst e (named_of label)
-    → IsFirst e (called_of p (Ok Some ⊛ named_of label) (operation_named name) q ts)
+pub fault_in_label : (e : FormFault) (p q : ℕ) (label : Node) (name : List ℕ) (o : PitonOp) (ts : Nodes) → operation_named name ≡ Some o → IsFirstFault e (named_of label)
+    → IsFirstFault e (called_of p (Ok Some ⊛ named_of label) (operation_named name) q ts)
 fault_in_label e p q label name o ts found h =
     rw found
     (first_of_parts e (Ok (new_instruction p o) ⊛ (Ok Some ⊛ named_of label)) (arguments_of (op_arguments o) q ts)

@@ -14,12 +14,14 @@ use Rattle.stack_text.specs.Trees.{Node, Nodes, atom, list, none, more, place_of
 use Rattle.stack_text.specs.TreeView.{nodes}
 use Rattle.std.proofs.lemmas.Bool.{and_parts}
 use Rattle.stack_text.proofs.AtomLaws.{name_is_run, numeral_is_run}
+use Rattle.stack_text.specs.Grammar.Printed.{name_tree, tree_of_all, unplaced_name}
+use Rattle.stack_text.specs.Grammar.Printed.{list_tree}
 use Rattle.piton_syntax.specs.declared.argument.ArgKind.{ArgKind}
 use Rattle.piton_syntax.specs.declared.argument.ArgKind.TheVariants as kind
 use Rattle.piton_syntax.specs.declared.argument.ArgText.{ArgText}
 use Rattle.piton_syntax.specs.declared.argument.ArgText.TheVariants as arg
 use Rattle.piton_syntax.specs.declared.argument.Arguments.{Arguments}
-use Rattle.piton_syntax.specs.declared.argument.Arguments.TheVariants.{Zero, One, Two, OneOrMore}
+use Rattle.piton_syntax.specs.declared.argument.Arguments.TheVariants.{Zero, One, TestAndLabel, OneOrMore}
 use Rattle.piton_syntax.specs.declared.op.PitonOp.{PitonOp}
 use Rattle.piton_syntax.specs.declared.tag.Tag.{Tag}
 use Rattle.piton_syntax.specs.declared.tag.Tag.TheVariants as tag
@@ -31,179 +33,25 @@ use Rattle.piton_syntax.specs.declared.word_text.WordText.{WordText}
 use Rattle.piton_syntax.specs.declared.word_text.WordItem.{WordItem}
 use Rattle.piton_syntax.specs.declared.word_text.WordItem.TheVariants as item
 use Rattle.piton_syntax.specs.Answers.{KeepsForm}
-use Rattle.piton_syntax.specs.Judged.{Judged, judged, ◌⊛◌, front, each_of}
-use Rattle.piton_syntax.specs.Limits.{count_of, item_count, is_small_program, is_small_system}
+use Rattle.stack_text.specs.Grammar.Judged.{Judged, judged, ◌⊛◌, front, each_of}
+use Rattle.stack_text.specs.Grammar.Parts.{count_of, list_length}
+use Rattle.piton_syntax.specs.Limits.{is_small_program, is_small_system}
 use Rattle.piton_syntax.specs.Operations.{row_of, op_name, op_arguments, operations, operation_named, tag_named, test_name, tests_of, test_named}
-use Rattle.piton_syntax.specs.Grammar.{is_atom_of, named_of, number_of, is_true_word, is_false_word, address, program_place, item_of, word_of, is_of_kind, are_of_kind, found_or, argument_of, one, two, pair, arguments_of, called_of, labelled_of, instruction_of, list_of, temporary_of, program_of, area_of, system_of}
-use Rattle.piton_syntax.specs.Systems.{InstrOf, ProgramOf, AreaOf, SystemOf, new_word, new_instruction, new_program, new_area, new_system, unplaced_name, unplaced_number, unplaced_item, unplaced_word, unplaced_argument, unplaced_instruction, unplaced_temporary, unplaced_program, unplaced_area, without_places}
-use Rattle.piton_syntax.specs.Printed.{tree_of_all, name_tree, number_tree, truth_tree, item_tree, word_tree, argument_tree, instruction_tree, temporary_tree, program_tree, area_tree, tree_of}
+use Rattle.stack_text.specs.Grammar.Parts.{is_atom_of}
+use Rattle.piton_syntax.specs.Grammar.{named_of, number_of, is_true_word, is_false_word, address, program_place, item_of, word_of, is_of_kind, are_of_kind, argument_of, test_at, one, test_and_label, tested_of, pair, arguments_of, called_of, labelled_of, instruction_of, list_of, temporary_of, program_of, area_of, system_of}
+use Rattle.piton_syntax.specs.Systems.{InstrOf, ProgramOf, AreaOf, SystemOf, new_word, new_instruction, new_program, new_area, new_system, unplaced_number, unplaced_item, unplaced_word, unplaced_argument, unplaced_instruction, unplaced_temporary, unplaced_program, unplaced_area, without_places}
+use Rattle.piton_syntax.specs.Printed.{number_tree, truth_tree, item_tree, word_tree, argument_tree, instruction_tree, temporary_tree, program_tree, area_tree, tree_of}
 use Rattle.stack_text.proofs.NumeralTextLaws.{value-signed_decimal, numeral-signed_decimal, digits-signed_decimal}
+use Rattle.stack_text.proofs.KeepsLaws.{named_again as name_again, keeps_name as keeps_name_or, keeps_named as keeps_named_or, keeps_list as keeps_list_or, KeepsName, Alike, AllAlike, Holds, IsRun, Keeps, KeepsEach, alike_list_length, alike_items, and_true, found_passes, found_tests, holds_at, holds_four, holds_if, holds_judged, holds_more, holds_one, holds_seven, holds_two, keeps_each, ok_four, ok_one, ok_seven, ok_two, passes, well_formed}
 use Rattle.piton_syntax.proofs.WordLaws.{operation_named-name}
-
--- ---- trees of one shape
-
-abbrev pub IsRun : List ℕ → Type 0
-IsRun bytes = (0 < length bytes) × (atom_run bytes ≡ bytes)
-
-abbrev mutual
-  -- the second tree has the shape of the first, and its atoms are runs
-  pub Alike : Node → Node → Type 0
-  Alike (atom p w) (atom q v) = IsRun v
-  Alike (list p ts) (list q us) = AllAlike ts us
-  Alike (atom p w) (list q us) = ⊥
-  Alike (list p ts) (atom q v) = ⊥
-
-  pub AllAlike : Nodes → Nodes → Type 0
-  AllAlike none none = Unit {0}
-  AllAlike (more t ts) (more u us) = Alike t u × AllAlike ts us
-  AllAlike none (more u us) = ⊥
-  AllAlike (more t ts) none = ⊥
-
-mutual
-  alike_runs : (t u : Node) → Alike t u → AtomsAreRuns u
-  alike_runs (atom p w) (atom q v) h = h
-  alike_runs (list p ts) (list q us) h = all_alike_runs ts us h
-  alike_runs (atom p w) (list q us) h = absurd h
-  alike_runs (list p ts) (atom q v) h = absurd h
-
-  all_alike_runs : (ts us : Nodes) → AllAlike ts us → AllAtomsAreRuns us
-  all_alike_runs none none h = tt
-  all_alike_runs (more t ts) (more u us) h = (alike_runs t u h.0, all_alike_runs ts us h.1)
-  all_alike_runs none (more u us) h = absurd h
-  all_alike_runs (more t ts) none h = absurd h
-
-mutual
-  alike_depth : (t u : Node) → Alike t u → depth u ≡ depth t
-  alike_depth (atom p w) (atom q v) h = refl
-  alike_depth (list p ts) (list q us) h = ap suc (all_alike_depth ts us h)
-  alike_depth (atom p w) (list q us) h = absurd h
-  alike_depth (list p ts) (atom q v) h = absurd h
-
-  all_alike_depth : (ts us : Nodes) → AllAlike ts us → depths us ≡ depths ts
-  all_alike_depth none none h = refl
-  all_alike_depth (more t ts) (more u us) h = ap (λ (n : ℕ). max n (depths us)) (alike_depth t u h.0) ∙ ap (max (depth t)) (all_alike_depth ts us h.1)
-  all_alike_depth none (more u us) h = absurd h
-  all_alike_depth (more t ts) none h = absurd h
-
-mutual
-  alike_count : (t u : Node) → Alike t u → node_count u ≡ node_count t
-  alike_count (atom p w) (atom q v) h = refl
-  alike_count (list p ts) (list q us) h = ap (λ (n : ℕ). 1 + n) (all_alike_count ts us h)
-  alike_count (atom p w) (list q us) h = absurd h
-  alike_count (list p ts) (atom q v) h = absurd h
-
-  all_alike_count : (ts us : Nodes) → AllAlike ts us → node_counts us ≡ node_counts ts
-  all_alike_count none none h = refl
-  all_alike_count (more t ts) (more u us) h = ap (λ (n : ℕ). n + node_counts us) (alike_count t u h.0) ∙ ap (λ (n : ℕ). node_count t + n) (all_alike_count ts us h.1)
-  all_alike_count none (more u us) h = absurd h
-  all_alike_count (more t ts) none h = absurd h
-
-alike_items : (ts us : Nodes) → AllAlike ts us → count_of us ≡ count_of ts
-alike_items none none h = refl
-alike_items (more t ts) (more u us) h = ap (λ (n : ℕ). 1 + n) (alike_items ts us h.1)
-alike_items none (more u us) h = absurd h
-alike_items (more t ts) none h = absurd h
-
-alike_item_count : (t u : Node) → Alike t u → item_count u ≡ item_count t
-alike_item_count (atom p w) (atom q v) h = refl
-alike_item_count (list p ts) (list q us) h = alike_items ts us h
-alike_item_count (atom p w) (list q us) h = absurd h
-alike_item_count (list p ts) (atom q v) h = absurd h
-
-well_formed : (t u : Node) → Alike t u → IsWellFormed t → IsWellFormed u
-well_formed t u h form =
-    let deep : depth u ≡ depth t = alike_depth t u h in
-    let many : node_count u ≡ node_count t = alike_count t u h in
-    record { atoms = alike_runs t u h; shallow = omega (arith, deep, form.shallow); few = subst (λ (n : ℕ). n ≤ 2 ^ 31) (sym many) form.few }
-
--- ---- what holds of a judgement's value, if it has one
-
-abbrev pub HoldsBy : {X : Type 0} → (X → Type 0) → Judged X → Type 0
-HoldsBy P (Ok x) = P x
-HoldsBy P (Err fs) = Unit {0}
-
-pub record Holds {X : Type 0} (P : X → Type 0) (r : Judged X) : Type 0 where
-  pub of_value : HoldsBy P r
-
-holds_apply : {X Y : Type 0} (P : X → Type 0) (Q : Y → Type 0) (rf : Judged (X → Y)) (rx : Judged X) → Holds (λ f. (x : X) → P x → Q (f x)) rf → Holds P rx → Holds Q (rf ⊛ rx)
-holds_apply P Q (Ok f) (Ok x) h k = record { of_value = h.of_value x k.of_value }
-holds_apply P Q (Ok f) (Err gs) h k = record { of_value = tt }
-holds_apply P Q (Err fs) (Ok x) h k = record { of_value = tt }
-holds_apply P Q (Err fs) (Err gs) h k = record { of_value = tt }
-
--- of the value of a passed test
-holds_judged : {X : Type 0} (P : X → Type 0) (p rule : ℕ) (b : Bool) (r : Judged X) → (b ≡ true → Holds P r) → Holds P (judged p rule b r)
-holds_judged P p rule true r h = h refl
-holds_judged P p rule false r h = record { of_value = tt }
-
--- of a value of one part, of two, of four and of seven
-holds_one : {X Y : Type 0} (P : X → Type 0) (Q : Y → Type 0) (f : X → Y) (r : Judged X) → ((x : X) → P x → Q (f x)) → Holds P r → Holds Q (Ok f ⊛ r)
-holds_one P Q f r base h = holds_apply P Q (Ok f) r (record { of_value = base }) h
-
-holds_two : {X Y Z : Type 0} (P : X → Type 0) (R : Y → Type 0) (Q : Z → Type 0) (f : X → Y → Z) (r : Judged X) (s : Judged Y) → ((x : X) → P x → (y : Y) → R y → Q (f x y)) → Holds P r → Holds R s → Holds Q (Ok f ⊛ r ⊛ s)
-holds_two {X} {Y} P R Q f r s base h k = holds_apply R Q (Ok f ⊛ r) s (holds_apply P (λ g. (y : Y) → R y → Q (g y)) (Ok f) r (record { of_value = base }) h) k
-
-holds_four : {A B C D Z : Type 0} (PA : A → Type 0) (PB : B → Type 0) (PC : C → Type 0) (PD : D → Type 0) (Q : Z → Type 0) (f : A → B → C → D → Z) (ra : Judged A) (rb : Judged B) (rc : Judged C) (rd : Judged D) →
-    ((a : A) → PA a → (b : B) → PB b → (c : C) → PC c → (d : D) → PD d → Q (f a b c d)) → Holds PA ra → Holds PB rb → Holds PC rc → Holds PD rd → Holds Q (Ok f ⊛ ra ⊛ rb ⊛ rc ⊛ rd)
-holds_four {A} {B} {C} {D} PA PB PC PD Q f ra rb rc rd base ha hb hc hd =
-    holds_apply PD Q (Ok f ⊛ ra ⊛ rb ⊛ rc) rd
-    (holds_apply PC (λ g. (d : D) → PD d → Q (g d)) (Ok f ⊛ ra ⊛ rb) rc
-    (holds_apply PB (λ g. (c : C) → PC c → (d : D) → PD d → Q (g c d)) (Ok f ⊛ ra) rb
-    (holds_apply PA (λ g. (b : B) → PB b → (c : C) → PC c → (d : D) → PD d → Q (g b c d)) (Ok f) ra (record { of_value = base }) ha) hb) hc) hd
-
-holds_seven : {A B C D E F G Z : Type 0} (PA : A → Type 0) (PB : B → Type 0) (PC : C → Type 0) (PD : D → Type 0) (PE : E → Type 0) (PF : F → Type 0) (PG : G → Type 0) (Q : Z → Type 0)
-    (f : A → B → C → D → E → F → G → Z) (ra : Judged A) (rb : Judged B) (rc : Judged C) (rd : Judged D) (re : Judged E) (rf : Judged F) (rg : Judged G) →
-    ((a : A) → PA a → (b : B) → PB b → (c : C) → PC c → (d : D) → PD d → (e : E) → PE e → (i : F) → PF i → (j : G) → PG j → Q (f a b c d e i j)) →
-    Holds PA ra → Holds PB rb → Holds PC rc → Holds PD rd → Holds PE re → Holds PF rf → Holds PG rg → Holds Q (Ok f ⊛ ra ⊛ rb ⊛ rc ⊛ rd ⊛ re ⊛ rf ⊛ rg)
-holds_seven {A} {B} {C} {D} {E} {F} {G} PA PB PC PD PE PF PG Q f ra rb rc rd re rf rg base ha hb hc hd he hf hg =
-    holds_apply PG Q (Ok f ⊛ ra ⊛ rb ⊛ rc ⊛ rd ⊛ re ⊛ rf) rg
-    (holds_apply PF (λ g. (j : G) → PG j → Q (g j)) (Ok f ⊛ ra ⊛ rb ⊛ rc ⊛ rd ⊛ re) rf
-    (holds_apply PE (λ g. (i : F) → PF i → (j : G) → PG j → Q (g i j)) (Ok f ⊛ ra ⊛ rb ⊛ rc ⊛ rd) re
-    (holds_apply PD (λ g. (e : E) → PE e → (i : F) → PF i → (j : G) → PG j → Q (g e i j)) (Ok f ⊛ ra ⊛ rb ⊛ rc) rd
-    (holds_apply PC (λ g. (d : D) → PD d → (e : E) → PE e → (i : F) → PF i → (j : G) → PG j → Q (g d e i j)) (Ok f ⊛ ra ⊛ rb) rc
-    (holds_apply PB (λ g. (c : C) → PC c → (d : D) → PD d → (e : E) → PE e → (i : F) → PF i → (j : G) → PG j → Q (g c d e i j)) (Ok f ⊛ ra) rb
-    (holds_apply PA (λ g. (b : B) → PB b → (c : C) → PC c → (d : D) → PD d → (e : E) → PE e → (i : F) → PF i → (j : G) → PG j → Q (g b c d e i j)) (Ok f) ra (record { of_value = base }) ha) hb) hc) hd) he) hf) hg
-
-holds_at : {X : Type 0} (P : X → Type 0) (r : Judged X) (x : X) → Holds P r → r ≡ Ok x → P x
-holds_at {X} P r x h e = let k : Holds P (Ok x) = subst (λ (s : Judged X). Holds P s) e h in k.of_value
-
--- ---- a judgement of known parts
-
-passes : {X : Type 0} (p rule : ℕ) (b : Bool) (r : Judged X) (x : X) → b ≡ true → r ≡ Ok x → judged p rule b r ≡ Ok x
-passes p rule b r x e h = ap (λ (c : Bool). judged p rule c r) e ∙ h
-
-ok_one : {X Y : Type 0} (f : X → Y) (r : Judged X) (x : X) → r ≡ Ok x → (Ok f ⊛ r) ≡ Ok (f x)
-ok_one {X} f r x h = ap (λ (s : Judged X). Ok f ⊛ s) h
-
-ok_two : {X Y Z : Type 0} (f : X → Y → Z) (r : Judged X) (s : Judged Y) (x : X) (y : Y) → r ≡ Ok x → s ≡ Ok y → (Ok f ⊛ r ⊛ s) ≡ Ok (f x y)
-ok_two {X} {Y} f r s x y h k = ap (λ (u : Judged X). Ok f ⊛ u ⊛ s) h ∙ ap (λ (u : Judged Y). Ok f ⊛ Ok x ⊛ u) k
-
-ok_four : {A B C D Z : Type 0} (f : A → B → C → D → Z) (ra : Judged A) (rb : Judged B) (rc : Judged C) (rd : Judged D) (a : A) (b : B) (c : C) (d : D) →
-    ra ≡ Ok a → rb ≡ Ok b → rc ≡ Ok c → rd ≡ Ok d → (Ok f ⊛ ra ⊛ rb ⊛ rc ⊛ rd) ≡ Ok (f a b c d)
-ok_four {A} {B} {C} {D} f ra rb rc rd a b c d ha hb hc hd =
-    ap (λ (u : Judged A). Ok f ⊛ u ⊛ rb ⊛ rc ⊛ rd) ha ∙ ap (λ (u : Judged B). Ok f ⊛ Ok a ⊛ u ⊛ rc ⊛ rd) hb
-    ∙ ok_two (f a b) rc rd c d hc hd
-
-ok_seven : {A B C D E F G Z : Type 0} (f : A → B → C → D → E → F → G → Z) (ra : Judged A) (rb : Judged B) (rc : Judged C) (rd : Judged D) (re : Judged E) (rf : Judged F) (rg : Judged G)
-    (a : A) (b : B) (c : C) (d : D) (e : E) (i : F) (j : G) → ra ≡ Ok a → rb ≡ Ok b → rc ≡ Ok c → rd ≡ Ok d → re ≡ Ok e → rf ≡ Ok i → rg ≡ Ok j →
-    (Ok f ⊛ ra ⊛ rb ⊛ rc ⊛ rd ⊛ re ⊛ rf ⊛ rg) ≡ Ok (f a b c d e i j)
-ok_seven {A} {B} {C} {D} {E} {F} {G} f ra rb rc rd re rf rg a b c d e i j ha hb hc hd he hf hg =
-    ap (λ (u : Judged A). Ok f ⊛ u ⊛ rb ⊛ rc ⊛ rd ⊛ re ⊛ rf ⊛ rg) ha ∙ ap (λ (u : Judged B). Ok f ⊛ Ok a ⊛ u ⊛ rc ⊛ rd ⊛ re ⊛ rf ⊛ rg) hb
-    ∙ ap (λ (u : Judged C). Ok f ⊛ Ok a ⊛ Ok b ⊛ u ⊛ rd ⊛ re ⊛ rf ⊛ rg) hc
-    ∙ ok_four (f a b c) rd re rf rg d e i j hd he hf hg
 
 -- ---- names and numbers
 
-record KeepsName (t : Node) (n : Named) : Type 0 where
-  alike : Alike t (name_tree n)
-  is_named : is_name n.name ≡ true
-
-named_again : (n : Named) → is_name n.name ≡ true → named_of (name_tree n) ≡ Ok (unplaced_name n)
-named_again n h = passes 0 4 (is_name n.name) _ _ h refl
+pub named_again : (n : Named) → is_name n.name ≡ true → named_of (name_tree n) ≡ Ok (unplaced_name n)
+named_again = name_again 4
 
 keeps_name : (t : Node) → Holds (KeepsName t) (named_of t)
-keeps_name (atom p w) = holds_judged (KeepsName (atom p w)) p 4 (is_name w) _ (λ h. record { of_value = record { alike = name_is_run w h; is_named = h } })
-keeps_name (list p ts) = record { of_value = tt }
+keeps_name = keeps_name_or 4
 
 record KeepsNumber (test : List ℕ → Bool) (t : Node) (n : Number) : Type 0 where
   alike : Alike t (number_tree n)
@@ -214,7 +62,7 @@ number_judged : (v z : ℤ) → v ≡ z → fits_128_bits z ≡ true → judged 
 number_judged v z e h =
     subst (λ (u : ℤ). judged 0 8 (fits_128_bits u) (Ok (record { place = 0; number = u })) ≡ Ok (unplaced_number (record { place = 0; number = z }))) (sym e) (passes 0 8 (fits_128_bits z) _ _ h refl)
 
-number_again : (n : Number) → fits_128_bits n.number ≡ true → number_of (number_tree n) ≡ Ok (unplaced_number n)
+pub number_again : (n : Number) → fits_128_bits n.number ≡ true → number_of (number_tree n) ≡ Ok (unplaced_number n)
 number_again n h = number_judged (numeral_value (signed_decimal n.number)) n.number (value-signed_decimal n.number h) h
 
 keeps_number_by : (test : List ℕ → Bool) → ((w : List ℕ) → test w ≡ true → fits_128_bits (numeral_value w) ≡ true → test (signed_decimal (numeral_value w)) ≡ true) →
@@ -222,7 +70,7 @@ keeps_number_by : (test : List ℕ → Bool) → ((w : List ℕ) → test w ≡ 
 keeps_number_by test again (atom p w) h =
     holds_judged (KeepsNumber test (atom p w)) p 8 (fits_128_bits (numeral_value w)) _
     (λ k. record { of_value = record { alike = numeral_is_run (signed_decimal (numeral_value w)) (numeral-signed_decimal (numeral_value w) k); is_written = again w h k; fits = k } })
-keeps_number_by test again (list p ts) h = record { of_value = tt }
+keeps_number_by test again (list p ts) h = absurd cc
 
 keeps_number : (t : Node) → is_atom_of is_numeral t ≡ true → Holds (KeepsNumber is_numeral t) (number_of t)
 keeps_number = keeps_number_by is_numeral (λ w h k. numeral-signed_decimal (numeral_value w) k)
@@ -237,19 +85,19 @@ record KeepsItem (ts : Nodes) (i : WordItem) : Type 0 where
   alike : (p q : ℕ) (w : List ℕ) → Alike (list p (more (atom q w) ts)) (item_tree i)
   stands : word_of (item_tree i) ≡ Ok (new_word 0 (unplaced_item i))
 
-truth_run : (q : ℕ) (w : List ℕ) (b : Bool) → Alike (atom q w) (truth_tree b)
+pub truth_run : (q : ℕ) (w : List ℕ) (b : Bool) → Alike (atom q w) (truth_tree b)
 truth_run q w true = (omega arith, refl)
 truth_run q w false = (omega arith, refl)
 
-truth_again : (b : Bool) → word_of (item_tree (item.Bool b)) ≡ Ok (new_word 0 (item.Bool b))
+pub truth_again : (b : Bool) → word_of (item_tree (item.Bool b)) ≡ Ok (new_word 0 (item.Bool b))
 truth_again true = refl
 truth_again false = refl
 
 -- a word of one number, of one name, or of both
-word_again : (i : WordItem) (r : Judged WordItem) → r ≡ Ok i → (Ok (new_word 0) ⊛ r) ≡ Ok (new_word 0 i)
+pub word_again : (i : WordItem) (r : Judged WordItem) → r ≡ Ok i → (Ok (new_word 0) ⊛ r) ≡ Ok (new_word 0 i)
 word_again i r h = ok_one (new_word 0) r i h
 
-named_and_numbered : (f : Named → Number → WordItem) (area : Named) (n : Number) → is_name area.name ≡ true → is_digits (signed_decimal n.number) ≡ true → fits_128_bits n.number ≡ true →
+pub named_and_numbered : (f : Named → Number → WordItem) (area : Named) (n : Number) → is_name area.name ≡ true → is_digits (signed_decimal n.number) ≡ true → fits_128_bits n.number ≡ true →
     judged 0 5 (is_atom_of is_name (name_tree area) && is_atom_of is_digits (number_tree n)) (Ok f ⊛ named_of (name_tree area) ⊛ number_of (number_tree n)) ≡ Ok (f (unplaced_name area) (unplaced_number n))
 named_and_numbered f area n named digits fits =
     passes 0 5 (is_atom_of is_name (name_tree area) && is_atom_of is_digits (number_tree n)) _ _ (ap (λ (b : Bool). b && is_digits (signed_decimal n.number)) named ∙ digits)
@@ -318,11 +166,6 @@ keeps_item (Some tag.Subr) p (more program none) =
     }) (keeps_name program))
 keeps_item (Some tag.Subr) p (more program (more t ts)) = record { of_value = tt }
 
--- a part whose tree has the shape of the tree that was read, and is that part but for places
-record Keeps {X : Type 0} (judge : Node → Judged X) (tree : X → Node) (view : X → X) (t : Node) (x : X) : Type 0 where
-  alike : Alike t (tree x)
-  stands : judge (tree x) ≡ Ok (view x)
-
 abbrev KeepsWord : Node → WordText → Type 0
 KeepsWord = Keeps word_of word_tree unplaced_word
 
@@ -336,57 +179,18 @@ keeps_word (list p (more (atom q w) ts)) =
 
 -- ---- lists
 
-record KeepsEach {X : Type 0} (judge : Node → Judged X) (tree : X → Node) (view : X → X) (ts : Nodes) (xs : List X) : Type 0 where
-  alike : AllAlike ts (nodes (map tree xs))
-  stands : each_of judge (nodes (map tree xs)) ≡ Ok (map view xs)
-
-keeps_each : {X : Type 0} (judge : Node → Judged X) (tree : X → Node) (view : X → X) → ((t : Node) → Holds (Keeps judge tree view t) (judge t)) → (ts : Nodes) → Holds (KeepsEach judge tree view ts) (each_of judge ts)
-keeps_each judge tree view keeps none = record { of_value = record { alike = tt; stands = refl } }
-keeps_each judge tree view keeps (more t ts) =
-    holds_two (Keeps judge tree view t) (KeepsEach judge tree view ts) (KeepsEach judge tree view (more t ts)) front (judge t) (each_of judge ts)
-    (λ x g xs h. record { alike = (g.alike, h.alike); stands = ok_two front _ _ (view x) (map view xs) g.stands h.stands })
-    (keeps t) (keeps_each judge tree view keeps ts)
-
-abbrev list_tree : {X : Type 0} → (X → Node) → List X → Node
-list_tree tree xs = tree_of_all (map tree xs)
-
 keeps_list : {X : Type 0} (judge : Node → Judged X) (tree : X → Node) (view : X → X) → ((t : Node) → Holds (Keeps judge tree view t) (judge t)) → (t : Node) →
     Holds (Keeps (list_of judge) (list_tree tree) (map view) t) (list_of judge t)
-keeps_list judge tree view keeps (atom p w) = record { of_value = tt }
-keeps_list {X} judge tree view keeps (list p ts) = as_list (each_of judge ts) (keeps_each judge tree view keeps ts)
-  where
-    as_list : (r : Judged (List X)) → Holds (KeepsEach judge tree view ts) r → Holds (Keeps (list_of judge) (list_tree tree) (map view) (list p ts)) r
-    as_list (Ok xs) h = record { of_value = record { alike = h.of_value.alike; stands = h.of_value.stands } }
-    as_list (Err fs) h = record { of_value = tt }
+keeps_list = keeps_list_or 3
 
 -- ---- the words of operations and of tests
 
--- what is found is among what was searched
-found_first : {X : Type 0} (P : X → Bool) (y x : X) (b : Bool) (behind : Option X) → P y ≡ true → (behind ≡ Some x → P x ≡ true) → cond b (Some y) behind ≡ Some x → P x ≡ true
-found_first {X} P y x true behind first others h = let k : y ≡ x = cc in subst (λ (z : X). P z ≡ true) k first
-found_first P y x false behind first others h = others h
-
-found_passes : {X : Type 0} (P test : X → Bool) (xs : List X) (x : X) → list_all P xs ≡ true → find test xs ≡ Some x → P x ≡ true
-found_passes P test [] x all h = absurd cc
-found_passes P test (y ∷ ys) x all h =
-    let p = and_parts (P y) (list_all P ys) all in
-    found_first P y x (test y) (find test ys) p.0 (found_passes P test ys x p.1) h
-
--- what is found passes the test
-found_tests_first : {X : Type 0} (test : X → Bool) (y x : X) (b : Bool) (behind : Option X) → test y ≡ b → (behind ≡ Some x → test x ≡ true) → cond b (Some y) behind ≡ Some x → test x ≡ true
-found_tests_first {X} test y x true behind t others h = let k : y ≡ x = cc in subst (λ (z : X). test z ≡ true) k t
-found_tests_first test y x false behind t others h = others h
-
-found_tests : {X : Type 0} (test : X → Bool) (xs : List X) (x : X) → find test xs ≡ Some x → test x ≡ true
-found_tests test [] x h = absurd cc
-found_tests test (y ∷ ys) x h = found_tests_first test y x (test y) (find test ys) refl (found_tests test ys x) h
-
-op_run : (o : PitonOp) → IsRun (op_name o)
+pub op_run : (o : PitonOp) → IsRun (op_name o)
 unfolding row_of operations
 op_run o = name_is_run (op_name o) (found_passes (λ q. is_name (op_name q)) (λ q. bytes_eq (op_name o) (op_name q)) operations o refl (operation_named-name o))
 
 -- no operation has the word that stands before a label
-no_label_word : (o : PitonOp) → bytes_eq (op_name o) (codes "dl") ≡ false
+pub no_label_word : (o : PitonOp) → bytes_eq (op_name o) (codes "dl") ≡ false
 unfolding row_of operations
 no_label_word o = by_test (bytes_eq (op_name o) (codes "dl")) refl
   where
@@ -404,7 +208,7 @@ tests_are_names family.Int = refl
 tests_are_names family.Bool = refl
 tests_are_names family.Bitv = refl
 
-test_run : (f : TestFamily) (w : List ℕ) (k : TestKind) → test_named f w ≡ Some k → IsRun (test_name k)
+pub test_run : (f : TestFamily) (w : List ℕ) (k : TestKind) → test_named f w ≡ Some k → IsRun (test_name k)
 test_run f w k h = name_is_run (test_name k) (found_passes (λ j. is_name (test_name j)) (λ j. bytes_eq w (test_name j)) (tests_of f) k (tests_are_names f) h)
 
 test_again : (f : TestFamily) (w : List ℕ) (k : TestKind) → test_named f w ≡ Some k → test_named f (test_name k) ≡ Some k
@@ -418,18 +222,6 @@ record KeepsArgument (k : ArgKind) (t : Node) (a : ArgText) : Type 0 where
   alike : Alike t (argument_tree a)
   is_kind : is_of_kind k (argument_tree a) ≡ true
   stands : argument_of k (argument_tree a) ≡ Ok (unplaced_argument a)
-
-keeps_test : (f : TestFamily) (p : ℕ) (w : List ℕ) (found : Option TestKind) → test_named f w ≡ found → Holds (λ k. KeepsArgument (kind.Test f) (atom p w) (arg.Test k)) (found_or p 7 found)
-keeps_test f p w None h = record { of_value = tt }
-keeps_test f p w (Some k) h =
-    let again = test_again f w k h in
-    record {
-      of_value = record {
-        alike = test_run f w k h;
-        is_kind = ap is_some again;
-        stands = ok_one arg.Test _ k (ap (λ (found : Option TestKind). found_or 0 7 found) again);
-      };
-    }
 
 keeps_name_argument : (k : ArgKind) → ((n : Named) → is_name n.name ≡ true → is_of_kind k (name_tree n) ≡ true) → ((n : Named) → named_of (name_tree n) ≡ Ok (unplaced_name n) → argument_of k (name_tree n) ≡ Ok (arg.Name (unplaced_name n))) →
     (t : Node) → Holds (KeepsArgument k t) (Ok arg.Name ⊛ named_of t)
@@ -448,19 +240,11 @@ keeps_argument kind.Program t pass = keeps_name_argument kind.Program (λ n h. h
 keeps_argument kind.Count t pass =
     holds_one (KeepsNumber is_digits t) (KeepsArgument kind.Count t) arg.Number (number_of t)
     (λ n h. record { alike = h.alike; is_kind = h.is_written; stands = ok_one arg.Number _ (unplaced_number n) (number_again n h.fits) }) (keeps_digits t pass)
-keeps_argument (kind.Test f) (atom p w) pass =
-    holds_one (λ k. KeepsArgument (kind.Test f) (atom p w) (arg.Test k)) (KeepsArgument (kind.Test f) (atom p w)) arg.Test (found_or p 7 (test_named f w))
-    (λ k h. h) (keeps_test f p w (test_named f w) refl)
-keeps_argument (kind.Test f) (list p ts) pass = record { of_value = tt }
 
 record KeepsSome (k : ArgKind) (ts : Nodes) (xs : List ArgText) : Type 0 where
   alike : AllAlike ts (nodes (map argument_tree xs))
   are_kind : are_of_kind k (nodes (map argument_tree xs)) ≡ true
   stands : each_of (argument_of k) (nodes (map argument_tree xs)) ≡ Ok (map unplaced_argument xs)
-
-and_true : (a b : Bool) → a ≡ true → b ≡ true → (a && b) ≡ true
-and_true true b h k = k
-and_true false b h k = h
 
 keeps_some : (k : ArgKind) (ts : Nodes) → are_of_kind k ts ≡ true → Holds (KeepsSome k ts) (each_of (argument_of k) ts)
 keeps_some k none pass = record { of_value = record { alike = tt; are_kind = refl; stands = refl } }
@@ -483,9 +267,19 @@ keeps_one_or_more : (k : ArgKind) (t : Node) (ts : Nodes) (xs : List ArgText) �
 keeps_one_or_more k t ts [] h = absurd h.alike
 keeps_one_or_more k t ts (x ∷ xs) h = record { alike = h.alike; stands = passes 0 7 (are_of_kind k (nodes (map argument_tree (x ∷ xs)))) _ _ h.are_kind h.stands }
 
-holds_more : {X : Type 0} (P Q : X → Type 0) (r : Judged X) → ((x : X) → P x → Q x) → Holds P r → Holds Q r
-holds_more P Q (Ok x) f h = record { of_value = f x h.of_value }
-holds_more P Q (Err fs) f h = record { of_value = tt }
+keeps_tested : (f : TestFamily) (t label : Node) (p : ℕ) (found : Option TestKind) → test_at f t ≡ found → Holds (KeepsArguments (TestAndLabel f) (more t (more label none))) (tested_of p found label)
+keeps_tested f t label p None e = record { of_value = tt }
+keeps_tested f (list q ts) label p (Some k) e = absurd cc
+keeps_tested f (atom q w) label p (Some k) e =
+    let again : test_named f (test_name k) ≡ Some k = test_again f w k e in
+    holds_judged (KeepsArguments (TestAndLabel f) (more (atom q w) (more label none))) p 7 (is_atom_of is_name label) _
+    (λ pass. holds_one (KeepsName label) (KeepsArguments (TestAndLabel f) (more (atom q w) (more label none))) (test_and_label k) (named_of label)
+    (λ n h. record {
+      alike = (test_run f w k e, (h.alike, tt));
+      stands = ap (λ (o : Option TestKind). tested_of 0 o (name_tree n)) again
+          ∙ passes 0 7 (is_name n.name) _ _ h.is_named (ok_one (test_and_label k) _ (unplaced_name n) (named_again n h.is_named));
+    })
+    (keeps_name label))
 
 keeps_arguments : (a : Arguments) (p : ℕ) (ts : Nodes) → Holds (KeepsArguments a ts) (arguments_of a p ts)
 keeps_arguments Zero p none = record { of_value = record { alike = tt; stands = refl } }
@@ -497,18 +291,10 @@ keeps_arguments (One k) p (more t none) =
     (λ x h. record { alike = (h.alike, tt); stands = passes 0 7 (is_of_kind k (argument_tree x)) _ _ h.is_kind (ok_one one _ (unplaced_argument x) h.stands) })
     (keeps_argument k t pass))
 keeps_arguments (One k) p (more t (more u ts)) = record { of_value = tt }
-keeps_arguments (Two k l) p none = record { of_value = tt }
-keeps_arguments (Two k l) p (more t none) = record { of_value = tt }
-keeps_arguments (Two k l) p (more t (more u none)) =
-    holds_judged (KeepsArguments (Two k l) (more t (more u none))) p 7 (is_of_kind k t && is_of_kind l u) _
-    (λ pass. let q = and_parts (is_of_kind k t) (is_of_kind l u) pass in
-    holds_two (KeepsArgument k t) (KeepsArgument l u) (KeepsArguments (Two k l) (more t (more u none))) two (argument_of k t) (argument_of l u)
-    (λ x g y h. record {
-      alike = (g.alike, (h.alike, tt));
-      stands = passes 0 7 (is_of_kind k (argument_tree x) && is_of_kind l (argument_tree y)) _ _ (and_true (is_of_kind k (argument_tree x)) _ g.is_kind h.is_kind) (ok_two two _ _ (unplaced_argument x) (unplaced_argument y) g.stands h.stands);
-    })
-    (keeps_argument k t q.0) (keeps_argument l u q.1))
-keeps_arguments (Two k l) p (more t (more u (more v ts))) = record { of_value = tt }
+keeps_arguments (TestAndLabel f) p none = record { of_value = tt }
+keeps_arguments (TestAndLabel f) p (more t none) = record { of_value = tt }
+keeps_arguments (TestAndLabel f) p (more t (more label none)) = keeps_tested f t label p (test_at f t) refl
+keeps_arguments (TestAndLabel f) p (more t (more u (more v ts))) = record { of_value = tt }
 keeps_arguments (OneOrMore k) p none = record { of_value = tt }
 keeps_arguments (OneOrMore k) p (more t ts) =
     holds_judged (KeepsArguments (OneOrMore k) (more t ts)) p 7 (are_of_kind k (more t ts)) _
@@ -519,11 +305,11 @@ keeps_arguments (OneOrMore k) p (more t ts) =
 abbrev KeepsInstruction : Node → InstrOf → Type 0
 KeepsInstruction = Keeps instruction_of instruction_tree unplaced_instruction
 
-called_again : (l : Judged (Option Named)) (o : PitonOp) (n : Option Named) (ts : Nodes) (xs : List ArgText) → l ≡ Ok n → arguments_of (op_arguments o) 0 ts ≡ Ok xs → called_of 0 l (operation_named (op_name o)) 0 ts ≡ Ok (new_instruction 0 o n xs)
+pub called_again : (l : Judged (Option Named)) (o : PitonOp) (n : Option Named) (ts : Nodes) (xs : List ArgText) → l ≡ Ok n → arguments_of (op_arguments o) 0 ts ≡ Ok xs → called_of 0 l (operation_named (op_name o)) 0 ts ≡ Ok (new_instruction 0 o n xs)
 called_again l o n ts xs h k =
     ap (λ (found : Option PitonOp). called_of 0 l found 0 ts) (operation_named-name o) ∙ ok_two (new_instruction 0 o) l _ n xs h k
 
-unlabelled_again : (o : PitonOp) (ts : Nodes) (i : InstrOf) → called_of 0 (Ok None) (operation_named (op_name o)) 0 ts ≡ Ok i → instruction_of (list 0 (more (atom 0 (op_name o)) ts)) ≡ Ok i
+pub unlabelled_again : (o : PitonOp) (ts : Nodes) (i : InstrOf) → called_of 0 (Ok None) (operation_named (op_name o)) 0 ts ≡ Ok i → instruction_of (list 0 (more (atom 0 (op_name o)) ts)) ≡ Ok i
 unlabelled_again o ts i h =
     ap (λ (b : Bool). cond b (labelled_of 0 ts) (called_of 0 (Ok None) (operation_named (op_name o)) 0 ts)) (no_label_word o) ∙ h
 
@@ -573,10 +359,6 @@ keeps_labelled p q v (more l (more (list r none) (more (list s (more (list t vs)
 keeps_labelled p q v (more l (more (list r none) (more (list s (more (atom t w) ts)) (more u us)))) = record { of_value = tt }
 keeps_labelled p q v (more l (more (list r none) (more (list s (more (atom t w) ts)) none))) = keeps_labelled_call p q r s t v w l (operation_named w) ts
 
-holds_if : {X : Type 0} (P : X → Type 0) (b : Bool) (r s : Judged X) → Holds P r → Holds P s → Holds P (cond b r s)
-holds_if P true r s h k = h
-holds_if P false r s h k = k
-
 keeps_instruction : (t : Node) → Holds (KeepsInstruction t) (instruction_of t)
 keeps_instruction (atom p w) = record { of_value = tt }
 keeps_instruction (list p none) = record { of_value = tt }
@@ -588,7 +370,7 @@ keeps_instruction (list p (more (atom q w) ts)) =
 
 -- a name as a part
 keeps_named : (t : Node) → Holds (Keeps named_of name_tree unplaced_name t) (named_of t)
-keeps_named t = holds_more (KeepsName t) (Keeps named_of name_tree unplaced_name t) (named_of t) (λ n h. record { alike = h.alike; stands = named_again n h.is_named }) (keeps_name t)
+keeps_named = keeps_named_or 4
 
 abbrev KeepsTemporary : Node → Named × WordText → Type 0
 KeepsTemporary = Keeps temporary_of temporary_tree unplaced_temporary
@@ -620,8 +402,8 @@ program_keeps : (p q : ℕ) (name formals temporaries i : Node) (is : Nodes) →
     KeepsProgram (list p (more name (more formals (more temporaries (more i is))))) (new_program p q n fs ts js)
 program_keeps p q name formals temporaries i is small n hn fs hf ts ht [] hj = absurd hj.alike
 program_keeps p q name formals temporaries i is small n hn fs hf ts ht (j ∷ js) hj =
-    let formals_as = alike_item_count formals (list_tree name_tree fs) hf.alike in
-    let temporaries_as = alike_item_count temporaries (list_tree temporary_tree ts) ht.alike in
+    let formals_as = alike_list_length formals (list_tree name_tree fs) hf.alike in
+    let temporaries_as = alike_list_length temporaries (list_tree temporary_tree ts) ht.alike in
     let instructions_as = alike_items (more i is) (nodes (map instruction_tree (j ∷ js))) hj.alike in
     let still_small : is_small_program (list_tree name_tree fs) (list_tree temporary_tree ts) (nodes (map instruction_tree (j ∷ js))) ≡ true = rw (formals_as, temporaries_as, instructions_as) small in
     record {

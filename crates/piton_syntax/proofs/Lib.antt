@@ -1,13 +1,11 @@
-pub mod Shapes
 pub mod WordLaws
-pub mod JudgedLaws
-pub mod ReadingLaws
 pub mod ArgumentLaws
 pub mod InstructionLaws
 pub mod ProgramLaws
 pub mod RiseLaws
 pub mod AnswerLaws
 pub mod PlacesLaws
-pub mod PrintingLoops
 pub mod PrintingLaws
 pub mod KeepsLaws
+pub mod FitsLaws
+pub mod MadeLaws

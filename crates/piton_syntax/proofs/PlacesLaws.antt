@@ -1,112 +1,33 @@
 -- The grammar is blind to places: a tree and the same tree without places are one value but for places, or both have faults.
-use Rattle.std.proofs.Common.{◌≡◌, ℕ, Bool, true, false, cond, List, map, Option, Some, None, Ok, Err, refl, sym, ap, subst, ◌∙◌}
+use Rattle.std.proofs.Common.{◌≡◌, ℕ, Bool, true, false, cond, List, [], map, Option, Some, None, Ok, Err, refl, sym, ap, subst, ◌∙◌}
 use Rattle.std.specs.Prelude.{option_map, ◌||◌, ◌+◌}
 use Rattle.stack_text.specs.declared.name.Named.{Named}
 use Rattle.stack_text.specs.Names.{is_name}
 use Rattle.stack_text.specs.Numerals.{is_digits, is_numeral, numeral_value, fits_128_bits}
 use Rattle.stack_text.specs.Trees.{Node, Nodes, atom, list, none, more, without_places, all_without_places, place_of}
+use Rattle.stack_text.specs.Grammar.Printed.{unplaced_name}
+use Rattle.piton_syntax.specs.declared.test_kind.TestKind.{TestKind}
 use Rattle.piton_syntax.specs.declared.argument.ArgKind.{ArgKind}
 use Rattle.piton_syntax.specs.declared.argument.ArgKind.TheVariants as kind
 use Rattle.piton_syntax.specs.declared.argument.ArgText.TheVariants as arg
 use Rattle.piton_syntax.specs.declared.argument.Arguments.{Arguments}
-use Rattle.piton_syntax.specs.declared.argument.Arguments.TheVariants.{Zero, One, Two, OneOrMore}
+use Rattle.piton_syntax.specs.declared.argument.Arguments.TheVariants.{Zero, One, TestAndLabel, OneOrMore}
 use Rattle.piton_syntax.specs.declared.op.PitonOp.{PitonOp}
 use Rattle.piton_syntax.specs.declared.tag.Tag.{Tag}
 use Rattle.piton_syntax.specs.declared.tag.Tag.TheVariants as tag
 use Rattle.piton_syntax.specs.declared.test_kind.TestFamily.{TestFamily}
 use Rattle.piton_syntax.specs.declared.word_text.WordItem.TheVariants as item
-use Rattle.piton_syntax.specs.Judged.{Judged, fault, judged, ◌⊛◌, front, each_of}
-use Rattle.piton_syntax.specs.Limits.{count_of, item_count, is_small_program, is_small_system}
+use Rattle.stack_text.specs.Grammar.Judged.{Judged, fault, judged, ◌⊛◌, front, each_of}
+use Rattle.stack_text.specs.Grammar.Parts.{count_of, list_length}
+use Rattle.piton_syntax.specs.Limits.{is_small_program, is_small_system}
 use Rattle.piton_syntax.specs.Operations.{op_arguments, operation_named, tag_named, test_named}
-use Rattle.piton_syntax.specs.Grammar.{is_atom_of, named_of, number_of, is_true_word, is_false_word, address, program_place, item_of, word_of, is_of_kind, are_of_kind, found_or, test_of, argument_of, one, two, pair, arguments_of, called_of, labelled_of, instruction_of, list_of, temporary_of, program_of, area_of, system_of}
-use Rattle.piton_syntax.specs.Systems.{new_word, new_instruction, new_program, new_area, new_system, unplaced_name, unplaced_number, unplaced_item, unplaced_word, unplaced_argument, unplaced_instruction, unplaced_temporary, unplaced_program, unplaced_area}
+use Rattle.stack_text.specs.Grammar.Parts.{is_atom_of}
+use Rattle.piton_syntax.specs.Grammar.{named_of, number_of, is_true_word, is_false_word, address, program_place, item_of, word_of, is_of_kind, are_of_kind, argument_of, test_at, one, test_and_label, tested_of, pair, arguments_of, called_of, labelled_of, instruction_of, list_of, temporary_of, program_of, area_of, system_of}
+use Rattle.piton_syntax.specs.Systems.{new_word, new_instruction, new_program, new_area, new_system, unplaced_number, unplaced_item, unplaced_word, unplaced_argument, unplaced_instruction, unplaced_temporary, unplaced_program, unplaced_area}
+use Rattle.stack_text.proofs.PlacesLaws.{same_name as same_name_or, same_list as same_list_or, IsSame, agree_if, agree_judged, same_atom, same_count, same_each, same_four, same_list_length, same_one, same_seven, same_two, unplaced_place}
 use Rattle.piton_syntax.specs.Systems.{without_places as unplaced_system}
 
--- ---- two judgements
-
--- both are values, of which the relation holds, or neither is
-abbrev pub AgreeBy : {X : Type 0} → (X → X → Type 0) → Judged X → Judged X → Type 0
-AgreeBy P (Ok x) (Ok y) = P x y
-AgreeBy P (Ok x) (Err fs) = ⊥
-AgreeBy P (Err fs) (Ok y) = ⊥
-AgreeBy P (Err fs) (Err gs) = Unit {0}
-
-pub record Agree {X : Type 0} (P : X → X → Type 0) (r s : Judged X) : Type 0 where
-  pub both : AgreeBy P r s
-
--- the second is the first, seen through the view
-abbrev pub IsSame : {X : Type 0} → (X → X) → Judged X → Judged X → Type 0
-IsSame view r s = Agree (λ x y. y ≡ view x) r s
-
-agree_apply : {X Y : Type 0} (view : X → X) (Q : Y → Y → Type 0) (rf sf : Judged (X → Y)) (rx sx : Judged X) → Agree (λ f g. (x : X) → Q (f x) (g (view x))) rf sf → IsSame view rx sx → Agree Q (rf ⊛ rx) (sf ⊛ sx)
-agree_apply {X} view Q (Ok f) (Ok g) (Ok x) (Ok y) h k = record { both = subst (λ (z : X). Q (f x) (g z)) (sym k.both) (h.both x) }
-agree_apply view Q (Ok f) (Ok g) (Ok x) (Err gs) h k = absurd k.both
-agree_apply view Q (Ok f) (Ok g) (Err fs) (Ok y) h k = absurd k.both
-agree_apply view Q (Ok f) (Ok g) (Err fs) (Err gs) h k = record { both = tt }
-agree_apply view Q (Ok f) (Err es) rx sx h k = absurd h.both
-agree_apply view Q (Err es) (Ok g) rx sx h k = absurd h.both
-agree_apply view Q (Err es) (Err ds) (Ok x) (Ok y) h k = record { both = tt }
-agree_apply view Q (Err es) (Err ds) (Ok x) (Err gs) h k = record { both = tt }
-agree_apply view Q (Err es) (Err ds) (Err fs) (Ok y) h k = record { both = tt }
-agree_apply view Q (Err es) (Err ds) (Err fs) (Err gs) h k = record { both = tt }
-
-agree_if : {X : Type 0} (P : X → X → Type 0) (b : Bool) (r s u v : Judged X) → Agree P r s → Agree P u v → Agree P (cond b r u) (cond b s v)
-agree_if P true r s u v h k = h
-agree_if P false r s u v h k = k
-
-agree_judged : {X : Type 0} (P : X → X → Type 0) (p q rule : ℕ) (b c : Bool) (r s : Judged X) → c ≡ b → Agree P r s → Agree P (judged p rule b r) (judged q rule c s)
-agree_judged P p q rule b c r s e h =
-    subst (λ (d : Bool). Agree P (judged p rule b r) (judged q rule d s)) (sym e) (agree_if P b r s (fault p rule) (fault q rule) h (record { both = tt }))
-
--- a value of one part, of two, of four and of seven
-same_one : {X Y : Type 0} (v : X → X) (out : Y → Y) (f g : X → Y) (r s : Judged X) → ((x : X) → g (v x) ≡ out (f x)) → IsSame v r s → IsSame out (Ok f ⊛ r) (Ok g ⊛ s)
-same_one v out f g r s base h = agree_apply v (λ a b. b ≡ out a) (Ok f) (Ok g) r s (record { both = base }) h
-
-same_two : {X Y Z : Type 0} (v : X → X) (w : Y → Y) (out : Z → Z) (f g : X → Y → Z) (r s : Judged X) (t u : Judged Y) → ((x : X) (y : Y) → g (v x) (w y) ≡ out (f x y)) →
-    IsSame v r s → IsSame w t u → IsSame out (Ok f ⊛ r ⊛ t) (Ok g ⊛ s ⊛ u)
-same_two {X} {Y} v w out f g r s t u base h k =
-    agree_apply w (λ a b. b ≡ out a) (Ok f ⊛ r) (Ok g ⊛ s) t u (agree_apply v (λ a b. (y : Y) → b (w y) ≡ out (a y)) (Ok f) (Ok g) r s (record { both = base }) h) k
-
-same_four : {A B C D Z : Type 0} (va : A → A) (vb : B → B) (vc : C → C) (vd : D → D) (out : Z → Z) (f g : A → B → C → D → Z) (ra sa : Judged A) (rb sb : Judged B) (rc sc : Judged C) (rd sd : Judged D) →
-    ((a : A) (b : B) (c : C) (d : D) → g (va a) (vb b) (vc c) (vd d) ≡ out (f a b c d)) →
-    IsSame va ra sa → IsSame vb rb sb → IsSame vc rc sc → IsSame vd rd sd → IsSame out (Ok f ⊛ ra ⊛ rb ⊛ rc ⊛ rd) (Ok g ⊛ sa ⊛ sb ⊛ sc ⊛ sd)
-same_four {A} {B} {C} {D} va vb vc vd out f g ra sa rb sb rc sc rd sd base ha hb hc hd =
-    agree_apply vd (λ x y. y ≡ out x) (Ok f ⊛ ra ⊛ rb ⊛ rc) (Ok g ⊛ sa ⊛ sb ⊛ sc) rd sd
-    (agree_apply vc (λ x y. (d : D) → y (vd d) ≡ out (x d)) (Ok f ⊛ ra ⊛ rb) (Ok g ⊛ sa ⊛ sb) rc sc
-    (agree_apply vb (λ x y. (c : C) (d : D) → y (vc c) (vd d) ≡ out (x c d)) (Ok f ⊛ ra) (Ok g ⊛ sa) rb sb
-    (agree_apply va (λ x y. (b : B) (c : C) (d : D) → y (vb b) (vc c) (vd d) ≡ out (x b c d)) (Ok f) (Ok g) ra sa (record { both = base }) ha) hb) hc) hd
-
-same_seven : {A B C D E F G Z : Type 0} (va : A → A) (vb : B → B) (vc : C → C) (vd : D → D) (ve : E → E) (vf : F → F) (vg : G → G) (out : Z → Z) (f g : A → B → C → D → E → F → G → Z)
-    (ra sa : Judged A) (rb sb : Judged B) (rc sc : Judged C) (rd sd : Judged D) (re se : Judged E) (rf sf : Judged F) (rg sg : Judged G) →
-    ((a : A) (b : B) (c : C) (d : D) (e : E) (i : F) (j : G) → g (va a) (vb b) (vc c) (vd d) (ve e) (vf i) (vg j) ≡ out (f a b c d e i j)) →
-    IsSame va ra sa → IsSame vb rb sb → IsSame vc rc sc → IsSame vd rd sd → IsSame ve re se → IsSame vf rf sf → IsSame vg rg sg →
-    IsSame out (Ok f ⊛ ra ⊛ rb ⊛ rc ⊛ rd ⊛ re ⊛ rf ⊛ rg) (Ok g ⊛ sa ⊛ sb ⊛ sc ⊛ sd ⊛ se ⊛ sf ⊛ sg)
-same_seven {A} {B} {C} {D} {E} {F} {G} va vb vc vd ve vf vg out f g ra sa rb sb rc sc rd sd re se rf sf rg sg base ha hb hc hd he hf hg =
-    agree_apply vg (λ x y. y ≡ out x) (Ok f ⊛ ra ⊛ rb ⊛ rc ⊛ rd ⊛ re ⊛ rf) (Ok g ⊛ sa ⊛ sb ⊛ sc ⊛ sd ⊛ se ⊛ sf) rg sg
-    (agree_apply vf (λ x y. (j : G) → y (vg j) ≡ out (x j)) (Ok f ⊛ ra ⊛ rb ⊛ rc ⊛ rd ⊛ re) (Ok g ⊛ sa ⊛ sb ⊛ sc ⊛ sd ⊛ se) rf sf
-    (agree_apply ve (λ x y. (i : F) (j : G) → y (vf i) (vg j) ≡ out (x i j)) (Ok f ⊛ ra ⊛ rb ⊛ rc ⊛ rd) (Ok g ⊛ sa ⊛ sb ⊛ sc ⊛ sd) re se
-    (agree_apply vd (λ x y. (e : E) (i : F) (j : G) → y (ve e) (vf i) (vg j) ≡ out (x e i j)) (Ok f ⊛ ra ⊛ rb ⊛ rc) (Ok g ⊛ sa ⊛ sb ⊛ sc) rd sd
-    (agree_apply vc (λ x y. (d : D) (e : E) (i : F) (j : G) → y (vd d) (ve e) (vf i) (vg j) ≡ out (x d e i j)) (Ok f ⊛ ra ⊛ rb) (Ok g ⊛ sa ⊛ sb) rc sc
-    (agree_apply vb (λ x y. (c : C) (d : D) (e : E) (i : F) (j : G) → y (vc c) (vd d) (ve e) (vf i) (vg j) ≡ out (x c d e i j)) (Ok f ⊛ ra) (Ok g ⊛ sa) rb sb
-    (agree_apply va (λ x y. (b : B) (c : C) (d : D) (e : E) (i : F) (j : G) → y (vb b) (vc c) (vd d) (ve e) (vf i) (vg j) ≡ out (x b c d e i j)) (Ok f) (Ok g) ra sa (record { both = base }) ha) hb) hc) hd) he) hf) hg
-
-same_each : {X : Type 0} (view : X → X) (judge : Node → Judged X) → ((t : Node) → IsSame view (judge t) (judge (without_places t))) → (ts : Nodes) → IsSame (map view) (each_of judge ts) (each_of judge (all_without_places ts))
-same_each view judge h none = record { both = refl }
-same_each view judge h (more t ts) =
-    same_two view (map view) (map view) front front _ _ _ _ (λ x xs. refl) (h t) (same_each view judge h ts)
-
--- a tree whose judgement without places is a value is the same value but for places
-pub same_lifted : {X : Type 0} (view : X → X) (r s : Judged X) (x : X) → IsSame view r s → s ≡ Ok x → (y : X) × (r ≡ Ok y) × (view y ≡ x)
-same_lifted view (Ok y) (Ok z) x h e = let k : z ≡ x = cc in (y, refl, sym h.both ∙ k)
-same_lifted view (Ok y) (Err gs) x h e = absurd h.both
-same_lifted view (Err fs) (Ok z) x h e = absurd h.both
-same_lifted view (Err fs) (Err gs) x h e = absurd cc
-
 -- ---- tests
-
-same_atom : (test : List ℕ → Bool) (t : Node) → is_atom_of test (without_places t) ≡ is_atom_of test t
-same_atom test (atom p w) = refl
-same_atom test (list p ts) = refl
 
 same_of_kind : (k : ArgKind) (t : Node) → is_of_kind k (without_places t) ≡ is_of_kind k t
 same_of_kind kind.Word t = refl
@@ -115,29 +36,19 @@ same_of_kind kind.Area t = same_atom _ t
 same_of_kind kind.Label t = same_atom _ t
 same_of_kind kind.Program t = same_atom _ t
 same_of_kind kind.Count t = same_atom _ t
-same_of_kind (kind.Test family) t = same_atom _ t
 
 same_are_of_kind : (k : ArgKind) (ts : Nodes) → are_of_kind k (all_without_places ts) ≡ are_of_kind k ts
 same_are_of_kind k none = refl
 same_are_of_kind k (more t ts) = rw (same_of_kind k t, same_are_of_kind k ts) refl
 
-same_count : (ts : Nodes) → count_of (all_without_places ts) ≡ count_of ts
-same_count none = refl
-same_count (more t ts) = ap (λ (n : ℕ). 1 + n) (same_count ts)
-
-same_item_count : (t : Node) → item_count (without_places t) ≡ item_count t
-same_item_count (atom p w) = refl
-same_item_count (list p ts) = same_count ts
-
 -- ---- words
 
 same_name : (t : Node) → IsSame unplaced_name (named_of t) (named_of (without_places t))
-same_name (atom p w) = agree_if _ (is_name w) _ _ _ _ (record { both = refl }) (record { both = tt })
-same_name (list p ts) = record { both = tt }
+same_name = same_name_or 4
 
 same_number : (t : Node) → IsSame unplaced_number (number_of t) (number_of (without_places t))
 same_number (atom p w) = agree_if _ (fits_128_bits (numeral_value w)) _ _ _ _ (record { both = refl }) (record { both = tt })
-same_number (list p ts) = record { both = tt }
+same_number (list p ts) = record { both = refl }
 
 same_item : (k : Option Tag) (p : ℕ) (ts : Nodes) → IsSame unplaced_item (item_of k p ts) (item_of k 0 (all_without_places ts))
 same_item None p ts = record { both = tt }
@@ -185,14 +96,6 @@ same_word (list p (more (atom q w) ts)) =
 
 -- ---- instructions
 
-same_found : {X : Type 0} (p q rule : ℕ) (found : Option X) → IsSame (λ x. x) (found_or p rule found) (found_or q rule found)
-same_found p q rule None = record { both = tt }
-same_found p q rule (Some x) = record { both = refl }
-
-same_test : (family : TestFamily) (t : Node) → IsSame (λ k. k) (test_of family t) (test_of family (without_places t))
-same_test family (atom p w) = same_found p 0 7 (test_named family w)
-same_test family (list p ts) = record { both = tt }
-
 same_argument : (k : ArgKind) (t : Node) → IsSame unplaced_argument (argument_of k t) (argument_of k (without_places t))
 same_argument kind.Word t = same_one unplaced_word unplaced_argument arg.Word arg.Word _ _ (λ w. refl) (same_word t)
 same_argument kind.Local t = same_one unplaced_name unplaced_argument arg.Name arg.Name _ _ (λ n. refl) (same_name t)
@@ -200,7 +103,11 @@ same_argument kind.Area t = same_one unplaced_name unplaced_argument arg.Name ar
 same_argument kind.Label t = same_one unplaced_name unplaced_argument arg.Name arg.Name _ _ (λ n. refl) (same_name t)
 same_argument kind.Program t = same_one unplaced_name unplaced_argument arg.Name arg.Name _ _ (λ n. refl) (same_name t)
 same_argument kind.Count t = same_one unplaced_number unplaced_argument arg.Number arg.Number _ _ (λ n. refl) (same_number t)
-same_argument (kind.Test family) t = same_one (λ x. x) unplaced_argument arg.Test arg.Test _ _ (λ x. refl) (same_test family t)
+
+same_tested : (found : Option TestKind) (p : ℕ) (label : Node) → IsSame (map unplaced_argument) (tested_of p found label) (tested_of 0 found (without_places label))
+same_tested None p label = record { both = tt }
+same_tested (Some test) p label =
+    agree_judged _ p 0 7 _ _ _ _ (same_atom is_name label) (same_one unplaced_name (map unplaced_argument) (test_and_label test) (test_and_label test) _ _ (λ n. refl) (same_name label))
 
 same_arguments : (a : Arguments) (p : ℕ) (ts : Nodes) → IsSame (map unplaced_argument) (arguments_of a p ts) (arguments_of a 0 (all_without_places ts))
 same_arguments Zero p none = record { both = refl }
@@ -209,12 +116,11 @@ same_arguments (One k) p none = record { both = tt }
 same_arguments (One k) p (more t none) =
     agree_judged _ p 0 7 _ _ _ _ (same_of_kind k t) (same_one unplaced_argument (map unplaced_argument) one one _ _ (λ x. refl) (same_argument k t))
 same_arguments (One k) p (more t (more u ts)) = record { both = tt }
-same_arguments (Two k l) p none = record { both = tt }
-same_arguments (Two k l) p (more t none) = record { both = tt }
-same_arguments (Two k l) p (more t (more u none)) =
-    agree_judged _ p 0 7 _ _ _ _ (rw (same_of_kind k t, same_of_kind l u) refl)
-    (same_two unplaced_argument unplaced_argument (map unplaced_argument) two two _ _ _ _ (λ x y. refl) (same_argument k t) (same_argument l u))
-same_arguments (Two k l) p (more t (more u (more v ts))) = record { both = tt }
+same_arguments (TestAndLabel family) p none = record { both = tt }
+same_arguments (TestAndLabel family) p (more t none) = record { both = tt }
+same_arguments (TestAndLabel family) p (more (atom q w) (more label none)) = same_tested (test_named family w) p label
+same_arguments (TestAndLabel family) p (more (list q us) (more label none)) = record { both = tt }
+same_arguments (TestAndLabel family) p (more t (more u (more v ts))) = record { both = tt }
 same_arguments (OneOrMore k) p none = record { both = tt }
 same_arguments (OneOrMore k) p (more t ts) =
     agree_judged _ p 0 7 _ _ _ _ (same_are_of_kind k (more t ts)) (same_each unplaced_argument (argument_of k) (same_argument k) (more t ts))
@@ -247,8 +153,7 @@ same_instruction (list p (more (atom q w) ts)) =
 -- ---- programs and areas
 
 same_list : {X : Type 0} (view : X → X) (judge : Node → Judged X) → ((t : Node) → IsSame view (judge t) (judge (without_places t))) → (t : Node) → IsSame (map view) (list_of judge t) (list_of judge (without_places t))
-same_list view judge h (atom p w) = record { both = tt }
-same_list view judge h (list p ts) = same_each view judge h ts
+same_list = same_list_or 3
 
 same_temporary : (t : Node) → IsSame unplaced_temporary (temporary_of t) (temporary_of (without_places t))
 same_temporary (atom p w) = record { both = tt }
@@ -259,11 +164,7 @@ same_temporary (list p (more name (more word none))) =
 same_temporary (list p (more name (more word (more t ts)))) = record { both = tt }
 
 same_small_program : (formals temporaries : Node) (is : Nodes) → is_small_program (without_places formals) (without_places temporaries) (all_without_places is) ≡ is_small_program formals temporaries is
-same_small_program formals temporaries is = rw (same_item_count formals, same_item_count temporaries, same_count is) refl
-
-unplaced_place : {X : Type 0} (t : Node) (f : ℕ → X) → f (place_of (without_places t)) ≡ f 0
-unplaced_place (atom p w) f = refl
-unplaced_place (list p ts) f = refl
+same_small_program formals temporaries is = rw (same_list_length formals, same_list_length temporaries, same_count is) refl
 
 same_program : (t : Node) → IsSame unplaced_program (program_of t) (program_of (without_places t))
 same_program (atom p w) = record { both = tt }

@@ -8,8 +8,8 @@ use Rattle.stack_text.specs.TreeText.{tree_text, items_text, spaced_text}
 use Rattle.stack_text.specs.TreeView.{nodes}
 use Rattle.stack_text.specs.Spellings.{Spells, SpellsAll, SpellsRest}
 use Rattle.stack_text.proofs.SpellingLaws.{spelled_is_read}
-use Rattle.stack_text.proofs.PrintLaws.{Spells-tree_text, SpellsAll-items_text, SpellsRest-spaced_text}
 use Rattle.stack_text.proofs.TreeInLaws.{tree_in-TreeOf}
+use Rattle.stack_text.specs.Grammar.Printed.{lines_text, name_tree, tree_of_all}
 use Rattle.piton_syntax.specs.declared.argument.ArgText.{ArgText}
 use Rattle.piton_syntax.specs.declared.argument.ArgText.TheVariants as arg
 use Rattle.piton_syntax.specs.declared.word_text.WordItem.{WordItem}
@@ -19,31 +19,13 @@ use Rattle.stack_text.specs.declared.name.Named.{Named}
 use Rattle.piton_syntax.specs.Answers.{KeepsForm, ReadsAs, judgement, piton_by}
 use Rattle.piton_syntax.specs.Grammar.{system_of}
 use Rattle.piton_syntax.specs.Systems.{InstrOf, ProgramOf, AreaOf, SystemOf, without_places}
-use Rattle.piton_syntax.specs.Printed.{item_tree, word_tree, name_tree, argument_tree, labelled_tree, instruction_tree, temporary_tree, program_tree, area_tree, system_head, tree_of, tree_of_all, lines_text, program_text, piton_text}
-use Rattle.piton_syntax.proofs.PlacesLaws.{same_lifted, same_system}
+use Rattle.piton_syntax.specs.Printed.{item_tree, word_tree, argument_tree, labelled_tree, instruction_tree, temporary_tree, program_tree, area_tree, system_head, tree_of, program_text, piton_text}
+use Rattle.stack_text.proofs.PartTextLaws.{spells_list, unplaced_all}
+use Rattle.stack_text.proofs.PrintLaws.{Spells-tree_text}
+use Rattle.stack_text.proofs.PlacesLaws.{same_lifted}
+use Rattle.piton_syntax.proofs.PlacesLaws.{same_system}
 
 -- ---- the text spells the tree
-
--- items on lines of their own
-spells_lines : {X : Type 0} (tree : X → Node) (text : X → List ℕ) → ((x : X) → Spells (tree x) (text x)) → (xs : List X) → SpellsRest (nodes (map tree xs)) (flat_map (λ x. 10 ∷ text x) xs)
-spells_lines tree text h [] = refl
-spells_lines tree text h (x ∷ xs) = (10 ∷ [], text x, flat_map (λ y. 10 ∷ text y) xs, omega arith, (tt, tt), h x, spells_lines tree text h xs, refl)
-
--- behind items with a space before each
-spells_behind : (ts us : List Node) (text : List ℕ) → SpellsRest (nodes us) text → SpellsRest (nodes (ts ++ us)) (spaced_text (nodes ts) ++ text)
-spells_behind [] us text h = h
-spells_behind (t ∷ ts) us text h =
-    (32 ∷ [], tree_text t, spaced_text (nodes ts) ++ text, omega arith, (tt, tt), Spells-tree_text t, spells_behind ts us text h, ap (λ (w : List ℕ). 32 ∷ w) (append_assoc (tree_text t) (spaced_text (nodes ts)) text))
-
--- a list of a head and lines
-spells_list : {X : Type 0} (tree : X → Node) (text : X → List ℕ) → ((x : X) → Spells (tree x) (text x)) → (t : Node) (ts : List Node) (xs : List X) →
-    Spells (list 0 (nodes ((t ∷ ts) ++ map tree xs))) (lines_text text (t ∷ ts) xs)
-spells_list tree text h t ts xs =
-    let lines = flat_map (λ x. 10 ∷ text x) xs in (
-      items_text (nodes (t ∷ ts)) ++ lines,
-      (tree_text t, spaced_text (nodes ts) ++ lines, Spells-tree_text t, spells_behind ts (map tree xs) lines (spells_lines tree text h xs), append_assoc (tree_text t) (spaced_text (nodes ts)) lines),
-      refl,
-    )
 
 spells_program : (p : ProgramOf) → Spells (program_tree p) (program_text p)
 spells_program p =
@@ -53,10 +35,6 @@ spells_system : (s : SystemOf) → Spells (tree_of s) (lines_text program_text (
 spells_system s = spells_list program_tree program_text spells_program (atom 0 (codes "piton")) (drop 1 (system_head s)) s.programs
 
 -- ---- the tree of a system has 0 in all its places
-
-unplaced_all : {X : Type 0} (tree : X → Node) → ((x : X) → unplaced_tree (tree x) ≡ tree x) → (xs : List X) → all_without_places (nodes (map tree xs)) ≡ nodes (map tree xs)
-unplaced_all tree h [] = refl
-unplaced_all tree h (x ∷ xs) = rw (h x, unplaced_all tree h xs) refl
 
 unplaced_item : (i : WordItem) → unplaced_tree (item_tree i) ≡ item_tree i
 unplaced_item (item.Int n) = refl

@@ -9,21 +9,13 @@ use Rattle.stack_text.specs.Numerals.{is_digits}
 use Rattle.stack_text.specs.Trees.{Node, Nodes, atom, list, none, more, place_of}
 use Rattle.stack_text.specs.TreeView.{node_of, nodes_of}
 use Rattle.stack_text.specs.declared.tree.Tree.{Tree}
-use Rattle.piton_syntax.specs.Grammar.{area_of, instruction_of, is_atom_of, list_of, named_of, number_of, program_of, system_of, temporary_of, word_of}
-use Rattle.piton_syntax.specs.Judged.{Judged, ◌⊛◌, each_of, fault, judged}
-use Rattle.piton_syntax.specs.Limits.{is_small_program, is_small_system, count_of, item_count}
+use Rattle.stack_text.specs.Grammar.Parts.{is_atom_of}
+use Rattle.stack_text.proofs.TreeListLaws.{count_of_all, rest, rest_is_drop}
+use Rattle.piton_syntax.specs.Grammar.{area_of, instruction_of, list_of, named_of, number_of, program_of, system_of, temporary_of, word_of}
+use Rattle.stack_text.specs.Grammar.Judged.{Judged, ◌⊛◌, each_of, fault, judged}
+use Rattle.stack_text.specs.Grammar.Parts.{count_of, list_length}
+use Rattle.piton_syntax.specs.Limits.{is_small_program, is_small_system}
 use Rattle.piton_syntax.specs.Systems.{ProgramOf, SystemOf, new_area, new_program, new_system}
-
--- what a slice from a number on has
-abbrev pub rest : {A : Type 0} → ℕ → List A → List A
-rest n ts = take (length ts - n) (drop n ts)
-
-rest_is_drop : {A : Type 0} → (n : ℕ) (ts : List A) → rest n ts ≡ drop n ts
-rest_is_drop n ts = take_all (length ts - n) (drop n ts) (omega (arith, length-drop n ts))
-
-pub count_of_all : (ts : List Tree) → count_of (nodes_of ts) ≡ length ts
-count_of_all [] = refl
-count_of_all (t ∷ ts) = ap (λ n. 1 + n) (count_of_all ts) ∙ omega arith
 
 abbrev pub program_by : ℕ → Tree → Tree → Tree → List Tree → Judged ProgramOf
 program_by p name formals temporaries instrs =
@@ -80,8 +72,8 @@ not_two_of_temporary p (t ∷ []) ne = refl
 not_two_of_temporary p (t ∷ u ∷ []) ne = absurd (ne refl)
 not_two_of_temporary p (t ∷ u ∷ v ∷ ts) ne = refl
 
-pub small_program : (f t : Node) (is : List Tree) → item_count f + item_count t ≤ 400 → leb (length is) 1048576 ≡ is_small_program f t (nodes_of is)
-small_program f t is le = rw (le-leb (item_count f + item_count t) 400 le, count_of_all is) refl
+pub small_program : (f t : Node) (is : List Tree) → list_length f + list_length t ≤ 400 → leb (length is) 1048576 ≡ is_small_program f t (nodes_of is)
+small_program f t is le = rw (le-leb (list_length f + list_length t) 400 le, count_of_all is) refl
 
 pub small_system : (areas programs : List Tree) → is_small_system (nodes_of areas) (nodes_of programs) ≡ leb (length areas) 1000 && leb (length programs) 1100
 small_system areas programs = rw (count_of_all areas, count_of_all programs) refl

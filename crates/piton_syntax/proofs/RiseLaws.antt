@@ -7,109 +7,37 @@ use Rattle.stack_text.specs.Names.{is_name}
 use Rattle.stack_text.specs.Numerals.{fits_128_bits, is_digits, is_numeral, numeral_value}
 use Rattle.stack_text.specs.PlaceOrder.{AllInOrder, InOrder}
 use Rattle.stack_text.specs.Trees.{Node, Nodes, atom, list, none, more, place_of}
+use Rattle.piton_syntax.specs.declared.test_kind.TestKind.{TestKind}
 use Rattle.piton_syntax.specs.declared.argument.ArgKind.{ArgKind}
 use Rattle.piton_syntax.specs.declared.argument.ArgKind.TheVariants as kind
 use Rattle.piton_syntax.specs.declared.argument.Arguments.{Arguments}
-use Rattle.piton_syntax.specs.declared.argument.Arguments.TheVariants.{Zero, One, Two, OneOrMore}
+use Rattle.piton_syntax.specs.declared.argument.Arguments.TheVariants.{Zero, One, TestAndLabel, OneOrMore}
 use Rattle.piton_syntax.specs.declared.argument.ArgText.TheVariants as arg
 use Rattle.piton_syntax.specs.declared.op.PitonOp.{PitonOp}
 use Rattle.piton_syntax.specs.declared.tag.Tag.{Tag}
 use Rattle.piton_syntax.specs.declared.tag.Tag.TheVariants as tag
 use Rattle.piton_syntax.specs.declared.test_kind.TestFamily.{TestFamily}
 use Rattle.piton_syntax.specs.declared.word_text.WordItem.TheVariants as item
-use Rattle.piton_syntax.specs.Grammar.{named_of, number_of, is_atom_of, is_true_word, is_false_word, address, program_place, item_of, word_of, is_of_kind, are_of_kind, found_or, test_of, argument_of, one, two, arguments_of, called_of, labelled_of, instruction_of, list_of, pair, temporary_of, program_of, area_of, system_of}
-use Rattle.piton_syntax.specs.Judged.{Judged, ◌⊛◌, each_of, fault, front, judged}
+use Rattle.stack_text.specs.Grammar.Parts.{bytes_of, is_atom_of}
+use Rattle.piton_syntax.specs.Grammar.{named_of, number_of, is_true_word, is_false_word, address, program_place, item_of, word_of, is_of_kind, are_of_kind, argument_of, test_at, one, test_and_label, tested_of, arguments_of, called_of, labelled_of, instruction_of, list_of, pair, temporary_of, program_of, area_of, system_of}
+use Rattle.stack_text.specs.Grammar.Judged.{Judged, ◌⊛◌, each_of, fault, front, judged}
 use Rattle.piton_syntax.specs.Limits.{is_small_program, is_small_system}
 use Rattle.piton_syntax.specs.Operations.{op_arguments, operation_named, tag_named, test_named}
 use Rattle.piton_syntax.specs.Systems.{new_word, new_instruction, new_program, new_area, new_system}
-use Rattle.piton_syntax.proofs.JudgedLaws.{JudgedRises, JudgedRises-apply, Rises, Rises-lower, Rises-higher}
-
--- the faults have places from low on and below high, and go up
-pub record Up {X : Type 0} (low : ℕ) (r : Judged X) (high : ℕ) : Type 0 where
-  pub rises : JudgedRises low r high
-
--- what each tree in order is judged to be
-pub record Rising {X : Type 0} (judge : Node → Judged X) : Type 0 where
-  pub up : (low : ℕ) (t : Node) (high : ℕ) → InOrder low t high → Up low (judge t) high
-
-Rises-le : (low : ℕ) (fs : List (ℕ × ℕ)) (high : ℕ) → Rises low fs high → low ≤ high
-Rises-le low [] high h = h
-Rises-le low (f ∷ fs) high h = let le : f.0 + 1 ≤ high = Rises-le (f.0 + 1) fs high h.1 in omega (arith, h.0)
-
-JudgedRises-le : {X : Type 0} → (low : ℕ) (r : Judged X) (high : ℕ) → JudgedRises low r high → low ≤ high
-JudgedRises-le low (Ok x) high h = h
-JudgedRises-le low (Err fs) high h = Rises-le low (fs.0 ∷ fs.1) high h
-
-pub up_le : {X : Type 0} → {low : ℕ} {r : Judged X} {high : ℕ} → Up low r high → low ≤ high
-up_le {low = low} {r = r} {high = high} h = JudgedRises-le low r high h.rises
-
-JudgedRises-higher : {X : Type 0} → (low : ℕ) (r : Judged X) (high higher : ℕ) → high ≤ higher → JudgedRises low r high → JudgedRises low r higher
-JudgedRises-higher low (Ok x) high higher le h = omega arith
-JudgedRises-higher low (Err fs) high higher le h = Rises-higher low high higher (fs.0 ∷ fs.1) le h
-
-JudgedRises-lower : {X : Type 0} → (low lower : ℕ) (r : Judged X) (high : ℕ) → lower ≤ low → JudgedRises low r high → JudgedRises lower r high
-JudgedRises-lower low lower (Ok x) high le h = omega arith
-JudgedRises-lower low lower (Err fs) high le h = Rises-lower low lower (fs.0 ∷ fs.1) high le h
-
-pub higher : {X : Type 0} → {low : ℕ} {r : Judged X} {mid : ℕ} → Up low r mid → (high : ℕ) → mid ≤ high → Up low r high
-higher {low = low} {r = r} {mid = mid} h high le = record { rises = JudgedRises-higher low r mid high le h.rises }
-
-pub lower : {X : Type 0} → {mid : ℕ} {r : Judged X} {high : ℕ} → Up mid r high → (low : ℕ) → low ≤ mid → Up low r high
-lower {mid = mid} {r = r} {high = high} h low le = record { rises = JudgedRises-lower mid low r high le h.rises }
-
-pub starts : {X : Type 0} → (x : X) (low high : ℕ) → low ≤ high → Up low (Ok x) high
-starts x low high le = record { rises = le }
-
-apply_up : {X Y : Type 0} → {low mid high : ℕ} {r : Judged (X → Y)} {s : Judged X} → Up low r mid → Up mid s high → Up low (r ⊛ s) high
-apply_up {low = low} {mid = mid} {high = high} {r = r} {s = s} h k = record { rises = JudgedRises-apply low mid high r s (up_le h) (up_le k) h.rises k.rises }
-
--- a part more
-pub goes_on : {X Y : Type 0} → {low mid : ℕ} {r : Judged (X → Y)} {judge : Node → Judged X} → Up low r mid → Rising judge → (t : Node) (high : ℕ) → InOrder mid t high → Up low (r ⊛ judge t) high
-goes_on {mid = mid} h rising t high o = apply_up h (rising.up mid t high o)
-
-each_up : {X : Type 0} → {judge : Node → Judged X} → Rising judge → (low : ℕ) (ts : Nodes) (high : ℕ) → AllInOrder low ts high → Up low (each_of judge ts) high
-each_up rising low none high h = record { rises = h }
-each_up rising low (more t ts) high h = apply_up (goes_on (starts front low low (omega arith)) rising t h.0 h.1) (each_up rising h.0 ts high h.2)
-
-pub goes_on_with_each : {X Y : Type 0} → {low mid : ℕ} {r : Judged (List X → Y)} {judge : Node → Judged X} → Up low r mid → Rising judge → (ts : Nodes) (high : ℕ) → AllInOrder mid ts high
-    → Up low (r ⊛ each_of judge ts) high
-goes_on_with_each {mid = mid} h rising ts high o = apply_up h (each_up rising mid ts high o)
-
-pub at_fault : {X : Type 0} → (low place rule high : ℕ) → low ≤ place → place < high → Up low (fault {X = X} place rule) high
-at_fault low place rule high le lt = record { rises = (le, omega arith) }
-
-pub is_judged : {X : Type 0} → (place rule : ℕ) (test : Bool) → {low : ℕ} {within : Judged X} {high : ℕ} → low ≤ place → place < high → Up low within high
-    → Up low (judged place rule test within) high
-is_judged place rule true le lt h = h
-is_judged place rule false {low = low} {high = high} le lt h = at_fault low place rule high le lt
-
--- a tree's place is within
-pub place_within : (low : ℕ) (t : Node) (high : ℕ) → InOrder low t high → (low ≤ place_of t) × (place_of t < high)
-place_within low (atom p bytes) high h = h
-place_within low (list p ts) high h = (h.0, h.1)
+use Rattle.stack_text.proofs.RiseLaws.{named_up as name_up, list_up as list_or_up, Rising, Up, apply_up, apply_value, at_fault, both, each_up, goes_on, goes_on_with_each, higher, is_judged, lower, only, place_within, starts, up_le}
+use Rattle.stack_text.proofs.JudgedLaws.{JudgedRises, JudgedRises-apply, Rises, Rises-lower, Rises-higher}
 
 pub named_up : Rising named_of
-named_up = record { up = up }
-  where
-    up : (low : ℕ) (t : Node) (high : ℕ) → InOrder low t high → Up low (named_of t) high
-    up low (atom p bytes) high h = is_judged p 4 (is_name bytes) h.0 h.1 (starts (record { place = p; name = bytes }) low high (omega (arith, h.0, h.1)))
-    up low (list p ts) high h = at_fault low p 4 high h.0 h.1
+named_up = name_up 4
 
 pub number_up : Rising number_of
 number_up = record { up = up }
   where
     up : (low : ℕ) (t : Node) (high : ℕ) → InOrder low t high → Up low (number_of t) high
-    up low (atom p bytes) high h = is_judged p 8 (fits_128_bits (numeral_value bytes)) h.0 h.1 (starts (record { place = p; number = numeral_value bytes }) low high (omega (arith, h.0, h.1)))
-    up low (list p ts) high h = at_fault low p 8 high h.0 h.1
-
--- one part alone, which ends within
-only : {X Y : Type 0} → {judge : Node → Judged X} → (f : X → Y) → Rising judge → (low mid : ℕ) (n : Node) (high : ℕ) → low ≤ mid → AllInOrder mid (more n none) high → Up low (Ok f ⊛ judge n) high
-only f rising low mid n high le o = higher (goes_on (starts f low mid le) rising n o.0 o.1) high o.2
-
--- two parts
-both : {X Y Z : Type 0} → {judge : Node → Judged X} {other : Node → Judged Y} → (f : X → Y → Z) → Rising judge → Rising other → (low mid : ℕ) (t u : Node) (high : ℕ) → low ≤ mid → AllInOrder mid (more t (more u none)) high
-    → Up low (Ok f ⊛ judge t ⊛ other u) high
-both f rising rising_too low mid t u high le o = higher (goes_on (goes_on (starts f low mid le) rising t o.0 o.1) rising_too u o.2.0 o.2.1) high o.2.2
+    up low t high h =
+        let p = place_within low t high h in
+        is_judged (place_of t) 8 (fits_128_bits (numeral_value (bytes_of t))) p.0 p.1
+        (starts (record { place = place_of t; number = numeral_value (bytes_of t) }) low high (omega (arith, p.0, p.1)))
 
 item_up : (tag_ : Option Tag) (low p mid : ℕ) (ts : Nodes) (high : ℕ) → low ≤ p → p < mid → p < high → AllInOrder mid ts high → Up low (item_of tag_ p ts) high
 item_up (Some tag.Int) low p mid (more n none) high le lt under o = is_judged p 5 (is_atom_of is_numeral n) le under (only item.Int number_up low mid n high (omega arith) o)
@@ -122,9 +50,6 @@ item_up (Some tag.Pc) low p mid (more program (more n none)) high le lt under o 
 item_up (Some tag.Subr) low p mid (more program none) high le lt under o = is_judged p 5 (is_atom_of is_name program) le under (only item.Subr named_up low mid program high (omega arith) o)
 item_up _ low p mid ts high le lt under o = at_fault low p 5 high le under
 
-apply_value : {X Y : Type 0} → (f : X → Y) → {low high : ℕ} {r : Judged X} → Up low r high → Up low (Ok f ⊛ r) high
-apply_value f {low = low} {high = high} h = apply_up (starts f low low (omega arith)) h
-
 pub word_up : Rising word_of
 word_up = record { up = up }
   where
@@ -136,40 +61,33 @@ word_up = record { up = up }
     up low (list p none) high h = at_fault low p 5 high h.0 h.1
     up low (list p (more (list q us) ts)) high h = at_fault low p 5 high h.0 h.1
 
-found_up : {X : Type 0} → (p rule : ℕ) (o : Option X) (low high : ℕ) → low ≤ p → p < high → Up low (found_or p rule o) high
-found_up p rule None low high le lt = at_fault low p rule high le lt
-found_up p rule (Some x) low high le lt = starts x low high (omega arith)
-
-test_up : (family : TestFamily) → Rising (test_of family)
-test_up family = record { up = up }
-  where
-    up : (low : ℕ) (t : Node) (high : ℕ) → InOrder low t high → Up low (test_of family t) high
-    up low (atom p bytes) high h = found_up p 7 (test_named family bytes) low high h.0 h.1
-    up low (list p ts) high h = at_fault low p 7 high h.0 h.1
-
 argument_up : (k : ArgKind) → Rising (argument_of k)
 argument_up k = record { up = up k }
   where
     up : (k : ArgKind) (low : ℕ) (t : Node) (high : ℕ) → InOrder low t high → Up low (argument_of k t) high
     up kind.Word low t high h = apply_value arg.Word (word_up.up low t high h)
     up kind.Count low t high h = apply_value arg.Number (number_up.up low t high h)
-    up (kind.Test family) low t high h = apply_value arg.Test ((test_up family).up low t high h)
     up kind.Local low t high h = apply_value arg.Name (named_up.up low t high h)
     up kind.Area low t high h = apply_value arg.Name (named_up.up low t high h)
     up kind.Label low t high h = apply_value arg.Name (named_up.up low t high h)
     up kind.Program low t high h = apply_value arg.Name (named_up.up low t high h)
 
--- the places of the arguments are behind that of the operation's list, at which P7 is
+tested_up : (found : Option TestKind) (low p mid : ℕ) (t label : Node) (high : ℕ) → low ≤ p → p < mid → p < high → AllInOrder mid (more t (more label none)) high → Up low (tested_of p found label) high
+tested_up None low p mid t label high le lt under o = at_fault low p 7 high le under
+tested_up (Some test) low p mid t label high le lt under o =
+    let within = place_within mid t o.0 o.1 in
+    is_judged p 7 (is_atom_of is_name label) le under (only (test_and_label test) named_up low o.0 label high (omega (arith, within.0, within.1)) o.2)
+
+-- the places of the arguments are after that of the operation's list, at which P7 is
 arguments_up : (wanted : Arguments) (low p mid : ℕ) (ts : Nodes) (high : ℕ) → low ≤ p → p < mid → p < high → AllInOrder mid ts high → Up low (arguments_of wanted p ts) high
 arguments_up Zero low p mid none high le lt under o = starts [] low high (omega arith)
 arguments_up (One k) low p mid (more t none) high le lt under o = is_judged p 7 (is_of_kind k t) le under (only one (argument_up k) low mid t high (omega arith) o)
-arguments_up (Two k l) low p mid (more t (more u none)) high le lt under o =
-    is_judged p 7 (is_of_kind k t && is_of_kind l u) le under (both two (argument_up k) (argument_up l) low mid t u high (omega arith) o)
+arguments_up (TestAndLabel family) low p mid (more t (more label none)) high le lt under o = tested_up (test_at family t) low p mid t label high le lt under o
 arguments_up (OneOrMore k) low p mid (more t ts) high le lt under o =
     is_judged p 7 (are_of_kind k (more t ts)) le under (lower (each_up (argument_up k) mid (more t ts) high o) low (omega arith))
 arguments_up _ low p mid ts high le lt under o = at_fault low p 7 high le under
 
--- the label stands before the operation's list
+-- the label is before the operation's list
 called_up : (low p between : ℕ) (label : Judged (Option Named)) (o : Option PitonOp) (q mid : ℕ) (ts : Nodes) (high : ℕ) → low ≤ p → p < high → Up low label between → between ≤ q → q < mid → q < high
     → AllInOrder mid ts high → Up low (called_of p label o q ts) high
 called_up low p between label None q mid ts high le under up before lt under_too o = at_fault low p 6 high le under
@@ -207,11 +125,7 @@ instruction_up = record { up = up }
     up low (list p (more (list q us) ts)) high h = at_fault low p 6 high h.0 h.1
 
 list_up : {X : Type 0} → {judge : Node → Judged X} → Rising judge → Rising (list_of judge)
-list_up {judge = judge} rising = record { up = up }
-  where
-    up : (low : ℕ) (t : Node) (high : ℕ) → InOrder low t high → Up low (list_of judge t) high
-    up low (list p ts) high h = lower (each_up rising (p + 1) ts high h.2) low (omega (arith, h.0))
-    up low (atom p bytes) high h = at_fault low p 3 high h.0 h.1
+list_up rising = list_or_up 3 rising
 
 temporary_up : Rising temporary_of
 temporary_up = record { up = up }

@@ -1,4 +1,4 @@
--- What is answered to a text.
+-- What reading a text returns.
 use Rattle.std.specs.Prelude.{◌≡◌, ℕ, List, Option, Some, None, Result, Ok, Err}
 use Rattle.stack_text.specs.Gives as common
 use Rattle.stack_text.specs.Trees.{Node, IsWellFormed}
@@ -8,20 +8,26 @@ use Rattle.stack_text.specs.declared.text_fault.TextFault.{TextFault}
 use Rattle.stack_text.specs.declared.text_fault.TextFault.TheVariants as text
 use Rattle.piton_syntax.specs.declared.fault.PitonFault.{PitonFault}
 use Rattle.piton_syntax.specs.declared.fault.PitonFault.TheVariants.{Text, Form, Memory}
-use Rattle.piton_syntax.specs.Judged.{Fault, Judged, least}
+use Rattle.stack_text.specs.declared.grammar.fault.FormFault.{FormFault}
+use Rattle.stack_text.specs.declared.grammar.fault.FormFault.TheVariants as form
+use Rattle.stack_text.specs.Grammar.Judged.{Fault, Judged, least}
 use Rattle.piton_syntax.specs.Grammar.{system_of}
 use Rattle.piton_syntax.specs.Printed.{tree_of}
 use Rattle.piton_syntax.specs.Systems.{SystemOf, without_places}
 
--- a fault of the text, as the reader of systems tells it
+-- a fault of the text, and one of the form, as faults of the reader of systems
 abbrev pub fault_of_text : TextFault → PitonFault
 fault_of_text (text.Fault rule place) = Text rule place
 fault_of_text text.Memory = Memory
 
+abbrev pub fault_of_form : FormFault → PitonFault
+fault_of_form (form.Form rule place) = Form rule place
+fault_of_form form.Memory = Memory
+
 abbrev pub form_fault : Fault → PitonFault
 form_fault f = Form f.1 f.0
 
--- of several faults the least is answered
+-- of several faults the least is returned
 abbrev pub judgement : {X : Type 0} → Judged X → Result X PitonFault
 judgement (Ok x) = Ok x
 judgement (Err faults) = Err (form_fault (least faults.0 faults.1))

@@ -9,7 +9,7 @@ use Rattle.stack_text.specs.declared.name.Named.{Named}
 use Rattle.piton_syntax.specs.declared.argument.ArgKind.{ArgKind}
 use Rattle.piton_syntax.specs.declared.argument.ArgKind.TheVariants as kind
 use Rattle.piton_syntax.specs.declared.argument.Arguments.{Arguments}
-use Rattle.piton_syntax.specs.declared.argument.Arguments.TheVariants.{Zero, One, Two, OneOrMore}
+use Rattle.piton_syntax.specs.declared.argument.Arguments.TheVariants.{Zero, One, TestAndLabel, OneOrMore}
 use Rattle.piton_syntax.specs.declared.argument.ArgText.{ArgText}
 use Rattle.piton_syntax.specs.declared.argument.ArgText.TheVariants as arg
 use Rattle.piton_syntax.specs.declared.op.PitonOp.{PitonOp}
@@ -21,27 +21,27 @@ use Rattle.piton_syntax.specs.declared.word_text.Number.{Number}
 use Rattle.piton_syntax.specs.declared.word_text.WordText.{WordText}
 use Rattle.piton_syntax.specs.declared.word_text.WordItem.{WordItem}
 use Rattle.piton_syntax.specs.declared.word_text.WordItem.TheVariants as item
-use Rattle.piton_syntax.specs.Judged.{Judged, fault, judged, ◌⊛◌, each_of}
+use Rattle.stack_text.specs.Grammar.Judged.{Judged, fault, judged, ◌⊛◌, each_of}
 use Rattle.piton_syntax.specs.Limits.{is_small_program, is_small_system}
 use Rattle.piton_syntax.specs.Operations.{op_arguments, operation_named, tag_named, test_named}
+use Rattle.stack_text.specs.Grammar.Parts.{bytes_of, is_atom_of, list_or, name_or}
 use Rattle.piton_syntax.specs.Systems.{InstrOf, ProgramOf, AreaOf, SystemOf, new_word, new_instruction, new_program, new_area, new_system}
 
--- an atom whose bytes pass the test
-abbrev pub is_atom_of : (List ℕ → Bool) → Node → Bool
-is_atom_of test (atom p bytes) = test bytes
-is_atom_of test (list p ts) = false
-
--- P4 where a name is wanted and isn't there
+-- a name, or P4
 abbrev pub named_of : Node → Judged Named
-named_of (atom p bytes) = judged p 4 (is_name bytes) (Ok (record { place = p; name = bytes }))
-named_of (list p ts) = fault p 4
+named_of = name_or 4
 
--- the number of a numeral, or P8 where it is out of range
+-- a list of such trees, or P3
+abbrev pub list_of : {X : Type 0} → (Node → Judged X) → Node → Judged (List X)
+list_of = list_or 3
+
+-- the number of an atom that is a numeral, or P8 where it is out of range
 abbrev pub number_of : Node → Judged Number
-number_of (atom p bytes) =
-    judged p 8 (fits_128_bits (numeral_value bytes)) (Ok (record { place = p; number = numeral_value bytes }))
-number_of (list p ts) = fault p 8
+number_of t =
+    judged (place_of t) 8 (fits_128_bits (numeral_value (bytes_of t)))
+    (Ok (record { place = place_of t; number = numeral_value (bytes_of t) }))
 
+-- the words of the two truth values
 abbrev pub is_true_word : List ℕ → Bool
 is_true_word bytes = bytes_eq bytes (codes "t")
 
@@ -77,39 +77,39 @@ word_of t = fault (place_of t) 5
 abbrev pub is_of_kind : ArgKind → Node → Bool
 is_of_kind kind.Word t = true
 is_of_kind kind.Count t = is_atom_of is_digits t
-is_of_kind (kind.Test family) t = is_atom_of (λ bytes. is_some (test_named family bytes)) t
 is_of_kind _ t = is_atom_of is_name t
 
 abbrev pub are_of_kind : ArgKind → Nodes → Bool
 are_of_kind k none = true
 are_of_kind k (more t ts) = is_of_kind k t && are_of_kind k ts
 
-abbrev pub found_or : {X : Type 0} → ℕ → ℕ → Option X → Judged X
-found_or place rule None = fault place rule
-found_or place rule (Some x) = Ok x
-
-abbrev pub test_of : TestFamily → Node → Judged TestKind
-test_of family (atom p bytes) = found_or p 7 (test_named family bytes)
-test_of family (list p ts) = fault p 7
-
+-- an argument that is of its kind
 abbrev pub argument_of : ArgKind → Node → Judged ArgText
 argument_of kind.Word t = Ok arg.Word ⊛ word_of t
 argument_of kind.Count t = Ok arg.Number ⊛ number_of t
-argument_of (kind.Test family) t = Ok arg.Test ⊛ test_of family t
 argument_of _ t = Ok arg.Name ⊛ named_of t
+
+-- the test that a tree is, if it is the word of one
+abbrev pub test_at : TestFamily → Node → Option TestKind
+test_at family (atom p bytes) = test_named family bytes
+test_at family (list p ts) = None
 
 abbrev pub one : {X : Type 0} → X → List X
 one x = x ∷ []
 
-abbrev pub two : {X : Type 0} → X → X → List X
-two x y = x ∷ y ∷ []
+abbrev pub test_and_label : TestKind → Named → List ArgText
+test_and_label test label = arg.Test test ∷ arg.Name label ∷ []
+
+-- a label after a test, or P7 at the operation's list
+abbrev pub tested_of : ℕ → Option TestKind → Node → Judged (List ArgText)
+tested_of p None label = fault p 7
+tested_of p (Some test) label = judged p 7 (is_atom_of is_name label) (Ok (test_and_label test) ⊛ named_of label)
 
 -- as many as the row has, each of its kind, or P7 at the operation's list
 abbrev pub arguments_of : Arguments → ℕ → Nodes → Judged (List ArgText)
 arguments_of Zero p none = Ok []
 arguments_of (One k) p (more t none) = judged p 7 (is_of_kind k t) (Ok one ⊛ argument_of k t)
-arguments_of (Two k l) p (more t (more u none)) =
-    judged p 7 (is_of_kind k t && is_of_kind l u) (Ok two ⊛ argument_of k t ⊛ argument_of l u)
+arguments_of (TestAndLabel family) p (more t (more label none)) = tested_of p (test_at family t) label
 arguments_of (OneOrMore k) p (more t ts) = judged p 7 (are_of_kind k (more t ts)) (each_of (argument_of k) (more t ts))
 arguments_of _ p ts = fault p 7
 
@@ -118,7 +118,7 @@ abbrev pub called_of : ℕ → Judged (Option Named) → Option PitonOp → ℕ 
 called_of p label None q ts = fault p 6
 called_of p label (Some o) q ts = Ok (new_instruction p o) ⊛ label ⊛ arguments_of (op_arguments o) q ts
 
--- `LABEL () (OPERATION ..)` behind `dl`, or P6 at the instruction
+-- `LABEL () (OPERATION ..)` after `dl`, or P6 at the instruction
 abbrev pub labelled_of : ℕ → Nodes → Judged InstrOf
 labelled_of p (more label (more (list q none) (more (list r (more (atom s bytes) ts)) none))) =
     called_of p (Ok Some ⊛ named_of label) (operation_named bytes) r ts
@@ -129,11 +129,7 @@ instruction_of (list p (more (atom q bytes) ts)) =
     if bytes_eq bytes (codes "dl") then labelled_of p ts else called_of p (Ok None) (operation_named bytes) p ts
 instruction_of t = fault (place_of t) 6
 
--- P3 where a list of such trees is wanted and isn't there
-abbrev pub list_of : {X : Type 0} → (Node → Judged X) → Node → Judged (List X)
-list_of judge (list p ts) = each_of judge ts
-list_of judge (atom p bytes) = fault p 3
-
+-- a name and a word at the start
 abbrev pub pair : {X Y : Type 0} → X → Y → X × Y
 pair x y = (x, y)
 
@@ -156,7 +152,10 @@ area_of t = fault (place_of t) 2
 
 -- `(piton MAIN CTRL TEMP BASE (AREA ..) (WORD ..) PROGRAM ..)` with one program or more, or P1; P9 where it is too large
 abbrev pub system_of : Node → Judged SystemOf
-system_of (list p (more (atom q bytes) (more main (more ctrl (more temp (more base (more (list r areas) (more (list s stack) (more i is))))))))) =
+system_of
+    (list p
+    (more (atom q bytes)
+    (more main (more ctrl (more temp (more base (more (list r areas) (more (list s stack) (more i is))))))))) =
     judged p 1 (bytes_eq bytes (codes "piton") && is_atom_of is_digits ctrl && is_atom_of is_digits temp && is_atom_of is_digits base)
     (judged p 9 (is_small_system areas (more i is))
     (Ok (new_system p) ⊛ named_of main ⊛ number_of ctrl ⊛ number_of temp ⊛ number_of base

@@ -1,8 +1,8 @@
+-- What the crate promises: systems, the grammar of their text, its faults, and the printed text.
 pub mod Systems
 pub mod Operations
-pub mod Judged
 pub mod Limits
 pub mod Grammar
 pub mod Printed
 pub mod Answers
-pub mod Reading
+pub mod Fits

@@ -1,12 +1,12 @@
 //! The text of Piton: the tree of a system, its operations with their arguments, and what keeps a text from being a
 //! system's.
 //!
-//! `specs/` has the grammar, the faults of the form and the printed text. Piton is the assembly language of J Moore's
-//! verified stack (*Piton: A Mechanically Verified Assembly-Level Language*, 1996).
+//! `specs/` has the grammar, the faults of the form and the printed text.
 #![tactic(auto)]
 
 mod argument;
 mod fault;
+mod law;
 mod op;
 mod printing;
 mod reading;
@@ -15,12 +15,11 @@ mod tag;
 mod test_kind;
 #[cfg(test)]
 mod tests;
-#[cfg(test)]
-mod tests_printing;
 mod word_text;
 
 pub use argument::{ArgKind, ArgText, Arguments};
 pub use fault::PitonFault;
+pub use law::plain_form;
 pub use op::{PitonOp, operation_named};
 pub use printing::print_piton;
 pub use reading::read_piton;

@@ -77,11 +77,11 @@ alike_items (more t ts) (more u us) h = ap (λ (n : ℕ). 1 + n) (alike_items ts
 alike_items none (more u us) h = absurd h
 alike_items (more t ts) none h = absurd h
 
-pub alike_item_count : (t u : Node) → Alike t u → list_length u ≡ list_length t
-alike_item_count (atom p w) (atom q v) h = refl
-alike_item_count (list p ts) (list q us) h = alike_items ts us h
-alike_item_count (atom p w) (list q us) h = absurd h
-alike_item_count (list p ts) (atom q v) h = absurd h
+pub alike_list_length : (t u : Node) → Alike t u → list_length u ≡ list_length t
+alike_list_length (atom p w) (atom q v) h = refl
+alike_list_length (list p ts) (list q us) h = alike_items ts us h
+alike_list_length (atom p w) (list q us) h = absurd h
+alike_list_length (list p ts) (atom q v) h = absurd h
 
 pub well_formed : (t u : Node) → Alike t u → IsWellFormed t → IsWellFormed u
 well_formed t u h form =
@@ -227,7 +227,7 @@ found_first P y x false behind first others h = others h
 pub found_passes : {X : Type 0} (P test : X → Bool) (xs : List X) (x : X) → list_all P xs ≡ true → find test xs ≡ Some x → P x ≡ true
 found_passes P test [] x all h = absurd cc
 found_passes P test (y ∷ ys) x all h =
-    let p = both (P y) (list_all P ys) all in
+    let p = and_parts (P y) (list_all P ys) all in
     found_first P y x (test y) (find test ys) p.0 (found_passes P test ys x p.1) h
 
 -- what is found passes the test

@@ -6,22 +6,8 @@ use Rattle.stack_text.specs.Trees.{without_places as unplaced_tree, all_without_
 use Rattle.stack_text.specs.TreeText.{tree_text, items_text, spaced_text}
 use Rattle.stack_text.specs.TreeView.{nodes}
 use Rattle.stack_text.specs.Spellings.{Spells, SpellsAll, SpellsRest}
+use Rattle.stack_text.proofs.PrintLaws.{Spells-tree_text}
 use Rattle.stack_text.specs.Grammar.Printed.{lines_text}
-
--- ---- the text spells the tree
-
-mutual
-  pub spells_tree : (t : Node) → Spells t (tree_text t)
-  spells_tree (atom p bytes) = refl
-  spells_tree (list p ts) = (items_text ts, spells_items ts, refl)
-
-  pub spells_items : (ts : Nodes) → SpellsAll ts (items_text ts)
-  spells_items none = refl
-  spells_items (more t ts) = (tree_text t, spaced_text ts, spells_tree t, spells_spaced ts, refl)
-
-  pub spells_spaced : (ts : Nodes) → SpellsRest ts (spaced_text ts)
-  spells_spaced none = refl
-  spells_spaced (more t ts) = (32 ∷ [], tree_text t, spaced_text ts, omega arith, (tt, tt), spells_tree t, spells_spaced ts, refl)
 
 -- items on lines of their own
 pub spells_lines : {X : Type 0} (tree : X → Node) (text : X → List ℕ) → ((x : X) → Spells (tree x) (text x)) → (xs : List X) → SpellsRest (nodes (map tree xs)) (flat_map (λ x. 10 ∷ text x) xs)
@@ -29,10 +15,10 @@ spells_lines tree text h [] = refl
 spells_lines tree text h (x ∷ xs) = (10 ∷ [], text x, flat_map (λ y. 10 ∷ text y) xs, omega arith, (tt, tt), h x, spells_lines tree text h xs, refl)
 
 -- after items with a space before each
-pub spells_behind : (ts us : List Node) (text : List ℕ) → SpellsRest (nodes us) text → SpellsRest (nodes (ts ++ us)) (spaced_text (nodes ts) ++ text)
-spells_behind [] us text h = h
-spells_behind (t ∷ ts) us text h =
-    (32 ∷ [], tree_text t, spaced_text (nodes ts) ++ text, omega arith, (tt, tt), spells_tree t, spells_behind ts us text h, ap (λ (w : List ℕ). 32 ∷ w) (append_assoc (tree_text t) (spaced_text (nodes ts)) text))
+pub spells_after : (ts us : List Node) (text : List ℕ) → SpellsRest (nodes us) text → SpellsRest (nodes (ts ++ us)) (spaced_text (nodes ts) ++ text)
+spells_after [] us text h = h
+spells_after (t ∷ ts) us text h =
+    (32 ∷ [], tree_text t, spaced_text (nodes ts) ++ text, omega arith, (tt, tt), Spells-tree_text t, spells_after ts us text h, ap (λ (w : List ℕ). 32 ∷ w) (append_assoc (tree_text t) (spaced_text (nodes ts)) text))
 
 -- a list of a head and lines
 pub spells_list : {X : Type 0} (tree : X → Node) (text : X → List ℕ) → ((x : X) → Spells (tree x) (text x)) → (t : Node) (ts : List Node) (xs : List X) →
@@ -40,7 +26,7 @@ pub spells_list : {X : Type 0} (tree : X → Node) (text : X → List ℕ) → (
 spells_list tree text h t ts xs =
     let lines = flat_map (λ x. 10 ∷ text x) xs in (
       items_text (nodes (t ∷ ts)) ++ lines,
-      (tree_text t, spaced_text (nodes ts) ++ lines, spells_tree t, spells_behind ts (map tree xs) lines (spells_lines tree text h xs), append_assoc (tree_text t) (spaced_text (nodes ts)) lines),
+      (tree_text t, spaced_text (nodes ts) ++ lines, Spells-tree_text t, spells_after ts (map tree xs) lines (spells_lines tree text h xs), append_assoc (tree_text t) (spaced_text (nodes ts)) lines),
       refl,
     )
 

@@ -118,9 +118,9 @@ pub same_count : (ts : Nodes) → count_of (all_without_places ts) ≡ count_of 
 same_count none = refl
 same_count (more t ts) = ap (λ (n : ℕ). 1 + n) (same_count ts)
 
-pub same_item_count : (t : Node) → list_length (without_places t) ≡ list_length t
-same_item_count (atom p w) = refl
-same_item_count (list p ts) = same_count ts
+pub same_list_length : (t : Node) → list_length (without_places t) ≡ list_length t
+same_list_length (atom p w) = refl
+same_list_length (list p ts) = same_count ts
 
 pub same_name : (rule : ℕ) (t : Node) → IsSame unplaced_name (name_or rule t) (name_or rule (without_places t))
 same_name rule (atom p w) = agree_if _ (is_name w) _ _ _ _ (record { both = refl }) (record { both = tt })

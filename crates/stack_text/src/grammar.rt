@@ -8,6 +8,7 @@ mod name;
 mod part;
 mod printing;
 
+pub use crate::printer::separate;
 pub use fault::{BrokenRule, FormFault};
 pub use name::{named, names};
 pub use part::{Part, each, each_in, list_length};

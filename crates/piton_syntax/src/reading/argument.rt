@@ -2,38 +2,25 @@
 
 ghost use Rattle.std.specs.Prelude.{◌≡◌, IsTrue};
 ghost use Rattle.std.specs.List.{list_all};
-ghost use Rattle.std.specs.Option.{is_some};
+ghost use Rattle.stack_text.specs.Grammar.Judged.{each_of};
+ghost use Rattle.stack_text.specs.Grammar.Reading.{Finds, Reads};
 ghost use Rattle.stack_text.specs.TreeView.{node_of, nodes_of};
-ghost use Rattle.piton_syntax.specs.Grammar.{are_of_kind, argument_of, arguments_of, is_atom_of, is_of_kind, test_of};
-ghost use Rattle.piton_syntax.specs.Judged.{each_of};
-ghost use Rattle.piton_syntax.specs.Operations.{test_named};
-ghost use Rattle.piton_syntax.specs.Reading.{Reads};
+ghost use Rattle.piton_syntax.specs.Grammar.{are_of_kind, argument_of, arguments_of, is_of_kind, test_at};
 ghost use Rattle.piton_syntax.specs.declared.argument.Arguments.TheVariants as wanted;
-ghost use Rattle.piton_syntax.specs.declared.fault.PitonFault.TheVariants.{Form};
 
 use crate::argument::{ArgKind, ArgText, Arguments};
-use crate::fault::PitonFault;
-use crate::reading::atom::{is_digits_atom, is_name_atom, named, number};
+use crate::reading::atom::{is_digits_atom, is_name_atom, name, number};
 use crate::reading::word::word;
 use crate::test_kind::{TestFamily, TestKind, test_named};
 use stack_text::Tree;
+use stack_text::grammar::{BrokenRule, FormFault};
 use std::alloc::Global;
 
 /// P7 at an operation's list.
-fn wrong_arguments(place: u32) -> PitonFault
-    ensures { result ≡ Form 7 place }
+fn wrong_arguments(place: u32) -> BrokenRule
+    ensures { result ≡ record { rule = 7; place = place } }
 {
-    PitonFault::Form { rule: 7, place }
-}
-
-/// Whether the tree is the word of a test of the family.
-fn is_test_atom(family: TestFamily, tree: &Tree) -> bool
-    ensures { result ≡ is_atom_of (λ bytes. is_some (test_named family bytes)) (node_of tree.now) }
-{
-    match tree {
-        Tree::Atom { place: _, text } => test_named(family, text).is_some(),
-        Tree::List { place: _, items: _ } => false,
-    }
+    BrokenRule { rule: 7, place }
 }
 
 /// Whether the tree is of the kind, where the kind is not that of words.
@@ -43,7 +30,6 @@ fn is_of_kind(kind: ArgKind, tree: &Tree) -> bool
     match kind {
         ArgKind::Word => true,
         ArgKind::Count => is_digits_atom(tree),
-        ArgKind::Test(family) => is_test_atom(family, tree),
         ArgKind::Local | ArgKind::Area | ArgKind::Label | ArgKind::Program => is_name_atom(tree),
     }
 }
@@ -55,37 +41,23 @@ fn are_of_kind(kind: ArgKind, trees: &[Tree]) -> bool
     trees.iter().all(|tree| is_of_kind(kind, tree))
 }
 
-/// The test that a tree is.
-fn test(family: TestFamily, tree: &Tree) -> Result<TestKind, PitonFault>
-    ensures { Reads (λ test. test) result (test_of family (node_of tree.now)) }
-{
-    match tree {
-        Tree::Atom { place, text } => match test_named(family, text) {
-            Some(test) => Ok(test),
-            None => Err(wrong_arguments(*place)),
-        },
-        Tree::List { place, items: _ } => Err(wrong_arguments(*place)),
-    }
-}
-
 /// The argument of a kind that a tree is.
-fn argument(alloc: Global, kind: ArgKind, tree: &Tree) -> Result<ArgText, PitonFault>
+fn argument(alloc: Global, kind: ArgKind, tree: &Tree) -> Result<ArgText, FormFault>
     requires { IsTrue (is_of_kind kind (node_of tree.now)) }
     ensures { Reads (λ argument. argument) result (argument_of kind (node_of tree.now)) }
 {
     match kind {
         ArgKind::Word => Ok(ArgText::Word(word(alloc, tree)?)),
         ArgKind::Count => Ok(ArgText::Number(number(tree)?)),
-        ArgKind::Test(family) => Ok(ArgText::Test(test(family, tree)?)),
         ArgKind::Local | ArgKind::Area | ArgKind::Label | ArgKind::Program => {
-            Ok(ArgText::Name(named(alloc, tree)?))
+            Ok(ArgText::Name(name(alloc, tree)?))
         }
     }
 }
 
 /// The arguments of an operation that has none.
-fn no_arguments(alloc: Global, place: u32, trees: &[Tree]) -> Result<Vec<ArgText>, PitonFault>
-    ensures { Reads (λ arguments. arguments.items) result (arguments_of wanted.Zero place (nodes_of trees.now)) }
+fn no_arguments(alloc: Global, place: u32, trees: &[Tree]) -> Result<Vec<ArgText>, BrokenRule>
+    ensures { Finds (λ args. args.items) result (arguments_of wanted.Zero place (nodes_of trees.now)) }
 {
     if trees.is_empty() {
         Ok(Vec::new(alloc))
@@ -100,15 +72,15 @@ fn one_argument(
     kind: ArgKind,
     place: u32,
     trees: &[Tree],
-) -> Result<Vec<ArgText>, PitonFault>
-    ensures { Reads (λ arguments. arguments.items) result (arguments_of (wanted.One kind) place (nodes_of trees.now)) }
+) -> Result<Vec<ArgText>, FormFault>
+    ensures { Reads (λ args. args.items) result (arguments_of (wanted.One kind) place (nodes_of trees.now)) }
 {
     if trees.len() != 1 {
-        return Err(wrong_arguments(place));
+        return Err(wrong_arguments(place).into());
     }
     let tree = &trees[0];
     if !is_of_kind(kind, tree) {
-        return Err(wrong_arguments(place));
+        return Err(wrong_arguments(place).into());
     }
     let only = argument(alloc, kind, tree)?;
     let mut arguments = Vec::new(alloc);
@@ -116,35 +88,46 @@ fn one_argument(
     Ok(arguments)
 }
 
-/// The arguments of an operation that has two.
-fn two_arguments(
+/// The test of the family that a tree is, if it is the word of one.
+fn test_at(family: TestFamily, tree: &Tree) -> Option<TestKind>
+    ensures { result ≡ test_at family (node_of tree.now) }
+{
+    match tree {
+        Tree::Atom { place: _, text } => test_named(family, text),
+        Tree::List { place: _, items: _ } => None,
+    }
+}
+
+/// A test and a label, as arguments.
+fn test_and_label(
     alloc: Global,
-    kind: ArgKind,
-    next: ArgKind,
+    family: TestFamily,
     place: u32,
     trees: &[Tree],
-) -> Result<Vec<ArgText>, PitonFault>
-    ensures { Reads (λ arguments. arguments.items) result (arguments_of (wanted.Two kind next) place (nodes_of trees.now)) }
+) -> Result<Vec<ArgText>, FormFault>
+    ensures { Reads (λ args. args.items) result (arguments_of (wanted.TestAndLabel family) place (nodes_of trees.now)) }
 {
     if trees.len() != 2 {
-        return Err(wrong_arguments(place));
+        return Err(wrong_arguments(place).into());
     }
-    let (tree, behind) = (&trees[0], &trees[1]);
-    if !is_of_kind(kind, tree) || !is_of_kind(next, behind) {
-        return Err(wrong_arguments(place));
+    let (test, label) = (&trees[0], &trees[1]);
+    let Some(test) = test_at(family, test) else {
+        return Err(wrong_arguments(place).into());
+    };
+    if !is_name_atom(label) {
+        return Err(wrong_arguments(place).into());
     }
-    let first = argument(alloc, kind, tree)?;
-    let second = argument(alloc, next, behind)?;
+    let label = name(alloc, label)?;
     let mut arguments = Vec::new(alloc);
-    arguments.push(first)?;
-    arguments.push(second)?;
+    arguments.push(ArgText::Test(test))?;
+    arguments.push(ArgText::Name(label))?;
     Ok(arguments)
 }
 
 /// The argument of a kind that each tree is.
-fn each_argument(alloc: Global, kind: ArgKind, trees: &[Tree]) -> Result<Vec<ArgText>, PitonFault>
+fn each_argument(alloc: Global, kind: ArgKind, trees: &[Tree]) -> Result<Vec<ArgText>, FormFault>
     requires { IsTrue (are_of_kind kind (nodes_of trees.now)) }
-    ensures { Reads (λ arguments. arguments.items) result (each_of (argument_of kind) (nodes_of trees.now)) }
+    ensures { Reads (λ args. args.items) result (each_of (argument_of kind) (nodes_of trees.now)) }
 {
     let mut arguments = Vec::new(alloc);
     for tree in trees {
@@ -160,14 +143,14 @@ fn some_arguments(
     kind: ArgKind,
     place: u32,
     trees: &[Tree],
-) -> Result<Vec<ArgText>, PitonFault>
-    ensures { Reads (λ arguments. arguments.items) result (arguments_of (wanted.OneOrMore kind) place (nodes_of trees.now)) }
+) -> Result<Vec<ArgText>, FormFault>
+    ensures { Reads (λ args. args.items) result (arguments_of (wanted.OneOrMore kind) place (nodes_of trees.now)) }
 {
     if trees.is_empty() {
-        return Err(wrong_arguments(place));
+        return Err(wrong_arguments(place).into());
     }
     if !are_of_kind(kind, trees) {
-        return Err(wrong_arguments(place));
+        return Err(wrong_arguments(place).into());
     }
     each_argument(alloc, kind, trees)
 }
@@ -178,13 +161,13 @@ pub fn arguments(
     wanted: Arguments,
     place: u32,
     trees: &[Tree],
-) -> Result<Vec<ArgText>, PitonFault>
-    ensures { Reads (λ arguments. arguments.items) result (arguments_of wanted place (nodes_of trees.now)) }
+) -> Result<Vec<ArgText>, FormFault>
+    ensures { Reads (λ args. args.items) result (arguments_of wanted place (nodes_of trees.now)) }
 {
     match wanted {
-        Arguments::Zero => no_arguments(alloc, place, trees),
+        Arguments::Zero => Ok(no_arguments(alloc, place, trees)?),
         Arguments::One(kind) => one_argument(alloc, kind, place, trees),
-        Arguments::Two(kind, next) => two_arguments(alloc, kind, next, place, trees),
+        Arguments::TestAndLabel(family) => test_and_label(alloc, family, place, trees),
         Arguments::OneOrMore(kind) => some_arguments(alloc, kind, place, trees),
     }
 }

@@ -1,21 +1,19 @@
 //! Programs.
 
 ghost use Rattle.std.specs.Prelude.{◌≡◌, Ok};
+ghost use Rattle.stack_text.specs.Grammar.Judged.{each_of, ◌⊛◌};
+ghost use Rattle.stack_text.specs.Grammar.Reading.{Reads};
 ghost use Rattle.stack_text.specs.Trees.{list, place_of};
 ghost use Rattle.stack_text.specs.TreeView.{node_of, nodes_of};
 ghost use Rattle.piton_syntax.specs.Grammar.{instruction_of, list_of, named_of, program_of, temporary_of};
-ghost use Rattle.piton_syntax.specs.Judged.{each_of, ◌⊛◌};
-ghost use Rattle.piton_syntax.specs.Limits.{is_small_program, item_count};
-ghost use Rattle.piton_syntax.specs.Reading.{Reads};
+ghost use Rattle.piton_syntax.specs.Limits.{is_small_program};
 ghost use Rattle.piton_syntax.specs.Systems.{new_program};
-ghost use Rattle.piton_syntax.specs.declared.fault.PitonFault.TheVariants.{Form};
 
-use crate::fault::PitonFault;
-use crate::reading::atom::named;
-use crate::reading::part::{Part, each, each_in};
+use crate::reading::atom::name as read_name;
 use crate::reading::word::word as read_word;
 use crate::system::Program;
 use crate::word_text::WordText;
+use stack_text::grammar::{BrokenRule, FormFault, Part, each, list_length, names};
 use stack_text::{Named, Tree};
 use std::alloc::Global;
 
@@ -26,45 +24,54 @@ const MOST_VARIABLES: usize = 400;
 const MOST_INSTRUCTIONS: usize = 1_048_576;
 
 /// P3 at a tree.
-fn no_program(place: u32) -> PitonFault
-    ensures { result ≡ Form 3 place }
+fn no_program(place: u32) -> BrokenRule
+    ensures { result ≡ record { rule = 3; place = place } }
 {
-    PitonFault::Form { rule: 3, place }
+    BrokenRule { rule: 3, place }
 }
 
 /// A temporary with its word at the start, which are the items of a list.
-fn temporary_at(alloc: Global, place: u32, items: &[Tree]) -> Result<(Named, WordText), PitonFault>
+fn temporary_at(alloc: Global, place: u32, items: &[Tree]) -> Result<(Named, WordText), FormFault>
     ensures { Reads (λ temporary. temporary) result (temporary_of (list place (nodes_of items.now))) }
 {
     if items.len() != 2 {
-        return Err(no_program(place));
+        return Err(no_program(place).into());
     }
     let (name, word) = (&items[0], &items[1]);
-    let name = named(alloc, name)?;
+    let name = read_name(alloc, name)?;
     let word = read_word(alloc, word)?;
     Ok((name, word))
 }
 
-impl Part for (Named, WordText) {
-    ghost use Rattle.piton_syntax.specs.Grammar.{temporary_of};
-
-    ghost part_of = { temporary_of };
-
-    fn read(alloc: Global, tree: &Tree) -> Result<(Named, WordText), PitonFault> {
-        match tree {
-            Tree::Atom { place, text: _ } => Err(no_program(*place)),
-            Tree::List { place, items } => temporary_at(alloc, *place, items),
-        }
+/// The temporary that a tree is, or P3 where it is no list of two.
+fn temporary(alloc: Global, tree: &Tree) -> Result<(Named, WordText), FormFault>
+    ensures { Reads (λ temporary. temporary) result (temporary_of (node_of tree.now)) }
+{
+    match tree {
+        Tree::Atom { place, text: _ } => Err(no_program(*place).into()),
+        Tree::List { place, items } => temporary_at(alloc, *place, items),
     }
 }
 
-/// How many items a list has, and none where the tree is no list.
-fn item_count(tree: &Tree) -> usize
-    ensures { result ≡ item_count (node_of tree.now) }
+/// The temporary that each tree is.
+fn each_temporary(alloc: Global, trees: &[Tree]) -> Result<Vec<(Named, WordText)>, FormFault>
+    ensures { Reads (λ temporaries. temporaries.items) result (each_of temporary_of (nodes_of trees.now)) }
+{
+    let mut temporaries = Vec::new(alloc);
+    for tree in trees {
+        let temporary = temporary(alloc, tree)?;
+        temporaries.push(temporary)?;
+    }
+    Ok(temporaries)
+}
+
+/// The temporaries of a program, or P3 where the tree is no list.
+fn read_temporaries(alloc: Global, tree: &Tree) -> Result<Vec<(Named, WordText)>, FormFault>
+    ensures { Reads (λ temporaries. temporaries.items) result (list_of temporary_of (node_of tree.now)) }
 {
     match tree {
-        Tree::Atom { place: _, text: _ } => 0,
-        Tree::List { place: _, items } => items.len(),
+        Tree::Atom { place, text: _ } => Err(no_program(*place).into()),
+        Tree::List { place: _, items } => each_temporary(alloc, items),
     }
 }
 
@@ -72,7 +79,7 @@ fn item_count(tree: &Tree) -> usize
 fn is_small(formals: &Tree, temporaries: &Tree, instructions: &[Tree]) -> bool
     ensures { result ≡ is_small_program (node_of formals.now) (node_of temporaries.now) (nodes_of instructions.now) }
 {
-    let variables = item_count(formals).saturating_add(item_count(temporaries));
+    let variables = list_length(formals).saturating_add(list_length(temporaries));
     variables <= MOST_VARIABLES && instructions.len() <= MOST_INSTRUCTIONS
 }
 
@@ -84,13 +91,16 @@ fn program_parts(
     formals: &Tree,
     temporaries: &Tree,
     instructions: &[Tree],
-) -> Result<Program, PitonFault>
-    ensures { Reads (λ program. program) result (Ok (new_program place (place_of (node_of formals.now))) ⊛ named_of (node_of name.now) ⊛ list_of named_of (node_of formals.now) ⊛ list_of temporary_of (node_of temporaries.now) ⊛ each_of instruction_of (nodes_of instructions.now)) }
+) -> Result<Program, FormFault>
+    ensures { Reads (λ program. program) result
+        (Ok (new_program place (place_of (node_of formals.now)))
+        ⊛ named_of (node_of name.now) ⊛ list_of named_of (node_of formals.now)
+        ⊛ list_of temporary_of (node_of temporaries.now) ⊛ each_of instruction_of (nodes_of instructions.now)) }
 {
-    let name = named(alloc, name)?;
+    let name = read_name(alloc, name)?;
     let formals_place = formals.place();
-    let formals = each_in(alloc, formals)?;
-    let temporaries = each_in(alloc, temporaries)?;
+    let formals = names(alloc, 3, 4, formals)?;
+    let temporaries = read_temporaries(alloc, temporaries)?;
     let instrs = each(alloc, instructions)?;
     Ok(Program {
         place,
@@ -103,28 +113,33 @@ fn program_parts(
 }
 
 /// The program that the items of a list are.
-fn program_at(alloc: Global, place: u32, items: &[Tree]) -> Result<Program, PitonFault>
+fn program_at(alloc: Global, place: u32, items: &[Tree]) -> Result<Program, FormFault>
     ensures { Reads (λ program. program) result (program_of (list place (nodes_of items.now))) }
 {
     if items.len() < 4 {
-        return Err(no_program(place));
+        return Err(no_program(place).into());
     }
     let (name, formals, temporaries) = (&items[0], &items[1], &items[2]);
     let instructions = &items[3..];
     if !is_small(formals, temporaries, instructions) {
-        return Err(PitonFault::Form { rule: 9, place });
+        return Err(FormFault::Form { rule: 9, place });
     }
     program_parts(alloc, place, name, formals, temporaries, instructions)
 }
 
 impl Part for Program {
     ghost use Rattle.piton_syntax.specs.Grammar.{program_of};
+    ghost use Rattle.piton_syntax.specs.Systems.{ProgramOf};
+
+    ghost Seen = { ProgramOf };
+
+    ghost view = { λ program. program };
 
     ghost part_of = { program_of };
 
-    fn read(alloc: Global, tree: &Tree) -> Result<Program, PitonFault> {
+    fn read(alloc: Global, tree: &Tree) -> Result<Program, FormFault> {
         match tree {
-            Tree::Atom { place, text: _ } => Err(no_program(*place)),
+            Tree::Atom { place, text: _ } => Err(no_program(*place).into()),
             Tree::List { place, items } => program_at(alloc, *place, items),
         }
     }

@@ -2,21 +2,20 @@
 
 ghost use Rattle.std.specs.Prelude.{◌≡◌, ℕ, IsTrue, List, ◌&&◌, Ok, MatchOption, codes};
 ghost use Rattle.std.specs.Str.{bytes_eq};
+ghost use Rattle.stack_text.specs.Grammar.Judged.{each_of, ◌⊛◌};
+ghost use Rattle.stack_text.specs.Grammar.Parts.{is_atom_of};
+ghost use Rattle.stack_text.specs.Grammar.Reading.{Reads};
 ghost use Rattle.stack_text.specs.Numerals.{is_digits};
 ghost use Rattle.stack_text.specs.Trees.{atom, list};
 ghost use Rattle.stack_text.specs.TreeView.{node_of, nodes_of};
-ghost use Rattle.piton_syntax.specs.Grammar.{area_of, is_atom_of, named_of, number_of, program_of, system_of, word_of};
-ghost use Rattle.piton_syntax.specs.Judged.{each_of, ◌⊛◌};
+ghost use Rattle.piton_syntax.specs.Grammar.{area_of, named_of, number_of, program_of, system_of, word_of};
 ghost use Rattle.piton_syntax.specs.Limits.{is_small_system};
-ghost use Rattle.piton_syntax.specs.Reading.{Reads};
 ghost use Rattle.piton_syntax.specs.Systems.{new_area, new_system};
-ghost use Rattle.piton_syntax.specs.declared.fault.PitonFault.TheVariants.{Form};
 
-use crate::fault::PitonFault;
-use crate::reading::atom::{is_digits_atom, named, number};
-use crate::reading::part::{Part, each};
+use crate::reading::atom::{is_digits_atom, name as read_name, number};
 use crate::system::{Area, System};
 use stack_text::Tree;
+use stack_text::grammar::{BrokenRule, FormFault, Part, each};
 use std::alloc::Global;
 
 /// The most areas of a system.
@@ -26,49 +25,55 @@ const MOST_AREAS: usize = 1000;
 const MOST_PROGRAMS: usize = 1100;
 
 /// P2 at an area.
-fn no_area(place: u32) -> PitonFault
-    ensures { result ≡ Form 2 place }
+fn no_area(place: u32) -> BrokenRule
+    ensures { result ≡ record { rule = 2; place = place } }
 {
-    PitonFault::Form { rule: 2, place }
+    BrokenRule { rule: 2, place }
 }
 
 /// An area, of which the name and the words are given.
-fn area_parts(alloc: Global, place: u32, name: &Tree, words: &[Tree]) -> Result<Area, PitonFault>
-    ensures { Reads (λ area. area) result (Ok (new_area place) ⊛ named_of (node_of name.now) ⊛ each_of word_of (nodes_of words.now)) }
+fn area_parts(alloc: Global, place: u32, name: &Tree, words: &[Tree]) -> Result<Area, FormFault>
+    ensures { Reads (λ area. area) result
+        (Ok (new_area place) ⊛ named_of (node_of name.now) ⊛ each_of word_of (nodes_of words.now)) }
 {
-    let name = named(alloc, name)?;
+    let name = read_name(alloc, name)?;
     let words = each(alloc, words)?;
     Ok(Area { place, name, words })
 }
 
 /// The area that the items of a list are.
-fn area_at(alloc: Global, place: u32, items: &[Tree]) -> Result<Area, PitonFault>
+fn area_at(alloc: Global, place: u32, items: &[Tree]) -> Result<Area, FormFault>
     ensures { Reads (λ area. area) result (area_of (list place (nodes_of items.now))) }
 {
     if items.len() < 2 {
-        return Err(no_area(place));
+        return Err(no_area(place).into());
     }
     area_parts(alloc, place, &items[0], &items[1..])
 }
 
 impl Part for Area {
     ghost use Rattle.piton_syntax.specs.Grammar.{area_of};
+    ghost use Rattle.piton_syntax.specs.Systems.{AreaOf};
+
+    ghost Seen = { AreaOf };
+
+    ghost view = { λ area. area };
 
     ghost part_of = { area_of };
 
-    fn read(alloc: Global, tree: &Tree) -> Result<Area, PitonFault> {
+    fn read(alloc: Global, tree: &Tree) -> Result<Area, FormFault> {
         match tree {
-            Tree::Atom { place, text: _ } => Err(no_area(*place)),
+            Tree::Atom { place, text: _ } => Err(no_area(*place).into()),
             Tree::List { place, items } => area_at(alloc, *place, items),
         }
     }
 }
 
 /// P1 at the whole tree.
-fn no_system(place: u32) -> PitonFault
-    ensures { result ≡ Form 1 place }
+fn no_system(place: u32) -> BrokenRule
+    ensures { result ≡ record { rule = 1; place = place } }
 {
-    PitonFault::Form { rule: 1, place }
+    BrokenRule { rule: 1, place }
 }
 
 /// Whether the tree is the word that begins a system.
@@ -83,14 +88,19 @@ fn is_keyword(tree: &Tree) -> bool
 
 /// Whether the trees are the word that begins a system, and three numbers.
 fn is_head(keyword: &Tree, ctrl: &Tree, temp: &Tree, base: &Tree) -> bool
-    ensures { result ≡ is_atom_of (λ bytes. bytes_eq bytes (codes "piton")) (node_of keyword.now) && is_atom_of is_digits (node_of ctrl.now) && is_atom_of is_digits (node_of temp.now) && is_atom_of is_digits (node_of base.now) }
+    ensures { result
+        ≡ (is_atom_of (λ bytes. bytes_eq bytes (codes "piton")) (node_of keyword.now)
+        && is_atom_of is_digits (node_of ctrl.now) && is_atom_of is_digits (node_of temp.now)
+        && is_atom_of is_digits (node_of base.now)) }
 {
     is_keyword(keyword) && is_digits_atom(ctrl) && is_digits_atom(temp) && is_digits_atom(base)
 }
 
 /// The items of a list.
 fn items_of(tree: &Tree) -> Option<&[Tree]>
-    ensures { MatchOption result ((p : ℕ) × (bytes : List ℕ) × (node_of tree.now ≡ atom p bytes)) (λ items. (p : ℕ) × (node_of tree.now ≡ list p (nodes_of items.now))) }
+    ensures { MatchOption result
+        ((p : ℕ) × (bytes : List ℕ) × (node_of tree.now ≡ atom p bytes))
+        (λ items. (p : ℕ) × (node_of tree.now ≡ list p (nodes_of items.now))) }
 {
     match tree {
         Tree::Atom { place: _, text: _ } => None,
@@ -105,7 +115,7 @@ fn is_small(areas: &[Tree], programs: &[Tree]) -> bool
     areas.len() <= MOST_AREAS && programs.len() <= MOST_PROGRAMS
 }
 
-/// The trees of a system behind the word that begins it.
+/// The trees of a system after the word that begins it.
 #[derive(Clone, Copy)]
 struct SystemTrees<'a> {
     main: &'a Tree,
@@ -118,13 +128,18 @@ struct SystemTrees<'a> {
 }
 
 /// A system, of which the parts are given.
-fn system_parts(alloc: Global, place: u32, trees: SystemTrees) -> Result<System, PitonFault>
+fn system_parts(alloc: Global, place: u32, trees: SystemTrees) -> Result<System, FormFault>
     requires ctrl { IsTrue (is_atom_of is_digits (node_of trees.ctrl.now)) }
     requires temp { IsTrue (is_atom_of is_digits (node_of trees.temp.now)) }
     requires base { IsTrue (is_atom_of is_digits (node_of trees.base.now)) }
-    ensures { Reads (λ system. system) result (Ok (new_system place) ⊛ named_of (node_of trees.entry.main.now) ⊛ number_of (node_of trees.entry.ctrl.now) ⊛ number_of (node_of trees.entry.temp.now) ⊛ number_of (node_of trees.entry.base.now) ⊛ each_of area_of (nodes_of trees.entry.areas.now) ⊛ each_of word_of (nodes_of trees.entry.stack.now) ⊛ each_of program_of (nodes_of trees.entry.programs.now)) }
+    ensures { let parts = trees.entry in
+        Reads (λ system. system) result
+        (Ok (new_system place) ⊛ named_of (node_of parts.main.now) ⊛ number_of (node_of parts.ctrl.now)
+        ⊛ number_of (node_of parts.temp.now) ⊛ number_of (node_of parts.base.now)
+        ⊛ each_of area_of (nodes_of parts.areas.now) ⊛ each_of word_of (nodes_of parts.stack.now)
+        ⊛ each_of program_of (nodes_of parts.programs.now)) }
 {
-    let main = named(alloc, trees.main)?;
+    let main = read_name(alloc, trees.main)?;
     let ctrl = number(trees.ctrl)?;
     let temp = number(trees.temp)?;
     let base = number(trees.base)?;
@@ -144,26 +159,26 @@ fn system_parts(alloc: Global, place: u32, trees: SystemTrees) -> Result<System,
 }
 
 /// The system that the items of a list are.
-fn system_at(alloc: Global, place: u32, items: &[Tree]) -> Result<System, PitonFault>
+fn system_at(alloc: Global, place: u32, items: &[Tree]) -> Result<System, FormFault>
     ensures { Reads (λ system. system) result (system_of (list place (nodes_of items.now))) }
 {
     if items.len() < 8 {
-        return Err(no_system(place));
+        return Err(no_system(place).into());
     }
     let (keyword, main) = (&items[0], &items[1]);
     let (ctrl, temp, base) = (&items[2], &items[3], &items[4]);
     let Some(areas) = items_of(&items[5]) else {
-        return Err(no_system(place));
+        return Err(no_system(place).into());
     };
     let Some(stack) = items_of(&items[6]) else {
-        return Err(no_system(place));
+        return Err(no_system(place).into());
     };
     if !is_head(keyword, ctrl, temp, base) {
-        return Err(no_system(place));
+        return Err(no_system(place).into());
     }
     let programs = &items[7..];
     if !is_small(areas, programs) {
-        return Err(PitonFault::Form { rule: 9, place });
+        return Err(FormFault::Form { rule: 9, place });
     }
     let trees = SystemTrees {
         main,
@@ -178,11 +193,11 @@ fn system_at(alloc: Global, place: u32, items: &[Tree]) -> Result<System, PitonF
 }
 
 /// The system that a tree is: P1 where it is none, P9 where it is too large, and else the first fault in reading order.
-pub fn system(alloc: Global, tree: &Tree) -> Result<System, PitonFault>
+pub fn system(alloc: Global, tree: &Tree) -> Result<System, FormFault>
     ensures { Reads (λ system. system) result (system_of (node_of tree.now)) }
 {
     match tree {
-        Tree::Atom { place, text: _ } => Err(no_system(*place)),
+        Tree::Atom { place, text: _ } => Err(no_system(*place).into()),
         Tree::List { place, items } => system_at(alloc, *place, items),
     }
 }

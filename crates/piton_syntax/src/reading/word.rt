@@ -1,25 +1,24 @@
 //! Words.
 
-ghost use Rattle.std.specs.Prelude.{◌≡◌, ◌||◌, Some};
+ghost use Rattle.std.specs.Prelude.{◌≡◌, Some};
+ghost use Rattle.stack_text.specs.Grammar.Parts.{is_atom_of};
+ghost use Rattle.stack_text.specs.Grammar.Reading.{Finds, Reads};
 ghost use Rattle.stack_text.specs.TreeView.{node_of, nodes_of};
-ghost use Rattle.piton_syntax.specs.Grammar.{is_atom_of, is_true_word, is_false_word, item_of, word_of};
-ghost use Rattle.piton_syntax.specs.Reading.{Reads};
-ghost use Rattle.piton_syntax.specs.declared.fault.PitonFault.TheVariants.{Form};
+ghost use Rattle.piton_syntax.specs.Grammar.{is_true_word, is_false_word, item_of, word_of};
 ghost use Rattle.piton_syntax.specs.declared.tag.Tag.TheVariants as tags;
 
-use crate::fault::PitonFault;
-use crate::reading::atom::{is_digits_atom, is_name_atom, is_numeral_atom, named, number};
-use crate::reading::part::Part;
+use crate::reading::atom::{is_digits_atom, is_name_atom, is_numeral_atom, name, number};
 use crate::tag::{Tag, tag_named};
 use crate::word_text::{WordItem, WordText};
 use stack_text::Tree;
+use stack_text::grammar::{BrokenRule, FormFault, Part};
 use std::alloc::Global;
 
 /// P5 at a word.
-fn no_word(place: u32) -> PitonFault
-    ensures { result ≡ Form 5 place }
+fn no_word(place: u32) -> BrokenRule
+    ensures { result ≡ record { rule = 5; place = place } }
 {
-    PitonFault::Form { rule: 5, place }
+    BrokenRule { rule: 5, place }
 }
 
 /// Whether the tree is the word for true.
@@ -42,8 +41,9 @@ fn is_false_atom(tree: &Tree) -> bool
     }
 }
 
-fn int_item(place: u32, parts: &[Tree]) -> Result<WordItem, PitonFault>
-    ensures { Reads (λ item. item) result (item_of (Some tags.Int) place (nodes_of parts.now)) }
+/// An integer: one numeral.
+fn int_item(place: u32, parts: &[Tree]) -> Result<WordItem, BrokenRule>
+    ensures { Finds (λ item. item) result (item_of (Some tags.Int) place (nodes_of parts.now)) }
 {
     if parts.len() != 1 {
         return Err(no_word(place));
@@ -55,21 +55,9 @@ fn int_item(place: u32, parts: &[Tree]) -> Result<WordItem, PitonFault>
     Ok(WordItem::Int(number(part)?))
 }
 
-fn bool_item(place: u32, parts: &[Tree]) -> Result<WordItem, PitonFault>
-    ensures { Reads (λ item. item) result (item_of (Some tags.Bool) place (nodes_of parts.now)) }
-{
-    if parts.len() != 1 {
-        return Err(no_word(place));
-    }
-    let part = &parts[0];
-    if !is_true_atom(part) && !is_false_atom(part) {
-        return Err(no_word(place));
-    }
-    Ok(WordItem::Bool(is_true_atom(part)))
-}
-
-fn nat_item(place: u32, parts: &[Tree]) -> Result<WordItem, PitonFault>
-    ensures { Reads (λ item. item) result (item_of (Some tags.Nat) place (nodes_of parts.now)) }
+/// A natural number: digits alone.
+fn nat_item(place: u32, parts: &[Tree]) -> Result<WordItem, BrokenRule>
+    ensures { Finds (λ item. item) result (item_of (Some tags.Nat) place (nodes_of parts.now)) }
 {
     if parts.len() != 1 {
         return Err(no_word(place));
@@ -81,8 +69,9 @@ fn nat_item(place: u32, parts: &[Tree]) -> Result<WordItem, PitonFault>
     Ok(WordItem::Nat(number(part)?))
 }
 
-fn bitv_item(place: u32, parts: &[Tree]) -> Result<WordItem, PitonFault>
-    ensures { Reads (λ item. item) result (item_of (Some tags.Bitv) place (nodes_of parts.now)) }
+/// A bit vector: digits alone.
+fn bitv_item(place: u32, parts: &[Tree]) -> Result<WordItem, BrokenRule>
+    ensures { Finds (λ item. item) result (item_of (Some tags.Bitv) place (nodes_of parts.now)) }
 {
     if parts.len() != 1 {
         return Err(no_word(place));
@@ -94,59 +83,76 @@ fn bitv_item(place: u32, parts: &[Tree]) -> Result<WordItem, PitonFault>
     Ok(WordItem::Bitv(number(part)?))
 }
 
-fn addr_item(alloc: Global, place: u32, parts: &[Tree]) -> Result<WordItem, PitonFault>
-    ensures { Reads (λ item. item) result (item_of (Some tags.Addr) place (nodes_of parts.now)) }
-{
-    if parts.len() != 2 {
-        return Err(no_word(place));
-    }
-    let (name, numeral) = (&parts[0], &parts[1]);
-    if !is_name_atom(name) || !is_digits_atom(numeral) {
-        return Err(no_word(place));
-    }
-    let area = named(alloc, name)?;
-    let offset = number(numeral)?;
-    Ok(WordItem::Addr { area, offset })
-}
-
-fn pc_item(alloc: Global, place: u32, parts: &[Tree]) -> Result<WordItem, PitonFault>
-    ensures { Reads (λ item. item) result (item_of (Some tags.Pc) place (nodes_of parts.now)) }
-{
-    if parts.len() != 2 {
-        return Err(no_word(place));
-    }
-    let (name, numeral) = (&parts[0], &parts[1]);
-    if !is_name_atom(name) || !is_digits_atom(numeral) {
-        return Err(no_word(place));
-    }
-    let program = named(alloc, name)?;
-    let at = number(numeral)?;
-    Ok(WordItem::Pc { program, at })
-}
-
-fn subr_item(alloc: Global, place: u32, parts: &[Tree]) -> Result<WordItem, PitonFault>
-    ensures { Reads (λ item. item) result (item_of (Some tags.Subr) place (nodes_of parts.now)) }
+/// A truth value: one of its two words.
+fn bool_item(place: u32, parts: &[Tree]) -> Result<WordItem, BrokenRule>
+    ensures { Finds (λ item. item) result (item_of (Some tags.Bool) place (nodes_of parts.now)) }
 {
     if parts.len() != 1 {
         return Err(no_word(place));
     }
     let part = &parts[0];
-    if !is_name_atom(part) {
+    if !is_true_atom(part) && !is_false_atom(part) {
         return Err(no_word(place));
     }
-    Ok(WordItem::Subr(named(alloc, part)?))
+    Ok(WordItem::Bool(is_true_atom(part)))
 }
 
-/// What stands behind a tag, which is `None` where its word is none.
-fn item(alloc: Global, tag: Option<Tag>, place: u32, parts: &[Tree]) -> Result<WordItem, PitonFault>
+/// An address: the name of an area, and an offset in digits alone.
+fn addr_item(alloc: Global, place: u32, parts: &[Tree]) -> Result<WordItem, FormFault>
+    ensures { Reads (λ item. item) result (item_of (Some tags.Addr) place (nodes_of parts.now)) }
+{
+    if parts.len() != 2 {
+        return Err(no_word(place).into());
+    }
+    let (area, offset) = (&parts[0], &parts[1]);
+    if !is_name_atom(area) || !is_digits_atom(offset) {
+        return Err(no_word(place).into());
+    }
+    let area = name(alloc, area)?;
+    let offset = number(offset)?;
+    Ok(WordItem::Addr { area, offset })
+}
+
+/// A place: the name of a program, and the number of an instruction in digits alone.
+fn pc_item(alloc: Global, place: u32, parts: &[Tree]) -> Result<WordItem, FormFault>
+    ensures { Reads (λ item. item) result (item_of (Some tags.Pc) place (nodes_of parts.now)) }
+{
+    if parts.len() != 2 {
+        return Err(no_word(place).into());
+    }
+    let (program, at) = (&parts[0], &parts[1]);
+    if !is_name_atom(program) || !is_digits_atom(at) {
+        return Err(no_word(place).into());
+    }
+    let program = name(alloc, program)?;
+    let at = number(at)?;
+    Ok(WordItem::Pc { program, at })
+}
+
+/// A program: its name.
+fn subr_item(alloc: Global, place: u32, parts: &[Tree]) -> Result<WordItem, FormFault>
+    ensures { Reads (λ item. item) result (item_of (Some tags.Subr) place (nodes_of parts.now)) }
+{
+    if parts.len() != 1 {
+        return Err(no_word(place).into());
+    }
+    let part = &parts[0];
+    if !is_name_atom(part) {
+        return Err(no_word(place).into());
+    }
+    Ok(WordItem::Subr(name(alloc, part)?))
+}
+
+/// What follows a tag, which is `None` where its word is none.
+fn item(alloc: Global, tag: Option<Tag>, place: u32, parts: &[Tree]) -> Result<WordItem, FormFault>
     ensures { Reads (λ item. item) result (item_of tag place (nodes_of parts.now)) }
 {
     match tag {
-        None => Err(no_word(place)),
-        Some(Tag::Int) => int_item(place, parts),
-        Some(Tag::Nat) => nat_item(place, parts),
-        Some(Tag::Bitv) => bitv_item(place, parts),
-        Some(Tag::Bool) => bool_item(place, parts),
+        None => Err(no_word(place).into()),
+        Some(Tag::Int) => Ok(int_item(place, parts)?),
+        Some(Tag::Nat) => Ok(nat_item(place, parts)?),
+        Some(Tag::Bitv) => Ok(bitv_item(place, parts)?),
+        Some(Tag::Bool) => Ok(bool_item(place, parts)?),
         Some(Tag::Addr) => addr_item(alloc, place, parts),
         Some(Tag::Pc) => pc_item(alloc, place, parts),
         Some(Tag::Subr) => subr_item(alloc, place, parts),
@@ -154,18 +160,18 @@ fn item(alloc: Global, tag: Option<Tag>, place: u32, parts: &[Tree]) -> Result<W
 }
 
 /// The word that a tree is: P5 where it is none, P8 where its numeral is out of range.
-pub fn word(alloc: Global, tree: &Tree) -> Result<WordText, PitonFault>
+pub fn word(alloc: Global, tree: &Tree) -> Result<WordText, FormFault>
     ensures { Reads (λ word. word) result (word_of (node_of tree.now)) }
 {
     let (place, items) = match tree {
-        Tree::Atom { place, text: _ } => return Err(no_word(*place)),
+        Tree::Atom { place, text: _ } => return Err(no_word(*place).into()),
         Tree::List { place, items } => (*place, items.as_slice()),
     };
     if items.is_empty() {
-        return Err(no_word(place));
+        return Err(no_word(place).into());
     }
     match &items[0] {
-        Tree::List { place: _, items: _ } => Err(no_word(place)),
+        Tree::List { place: _, items: _ } => Err(no_word(place).into()),
         Tree::Atom { place: _, text } => {
             let item = item(alloc, tag_named(text), place, &items[1..])?;
             Ok(WordText { place, item })
@@ -174,11 +180,16 @@ pub fn word(alloc: Global, tree: &Tree) -> Result<WordText, PitonFault>
 }
 
 impl Part for WordText {
+    ghost use Rattle.piton_syntax.specs.declared.word_text.WordText.{WordText as WordOf};
     ghost use Rattle.piton_syntax.specs.Grammar.{word_of};
+
+    ghost Seen = { WordOf };
+
+    ghost view = { λ word. word };
 
     ghost part_of = { word_of };
 
-    fn read(alloc: Global, tree: &Tree) -> Result<WordText, PitonFault> {
+    fn read(alloc: Global, tree: &Tree) -> Result<WordText, FormFault> {
         word(alloc, tree)
     }
 }

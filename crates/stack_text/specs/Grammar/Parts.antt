@@ -1,5 +1,5 @@
 -- Parts that many grammars have.
-use Rattle.std.specs.Prelude.{ℕ, ◌+◌, List, Ok, Bool, false}
+use Rattle.std.specs.Prelude.{ℕ, ◌+◌, List, [], Ok, Bool, false}
 use Rattle.stack_text.specs.Names.{is_name}
 use Rattle.stack_text.specs.Trees.{Node, Nodes, atom, list, none, more}
 use Rattle.stack_text.specs.declared.name.Named.{Named}
@@ -9,6 +9,11 @@ use Rattle.stack_text.specs.Grammar.Judged.{Judged, fault, judged, each_of}
 abbrev pub is_atom_of : (List ℕ → Bool) → Node → Bool
 is_atom_of test (atom p bytes) = test bytes
 is_atom_of test (list p ts) = false
+
+-- the bytes of an atom; a list has none
+abbrev pub bytes_of : Node → List ℕ
+bytes_of (atom p bytes) = bytes
+bytes_of (list p ts) = []
 
 -- a name, or the rule broken at the tree
 abbrev pub name_or : ℕ → Node → Judged Named

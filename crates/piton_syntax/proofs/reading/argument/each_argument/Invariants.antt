@@ -2,13 +2,13 @@ use Rattle.std.proofs.Common.{◌≡◌, drop}
 use Rattle.std.specs.Prelude.{IsTrue}
 use Rattle.stack_text.specs.TreeView.{nodes_of}
 use Rattle.piton_syntax.specs.Grammar.{are_of_kind, argument_of}
-use Rattle.piton_syntax.specs.Judged.{each_of}
-use Rattle.piton_syntax.proofs.ReadingLaws.{behind}
+use Rattle.stack_text.specs.Grammar.Judged.{each_of}
+use Rattle.stack_text.proofs.ResultLoops.{with_front}
 use Rattle.piton_syntax.proofs.reading.argument.each_argument.Given as goal
 
 -- the arguments so far, and those that are still to come, are those of all trees
 abbrev pub invariant-loop-tree : goal.invariant-loop-tree
 invariant-loop-tree l = record {
-  so_far : behind l.arguments.items (each_of (argument_of l.kind) (nodes_of (drop l.tree-index l.trees))) ≡ each_of (argument_of l.kind) (nodes_of l.trees);
+  so_far : with_front l.arguments.items (each_of (argument_of l.kind) (nodes_of (drop l.tree-index l.trees))) ≡ each_of (argument_of l.kind) (nodes_of l.trees);
   kinds : IsTrue (are_of_kind l.kind (nodes_of (drop l.tree-index l.trees)));
 }

@@ -2,7 +2,7 @@ use Rattle.std.proofs.Common.{◌≡◌, [], Err, length, refl, sym, ◌∙◌}
 use Rattle.std.proofs.lemmas.Bool.{eqb-false}
 use Rattle.piton_syntax.specs.Grammar.{arguments_of}
 use Rattle.piton_syntax.specs.declared.argument.Arguments.TheVariants as wanted
-use Rattle.piton_syntax.proofs.Shapes.{not_none}
+use Rattle.stack_text.proofs.TreeListLaws.{not_none}
 use Rattle.piton_syntax.proofs.reading.argument.no_arguments.Goals as goal
 
 pub returns-else-is_empty : goal.returns-else-is_empty

@@ -4,7 +4,7 @@ use Rattle.std.proofs.lemmas.Bool.{eqb-false, eqb-true}
 use Rattle.stack_text.specs.TreeView.{nodes_of}
 use Rattle.piton_syntax.specs.Grammar.{are_of_kind}
 use Rattle.piton_syntax.proofs.ArgumentLaws.{all_of_kind, other_kinds, some_kinds}
-use Rattle.piton_syntax.proofs.Shapes.{no_parts}
+use Rattle.stack_text.proofs.TreeListLaws.{no_parts}
 use Rattle.piton_syntax.proofs.reading.argument.some_arguments.Goals as goal
 
 pub each_argument-requires : goal.each_argument-requires
@@ -12,11 +12,11 @@ each_argument-requires c = sym (all_of_kind c.args.kind c.args.trees.now) ∙ sy
 
 pub returns-then-is_empty : goal.returns-then-is_empty
 returns-then-is_empty c =
-    rw (c.wrong_arguments.ensures, no_parts c.args.trees.now (eqb-true (length c.args.trees.now) 0 (sym c.is_empty.ensures ∙ c.if-is_empty.true))) ([], refl)
+    rw (c.into.ensures, c.wrong_arguments.ensures, no_parts c.args.trees.now (eqb-true (length c.args.trees.now) 0 (sym c.is_empty.ensures ∙ c.if-is_empty.true))) ([], refl)
 
 pub returns-then-not-are_of_kind : goal.returns-then-not-are_of_kind
 returns-then-not-are_of_kind c =
-    rw c.wrong_arguments-then-not-are_of_kind.ensures
+    rw (c.into-then-not-are_of_kind.ensures, c.wrong_arguments-then-not-are_of_kind.ensures)
     ([], other_kinds c.args.kind c.args.place c.args.trees.now (eqb-false (length c.args.trees.now) 0 (sym c.is_empty.ensures ∙ c.if-is_empty.false)) (sym (all_of_kind c.args.kind c.args.trees.now) ∙ sym c.are_of_kind.ensures ∙ c.if-not-are_of_kind.true))
 
 pub returns : goal.returns

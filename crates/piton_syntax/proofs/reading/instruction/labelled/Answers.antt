@@ -2,15 +2,15 @@ use Rattle.std.proofs.Common.{◌≡◌, ◌≢◌, [], length, sym, ◌∙◌, 
 use Rattle.std.proofs.lemmas.Bool.{eqb-false, eqb-true}
 use Rattle.stack_text.proofs.TreeViewLaws.{node_of-list}
 use Rattle.piton_syntax.proofs.InstructionLaws.{not_three_behind, behind_atom, behind_items}
-use Rattle.piton_syntax.proofs.Shapes.{three_parts, no_parts}
+use Rattle.stack_text.proofs.TreeListLaws.{three_parts, no_parts}
 use Rattle.piton_syntax.proofs.reading.instruction.labelled.Goals as goal
 
 pub returns-then-parts-ne3 : goal.returns-then-parts-ne3
-returns-then-parts-ne3 c = rw c.no_instruction.ensures ([], not_three_behind c.args.place c.args.parts.now c.if-parts-ne3.true)
+returns-then-parts-ne3 c = rw (c.into.ensures, c.no_instruction.ensures) ([], not_three_behind c.args.place c.args.parts.now c.if-parts-ne3.true)
 
 pub returns-in-Atom : goal.returns-in-Atom
 returns-in-Atom c =
-    rw c.no_instruction-in-Atom.ensures ([], behind_atom c.args.place c.args.parts.now c.index-parts-1.result c.if-parts-ne3.false c.index-parts-1.is c.in-Atom.place c.in-Atom.text c.in-Atom.is)
+    rw (c.into-in-Atom.ensures, c.no_instruction-in-Atom.ensures) ([], behind_atom c.args.place c.args.parts.now c.index-parts-1.result c.if-parts-ne3.false c.index-parts-1.is c.in-Atom.place c.in-Atom.text c.in-Atom.is)
 
 pub returns-then-is_empty : goal.returns-then-is_empty
 returns-then-is_empty c =
@@ -21,4 +21,4 @@ returns-then-is_empty c =
 pub returns-else-is_empty : goal.returns-else-is_empty
 returns-else-is_empty c =
     let some : c.in-List.items.len ≢ 0 = eqb-false c.in-List.items.len 0 (sym c.is_empty.ensures ∙ c.if-is_empty.false) in
-    rw c.no_instruction-else-is_empty.ensures ([], behind_items c.args.place c.args.parts.now c.index-parts-1.result c.if-parts-ne3.false c.index-parts-1.is c.in-List.place c.in-List.items c.in-List.is (omega arith))
+    rw (c.into-else-is_empty.ensures, c.no_instruction-else-is_empty.ensures) ([], behind_items c.args.place c.args.parts.now c.index-parts-1.result c.if-parts-ne3.false c.index-parts-1.is c.in-List.place c.in-List.items c.in-List.is (omega arith))

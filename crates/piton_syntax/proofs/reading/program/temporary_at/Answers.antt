@@ -3,12 +3,12 @@ use Rattle.std.proofs.lemmas.Result.{err_from_is_err_and}
 use Rattle.stack_text.specs.TreeView.{node_of}
 use Rattle.piton_syntax.specs.Grammar.{named_of, pair, word_of}
 use Rattle.piton_syntax.proofs.ProgramLaws.{not_two_of_temporary}
-use Rattle.piton_syntax.proofs.ReadingLaws.{first_of_2}
-use Rattle.piton_syntax.proofs.Shapes.{two_parts}
+use Rattle.stack_text.proofs.PartLaws.{first_of_2}
+use Rattle.stack_text.proofs.TreeListLaws.{two_parts}
 use Rattle.piton_syntax.proofs.reading.program.temporary_at.Goals as goal
 
 pub returns-then-items-ne2 : goal.returns-then-items-ne2
-returns-then-items-ne2 c = rw c.no_program.ensures ([], not_two_of_temporary c.args.place c.args.items.now c.if-items-ne2.true)
+returns-then-items-ne2 c = rw (c.into.ensures, c.no_program.ensures) ([], not_two_of_temporary c.args.place c.args.items.now c.if-items-ne2.true)
 
 pub returns-in_err-name : goal.returns-in_err-name
 returns-in_err-name c =

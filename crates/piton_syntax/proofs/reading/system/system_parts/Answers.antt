@@ -1,9 +1,11 @@
+use Rattle.std.proofs.Common.{map}
 use Rattle.std.proofs.lemmas.Result.{err_from_is_err_and}
 use Rattle.stack_text.specs.TreeView.{node_of, nodes_of}
 use Rattle.piton_syntax.specs.Grammar.{area_of, named_of, number_of, program_of, word_of}
-use Rattle.piton_syntax.specs.Judged.{each_of}
-use Rattle.piton_syntax.specs.Systems.{new_system}
-use Rattle.piton_syntax.proofs.ReadingLaws.{first_of_2, first_of_3, first_of_4, first_of_5, first_of_6, first_of_7}
+use Rattle.stack_text.specs.Grammar.Judged.{each_of}
+use Rattle.stack_text.specs.declared.grammar.fault.FormFault.TheVariants.{Form}
+use Rattle.piton_syntax.specs.Systems.{AreaOf, new_system}
+use Rattle.stack_text.proofs.PartLaws.{first_of_2, first_of_3, first_of_4, first_of_5, first_of_6, first_of_7}
 use Rattle.piton_syntax.proofs.reading.system.system_parts.Goals as goal
 
 pub returns-in_err-main : goal.returns-in_err-main
@@ -16,19 +18,19 @@ pub returns-in_err-ctrl : goal.returns-in_err-ctrl
 returns-in_err-ctrl c =
     let p = err_from_is_err_and c.from_residual-in_err-ctrl.result c.from_residual-in_err-ctrl.ensures.1 in
     rw (p.1, p.2, c.in_ok-main.ensures)
-    (first_of_6 c.in_err-ctrl.field-0.0 (new_system c.args.place c.in_ok-main.main) (number_of (node_of c.args.trees.ctrl.now)) (number_of (node_of c.args.trees.temp.now)) (number_of (node_of c.args.trees.base.now)) (each_of area_of (nodes_of c.args.trees.areas.now)) (each_of word_of (nodes_of c.args.trees.stack.now)) (each_of program_of (nodes_of c.args.trees.programs.now)) c.in_err-ctrl.ensures)
+    (first_of_6 (Form c.in_err-ctrl.field-0.0.rule c.in_err-ctrl.field-0.0.place) (new_system c.args.place c.in_ok-main.main) (number_of (node_of c.args.trees.ctrl.now)) (number_of (node_of c.args.trees.temp.now)) (number_of (node_of c.args.trees.base.now)) (each_of area_of (nodes_of c.args.trees.areas.now)) (each_of word_of (nodes_of c.args.trees.stack.now)) (each_of program_of (nodes_of c.args.trees.programs.now)) c.in_err-ctrl.ensures)
 
 pub returns-in_err-temp : goal.returns-in_err-temp
 returns-in_err-temp c =
     let p = err_from_is_err_and c.from_residual-in_err-temp.result c.from_residual-in_err-temp.ensures.1 in
     rw (p.1, p.2, c.in_ok-main.ensures, c.in_ok-ctrl.ensures)
-    (first_of_5 c.in_err-temp.field-0.0 (new_system c.args.place c.in_ok-main.main c.in_ok-ctrl.ctrl) (number_of (node_of c.args.trees.temp.now)) (number_of (node_of c.args.trees.base.now)) (each_of area_of (nodes_of c.args.trees.areas.now)) (each_of word_of (nodes_of c.args.trees.stack.now)) (each_of program_of (nodes_of c.args.trees.programs.now)) c.in_err-temp.ensures)
+    (first_of_5 (Form c.in_err-temp.field-0.0.rule c.in_err-temp.field-0.0.place) (new_system c.args.place c.in_ok-main.main c.in_ok-ctrl.ctrl) (number_of (node_of c.args.trees.temp.now)) (number_of (node_of c.args.trees.base.now)) (each_of area_of (nodes_of c.args.trees.areas.now)) (each_of word_of (nodes_of c.args.trees.stack.now)) (each_of program_of (nodes_of c.args.trees.programs.now)) c.in_err-temp.ensures)
 
 pub returns-in_err-base : goal.returns-in_err-base
 returns-in_err-base c =
     let p = err_from_is_err_and c.from_residual-in_err-base.result c.from_residual-in_err-base.ensures.1 in
     rw (p.1, p.2, c.in_ok-main.ensures, c.in_ok-ctrl.ensures, c.in_ok-temp.ensures)
-    (first_of_4 c.in_err-base.field-0.0 (new_system c.args.place c.in_ok-main.main c.in_ok-ctrl.ctrl c.in_ok-temp.temp) (number_of (node_of c.args.trees.base.now)) (each_of area_of (nodes_of c.args.trees.areas.now)) (each_of word_of (nodes_of c.args.trees.stack.now)) (each_of program_of (nodes_of c.args.trees.programs.now)) c.in_err-base.ensures)
+    (first_of_4 (Form c.in_err-base.field-0.0.rule c.in_err-base.field-0.0.place) (new_system c.args.place c.in_ok-main.main c.in_ok-ctrl.ctrl c.in_ok-temp.temp) (number_of (node_of c.args.trees.base.now)) (each_of area_of (nodes_of c.args.trees.areas.now)) (each_of word_of (nodes_of c.args.trees.stack.now)) (each_of program_of (nodes_of c.args.trees.programs.now)) c.in_err-base.ensures)
 
 pub returns-in_err-areas : goal.returns-in_err-areas
 returns-in_err-areas c =
@@ -40,4 +42,4 @@ pub returns-in_err-stack : goal.returns-in_err-stack
 returns-in_err-stack c =
     let p = err_from_is_err_and c.from_residual-in_err-stack.result c.from_residual-in_err-stack.ensures.1 in
     rw (p.1, p.2, c.in_ok-main.ensures, c.in_ok-ctrl.ensures, c.in_ok-temp.ensures, c.in_ok-base.ensures, c.in_ok-areas.ensures)
-    (first_of_2 c.in_err-stack.field-0.0 (new_system c.args.place c.in_ok-main.main c.in_ok-ctrl.ctrl c.in_ok-temp.temp c.in_ok-base.base c.in_ok-areas.areas.items) (each_of word_of (nodes_of c.args.trees.stack.now)) (each_of program_of (nodes_of c.args.trees.programs.now)) c.in_err-stack.ensures)
+    (first_of_2 c.in_err-stack.field-0.0 (new_system c.args.place c.in_ok-main.main c.in_ok-ctrl.ctrl c.in_ok-temp.temp c.in_ok-base.base (map (λ (area : AreaOf). area) c.in_ok-areas.areas.items)) (each_of word_of (nodes_of c.args.trees.stack.now)) (each_of program_of (nodes_of c.args.trees.programs.now)) c.in_err-stack.ensures)

@@ -1,7 +1,7 @@
 use Rattle.std.proofs.Common.{◌≡◌, [], Some, Err, refl}
 use Rattle.piton_syntax.specs.Grammar.{item_of}
 use Rattle.piton_syntax.specs.declared.tag.Tag.TheVariants as tags
-use Rattle.piton_syntax.proofs.Shapes.{not_one}
+use Rattle.stack_text.proofs.TreeListLaws.{not_one}
 use Rattle.piton_syntax.proofs.reading.word.int_item.Goals as goal
 
 pub returns-then-parts-ne1 : goal.returns-then-parts-ne1

@@ -1,0 +1,10 @@
+use Rattle.std.proofs.lemmas.Result.{err_from_is_err_and}
+use Rattle.stack_text.proofs.PartLaws.{part_fails}
+use Rattle.piton_syntax.specs.Grammar.{temporary_of}
+use Rattle.piton_syntax.proofs.reading.program.each_temporary.Goals as goal
+
+pub returns-in_err-temporary : goal.returns-in_err-temporary
+returns-in_err-temporary c =
+    let p = err_from_is_err_and c.from_residual.result c.from_residual.ensures.1 in
+    rw (p.1, p.2)
+    (part_fails temporary_of c.loop-tree.temporaries.items c.loop-tree.tree-index c.args.trees.now c.loop-tree.invariant c.in_err-temporary.field-0.0 c.tree-item.result c.loop-tree-test.true c.tree-item.is c.in_err-temporary.ensures)
