@@ -22,7 +22,7 @@ first_is_judged : (e : FormFault) (t : Node) → IsInOrder t → IsFirstFault e 
 first_is_judged (Form rule place) t order h =
     rw h.1
     (ap (λ f. Err (form_fault f))
-    (first_is_least 0 order.0 (place, rule) h.0 (subst (λ r. JudgedRises 0 r order.0) h.1 (system_up.up 0 t order.0 order.1).rises)))
+    (first_is_least 0 order.0 (record { place = place; rule = rule }) h.0 (subst (λ r. JudgedRises 0 r order.0) h.1 (system_up.up 0 t order.0 order.1).rises)))
 first_is_judged Memory t order h = tt
 
 -- the first fault in reading order, which is what the reader of a tree returns, is the least

@@ -1,5 +1,7 @@
 -- What reading a text returns.
 use Rattle.std.specs.Prelude.{◌≡◌, ℕ, List, Option, Some, None, Result, Ok, Err}
+use Rattle.stack_text.specs.declared.breach.Breach.{Breach}
+use Rattle.stack_text.specs.Breaches.{least_of}
 use Rattle.stack_text.specs.Gives as common
 use Rattle.stack_text.specs.Trees.{Node, IsWellFormed}
 use Rattle.stack_text.specs.TreeIn.{tree_in}
@@ -10,7 +12,7 @@ use Rattle.piton_syntax.specs.declared.fault.PitonFault.{PitonFault}
 use Rattle.piton_syntax.specs.declared.fault.PitonFault.TheVariants.{Text, Form, Memory}
 use Rattle.stack_text.specs.declared.grammar.fault.FormFault.{FormFault}
 use Rattle.stack_text.specs.declared.grammar.fault.FormFault.TheVariants as form
-use Rattle.stack_text.specs.Grammar.Judged.{Fault, Judged, least}
+use Rattle.stack_text.specs.Grammar.Judged.{Judged}
 use Rattle.piton_syntax.specs.Grammar.{system_of}
 use Rattle.piton_syntax.specs.Printed.{tree_of}
 use Rattle.piton_syntax.specs.Systems.{SystemOf, without_places}
@@ -24,13 +26,13 @@ abbrev pub fault_of_form : FormFault → PitonFault
 fault_of_form (form.Form rule place) = Form rule place
 fault_of_form form.Memory = Memory
 
-abbrev pub form_fault : Fault → PitonFault
-form_fault f = Form f.1 f.0
+abbrev pub form_fault : Breach → PitonFault
+form_fault breach = Form breach.rule breach.place
 
 -- of several faults the least is returned
 abbrev pub judgement : {X : Type 0} → Judged X → Result X PitonFault
 judgement (Ok x) = Ok x
-judgement (Err faults) = Err (form_fault (least faults.0 faults.1))
+judgement (Err faults) = Err (form_fault (least_of faults.0 faults.1))
 
 abbrev pub piton_by : Result Node (TextRule × ℕ) → Result SystemOf PitonFault
 piton_by (Ok t) = judgement (system_of t)

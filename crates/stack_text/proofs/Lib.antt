@@ -17,6 +17,7 @@ pub mod PrintLaws
 pub mod NumeralLaws
 pub mod AtomLaws
 pub mod NumeralTextLaws
+pub mod BreachLaws
 pub mod TreeListLaws
 pub mod JudgedLaws
 pub mod PartLaws

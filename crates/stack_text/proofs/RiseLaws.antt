@@ -4,6 +4,7 @@ use Rattle.std.specs.Prelude.{Bool, true, false}
 use Rattle.stack_text.specs.Names.{is_name}
 use Rattle.stack_text.specs.PlaceOrder.{AllInOrder, InOrder}
 use Rattle.stack_text.specs.Trees.{Node, Nodes, atom, list, none, more, place_of}
+use Rattle.stack_text.specs.declared.breach.Breach.{Breach}
 use Rattle.stack_text.specs.Grammar.Judged.{Judged, ◌⊛◌, each_of, fault, front, judged}
 use Rattle.stack_text.specs.Grammar.Parts.{name_or, list_or}
 use Rattle.stack_text.proofs.JudgedLaws.{JudgedRises, JudgedRises-apply, Rises, Rises-lower, Rises-higher}
@@ -16,9 +17,9 @@ pub record Up {X : Type 0} (low : ℕ) (r : Judged X) (high : ℕ) : Type 0 wher
 pub record Rising {X : Type 0} (judge : Node → Judged X) : Type 0 where
   pub up : (low : ℕ) (t : Node) (high : ℕ) → InOrder low t high → Up low (judge t) high
 
-Rises-le : (low : ℕ) (fs : List (ℕ × ℕ)) (high : ℕ) → Rises low fs high → low ≤ high
+Rises-le : (low : ℕ) (fs : List Breach) (high : ℕ) → Rises low fs high → low ≤ high
 Rises-le low [] high h = h
-Rises-le low (f ∷ fs) high h = let le : f.0 + 1 ≤ high = Rises-le (f.0 + 1) fs high h.1 in omega (arith, h.0)
+Rises-le low (f ∷ fs) high h = let le : f.place + 1 ≤ high = Rises-le (f.place + 1) fs high h.1 in omega (arith, h.0)
 
 JudgedRises-le : {X : Type 0} → (low : ℕ) (r : Judged X) (high : ℕ) → JudgedRises low r high → low ≤ high
 JudgedRises-le low (Ok x) high h = h

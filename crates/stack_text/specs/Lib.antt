@@ -8,11 +8,12 @@ pub mod PlaceOrder
 pub mod Names
 pub mod Numerals
 pub mod Values
--- What is shared: what a call gives, steps that may fail, and how clauses see a `Tree`.
+-- What is shared: what a call gives, steps that may fail, how clauses see a `Tree`, and the least breach of rules.
 pub mod Gives
 pub mod Results
 pub mod Options
 pub mod TreeView
+pub mod Breaches
 -- Grammars, which the crates above read and print their texts by.
 pub mod Grammar
 -- Scaffold: what only private functions and lemmas say.

@@ -9,7 +9,7 @@ mod part;
 mod printing;
 
 pub use crate::printer::separate;
-pub use fault::{BrokenRule, FormFault};
+pub use fault::FormFault;
 pub use name::{named, names};
 pub use part::{Part, each, each_in, list_length};
 pub use printing::{Print, print_items, print_name, spaced_items};

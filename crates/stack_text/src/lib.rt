@@ -2,6 +2,7 @@
 //! and values, lists in contracts, and out of memory.
 #![tactic(auto)]
 
+mod breach;
 mod class;
 pub mod grammar;
 mod law;
@@ -19,6 +20,7 @@ mod text_fault;
 mod tree;
 mod value;
 
+pub use breach::{Breach, note_if};
 pub use law::tree_or_fault;
 pub use memory::Memory;
 pub use name::{Name, Named, is_name, read_name};

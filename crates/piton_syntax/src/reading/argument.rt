@@ -12,15 +12,15 @@ use crate::argument::{ArgKind, ArgText, Arguments};
 use crate::reading::atom::{is_digits_atom, is_name_atom, name, number};
 use crate::reading::word::word;
 use crate::test_kind::{TestFamily, TestKind, test_named};
-use stack_text::Tree;
-use stack_text::grammar::{BrokenRule, FormFault};
+use stack_text::grammar::FormFault;
+use stack_text::{Breach, Tree};
 use std::alloc::Global;
 
 /// P7 at an operation's list.
-fn wrong_arguments(place: u32) -> BrokenRule
+fn wrong_arguments(place: u32) -> Breach
     ensures { result ≡ record { rule = 7; place = place } }
 {
-    BrokenRule { rule: 7, place }
+    Breach { rule: 7, place }
 }
 
 /// Whether the tree is of the kind, where the kind is not that of words.
@@ -56,7 +56,7 @@ fn argument(alloc: Global, kind: ArgKind, tree: &Tree) -> Result<ArgText, FormFa
 }
 
 /// The arguments of an operation that has none.
-fn no_arguments(alloc: Global, place: u32, trees: &[Tree]) -> Result<Vec<ArgText>, BrokenRule>
+fn no_arguments(alloc: Global, place: u32, trees: &[Tree]) -> Result<Vec<ArgText>, Breach>
     ensures { Finds (λ args. args.items) result (arguments_of wanted.Zero place (nodes_of trees.now)) }
 {
     if trees.is_empty() {

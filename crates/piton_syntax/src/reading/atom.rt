@@ -9,8 +9,8 @@ ghost use Rattle.stack_text.specs.TreeView.{node_of};
 ghost use Rattle.piton_syntax.specs.Grammar.{named_of, number_of};
 
 use crate::word_text::Number;
-use stack_text::grammar::{BrokenRule, FormFault, named};
-use stack_text::{Named, Tree, is_digits, is_name, is_numeral, read_numeral};
+use stack_text::grammar::{FormFault, named};
+use stack_text::{Breach, Named, Tree, is_digits, is_name, is_numeral, read_numeral};
 use std::alloc::Global;
 
 /// Whether the tree is an atom of digits alone.
@@ -51,7 +51,7 @@ pub fn name(alloc: Global, tree: &Tree) -> Result<Named, FormFault>
 }
 
 /// The number of a numeral's atom, or P8 where it is out of the 128-bit range.
-pub fn number(tree: &Tree) -> Result<Number, BrokenRule>
+pub fn number(tree: &Tree) -> Result<Number, Breach>
     requires { IsTrue (is_atom_of is_numeral (node_of tree.now)) }
     ensures { Finds (λ number. number) result (number_of (node_of tree.now)) }
 {
@@ -61,6 +61,6 @@ pub fn number(tree: &Tree) -> Result<Number, BrokenRule>
     };
     match number {
         Some(number) => Ok(Number { place, number }),
-        None => Err(BrokenRule { rule: 8, place }),
+        None => Err(Breach { rule: 8, place }),
     }
 }

@@ -12,15 +12,15 @@ use crate::op::operation_named;
 use crate::reading::argument::arguments;
 use crate::reading::atom::name;
 use crate::system::InstrText;
-use stack_text::Tree;
-use stack_text::grammar::{BrokenRule, FormFault, Part};
+use stack_text::grammar::{FormFault, Part};
+use stack_text::{Breach, Tree};
 use std::alloc::Global;
 
 /// P6 at an instruction.
-fn no_instruction(place: u32) -> BrokenRule
+fn no_instruction(place: u32) -> Breach
     ensures { result ≡ record { rule = 6; place = place } }
 {
-    BrokenRule { rule: 6, place }
+    Breach { rule: 6, place }
 }
 
 /// An operation's list without a label, of which the operation's word and the trees of its arguments are given.

@@ -13,8 +13,8 @@ use crate::reading::atom::name as read_name;
 use crate::reading::word::word as read_word;
 use crate::system::Program;
 use crate::word_text::WordText;
-use stack_text::grammar::{BrokenRule, FormFault, Part, each, list_length, names};
-use stack_text::{Named, Tree};
+use stack_text::grammar::{FormFault, Part, each, list_length, names};
+use stack_text::{Breach, Named, Tree};
 use std::alloc::Global;
 
 /// The most formals and temporaries of a program.
@@ -24,10 +24,10 @@ const MOST_VARIABLES: usize = 400;
 const MOST_INSTRUCTIONS: usize = 1_048_576;
 
 /// P3 at a tree.
-fn no_program(place: u32) -> BrokenRule
+fn no_program(place: u32) -> Breach
     ensures { result ≡ record { rule = 3; place = place } }
 {
-    BrokenRule { rule: 3, place }
+    Breach { rule: 3, place }
 }
 
 /// A temporary with its word at the start, which are the items of a list.

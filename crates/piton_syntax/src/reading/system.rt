@@ -14,8 +14,8 @@ ghost use Rattle.piton_syntax.specs.Systems.{new_area, new_system};
 
 use crate::reading::atom::{is_digits_atom, name as read_name, number};
 use crate::system::{Area, System};
-use stack_text::Tree;
-use stack_text::grammar::{BrokenRule, FormFault, Part, each};
+use stack_text::grammar::{FormFault, Part, each};
+use stack_text::{Breach, Tree};
 use std::alloc::Global;
 
 /// The most areas of a system.
@@ -25,10 +25,10 @@ const MOST_AREAS: usize = 1000;
 const MOST_PROGRAMS: usize = 1100;
 
 /// P2 at an area.
-fn no_area(place: u32) -> BrokenRule
+fn no_area(place: u32) -> Breach
     ensures { result ≡ record { rule = 2; place = place } }
 {
-    BrokenRule { rule: 2, place }
+    Breach { rule: 2, place }
 }
 
 /// An area, of which the name and the words are given.
@@ -70,10 +70,10 @@ impl Part for Area {
 }
 
 /// P1 at the whole tree.
-fn no_system(place: u32) -> BrokenRule
+fn no_system(place: u32) -> Breach
     ensures { result ≡ record { rule = 1; place = place } }
 {
-    BrokenRule { rule: 1, place }
+    Breach { rule: 1, place }
 }
 
 /// Whether the tree is the word that begins a system.

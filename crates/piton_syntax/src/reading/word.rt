@@ -10,15 +10,15 @@ ghost use Rattle.piton_syntax.specs.declared.tag.Tag.TheVariants as tags;
 use crate::reading::atom::{is_digits_atom, is_name_atom, is_numeral_atom, name, number};
 use crate::tag::{Tag, tag_named};
 use crate::word_text::{WordItem, WordText};
-use stack_text::Tree;
-use stack_text::grammar::{BrokenRule, FormFault, Part};
+use stack_text::grammar::{FormFault, Part};
+use stack_text::{Breach, Tree};
 use std::alloc::Global;
 
 /// P5 at a word.
-fn no_word(place: u32) -> BrokenRule
+fn no_word(place: u32) -> Breach
     ensures { result ≡ record { rule = 5; place = place } }
 {
-    BrokenRule { rule: 5, place }
+    Breach { rule: 5, place }
 }
 
 /// Whether the tree is the word for true.
@@ -42,7 +42,7 @@ fn is_false_atom(tree: &Tree) -> bool
 }
 
 /// An integer: one numeral.
-fn int_item(place: u32, parts: &[Tree]) -> Result<WordItem, BrokenRule>
+fn int_item(place: u32, parts: &[Tree]) -> Result<WordItem, Breach>
     ensures { Finds (λ item. item) result (item_of (Some tags.Int) place (nodes_of parts.now)) }
 {
     if parts.len() != 1 {
@@ -56,7 +56,7 @@ fn int_item(place: u32, parts: &[Tree]) -> Result<WordItem, BrokenRule>
 }
 
 /// A natural number: digits alone.
-fn nat_item(place: u32, parts: &[Tree]) -> Result<WordItem, BrokenRule>
+fn nat_item(place: u32, parts: &[Tree]) -> Result<WordItem, Breach>
     ensures { Finds (λ item. item) result (item_of (Some tags.Nat) place (nodes_of parts.now)) }
 {
     if parts.len() != 1 {
@@ -70,7 +70,7 @@ fn nat_item(place: u32, parts: &[Tree]) -> Result<WordItem, BrokenRule>
 }
 
 /// A bit vector: digits alone.
-fn bitv_item(place: u32, parts: &[Tree]) -> Result<WordItem, BrokenRule>
+fn bitv_item(place: u32, parts: &[Tree]) -> Result<WordItem, Breach>
     ensures { Finds (λ item. item) result (item_of (Some tags.Bitv) place (nodes_of parts.now)) }
 {
     if parts.len() != 1 {
@@ -84,7 +84,7 @@ fn bitv_item(place: u32, parts: &[Tree]) -> Result<WordItem, BrokenRule>
 }
 
 /// A truth value: one of its two words.
-fn bool_item(place: u32, parts: &[Tree]) -> Result<WordItem, BrokenRule>
+fn bool_item(place: u32, parts: &[Tree]) -> Result<WordItem, Breach>
     ensures { Finds (λ item. item) result (item_of (Some tags.Bool) place (nodes_of parts.now)) }
 {
     if parts.len() != 1 {

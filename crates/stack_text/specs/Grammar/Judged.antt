@@ -1,18 +1,15 @@
 -- What a tree is judged to be: a value, or what is wrong with it.
-use Rattle.std.specs.Prelude.{ℕ, List, [], ◌∷◌, ◌++◌, Result, Ok, Err, Bool, ◌==◌, ◌||◌, ◌&&◌, nat_lt, if◌then◌else◌}
+use Rattle.std.specs.Prelude.{ℕ, List, [], ◌∷◌, ◌++◌, Result, Ok, Err, Bool, if◌then◌else◌}
+use Rattle.stack_text.specs.declared.breach.Breach.{Breach}
 use Rattle.stack_text.specs.Trees.{Node, Nodes, none, more}
-
--- a place, and the number of the rule that the tree there breaks
-abbrev pub Fault : Type 0
-Fault = ℕ × ℕ
 
 -- a value, or all faults in reading order, of which there is one at least
 abbrev pub Judged : Type 0 → Type 0
-Judged X = Result X (Fault × List Fault)
+Judged X = Result X (Breach × List Breach)
 
 -- the one fault of a tree that isn't looked into
 abbrev pub fault : {X : Type 0} → ℕ → ℕ → Judged X
-fault place rule = Err ((place, rule), [])
+fault place rule = Err (record { place = place; rule = rule }, [])
 
 -- where the test fails, the tree at the place has a fault, and isn't looked into further
 abbrev pub judged : {X : Type 0} → ℕ → ℕ → Bool → Judged X → Judged X
@@ -34,12 +31,3 @@ front x xs = x ∷ xs
 abbrev pub each_of : {X : Type 0} → (Node → Judged X) → Nodes → Judged (List X)
 each_of judge none = Ok []
 each_of judge (more t ts) = Ok front ⊛ judge t ⊛ each_of judge ts
-
--- the lesser of two faults: place before rule
-abbrev pub lesser : Fault → Fault → Fault
-lesser f g = if nat_lt g.0 f.0 || (g.0 == f.0 && nat_lt g.1 f.1) then g else f
-
--- the least of one fault or more
-abbrev pub least : Fault → List Fault → Fault
-least f [] = f
-least f (g ∷ gs) = lesser f (least g gs)

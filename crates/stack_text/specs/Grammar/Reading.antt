@@ -1,13 +1,13 @@
 -- What a reader of one part returns: the part, or the first of its faults in reading order.
 use Rattle.std.specs.Prelude.{◌≡◌, List, Result, Ok, Err}
-use Rattle.stack_text.specs.declared.grammar.fault.BrokenRule.{BrokenRule}
+use Rattle.stack_text.specs.declared.breach.Breach.{Breach}
 use Rattle.stack_text.specs.declared.grammar.fault.FormFault.{FormFault}
 use Rattle.stack_text.specs.declared.grammar.fault.FormFault.TheVariants.{Form, Memory}
-use Rattle.stack_text.specs.Grammar.Judged.{Fault, Judged}
+use Rattle.stack_text.specs.Grammar.Judged.{Judged}
 
 -- the part has faults, and this is the first; out of memory alone is free
 abbrev pub IsFirstFault : {X : Type 0} → FormFault → Judged X → Type 0
-IsFirstFault (Form rule place) part = (others : List Fault) × (part ≡ Err ((place, rule), others))
+IsFirstFault (Form rule place) part = (others : List Breach) × (part ≡ Err (record { place = place; rule = rule }, others))
 IsFirstFault Memory part = Unit {0}
 
 -- the value is that of the part, seen through the view
@@ -16,6 +16,6 @@ Reads view (Ok x) part = part ≡ Ok (view x)
 Reads view (Err fault) part = IsFirstFault fault part
 
 -- the same of a reader that takes no memory
-abbrev pub Finds : {X Y : Type 0} → (X → Y) → Result X BrokenRule → Judged Y → Type 0
+abbrev pub Finds : {X Y : Type 0} → (X → Y) → Result X Breach → Judged Y → Type 0
 Finds view (Ok x) part = part ≡ Ok (view x)
-Finds view (Err broken) part = (others : List Fault) × (part ≡ Err ((broken.place, broken.rule), others))
+Finds view (Err breach) part = (others : List Breach) × (part ≡ Err (breach, others))

@@ -1,14 +1,7 @@
 //! Why a tree is no part of a grammar.
 
-use crate::Memory;
+use crate::{Breach, Memory};
 use std::alloc::{AllocError, AllocFailed};
-
-/// The tree at the place breaks the rule of this number.
-#[derive(Clone, Copy, Debug, PartialEq, Eq)]
-pub struct BrokenRule {
-    pub rule: u8,
-    pub place: u32,
-}
 
 /// Why no part was read: a tree breaks a rule, or memory ran out.
 #[derive(Clone, Copy, Debug, PartialEq, Eq)]
@@ -19,16 +12,16 @@ pub enum FormFault {
     Memory,
 }
 
-impl From<BrokenRule> for FormFault {
+impl From<Breach> for FormFault {
     ghost use Rattle.std.specs.Prelude.{◌≡◌};
     ghost use Rattle.stack_text.specs.declared.grammar.fault.FormFault.TheVariants as faults;
 
-    ghost from_gives = { λ broken e. e ≡ faults.Form broken.rule broken.place };
+    ghost from_gives = { λ breach e. e ≡ faults.Form breach.rule breach.place };
 
-    fn from(broken: BrokenRule) -> FormFault {
+    fn from(breach: Breach) -> FormFault {
         FormFault::Form {
-            rule: broken.rule,
-            place: broken.place,
+            rule: breach.rule,
+            place: breach.place,
         }
     }
 }
