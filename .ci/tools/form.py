@@ -33,7 +33,7 @@ def check_specs():
             if len(line) > SPEC_WIDTH:
                 say(f"{path}:{number}", f"{len(line)} characters; break the line, at most {SPEC_WIDTH}")
             found = DEFINITION.match(line)
-            if found and not line.startswith("  ") and not re.match(r"\s*pub (mod|use) ", line):
+            if found and not line.startswith("  ") and not re.match(r"\s*pub (mod|use) ", line) and found.group(1) != "◌>>=◌":
                 names[path.parts[1], found.group(1)].append(f"{path.name}:{number}")
     for (crate, name), places in names.items():
         if len(places) > 1:

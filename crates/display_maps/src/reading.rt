@@ -57,7 +57,8 @@ fn condition_at(
 /// The items of a variable, from its address downwards.
 fn items_of(alloc: Global, machine: &Machine, slot: &Slot) -> Result<Vec<Shown>, Memory>
     ensures { IfOk result (λ items. items.items
-        ≡ map (item_of slot.now.shape.kind) (words_down machine.now.state slot.now.address (item_count slot.now.shape))) }
+        ≡ map (item_of slot.now.shape.kind)
+        (words_down machine.now.state slot.now.address (item_count slot.now.shape))) }
 {
     let mut items = Vec::new(alloc);
     let mut address = slot.address;

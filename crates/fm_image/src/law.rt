@@ -12,5 +12,6 @@ pub fn one_spelling()
     // Each file spells at most one image.
     ensures image { (bytes : List ℕ) (i j : ImageOf) → Spelled bytes i → Spelled bytes j → i ≡ j }
     // What is written is read again.
-    ensures again { (image : ImageOf) → IsTrue (is_image image) → IsTrue (are_words image.registers) → IsTrue (are_words image.words) → read_of (spelling image) ≡ Ok image }
+    ensures again { (image : ImageOf) → IsTrue (is_image image) → IsTrue (are_words image.registers)
+        → IsTrue (are_words image.words) → read_of (spelling image) ≡ Ok image }
 {}

@@ -78,7 +78,8 @@ fn push_words(bytes: &mut Vec<u8>, words: &[u32]) -> Result<(), Memory>
 
 /// The fields before the registers.
 fn opening(alloc: Global, base: u32, size: u32, final_pc: u32) -> Result<Vec<u8>, Memory>
-    ensures { IfOk result (λ bytes. bytes.items ≡ opening_bytes ++ window_bytes (record { base = base; size = size; final_pc = final_pc })) }
+    ensures { IfOk result (λ bytes. bytes.items
+        ≡ opening_bytes ++ window_bytes (record { base = base; size = size; final_pc = final_pc })) }
 {
     let mut bytes = Vec::from_slice(alloc, b"FM91")?;
     push_numbers(&mut bytes, &[VERSION, base, size, final_pc])?;

@@ -7,7 +7,7 @@ ghost use Rattle.fm_loader.specs.Rules.{Gives};
 ghost use Rattle.fm_loader.specs.Values.{is_kind, is_within, single_mismatch, array_mismatch, mismatch, value_or_fault, number_of, numbers_of, slot_named, found_in, all_found, HaveOwnNames};
 
 use crate::fault::{Rule, ValuesFault, refused};
-use crate::parsed::{Entry, Scalar, ParsedValue};
+use crate::parsed::{Entry, ParsedValue, Scalar};
 use fm_image::Slot;
 use indexmap::IndexSet;
 use stack_text::{Kind, Memory, Shape, Value};

@@ -4,11 +4,11 @@
 mod fault;
 mod judging;
 mod loading;
+mod parsed;
 mod reading;
 #[cfg(test)]
 mod tests;
 mod values;
-mod parsed;
 
 pub use fault::ValuesFault;
 pub use loading::load;

@@ -15,7 +15,8 @@ use std::alloc::Global;
 fn set(machine: &mut Machine, base: u32, address: u32, word: u32)
     requires base { machine.old.state.base ≡ base }
     requires above { base ≤ address }
-    ensures { machine.new.state ≡ record machine.old.state { memory = with_word base machine.old.state.memory address word } }
+    ensures { machine.new.state
+        ≡ record machine.old.state { memory = with_word base machine.old.state.memory address word } }
 {
     let _ = machine.poke(address, word);
 }
@@ -24,7 +25,8 @@ fn set(machine: &mut Machine, base: u32, address: u32, word: u32)
 fn set_words(machine: &mut Machine, base: u32, words: &[u32])
     requires base { machine.old.state.base ≡ base }
     requires few { base + length words.now < 2 ^ 32 }
-    ensures { machine.new.state ≡ record machine.old.state { memory = with_words base base words.now machine.old.state.memory } }
+    ensures { machine.new.state
+        ≡ record machine.old.state { memory = with_words base base words.now machine.old.state.memory } }
 {
     for (place, word) in words.iter().enumerate() {
         set(machine, base, base + place as u32, *word);
@@ -35,7 +37,8 @@ fn set_words(machine: &mut Machine, base: u32, words: &[u32])
 fn set_items(machine: &mut Machine, base: u32, address: u32, items: &[i32])
     requires base { machine.old.state.base ≡ base }
     requires room { base + length items.now ≤ address + 1 }
-    ensures { machine.new.state ≡ record machine.old.state { memory = with_items base address items.now machine.old.state.memory } }
+    ensures { machine.new.state
+        ≡ record machine.old.state { memory = with_items base address items.now machine.old.state.memory } }
 {
     for (place, item) in items.iter().enumerate() {
         set(machine, base, address - place as u32, word_of_int(*item));
@@ -46,7 +49,8 @@ fn set_items(machine: &mut Machine, base: u32, address: u32, items: &[i32])
 fn set_value(machine: &mut Machine, base: u32, address: u32, value: &Value)
     requires base { machine.old.state.base ≡ base }
     requires room { base + item_count value.now.shape ≤ address + 1 }
-    ensures { machine.new.state ≡ record machine.old.state { memory = with_items base address value.now.items machine.old.state.memory } }
+    ensures { machine.new.state
+        ≡ record machine.old.state { memory = with_items base address value.now.items machine.old.state.memory } }
 {
     set_items(machine, base, address, value.items.as_slice());
 }
@@ -56,7 +60,8 @@ fn set_values(machine: &mut Machine, base: u32, slots: &[Slot], values: &[Value]
     requires base { machine.old.state.base ≡ base }
     requires room { HaveRoom base slots.now }
     requires fits { Fits slots.now values.now }
-    ensures { machine.new.state ≡ record machine.old.state { memory = with_values base slots.now values.now machine.old.state.memory } }
+    ensures { machine.new.state
+        ≡ record machine.old.state { memory = with_values base slots.now values.now machine.old.state.memory } }
 {
     for (place, slot) in slots.iter().enumerate() {
         match values.get(place) {

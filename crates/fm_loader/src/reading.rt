@@ -9,7 +9,7 @@ ghost use Rattle.fm_loader.specs.Parsed.{in_32_bits, character_of, scalar_of, sc
 ghost use Rattle.fm_loader.specs.Values.{entries_of, entry_at};
 
 use crate::fault::{Rule, ValuesFault, refused};
-use crate::parsed::{Entry, Scalar, ParsedValue};
+use crate::parsed::{Entry, ParsedValue, Scalar};
 use stack_text::{Kind, Memory, Name, Seq, Tree, is_digits, is_numeral, read_name, read_numeral};
 use std::alloc::Global;
 

@@ -18,7 +18,8 @@ use std::fmt;
 #[tactic(auto, using(crate::proofs::Lossless::lossless))]
 pub fn disassemble(alloc: Global, word: u32) -> Result<Vec<u8>, Memory>
     ensures text { IfOk result (λ text. text.items ≡ disassembly_text word) }
-    ensures lossless { (other : ℕ) → (disassembly_text word ≡ disassembly_text other) ↔ (significant word ≡ significant other) }
+    ensures lossless { (other : ℕ)
+        → (disassembly_text word ≡ disassembly_text other) ↔ (significant word ≡ significant other) }
 {
     let text = Line(decode(word)).to_string(alloc)?;
     Ok(text.into_bytes())

@@ -10,9 +10,13 @@ use std::process::Abort;
 use std::test::Fail;
 
 const SIZE: u32 = 1 << 20;
+
 const BASE: u32 = u32::MAX - SIZE;
+
 const LAST: u32 = u32::MAX - 1;
+
 const COUNT: u32 = 200;
+
 const LENGTH: u32 = 4096;
 
 /// Appends a name of 64 bytes, which ends in the number.
@@ -131,7 +135,11 @@ fn passes_every_call(rt: HostRuntime) -> Result<(), Fail> {
     let listing = show_image(alloc, &image)?;
     let lines_of_listing = listing.iter().filter(|byte| **byte == b'\n').count();
     assert_eq!(rt; lines_of_listing, 3 + 16 + 1 + 1 + 200 + 200 + (1 << 20));
-    assert!(rt; listing.as_slice().ends_with(b"\nfffffffe 000fffff MOVE[cc]{cvnz} (r15)+,#-1\n"));
+    assert!(rt;
+        listing
+            .as_slice()
+            .ends_with(b"\nfffffffe 000fffff MOVE[cc]{cvnz} (r15)+,#-1\n")
+    );
 
     let mut expected = Vec::from_slice(alloc, b"finished 18446744073709551615\ncondition ")?;
     push_name(alloc, &mut expected, COUNT - 1)?;
