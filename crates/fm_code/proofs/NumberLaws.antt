@@ -1,7 +1,7 @@
 -- Words of integers: their sums, differences, signs and order.
 use Rattle.std.proofs.Common.{◌≡◌, ℕ, ◌+◌, ◌-◌, ◌*◌, ◌%◌, ◌^◌, ◌<◌, ◌≤◌, ◌==◌, Bool, true, false, refl, sym, ap, ◌∙◌, arith}
 use Rattle.std.specs.Prelude.{nat_le, nat_lt, not, ◌&&◌, ◌||◌, ℤ, pos, negsuc, ◌+ℤ◌, ◌-ℤ◌, int_lt, unsigned_abs, bit_and, bit_or}
-use Rattle.std.specs.Int.{from_bool as bit_of, cast_signed, w32}
+use Rattle.std.specs.Int.{from_bool as bit_of}
 use Rattle.std.proofs.lemmas.Bool.Decides.{nat_tests}
 use Rattle.std.proofs.lemmas.Int.{ints, int_rem_euclid_is}
 use Rattle.fm_words.specs.Word.{signed_of, is_int, is_nat, word_of_int, wrapped, are_same_ints}

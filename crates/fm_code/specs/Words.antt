@@ -1,7 +1,7 @@
 -- The notation of instruction words: an operation, then its target, then its source.
 use Rattle.std.specs.Prelude.{ℕ, pos, true, false}
 use Rattle.fm_words.specs.declared.operation.Op.{Op}
-use Rattle.fm_words.specs.declared.operation.Op.TheVariants.{Move, Add, Sub}
+use Rattle.fm_words.specs.declared.operation.Op.TheVariants.{Move, Add, Dec, Sub}
 use Rattle.fm_words.specs.declared.condition.Cc.{Cc}
 use Rattle.fm_words.specs.declared.condition.Cc.TheVariants.{Al}
 use Rattle.fm_words.specs.declared.condition.Flags.{Flags}
@@ -81,6 +81,6 @@ add b a = always Add b a
 abbrev pub sub : OperandA → OperandA → ℕ
 sub b a = always Sub b a
 
--- `DEC r15,r15`, which jumps to itself
+-- `DEC r15,r15`, which jumps to itself: the word after the code
 abbrev pub halt_word : ℕ
-halt_word = 0x05e03c0f
+halt_word = always Dec (reg 15) (reg 15)

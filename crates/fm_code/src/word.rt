@@ -6,6 +6,9 @@ ghost use Rattle.fm_code.specs.Words.{reg, at, push, pop, immediate, literal, li
 
 use fm_words::{Cc, Flags, Instr, Mode, Op, OperandA, encode};
 
+/// `DEC r15,r15`, which jumps to itself: the word after the code.
+pub const HALT_WORD: u32 = 0x05e0_3c0f;
+
 /// `{z}`
 pub const FLAG_Z: Flags = Flags {
     c: false,
