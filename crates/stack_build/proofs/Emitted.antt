@@ -1,7 +1,11 @@
 -- The words of instructions, one after another.
 use Rattle.std.proofs.Common.{◌≡◌, ◌<◌, ◌≤◌, ◌+◌, ℕ, List, [], ◌∷◌, ◌++◌, length, drop, get_or, zero, suc, refl, sym, subst, ap, ◌∙◌, append_assoc, arith}
-use Rattle.std.specs.List.{range_with_len}
+use Rattle.std.specs.Prelude.{reverse}
+use Rattle.std.specs.List.{flat_map, range_with_len}
+use Rattle.std.proofs.lemmas.Grind.{reverse_onto}
 use Rattle.std.proofs.lemmas.List.{drop_all, drop_more}
+use Rattle.fm_code.specs.Words.{push, literal, mov}
+use Rattle.fm_code.specs.Templates.{temporaries_code}
 use Rattle.stack_build.specs.declared.piton.Instruction.{Instruction}
 use Rattle.stack_build.specs.declared.piton.Program.{Program}
 use Rattle.stack_build.specs.declared.layout.Layout.{Layout}
@@ -37,3 +41,17 @@ range_longer a (suc n) =
 pub range_more : (n : ℕ) → range_with_len 0 (n + 1) ≡ range_with_len 0 n ++ n ∷ []
 range_more n = let e : n + 1 ≡ suc n = omega arith in let f : 0 + n ≡ n = omega arith in
     ap (range_with_len 0) e ∙ range_longer 0 n ∙ ap (λ k. range_with_len 0 n ++ k ∷ []) f
+
+-- words pushed as literals on the control stack
+abbrev pub pushes : List ℕ → List ℕ
+pushes words = flat_map (λ word. mov (push 1) literal ∷ word ∷ []) words
+
+pushes-append : (xs : List ℕ) (t : ℕ) → pushes (xs ++ t ∷ []) ≡ pushes xs ++ mov (push 1) literal ∷ t ∷ []
+pushes-append [] t = refl
+pushes-append (x ∷ xs) t = ap (λ ws. mov (push 1) literal ∷ x ∷ ws) (pushes-append xs t)
+
+-- of temporaries from the last to the first they are the code
+pub pushes_are : (ts : List ℕ) → pushes (reverse ts) ≡ temporaries_code ts
+pushes_are [] = refl
+pushes_are (t ∷ ts) =
+    ap pushes (reverse_onto ts t []) ∙ pushes-append (reverse ts) t ∙ ap (λ ws. ws ++ mov (push 1) literal ∷ t ∷ []) (pushes_are ts)

@@ -1,13 +1,13 @@
 -- The words of a placed system are numbers of 32 bits, so its image has a spelling.
-use Rattle.std.proofs.Common.{◌≡◌, ◌<◌, ◌≤◌, ◌+◌, ◌-◌, ◌*◌, ℕ, zero, suc, List, [], ◌∷◌, ◌++◌, length, true, None, refl, ap, ◌∙◌, arith}
-use Rattle.std.specs.Prelude.{FitsSigned, nat_lt, replicate, reverse, take}
+use Rattle.std.proofs.Common.{◌≡◌, ◌<◌, ◌≤◌, ◌+◌, ◌-◌, ◌*◌, ℕ, zero, suc, List, [], ◌∷◌, ◌++◌, length, true, None, refl, ◌∙◌, arith}
+use Rattle.std.specs.Prelude.{FitsSigned, nat_lt, replicate, take}
 use Rattle.std.specs.Int.{w32}
 use Rattle.std.specs.List.{range_with_len}
 use Rattle.std.proofs.lemmas.Bool.{and_parts, and_from, lt-ltb}
-use Rattle.std.proofs.lemmas.List.{reverse-append}
 use Rattle.std.proofs.lemmas.List.Folds.{list_all-append}
 use Rattle.std.proofs.lemmas.List.FromFn.{length-range_with_len}
-use Rattle.fm_machine.specs.Words.{reg, push, pop, mov, halt_word}
+use Rattle.fm_code.specs.Words.{reg, push, pop, literal, mov, halt_word}
+use Rattle.fm_code.specs.Templates.{below_end, temporaries_code}
 use Rattle.fm_image.specs.Spelling.{are_words, spelling, Spelled}
 use Rattle.fm_words.specs.Word.{word_of_int}
 use Rattle.fm_words.proofs.WordLaws.{word_of_int_below, is_int_from_fits}
@@ -19,7 +19,7 @@ use Rattle.stack_build.specs.declared.piton.Instruction.TheVariants.{NoOp, PushI
 use Rattle.stack_build.specs.declared.piton.Program.{Program}
 use Rattle.stack_build.specs.declared.piton.System.{System}
 use Rattle.stack_build.specs.declared.layout.Layout.{Layout}
-use Rattle.stack_build.specs.Piton.{IsSmall, size_of, size_of_all, prelude_size, program_size, place_address, template, words_at, pushes, prelude_words, program_words}
+use Rattle.stack_build.specs.Piton.{IsSmall, size_of, size_of_all, prelude_size, program_size, place_address, template, words_at, prelude_words, program_words}
 use Rattle.stack_build.specs.Placed.{body_of, procedure_of, generated, layout_of, code_words, control_words, placed_words, start_registers, IsPlaceable}
 use Rattle.stack_build.specs.Source.{IsStatement, IsSource}
 use Rattle.stack_build.specs.Build.{shortage_of, source_image}
@@ -72,17 +72,11 @@ a_word n lt = lt-ltb n 4294967296 lt
 words-append : (xs ys : List ℕ) → are_words xs ≡ true → are_words ys ≡ true → are_words (xs ++ ys) ≡ true
 words-append xs ys h k = list_all-append (λ n. nat_lt n 4294967296) xs ys ∙ and_from (are_words xs) (are_words ys) h k
 
-words-reverse : (xs : List ℕ) → are_words xs ≡ true → are_words (reverse xs) ≡ true
-words-reverse [] h = refl
-words-reverse (x ∷ xs) h =
-    let parts = and_parts (nat_lt x 4294967296) (are_words xs) h in
-    ap are_words (reverse-append (x ∷ []) xs) ∙ words-append (reverse xs) (x ∷ []) (words-reverse xs parts.1) (and_from _ _ parts.0 refl)
-
-words-pushes : (xs : List ℕ) → are_words xs ≡ true → are_words (pushes xs) ≡ true
-words-pushes [] h = refl
-words-pushes (x ∷ xs) h =
-    let parts = and_parts (nat_lt x 4294967296) (are_words xs) h in
-    and_from _ _ refl (and_from _ _ parts.0 (words-pushes xs parts.1))
+words-temporaries : (ts : List ℕ) → are_words ts ≡ true → are_words (temporaries_code ts) ≡ true
+words-temporaries [] h = refl
+words-temporaries (t ∷ ts) h =
+    let parts = and_parts (nat_lt t 4294967296) (are_words ts) h in
+    words-append (temporaries_code ts) (mov (push 1) literal ∷ t ∷ []) (words-temporaries ts parts.1) (and_from _ _ refl (and_from _ _ parts.0 refl))
 
 words-replicate : (n w : ℕ) → nat_lt w 4294967296 ≡ true → are_words (replicate n w) ≡ true
 words-replicate zero w h = refl
@@ -113,7 +107,7 @@ module _ (L : Layout) (entry : ℕ) (p : Program) (small : IsSmall p) (low : ent
   words-template address (PushNat number) near h = and_from _ _ refl (and_from _ _ (a_word number h) refl)
   words-template address (PushLocal offset) near h = and_from _ _ refl (and_from _ _ (a_word offset h) refl)
   words-template address PopGlobal near h = and_from _ _ refl (and_from _ _ (a_word L.condition (omega arith)) refl)
-  words-template address DepositTempStk near h = and_from _ _ refl (and_from _ _ (a_word (L.end - 1) (omega arith)) refl)
+  words-template address DepositTempStk near h = and_from _ _ refl (and_from _ _ (a_word (below_end L.end 1) (omega arith)) refl)
   words-template address Call near h = and_from _ _ refl (and_from _ _ (a_word (address + 4) (omega arith)) (and_from _ _ refl (and_from _ _ (a_word L.assignment (omega arith)) refl)))
   words-template address (Jump place) near h =
       let f = small.formals in
@@ -140,10 +134,9 @@ module _ (L : Layout) (entry : ℕ) (p : Program) (small : IsSmall p) (low : ent
       let t = small.temporaries in
       let n = small.instructions in
       let moves : List ℕ = replicate p.formals (mov (push 1) (pop 2)) in
-      let middle : List ℕ = pushes (reverse p.temporaries) ++ moves in
       let frame : List ℕ = mov (reg 0) (reg 1) ∷ [] in
-      let pushed = words-append (pushes (reverse p.temporaries)) moves (words-pushes (reverse p.temporaries) (words-reverse p.temporaries temporaries)) (words-replicate p.formals (mov (push 1) (pop 2)) refl) in
-      let prelude : are_words (prelude_words p) ≡ true = and_from _ _ refl (words-append middle frame pushed refl) in
+      let moved = words-append moves frame (words-replicate p.formals (mov (push 1) (pop 2)) refl) refl in
+      let prelude : are_words (prelude_words p) ≡ true = and_from _ _ refl (words-append (temporaries_code p.temporaries) (moves ++ frame) (words-temporaries p.temporaries temporaries) moved) in
       words-append (prelude_words p) (words_at L entry p (entry + prelude_size p) p.instructions) prelude (words-at (entry + prelude_size p) p.instructions (omega arith) have)
 
 -- 4. The image of a source.

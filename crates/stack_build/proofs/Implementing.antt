@@ -1,15 +1,14 @@
 -- The image of a program of one statement does what the source means.
 use Rattle.std.proofs.Common.{◌≡◌, ◌<◌, ◌≤◌, ◌+◌, ◌-◌, ℕ, ℤ, zero, suc, List, [], ◌∷◌, length, map, Some, None, refl, sym, ap, subst, ◌∙◌, arith, zero-add}
-use Rattle.std.specs.Prelude.{All, FitsSigned, slice_set}
+use Rattle.std.specs.Prelude.{All, FitsSigned, slice_index, slice_set}
 use Rattle.std.specs.Int.{w32}
 use Rattle.std.proofs.lemmas.List.{length-set, length-map, map-set}
 use Rattle.std.proofs.lemmas.List.Elements.{All-set}
 use Rattle.std.proofs.lemmas.List.FromFn.{length-range_with_len}
 use Rattle.fm_machine.specs.State.{Fm}
 use Rattle.fm_machine.specs.Run.{IsFirst}
-use Rattle.fm_machine.specs.Holds.{Holds}
-use Rattle.fm_machine.proofs.Rows.{moved, length-moved}
-use Rattle.fm_machine.proofs.Ends.{Ended, ended, reaches_from}
+use Rattle.fm_code.specs.Execution.{Holds, Arrives, view}
+use Rattle.fm_code.proofs.RunLaws.{run_begins, arrives, ends}
 use Rattle.stack_build.specs.declared.source.Statement.{Statement}
 use Rattle.stack_build.specs.declared.source.Statement.TheVariants as statement
 use Rattle.stack_build.specs.declared.source.OneStatement.{OneStatement}
@@ -25,8 +24,9 @@ use Rattle.display_maps.specs.declared.shown.Shown.TheVariants.{Normal}
 use Rattle.display_maps.specs.Reading.{reading, word_of, condition_of}
 use Rattle.stack_build.specs.Build.{control_need, temporary_need, shortage_of, source_image}
 use Rattle.stack_build.specs.Meaning.{Done, integer, integers_read, variables_after, meaning, instruction_count, FitsVariables, Implements}
-use Rattle.stack_build.proofs.Standing.{parts_of, final_pc-parts_of, is_layout, is_laid, program_stands, main_stands, assignment_stands}
+use Rattle.stack_build.proofs.Standing.{parts_of, final_pc-parts_of, are_parts, is_laid, program_stands, main_stands, assignment_stands}
 use Rattle.stack_build.proofs.Walking.{with_pc, doing_nothing, assigning, passes, assigns}
+use Rattle.stack_build.proofs.Laying.{moved, length-moved}
 use Rattle.stack_build.proofs.ReadBack.{word_of_read, values_read, set_moved}
 use Rattle.stack_build.proofs.Sizes.{sizes_fit}
 use Rattle.stack_build.proofs.Sources.{source_is}
@@ -37,16 +37,19 @@ EndsNormally names system values n finals =
     (s : Fm) × IsFirst (loaded (image_of names system) (map integer values)) (layout_of system).final_pc n s × (reading (image_of names system) s ≡ integers_read names finals Normal)
 
 -- what is read of the state in which a run has ended
-ends_normally : (names : List (List ℕ)) (system : System) (values : List ℤ) (n : ℕ) (finals : List ℤ) (temp : List ℕ) → Ended (parts_of system) n (loaded (image_of names system) (map integer values)) 0 [] temp (2 ∷ []) → temp ≡ moved (map word_of_int finals) []
+ends_normally : (names : List (List ℕ)) (system : System) (values : List ℤ) (n : ℕ) (finals : List ℤ) (temp : List ℕ) → Arrives (parts_of system) n (loaded (image_of names system) (map integer values)) (view 0 (layout_of system).final_pc [] temp (2 ∷ [])) → temp ≡ moved (map word_of_int finals) []
     → length finals ≡ length names → All (FitsSigned w32) finals → length names < (layout_of system).end → EndsNormally names system values n finals
 unfolding condition_of
 ends_normally names system values n finals temp e is many fits below =
     let top : ℕ = (layout_of system).end - length names in
     let temp_many : length temp ≡ length finals = ap length is ∙ length-moved (map word_of_int finals) [] ∙ (let k = length-map finals word_of_int in omega arith) in
-    let end = e.temp_end in
-    let condition : condition_of [] (word_of e.state (layout_of system).condition) ≡ Normal = ap (condition_of []) (word_of_read e.state (layout_of system).condition 2 e.areas_held.0) in
-    let numbers = values_read e.state names ((layout_of system).end - 1) _ finals [] many (omega arith) (omega arith) fits (subst (Holds e.state.base e.state.memory _) is e.temp_held) in
-    (e.state, subst (λ a. IsFirst (loaded (image_of names system) (map integer values)) a n e.state) (final_pc-parts_of system) e.first, λ i. record { condition = Some (condition i); items = numbers i })
+    let base = sym e.laid.base_is in
+    let areas_held = subst (λ b. Holds b e.state.memory (layout_of system).condition (2 ∷ [])) base e.laid.laid.areas_at in
+    let temp_held = subst (λ b. Holds b e.state.memory (slice_index e.state.registers 2) temp) base e.laid.laid.temp_at in
+    let end = e.laid.laid.temp_end in
+    let condition : condition_of [] (word_of e.state (layout_of system).condition) ≡ Normal = ap (condition_of []) (word_of_read e.state (layout_of system).condition 2 areas_held.0) in
+    let numbers = values_read e.state names ((layout_of system).end - 1) _ finals [] many (omega arith) (omega arith) fits (subst (Holds e.state.base e.state.memory _) is temp_held) in
+    (e.state, subst (λ a. IsFirst (loaded (image_of names system) (map integer values)) a n e.state) (final_pc-parts_of system) (ends e (sym (final_pc-parts_of system))), λ i. record { condition = Some (condition i); items = numbers i })
 
 -- the stacks are as large as the source needs
 abbrev HasRoom : OneStatement → ℕ → ℕ → Type 0
@@ -61,12 +64,12 @@ module _ (variables : List (List ℕ)) (control temporary : ℕ) (few : length v
       let locals = length-range_with_len 0 (length variables) in
       let c = room.0 in
       let t = room.1 in
-      let is = is_layout system (omega arith) in
+      let is = are_parts system (omega arith) in
       let laid = is_laid variables system values (omega arith) fits.many (omega arith) refl in
-      let start = with_pc (reaches_from is laid) (sym (zero-add (prelude_size system.main))) in
+      let start = with_pc (run_begins is laid) (sym (zero-add (prelude_size system.main))) in
       let code = program_stands (parts_of system) (layout_of system) 0 system.main (main_stands system) in
       let h = passes (layout_of system) variables (0 + prelude_size system.main) (layout_of system).final_pc refl start code.1 laid.laid.ctrl_end in
-      ends_normally variables system values 6 values _ (ended h (sym (final_pc-parts_of system))) refl fits.many fits.numbers (omega arith)
+      ends_normally variables system values 6 values _ (arrives h) refl fits.many fits.numbers (omega arith)
 
   assignment_ends : (variable : ℕ) (number : ℤ) → variable < length variables → FitsSigned w32 number → HasRoom (assigning variables variable number) control temporary
       → FitsVariables (assigning variables variable number) values → EndsNormally variables (generated (assigning variables variable number) control temporary) values 28 (slice_set values variable number)
@@ -81,16 +84,16 @@ module _ (variables : List (List ℕ)) (control temporary : ℕ) (few : length v
       let numbers = length-map values word_of_int in
       let temp : List ℕ = moved (map word_of_int values) [] in
       let temp_many : length temp ≡ length variables = length-moved (map word_of_int values) [] ∙ omega arith in
-      let is = is_layout system (omega arith) in
+      let is = are_parts system (omega arith) in
       let laid = is_laid variables system values (omega arith) fits.many (omega arith) refl in
-      let start = with_pc (reaches_from is laid) (sym (zero-add (prelude_size system.main))) in
+      let start = with_pc (run_begins is laid) (sym (zero-add (prelude_size system.main))) in
       let code = program_stands (parts_of system) (layout_of system) 0 system.main (main_stands system) in
       let called = program_stands (parts_of system) (layout_of system) (layout_of system).assignment assignment (assignment_stands system) in
       let h = assigns (layout_of system) variables variable number (0 + prelude_size system.main) (layout_of system).final_pc refl start code.1 called.0 called.1 laid.laid.ctrl_end (omega arith) (omega arith) refl below temp_many in
       let set : slice_set temp (length temp - 1 - variable) (word_of_int number) ≡ moved (map word_of_int (slice_set values variable number)) [] =
       set_moved (map word_of_int values) [] variable (length temp - 1 - variable) (word_of_int number) (omega arith) (omega arith) ∙ ap (λ (ws : List ℕ). moved ws []) (sym (map-set word_of_int values variable number)) in
       let finals_many = length-set values variable number in
-      ends_normally variables system values 28 (slice_set values variable number) _ (ended h (sym (final_pc-parts_of system))) set (omega arith) (All-set (FitsSigned w32) values variable number number_fits fits.numbers) (omega arith)
+      ends_normally variables system values 28 (slice_set values variable number) _ (arrives h) set (omega arith) (All-set (FitsSigned w32) values variable number number_fits fits.numbers) (omega arith)
 
 -- an end that the source means is what the image has to give
 as_meant : (source : OneStatement) (control temporary : ℕ) (values : List ℤ) → EndsNormally source.variables (generated source control temporary) values (instruction_count source) (variables_after source.statement values)

@@ -1,9 +1,9 @@
 -- The window of a loaded image: its words from address 0 on, and its variables from the last address down.
 use Rattle.std.proofs.Common.{◌≡◌, ◌<◌, ◌≤◌, ◌+◌, ◌-◌, ℕ, ℤ, List, [], ◌∷◌, ◌++◌, length, map, refl, sym, subst, ◌∙◌, arith}
 use Rattle.fm_machine.specs.State.{with_word}
-use Rattle.fm_machine.specs.Holds.{Holds}
-use Rattle.fm_machine.proofs.Memory.{word_at-same, length-with_word, some_word, Holds-store_below, Holds-store_above}
-use Rattle.fm_machine.proofs.Rows.{moved}
+use Rattle.fm_machine.proofs.WindowLaws.{word_at-same, length-with_word, some_word}
+use Rattle.fm_code.specs.Execution.{Holds}
+use Rattle.fm_code.proofs.HoldsLaws.{Holds-store_below, Holds-store_above}
 use Rattle.fm_image.specs.declared.slot.Slot.{Slot}
 use Rattle.stack_build.specs.Image.{slots_from}
 use Rattle.fm_words.specs.Word.{word_of_int}
@@ -26,6 +26,15 @@ Holds-append b m p q [] ys e h k =
     let same : q ≡ p = omega arith in
     subst (λ a. Holds b m a ys) same k
 Holds-append b m p q (x ∷ xs) ys e h k = (h.0, Holds-append b m (p + 1) q xs ys (omega arith) h.1 k)
+
+-- the words of a list moved one by one from its front to another's
+abbrev pub moved : List ℕ → List ℕ → List ℕ
+moved [] ys = ys
+moved (x ∷ xs) ys = moved xs (x ∷ ys)
+
+pub length-moved : (xs ys : List ℕ) → length (moved xs ys) ≡ length xs + length ys
+length-moved [] ys = omega arith
+length-moved (x ∷ xs) ys = length-moved xs (x ∷ ys) ∙ omega arith
 
 -- words moved one by one to the front of others have those behind them
 pub Holds-moved : (b : ℕ) (m : List ℕ) (p q : ℕ) (xs ys : List ℕ) → q ≡ p + length xs → Holds b m p (moved xs ys) → Holds b m q ys

@@ -1,15 +1,16 @@
 -- How many words the parts of a placed system take.
-use Rattle.std.proofs.Common.{◌≡◌, ◌≤◌, ◌+◌, ◌-◌, ◌*◌, ℕ, List, [], ◌∷◌, ◌++◌, length, refl, sym, ap, ◌∙◌, arith, length-append}
-use Rattle.std.specs.Prelude.{replicate, reverse}
+use Rattle.std.proofs.Common.{◌≡◌, ◌≤◌, ◌+◌, ◌-◌, ℕ, List, [], ◌∷◌, ◌++◌, length, refl, sym, ap, ◌∙◌, arith, length-append}
+use Rattle.std.specs.Prelude.{replicate}
 use Rattle.std.proofs.lemmas.List.Sums.{sum-map, sum_by-cons}
-use Rattle.std.proofs.lemmas.List.{length-reverse, length-replicate}
-use Rattle.fm_machine.specs.Words.{reg, push, pop, mov, halt_word}
+use Rattle.std.proofs.lemmas.List.{length-replicate}
+use Rattle.fm_code.specs.Words.{halt_word}
+use Rattle.fm_code.proofs.RowLaws.{length-prelude}
 use Rattle.stack_build.specs.declared.piton.Instruction.{Instruction}
 use Rattle.stack_build.specs.declared.piton.Instruction.TheVariants.{NoOp, PushInt, PushNat, PushLocal, PopGlobal, DepositTempStk, Call, Jump, Ret}
 use Rattle.stack_build.specs.declared.piton.Program.{Program}
 use Rattle.stack_build.specs.declared.piton.System.{System}
 use Rattle.stack_build.specs.declared.layout.Layout.{Layout}
-use Rattle.stack_build.specs.Piton.{size_of, size_of_all, prelude_size, program_size, template, words_at, pushes, prelude_words, program_words}
+use Rattle.stack_build.specs.Piton.{size_of, size_of_all, prelude_size, program_size, template, words_at, prelude_words, program_words}
 use Rattle.stack_build.specs.Placed.{layout_of, code_words, control_words, placed_words}
 
 pub length-template : (L : Layout) (entry : ℕ) (p : Program) (address : ℕ) (i : Instruction) → length (template L entry p address i) ≡ size_of i
@@ -39,17 +40,9 @@ length-words_at L entry p address (i ∷ is) =
     let all = size_of_all-cons i is in
     omega (arith, length-append (template L entry p address i) (words_at L entry p (address + size_of i) is))
 
-pub length-pushes : (words : List ℕ) → length (pushes words) ≡ 2 * length words
-length-pushes [] = refl
-length-pushes (word ∷ words) = let rest = length-pushes words in omega arith
-
 pub length-prelude_words : (p : Program) → length (prelude_words p) ≡ prelude_size p
 unfolding prelude_words
-length-prelude_words p =
-    let pushed = length-pushes (reverse p.temporaries) in
-    let many = length-reverse p.temporaries in
-    let moved = length-replicate p.formals (mov (push 1) (pop 2)) in
-    omega (arith, length-append (pushes (reverse p.temporaries) ++ replicate p.formals (mov (push 1) (pop 2))) (mov (reg 0) (reg 1) ∷ []), length-append (pushes (reverse p.temporaries)) (replicate p.formals (mov (push 1) (pop 2))))
+length-prelude_words p = length-prelude p.formals p.temporaries
 
 pub length-program_words : (L : Layout) (entry : ℕ) (p : Program) → length (program_words L entry p) ≡ program_size p
 unfolding program_words

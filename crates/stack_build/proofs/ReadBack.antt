@@ -7,13 +7,12 @@ use Rattle.std.proofs.lemmas.List.{length-map}
 use Rattle.fm_words.specs.Word.{signed_of, word_of_int}
 use Rattle.fm_words.proofs.WordLaws.{signed_of-word_of_int, is_int_from_fits}
 use Rattle.fm_machine.specs.State.{Fm, word_at}
-use Rattle.fm_machine.specs.Holds.{Holds}
-use Rattle.fm_machine.proofs.Rows.{moved}
+use Rattle.fm_code.specs.Execution.{Holds}
 use Rattle.stack_build.specs.Image.{slots_from}
 use Rattle.display_maps.specs.declared.shown.Shown.{Shown}
 use Rattle.display_maps.specs.declared.shown.Shown.TheVariants.{Number}
 use Rattle.display_maps.specs.Reading.{word_of, item_of, variable_of}
-use Rattle.stack_build.proofs.Laying.{Holds-moved}
+use Rattle.stack_build.proofs.Laying.{moved, Holds-moved}
 
 -- the word at an address that is read
 pub word_of_read : (s : Fm) (a w : ℕ) → word_at s.base s.memory a ≡ Some w → word_of s a ≡ w

@@ -2,11 +2,9 @@
 use Rattle.std.proofs.Common.{◌≡◌, ◌<◌, ◌≤◌, ◌+◌, ◌-◌, ◌^◌, ℕ, ℤ, List, [], ◌∷◌, ◌++◌, length, map, refl, sym, subst, ◌∙◌, arith, zero-add, append_assoc, length-append}
 use Rattle.std.specs.Prelude.{replicate}
 use Rattle.std.proofs.lemmas.List.{length-replicate, length-map}
-use Rattle.fm_machine.specs.Words.{halt_word}
-use Rattle.fm_machine.specs.Holds.{Layout as Parts, IsLayout, Holds, CodeAt, final_pc}
-use Rattle.fm_machine.proofs.CodeWords.{code_whole, code_front, code_behind}
-use Rattle.fm_machine.proofs.Rows.{moved, length-moved}
-use Rattle.fm_machine.proofs.Ends.{IsLaid}
+use Rattle.fm_code.specs.Words.{halt_word}
+use Rattle.fm_code.specs.Execution.{Parts, AreParts, Holds, CodeAt, final_pc, HasView, view}
+use Rattle.fm_code.proofs.CodeLaws.{code_whole, code_front, code_after}
 use Rattle.stack_build.specs.declared.piton.Instruction.{Instruction}
 use Rattle.stack_build.specs.declared.piton.Program.{Program}
 use Rattle.stack_build.specs.declared.piton.System.{System}
@@ -18,7 +16,7 @@ use Rattle.fm_words.specs.Word.{word_of_int}
 use Rattle.fm_loader.specs.Loaded.{with_words, with_values, loaded}
 use Rattle.stack_build.specs.Meaning.{integer}
 use Rattle.stack_build.proofs.Placing.{length-template, length-prelude_words, length-program_words, length-code_words, length-placed_words}
-use Rattle.stack_build.proofs.Laying.{Holds-front, Holds-behind, Holds-append, length-with_words, length-with_values, words_stand, values_above, values_stand}
+use Rattle.stack_build.proofs.Laying.{moved, length-moved, Holds-front, Holds-behind, Holds-append, length-with_words, length-with_values, words_stand, values_above, values_stand}
 
 -- the parts of a system's window
 abbrev pub parts_of : System → Parts
@@ -36,8 +34,8 @@ parts_of system =
 pub final_pc-parts_of : (system : System) → final_pc (parts_of system) ≡ (layout_of system).final_pc
 final_pc-parts_of system = let e = length-code_words system in omega arith
 
-pub is_layout : (system : System) → (layout_of system).end < 2 ^ 32 → IsLayout (parts_of system)
-is_layout system fits =
+pub are_parts : (system : System) → (layout_of system).end < 2 ^ 32 → AreParts (parts_of system)
+are_parts system fits =
     let e = final_pc-parts_of system in
     record { code_below = omega arith; areas_below = omega arith; ctrl_below = omega arith; temp_below = omega arith; fits = fits }
 
@@ -72,7 +70,8 @@ module _ (names : List (List ℕ)) (system : System) (values : List ℤ) (room :
       let same = length-with_words 0 (placed_words system) zeros in
       values_stand names ((layout_of system).end - 1) ((layout_of system).end - length names) values (with_words 0 0 (placed_words system) zeros) [] many (omega arith) (omega arith) (omega arith) tt
 
-  pub is_laid : system.variables ≡ length names → IsLaid (parts_of system) (loaded (image_of names system) (map integer values)) ((layout_of system).temporary_start - 2 - length system.main.temporaries) (prelude_size system.main) (first_frame system) (moved (map word_of_int values) []) (2 ∷ [])
+  pub is_laid : system.variables ≡ length names → HasView (parts_of system) (loaded (image_of names system) (map integer values))
+      (view ((layout_of system).temporary_start - 2 - length system.main.temporaries) (prelude_size system.main) (first_frame system) (moved (map word_of_int values) []) (2 ∷ []))
   unfolding placed_words
   is_laid same =
       let m : List ℕ = memory_of names system values in
@@ -111,7 +110,7 @@ pub instruction_stands : (L : Parts) (layout : Layout) (entry : ℕ) (p : Progra
 unfolding words_at
 instruction_stands L layout entry p address i is code =
     let rest : List ℕ = words_at layout entry p (address + size_of i) is in
-    (code_front L address (template layout entry p address i) rest code, subst (λ n. CodeAt L (address + n) rest) (length-template layout entry p address i) (code_behind L address (template layout entry p address i) rest code))
+    (code_front L address (template layout entry p address i) rest code, subst (λ n. CodeAt L (address + n) rest) (length-template layout entry p address i) (code_after L address (template layout entry p address i) rest code))
 
 -- a program's prelude, and the words of its instructions
 pub program_stands : (L : Parts) (layout : Layout) (entry : ℕ) (p : Program) → CodeAt L entry (program_words layout entry p)
@@ -119,7 +118,7 @@ pub program_stands : (L : Parts) (layout : Layout) (entry : ℕ) (p : Program) �
 unfolding program_words
 program_stands L layout entry p code =
     let rest : List ℕ = words_at layout entry p (entry + prelude_size p) p.instructions in
-    (code_front L entry (prelude_words p) rest code, subst (λ n. CodeAt L (entry + n) rest) (length-prelude_words p) (code_behind L entry (prelude_words p) rest code))
+    (code_front L entry (prelude_words p) rest code, subst (λ n. CodeAt L (entry + n) rest) (length-prelude_words p) (code_after L entry (prelude_words p) rest code))
 
 -- both programs of a system
 pub main_stands : (system : System) → CodeAt (parts_of system) 0 (program_words (layout_of system) 0 system.main)
@@ -129,4 +128,4 @@ main_stands system =
 pub assignment_stands : (system : System) → CodeAt (parts_of system) (layout_of system).assignment (program_words (layout_of system) (layout_of system).assignment system.assignment)
 assignment_stands system =
     let e : 0 + length (program_words (layout_of system) 0 system.main) ≡ program_size system.main = let k = length-program_words (layout_of system) 0 system.main in omega arith in
-    subst (λ a. CodeAt (parts_of system) a (program_words (layout_of system) (layout_of system).assignment system.assignment)) e (code_behind (parts_of system) 0 (program_words (layout_of system) 0 system.main) (program_words (layout_of system) (layout_of system).assignment system.assignment) (code_whole (parts_of system)))
+    subst (λ a. CodeAt (parts_of system) a (program_words (layout_of system) (layout_of system).assignment system.assignment)) e (code_after (parts_of system) 0 (program_words (layout_of system) 0 system.main) (program_words (layout_of system) (layout_of system).assignment system.assignment) (code_whole (parts_of system)))

@@ -3,9 +3,11 @@ use Rattle.std.proofs.Common.{◌≡◌, ◌<◌, ◌≤◌, ◌+◌, ◌-◌, �
 use Rattle.std.specs.Prelude.{slice_get, slice_set}
 use Rattle.std.specs.List.{range_with_len}
 use Rattle.fm_machine.specs.State.{Fm}
-use Rattle.fm_machine.specs.Words.{reg, at, pop, next_word, mov, add, sub}
-use Rattle.fm_machine.specs.Holds.{Layout as Parts, CodeAt}
-use Rattle.fm_machine.proofs.Rows.{Reaches, push_local, push_constant, call, deposit_temp_stk, ret, jump, no_op}
+use Rattle.fm_code.specs.Templates.{deposit_temp_stk_code, ret_code}
+use Rattle.fm_code.specs.Execution.{Parts, CodeAt}
+use Rattle.fm_code.proofs.RunLaws.{RunsToView, with_count}
+use Rattle.fm_code.proofs.MoveLaws.{push_local, push_constant, deposit_temp_stk, no_op}
+use Rattle.fm_code.proofs.JumpLaws.{call, ret, jump}
 use Rattle.fm_words.specs.Word.{word_of_int}
 use Rattle.stack_build.specs.declared.source.Statement.TheVariants as statement
 use Rattle.stack_build.specs.declared.source.OneStatement.{OneStatement}
@@ -16,17 +18,16 @@ use Rattle.stack_build.specs.Piton.{size_of_all, prelude_size, template, words_a
 use Rattle.stack_build.specs.Placed.{main_of, assignment}
 use Rattle.stack_build.proofs.Standing.{instruction_stands}
 
--- the program counter, written otherwise
-pub with_pc : {L : Parts} {n : ℕ} {s : Fm} {f pc pc' : ℕ} {ctrl temp areas : List ℕ} → Reaches L n s f pc ctrl temp areas → pc ≡ pc' → Reaches L n s f pc' ctrl temp areas
-with_pc {L} {n} {s} {f} {ctrl = ctrl} {temp = temp} {areas = areas} h e =
-    subst (λ a. Reaches L n s f a ctrl temp areas) e h
+-- the program counter, written another way
+pub with_pc : {L : Parts} {n : ℕ} {s : Fm} {f pc pc' : ℕ} {ctrl temp areas : List ℕ} → RunsToView L n s f pc ctrl temp areas → pc ≡ pc' → RunsToView L n s f pc' ctrl temp areas
+with_pc h e = with_count h refl e
 
 -- what the predefined procedure does: its second formal is stored in the variable of its first, and it returns
 pub assigned : {L : Parts} (layout : Layout) {n : ℕ} {s : Fm} {f : ℕ} (variable number older back : ℕ) {ctrl temp areas : List ℕ}
-    → Reaches L n s f (layout.assignment + 4) (variable ∷ number ∷ older ∷ back ∷ ctrl) temp areas
+    → RunsToView L n s f (layout.assignment + 4) (variable ∷ number ∷ older ∷ back ∷ ctrl) temp areas
     → CodeAt L (layout.assignment + 4) (words_at layout layout.assignment assignment (layout.assignment + 4) assignment.instructions)
     → f + length (variable ∷ number ∷ older ∷ back ∷ ctrl) ≡ L.temp_at → L.temp_at + length temp + 2 ≤ L.end → layout.end ≡ L.end → variable < length temp
-    → Reaches L (n + 3 + 3 + 3 + 4) s older back ctrl (slice_set temp (length temp - 1 - variable) number) areas
+    → RunsToView L (n + 3 + 3 + 3 + 4) s older back ctrl (slice_set temp (length temp - 1 - variable) number) areas
 unfolding template
 assigned {L} layout variable number older back {ctrl} {temp} h code top room end below =
     let entry : ℕ = layout.assignment in
@@ -36,7 +37,7 @@ assigned {L} layout variable number older back {ctrl} {temp} h code top room end
     let c4 = instruction_stands L layout entry assignment (entry + 4 + 4 + 4 + 4) Ret [] c3.1 in
     let h1 = push_local 1 number h c1.0 refl top (omega arith) in
     let h2 = push_local 0 variable h1 c2.0 refl top (omega arith) in
-    let deposit = subst (λ n. CodeAt L (entry + 4 + 4 + 4) (mov (reg 3) next_word ∷ (n - 1) ∷ sub (reg 3) (pop 2) ∷ mov (at 3) (pop 2) ∷ [])) end c3.0 in
+    let deposit = subst (λ n. CodeAt L (entry + 4 + 4 + 4) (deposit_temp_stk_code n)) end c3.0 in
     let h3 = deposit_temp_stk variable number h2 deposit below in
     ret older back (variable ∷ number ∷ []) h3 c4.0 top
 
@@ -52,12 +53,12 @@ index_at a (suc n) (suc i) rest lt = let e : a + 1 + i ≡ a + suc i = omega ari
 
 module _ {L : Parts} (layout : Layout) (source : OneStatement) {s : Fm} {f : ℕ} (final : ℕ) {temp areas : List ℕ} where
   -- the return from the main procedure
-  leaves : {n pc : ℕ} → Reaches L n s f pc (frame_of source final) temp areas → CodeAt L pc (template layout 0 (main_of source) pc Ret)
-      → f + length (frame_of source final) ≡ L.temp_at → Reaches L (n + 4) s 0 final [] temp areas
+  leaves : {n pc : ℕ} → RunsToView L n s f pc (frame_of source final) temp areas → CodeAt L pc (template layout 0 (main_of source) pc Ret)
+      → f + length (frame_of source final) ≡ L.temp_at → RunsToView L (n + 4) s 0 final [] temp areas
   unfolding template
   leaves {n} {pc} h code top =
       let many : 0 + length (range_with_len 0 (length source.variables)) ≡ length (range_with_len 0 (length source.variables)) = omega arith in
-      ret 0 final (range_with_len 0 (length source.variables)) h (subst (λ k. CodeAt L pc (mov (reg 1) (reg 0) ∷ add (reg 1) next_word ∷ k ∷ mov (reg 0) (pop 1) ∷ mov (reg 15) (pop 1) ∷ [])) many code) top
+      ret 0 final (range_with_len 0 (length source.variables)) h (subst (λ k. CodeAt L pc (ret_code k)) many code) top
 
 -- a source of variables and a statement
 abbrev pub doing_nothing : List (List ℕ) → OneStatement
@@ -68,10 +69,10 @@ assigning variables variable number = record { variables = variables; statement 
 
 -- the no-op, the jump over the exit of a raise, and the return
 pub passes : {L : Parts} (layout : Layout) (variables : List (List ℕ)) {s : Fm} {f : ℕ} (a final : ℕ) {temp areas : List ℕ} → a ≡ 0 + prelude_size (main_of (doing_nothing variables))
-    → Reaches L 0 s f a (frame_of (doing_nothing variables) final) temp areas
+    → RunsToView L 0 s f a (frame_of (doing_nothing variables) final) temp areas
     → CodeAt L a (words_at layout 0 (main_of (doing_nothing variables)) a (main_of (doing_nothing variables)).instructions)
     → f + length (frame_of (doing_nothing variables) final) ≡ L.temp_at
-    → Reaches L 6 s 0 final [] temp areas
+    → RunsToView L 6 s 0 final [] temp areas
 unfolding template size_of_all
 passes {L} layout variables {s} {f} a final {temp} {areas} start h code top =
     let source : OneStatement = doing_nothing variables in
@@ -88,13 +89,13 @@ passes {L} layout variables {s} {f} a final {temp} {areas} start h code top =
 
 -- both arguments pushed, the call, the jump over the exit of a raise, and the return
 pub assigns : {L : Parts} (layout : Layout) (variables : List (List ℕ)) (variable : ℕ) (number : ℤ) {s : Fm} {f : ℕ} (a final : ℕ) {temp areas : List ℕ} → a ≡ 0 + prelude_size (main_of (assigning variables variable number))
-    → Reaches L 0 s f a (frame_of (assigning variables variable number) final) temp areas
+    → RunsToView L 0 s f a (frame_of (assigning variables variable number) final) temp areas
     → CodeAt L a (words_at layout 0 (main_of (assigning variables variable number)) a (main_of (assigning variables variable number)).instructions)
     → CodeAt L layout.assignment (prelude_words assignment)
     → CodeAt L (layout.assignment + 4) (words_at layout layout.assignment assignment (layout.assignment + 4) assignment.instructions)
     → f + length (frame_of (assigning variables variable number) final) ≡ L.temp_at → L.ctrl_at + 4 ≤ f
     → L.temp_at + length temp + 2 ≤ L.end → layout.end ≡ L.end → variable < length variables → length temp ≡ length variables
-    → Reaches L 28 s 0 final [] (slice_set temp (length temp - 1 - variable) (word_of_int number)) areas
+    → RunsToView L 28 s 0 final [] (slice_set temp (length temp - 1 - variable) (word_of_int number)) areas
 unfolding template size_of_all prelude_words
 assigns {L} layout variables variable number {s} {f} a final {temp} {areas} start h code begins called top ctrl_room room end below many =
     let source : OneStatement = assigning variables variable number in
@@ -110,8 +111,8 @@ assigns {L} layout variables variable number {s} {f} a final {temp} {areas} star
     let there : slice_get (frame_of source final) variable ≡ Some variable = index_at 0 (length variables) variable (0 ∷ final ∷ []) below ∙ ap Some (zero-add variable) in
     let h1 = push_local variable variable h c1.0 there top (omega arith) in
     let h2 = push_constant (word_of_int number) h1 c2.0 (omega arith) in
-    let h3 = call (a + 4 + 2 + 4) layout.assignment (f - 4) (word_of_int number ∷ variable ∷ []) h2 c3.0 begins (omega arith) (omega arith) in
-    let inside : layout.assignment + 2 + 2 ≡ layout.assignment + 4 = omega arith in
+    let h3 = call (a + 4 + 2 + 4) layout.assignment (f - 4) (word_of_int number ∷ variable ∷ []) [] h2 c3.0 begins (omega arith) (omega arith) in
+    let inside : layout.assignment + 2 + 0 + 2 ≡ layout.assignment + 4 = omega arith in
     let h4 = assigned layout variable (word_of_int number) f (a + 4 + 2 + 4) (with_pc h3 inside) called (omega arith) room end (omega arith) in
     let h5 = jump (place_address 0 p 6) h4 c4.0 in
     leaves layout source final (with_pc h5 exit) c7.0 top

@@ -1,7 +1,7 @@
 -- The system that a program of one statement comes to, and where its parts stand.
 use Rattle.std.specs.Prelude.{ℕ, ◌+◌, ◌-◌, ◌≤◌, List, [], ◌∷◌, ◌++◌, length, replicate}
 use Rattle.std.specs.List.{range_with_len}
-use Rattle.fm_machine.specs.Words.{halt_word}
+use Rattle.fm_code.specs.Words.{halt_word}
 use Rattle.stack_build.specs.declared.source.Statement.{Statement}
 use Rattle.stack_build.specs.declared.source.Statement.TheVariants as statement
 use Rattle.stack_build.specs.declared.source.OneStatement.{OneStatement}

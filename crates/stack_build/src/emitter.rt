@@ -1,12 +1,12 @@
 //! The words of Piton programs.
-ghost use Rattle.std.specs.Prelude.{◌≡◌, ◌+◌, ◌*◌, ◌<◌, ◌≤◌, ◌++◌, length, replicate, reverse, OnOk};
-ghost use Rattle.std.specs.List.{flat_map};
-ghost use Rattle.fm_machine.specs.Words.{push, pop, next_word, mov};
-ghost use Rattle.stack_build.specs.Piton.{IsSmall, template, return_words, pushes, prelude_size, words_at, prelude_words, program_words};
+ghost use Rattle.std.specs.Prelude.{◌≡◌, ◌+◌, ◌*◌, ◌<◌, ◌≤◌, ◌++◌, length, replicate, OnOk};
+ghost use Rattle.fm_code.specs.Words.{push, pop, mov};
+ghost use Rattle.fm_code.specs.Templates.{ret_code, temporaries_code};
+ghost use Rattle.stack_build.specs.Piton.{IsSmall, template, prelude_size, words_at, prelude_words, program_words};
 
 use crate::layout::Layout;
 use crate::piton::{Instruction, Program};
-use crate::words::{add, at, mov, next_word, pop, push, reg, sub};
+use fm_code::word::{add, at, literal, literal_at, mov, pop, push, reg, sub};
 use fm_words::word_of_int;
 use stack_text::Memory;
 
@@ -23,44 +23,40 @@ fn emit(
     requires small { IsSmall program.now }
     requires low { entry ≤ 10000 }
     requires near { address ≤ 20000 }
-    requires end { 0 < layout.now.end }
     ensures { OnOk result (out.new.items ≡ out.old.items ++ template layout.now entry program.now address instruction) }
 {
     match instruction {
         Instruction::NoOp => out.push(mov(reg(3), reg(3)))?,
         Instruction::PushInt(number) => out.extend_from_slice(&[
-            mov(push(2), next_word()),
+            mov(push(2), literal()),
             word_of_int(number),
         ])?,
-        Instruction::PushNat(number) => out.extend_from_slice(&[
-            mov(push(2), next_word()),
-            number,
-        ])?,
+        Instruction::PushNat(number) => out.extend_from_slice(&[mov(push(2), literal()), number])?,
         Instruction::PushLocal(offset) => out.extend_from_slice(&[
-            mov(reg(3), next_word()),
+            mov(reg(3), literal()),
             offset,
             add(reg(3), reg(0)),
             mov(push(2), at(3)),
         ])?,
         Instruction::PopGlobal => out.extend_from_slice(&[
-            mov(reg(3), next_word()),
+            mov(reg(3), literal()),
             layout.condition,
             mov(at(3), pop(2)),
         ])?,
         Instruction::DepositTempStk => out.extend_from_slice(&[
-            mov(reg(3), next_word()),
-            layout.end - 1,
+            mov(reg(3), literal()),
+            layout.end.wrapping_sub(1),
             sub(reg(3), pop(2)),
             mov(at(3), pop(2)),
         ])?,
         Instruction::Call => out.extend_from_slice(&[
-            mov(push(1), next_word()),
+            mov(push(1), literal()),
             address + 4,
-            mov(reg(15), at(15)),
+            mov(reg(15), literal_at()),
             layout.assignment,
         ])?,
         Instruction::Jump(place) => out.extend_from_slice(&[
-            mov(reg(15), at(15)),
+            mov(reg(15), literal_at()),
             program.address_of(entry, place),
         ])?,
         Instruction::Ret => emit_return(out, program)?,
@@ -71,24 +67,25 @@ fn emit(
 /// The words of a return.
 fn emit_return(out: &mut Vec<u32>, program: &Program) -> Result<(), Memory>
     requires { IsSmall program.now }
-    ensures { OnOk result (out.new.items ≡ out.old.items ++ return_words program.now) }
+    ensures { OnOk result (out.new.items ≡ out.old.items ++ ret_code (program.now.formals + length program.now.temporaries)) }
 {
     let locals = program.formals + program.temporaries.len() as u32;
     Ok(out.extend_from_slice(&[
         mov(reg(1), reg(0)),
-        add(reg(1), next_word()),
+        add(reg(1), literal()),
         locals,
         mov(reg(0), pop(1)),
         mov(reg(15), pop(1)),
     ])?)
 }
 
-/// Pushes of words, of which the last comes first.
+/// The pushes of a program's temporaries, the last one first.
+#[tactic(auto, using(crate::proofs::Emitted::pushes_are))]
 fn emit_temporaries(out: &mut Vec<u32>, temporaries: &[u32]) -> Result<(), Memory>
-    ensures { OnOk result (out.new.items ≡ out.old.items ++ pushes (reverse temporaries.now)) }
+    ensures { OnOk result (out.new.items ≡ out.old.items ++ temporaries_code temporaries.now) }
 {
     for word in temporaries.iter().rev() {
-        out.extend_from_slice(&[mov(push(1), next_word()), *word])?;
+        out.extend_from_slice(&[mov(push(1), literal()), *word])?;
     }
     Ok(())
 }
@@ -124,7 +121,6 @@ fn emit_instructions(
 ) -> Result<(), Memory>
     requires small { IsSmall program.now }
     requires low { entry ≤ 10000 }
-    requires end { 0 < layout.now.end }
     ensures { OnOk result (out.new.items ≡ out.old.items
         ++ words_at layout.now entry program.now (entry + prelude_size program.now) program.now.instructions) }
 {
@@ -146,7 +142,6 @@ pub fn emit_program(
 ) -> Result<(), Memory>
     requires small { IsSmall program.now }
     requires low { entry ≤ 10000 }
-    requires end { 0 < layout.now.end }
     ensures { OnOk result (out.new.items ≡ out.old.items ++ program_words layout.now entry program.now) }
 {
     emit_prelude(out, program)?;

@@ -18,7 +18,6 @@ mod placer;
 mod source;
 #[cfg(test)]
 mod tests;
-mod words;
 
 pub use building::{Built, build};
 pub use fault::BuildFault;

@@ -8,7 +8,7 @@ ghost use Rattle.stack_build.specs.Source.{AreVariables};
 use crate::emitter::emit_program;
 use crate::layout::{Layout, layout_of};
 use crate::piton::System;
-use crate::words::HALT_WORD;
+use fm_code::word::HALT_WORD;
 use fm_image::{Image, Slot};
 use fm_words::Flags;
 use stack_text::{Kind, Memory, Name, Seq, Shape};

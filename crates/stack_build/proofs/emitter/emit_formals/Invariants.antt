@@ -1,6 +1,6 @@
 use Rattle.std.proofs.Common.{◌≡◌, ◌++◌}
 use Rattle.std.specs.Prelude.{replicate}
-use Rattle.fm_machine.specs.Words.{mov, push, pop}
+use Rattle.fm_code.specs.Words.{mov, push, pop}
 use Rattle.stack_build.proofs.emitter.emit_formals.Given as goal
 
 -- so many formals are moved

@@ -1,5 +1,5 @@
 use Rattle.std.proofs.Common.{◌≡◌, ◌++◌, map}
-use Rattle.stack_build.specs.Piton.{pushes}
+use Rattle.stack_build.proofs.Emitted.{pushes}
 use Rattle.stack_build.proofs.emitter.emit_temporaries.Given as goal
 
 -- the words so far are pushed
