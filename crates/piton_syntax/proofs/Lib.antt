@@ -9,3 +9,4 @@ pub mod PrintingLaws
 pub mod KeepsLaws
 pub mod FitsLaws
 pub mod MadeLaws
+pub mod SizeLaws

@@ -6,3 +6,4 @@ pub mod Grammar
 pub mod Printed
 pub mod Answers
 pub mod Fits
+pub mod Sizes
