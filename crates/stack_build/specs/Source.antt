@@ -132,8 +132,3 @@ IsStatement (Assign variable number) count = (variable < count) × FitsSigned w3
 pub record IsSource (source : OneStatement) : Type 0 where
   pub variables : AreVariables source.variables
   pub statement : IsStatement source.statement (length source.variables)
-
--- with these in front
-abbrev pub with_front : {A : Type 0} → List A → Option (List A) → Option (List A)
-with_front front None = None
-with_front front (Some others) = Some (front ++ others)

@@ -1,6 +1,7 @@
 use Rattle.std.proofs.Common.{◌≡◌, drop}
 use Rattle.stack_text.specs.TreeView.{nodes_of}
-use Rattle.stack_build.specs.Source.{declarations_of, with_front}
+use Rattle.stack_text.proofs.OptionLoops.{with_front}
+use Rattle.stack_build.specs.Source.{declarations_of}
 use Rattle.stack_build.proofs.source.declarations_of.Given as goal
 
 -- the names so far, and those that are still to come, are those of the list
