@@ -61,6 +61,103 @@ fn fault_of(alloc: Global, bytes: &[u8]) -> Result<Option<(u8, u64)>, Fail> {
     }
 }
 
+/// Whole files, each with its fault.
+const OPENINGS: &[(&[u8], Option<(u8, u64)>)] = &[
+    (b"FM92", Some((1, 0))),
+    (b"fm91\0\0\0\x02", Some((1, 0))),
+    (b"GM9", Some((3, 3))),
+    (b"FM91\0\0\0\x02", Some((2, 4))),
+    (b"FM91\0\0\0\0", Some((2, 4))),
+];
+
+/// Another number at an index of the fields, with the fault of that file.
+const NUMBERS: &[(usize, u32, Option<(u8, u64)>)] = &[
+    (0, 2, Some((2, 4))),
+    (1, 1, None),
+    (1, 4_294_967_285, Some((5, 12))),
+    (1, 4_294_967_284, Some((5, 16))),
+    (2, 0, Some((5, 12))),
+    (2, 1_048_576, None),
+    (2, 1_048_577, Some((5, 12))),
+    (3, 10, None),
+    (3, 11, Some((5, 16))),
+    (20, 15, None),
+    (20, 16, Some((5, 84))),
+    (21, 10, None),
+    (21, 11, Some((7, 88))),
+    (21, 4_294_967_294, Some((7, 88))),
+    (22, 200, Some((6, 96))),
+    (22, 201, Some((5, 92))),
+    (23, 201, Some((5, 96))),
+    (24, 9, Some((4, 140))),
+    (24, 11, Some((3, 144))),
+    (24, 12, Some((5, 100))),
+];
+
+/// Other bytes after the condition address, from place 92 on, with the fault of that file.
+const TAILS: &[(&[u8], Option<(u8, u64)>)] = &[
+    // Names of conditions.
+    (b"\xff\xff\xff\xff", Some((5, 92))),
+    (b"\0\0\0\x01\0\0\0\0", Some((6, 96))),
+    (b"\0\0\0\x01\0\0\0\x41", Some((6, 96))),
+    (b"\0\0\0\x01\0\0\0\x04true", Some((6, 96))),
+    (b"\0\0\0\x01\0\0\0\x04tru", Some((3, 103))),
+    (b"\0\0\0\x02\0\0\0\x01a\0\0\0\x01(", Some((6, 101))),
+    (b"\0\0\0\x02\0\0\0\x01a\0\0\0\x01a", Some((8, 101))),
+    // Slots: simple types in the window, and one past it on either side.
+    (
+        b"\0\0\0\0\0\0\0\x01\0\0\0\x01a\0\0\0\x00\0\0\0\0\0\0\0\x0a\0\0\0\0",
+        None,
+    ),
+    (
+        b"\0\0\0\0\0\0\0\x01\0\0\0\x01a\0\0\0\x00\0\0\0\0\0\0\0\x0b",
+        Some((7, 113)),
+    ),
+    // Kinds and lengths.
+    (
+        b"\0\0\0\0\0\0\0\x01\0\0\0\x01a\0\0\0\x03\0\0\0\0\0\0\0\x0a",
+        Some((5, 105)),
+    ),
+    (
+        b"\0\0\0\0\0\0\0\x01\0\0\0\x01a\0\0\0\x02\0\0\x10\x01\0\0\0\x0a",
+        Some((5, 109)),
+    ),
+    (
+        b"\0\0\0\0\0\0\0\x01\0\0\0\x01a\0\0\0\x01\0\0\x10\x00\0\0\0\x0a",
+        Some((7, 113)),
+    ),
+    // An array of all words of the window, and the same one address too low.
+    (
+        b"\0\0\0\0\0\0\0\x01\0\0\0\x01a\0\0\0\x02\0\0\0\x0b\0\0\0\x0a\0\0\0\0",
+        None,
+    ),
+    (
+        b"\0\0\0\0\0\0\0\x01\0\0\0\x01a\0\0\0\x00\0\0\0\x0b\0\0\0\x09",
+        Some((7, 113)),
+    ),
+    // Two slots of one name; a condition and a slot of one name.
+    (
+        b"\0\0\0\0\0\0\0\x02\0\0\0\x01a\0\0\0\x00\0\0\0\0\0\0\0\x0a\0\0\0\x01a",
+        Some((8, 117)),
+    ),
+    (
+        b"\0\0\0\x01\0\0\0\x01a\0\0\0\x01\0\0\0\x01a\0\0\0\x00\0\0\0\0\0\0\0\x0a\0\0\0\0",
+        None,
+    ),
+];
+
+fn openings() -> &'static [(&'static [u8], Option<(u8, u64)>)] {
+    OPENINGS
+}
+
+fn numbers() -> &'static [(usize, u32, Option<(u8, u64)>)] {
+    NUMBERS
+}
+
+fn tails() -> &'static [(&'static [u8], Option<(u8, u64)>)] {
+    TAILS
+}
+
 /// The fault of the file with another number at an index.
 fn fault_with(alloc: Global, index: usize, number: u32) -> Result<Option<(u8, u64)>, Fail> {
     let mut fields = FIELDS;
@@ -70,7 +167,7 @@ fn fault_with(alloc: Global, index: usize, number: u32) -> Result<Option<(u8, u6
     fault_of(alloc, &file_of(alloc, &fields)?)
 }
 
-/// The fault of the file with other bytes after its condition address, from place 92 on.
+/// The fault of the file with other bytes after its condition address.
 fn fault_after(alloc: Global, tail: &[u8]) -> Result<Option<(u8, u64)>, Fail> {
     let mut bytes = Vec::new(alloc);
     for byte in file_of(alloc, &FIELDS)?.iter().take(92) {
@@ -110,118 +207,19 @@ fn ends_nowhere_else(rt: HostRuntime) -> Result<(), Fail> {
 }
 
 #[test]
-fn wants_its_magic(rt: HostRuntime) -> Result<(), Fail> {
-    assert!(rt; fault_of(rt.alloc(), b"FM92")? == Some((1, 0)));
-    assert!(rt; fault_of(rt.alloc(), b"fm91\0\0\0\x02")? == Some((1, 0)));
-    assert!(rt; fault_of(rt.alloc(), b"GM9")? == Some((3, 3)));
-    assert!(rt; fault_of(rt.alloc(), b"FM91\0\0\0\x02")? == Some((2, 4)));
-    Ok(())
-}
-
-#[test]
-fn keeps_the_limits_of_numbers(rt: HostRuntime) -> Result<(), Fail> {
-    let cases = [
-        (0, 2, Some((2, 4))),
-        (1, 1, None),
-        (1, 4_294_967_285, Some((5, 12))),
-        (1, 4_294_967_284, Some((5, 16))),
-        (2, 0, Some((5, 12))),
-        (2, 1_048_576, None),
-        (2, 1_048_577, Some((5, 12))),
-        (3, 10, None),
-        (3, 11, Some((5, 16))),
-        (20, 15, None),
-        (20, 16, Some((5, 84))),
-        (21, 10, None),
-        (21, 11, Some((7, 88))),
-        (21, 4_294_967_294, Some((7, 88))),
-        (22, 200, Some((6, 96))),
-        (22, 201, Some((5, 92))),
-        (23, 201, Some((5, 96))),
-        (24, 9, Some((4, 140))),
-        (24, 11, Some((3, 144))),
-        (24, 12, Some((5, 100))),
-    ];
-    for (index, number, fault) in cases {
+fn refuses_by_the_first_rule(rt: HostRuntime) -> Result<(), Fail> {
+    for (bytes, fault) in openings() {
+        assert!(rt; fault_of(rt.alloc(), bytes)? == *fault, "{bytes:?}");
+    }
+    for (index, number, fault) in numbers() {
         assert!(rt;
-            fault_with(rt.alloc(), index, number)? == fault,
+            fault_with(rt.alloc(), *index, *number)? == *fault,
             "{number} at field {index}"
         );
     }
-    Ok(())
-}
-
-#[test]
-fn reads_names_of_conditions(rt: HostRuntime) -> Result<(), Fail> {
-    let alloc = rt.alloc();
-    assert!(rt; fault_after(alloc, b"\xff\xff\xff\xff")? == Some((5, 92)));
-    assert!(rt; fault_after(alloc, b"\0\0\0\x01\0\0\0\0")? == Some((6, 96)));
-    assert!(rt; fault_after(alloc, b"\0\0\0\x01\0\0\0\x41")? == Some((6, 96)));
-    assert!(rt; fault_after(alloc, b"\0\0\0\x01\0\0\0\x04true")? == Some((6, 96)));
-    assert!(rt; fault_after(alloc, b"\0\0\0\x01\0\0\0\x04tru")? == Some((3, 103)));
-    assert!(rt; fault_after(alloc, b"\0\0\0\x02\0\0\0\x01a\0\0\0\x01(")? == Some((6, 101)));
-    assert!(rt; fault_after(alloc, b"\0\0\0\x02\0\0\0\x01a\0\0\0\x01a")? == Some((8, 101)));
-    Ok(())
-}
-
-#[test]
-fn reads_slots(rt: HostRuntime) -> Result<(), Fail> {
-    let alloc = rt.alloc();
-    assert!(rt;
-        fault_after(
-            alloc,
-            b"\0\0\0\0\0\0\0\x01\0\0\0\x01a\0\0\0\x00\0\0\x00\x00\0\0\0\x0a\0\0\0\0"
-        )? == None
-    );
-    assert!(rt;
-        fault_after(
-            alloc,
-            b"\0\0\0\0\0\0\0\x01\0\0\0\x01a\0\0\0\x03\0\0\x00\x00\0\0\0\x0a"
-        )? == Some((5, 105))
-    );
-    assert!(rt;
-        fault_after(
-            alloc,
-            b"\0\0\0\0\0\0\0\x01\0\0\0\x01a\0\0\0\x02\0\0\x10\x01\0\0\0\x0a"
-        )? == Some((5, 109))
-    );
-    assert!(rt;
-        fault_after(
-            alloc,
-            b"\0\0\0\0\0\0\0\x01\0\0\0\x01a\0\0\0\x01\0\0\x10\x00\0\0\0\x0a"
-        )? == Some((7, 113))
-    );
-    assert!(rt;
-        fault_after(
-            alloc,
-            b"\0\0\0\0\0\0\0\x01\0\0\0\x01a\0\0\0\x02\0\0\x00\x0b\0\0\0\x0a\0\0\0\0"
-        )? == None
-    );
-    assert!(rt;
-        fault_after(
-            alloc,
-            b"\0\0\0\0\0\0\0\x01\0\0\0\x01a\0\0\0\x00\0\0\x00\x0b\0\0\0\x09"
-        )? == Some((7, 113))
-    );
-    assert!(rt;
-        fault_after(
-            alloc,
-            b"\0\0\0\0\0\0\0\x01\0\0\0\x01a\0\0\0\x00\0\0\x00\x00\0\0\0\x0b"
-        )? == Some((7, 113))
-    );
-    assert!(rt;
-        fault_after(
-            alloc,
-            b"\0\0\0\0\0\0\0\x02\0\0\0\x01a\0\0\0\x00\0\0\x00\x00\0\0\0\x0a\0\0\0\x01a"
-        )? == Some((8, 117))
-    );
-    // A condition and a slot may have one name.
-    assert!(rt;
-        fault_after(
-            alloc,
-            b"\0\0\0\x01\0\0\0\x01a\0\0\0\x01\0\0\0\x01a\0\0\0\x00\0\0\x00\x00\0\0\0\x0a\0\0\0\0"
-        )? == None
-    );
+    for (tail, fault) in tails() {
+        assert!(rt; fault_after(rt.alloc(), tail)? == *fault, "{tail:?}");
+    }
     Ok(())
 }
 

@@ -46,14 +46,68 @@ fn fault_of(
     }
 }
 
-/// Each text with the rule that it breaks and the place.
+/// Texts for the integers, with the rule that each breaks and the place.
+const OF_INTEGERS: &[(&[u8], u8, u32)] = &[
+    // The least rule of an entry.
+    (b"((x 0) (i 0))", 4, 0),
+    (b"((x 0) (x 1))", 3, 7),
+    (b"((q 0))", 2, 1),
+    (b"((a (1 2)))", 6, 1),
+    (b"((x 2147483648))", 7, 1),
+    (b"((x true))", 5, 1),
+    (b"x", 1, 0),
+    (b"((x 0) (x true))", 3, 7),
+    (b"((x -2147483649))", 7, 1),
+    (b"((x 170141183460469231731687303715884105728))", 7, 1),
+    (b"((x ()))", 5, 1),
+    (b"((a 1))", 5, 1),
+    (b"((a ()))", 6, 1),
+    (b"((a (1 2 true)))", 5, 1),
+    (b"((a (1 true)))", 5, 1),
+    (b"((a (1 2147483648)))", 6, 1),
+    (b"((a (1 2 2147483648)))", 7, 1),
+    // What is no list of entries.
+    (b"(\x01", 1, 1),
+    (b"((x 0)", 1, 0),
+    (b" )", 1, 1),
+    (b"() x", 1, 3),
+    (b" ; (\n", 1, 5),
+    (b"((x 0) i)", 1, 7),
+    (b"((x))", 1, 1),
+    (b"((x 0 0))", 1, 1),
+    (b"(((x) 0))", 1, 1),
+    (b"((true 0))", 1, 1),
+    (b"((q 0) (x +7))", 1, 7),
+    (b"((x #))", 1, 1),
+    (b"((a (1 (2) 3)))", 1, 1),
+    (b"; values\n(x)", 1, 10),
+];
+
+/// Texts for the other slots.
+const OF_OTHERS: &[(&[u8], u8, u32)] = &[
+    (b"((c #128))", 7, 1),
+    (b"((c 65))", 5, 1),
+    (b"((b 1))", 5, 1),
+    (b"((s (#0 65)))", 5, 1),
+    (b"((s (#0 #127)) (c #65))", 4, 0),
+];
+
+fn of_integers() -> &'static [(&'static [u8], u8, u32)] {
+    OF_INTEGERS
+}
+
+fn of_others() -> &'static [(&'static [u8], u8, u32)] {
+    OF_OTHERS
+}
+
+/// Each text breaks its rule, at its place.
 fn faults_are(
     rt: &impl Abort,
     alloc: Global,
     image: &Image,
-    cases: &[(&[u8], u8, u32)],
+    rows: &[(&[u8], u8, u32)],
 ) -> Result<(), Fail> {
-    for (text, rule, place) in cases {
+    for (text, rule, place) in rows {
         let fault = fault_of(rt, alloc, image, text)?;
         assert!(rt; fault == Some((*rule, *place)), "{text:?}");
     }
@@ -62,67 +116,15 @@ fn faults_are(
 
 #[test]
 fn refuses_by_the_least_rule(rt: HostRuntime) -> Result<(), Fail> {
-    let image = image_with(rt.alloc(), INTEGERS)?;
-    let cases: [(&[u8], u8, u32); 17] = [
-        (b"((x 0) (i 0))", 4, 0),
-        (b"((x 0) (x 1))", 3, 7),
-        (b"((q 0))", 2, 1),
-        (b"((a (1 2)))", 6, 1),
-        (b"((x 2147483648))", 7, 1),
-        (b"((x true))", 5, 1),
-        (b"x", 1, 0),
-        (b"((x 0) (x true))", 3, 7),
-        (b"((x -2147483649))", 7, 1),
-        (b"((x 170141183460469231731687303715884105728))", 7, 1),
-        (b"((x ()))", 5, 1),
-        (b"((a 1))", 5, 1),
-        (b"((a ()))", 6, 1),
-        (b"((a (1 2 true)))", 5, 1),
-        (b"((a (1 true)))", 5, 1),
-        (b"((a (1 2147483648)))", 6, 1),
-        (b"((a (1 2 2147483648)))", 7, 1),
-    ];
-    faults_are(&rt, rt.alloc(), &image, &cases)
-}
-
-#[test]
-fn wants_a_list_of_entries(rt: HostRuntime) -> Result<(), Fail> {
-    let image = image_with(rt.alloc(), INTEGERS)?;
-    let cases: [(&[u8], u8, u32); 14] = [
-        (b"(\x01", 1, 1),
-        (b"((x 0)", 1, 0),
-        (b" )", 1, 1),
-        (b"() x", 1, 3),
-        (b" ; (\n", 1, 5),
-        (b"((x 0) i)", 1, 7),
-        (b"((x))", 1, 1),
-        (b"((x 0 0))", 1, 1),
-        (b"(((x) 0))", 1, 1),
-        (b"((true 0))", 1, 1),
-        (b"((q 0) (x +7))", 1, 7),
-        (b"((x #))", 1, 1),
-        (b"((a (1 (2) 3)))", 1, 1),
-        (b"; values\n(x)", 1, 10),
-    ];
-    faults_are(&rt, rt.alloc(), &image, &cases)?;
-    let deep = vec![in rt.alloc(); b'('; 201]?;
-    assert!(rt; fault_of(&rt, rt.alloc(), &image, &deep)? == Some((1, 200)));
-    Ok(())
-}
-
-#[test]
-fn judges_booleans_and_characters(rt: HostRuntime) -> Result<(), Fail> {
-    let image = image_with(rt.alloc(), OTHERS)?;
-    let cases: [(&[u8], u8, u32); 5] = [
-        (b"((c #128))", 7, 1),
-        (b"((c 65))", 5, 1),
-        (b"((b 1))", 5, 1),
-        (b"((s (#0 65)))", 5, 1),
-        (b"((s (#0 #127)) (c #65))", 4, 0),
-    ];
-    faults_are(&rt, rt.alloc(), &image, &cases)?;
+    let alloc = rt.alloc();
+    let integers = image_with(alloc, INTEGERS)?;
+    faults_are(&rt, alloc, &integers, of_integers())?;
+    let deep = vec![in alloc; b'('; 201]?;
+    assert!(rt; fault_of(&rt, alloc, &integers, &deep)? == Some((1, 200)));
+    let others = image_with(alloc, OTHERS)?;
+    faults_are(&rt, alloc, &others, of_others())?;
     let whole = b"((c #0065) (s (#10 #127)) (b true))";
-    assert!(rt; fault_of(&rt, rt.alloc(), &image, whole)? == None);
+    assert!(rt; fault_of(&rt, alloc, &others, whole)? == None);
     Ok(())
 }
 
