@@ -1,7 +1,7 @@
 -- Words and the integers that they are read as.
 use Rattle.std.proofs.Common.{◌≡◌, ℕ, ◌^◌, ◌<◌, true, arith}
 use Rattle.std.specs.Prelude.{ℤ, pos, negsuc, FitsSigned}
-use Rattle.std.specs.Int.{w32}
+use Rattle.std.specs.Int.{w32, cast_signed}
 use Rattle.std.proofs.lemmas.Bool.{ltb-true, lt-ltb}
 use Rattle.std.proofs.lemmas.Bool.Decides.{nat_tests}
 use Rattle.std.proofs.lemmas.Int.{ints}
@@ -16,7 +16,11 @@ signed_of-word_of_int (negsuc n) h = grind (arith, nat_tests, ints)
 pub word_of_int-signed_of : (word : ℕ) → word < 2 ^ 32 → word_of_int (signed_of word) ≡ word
 word_of_int-signed_of word h = grind (arith, nat_tests, ints)
 
--- those two, for attributes
+-- so is that of its reading as an `i32`
+pub word_of_int-cast_signed : (word : ℕ) → word < 2 ^ 32 → word_of_int (cast_signed w32 word) ≡ word
+word_of_int-cast_signed word h = grind (arith, nat_tests)
+
+-- the first two, for attributes
 pub ruleset readings = (signed_of-word_of_int, word_of_int-signed_of)
 
 -- a signed reading fits

@@ -67,7 +67,8 @@ fn emit(
 /// The words of a return.
 fn emit_return(out: &mut Vec<u32>, program: &Program) -> Result<(), Memory>
     requires { IsSmall program.now }
-    ensures { OnOk result (out.new.items ≡ out.old.items ++ ret_code (program.now.formals + length program.now.temporaries)) }
+    ensures { let locals = program.now.formals + length program.now.temporaries in
+        OnOk result (out.new.items ≡ out.old.items ++ ret_code locals) }
 {
     let locals = program.formals + program.temporaries.len() as u32;
     Ok(out.extend_from_slice(&[
