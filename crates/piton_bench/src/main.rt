@@ -1,8 +1,10 @@
-//! Reads Piton texts at the limits of the form, prints what was read, and says what came of each. The times are taken
-//! from outside: both ways are linear in the text. A first word on the command line picks one text, from 1 on.
+//! Reads Piton texts at the limits of the form, prints what was read, checks it, and prints what became of each. The
+//! times are taken from outside: each step is linear in the text. A first word on the command line picks one text, from
+//! 1 on.
 #![tactic(auto)]
 
-use piton_syntax::{PitonFault, print_piton, read_piton};
+use piton_check::check;
+use piton_syntax::{print_piton, read_piton};
 use std::alloc::{AllocError, Global};
 use std::rt::Env;
 use std::{env, io};
@@ -10,28 +12,52 @@ use std::{env, io};
 /// The longest text that `read_piton` takes.
 const MAX_LENGTH: usize = 2147483648;
 
-/// Reads the text, prints its system again, and says how many programs and bytes that has.
+/// Reads the text, prints its system again and checks it, and prints what became of it.
 fn report(rt: &(impl Print + Alloc<A = Global>), name: &str, text: &[u8]) -> io::Result<()> {
     let length = text.len();
     if length > MAX_LENGTH {
         return println!(rt; "{name}, {length} bytes: too long");
     }
-    match read_piton(rt.alloc(), text) {
-        Ok(system) => match print_piton(rt.alloc(), &system) {
-            Ok(printed) => {
-                let programs = system.programs.len();
-                let size = printed.len();
-                println!(rt; "{name}, {length} bytes: {programs} programs, printed in {size}")
+    let system = match read_piton(rt.alloc(), text) {
+        Ok(system) => system,
+        Err(fault) => return println!(rt; "{name}, {length} bytes: {fault}"),
+    };
+    let programs = system.programs.len();
+    let size = match print_piton(rt.alloc(), &system) {
+        Ok(printed) => printed.len(),
+        Err(_) => return println!(rt; "{name}, {length} bytes: out of memory"),
+    };
+    match check(rt.alloc(), system) {
+        Ok(_) => println!(rt; "{name}, {length} bytes: {programs} programs, printed in {size}, ok"),
+        Err(fault) => println!(rt;
+            "{name}, {length} bytes: {programs} programs, printed in {size}, {fault}"
+        ),
+    }
+}
+
+/// What a text has over and over.
+#[derive(Clone, Copy)]
+enum Piece {
+    /// The same each time.
+    Same(&'static str),
+    /// The number of the piece, from 0 on, twice: what precedes it, is between, and follows it.
+    Numbered(&'static str, &'static str, &'static str),
+}
+
+impl Piece {
+    /// Appends the piece of a number.
+    fn append(self, alloc: Global, text: &mut Vec<u8>, number: u32) -> Result<(), AllocError> {
+        match self {
+            Piece::Same(piece) => text.extend_from_slice(piece.as_bytes()),
+            Piece::Numbered(before, between, after) => {
+                let digits = format!(in alloc; "{number}")?;
+                text.extend_from_slice(before.as_bytes())?;
+                text.extend_from_slice(digits.as_bytes())?;
+                text.extend_from_slice(between.as_bytes())?;
+                text.extend_from_slice(digits.as_bytes())?;
+                text.extend_from_slice(after.as_bytes())
             }
-            Err(_) => println!(rt; "{name}, {length} bytes: no memory to print"),
-        },
-        Err(PitonFault::Text { rule, place }) => {
-            println!(rt; "{name}, {length} bytes: {rule:?} at {place}")
         }
-        Err(PitonFault::Form { rule, place }) => {
-            println!(rt; "{name}, {length} bytes: P{rule} at {place}")
-        }
-        Err(PitonFault::Memory) => println!(rt; "{name}, {length} bytes: out of memory"),
     }
 }
 
@@ -39,41 +65,108 @@ fn report(rt: &(impl Print + Alloc<A = Global>), name: &str, text: &[u8]) -> io:
 #[derive(Clone, Copy)]
 struct Sample {
     name: &'static str,
-    head: &'static [u8],
-    piece: &'static [u8],
-    tail: &'static [u8],
+    head: &'static str,
+    piece: Piece,
+    tail: &'static str,
     count: u32,
 }
 
 impl Sample {
-    /// The piece `count` times between a head and a tail.
-    fn new(
-        name: &'static str,
-        head: &'static [u8],
-        piece: &'static [u8],
-        tail: &'static [u8],
-        count: u32,
-    ) -> Sample {
-        Sample {
-            name,
-            head,
-            piece,
-            tail,
-            count,
-        }
-    }
-
     /// The bytes.
     fn text(&self, alloc: Global) -> Result<Vec<u8>, AllocError> {
         let mut text = Vec::new(alloc);
-        text.extend_from_slice(self.head)?;
-        for _ in 0..self.count {
-            text.extend_from_slice(self.piece)?;
+        text.extend_from_slice(self.head.as_bytes())?;
+        for number in 0..self.count {
+            self.piece.append(alloc, &mut text, number)?;
         }
-        text.extend_from_slice(self.tail)?;
+        text.extend_from_slice(self.tail.as_bytes())?;
         Ok(text)
     }
 }
+
+/// What begins a system of one program.
+const ONE_PROGRAM: &str = "(piton main 2 1 0 () () (main () ()";
+
+/// The texts.
+const SAMPLES: [Sample; 11] = [
+    Sample {
+        name: "most instructions",
+        head: ONE_PROGRAM,
+        piece: Piece::Same(" (ret)"),
+        tail: "))",
+        count: 1048576,
+    },
+    Sample {
+        name: "one instruction more",
+        head: ONE_PROGRAM,
+        piece: Piece::Same(" (ret)"),
+        tail: "))",
+        count: 1048577,
+    },
+    Sample {
+        name: "16 MiB of pushes",
+        head: ONE_PROGRAM,
+        piece: Piece::Same(" (push-constant (int -7))"),
+        tail: "))",
+        count: 671087,
+    },
+    Sample {
+        name: "16 MiB of one label",
+        head: ONE_PROGRAM,
+        piece: Piece::Same(" (dl l () (jump l))"),
+        tail: "))",
+        count: 883009,
+    },
+    Sample {
+        name: "16 MiB of words",
+        head: "(piton main 2 1 0 () (",
+        piece: Piece::Same("(nat 12345) "),
+        tail: ") (main () () (ret)))",
+        count: 1398097,
+    },
+    Sample {
+        name: "most programs of one name",
+        head: "(piton main 2 1 0 () ()",
+        piece: Piece::Same(" (p (x) ((y (bool t))) (push-local x) (ret))"),
+        tail: ")",
+        count: 1100,
+    },
+    Sample {
+        name: "one program more",
+        head: "(piton main 2 1 0 () ()",
+        piece: Piece::Same(" (p () () (ret))"),
+        tail: ")",
+        count: 1101,
+    },
+    Sample {
+        name: "half a million labels",
+        head: ONE_PROGRAM,
+        piece: Piece::Numbered(" (dl l", " () (jump l", "))"),
+        tail: "))",
+        count: 524288,
+    },
+    Sample {
+        name: "half a million words",
+        head: ONE_PROGRAM,
+        piece: Piece::Numbered(" (push-constant (nat ", ")) (push-constant (int -", "))"),
+        tail: " (ret)))",
+        count: 262144,
+    },
+    Sample {
+        name: "a million words of one area",
+        head: "(piton main 2 1 0 ((a",
+        piece: Piece::Numbered(" (nat ", ") (int ", ")"),
+        tail: ")) () (main () () (ret)))",
+        count: 500000,
+    },
+    Sample {
+        name: "most programs",
+        head: "(piton p0 2 1 0 () ()",
+        piece: Piece::Numbered(" (p", " () () (call p", ") (ret))"),
+        tail: ")",
+        count: 1100,
+    },
+];
 
 /// Which text the command line picks: all of them where it picks none.
 fn picked(rt: &(impl Env + AllocGlobal)) -> io::Result<Option<usize>> {
@@ -84,50 +177,8 @@ fn picked(rt: &(impl Env + AllocGlobal)) -> io::Result<Option<usize>> {
 }
 
 fn main(rt: HostRuntime) -> io::Result<()> {
-    let head = b"(piton main 2 1 0 () () (main () ()".as_slice();
-    let words = b"(piton main 2 1 0 () (".as_slice();
-    let programs = b"(piton main 2 1 0 () ()".as_slice();
-    let samples = [
-        Sample::new("most instructions", head, b" (ret)", b"))", 1048576),
-        Sample::new("one instruction more", head, b" (ret)", b"))", 1048577),
-        Sample::new(
-            "16 MiB of pushes",
-            head,
-            b" (push-constant (int -7))",
-            b"))",
-            671087,
-        ),
-        Sample::new(
-            "16 MiB of labels",
-            head,
-            b" (dl l () (jump l))",
-            b"))",
-            883009,
-        ),
-        Sample::new(
-            "16 MiB of words",
-            words,
-            b"(nat 12345) ",
-            b") (main () () (ret)))",
-            1398097,
-        ),
-        Sample::new(
-            "most programs",
-            programs,
-            b" (p (x) ((y (bool t))) (push-local x) (ret))",
-            b")",
-            1100,
-        ),
-        Sample::new(
-            "one program more",
-            programs,
-            b" (p () () (ret))",
-            b")",
-            1101,
-        ),
-    ];
     let pick = picked(&rt)?;
-    for (place, sample) in samples.iter().enumerate() {
+    for (place, sample) in SAMPLES.iter().enumerate() {
         if pick.is_none() || pick == Some(place + 1) {
             let text = sample.text(rt.alloc())?;
             report(&rt, sample.name, &text)?;

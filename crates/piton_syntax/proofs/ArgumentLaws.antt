@@ -5,7 +5,7 @@ use Rattle.std.specs.List.{list_all}
 use Rattle.stack_text.specs.TreeView.{node_of, nodes_of}
 use Rattle.stack_text.specs.declared.tree.Tree.{Tree}
 use Rattle.piton_syntax.specs.declared.argument.ArgKind.{ArgKind}
-use Rattle.piton_syntax.specs.declared.argument.Arguments.TheVariants as wanted
+use Rattle.piton_syntax.specs.declared.argument.Arguments.TheVariants as row
 use Rattle.piton_syntax.specs.Grammar.{are_of_kind, argument_of, arguments_of, is_of_kind}
 use Rattle.stack_text.specs.Grammar.Judged.{each_of, fault}
 use Rattle.stack_text.proofs.Loops.{drop-item}
@@ -27,10 +27,10 @@ kinds_left k trees i t lt is h =
     second_true (is_of_kind k (node_of t)) (are_of_kind k (nodes_of (drop (i + 1) trees)))
     (subst (λ ts. IsTrue (are_of_kind k (nodes_of ts))) (drop-item trees i t lt is) h)
 
-pub some_kinds : (k : ArgKind) (p : ℕ) (ts : List Tree) → length ts ≢ 0 → are_of_kind k (nodes_of ts) ≡ true → arguments_of (wanted.OneOrMore k) p (nodes_of ts) ≡ each_of (argument_of k) (nodes_of ts)
+pub some_kinds : (k : ArgKind) (p : ℕ) (ts : List Tree) → length ts ≢ 0 → are_of_kind k (nodes_of ts) ≡ true → arguments_of (row.OneOrMore k) p (nodes_of ts) ≡ each_of (argument_of k) (nodes_of ts)
 some_kinds k p [] ne e = absurd (ne refl)
 some_kinds k p (t ∷ ts) ne e = rw e refl
 
-pub other_kinds : (k : ArgKind) (p : ℕ) (ts : List Tree) → length ts ≢ 0 → are_of_kind k (nodes_of ts) ≡ false → arguments_of (wanted.OneOrMore k) p (nodes_of ts) ≡ fault p 7
+pub other_kinds : (k : ArgKind) (p : ℕ) (ts : List Tree) → length ts ≢ 0 → are_of_kind k (nodes_of ts) ≡ false → arguments_of (row.OneOrMore k) p (nodes_of ts) ≡ fault p 7
 other_kinds k p [] ne e = absurd (ne refl)
 other_kinds k p (t ∷ ts) ne e = rw e refl

@@ -364,4 +364,4 @@ placed_system s h = record {
 
 -- what keeps the form fits it
 pub keeps_fits : (s : SystemOf) → KeepsForm s → FitsForm s
-keeps_fits s h = placed_system s (holds_at FitsForm (system_of (tree_of s)) (without_places s) (fits_system (tree_of s)) h.stands)
+keeps_fits s h = placed_system s (holds_at FitsForm (system_of (tree_of s)) (without_places s) (fits_system (tree_of s)) h.reads)

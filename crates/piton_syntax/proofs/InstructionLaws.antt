@@ -1,4 +1,4 @@
--- What stands behind `dl`, by its shape.
+-- What follows `dl`, by its shape.
 use Rattle.std.proofs.Common.{◌≡◌, ◌≢◌, ℕ, List, [], ◌∷◌, length, get_or, Ok, Some, Vec, Global, refl, sym, ◌∙◌, arith}
 use Rattle.stack_text.specs.Trees.{Node, Nodes, atom, list, none, more}
 use Rattle.stack_text.specs.TreeView.{node_of, nodes_of}

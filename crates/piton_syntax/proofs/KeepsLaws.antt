@@ -80,10 +80,10 @@ keeps_digits = keeps_number_by is_digits digits-signed_decimal
 
 -- ---- words
 
--- the item of a word's list behind its tag
+-- the item of a word's list after its tag
 record KeepsItem (ts : Nodes) (i : WordItem) : Type 0 where
   alike : (p q : ℕ) (w : List ℕ) → Alike (list p (more (atom q w) ts)) (item_tree i)
-  stands : word_of (item_tree i) ≡ Ok (new_word 0 (unplaced_item i))
+  reads : word_of (item_tree i) ≡ Ok (new_word 0 (unplaced_item i))
 
 pub truth_run : (q : ℕ) (w : List ℕ) (b : Bool) → Alike (atom q w) (truth_tree b)
 truth_run q w true = (omega arith, refl)
@@ -110,7 +110,7 @@ keeps_item (Some tag.Int) p (more n none) =
     holds_judged (KeepsItem (more n none)) p 5 (is_atom_of is_numeral n) _
     (λ pass. holds_one (KeepsNumber is_numeral n) (KeepsItem (more n none)) item.Int (number_of n) (λ m h. record {
       alike = λ p q w. ((omega arith, refl), (h.alike, tt));
-      stands = word_again (item.Int (unplaced_number m)) _ (passes 0 5 (is_numeral (signed_decimal m.number)) _ _ h.is_written (ok_one item.Int _ (unplaced_number m) (number_again m h.fits)));
+      reads = word_again (item.Int (unplaced_number m)) _ (passes 0 5 (is_numeral (signed_decimal m.number)) _ _ h.is_written (ok_one item.Int _ (unplaced_number m) (number_again m h.fits)));
     }) (keeps_number n pass))
 keeps_item (Some tag.Int) p (more n (more t ts)) = record { of_value = tt }
 keeps_item (Some tag.Nat) p none = record { of_value = tt }
@@ -118,7 +118,7 @@ keeps_item (Some tag.Nat) p (more n none) =
     holds_judged (KeepsItem (more n none)) p 5 (is_atom_of is_digits n) _
     (λ pass. holds_one (KeepsNumber is_digits n) (KeepsItem (more n none)) item.Nat (number_of n) (λ m h. record {
       alike = λ p q w. ((omega arith, refl), (h.alike, tt));
-      stands = word_again (item.Nat (unplaced_number m)) _ (passes 0 5 (is_digits (signed_decimal m.number)) _ _ h.is_written (ok_one item.Nat _ (unplaced_number m) (number_again m h.fits)));
+      reads = word_again (item.Nat (unplaced_number m)) _ (passes 0 5 (is_digits (signed_decimal m.number)) _ _ h.is_written (ok_one item.Nat _ (unplaced_number m) (number_again m h.fits)));
     }) (keeps_digits n pass))
 keeps_item (Some tag.Nat) p (more n (more t ts)) = record { of_value = tt }
 keeps_item (Some tag.Bitv) p none = record { of_value = tt }
@@ -126,7 +126,7 @@ keeps_item (Some tag.Bitv) p (more n none) =
     holds_judged (KeepsItem (more n none)) p 5 (is_atom_of is_digits n) _
     (λ pass. holds_one (KeepsNumber is_digits n) (KeepsItem (more n none)) item.Bitv (number_of n) (λ m h. record {
       alike = λ p q w. ((omega arith, refl), (h.alike, tt));
-      stands = word_again (item.Bitv (unplaced_number m)) _ (passes 0 5 (is_digits (signed_decimal m.number)) _ _ h.is_written (ok_one item.Bitv _ (unplaced_number m) (number_again m h.fits)));
+      reads = word_again (item.Bitv (unplaced_number m)) _ (passes 0 5 (is_digits (signed_decimal m.number)) _ _ h.is_written (ok_one item.Bitv _ (unplaced_number m) (number_again m h.fits)));
     }) (keeps_digits n pass))
 keeps_item (Some tag.Bitv) p (more n (more t ts)) = record { of_value = tt }
 keeps_item (Some tag.Bool) p none = record { of_value = tt }
@@ -134,7 +134,7 @@ keeps_item (Some tag.Bool) p (more (atom r v) none) =
     holds_judged (KeepsItem (more (atom r v) none)) p 5 (is_true_word v || is_false_word v) _ (λ pass. record {
       of_value = record {
         alike = λ p q w. ((omega arith, refl), (truth_run r v (is_true_word v), tt));
-        stands = truth_again (is_true_word v);
+        reads = truth_again (is_true_word v);
       };
     })
 keeps_item (Some tag.Bool) p (more (list r us) none) = record { of_value = tt }
@@ -145,7 +145,7 @@ keeps_item (Some tag.Addr) p (more area (more n none)) =
     holds_judged (KeepsItem (more area (more n none))) p 5 (is_atom_of is_name area && is_atom_of is_digits n) _
     (λ pass. holds_two (KeepsName area) (KeepsNumber is_digits n) (KeepsItem (more area (more n none))) address (named_of area) (number_of n) (λ a g m h. record {
       alike = λ p q w. ((omega arith, refl), (g.alike, (h.alike, tt)));
-      stands = word_again (address (unplaced_name a) (unplaced_number m)) _ (named_and_numbered address a m g.is_named h.is_written h.fits);
+      reads = word_again (address (unplaced_name a) (unplaced_number m)) _ (named_and_numbered address a m g.is_named h.is_written h.fits);
     }) (keeps_name area) (keeps_digits n (and_parts (is_atom_of is_name area) (is_atom_of is_digits n) pass).1))
 keeps_item (Some tag.Addr) p (more area (more n (more t ts))) = record { of_value = tt }
 keeps_item (Some tag.Pc) p none = record { of_value = tt }
@@ -154,7 +154,7 @@ keeps_item (Some tag.Pc) p (more program (more n none)) =
     holds_judged (KeepsItem (more program (more n none))) p 5 (is_atom_of is_name program && is_atom_of is_digits n) _
     (λ pass. holds_two (KeepsName program) (KeepsNumber is_digits n) (KeepsItem (more program (more n none))) program_place (named_of program) (number_of n) (λ a g m h. record {
       alike = λ p q w. ((omega arith, refl), (g.alike, (h.alike, tt)));
-      stands = word_again (program_place (unplaced_name a) (unplaced_number m)) _ (named_and_numbered program_place a m g.is_named h.is_written h.fits);
+      reads = word_again (program_place (unplaced_name a) (unplaced_number m)) _ (named_and_numbered program_place a m g.is_named h.is_written h.fits);
     }) (keeps_name program) (keeps_digits n (and_parts (is_atom_of is_name program) (is_atom_of is_digits n) pass).1))
 keeps_item (Some tag.Pc) p (more program (more n (more t ts))) = record { of_value = tt }
 keeps_item (Some tag.Subr) p none = record { of_value = tt }
@@ -162,7 +162,7 @@ keeps_item (Some tag.Subr) p (more program none) =
     holds_judged (KeepsItem (more program none)) p 5 (is_atom_of is_name program) _
     (λ pass. holds_one (KeepsName program) (KeepsItem (more program none)) item.Subr (named_of program) (λ a h. record {
       alike = λ p q w. ((omega arith, refl), (h.alike, tt));
-      stands = word_again (item.Subr (unplaced_name a)) _ (passes 0 5 (is_name a.name) _ _ h.is_named (ok_one item.Subr _ (unplaced_name a) (named_again a h.is_named)));
+      reads = word_again (item.Subr (unplaced_name a)) _ (passes 0 5 (is_name a.name) _ _ h.is_named (ok_one item.Subr _ (unplaced_name a) (named_again a h.is_named)));
     }) (keeps_name program))
 keeps_item (Some tag.Subr) p (more program (more t ts)) = record { of_value = tt }
 
@@ -175,7 +175,7 @@ keeps_word (list p none) = record { of_value = tt }
 keeps_word (list p (more (list q us) ts)) = record { of_value = tt }
 keeps_word (list p (more (atom q w) ts)) =
     holds_one (KeepsItem ts) (KeepsWord (list p (more (atom q w) ts))) (new_word p) (item_of (tag_named w) p ts)
-    (λ i h. record { alike = h.alike p q w; stands = h.stands }) (keeps_item (tag_named w) p ts)
+    (λ i h. record { alike = h.alike p q w; reads = h.reads }) (keeps_item (tag_named w) p ts)
 
 -- ---- lists
 
@@ -189,7 +189,7 @@ pub op_run : (o : PitonOp) → IsRun (op_name o)
 unfolding row_of operations
 op_run o = name_is_run (op_name o) (found_passes (λ q. is_name (op_name q)) (λ q. bytes_eq (op_name o) (op_name q)) operations o refl (operation_named-name o))
 
--- no operation has the word that stands before a label
+-- no operation has the name `dl`, which is before a label
 pub no_label_word : (o : PitonOp) → bytes_eq (op_name o) (codes "dl") ≡ false
 unfolding row_of operations
 no_label_word o = by_test (bytes_eq (op_name o) (codes "dl")) refl
@@ -221,51 +221,51 @@ test_again f w k h =
 record KeepsArgument (k : ArgKind) (t : Node) (a : ArgText) : Type 0 where
   alike : Alike t (argument_tree a)
   is_kind : is_of_kind k (argument_tree a) ≡ true
-  stands : argument_of k (argument_tree a) ≡ Ok (unplaced_argument a)
+  reads : argument_of k (argument_tree a) ≡ Ok (unplaced_argument a)
 
 keeps_name_argument : (k : ArgKind) → ((n : Named) → is_name n.name ≡ true → is_of_kind k (name_tree n) ≡ true) → ((n : Named) → named_of (name_tree n) ≡ Ok (unplaced_name n) → argument_of k (name_tree n) ≡ Ok (arg.Name (unplaced_name n))) →
     (t : Node) → Holds (KeepsArgument k t) (Ok arg.Name ⊛ named_of t)
 keeps_name_argument k is_kind again t =
     holds_one (KeepsName t) (KeepsArgument k t) arg.Name (named_of t)
-    (λ n h. record { alike = h.alike; is_kind = is_kind n h.is_named; stands = again n (named_again n h.is_named) }) (keeps_name t)
+    (λ n h. record { alike = h.alike; is_kind = is_kind n h.is_named; reads = again n (named_again n h.is_named) }) (keeps_name t)
 
 keeps_argument : (k : ArgKind) (t : Node) → is_of_kind k t ≡ true → Holds (KeepsArgument k t) (argument_of k t)
 keeps_argument kind.Word t pass =
     holds_one (KeepsWord t) (KeepsArgument kind.Word t) arg.Word (word_of t)
-    (λ w h. record { alike = h.alike; is_kind = refl; stands = ok_one arg.Word _ (unplaced_word w) h.stands }) (keeps_word t)
+    (λ w h. record { alike = h.alike; is_kind = refl; reads = ok_one arg.Word _ (unplaced_word w) h.reads }) (keeps_word t)
 keeps_argument kind.Local t pass = keeps_name_argument kind.Local (λ n h. h) (λ n h. ok_one arg.Name _ (unplaced_name n) h) t
 keeps_argument kind.Area t pass = keeps_name_argument kind.Area (λ n h. h) (λ n h. ok_one arg.Name _ (unplaced_name n) h) t
 keeps_argument kind.Label t pass = keeps_name_argument kind.Label (λ n h. h) (λ n h. ok_one arg.Name _ (unplaced_name n) h) t
 keeps_argument kind.Program t pass = keeps_name_argument kind.Program (λ n h. h) (λ n h. ok_one arg.Name _ (unplaced_name n) h) t
 keeps_argument kind.Count t pass =
     holds_one (KeepsNumber is_digits t) (KeepsArgument kind.Count t) arg.Number (number_of t)
-    (λ n h. record { alike = h.alike; is_kind = h.is_written; stands = ok_one arg.Number _ (unplaced_number n) (number_again n h.fits) }) (keeps_digits t pass)
+    (λ n h. record { alike = h.alike; is_kind = h.is_written; reads = ok_one arg.Number _ (unplaced_number n) (number_again n h.fits) }) (keeps_digits t pass)
 
 record KeepsSome (k : ArgKind) (ts : Nodes) (xs : List ArgText) : Type 0 where
   alike : AllAlike ts (nodes (map argument_tree xs))
   are_kind : are_of_kind k (nodes (map argument_tree xs)) ≡ true
-  stands : each_of (argument_of k) (nodes (map argument_tree xs)) ≡ Ok (map unplaced_argument xs)
+  reads : each_of (argument_of k) (nodes (map argument_tree xs)) ≡ Ok (map unplaced_argument xs)
 
 keeps_some : (k : ArgKind) (ts : Nodes) → are_of_kind k ts ≡ true → Holds (KeepsSome k ts) (each_of (argument_of k) ts)
-keeps_some k none pass = record { of_value = record { alike = tt; are_kind = refl; stands = refl } }
+keeps_some k none pass = record { of_value = record { alike = tt; are_kind = refl; reads = refl } }
 keeps_some k (more t ts) pass =
     let p = and_parts (is_of_kind k t) (are_of_kind k ts) pass in
     holds_two (KeepsArgument k t) (KeepsSome k ts) (KeepsSome k (more t ts)) front (argument_of k t) (each_of (argument_of k) ts)
     (λ x g xs h. record {
       alike = (g.alike, h.alike);
       are_kind = and_true (is_of_kind k (argument_tree x)) _ g.is_kind h.are_kind;
-      stands = ok_two front _ _ (unplaced_argument x) (map unplaced_argument xs) g.stands h.stands;
+      reads = ok_two front _ _ (unplaced_argument x) (map unplaced_argument xs) g.reads h.reads;
     })
     (keeps_argument k t p.0) (keeps_some k ts p.1)
 
 -- the arguments of an operation's list
 record KeepsArguments (a : Arguments) (ts : Nodes) (xs : List ArgText) : Type 0 where
   alike : AllAlike ts (nodes (map argument_tree xs))
-  stands : arguments_of a 0 (nodes (map argument_tree xs)) ≡ Ok (map unplaced_argument xs)
+  reads : arguments_of a 0 (nodes (map argument_tree xs)) ≡ Ok (map unplaced_argument xs)
 
 keeps_one_or_more : (k : ArgKind) (t : Node) (ts : Nodes) (xs : List ArgText) → KeepsSome k (more t ts) xs → KeepsArguments (OneOrMore k) (more t ts) xs
 keeps_one_or_more k t ts [] h = absurd h.alike
-keeps_one_or_more k t ts (x ∷ xs) h = record { alike = h.alike; stands = passes 0 7 (are_of_kind k (nodes (map argument_tree (x ∷ xs)))) _ _ h.are_kind h.stands }
+keeps_one_or_more k t ts (x ∷ xs) h = record { alike = h.alike; reads = passes 0 7 (are_of_kind k (nodes (map argument_tree (x ∷ xs)))) _ _ h.are_kind h.reads }
 
 keeps_tested : (f : TestFamily) (t label : Node) (p : ℕ) (found : Option TestKind) → test_at f t ≡ found → Holds (KeepsArguments (TestAndLabel f) (more t (more label none))) (tested_of p found label)
 keeps_tested f t label p None e = record { of_value = tt }
@@ -276,19 +276,19 @@ keeps_tested f (atom q w) label p (Some k) e =
     (λ pass. holds_one (KeepsName label) (KeepsArguments (TestAndLabel f) (more (atom q w) (more label none))) (test_and_label k) (named_of label)
     (λ n h. record {
       alike = (test_run f w k e, (h.alike, tt));
-      stands = ap (λ (o : Option TestKind). tested_of 0 o (name_tree n)) again
+      reads = ap (λ (o : Option TestKind). tested_of 0 o (name_tree n)) again
           ∙ passes 0 7 (is_name n.name) _ _ h.is_named (ok_one (test_and_label k) _ (unplaced_name n) (named_again n h.is_named));
     })
     (keeps_name label))
 
 keeps_arguments : (a : Arguments) (p : ℕ) (ts : Nodes) → Holds (KeepsArguments a ts) (arguments_of a p ts)
-keeps_arguments Zero p none = record { of_value = record { alike = tt; stands = refl } }
+keeps_arguments Zero p none = record { of_value = record { alike = tt; reads = refl } }
 keeps_arguments Zero p (more t ts) = record { of_value = tt }
 keeps_arguments (One k) p none = record { of_value = tt }
 keeps_arguments (One k) p (more t none) =
     holds_judged (KeepsArguments (One k) (more t none)) p 7 (is_of_kind k t) _
     (λ pass. holds_one (KeepsArgument k t) (KeepsArguments (One k) (more t none)) one (argument_of k t)
-    (λ x h. record { alike = (h.alike, tt); stands = passes 0 7 (is_of_kind k (argument_tree x)) _ _ h.is_kind (ok_one one _ (unplaced_argument x) h.stands) })
+    (λ x h. record { alike = (h.alike, tt); reads = passes 0 7 (is_of_kind k (argument_tree x)) _ _ h.is_kind (ok_one one _ (unplaced_argument x) h.reads) })
     (keeps_argument k t pass))
 keeps_arguments (One k) p (more t (more u ts)) = record { of_value = tt }
 keeps_arguments (TestAndLabel f) p none = record { of_value = tt }
@@ -319,7 +319,7 @@ keeps_call p q r w (Some o) ts =
     holds_one (KeepsArguments (op_arguments o) ts) (KeepsInstruction (list p (more (atom q w) ts))) (new_instruction p o None) (arguments_of (op_arguments o) r ts)
     (λ xs h. record {
       alike = (op_run o, h.alike);
-      stands = unlabelled_again o (nodes (map argument_tree xs)) _ (called_again (Ok None) o None _ (map unplaced_argument xs) refl h.stands);
+      reads = unlabelled_again o (nodes (map argument_tree xs)) _ (called_again (Ok None) o None _ (map unplaced_argument xs) refl h.reads);
     })
     (keeps_arguments (op_arguments o) r ts)
 
@@ -336,7 +336,7 @@ labelled_keeps : (p q r s t : ℕ) (v w : List ℕ) (l : Node) (ts : Nodes) (o :
 labelled_keeps p q r s t v w l ts o None g xs h = absurd g
 labelled_keeps p q r s t v w l ts o (Some n) g xs h = record {
   alike = ((omega arith, refl), (g.alike, (tt, ((op_run o, h.alike), tt))));
-  stands = called_again (Ok Some ⊛ named_of (name_tree n)) o (Some (unplaced_name n)) (nodes (map argument_tree xs)) (map unplaced_argument xs) (ok_one Some _ (unplaced_name n) (named_again n g.is_named)) h.stands;
+  reads = called_again (Ok Some ⊛ named_of (name_tree n)) o (Some (unplaced_name n)) (nodes (map argument_tree xs)) (map unplaced_argument xs) (ok_one Some _ (unplaced_name n) (named_again n g.is_named)) h.reads;
 }
 
 keeps_labelled_call : (p q r s t : ℕ) (v w : List ℕ) (l : Node) (found : Option PitonOp) (ts : Nodes) → Holds (KeepsInstruction (labelled_node p q r s t v l w ts)) (called_of p (Ok Some ⊛ named_of l) found s ts)
@@ -381,7 +381,7 @@ keeps_temporary (list p none) = record { of_value = tt }
 keeps_temporary (list p (more name none)) = record { of_value = tt }
 keeps_temporary (list p (more name (more word none))) =
     holds_two (KeepsName name) (KeepsWord word) (KeepsTemporary (list p (more name (more word none)))) pair (named_of name) (word_of word)
-    (λ n g w h. record { alike = (g.alike, (h.alike, tt)); stands = ok_two pair _ _ (unplaced_name n) (unplaced_word w) (named_again n g.is_named) h.stands })
+    (λ n g w h. record { alike = (g.alike, (h.alike, tt)); reads = ok_two pair _ _ (unplaced_name n) (unplaced_word w) (named_again n g.is_named) h.reads })
     (keeps_name name) (keeps_word word)
 keeps_temporary (list p (more name (more word (more t ts)))) = record { of_value = tt }
 
@@ -408,8 +408,8 @@ program_keeps p q name formals temporaries i is small n hn fs hf ts ht (j ∷ js
     let still_small : is_small_program (list_tree name_tree fs) (list_tree temporary_tree ts) (nodes (map instruction_tree (j ∷ js))) ≡ true = rw (formals_as, temporaries_as, instructions_as) small in
     record {
       alike = (hn.alike, (hf.alike, (ht.alike, hj.alike)));
-      stands = passes 0 9 (is_small_program (list_tree name_tree fs) (list_tree temporary_tree ts) (nodes (map instruction_tree (j ∷ js)))) _ _ still_small
-          (ok_four (new_program 0 0) _ _ _ _ (unplaced_name n) (map unplaced_name fs) (map unplaced_temporary ts) (map unplaced_instruction (j ∷ js)) (named_again n hn.is_named) hf.stands ht.stands hj.stands);
+      reads = passes 0 9 (is_small_program (list_tree name_tree fs) (list_tree temporary_tree ts) (nodes (map instruction_tree (j ∷ js)))) _ _ still_small
+          (ok_four (new_program 0 0) _ _ _ _ (unplaced_name n) (map unplaced_name fs) (map unplaced_temporary ts) (map unplaced_instruction (j ∷ js)) (named_again n hn.is_named) hf.reads ht.reads hj.reads);
     }
 
 keeps_program : (t : Node) → Holds (KeepsProgram t) (program_of t)
@@ -438,7 +438,7 @@ area_keeps : (p : ℕ) (name w : Node) (ws : Nodes) (n : Named) → KeepsName na
 area_keeps p name w ws n g [] h = absurd h.alike
 area_keeps p name w ws n g (x ∷ xs) h = record {
   alike = (g.alike, h.alike);
-  stands = ok_two (new_area 0) _ _ (unplaced_name n) (map unplaced_word (x ∷ xs)) (named_again n g.is_named) h.stands;
+  reads = ok_two (new_area 0) _ _ (unplaced_name n) (map unplaced_word (x ∷ xs)) (named_again n g.is_named) h.reads;
 }
 
 keeps_area : (t : Node) → Holds (KeepsArea t) (area_of t)
@@ -476,10 +476,10 @@ system_keeps p q r s w main ctrl temp base areas stack i is small m hm c hc t ht
     let numbers : (is_digits (signed_decimal c.number) && is_digits (signed_decimal t.number) && is_digits (signed_decimal b.number)) ≡ true = rw (hc.is_written, ht.is_written, hb.is_written) refl in
     record {
       alike = ((omega arith, refl), (hm.alike, (hc.alike, (ht.alike, (hb.alike, (hx.alike, (hw.alike, hp.alike)))))));
-      stands = passes 0 1 (is_digits (signed_decimal c.number) && is_digits (signed_decimal t.number) && is_digits (signed_decimal b.number)) _ _ numbers
+      reads = passes 0 1 (is_digits (signed_decimal c.number) && is_digits (signed_decimal t.number) && is_digits (signed_decimal b.number)) _ _ numbers
           (passes 0 9 (is_small_system (nodes (map area_tree xs)) (nodes (map program_tree (x ∷ ps)))) _ _ still_small
           (ok_seven (new_system 0) _ _ _ _ _ _ _ (unplaced_name m) (unplaced_number c) (unplaced_number t) (unplaced_number b) (map unplaced_area xs) (map unplaced_word ws) (map unplaced_program (x ∷ ps))
-          (named_again m hm.is_named) (number_again c hc.fits) (number_again t ht.fits) (number_again b hb.fits) hx.stands hw.stands hp.stands));
+          (named_again m hm.is_named) (number_again c hc.fits) (number_again t ht.fits) (number_again b hb.fits) hx.reads hw.reads hp.reads));
     }
 
 keeps_system : (t : Node) → Holds (KeepsSystem t) (system_of t)
@@ -517,4 +517,4 @@ keeps_system (list p (more (atom q w) (more main (more ctrl (more temp (more bas
 pub read_keeps : (t : Node) (s : SystemOf) → system_of t ≡ Ok s → IsWellFormed t → KeepsForm s
 read_keeps t s e form =
     let k = holds_at (KeepsSystem t) (system_of t) s (keeps_system t) e in
-    record { well_formed = well_formed t (tree_of s) k.alike form; stands = k.stands }
+    record { well_formed = well_formed t (tree_of s) k.alike form; reads = k.reads }

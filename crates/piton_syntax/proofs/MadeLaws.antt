@@ -42,25 +42,25 @@ use Rattle.piton_syntax.proofs.KeepsLaws.{named_again, number_again, word_again,
 
 -- the tree of a part is that part but for places, its atoms are runs, and at most n of its lists nest
 record Made {X : Type 0} (judge : Node → Judged X) (tree : X → Node) (view : X → X) (n : ℕ) (x : X) : Type 0 where
-  stands : judge (tree x) ≡ Ok (view x)
+  reads : judge (tree x) ≡ Ok (view x)
   runs : AtomsAreRuns (tree x)
   low : depth (tree x) ≤ n
 
 -- ---- lists
 
 record MadeEach {X : Type 0} (judge : Node → Judged X) (tree : X → Node) (view : X → X) (n : ℕ) (xs : List X) : Type 0 where
-  stands : each_of judge (nodes (map tree xs)) ≡ Ok (map view xs)
+  reads : each_of judge (nodes (map tree xs)) ≡ Ok (map view xs)
   runs : AllAtomsAreRuns (nodes (map tree xs))
   low : depths (nodes (map tree xs)) ≤ n
   count : count_of (nodes (map tree xs)) ≡ length xs
 
 made_each : {X : Type 0} (P : X → Type 0) (judge : Node → Judged X) (tree : X → Node) (view : X → X) (n : ℕ) → ((x : X) → P x → Made judge tree view n x) → (xs : List X) → All P xs → MadeEach judge tree view n xs
-made_each P judge tree view n made [] h = record { stands = refl; runs = tt; low = omega arith; count = refl }
+made_each P judge tree view n made [] h = record { reads = refl; runs = tt; low = omega arith; count = refl }
 made_each P judge tree view n made (x ∷ xs) h =
     let one_ = made x (all_first P x xs h) in
     let others = made_each P judge tree view n made xs (all_rest P x xs h) in
     record {
-      stands = ok_two front (judge (tree x)) (each_of judge (nodes (map tree xs))) (view x) (map view xs) one_.stands others.stands;
+      reads = ok_two front (judge (tree x)) (each_of judge (nodes (map tree xs))) (view x) (map view xs) one_.reads others.reads;
       runs = (one_.runs, others.runs);
       low = omega (arith, one_.low, others.low);
       count = let k : count_of (nodes (map tree xs)) ≡ length xs = others.count in omega (arith, k);
@@ -69,21 +69,21 @@ made_each P judge tree view n made (x ∷ xs) h =
 -- ---- names, numbers and words
 
 made_name : (n : Named) → IsNamed n → Made named_of name_tree unplaced_name 0 n
-made_name n h = record { stands = named_again n h; runs = name_is_run n.name h; low = omega arith }
+made_name n h = record { reads = named_again n h; runs = name_is_run n.name h; low = omega arith }
 
 record MadeNumber (test : List ℕ → Bool) (n : Number) : Type 0 where
-  stands : number_of (number_tree n) ≡ Ok (unplaced_number n)
+  reads : number_of (number_tree n) ≡ Ok (unplaced_number n)
   runs : AtomsAreRuns (number_tree n)
   is_written : test (signed_decimal n.number) ≡ true
   fits : fits_128_bits n.number ≡ true
 
 made_signed : (n : Number) → IsSigned n → MadeNumber is_numeral n
-made_signed n h = let numeral = numeral-signed_decimal n.number h in record { stands = number_again n h; runs = numeral_is_run (signed_decimal n.number) numeral; is_written = numeral; fits = h }
+made_signed n h = let numeral = numeral-signed_decimal n.number h in record { reads = number_again n h; runs = numeral_is_run (signed_decimal n.number) numeral; is_written = numeral; fits = h }
 
 made_unsigned : (n : Number) → IsUnsigned n → MadeNumber is_digits n
 made_unsigned n h =
     let k = by_number n.number h in
-    record { stands = number_again n k.0; runs = numeral_is_run (signed_decimal n.number) (numeral-signed_decimal n.number k.0); is_written = k.1; fits = k.0 }
+    record { reads = number_again n k.0; runs = numeral_is_run (signed_decimal n.number) (numeral-signed_decimal n.number k.0); is_written = k.1; fits = k.0 }
   where
     by_number : (z : ℤ) → IsUnsigned (record { place = 0; number = z }) → (fits_128_bits z ≡ true) × (is_digits (signed_decimal z) ≡ true)
     by_number (pos m) lt = let fits : fits_128_bits (pos m) ≡ true = lt-ltb m (2 ^ 127) lt in (fits, digits-pos m fits)
@@ -98,43 +98,43 @@ truth_low true = refl
 truth_low false = refl
 
 record MadeItem (i : WordItem) : Type 0 where
-  stands : word_of (item_tree i) ≡ Ok (new_word 0 (unplaced_item i))
+  reads : word_of (item_tree i) ≡ Ok (new_word 0 (unplaced_item i))
   runs : AtomsAreRuns (item_tree i)
   low : depth (item_tree i) ≤ 1
 
 made_item : (i : WordItem) → FitsItem i → MadeItem i
 made_item (item.Int n) h =
     let m = made_signed n h in
-    record { stands = word_again (item.Int (unplaced_number n)) _ (passes 0 5 (is_numeral (signed_decimal n.number)) _ _ m.is_written (ok_one item.Int _ (unplaced_number n) m.stands)); runs = ((omega arith, refl), (m.runs, tt)); low = omega arith }
+    record { reads = word_again (item.Int (unplaced_number n)) _ (passes 0 5 (is_numeral (signed_decimal n.number)) _ _ m.is_written (ok_one item.Int _ (unplaced_number n) m.reads)); runs = ((omega arith, refl), (m.runs, tt)); low = omega arith }
 made_item (item.Nat n) h =
     let m = made_unsigned n h in
-    record { stands = word_again (item.Nat (unplaced_number n)) _ (passes 0 5 (is_digits (signed_decimal n.number)) _ _ m.is_written (ok_one item.Nat _ (unplaced_number n) m.stands)); runs = ((omega arith, refl), (m.runs, tt)); low = omega arith }
+    record { reads = word_again (item.Nat (unplaced_number n)) _ (passes 0 5 (is_digits (signed_decimal n.number)) _ _ m.is_written (ok_one item.Nat _ (unplaced_number n) m.reads)); runs = ((omega arith, refl), (m.runs, tt)); low = omega arith }
 made_item (item.Bitv n) h =
     let m = made_unsigned n h in
-    record { stands = word_again (item.Bitv (unplaced_number n)) _ (passes 0 5 (is_digits (signed_decimal n.number)) _ _ m.is_written (ok_one item.Bitv _ (unplaced_number n) m.stands)); runs = ((omega arith, refl), (m.runs, tt)); low = omega arith }
-made_item (item.Bool b) h = record { stands = truth_again b; runs = ((omega arith, refl), (truth_runs b, tt)); low = omega (arith, truth_low b) }
+    record { reads = word_again (item.Bitv (unplaced_number n)) _ (passes 0 5 (is_digits (signed_decimal n.number)) _ _ m.is_written (ok_one item.Bitv _ (unplaced_number n) m.reads)); runs = ((omega arith, refl), (m.runs, tt)); low = omega arith }
+made_item (item.Bool b) h = record { reads = truth_again b; runs = ((omega arith, refl), (truth_runs b, tt)); low = omega (arith, truth_low b) }
 made_item (item.Addr area n) h =
     let m = made_unsigned n h.1 in
     record {
-      stands = word_again (address (unplaced_name area) (unplaced_number n)) _ (named_and_numbered address area n h.0 m.is_written m.fits);
+      reads = word_again (address (unplaced_name area) (unplaced_number n)) _ (named_and_numbered address area n h.0 m.is_written m.fits);
       runs = ((omega arith, refl), (name_is_run area.name h.0, (m.runs, tt)));
       low = omega arith;
     }
 made_item (item.Pc program n) h =
     let m = made_unsigned n h.1 in
     record {
-      stands = word_again (program_place (unplaced_name program) (unplaced_number n)) _ (named_and_numbered program_place program n h.0 m.is_written m.fits);
+      reads = word_again (program_place (unplaced_name program) (unplaced_number n)) _ (named_and_numbered program_place program n h.0 m.is_written m.fits);
       runs = ((omega arith, refl), (name_is_run program.name h.0, (m.runs, tt)));
       low = omega arith;
     }
 made_item (item.Subr program) h = record {
-  stands = word_again (item.Subr (unplaced_name program)) _ (passes 0 5 (is_name program.name) _ _ h (ok_one item.Subr _ (unplaced_name program) (named_again program h)));
+  reads = word_again (item.Subr (unplaced_name program)) _ (passes 0 5 (is_name program.name) _ _ h (ok_one item.Subr _ (unplaced_name program) (named_again program h)));
   runs = ((omega arith, refl), (name_is_run program.name h, tt));
   low = omega arith;
 }
 
 made_word : (w : WordText) → FitsWord w → Made word_of word_tree unplaced_word 1 w
-made_word w h = let m = made_item w.item h in record { stands = m.stands; runs = m.runs; low = m.low }
+made_word w h = let m = made_item w.item h in record { reads = m.reads; runs = m.runs; low = m.low }
 
 -- ---- arguments
 
@@ -174,18 +174,18 @@ test_word test.AllZero = refl
 test_word test.NotAllZero = refl
 
 record MadeArgument (k : ArgKind) (a : ArgText) : Type 0 where
-  stands : argument_of k (argument_tree a) ≡ Ok (unplaced_argument a)
+  reads : argument_of k (argument_tree a) ≡ Ok (unplaced_argument a)
   is_kind : is_of_kind k (argument_tree a) ≡ true
   runs : AtomsAreRuns (argument_tree a)
   low : depth (argument_tree a) ≤ 1
 
 made_argument : (k : ArgKind) (a : ArgText) → FitsArgument k a → MadeArgument k a
-made_argument kind.Word (arg.Word w) h = let m = made_word w h in record { stands = ok_one arg.Word _ (unplaced_word w) m.stands; is_kind = refl; runs = m.runs; low = m.low }
-made_argument kind.Count (arg.Number n) h = let m = made_unsigned n h in record { stands = ok_one arg.Number _ (unplaced_number n) m.stands; is_kind = m.is_written; runs = m.runs; low = omega arith }
-made_argument kind.Local (arg.Name n) h = record { stands = ok_one arg.Name _ (unplaced_name n) (named_again n h); is_kind = h; runs = name_is_run n.name h; low = omega arith }
-made_argument kind.Area (arg.Name n) h = record { stands = ok_one arg.Name _ (unplaced_name n) (named_again n h); is_kind = h; runs = name_is_run n.name h; low = omega arith }
-made_argument kind.Label (arg.Name n) h = record { stands = ok_one arg.Name _ (unplaced_name n) (named_again n h); is_kind = h; runs = name_is_run n.name h; low = omega arith }
-made_argument kind.Program (arg.Name n) h = record { stands = ok_one arg.Name _ (unplaced_name n) (named_again n h); is_kind = h; runs = name_is_run n.name h; low = omega arith }
+made_argument kind.Word (arg.Word w) h = let m = made_word w h in record { reads = ok_one arg.Word _ (unplaced_word w) m.reads; is_kind = refl; runs = m.runs; low = m.low }
+made_argument kind.Count (arg.Number n) h = let m = made_unsigned n h in record { reads = ok_one arg.Number _ (unplaced_number n) m.reads; is_kind = m.is_written; runs = m.runs; low = omega arith }
+made_argument kind.Local (arg.Name n) h = record { reads = ok_one arg.Name _ (unplaced_name n) (named_again n h); is_kind = h; runs = name_is_run n.name h; low = omega arith }
+made_argument kind.Area (arg.Name n) h = record { reads = ok_one arg.Name _ (unplaced_name n) (named_again n h); is_kind = h; runs = name_is_run n.name h; low = omega arith }
+made_argument kind.Label (arg.Name n) h = record { reads = ok_one arg.Name _ (unplaced_name n) (named_again n h); is_kind = h; runs = name_is_run n.name h; low = omega arith }
+made_argument kind.Program (arg.Name n) h = record { reads = ok_one arg.Name _ (unplaced_name n) (named_again n h); is_kind = h; runs = name_is_run n.name h; low = omega arith }
 made_argument k a h = absurd h
 
 are_kind : (k : ArgKind) (xs : List ArgText) → All (FitsArgument k) xs → are_of_kind k (nodes (map argument_tree xs)) ≡ true
@@ -193,22 +193,22 @@ are_kind k [] h = refl
 are_kind k (x ∷ xs) h = and_true (is_of_kind k (argument_tree x)) _ (made_argument k x (all_first (FitsArgument k) x xs h)).is_kind (are_kind k xs (all_rest (FitsArgument k) x xs h))
 
 record MadeArguments (row : Arguments) (xs : List ArgText) : Type 0 where
-  stands : arguments_of row 0 (nodes (map argument_tree xs)) ≡ Ok (map unplaced_argument xs)
+  reads : arguments_of row 0 (nodes (map argument_tree xs)) ≡ Ok (map unplaced_argument xs)
   runs : AllAtomsAreRuns (nodes (map argument_tree xs))
   low : depths (nodes (map argument_tree xs)) ≤ 1
 
 made_arguments : (row : Arguments) (xs : List ArgText) → FitsArguments row xs → MadeArguments row xs
-made_arguments Zero [] h = record { stands = refl; runs = tt; low = omega arith }
+made_arguments Zero [] h = record { reads = refl; runs = tt; low = omega arith }
 made_arguments Zero (x ∷ xs) h = absurd h
 made_arguments (One k) [] h = absurd h
 made_arguments (One k) (x ∷ []) h =
     let m = made_argument k x h in
-    record { stands = passes 0 7 (is_of_kind k (argument_tree x)) _ _ m.is_kind (ok_one one _ (unplaced_argument x) m.stands); runs = (m.runs, tt); low = omega (arith, m.low) }
+    record { reads = passes 0 7 (is_of_kind k (argument_tree x)) _ _ m.is_kind (ok_one one _ (unplaced_argument x) m.reads); runs = (m.runs, tt); low = omega (arith, m.low) }
 made_arguments (One k) (x ∷ y ∷ xs) h = absurd h
 made_arguments (TestAndLabel f) (arg.Test k ∷ arg.Name n ∷ []) h =
     let again : test_named f (test_name k) ≡ Some k = test_of_family f k h.0 in
     record {
-      stands = ap (λ (o : Option TestKind). tested_of 0 o (name_tree n)) again
+      reads = ap (λ (o : Option TestKind). tested_of 0 o (name_tree n)) again
           ∙ passes 0 7 (is_name n.name) _ _ h.1 (ok_one (test_and_label k) _ (unplaced_name n) (named_again n h.1));
       runs = (name_is_run (test_name k) (test_word k), (name_is_run n.name h.1, tt));
       low = omega arith;
@@ -216,8 +216,8 @@ made_arguments (TestAndLabel f) (arg.Test k ∷ arg.Name n ∷ []) h =
 made_arguments (TestAndLabel f) xs h = absurd h
 made_arguments (OneOrMore k) [] h = absurd h
 made_arguments (OneOrMore k) (x ∷ xs) h =
-    let each = made_each (FitsArgument k) (argument_of k) argument_tree unplaced_argument 1 (λ y f. let m = made_argument k y f in record { stands = m.stands; runs = m.runs; low = m.low }) (x ∷ xs) h in
-    record { stands = passes 0 7 (are_of_kind k (nodes (map argument_tree (x ∷ xs)))) _ _ (are_kind k (x ∷ xs) h) each.stands; runs = each.runs; low = each.low }
+    let each = made_each (FitsArgument k) (argument_of k) argument_tree unplaced_argument 1 (λ y f. let m = made_argument k y f in record { reads = m.reads; runs = m.runs; low = m.low }) (x ∷ xs) h in
+    record { reads = passes 0 7 (are_of_kind k (nodes (map argument_tree (x ∷ xs)))) _ _ (are_kind k (x ∷ xs) h) each.reads; runs = each.runs; low = each.low }
 
 -- ---- instructions, programs, areas
 
@@ -229,12 +229,12 @@ made_instruction i h = by_label i.label h.label
 
     by_label : (l : Option Named) → FitsLabel l → Made instruction_of instruction_tree unplaced_instruction 3 (record i { label = l })
     by_label None fits = record {
-      stands = unlabelled_again i.op (nodes (map argument_tree i.args)) _ (called_again (Ok None) i.op None _ (map unplaced_argument i.args) refl args.stands);
+      reads = unlabelled_again i.op (nodes (map argument_tree i.args)) _ (called_again (Ok None) i.op None _ (map unplaced_argument i.args) refl args.reads);
       runs = (op_run i.op, args.runs);
       low = omega (arith, args.low);
     }
     by_label (Some n) fits = record {
-      stands = called_again (Ok Some ⊛ named_of (name_tree n)) i.op (Some (unplaced_name n)) (nodes (map argument_tree i.args)) (map unplaced_argument i.args) (ok_one Some _ (unplaced_name n) (named_again n fits)) args.stands;
+      reads = called_again (Ok Some ⊛ named_of (name_tree n)) i.op (Some (unplaced_name n)) (nodes (map argument_tree i.args)) (map unplaced_argument i.args) (ok_one Some _ (unplaced_name n) (named_again n fits)) args.reads;
       runs = ((omega arith, refl), (name_is_run n.name fits, (tt, ((op_run i.op, args.runs), tt))));
       low = omega (arith, args.low);
     }
@@ -242,7 +242,7 @@ made_instruction i h = by_label i.label h.label
 made_temporary : (t : Named × WordText) → FitsTemporary t → Made temporary_of temporary_tree unplaced_temporary 2 t
 made_temporary t h =
     let w = made_word t.1 h.1 in
-    record { stands = ok_two pair _ _ (unplaced_name t.0) (unplaced_word t.1) (named_again t.0 h.0) w.stands; runs = (name_is_run t.0.name h.0, (w.runs, tt)); low = omega (arith, w.low) }
+    record { reads = ok_two pair _ _ (unplaced_name t.0) (unplaced_word t.1) (named_again t.0 h.0) w.reads; runs = (name_is_run t.0.name h.0, (w.runs, tt)); low = omega (arith, w.low) }
 
 made_program : (p : ProgramOf) → FitsProgram p → Made program_of program_tree unplaced_program 4 p
 made_program p h = by_instrs p.instrs h.instrs h.some_instrs h.few_instrs
@@ -260,8 +260,8 @@ made_program p h = by_instrs p.instrs h.instrs h.some_instrs h.few_instrs
         let small : is_small_program formals_tree temporaries_tree (nodes (map instruction_tree (i ∷ is))) ≡ true =
         and_true (leb (count_of (nodes (map name_tree p.formals)) + count_of (nodes (map temporary_tree p.temporaries))) 400) _ (le-leb _ 400 locals) (le-leb _ 1048576 count) in
         record {
-          stands = passes 0 9 (is_small_program formals_tree temporaries_tree (nodes (map instruction_tree (i ∷ is)))) _ _ small
-              (ok_four (new_program 0 0) _ _ _ _ (unplaced_name p.name) (map unplaced_name p.formals) (map unplaced_temporary p.temporaries) (map unplaced_instruction (i ∷ is)) (named_again p.name h.name) formals.stands temporaries.stands instrs.stands);
+          reads = passes 0 9 (is_small_program formals_tree temporaries_tree (nodes (map instruction_tree (i ∷ is)))) _ _ small
+              (ok_four (new_program 0 0) _ _ _ _ (unplaced_name p.name) (map unplaced_name p.formals) (map unplaced_temporary p.temporaries) (map unplaced_instruction (i ∷ is)) (named_again p.name h.name) formals.reads temporaries.reads instrs.reads);
           runs = (name_is_run p.name.name h.name, (formals.runs, (temporaries.runs, instrs.runs)));
           low = omega (arith, formals.low, temporaries.low, instrs.low);
         }
@@ -274,7 +274,7 @@ made_area a h = by_words a.words h.words h.some_words
     by_words (w ∷ ws) fits some_ =
         let words = made_each FitsWord word_of word_tree unplaced_word 1 made_word (w ∷ ws) fits in
         record {
-          stands = ok_two (new_area 0) _ _ (unplaced_name a.name) (map unplaced_word (w ∷ ws)) (named_again a.name h.name) words.stands;
+          reads = ok_two (new_area 0) _ _ (unplaced_name a.name) (map unplaced_word (w ∷ ws)) (named_again a.name h.name) words.reads;
           runs = (name_is_run a.name.name h.name, words.runs);
           low = omega (arith, words.low);
         }
@@ -298,14 +298,14 @@ made_system s h = by_programs s.programs h.programs h.some_programs h.few_progra
         let numbers : (is_digits (signed_decimal s.ctrl.number) && is_digits (signed_decimal s.temp.number) && is_digits (signed_decimal s.base.number)) ≡ true =
         rw (ctrl.is_written, temp.is_written, base.is_written) refl in
         record {
-          stands = passes 0 1 (is_digits (signed_decimal s.ctrl.number) && is_digits (signed_decimal s.temp.number) && is_digits (signed_decimal s.base.number)) _ _ numbers
+          reads = passes 0 1 (is_digits (signed_decimal s.ctrl.number) && is_digits (signed_decimal s.temp.number) && is_digits (signed_decimal s.base.number)) _ _ numbers
               (passes 0 9 (is_small_system (nodes (map area_tree s.areas)) (nodes (map program_tree (p ∷ ps)))) _ _ small
               (ok_seven (new_system 0) _ _ _ _ _ _ _ (unplaced_name s.main) (unplaced_number s.ctrl) (unplaced_number s.temp) (unplaced_number s.base) (map unplaced_area s.areas) (map unplaced_word s.stack) (map unplaced_program (p ∷ ps))
-              (named_again s.main h.main) ctrl.stands temp.stands base.stands areas.stands stack.stands programs.stands));
+              (named_again s.main h.main) ctrl.reads temp.reads base.reads areas.reads stack.reads programs.reads));
           runs = ((omega arith, refl), (name_is_run s.main.name h.main, (ctrl.runs, (temp.runs, (base.runs, (areas.runs, (stack.runs, programs.runs)))))));
           low = omega (arith, areas.low, stack.low, programs.low);
         }
 
 -- what fits the form keeps it
 pub fits_keeps : (s : SystemOf) → FitsForm s → node_count (tree_of s) ≤ 2 ^ 31 → KeepsForm s
-fits_keeps s h few = let m = made_system s h in record { well_formed = record { atoms = m.runs; shallow = omega (arith, m.low); few = few }; stands = m.stands }
+fits_keeps s h few = let m = made_system s h in record { well_formed = record { atoms = m.runs; shallow = omega (arith, m.low); few = few }; reads = m.reads }

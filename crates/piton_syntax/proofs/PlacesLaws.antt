@@ -1,4 +1,4 @@
--- The grammar is blind to places: a tree and the same tree without places are one value but for places, or both have faults.
+-- The grammar is independent of places: a tree and the same tree without places are one value but for places, or both have faults.
 use Rattle.std.proofs.Common.{◌≡◌, ℕ, Bool, true, false, cond, List, [], map, Option, Some, None, Ok, Err, refl, sym, ap, subst, ◌∙◌}
 use Rattle.std.specs.Prelude.{option_map, ◌||◌, ◌+◌}
 use Rattle.stack_text.specs.declared.name.Named.{Named}

@@ -79,11 +79,11 @@ unplaced_system s =
 -- ---- the text is read again
 
 read_as : (text : List ℕ) (s : SystemOf) → TreeReadsAs text (tree_of s) → system_of (tree_of s) ≡ Ok (without_places s) → ReadsAs text s
-read_as text s h stands =
-    let same : system_of (unplaced_tree h.0) ≡ Ok (without_places s) = ap system_of (h.2 ∙ unplaced_system s) ∙ stands in
+read_as text s h reads =
+    let same : system_of (unplaced_tree h.0) ≡ Ok (without_places s) = ap system_of (h.2 ∙ unplaced_system s) ∙ reads in
     let found = same_lifted without_places (system_of h.0) (system_of (unplaced_tree h.0)) (without_places s) (same_system h.0) same in
     (found.0, ap piton_by (tree_in-TreeOf text h.0 h.1) ∙ ap judgement found.1, found.2)
 
 pub piton_text_reads : (s : SystemOf) → KeepsForm s → ReadsAs (piton_text s) s
 piton_text_reads s form =
-    read_as (piton_text s) s (spelled_is_read (tree_of s) (lines_text program_text (system_head s) s.programs) (10 ∷ []) form.well_formed (spells_system s) (tt, tt)) form.stands
+    read_as (piton_text s) s (spelled_is_read (tree_of s) (lines_text program_text (system_head s) s.programs) (10 ∷ []) form.well_formed (spells_system s) (tt, tt)) form.reads

@@ -79,7 +79,7 @@ tested_up (Some test) low p mid t label high le lt under o =
     is_judged p 7 (is_atom_of is_name label) le under (only (test_and_label test) named_up low o.0 label high (omega (arith, within.0, within.1)) o.2)
 
 -- the places of the arguments are after that of the operation's list, at which P7 is
-arguments_up : (wanted : Arguments) (low p mid : ℕ) (ts : Nodes) (high : ℕ) → low ≤ p → p < mid → p < high → AllInOrder mid ts high → Up low (arguments_of wanted p ts) high
+arguments_up : (row : Arguments) (low p mid : ℕ) (ts : Nodes) (high : ℕ) → low ≤ p → p < mid → p < high → AllInOrder mid ts high → Up low (arguments_of row p ts) high
 arguments_up Zero low p mid none high le lt under o = starts [] low high (omega arith)
 arguments_up (One k) low p mid (more t none) high le lt under o = is_judged p 7 (is_of_kind k t) le under (only one (argument_up k) low mid t high (omega arith) o)
 arguments_up (TestAndLabel family) low p mid (more t (more label none)) high le lt under o = tested_up (test_at family t) low p mid t label high le lt under o

@@ -55,7 +55,7 @@ Gives view result value = common.Gives fault_of view result value
 -- form, and each that keeps it can be printed.
 pub record KeepsForm (s : SystemOf) : Type 0 where
   pub well_formed : IsWellFormed (tree_of s)
-  pub stands : system_of (tree_of s) ≡ Ok (without_places s)
+  pub reads : system_of (tree_of s) ≡ Ok (without_places s)
 
 -- the text is the system's but for places
 abbrev pub ReadsAs : List ℕ → SystemOf → Type 0

@@ -43,7 +43,7 @@ pub fn nat_carried(number: i64) -> Result<Outcome, WordError>
     Ok(Outcome::Two(Word::Bool(!is_nat(number)), Word::Nat(wrapped(number))))
 }
 
-// The top comes first, since its tag is looked at first.
+// The top is the first argument, since its tag is looked at first.
 
 pub fn int_sum(t: i32, s: i32) -> i64
     ensures { result ≡ s +ℤ t }

@@ -1,7 +1,6 @@
 //! Piton's words: numbers, bits, truth values and names of positions, each with its tag, and the operations on them.
 //!
-//! Piton is the assembly language of Moore, "Piton: A Verified Assembly Level Language" (Computational Logic, Technical
-//! Report 22). Tags and operations are this repository's profile of it.
+//! Tags and operations are this repository's profile of Piton.
 #![tactic(auto)]
 
 mod arithmetic;

@@ -18,7 +18,7 @@ pub fn bool_word(truth: bool) -> Result<Outcome, WordError>
     Ok(Outcome::One(Word::Bool(truth)))
 }
 
-/// Whether an address stands before another one of the same area.
+/// Whether an address is before another one of the same area.
 pub fn addr_lt(t: (u32, u32), s: (u32, u32)) -> Result<Outcome, WordError>
     ensures { result ≡ where_true (s.0 == t.0) (bool_word (nat_lt s.1 t.1)) }
 {

@@ -8,7 +8,7 @@ use thiserror::Error;
 pub enum Outcome {
     /// One word.
     One(Word),
-    /// Two words; the last comes to the top of the stack.
+    /// Two words; the last is then the top of the stack.
     Two(Word, Word),
 }
 

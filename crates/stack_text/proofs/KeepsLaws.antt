@@ -195,19 +195,19 @@ ok_seven {A} {B} {C} {D} {E} {F} {G} f ra rb rc rd re rf rg a b c d e i j ha hb 
 -- a part whose tree has the shape of the tree that was read, and is that part but for places
 pub record Keeps {X : Type 0} (judge : Node → Judged X) (tree : X → Node) (view : X → X) (t : Node) (x : X) : Type 0 where
   pub alike : Alike t (tree x)
-  pub stands : judge (tree x) ≡ Ok (view x)
+  pub reads : judge (tree x) ≡ Ok (view x)
 
 -- ---- lists
 
 pub record KeepsEach {X : Type 0} (judge : Node → Judged X) (tree : X → Node) (view : X → X) (ts : Nodes) (xs : List X) : Type 0 where
   pub alike : AllAlike ts (nodes (map tree xs))
-  pub stands : each_of judge (nodes (map tree xs)) ≡ Ok (map view xs)
+  pub reads : each_of judge (nodes (map tree xs)) ≡ Ok (map view xs)
 
 pub keeps_each : {X : Type 0} (judge : Node → Judged X) (tree : X → Node) (view : X → X) → ((t : Node) → Holds (Keeps judge tree view t) (judge t)) → (ts : Nodes) → Holds (KeepsEach judge tree view ts) (each_of judge ts)
-keeps_each judge tree view keeps none = record { of_value = record { alike = tt; stands = refl } }
+keeps_each judge tree view keeps none = record { of_value = record { alike = tt; reads = refl } }
 keeps_each judge tree view keeps (more t ts) =
     holds_two (Keeps judge tree view t) (KeepsEach judge tree view ts) (KeepsEach judge tree view (more t ts)) front (judge t) (each_of judge ts)
-    (λ x g xs h. record { alike = (g.alike, h.alike); stands = ok_two front _ _ (view x) (map view xs) g.stands h.stands })
+    (λ x g xs h. record { alike = (g.alike, h.alike); reads = ok_two front _ _ (view x) (map view xs) g.reads h.reads })
     (keeps t) (keeps_each judge tree view keeps ts)
 
 pub keeps_list : (rule : ℕ) → {X : Type 0} (judge : Node → Judged X) (tree : X → Node) (view : X → X) → ((t : Node) → Holds (Keeps judge tree view t) (judge t)) → (t : Node) →
@@ -216,13 +216,13 @@ keeps_list rule judge tree view keeps (atom p w) = record { of_value = tt }
 keeps_list rule {X} judge tree view keeps (list p ts) = as_list (each_of judge ts) (keeps_each judge tree view keeps ts)
   where
     as_list : (r : Judged (List X)) → Holds (KeepsEach judge tree view ts) r → Holds (Keeps (list_or rule judge) (list_tree tree) (map view) (list p ts)) r
-    as_list (Ok xs) h = record { of_value = record { alike = h.of_value.alike; stands = h.of_value.stands } }
+    as_list (Ok xs) h = record { of_value = record { alike = h.of_value.alike; reads = h.of_value.reads } }
     as_list (Err fs) h = record { of_value = tt }
 
 -- what is found is among what was searched
-found_first : {X : Type 0} (P : X → Bool) (y x : X) (b : Bool) (behind : Option X) → P y ≡ true → (behind ≡ Some x → P x ≡ true) → cond b (Some y) behind ≡ Some x → P x ≡ true
-found_first {X} P y x true behind first others h = let k : y ≡ x = cc in subst (λ (z : X). P z ≡ true) k first
-found_first P y x false behind first others h = others h
+found_first : {X : Type 0} (P : X → Bool) (y x : X) (b : Bool) (last : Option X) → P y ≡ true → (last ≡ Some x → P x ≡ true) → cond b (Some y) last ≡ Some x → P x ≡ true
+found_first {X} P y x true last first others h = let k : y ≡ x = cc in subst (λ (z : X). P z ≡ true) k first
+found_first P y x false last first others h = others h
 
 pub found_passes : {X : Type 0} (P test : X → Bool) (xs : List X) (x : X) → list_all P xs ≡ true → find test xs ≡ Some x → P x ≡ true
 found_passes P test [] x all h = absurd cc
@@ -231,9 +231,9 @@ found_passes P test (y ∷ ys) x all h =
     found_first P y x (test y) (find test ys) p.0 (found_passes P test ys x p.1) h
 
 -- what is found passes the test
-found_tests_first : {X : Type 0} (test : X → Bool) (y x : X) (b : Bool) (behind : Option X) → test y ≡ b → (behind ≡ Some x → test x ≡ true) → cond b (Some y) behind ≡ Some x → test x ≡ true
-found_tests_first {X} test y x true behind t others h = let k : y ≡ x = cc in subst (λ (z : X). test z ≡ true) k t
-found_tests_first test y x false behind t others h = others h
+found_tests_first : {X : Type 0} (test : X → Bool) (y x : X) (b : Bool) (last : Option X) → test y ≡ b → (last ≡ Some x → test x ≡ true) → cond b (Some y) last ≡ Some x → test x ≡ true
+found_tests_first {X} test y x true last t others h = let k : y ≡ x = cc in subst (λ (z : X). test z ≡ true) k t
+found_tests_first test y x false last t others h = others h
 
 pub found_tests : {X : Type 0} (test : X → Bool) (xs : List X) (x : X) → find test xs ≡ Some x → test x ≡ true
 found_tests test [] x h = absurd cc
@@ -264,4 +264,4 @@ keeps_name rule (list p ts) = record { of_value = tt }
 
 -- a name as a part
 pub keeps_named : (rule : ℕ) (t : Node) → Holds (Keeps (name_or rule) name_tree unplaced_name t) (name_or rule t)
-keeps_named rule t = holds_more (KeepsName t) (Keeps (name_or rule) name_tree unplaced_name t) (name_or rule t) (λ n h. record { alike = h.alike; stands = named_again rule n h.is_named }) (keeps_name rule t)
+keeps_named rule t = holds_more (KeepsName t) (Keeps (name_or rule) name_tree unplaced_name t) (name_or rule t) (λ n h. record { alike = h.alike; reads = named_again rule n h.is_named }) (keeps_name rule t)

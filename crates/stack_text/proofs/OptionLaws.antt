@@ -1,4 +1,4 @@
--- Steps one after the other, each of which may come to nothing.
+-- Steps one after the other, each of which may have no value.
 use Rattle.std.proofs.Common.{◌≡◌, Option, Some, None, refl, ap}
 use Rattle.stack_text.specs.Options.{◌>>=◌}
 

@@ -7,7 +7,7 @@ use Rattle.stack_text.specs.TreeView.{node_of, nodes_of}
 use Rattle.stack_text.specs.declared.tree.Tree.{Tree}
 use Rattle.stack_text.proofs.Loops.{drop-item}
 
--- items in front of those that are still to come
+-- items in front of those that are left
 abbrev pub with_front : {X : Type 0} → List X → Option (List X) → Option (List X)
 with_front xs (Some ys) = Some (xs ++ ys)
 with_front xs None = None

@@ -1,4 +1,4 @@
--- A grammar is blind to places: a tree and the same tree without places are one value but for places, or both have faults.
+-- A grammar is independent of places: a tree and the same tree without places are one value but for places, or both have faults.
 use Rattle.std.proofs.Common.{◌≡◌, ℕ, Bool, true, false, cond, List, map, Ok, Err, refl, sym, ap, subst, ◌∙◌}
 use Rattle.std.specs.Prelude.{◌+◌}
 use Rattle.stack_text.specs.Names.{is_name}

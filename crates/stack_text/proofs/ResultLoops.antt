@@ -8,7 +8,7 @@ use Rattle.stack_text.specs.TreeView.{node_of, nodes_of}
 use Rattle.stack_text.specs.declared.tree.Tree.{Tree}
 use Rattle.stack_text.proofs.Loops.{drop-item}
 
--- items in front of those that are still to come
+-- items in front of those that are left
 abbrev pub with_front : {X F : Type 0} → List X → Result (List X) F → Result (List X) F
 with_front xs (Ok ys) = Ok (xs ++ ys)
 with_front xs (Err fault) = Err fault

@@ -1,5 +1,5 @@
-//! Reads texts of a million bytes and more, one of 32 MiB, and prints what each is. The times are taken from outside: each text is
-//! read in time linear in its length, without recursion.
+//! Reads texts of a million bytes and more, one of 32 MiB, and prints what each is. The times are taken from outside:
+//! each text is read in time linear in its length, without recursion.
 #![tactic(auto)]
 
 use stack_text::{TextFault, Tree, read_tree};

@@ -6,7 +6,7 @@ ghost use Rattle.stack_text.specs.Grammar.Judged.{each_of};
 ghost use Rattle.stack_text.specs.Grammar.Reading.{Finds, Reads};
 ghost use Rattle.stack_text.specs.TreeView.{node_of, nodes_of};
 ghost use Rattle.piton_syntax.specs.Grammar.{are_of_kind, argument_of, arguments_of, is_of_kind, test_at};
-ghost use Rattle.piton_syntax.specs.declared.argument.Arguments.TheVariants as wanted;
+ghost use Rattle.piton_syntax.specs.declared.argument.Arguments.TheVariants as row;
 
 use crate::argument::{ArgKind, ArgText, Arguments};
 use crate::reading::atom::{is_digits_atom, is_name_atom, name, number};
@@ -57,7 +57,7 @@ fn argument(alloc: Global, kind: ArgKind, tree: &Tree) -> Result<ArgText, FormFa
 
 /// The arguments of an operation that has none.
 fn no_arguments(alloc: Global, place: u32, trees: &[Tree]) -> Result<Vec<ArgText>, Breach>
-    ensures { Finds (λ args. args.items) result (arguments_of wanted.Zero place (nodes_of trees.now)) }
+    ensures { Finds (λ args. args.items) result (arguments_of row.Zero place (nodes_of trees.now)) }
 {
     if trees.is_empty() {
         Ok(Vec::new(alloc))
@@ -73,7 +73,7 @@ fn one_argument(
     place: u32,
     trees: &[Tree],
 ) -> Result<Vec<ArgText>, FormFault>
-    ensures { Reads (λ args. args.items) result (arguments_of (wanted.One kind) place (nodes_of trees.now)) }
+    ensures { Reads (λ args. args.items) result (arguments_of (row.One kind) place (nodes_of trees.now)) }
 {
     if trees.len() != 1 {
         return Err(wrong_arguments(place).into());
@@ -105,7 +105,7 @@ fn test_and_label(
     place: u32,
     trees: &[Tree],
 ) -> Result<Vec<ArgText>, FormFault>
-    ensures { Reads (λ args. args.items) result (arguments_of (wanted.TestAndLabel family) place (nodes_of trees.now)) }
+    ensures { Reads (λ args. args.items) result (arguments_of (row.TestAndLabel family) place (nodes_of trees.now)) }
 {
     if trees.len() != 2 {
         return Err(wrong_arguments(place).into());
@@ -144,7 +144,7 @@ fn some_arguments(
     place: u32,
     trees: &[Tree],
 ) -> Result<Vec<ArgText>, FormFault>
-    ensures { Reads (λ args. args.items) result (arguments_of (wanted.OneOrMore kind) place (nodes_of trees.now)) }
+    ensures { Reads (λ args. args.items) result (arguments_of (row.OneOrMore kind) place (nodes_of trees.now)) }
 {
     if trees.is_empty() {
         return Err(wrong_arguments(place).into());
@@ -155,16 +155,16 @@ fn some_arguments(
     each_argument(alloc, kind, trees)
 }
 
-/// The arguments that an operation wants, or P7 at the place of its list where there are others.
+/// The arguments that an operation takes, or P7 at the place of its list where there are others.
 pub fn arguments(
     alloc: Global,
-    wanted: Arguments,
+    row: Arguments,
     place: u32,
     trees: &[Tree],
 ) -> Result<Vec<ArgText>, FormFault>
-    ensures { Reads (λ args. args.items) result (arguments_of wanted place (nodes_of trees.now)) }
+    ensures { Reads (λ args. args.items) result (arguments_of row place (nodes_of trees.now)) }
 {
-    match wanted {
+    match row {
         Arguments::Zero => Ok(no_arguments(alloc, place, trees)?),
         Arguments::One(kind) => one_argument(alloc, kind, place, trees),
         Arguments::TestAndLabel(family) => test_and_label(alloc, family, place, trees),

@@ -6,7 +6,7 @@ use Rattle.stack_text.specs.Grammar.Judged.{each_of}
 use Rattle.stack_text.proofs.ResultLoops.{with_front}
 use Rattle.piton_syntax.proofs.reading.argument.each_argument.Given as goal
 
--- the arguments so far, and those that are still to come, are those of all trees
+-- the arguments so far, and those that are left, are those of all trees
 abbrev pub invariant-loop-tree : goal.invariant-loop-tree
 invariant-loop-tree l = record {
   so_far : with_front l.arguments.items (each_of (argument_of l.kind) (nodes_of (drop l.tree-index l.trees))) ≡ each_of (argument_of l.kind) (nodes_of l.trees);

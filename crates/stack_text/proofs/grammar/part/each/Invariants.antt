@@ -4,7 +4,7 @@ use Rattle.stack_text.specs.Grammar.Judged.{each_of}
 use Rattle.stack_text.proofs.ResultLoops.{with_front}
 use Rattle.stack_text.proofs.grammar.part.each.Given as goal
 
--- the parts so far, and those that are still to come, are those of all trees
+-- the parts so far, and those that are left, are those of all trees
 abbrev pub invariant-loop-tree : goal.invariant-loop-tree
 invariant-loop-tree g l =
     with_front (map g.T.Part.view l.parts.items) (each_of g.T.Part.part_of (nodes_of (drop l.tree-index l.trees))) ≡

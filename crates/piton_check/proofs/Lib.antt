@@ -1,0 +1,9 @@
+pub mod ListLaws
+pub mod TableLaws
+pub mod ProgramLaws
+pub mod SystemLaws
+pub mod CountLaws
+pub mod SoundLaws
+pub mod SoundUses
+pub mod SmallLaws
+pub mod CheckedLaws

@@ -1,0 +1,11 @@
+-- What the crate promises: the rules, the resolved form, and what is known of a checked system.
+pub mod Declarations
+pub mod Meaning
+pub mod Resolved
+pub mod Violations
+pub mod Words
+pub mod Instruction
+pub mod Sound
+pub mod Answers
+-- Scaffold: what only private functions say.
+pub mod Tables

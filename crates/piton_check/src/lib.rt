@@ -1,0 +1,23 @@
+//! Piton's static rules: what keeps a system from being run, and a checked system with each name replaced by a position.
+//!
+//! `specs/` has the rules, the positions, and what later layers know of a checked system.
+#![tactic(auto)]
+
+mod argument;
+mod checked;
+mod fault;
+mod names;
+mod piece;
+mod program;
+mod resolved;
+mod system;
+#[cfg(test)]
+mod tests;
+mod word;
+mod word_names;
+
+pub use checked::{Checked, check};
+pub use fault::CheckFault;
+pub use piece::Piece;
+pub use resolved::{Resolved, ResolvedArg, ResolvedInstr, ResolvedProgram};
+pub use word_names::{tag_of, word_operation};

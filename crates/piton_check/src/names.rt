@@ -1,0 +1,166 @@
+//! Tables of names, each with the position of its first declaration.
+
+ghost use Rattle.std.specs.Prelude.{◌≡◌, ℕ, ◌+◌, ◌≤◌, ◌^◌, List, [], ◌++◌, length, map, is_some, OnOk};
+ghost use Rattle.std.specs.Str.{bytes_eq};
+ghost use Rattle.stack_text.specs.Breaches.{when, Notes};
+ghost use Rattle.piton_check.specs.Declarations.{area_name, program_name, formal_name, temporary_name, label_name, is_named, repeats};
+ghost use Rattle.piton_check.specs.Tables.{look_up, first_or, repeated, Knows};
+
+use indexmap::IndexMap;
+use piton_syntax::{Area, InstrText, Program, System, WordText};
+use stack_text::{Breach, Memory, Name, Named, note_if};
+use std::alloc::Global;
+
+/// A system with tables of its areas and programs.
+#[derive(Drop)]
+pub(crate) struct Names<'a> {
+    pub system: &'a System,
+    pub areas: IndexMap<&'a [u8], u32>,
+    pub programs: IndexMap<&'a [u8], u32>,
+}
+
+/// A program with tables of its locals and labels, and the names of its system.
+#[derive(Drop)]
+pub(crate) struct Scope<'a, 'b> {
+    pub names: &'b Names<'a>,
+    pub program: &'a Program,
+    pub locals: IndexMap<&'a [u8], u32>,
+    pub labels: IndexMap<&'a [u8], u32>,
+}
+
+/// The position of a name.
+pub(crate) fn position(table: &IndexMap<&[u8], u32>, name: &[u8]) -> Option<u32>
+    ensures { result ≡ look_up table.now name.now }
+{
+    table.get(name).copied()
+}
+
+/// Enters a name with its position, or notes that it was entered before.
+fn declare<'a>(
+    best: &mut Option<Breach>,
+    table: &mut IndexMap<&'a [u8], u32>,
+    name: &'a Name,
+    position: u32,
+    place: u32,
+    rule: u8,
+) -> Result<(), Memory>
+    ensures entered { OnOk result
+        ((other : List ℕ) →
+        look_up table.new other ≡ first_or (look_up table.old other) (bytes_eq other name.now) position) }
+    ensures noted { OnOk result (Notes best.old (when (is_some (look_up table.old name.now)) place rule) best.new) }
+{
+    let name = name.bytes();
+    let is_known = table.contains_key(name);
+    note_if(best, is_known, place, rule);
+    if is_known {
+        return Ok(());
+    }
+    table.insert(name, position)?;
+    Ok(())
+}
+
+/// The areas.
+pub(crate) fn declare_areas<'a>(
+    best: &mut Option<Breach>,
+    table: &mut IndexMap<&'a [u8], u32>,
+    areas: &'a [Area],
+) -> Result<(), Memory>
+    requires empty { Knows table.old [] }
+    requires few { length areas.now ≤ 2 ^ 20 }
+    ensures known { OnOk result (Knows table.new (map area_name areas.now)) }
+    ensures noted { OnOk result (Notes best.old (repeats 2 [] (map area_name areas.now)) best.new) }
+{
+    for (index, area) in areas.iter().enumerate() {
+        declare(best, table, &area.name.name, index as u32, area.place, 2)?;
+    }
+    Ok(())
+}
+
+/// The programs.
+pub(crate) fn declare_programs<'a>(
+    best: &mut Option<Breach>,
+    table: &mut IndexMap<&'a [u8], u32>,
+    programs: &'a [Program],
+) -> Result<(), Memory>
+    requires empty { Knows table.old [] }
+    requires few { length programs.now ≤ 2 ^ 20 }
+    ensures known { OnOk result (Knows table.new (map program_name programs.now)) }
+    ensures noted { OnOk result (Notes best.old (repeats 1 [] (map program_name programs.now)) best.new) }
+{
+    for (index, program) in programs.iter().enumerate() {
+        declare(
+            best,
+            table,
+            &program.name.name,
+            index as u32,
+            program.place,
+            1,
+        )?;
+    }
+    Ok(())
+}
+
+/// The formals of a program, and after them its temporaries.
+pub(crate) fn declare_locals<'a>(
+    best: &mut Option<Breach>,
+    table: &mut IndexMap<&'a [u8], u32>,
+    formals: &'a [Named],
+    temporaries: &'a [(Named, WordText)],
+) -> Result<(), Memory>
+    requires empty { Knows table.old [] }
+    requires few { length formals.now + length temporaries.now ≤ 2 ^ 20 }
+    ensures known { OnOk result (Knows table.new (map formal_name formals.now ++ map temporary_name temporaries.now)) }
+    ensures noted { let locals = map formal_name formals.now ++ map temporary_name temporaries.now in
+        OnOk result (Notes best.old (repeats 5 [] locals) best.new) }
+{
+    for (index, formal) in formals.iter().enumerate() {
+        declare(best, table, &formal.name, index as u32, formal.place, 5)?;
+    }
+    for (offset, temporary) in temporaries.iter().enumerate() {
+        let position = (formals.len() + offset) as u32;
+        declare(
+            best,
+            table,
+            &temporary.0.name,
+            position,
+            temporary.0.place,
+            5,
+        )?;
+    }
+    Ok(())
+}
+
+/// A label, if there is one.
+fn declare_label<'a>(
+    best: &mut Option<Breach>,
+    table: &mut IndexMap<&'a [u8], u32>,
+    label: &'a Option<Named>,
+    position: u32,
+) -> Result<(), Memory>
+    ensures entered { OnOk result
+        ((other : List ℕ) →
+        look_up table.new other ≡ first_or (look_up table.old other) (is_named other label.now) position) }
+    ensures noted { OnOk result (Notes best.old (repeated (look_up table.old) 6 label.now) best.new) }
+{
+    match label {
+        None => Ok(()),
+        Some(label) => declare(best, table, &label.name, position, label.place, 6),
+    }
+}
+
+/// The labels of a program's instructions.
+pub(crate) fn declare_labels<'a>(
+    best: &mut Option<Breach>,
+    table: &mut IndexMap<&'a [u8], u32>,
+    instrs: &'a [InstrText],
+) -> Result<(), Memory>
+    requires empty { Knows table.old [] }
+    requires few { length instrs.now ≤ 2 ^ 20 }
+    ensures known { OnOk result (Knows table.new (map label_name instrs.now)) }
+    ensures noted { OnOk result (Notes best.old (repeats 6 [] (map label_name instrs.now)) best.new) }
+{
+    for (index, instr) in instrs.iter().enumerate() {
+        declare_label(best, table, &instr.label, index as u32)?;
+    }
+    Ok(())
+}
