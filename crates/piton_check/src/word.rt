@@ -142,7 +142,8 @@ pub(crate) fn temporary_words(
 ) -> Result<Vec<Word>, Memory>
     requires { KnowsSystem names.now }
     ensures value { IfOk result (λ words. words.items ≡ map (resolved_temporary names.now.system.now) temporaries.now) }
-    ensures noted { OnOk result (Notes best.old (flat_map (temporary_breaches names.now.system.now) temporaries.now) best.new) }
+    ensures noted { let breaches = flat_map (temporary_breaches names.now.system.now) temporaries.now in
+        OnOk result (Notes best.old breaches best.new) }
 {
     let mut words = Vec::new(alloc);
     for temporary in temporaries {
