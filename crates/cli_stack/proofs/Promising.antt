@@ -85,8 +85,8 @@ in_range (word ∷ words) = by_verb (verb_of word) words
 
 -- 2. What is stored is an implementation.
 
-module _ (files : Files) (source image text : List ℕ) (there : file_at files source ≡ Some text) where
-  built_keeps : (found : Result BuiltOf BuildFault) → IfOk found (BuildsText text) → SetsImplementation files source (set_file (Some image) (go_stored found))
+module _ (files : Files) (source image text : List ℕ) (control temporary : ℕ) (there : file_at files source ≡ Some text) where
+  built_keeps : (found : Result BuiltOf BuildFault) → IfOk found (BuildsText text control temporary) → SetsImplementation files source control temporary (set_file (Some image) (go_stored found))
   built_keeps (Err fault) builds = tt
   built_keeps (Ok built) builds = record {
     text = text;
@@ -114,17 +114,17 @@ was_there name limit (Some bytes) text h = short (nat_lt limit (length bytes)) h
     short true h = cc
     short false h = cc
 
-sets_none : (files : Files) (source : List ℕ) (o : Option (List ℕ × List ℕ)) → o ≡ None → SetsImplementation files source o
-sets_none files source o h = rw h tt
+sets_none : (files : Files) (source : List ℕ) (control temporary : ℕ) (o : Option (List ℕ × List ℕ)) → o ≡ None → SetsImplementation files source control temporary o
+sets_none files source control temporary o h = rw h tt
 
 go_keeps : (files : Files) (source values image : List ℕ) (control temporary budget : ℕ) → control ≤ 65536 → temporary ≤ 65536 → (first second : Result (List ℕ) Answer)
     → text_of source TEXT_LIMIT (fetched files source TEXT_LIMIT) ≡ first → text_of values TEXT_LIMIT (fetched files values TEXT_LIMIT) ≡ second
-    → SetsImplementation files source (answer_on (Go source values control temporary budget image) (before_texts first (before_texts second (Ok [])))).output
+    → SetsImplementation files source control temporary (answer_on (Go source values control temporary budget image) (before_texts first (before_texts second (Ok [])))).output
 unfolding output_of stored_by
-go_keeps files source values image control temporary budget c t (Err early) second got got' = sets_none files source early.output (no_output source TEXT_LIMIT _ early got)
-go_keeps files source values image control temporary budget c t (Ok text) (Err early) got got' = sets_none files source early.output (no_output values TEXT_LIMIT _ early got')
+go_keeps files source values image control temporary budget c t (Err early) second got got' = sets_none files source control temporary early.output (no_output source TEXT_LIMIT _ early got)
+go_keeps files source values image control temporary budget c t (Ok text) (Err early) got got' = sets_none files source control temporary early.output (no_output values TEXT_LIMIT _ early got')
 go_keeps files source values image control temporary budget c t (Ok text) (Ok text') got got' =
-    built_keeps files source image text (was_there source TEXT_LIMIT (file_at files source) text got) (built text control temporary) (built_implements text control temporary c t)
+    built_keeps files source image text control temporary (was_there source TEXT_LIMIT (file_at files source) text got) (built text control temporary) (built_implements text control temporary c t)
 
 keeps : (command : Command) (files : Files) → InRange command → KeepsPromise command files (answer_to command files).output
 unfolding inputs_of

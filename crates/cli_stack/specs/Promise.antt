@@ -1,5 +1,6 @@
 -- What a command stores does what its source means, and what it prints is that meaning.
-use Rattle.std.specs.Prelude.{◌≡◌, ◌≤◌, ℕ, ℤ, List, length, map, Option, Some, None, Ok}
+use Rattle.std.specs.Prelude.{◌≡◌, ◌≤◌, ℕ, List, length, Option, Some, None, Ok}
+use Rattle.stack_text.specs.Values.{ValueOf}
 use Rattle.stack_shelf.specs.Files.{Files, file_at}
 use Rattle.cli_stack.specs.declared.command.Command.{Command}
 use Rattle.cli_stack.specs.declared.command.Command.TheVariants.{Usage, NotBuilt, Go, Run, Show}
@@ -7,16 +8,17 @@ use Rattle.stack_build.specs.declared.source.OneStatement.{OneStatement}
 use Rattle.fm_image.specs.Image.{ImageOf}
 use Rattle.fm_image.specs.Spelling.{Spelled}
 use Rattle.fm_loader.specs.Values.{values_in}
-use Rattle.display_maps.specs.declared.shown.Shown.{Shown}
 use Rattle.display_maps.specs.Report.{report_text}
 use Rattle.cli_stack.specs.declared.command.TheConstants.{TEXT_LIMIT, IMAGE_LIMIT}
 use Rattle.stack_build.specs.Source.{source_of}
 use Rattle.stack_build.specs.Build.{shortage_of, source_image}
 use Rattle.cli_stack.specs.Answer.{Answer}
-use Rattle.stack_build.specs.Meaning.{Done, integer, integers_read, meaning, instruction_count, FitsVariables, Implements}
+use Rattle.stack_build.specs.Meaning.{Condition, FitsVariables}
+use Rattle.stack_build.specs.Implements.{meaning_shown, Finishes, Implements}
 
--- the bytes are an image file that can be read again, and its image implements the source in a file
-pub record HoldsImplementation (files : Files) (name bytes : List ℕ) : Type 0 where
+-- the bytes are an image file that can be read again, and its image implements the source in a file, for stacks of
+-- these sizes
+pub record HoldsImplementation (files : Files) (name : List ℕ) (control temporary : ℕ) (bytes : List ℕ) : Type 0 where
   pub text : List ℕ
   pub there : file_at files name ≡ Some text
   pub source : OneStatement
@@ -24,17 +26,17 @@ pub record HoldsImplementation (files : Files) (name bytes : List ℕ) : Type 0 
   pub image : ImageOf
   pub short : length bytes ≤ IMAGE_LIMIT
   pub spells : Spelled bytes image
-  pub implements : Implements image source
+  pub implements : Implements image source control temporary
 
 -- the file that is set, where one is, holds an implementation of the source in the file of this name
-abbrev pub SetsImplementation : Files → List ℕ → Option (List ℕ × List ℕ) → Type 0
-SetsImplementation files name None = Unit {0}
-SetsImplementation files name (Some output) = HoldsImplementation files name output.1
+abbrev pub SetsImplementation : Files → List ℕ → ℕ → ℕ → Option (List ℕ × List ℕ) → Type 0
+SetsImplementation files name control temporary None = Unit {0}
+SetsImplementation files name control temporary (Some output) = HoldsImplementation files name control temporary output.1
 
 abbrev pub KeepsPromise : Command → Files → Option (List ℕ × List ℕ) → Type 0
 KeepsPromise Usage files output = Unit {0}
 KeepsPromise NotBuilt files output = Unit {0}
-KeepsPromise (Go source values control temporary budget image) files output = SetsImplementation files source output
+KeepsPromise (Go source values control temporary budget image) files output = SetsImplementation files source control temporary output
 KeepsPromise (Run image values budget) files output = Unit {0}
 KeepsPromise (Show image) files output = Unit {0}
 
@@ -44,9 +46,9 @@ pub record IsText (files : Files) (name text : List ℕ) : Type 0 where
   pub short : length text ≤ TEXT_LIMIT
 
 -- a source with room on both stacks, and the values of a text for its variables
-pub record IsRunnable (source : OneStatement) (control temporary : ℕ) (values_text : List ℕ) (values : List ℤ) : Type 0 where
+pub record IsRunnable (source : OneStatement) (control temporary : ℕ) (values_text : List ℕ) (values : List ValueOf) : Type 0 where
   pub room : shortage_of source control temporary ≡ None
-  pub values_are : values_in (source_image source control temporary).slots values_text ≡ Ok (map integer values)
+  pub values_are : values_in (source_image source control temporary).slots values_text ≡ Ok values
 
 -- an image file within the limit of image files
 pub record IsImageFile (files : Files) (name bytes : List ℕ) (image : ImageOf) : Type 0 where
@@ -54,26 +56,31 @@ pub record IsImageFile (files : Files) (name bytes : List ℕ) (image : ImageOf)
   pub short : length bytes ≤ IMAGE_LIMIT
   pub spells : Spelled bytes image
 
--- values of a text that are numbers for the variables of a source, in an image of it
-pub record GivesNumbers (source : OneStatement) (image : ImageOf) (values_text : List ℕ) (values : List ℤ) : Type 0 where
-  pub values_are : values_in image.slots values_text ≡ Ok (map integer values)
+-- values of a text, for the slots of an image, that fit the variables of a source
+pub record GivesValues (source : OneStatement) (image : ImageOf) (values_text : List ℕ) (values : List ValueOf) : Type 0 where
+  pub values_are : values_in image.slots values_text ≡ Ok values
   pub fit : FitsVariables source values
 
--- the answer is status 0, and the report of these variables and this condition
-pub record TellsMeaning (source : OneStatement) (image : ImageOf) (finals : List ℤ) (condition : Shown) (answer : Answer) : Type 0 where
+-- the answer is status 0, and the report of these values and this condition after so many instructions
+pub record TellsMeaning (source : OneStatement) (image : ImageOf) (finals : List ValueOf) (condition : Condition) (count : ℕ) (answer : Answer) : Type 0 where
   pub status : answer.status ≡ 0
-  pub text : answer.text ≡ report_text image (integers_read source.variables finals condition) (instruction_count source)
+  pub text : answer.text ≡ report_text image (meaning_shown source finals condition) count
 
--- where both texts are there, the sizes suffice, the values fit, and the meaning is done within the budget, its variables and condition are what is told; so they are of any image file that implements a source
+-- Where both texts are there, the sizes suffice, the values fit, and the meaning is done within the budget, its values and
+-- its condition are what is told; so they are of any image file that implements a source.
 abbrev pub TellsWhatIsMeant : Command → Files → Answer → Type 0
 TellsWhatIsMeant Usage files answer = Unit {0}
 TellsWhatIsMeant NotBuilt files answer = Unit {0}
 TellsWhatIsMeant (Show image) files answer = Unit {0}
 TellsWhatIsMeant (Go source_name values_name control temporary budget image) files answer =
-    (text values_text : List ℕ) (source : OneStatement) (values finals : List ℤ) (condition : Shown) (n : ℕ) → IsText files source_name text → IsText files values_name values_text
-    → source_of text ≡ Some source → IsRunnable source control temporary values_text values → meaning source values n ≡ Done finals condition → instruction_count source ≤ budget
-    → TellsMeaning source (source_image source control temporary) finals condition answer
+    (text values_text : List ℕ) (source : OneStatement) (values finals : List ValueOf) (condition : Condition) (count : ℕ)
+    → IsText files source_name text → IsText files values_name values_text
+    → source_of text ≡ Some source → IsRunnable source control temporary values_text values
+    → Finishes source control temporary values finals condition count → count ≤ budget
+    → TellsMeaning source (source_image source control temporary) finals condition count answer
 TellsWhatIsMeant (Run image_name values_name budget) files answer =
-    (bytes values_text : List ℕ) (image : ImageOf) (source : OneStatement) (values finals : List ℤ) (condition : Shown) (n : ℕ) → IsImageFile files image_name bytes image → IsText files values_name values_text
-    → Implements image source → GivesNumbers source image values_text values → meaning source values n ≡ Done finals condition → instruction_count source ≤ budget
-    → TellsMeaning source image finals condition answer
+    (bytes values_text : List ℕ) (image : ImageOf) (source : OneStatement) (control temporary : ℕ) (values finals : List ValueOf) (condition : Condition) (count : ℕ)
+    → IsImageFile files image_name bytes image → IsText files values_name values_text
+    → Implements image source control temporary → GivesValues source image values_text values
+    → Finishes source control temporary values finals condition count → count ≤ budget
+    → TellsMeaning source image finals condition count answer

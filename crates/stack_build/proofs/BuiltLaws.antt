@@ -11,7 +11,7 @@ use Rattle.stack_build.proofs.Implementing.{implements}
 
 module _ (text : List ℕ) (ctrl temp : ℕ) (c : ctrl ≤ 65536) (t : temp ≤ 65536) where
   by_shortage : (source : OneStatement) (shortage : Option BuildFault) → source_of text ≡ Some source → shortage_of source ctrl temp ≡ shortage
-      → IfOk (built_unless shortage (source_image source ctrl temp)) (BuildsText text)
+      → IfOk (built_unless shortage (source_image source ctrl temp)) (BuildsText text ctrl temp)
   by_shortage source (Some fault) read is = tt
   by_shortage source None read is = record {
     source = source;
@@ -21,14 +21,14 @@ module _ (text : List ℕ) (ctrl temp : ℕ) (c : ctrl ≤ 65536) (t : temp ≤ 
     implements = implements text source ctrl temp read c t is;
   }
 
-  by_source : (found : Option OneStatement) → source_of text ≡ found → IfOk (built_from found ctrl temp) (BuildsText text)
+  by_source : (found : Option OneStatement) → source_of text ≡ found → IfOk (built_from found ctrl temp) (BuildsText text ctrl temp)
   by_source None read = tt
   by_source (Some source) read = by_shortage source (shortage_of source ctrl temp) read refl
 
-  pub built_implements : IfOk (built text ctrl temp) (BuildsText text)
+  pub built_implements : IfOk (built text ctrl temp) (BuildsText text ctrl temp)
   built_implements = by_source (source_of text) refl
 
   -- so does what a call returns that gives the same
-  pub returned_implements : (r : Result BuiltOf BuildFault) → Gives r (built text ctrl temp) → IfOk r (BuildsText text)
-  returned_implements (Ok b) gives = subst (λ (r : Result BuiltOf BuildFault). IfOk r (BuildsText text)) gives built_implements
+  pub returned_implements : (r : Result BuiltOf BuildFault) → Gives r (built text ctrl temp) → IfOk r (BuildsText text ctrl temp)
+  returned_implements (Ok b) gives = subst (λ (r : Result BuiltOf BuildFault). IfOk r (BuildsText text ctrl temp)) gives built_implements
   returned_implements (Err fault) gives = tt

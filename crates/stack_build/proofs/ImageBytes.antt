@@ -10,8 +10,8 @@ use Rattle.fm_image.specs.Spelling.{number_bytes, numbers_bytes, name_bytes, cou
 use Rattle.stack_build.specs.declared.source.OneStatement.{OneStatement}
 use Rattle.stack_build.specs.declared.piton.System.{System}
 use Rattle.stack_build.specs.Placed.{generated, layout_of, placed_words}
-use Rattle.stack_build.specs.Source.{IsSource}
-use Rattle.stack_build.specs.Image.{one_integer, slots_from, image_of}
+use Rattle.stack_build.specs.Source.{one_integer, IsSource}
+use Rattle.stack_build.specs.Image.{slots_from, image_of}
 use Rattle.stack_build.specs.Build.{shortage_of, source_image}
 use Rattle.stack_build.proofs.Placing.{length-placed_words}
 use Rattle.stack_build.proofs.Sizes.{placeable}

@@ -16,8 +16,8 @@ use Rattle.fm_words.specs.Code.{no_flags}
 use Rattle.stack_build.specs.declared.piton.System.{System}
 use Rattle.stack_build.specs.declared.layout.Layout.{Layout}
 use Rattle.stack_build.specs.Placed.{layout_of, placed_words, start_registers, IsPlaceable}
-use Rattle.stack_build.specs.Source.{are_distinct, AreVariables}
-use Rattle.stack_build.specs.Image.{one_integer, slots_from, image_of}
+use Rattle.stack_build.specs.Source.{one_integer, are_distinct, AreVariables}
+use Rattle.stack_build.specs.Image.{slots_from, image_of}
 use Rattle.stack_build.proofs.Placing.{length-placed_words}
 use Rattle.stack_build.proofs.Slots.{length-slots_from}
 

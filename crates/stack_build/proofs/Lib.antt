@@ -1,7 +1,7 @@
 pub mod BuiltLaws
 pub mod Declared
 pub mod Emitted
-pub mod FittingValues
+pub mod IntegerValues
 pub mod ImageBytes
 pub mod ImageLimits
 pub mod ImageWords

@@ -12,19 +12,17 @@ use Rattle.stack_build.specs.Image.{slots_from}
 use Rattle.display_maps.specs.declared.shown.Shown.{Shown}
 use Rattle.display_maps.specs.declared.shown.Shown.TheVariants.{Number}
 use Rattle.display_maps.specs.Reading.{word_of, item_of, variable_of}
+use Rattle.stack_build.specs.Meaning.{integer}
+use Rattle.stack_build.specs.Implements.{variable_shown}
 use Rattle.stack_build.proofs.Laying.{moved, Holds-moved}
 
 -- the word at an address that is read
 pub word_of_read : (s : Fm) (a w : ℕ) → word_at s.base s.memory a ≡ Some w → word_of s a ≡ w
 word_of_read s a w h = ap (λ o. unwrap_or o 0) h
 
--- a variable with its number
-abbrev number_of : List ℕ × ℤ → List ℕ × List Shown
-number_of variable = (variable.0, Number variable.1 ∷ [])
-
 -- the numbers that stand in variables, the last one first, are what is read
 pub values_read : (s : Fm) (names : List (List ℕ)) (a p : ℕ) (values : List ℤ) (above : List ℕ) → length values ≡ length names → length values ≤ a → p + length values ≡ a + 1 → All (FitsSigned w32) values
-    → Holds s.base s.memory p (moved (map word_of_int values) above) → map (variable_of s) (slots_from a names) ≡ map number_of (zip names values)
+    → Holds s.base s.memory p (moved (map word_of_int values) above) → map (variable_of s) (slots_from a names) ≡ map variable_shown (zip names (map integer values))
 unfolding item_of
 values_read s [] a p [] above same low e fits h = refl
 values_read s [] a p (value ∷ values) above same low e fits h = absurd (omega arith)

@@ -1,7 +1,8 @@
 -- Slots one below the other.
 use Rattle.std.proofs.Common.{◌≡◌, ◌-◌, ℕ, List, [], ◌∷◌, ◌++◌, length, refl, ap, arith}
 use Rattle.fm_image.specs.declared.slot.Slot.{Slot}
-use Rattle.stack_build.specs.Image.{one_integer, slots_from}
+use Rattle.stack_build.specs.Source.{one_integer}
+use Rattle.stack_build.specs.Image.{slots_from}
 
 -- one name more
 pub slots_longer : (address below : ℕ) (names : List (List ℕ)) (name : List ℕ) → below ≡ address - length names

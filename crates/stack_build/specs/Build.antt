@@ -10,7 +10,7 @@ use Rattle.stack_build.specs.declared.source.OneStatement.{OneStatement}
 use Rattle.stack_build.specs.Source.{source_of}
 use Rattle.stack_build.specs.Placed.{generated}
 use Rattle.stack_build.specs.Image.{image_of}
-use Rattle.stack_build.specs.Meaning.{Implements}
+use Rattle.stack_build.specs.Implements.{Implements}
 
 -- an image, and the bytes of its file
 pub record BuiltOf : Type 0 where
@@ -72,10 +72,11 @@ abbrev pub Gives : Result BuiltOf BuildFault → Result BuiltOf BuildFault → T
 Gives (Ok built) found = found ≡ Ok built
 Gives (Err fault) found = Fails fault found
 
--- what was built from a text: the image does what the source in the text means, and the file of at most 8,388,608 bytes spells the image
-pub record BuildsText (text : List ℕ) (built : BuiltOf) : Type 0 where
+-- What was built from a text for stacks of these sizes: the image does what the source in the text means, and its file of
+-- at most 8,388,608 bytes spells the image.
+pub record BuildsText (text : List ℕ) (ctrl temp : ℕ) (built : BuiltOf) : Type 0 where
   pub source : OneStatement
   pub read : source_of text ≡ Some source
   pub short : length built.bytes ≤ 8388608
   pub spells : Spelled built.bytes built.image
-  pub implements : Implements built.image source
+  pub implements : Implements built.image source ctrl temp

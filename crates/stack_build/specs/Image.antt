@@ -1,18 +1,13 @@
 -- The image of a placed system.
 use Rattle.std.specs.Prelude.{ℕ, ◌-◌, List, [], ◌∷◌, Some}
-use Rattle.stack_text.specs.declared.shape.Kind.TheVariants.{Integer}
-use Rattle.stack_text.specs.declared.shape.Shape.{Shape}
 use Rattle.fm_words.specs.Code.{no_flags}
 use Rattle.fm_image.specs.declared.slot.Slot.{Slot}
 use Rattle.fm_image.specs.Image.{ImageOf}
 use Rattle.stack_build.specs.declared.piton.System.{System}
+use Rattle.stack_build.specs.Source.{one_integer}
 use Rattle.stack_build.specs.Placed.{layout_of, placed_words, start_registers}
 
--- the shape of an integer variable
-abbrev pub one_integer : Shape
-one_integer = record { kind = Integer; length = 0 }
-
--- the variable of index i stands i below the last address, which is the bottom of the temporary stack
+-- the variable of index i is i below the last address, which is the bottom of the temporary stack
 abbrev pub slots_from : ℕ → List (List ℕ) → List Slot
 slots_from address [] = []
 slots_from address (name ∷ names) = record { name = name; shape = one_integer; address = address } ∷ slots_from (address - 1) names

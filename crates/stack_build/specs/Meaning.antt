@@ -1,59 +1,46 @@
--- What a program of one statement means, and what it is for an image to do that.
-use Rattle.std.specs.Prelude.{◌≡◌, ℕ, zero, suc, ◌+◌, ℤ, List, [], ◌∷◌, length, map, slice_set, Some, All, FitsSigned}
-use Rattle.std.specs.Int.{w32}
-use Rattle.std.specs.List.{zip}
-use Rattle.stack_text.specs.Values.{ValueOf}
-use Rattle.fm_machine.specs.State.{Fm}
-use Rattle.fm_machine.specs.Run.{IsFirst}
-use Rattle.fm_image.specs.Image.{ImageOf}
-use Rattle.fm_loader.specs.Loaded.{loaded}
-use Rattle.display_maps.specs.declared.shown.Shown.{Shown}
-use Rattle.display_maps.specs.declared.shown.Shown.TheVariants.{Normal, Number}
-use Rattle.display_maps.specs.Reading.{ReadingOf, reading}
+-- What a source means: what a run of it gives, on values of its variables.
+use Rattle.std.specs.Prelude.{◌≡◌, ℕ, zero, suc, ℤ, List, [], ◌∷◌, map, slice_set, IsTrue}
+use Rattle.std.specs.List.{list_all}
+use Rattle.stack_text.specs.Values.{ValueOf, is_value}
+use Rattle.fm_words.specs.Word.{is_int}
 use Rattle.stack_build.specs.declared.source.Statement.{Statement}
 use Rattle.stack_build.specs.declared.source.Statement.TheVariants.{NoOp, Assign}
 use Rattle.stack_build.specs.declared.source.OneStatement.{OneStatement}
-use Rattle.stack_build.specs.Image.{one_integer}
+use Rattle.stack_build.specs.Source.{one_integer, shapes_of}
 
--- What a run of a source gives: the variables and the condition, where it is done within a bound on nesting.
+-- How a run ends: normally, with the condition of a predefined procedure that can't do its work, with that which leaves a
+-- loop, or with one that the source declares.
+pub data Condition : Type 0 where
+  Normal : Condition
+  RoutineError : Condition
+  Leave : Condition
+  Named : List ℕ → Condition
+
+-- What a run gives: it is done, with values of the variables and a condition; it isn't done within the bound; or a call
+-- has no room on one of the stacks.
 pub data Meaning : Type 0 where
-  Done : (variables : List ℤ) (condition : Shown) → Meaning
+  Done : (variables : List ValueOf) (condition : Condition) → Meaning
   Unfinished : Meaning
+  NoRoom : Meaning
 
--- the variables after a statement: an assignment sets one of them to its constant
-abbrev pub variables_after : Statement → List ℤ → List ℤ
-variables_after NoOp values = values
-variables_after (Assign variable number) values = slice_set values variable number
-
--- the meaning of a source on these values of its variables: its statement nests once, and ends normally
-abbrev pub meaning : OneStatement → List ℤ → ℕ → Meaning
-meaning source values zero = Unfinished
-meaning source values (suc n) = Done (variables_after source.statement values) Normal
-
--- how many instructions a statement takes
-abbrev pub statement_count : Statement → ℕ
-statement_count NoOp = 1
-statement_count (Assign variable number) = 23
-
--- how many a source takes: its statement's, and five to leave the main procedure
-abbrev pub instruction_count : OneStatement → ℕ
-instruction_count source = statement_count source.statement + 5
-
--- a number of 32 signed bits for each variable
-pub record FitsVariables (source : OneStatement) (values : List ℤ) : Type 0 where
-  pub many : length values ≡ length source.variables
-  pub numbers : All (FitsSigned w32) values
+-- a value of its shape for each variable of the source, with integers of 32 bits
+pub record FitsVariables (source : OneStatement) (values : List ValueOf) : Type 0 where
+  pub shapes : map (λ value. value.shape) values ≡ shapes_of source
+  pub items : IsTrue (list_all (λ value. is_value value.shape value.items) values)
+  pub integers : IsTrue (list_all (λ value. list_all is_int value.items) values)
 
 -- the value of an integer variable
 abbrev pub integer : ℤ → ValueOf
 integer number = record { shape = one_integer; items = number ∷ [] }
 
--- a condition, and a number for each variable, as memory is read
-abbrev pub integers_read : List (List ℕ) → List ℤ → Shown → ReadingOf
-integers_read names numbers condition = record { condition = Some condition; items = map (λ variable. (variable.0, Number variable.1 ∷ [])) (zip names numbers) }
+-- an assignment sets one of the variables to its constant
+abbrev pub variables_after : Statement → List ValueOf → List ValueOf
+variables_after NoOp values = values
+variables_after (Assign variable number) values = slice_set values variable (integer number)
 
--- The image implements the source: on all values that fit, where the meaning is done, the machine loaded with those values comes to the image's final program counter, first after exactly the counted instructions, and reading its memory there gives the meaning's variables and condition.
-abbrev pub Implements : ImageOf → OneStatement → Type 0
-Implements image source =
-    (values : List ℤ) (n : ℕ) (finals : List ℤ) (condition : Shown) → FitsVariables source values → meaning source values n ≡ Done finals condition
-    → (s : Fm) × IsFirst (loaded image (map integer values)) image.final_pc (instruction_count source) s × (reading image s ≡ integers_read source.variables finals condition)
+-- The meaning of a source on these values, with a control stack and a temporary stack of these sizes, within a bound on
+-- the rounds of loops and the nesting of calls. One statement that is no loop and no call ends normally, within the bound
+-- 1 and any sizes.
+abbrev pub meaning : OneStatement → List ValueOf → ℕ → ℕ → ℕ → Meaning
+meaning source values control temporary zero = Unfinished
+meaning source values control temporary (suc bound) = Done (variables_after source.statement values) Normal

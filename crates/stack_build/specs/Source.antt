@@ -1,9 +1,12 @@
--- Programs of one statement: `(program M (proc M (D*) () () () S))`, where each D is `(V integer)` and S is `(no-op)` or `(mg-simple-constant-assignment V N)`.
-use Rattle.std.specs.Prelude.{ℕ, ◌<◌, ◌≤◌, List, [], ◌∷◌, ◌++◌, length, codes, position, Bool, true, not, ◌&&◌, ◌||◌, nat_le, IsTrue, FitsSigned, Option, Some, None, Result, Ok, Err, if◌then◌else◌}
+-- Programs of one statement: `(program M (proc M (D*) () () () S))`, where each D is `(V integer)` and S is `(no-op)` or
+-- `(mg-simple-constant-assignment V N)`.
+use Rattle.std.specs.Prelude.{ℕ, ◌<◌, ◌≤◌, List, [], ◌∷◌, ◌++◌, length, map, codes, position, Bool, true, not, ◌&&◌, ◌||◌, nat_le, IsTrue, FitsSigned, Option, Some, None, Result, Ok, Err, if◌then◌else◌}
 use Rattle.std.specs.Int.{w32}
 use Rattle.std.specs.List.{list_any, list_all}
 use Rattle.std.specs.Str.{bytes_eq}
 use Rattle.stack_text.specs.declared.text_fault.TextRule.{TextRule}
+use Rattle.stack_text.specs.declared.shape.Kind.TheVariants.{Integer}
+use Rattle.stack_text.specs.declared.shape.Shape.{Shape}
 use Rattle.stack_text.specs.Names.{is_name}
 use Rattle.stack_text.specs.Trees.{Node, Nodes, none, more}
 use Rattle.stack_text.specs.TreeIn.{tree_in}
@@ -116,6 +119,18 @@ source_in (Err fault) = None
 
 unfoldable pub source_of : List ℕ → Option OneStatement
 source_of text = source_in (tree_in text)
+
+-- the names of the variables
+abbrev pub names_of : OneStatement → List (List ℕ)
+names_of source = source.variables
+
+-- the shape of an integer variable
+abbrev pub one_integer : Shape
+one_integer = record { kind = Integer; length = 0 }
+
+-- the shapes of the variables, which are all integers
+abbrev pub shapes_of : OneStatement → List Shape
+shapes_of source = map (λ name. one_integer) source.variables
 
 -- names of variables: at most 200, all different
 pub record AreVariables (names : List (List ℕ)) : Type 0 where

@@ -121,7 +121,7 @@ pub fn build(alloc: Global, text: &[u8], ctrl: u32, temp: u32) -> Result<Built, 
     // What is built, and each fault, are those of the text and the two sizes. Out of memory alone is free.
     ensures value { Gives result (built text.now ctrl temp) }
     // The image does what the source means, and its file can be read again.
-    ensures implements { IfOk result (BuildsText text.now) }
+    ensures implements { IfOk result (BuildsText text.now ctrl temp) }
 {
     match read_source(alloc, text) {
         Ok(source) => build_source(alloc, source, ctrl, temp),
