@@ -1,20 +1,24 @@
 -- Items of variables.
-use Rattle.std.proofs.Common.{◌≡◌, ◌<◌, ◌+◌, ◌-◌, ◌⊎◌, ◌||◌, ℕ, suc, pos, negsuc, Bool, true, false, eqb, ◌∷◌, map, refl, sym, ap, subst, inl, inr, true≢false, arith}
+use Rattle.std.proofs.Common.{◌≡◌, ◌<◌, ◌+◌, ◌-◌, ◌⊎◌, ◌||◌, ◌∙◌, ℕ, suc, pos, negsuc, Bool, true, false, eqb, List, [], ◌∷◌, length, map, refl, sym, ap, subst, inl, inr, true≢false, arith}
 use Rattle.std.specs.Prelude.{ℤ}
-use Rattle.std.proofs.lemmas.Bool.{eqb-true}
+use Rattle.std.specs.List.{list_all}
+use Rattle.std.proofs.lemmas.Bool.{eqb-true, and_parts}
 use Rattle.stack_text.specs.declared.shape.Kind.{Kind}
 use Rattle.stack_text.specs.declared.shape.Kind.TheVariants.{Integer, Boolean, Character}
-use Rattle.stack_text.specs.Values.{is_item}
+use Rattle.stack_text.specs.declared.shape.Shape.{Shape}
+use Rattle.stack_text.specs.Values.{ValueOf, item_count, is_item, is_value}
 use Rattle.fm_words.specs.Word.{is_int, word_of_int}
 use Rattle.fm_words.proofs.WordLaws.{signed_of-word_of_int}
 use Rattle.fm_machine.specs.State.{Fm}
+use Rattle.fm_image.specs.declared.slot.Slot.{Slot}
+use Rattle.display_maps.specs.declared.shown.Shown.{Shown}
 use Rattle.display_maps.specs.declared.shown.Shown.TheVariants.{Number}
-use Rattle.display_maps.specs.Reading.{word_of, item_of, words_down}
-use Rattle.display_maps.specs.ValueReading.{item_shown}
+use Rattle.display_maps.specs.Reading.{word_or_zero, item_of, words_down, variable_of}
+use Rattle.display_maps.specs.ValueReading.{item_shown, value_shown}
 
 -- one of them, and those below it
 pub items_next : (s : Fm) (kind : Kind) (address n count : ℕ) → count < n
-    → map (item_of kind) (words_down s address (n - count)) ≡ item_of kind (word_of s address) ∷ map (item_of kind) (words_down s (address - 1) (n - (count + 1)))
+    → map (item_of kind) (words_down s address (n - count)) ≡ item_of kind (word_or_zero s address) ∷ map (item_of kind) (words_down s (address - 1) (n - (count + 1)))
 items_next s kind address n count lt =
     let e : n - count ≡ suc (n - (count + 1)) = omega arith in
     ap (λ m. map (item_of kind) (words_down s address m)) e
@@ -38,3 +42,20 @@ item_of-word_of_int Boolean (pos n) is fits = truth_read n (bit n (eqb n 0) (eqb
 item_of-word_of_int Boolean (negsuc n) is fits = absurd (true≢false (sym is))
 item_of-word_of_int Character (pos n) is fits = rw is refl
 item_of-word_of_int Character (negsuc n) is fits = absurd (true≢false (sym is))
+
+-- the words of items are read as the items
+items_read : (kind : Kind) (items : List ℤ) → list_all (λ item. is_item kind item) items ≡ true → list_all is_int items ≡ true → map (item_of kind) (map word_of_int items) ≡ map (item_shown kind) items
+items_read kind [] are fit = refl
+items_read kind (item ∷ items) are fit =
+    let p = and_parts (is_item kind item) (list_all (λ item. is_item kind item) items) are in
+    let q = and_parts (is_int item) (list_all is_int items) fit in
+    rw (item_of-word_of_int kind item p.0 q.0) (ap (λ (shown : List Shown). item_shown kind item ∷ shown) (items_read kind items p.1 q.1))
+
+-- a slot from whose address downwards memory holds a value is read as the value
+pub slot_read : (s : Fm) (slot : Slot) (value : ValueOf) → slot.shape ≡ value.shape → is_value value.shape value.items ≡ true → list_all is_int value.items ≡ true
+    → words_down s slot.address (item_count value.shape) ≡ map word_of_int value.items → variable_of s slot ≡ (slot.name, value_shown value)
+slot_read s slot value same is fit held =
+    let p = and_parts (eqb (length value.items) (item_count value.shape)) (list_all (λ item. is_item value.shape.kind item) value.items) is in
+    ap (λ (shape : Shape). (slot.name, map (item_of shape.kind) (words_down s slot.address (item_count shape)))) same
+    ∙ ap (λ (words : List ℕ). (slot.name, map (item_of value.shape.kind) words)) held
+    ∙ ap (λ (shown : List Shown). (slot.name, shown)) (items_read value.shape.kind value.items p.1 fit)

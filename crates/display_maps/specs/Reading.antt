@@ -21,8 +21,8 @@ abbrev pub word_in : Fm → ℕ → Option ℕ
 word_in s address = word_at s.base s.memory address
 
 -- the same, and 0 for an address outside the window
-abbrev pub word_of : Fm → ℕ → ℕ
-word_of s address = unwrap_or (word_in s address) 0
+abbrev pub word_or_zero : Fm → ℕ → ℕ
+word_or_zero s address = unwrap_or (word_in s address) 0
 
 -- 0 is leave, 1 routineerror, 2 normal, and the named conditions are counted from 3 on
 abbrev pub named_or_odd : Option (List ℕ) → ℕ → Shown
@@ -44,7 +44,7 @@ item_of Character word = if nat_le word 127 then Code word else Odd word
 -- so many words, from an address downwards
 abbrev pub words_down : Fm → ℕ → ℕ → List ℕ
 words_down s address zero = []
-words_down s address (suc n) = word_of s address ∷ words_down s (address - 1) n
+words_down s address (suc n) = word_or_zero s address ∷ words_down s (address - 1) n
 
 -- a variable: item j is the word at the slot's address less j
 abbrev pub variable_of : Fm → Slot → List ℕ × List Shown
@@ -54,6 +54,6 @@ variable_of s slot = (slot.name, map (item_of slot.shape.kind) (words_down s slo
 abbrev pub reading : ImageOf → Fm → ReadingOf
 reading image s =
     record {
-      condition = option_map (λ address. condition_of image.conditions (word_of s address)) image.condition_address;
+      condition = option_map (λ address. condition_of image.conditions (word_or_zero s address)) image.condition_address;
       items = map (variable_of s) image.slots;
     }

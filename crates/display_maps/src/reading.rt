@@ -3,7 +3,7 @@
 ghost use Rattle.std.specs.Prelude.{◌≡◌, ◌≤◌, map, IfOk};
 ghost use Rattle.std.specs.Option.{option_map};
 ghost use Rattle.stack_text.specs.Values.{item_count};
-ghost use Rattle.display_maps.specs.Reading.{word_of, condition_of, item_of, words_down, variable_of, reading};
+ghost use Rattle.display_maps.specs.Reading.{word_or_zero, condition_of, item_of, words_down, variable_of, reading};
 
 use crate::shown::{Shown, condition_of, item_of};
 use fm_image::{Image, Slot};
@@ -33,8 +33,8 @@ impl Model for Reading {
 }
 
 /// The word at an address, or 0 outside the window.
-fn word_of(machine: &Machine, address: u32) -> u32
-    ensures { result ≡ word_of machine.now.state address }
+fn word_or_zero(machine: &Machine, address: u32) -> u32
+    ensures { result ≡ word_or_zero machine.now.state address }
 {
     machine.peek(address).unwrap_or(0)
 }
@@ -46,10 +46,10 @@ fn condition_at(
     address: Option<u32>,
 ) -> Result<Option<Shown>, Memory>
     ensures { IfOk result (λ condition.
-        condition ≡ option_map (λ a. condition_of names.now (word_of machine.now.state a)) address) }
+        condition ≡ option_map (λ a. condition_of names.now (word_or_zero machine.now.state a)) address) }
 {
     match address {
-        Some(address) => Ok(Some(condition_of(names, word_of(machine, address))?)),
+        Some(address) => Ok(Some(condition_of(names, word_or_zero(machine, address))?)),
         None => Ok(None),
     }
 }
@@ -63,7 +63,7 @@ fn items_of(alloc: Global, machine: &Machine, slot: &Slot) -> Result<Vec<Shown>,
     let mut items = Vec::new(alloc);
     let mut address = slot.address;
     for _ in 0..slot.shape.item_count() {
-        items.push(item_of(slot.shape.kind, word_of(machine, address)))?;
+        items.push(item_of(slot.shape.kind, word_or_zero(machine, address)))?;
         address = address.saturating_sub(1);
     }
     Ok(items)

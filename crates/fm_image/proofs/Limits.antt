@@ -2,16 +2,16 @@
 use Rattle.std.proofs.Common.{◌≡◌, ◌≤◌, ◌<◌, ◌+◌, true, ◌&&◌, eqb, leb, [], length, arith}
 use Rattle.std.specs.Prelude.{IsTrue}
 use Rattle.std.proofs.lemmas.Bool.{and_parts, and_from, leb-true, eqb-true}
-use Rattle.fm_image.specs.Image.{ImageOf, window_of, is_size, is_inside, is_window, is_condition_address, is_count, is_condition, is_slot, all_behind, is_image}
+use Rattle.fm_image.specs.Image.{ImageOf, window_of, is_size, is_inside, is_window, is_condition_address, is_count, is_condition, is_slot, all_after, is_image}
 
 pub record Limits (image : ImageOf) : Type 0 where
   pub window : is_window (window_of image) ≡ true
   pub registers : eqb (length image.registers) 16 ≡ true
   pub condition_address : is_condition_address (window_of image) image.condition_address ≡ true
   pub condition_count : is_count (length image.conditions) ≡ true
-  pub conditions : all_behind is_condition [] image.conditions ≡ true
+  pub conditions : all_after is_condition [] image.conditions ≡ true
   pub slot_count : is_count (length image.slots) ≡ true
-  pub slots : all_behind (is_slot (window_of image)) [] image.slots ≡ true
+  pub slots : all_after (is_slot (window_of image)) [] image.slots ≡ true
   pub words : leb (length image.words) image.size ≡ true
 
 pub limits_of : (image : ImageOf) → IsTrue (is_image image) → Limits image

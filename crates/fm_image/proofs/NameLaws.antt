@@ -9,7 +9,7 @@ use Rattle.std.proofs.lemmas.Map.Keys.{IsDistinct-head, IsDistinct-tail, IsDisti
 use Rattle.stack_text.specs.Names.{is_name}
 use Rattle.fm_image.specs.declared.slot.Slot.{Slot}
 use Rattle.fm_image.specs.declared.window.Window.{Window}
-use Rattle.fm_image.specs.Image.{is_new, is_condition, is_slot, is_slot_address, all_behind}
+use Rattle.fm_image.specs.Image.{is_new, is_condition, is_slot, is_slot_address, all_after}
 
 -- ---- from names that differ
 
@@ -28,8 +28,8 @@ apart name_of (e ∷ earlier) x later own =
 -- Items of different names pass a test that asks for a new name, and for what each item has by itself.
 pub each_is_new : {A : Type 0} (name_of : A → List ℕ) (fits : A → Bool) (test : List A → A → Bool)
     → ((earlier : List A) (x : A) → fits x ≡ true → is_new name_of earlier (name_of x) ≡ true → test earlier x ≡ true)
-    → (earlier items : List A) → list_all fits items ≡ true → IsDistinct bytes_eq (map name_of (earlier ++ items)) → all_behind test earlier items ≡ true
-unfolding all_behind
+    → (earlier items : List A) → list_all fits items ≡ true → IsDistinct bytes_eq (map name_of (earlier ++ items)) → all_after test earlier items ≡ true
+unfolding all_after
 each_is_new name_of fits test passes earlier [] fit own = refl
 each_is_new name_of fits test passes earlier (x ∷ items) fit own =
     let p = and_parts (fits x) (list_all fits items) fit in
@@ -38,7 +38,7 @@ each_is_new name_of fits test passes earlier (x ∷ items) fit own =
     and_from _ _ (passes earlier x p.0 new) (each_is_new name_of fits test passes (earlier ++ x ∷ []) items p.1 later)
 
 -- names that all differ are the conditions of an image
-pub conditions_fit : (names : List (List ℕ)) → list_all is_name names ≡ true → IsDistinct bytes_eq names → all_behind is_condition [] names ≡ true
+pub conditions_fit : (names : List (List ℕ)) → list_all is_name names ≡ true → IsDistinct bytes_eq names → all_after is_condition [] names ≡ true
 conditions_fit names fit own =
     each_is_new (λ name. name) is_name is_condition (λ earlier name is new. and_from _ _ is new) [] names fit (subst (IsDistinct bytes_eq) (sym (map_same names)) own)
   where
@@ -51,7 +51,7 @@ abbrev pub fits_window : Window → Slot → Bool
 fits_window window slot = is_name slot.name && (leb slot.shape.length 4096 && is_slot_address window slot.shape slot.address)
 
 -- slots that fit a window, and whose names all differ, are the slots of an image
-pub slots_fit : (window : Window) (slots : List Slot) → list_all (fits_window window) slots ≡ true → IsDistinct bytes_eq (map (λ slot. slot.name) slots) → all_behind (is_slot window) [] slots ≡ true
+pub slots_fit : (window : Window) (slots : List Slot) → list_all (fits_window window) slots ≡ true → IsDistinct bytes_eq (map (λ slot. slot.name) slots) → all_after (is_slot window) [] slots ≡ true
 slots_fit window slots fit own = each_is_new (λ slot. slot.name) (fits_window window) (is_slot window) passes [] slots fit own
   where
     passes : (earlier : List Slot) (slot : Slot) → fits_window window slot ≡ true → is_new (λ other. other.name) earlier slot.name ≡ true → is_slot window earlier slot ≡ true
@@ -68,11 +68,11 @@ flipped name_of name (x ∷ items) = rw (nat_list_eq_equiv.symm (name_of x) name
 
 -- Where a test asks for a new name, items that pass it have different names.
 pub names_differ : {A : Type 0} (name_of : A → List ℕ) (test : List A → A → Bool) → ((earlier : List A) (x : A) → test earlier x ≡ true → is_new name_of earlier (name_of x) ≡ true)
-    → (earlier items : List A) → IsDistinct bytes_eq (map name_of earlier) → all_behind test earlier items ≡ true → IsDistinct bytes_eq (map name_of (earlier ++ items))
-unfolding all_behind
+    → (earlier items : List A) → IsDistinct bytes_eq (map name_of earlier) → all_after test earlier items ≡ true → IsDistinct bytes_eq (map name_of (earlier ++ items))
+unfolding all_after
 names_differ name_of test asks earlier [] own h = subst (λ (all : List _). IsDistinct bytes_eq (map name_of all)) (sym (append-nil earlier)) own
 names_differ {A} name_of test asks earlier (x ∷ items) own h =
-    let p = and_parts (test earlier x) (all_behind test (earlier ++ x ∷ []) items) h in
+    let p = and_parts (test earlier x) (all_after test (earlier ++ x ∷ []) items) h in
     let new : list_any (bytes_eq (name_of x)) (map name_of earlier) ≡ false =
     sym (flipped name_of (name_of x) earlier) ∙ not-true (list_any (λ other. bytes_eq (name_of other) (name_of x)) earlier) (asks earlier x p.0) in
     let more = IsDistinct-push nat_list_eq_equiv (map name_of earlier) (name_of x) own new in
@@ -84,7 +84,7 @@ unfolding IsDistinct
 no_names = tt
 
 -- the slots of an image have different names
-pub slots_differ : (window : Window) (slots : List Slot) → all_behind (is_slot window) [] slots ≡ true → IsDistinct bytes_eq (map (λ slot. slot.name) slots)
+pub slots_differ : (window : Window) (slots : List Slot) → all_after (is_slot window) [] slots ≡ true → IsDistinct bytes_eq (map (λ slot. slot.name) slots)
 slots_differ window slots h = names_differ (λ slot. slot.name) (is_slot window) asks [] slots no_names h
   where
     asks : (earlier : List Slot) (slot : Slot) → is_slot window earlier slot ≡ true → is_new (λ other. other.name) earlier slot.name ≡ true

@@ -8,7 +8,7 @@ use Rattle.std.proofs.lemmas.List.Concat.{flat_map-cons}
 use Rattle.std.proofs.lemmas.Nat.{be_bytes_4, from_be_bytes-to_be_bytes_4}
 use Rattle.fm_image.specs.declared.fault.Rule.{Rule}
 use Rattle.fm_image.specs.declared.fault.Rule.TheVariants as rules
-use Rattle.fm_image.specs.Image.{all_behind}
+use Rattle.fm_image.specs.Image.{all_after}
 use Rattle.fm_image.specs.Spelling.{number_bytes, counted_bytes}
 use Rattle.stack_text.specs.Results.{◌>>=◌}
 use Rattle.stack_text.proofs.ResultLaws.{bind_ok, bind_at}
@@ -149,11 +149,11 @@ pub record TookItems {A : Type 0} (spell : A → List ℕ) (test : List A → A 
   pub all_are : all ≡ earlier ++ items
   pub count_is : length items ≡ count
   pub took : Took bytes (flat_map spell items) rest
-  pub fit : all_behind test earlier items ≡ true
+  pub fit : all_after test earlier items ≡ true
 
 pub items_take : {A : Type 0} (item : List A → List ℕ → Result (A × List ℕ) Fault) (spell : A → List ℕ) (test : List A → A → Bool) → ((earlier : List A) → Reads (item earlier) spell (test earlier))
     → (count : ℕ) (earlier : List A) (bytes : List ℕ) (all : List A) (rest : List ℕ) → IsBytes bytes → items_at item count earlier bytes ≡ Ok (all, rest) → TookItems spell test count earlier all bytes rest
-unfolding items_at all_behind
+unfolding items_at all_after
 items_take {A} item spell test reads zero earlier bytes all rest ok e =
     subst (λ (p : List A × List ℕ). TookItems spell test 0 earlier p.0 bytes p.1) (ok_is (earlier, bytes) (all, rest) e)
     (record { items = []; all_are = sym (append-nil earlier); count_is = refl; took = record { parts = refl; rest_fits = ok }; fit = refl })
@@ -171,11 +171,11 @@ items_take {A} item spell test reads (suc n) earlier bytes all rest ok e =
     }
 
 pub items_again : {A : Type 0} (item : List A → List ℕ → Result (A × List ℕ) Fault) (spell : A → List ℕ) (test : List A → A → Bool) → ((earlier : List A) → Reads (item earlier) spell (test earlier))
-    → (items earlier : List A) (rest : List ℕ) → all_behind test earlier items ≡ true → items_at item (length items) earlier (flat_map spell items ++ rest) ≡ Ok (earlier ++ items, rest)
-unfolding items_at all_behind
+    → (items earlier : List A) (rest : List ℕ) → all_after test earlier items ≡ true → items_at item (length items) earlier (flat_map spell items ++ rest) ≡ Ok (earlier ++ items, rest)
+unfolding items_at all_after
 items_again {A} item spell test reads [] earlier rest fit = ap (λ (all : List A). done (all, rest)) (sym (append-nil earlier))
 items_again {A} item spell test reads (x ∷ items) earlier rest fit =
-    let p = and_parts (test earlier x) (all_behind test (earlier ++ x ∷ []) items) fit in
+    let p = and_parts (test earlier x) (all_after test (earlier ++ x ∷ []) items) fit in
     let regrouped : flat_map spell (x ∷ items) ++ rest ≡ spell x ++ (flat_map spell items ++ rest) = ap (λ (t : List ℕ). t ++ rest) (flat_map-cons spell x items) ∙ append_assoc (spell x) (flat_map spell items) rest in
     ap (items_at item (suc (length items)) earlier) regrouped
     ∙ bind_at (item earlier (spell x ++ (flat_map spell items ++ rest))) (λ next. items_at item (length items) (earlier ++ next.0 ∷ []) next.1) (x, flat_map spell items ++ rest) ((reads earlier).again x (flat_map spell items ++ rest) p.0)
@@ -185,7 +185,7 @@ items_again {A} item spell test reads (x ∷ items) earlier rest fit =
 -- items after their number
 pub counted_reads : {A : Type 0} (item : List A → List ℕ → Result (A × List ℕ) Fault) (spell : A → List ℕ) (test : List A → A → Bool) → ((earlier : List A) → Reads (item earlier) spell (test earlier))
     → (limit : ℕ → Bool) (end : ℕ) → ((n : ℕ) → limit n ≡ true → is_word n ≡ true)
-    → Reads (λ bytes. passing limit rules.Limit end (number_at end) bytes >>= λ count. items_at item count.0 [] count.1) (counted_bytes spell) (λ items. limit (length items) && all_behind test [] items)
+    → Reads (λ bytes. passing limit rules.Limit end (number_at end) bytes >>= λ count. items_at item count.0 [] count.1) (counted_bytes spell) (λ items. limit (length items) && all_after test [] items)
 counted_reads {A} item spell test reads limit end small = record {
   takes = λ bytes all rest ok e.
       let b = bind_ok (passing limit rules.Limit end (number_at end) bytes) (λ count. items_at item count.0 [] count.1) (all, rest) e in
@@ -193,10 +193,10 @@ counted_reads {A} item spell test reads limit end small = record {
       let s = items_take item spell test reads b.0.0 [] b.0.1 all rest t.0.rest_fits b.2 in
       let n-fits : limit b.0.0 ≡ true = (and_parts (is_word b.0.0) (limit b.0.0) t.1).1 in
       let whole = Took-then bytes (number_bytes b.0.0) b.0.1 (flat_map spell s.items) rest t.0 s.took in
-      subst (λ (xs : List A). Took bytes (counted_bytes spell xs) rest × ((limit (length xs) && all_behind test [] xs) ≡ true)) (sym s.all_are)
+      subst (λ (xs : List A). Took bytes (counted_bytes spell xs) rest × ((limit (length xs) && all_after test [] xs) ≡ true)) (sym s.all_are)
       (subst (λ (n : ℕ). Took bytes (number_bytes n ++ flat_map spell s.items) rest) (sym s.count_is) whole, and_from _ _ (subst (λ (n : ℕ). limit n ≡ true) (sym s.count_is) n-fits) s.fit);
   again = λ items rest h.
-      let p = and_parts (limit (length items)) (all_behind test [] items) h in
+      let p = and_parts (limit (length items)) (all_after test [] items) h in
       let after : List ℕ = flat_map spell items ++ rest in
       ap (λ bytes. passing limit rules.Limit end (number_at end) bytes >>= λ count. items_at item count.0 [] count.1) (append_assoc (number_bytes (length items)) (flat_map spell items) rest)
       ∙ bind_at (passing limit rules.Limit end (number_at end) (number_bytes (length items) ++ (flat_map spell items ++ rest))) (λ count. items_at item count.0 [] count.1) (length items, flat_map spell items ++ rest)

@@ -8,7 +8,7 @@ use Rattle.fm_image.specs.declared.fault.ImageFault.{ImageFault}
 use Rattle.fm_image.specs.declared.fault.ImageFault.TheVariants.{Refused, Memory}
 use Rattle.fm_image.specs.declared.slot.Slot.{Slot}
 use Rattle.fm_image.specs.declared.window.Window.{Window}
-use Rattle.fm_image.specs.Image.{ImageOf, window_of, is_size, is_inside, is_window, is_condition, is_count, is_slot, all_behind, is_image}
+use Rattle.fm_image.specs.Image.{ImageOf, window_of, is_size, is_inside, is_window, is_condition, is_count, is_slot, all_after, is_image}
 use Rattle.fm_image.specs.Spelling.{number_bytes, numbers_bytes, name_bytes, counted_bytes, window_bytes, flags_bytes, condition_address_bytes, slot_bytes, opening_bytes, spelling, are_words, Spelled}
 use Rattle.stack_text.specs.Results.{◌>>=◌}
 use Rattle.fm_image.specs.Rules.{rule_number, Fault, Gives}
@@ -23,8 +23,8 @@ use Rattle.fm_image.proofs.SlotLaws.{flags_reads, address_reads, slot_reads}
 abbrev is_number : List ℕ → ℕ → Bool
 is_number earlier n = is_word n
 
-words_same : (earlier numbers : List ℕ) → all_behind is_number earlier numbers ≡ are_words numbers
-unfolding all_behind
+words_same : (earlier numbers : List ℕ) → all_after is_number earlier numbers ≡ are_words numbers
+unfolding all_after
 words_same earlier [] = refl
 words_same earlier (n ∷ numbers) = ap (λ (b : Bool). is_word n && b) (words_same (earlier ++ n ∷ []) numbers)
 
@@ -33,15 +33,15 @@ words_same earlier (n ∷ numbers) = ap (λ (b : Bool). is_word n && b) (words_s
 small_count : (n : ℕ) → is_count n ≡ true → is_word n ≡ true
 small_count n h = let le : n ≤ 200 = leb-true n 200 h in lt-ltb n (2 ^ 32) (omega (arith, le))
 
-conditions_reads : (end : ℕ) → Reads (conditions_at end) (counted_bytes name_bytes) (λ names. is_count (length names) && all_behind is_condition [] names)
+conditions_reads : (end : ℕ) → Reads (conditions_at end) (counted_bytes name_bytes) (λ names. is_count (length names) && all_after is_condition [] names)
 unfolding conditions_at
 conditions_reads end = counted_reads (condition_at end) name_bytes is_condition (condition_reads end) is_count end small_count
 
-slots_reads : (end : ℕ) (window : Window) → is_window window ≡ true → Reads (slots_at end window) (counted_bytes slot_bytes) (λ slots. is_count (length slots) && all_behind (is_slot window) [] slots)
+slots_reads : (end : ℕ) (window : Window) → is_window window ≡ true → Reads (slots_at end window) (counted_bytes slot_bytes) (λ slots. is_count (length slots) && all_after (is_slot window) [] slots)
 unfolding slots_at
 slots_reads end window sized = counted_reads (slot_at end window) slot_bytes (is_slot window) (slot_reads end window sized) is_count end small_count
 
-words_reads : (end : ℕ) (window : Window) → is_window window ≡ true → Reads (words_at end window) (counted_bytes number_bytes) (λ words. leb (length words) window.size && all_behind is_number [] words)
+words_reads : (end : ℕ) (window : Window) → is_window window ≡ true → Reads (words_at end window) (counted_bytes number_bytes) (λ words. leb (length words) window.size && all_after is_number [] words)
 unfolding words_at
 words_reads end window sized =
     let p = and_parts (is_size window.base window.size) (is_inside window.base window.size window.final_pc) sized in
@@ -111,11 +111,11 @@ image_takes end bytes image ok e =
     let t6 = (slots_reads end b1.0.0 t1.1).takes b5.0.1 b6.0.0 b6.0.1 t5.0.rest_fits b6.1 in
     let t7 = (words_reads end b1.0.0 t1.1).takes b6.0.1 b7.0.0 b7.0.1 t6.0.rest_fits b7.1 in
     let took2 : Took b1.0.1 (numbers_bytes b2.0.0) b2.0.1 = subst (λ (xs : List ℕ). Took b1.0.1 (numbers_bytes xs) b2.0.1) (sym t2.all_are) t2.took in
-    let fit2 : all_behind is_number [] b2.0.0 ≡ true = subst (λ (xs : List ℕ). all_behind is_number [] xs ≡ true) (sym t2.all_are) t2.fit in
+    let fit2 : all_after is_number [] b2.0.0 ≡ true = subst (λ (xs : List ℕ). all_after is_number [] xs ≡ true) (sym t2.all_are) t2.fit in
     let count2 : length b2.0.0 ≡ 16 = ap length t2.all_are ∙ t2.count_is in
-    let p5 = and_parts (is_count (length b5.0.0)) (all_behind is_condition [] b5.0.0) t5.1 in
-    let p6 = and_parts (is_count (length b6.0.0)) (all_behind (is_slot b1.0.0) [] b6.0.0) t6.1 in
-    let p7 = and_parts (leb (length b7.0.0) b1.0.0.size) (all_behind is_number [] b7.0.0) t7.1 in
+    let p5 = and_parts (is_count (length b5.0.0)) (all_after is_condition [] b5.0.0) t5.1 in
+    let p6 = and_parts (is_count (length b6.0.0)) (all_after (is_slot b1.0.0) [] b6.0.0) t6.1 in
+    let p7 = and_parts (leb (length b7.0.0) b1.0.0.size) (all_after is_number [] b7.0.0) t7.1 in
     let s1 = Took-then bytes opening_bytes b0.0.1 (window_bytes b1.0.0) b1.0.1 t0 t1.0 in
     let s2 = Took-then bytes _ b1.0.1 (numbers_bytes b2.0.0) b2.0.1 s1 took2 in
     let s3 = Took-then bytes _ b2.0.1 (flags_bytes b3.0.0) b3.0.1 s2 t3.0 in

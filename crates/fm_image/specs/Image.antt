@@ -62,9 +62,9 @@ is_slot window earlier slot =
     && nat_le slot.shape.length 4096 && is_slot_address window slot.shape slot.address
 
 -- each item passes a test that knows the items before it
-unfoldable pub all_behind : {A : Type 0} → (List A → A → Bool) → List A → List A → Bool
-all_behind test earlier [] = true
-all_behind test earlier (item ∷ items) = test earlier item && all_behind test (earlier ++ item ∷ []) items
+unfoldable pub all_after : {A : Type 0} → (List A → A → Bool) → List A → List A → Bool
+all_after test earlier [] = true
+all_after test earlier (item ∷ items) = test earlier item && all_after test (earlier ++ item ∷ []) items
 
 -- the limits of an image
 unfoldable pub is_image : ImageOf → Bool
@@ -73,7 +73,7 @@ is_image image =
     && length image.registers == 16
     && is_condition_address (window_of image) image.condition_address
     && is_count (length image.conditions)
-    && all_behind is_condition [] image.conditions
+    && all_after is_condition [] image.conditions
     && is_count (length image.slots)
-    && all_behind (is_slot (window_of image)) [] image.slots
+    && all_after (is_slot (window_of image)) [] image.slots
     && nat_le (length image.words) image.size

@@ -12,7 +12,7 @@ use Rattle.stack_text.specs.Values.{item_count}
 use Rattle.fm_machine.specs.State.{is_refused}
 use Rattle.fm_image.specs.declared.slot.Slot.{Slot}
 use Rattle.fm_image.specs.declared.window.Window.{Window}
-use Rattle.fm_image.specs.Image.{ImageOf, window_of, is_size, is_inside, is_slot, is_slot_address, all_behind, is_image}
+use Rattle.fm_image.specs.Image.{ImageOf, window_of, is_size, is_inside, is_slot, is_slot_address, all_after, is_image}
 use Rattle.fm_image.proofs.Limits.{limits_of, sized}
 use Rattle.fm_image.proofs.NameLaws.{slots_differ}
 use Rattle.fm_loader.specs.Values.{HaveOwnNames}
@@ -24,18 +24,18 @@ own_names image h = slots_differ (window_of image) image.slots (limits_of image 
 
 -- ---- room
 
-room_behind : (window : Window) (earlier slots : List Slot) → all_behind (is_slot window) earlier slots ≡ true → HaveRoom window.base slots
-unfolding all_behind
-room_behind window earlier [] h = refl
-room_behind window earlier (slot ∷ slots) h =
-    let p = and_parts (is_slot window earlier slot) (all_behind (is_slot window) (earlier ++ slot ∷ []) slots) h in
+room_after : (window : Window) (earlier slots : List Slot) → all_after (is_slot window) earlier slots ≡ true → HaveRoom window.base slots
+unfolding all_after
+room_after window earlier [] h = refl
+room_after window earlier (slot ∷ slots) h =
+    let p = and_parts (is_slot window earlier slot) (all_after (is_slot window) (earlier ++ slot ∷ []) slots) h in
     let q = and_parts ((is_name slot.name && not (list_any (λ other. bytes_eq other.name slot.name) earlier)) && leb slot.shape.length 4096) (is_slot_address window slot.shape slot.address) p.0 in
     let r = and_parts (leb (window.base + item_count slot.shape) (slot.address + 1)) (ltb slot.address (window.base + window.size)) q.1 in
-    and_from _ _ r.0 (room_behind window (earlier ++ slot ∷ []) slots p.1)
+    and_from _ _ r.0 (room_after window (earlier ++ slot ∷ []) slots p.1)
 
 -- the items of each slot are in the window
 pub has_room : (image : ImageOf) → IsTrue (is_image image) → HaveRoom image.base image.slots
-has_room image h = room_behind (window_of image) [] image.slots (limits_of image h).slots
+has_room image h = room_after (window_of image) [] image.slots (limits_of image h).slots
 
 -- a machine has such a window
 pub has_window : (image : ImageOf) → IsTrue (is_image image) → is_refused image.base image.size ≡ false

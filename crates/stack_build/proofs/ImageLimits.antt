@@ -1,17 +1,16 @@
 -- The image of a placed system keeps the limits of images.
-use Rattle.std.proofs.Common.{◌≡◌, ◌<◌, ◌≤◌, ◌+◌, ◌-◌, ℕ, List, [], ◌∷◌, ◌++◌, Bool, true, false, not, ◌&&◌, ◌||◌, Some, refl, sym, ap, subst, ◌∙◌, arith}
+use Rattle.std.proofs.Common.{◌≡◌, ◌<◌, ◌≤◌, ◌+◌, ◌-◌, ℕ, List, [], ◌∷◌, ◌++◌, Bool, true, false, not, ◌&&◌, ◌||◌, Some, map, refl, sym, ap, subst, ◌∙◌, arith}
 use Rattle.std.specs.Prelude.{IsTrue}
-use Rattle.std.specs.List.{list_any, list_all}
+use Rattle.std.specs.List.{list_any, list_all, AllByRecursion, IsDistinct}
 use Rattle.std.specs.Str.{bytes_eq}
-use Rattle.std.proofs.lemmas.Bool.{and_parts, and_from, le-leb, lt-ltb}
-use Rattle.std.proofs.lemmas.Bool.Decides.{same_from_decides, Decides-like}
-use Rattle.std.proofs.lemmas.List.Folds.{list_any-append}
-use Rattle.std.proofs.lemmas.Slice.Eq.{bytes_eq-Decides}
+use Rattle.std.proofs.lemmas.Bool.{and_parts, and_from, le-leb, lt-ltb, not-true}
+use Rattle.std.proofs.lemmas.Cmp.{nat_list_eq_equiv}
 use Rattle.stack_text.specs.Names.{is_name}
 use Rattle.fm_image.specs.declared.slot.Slot.{Slot}
 use Rattle.fm_image.specs.declared.window.Window.{Window}
-use Rattle.fm_image.specs.Image.{ImageOf, window_of, is_slot, is_slot_address, all_behind, is_image}
+use Rattle.fm_image.specs.Image.{ImageOf, window_of, is_slot, is_slot_address, all_after, is_image}
 use Rattle.fm_image.proofs.Limits.{from_limits}
+use Rattle.fm_image.proofs.NameLaws.{fits_window, slots_fit}
 use Rattle.fm_words.specs.Code.{no_flags}
 use Rattle.stack_build.specs.declared.piton.System.{System}
 use Rattle.stack_build.specs.declared.layout.Layout.{Layout}
@@ -21,56 +20,39 @@ use Rattle.stack_build.specs.Image.{slots_from, image_of}
 use Rattle.stack_build.proofs.Placing.{length-placed_words}
 use Rattle.stack_build.proofs.Slots.{length-slots_from}
 
--- names that no earlier slot has
-abbrev apart : List Slot → List (List ℕ) → Bool
-apart earlier [] = true
-apart earlier (name ∷ names) = not (list_any (λ other. bytes_eq other.name name) earlier) && apart earlier names
-
-bytes_eq-swap : (xs ys : List ℕ) → bytes_eq xs ys ≡ bytes_eq ys xs
-bytes_eq-swap xs ys = same_from_decides (bytes_eq xs ys) (bytes_eq ys xs) (bytes_eq-Decides xs ys) (Decides-like (bytes_eq ys xs) sym sym (bytes_eq-Decides ys xs))
-
-neither : (a b : Bool) → not (a || b) ≡ true → (a ≡ false) × (b ≡ false)
-neither true b h = cc
-neither false true h = cc
-neither false false h = (refl, refl)
-
--- one slot more, whose name is none of theirs
-apart_more : (earlier : List Slot) (slot : Slot) (names : List (List ℕ)) → apart earlier names ≡ true → not (list_any (λ other. bytes_eq other slot.name) names) ≡ true → apart (earlier ++ slot ∷ []) names ≡ true
-apart_more earlier slot [] h k = refl
-apart_more earlier slot (name ∷ names) h k =
-    let parts = and_parts (not (list_any (λ other. bytes_eq other.name name) earlier)) (apart earlier names) h in
-    let others = neither (bytes_eq name slot.name) (list_any (λ other. bytes_eq other slot.name) names) k in
-    let new : bytes_eq slot.name name ≡ false = bytes_eq-swap slot.name name ∙ others.0 in
-    let all : list_any (λ (other : Slot). bytes_eq other.name name) (earlier ++ slot ∷ []) ≡ (list_any (λ (other : Slot). bytes_eq other.name name) earlier || (bytes_eq slot.name name || false)) = list_any-append (λ (other : Slot). bytes_eq other.name name) earlier (slot ∷ []) in
-    let old : list_any (λ (other : Slot). bytes_eq other.name name) earlier ≡ false = of_not _ parts.0 in
-    let none : not (list_any (λ (other : Slot). bytes_eq other.name name) (earlier ++ slot ∷ [])) ≡ true = rw (all, old, new) refl in
-    and_from _ _ none (apart_more earlier slot names parts.1 (ap not others.1))
+-- names that pass the test of the source differ
+names_differ : (names : List (List ℕ)) → are_distinct names ≡ true → IsDistinct bytes_eq names
+unfolding IsDistinct
+names_differ [] h = tt
+names_differ (name ∷ names) h =
+    let p = and_parts (not (list_any (λ other. bytes_eq other name) names)) (are_distinct names) h in
+    (others names (not-true (list_any (λ other. bytes_eq other name) names) p.0), names_differ names p.1)
   where
-    of_not : (b : Bool) → not b ≡ true → b ≡ false
-    of_not true h = cc
-    of_not false h = refl
+    neither : (a b : Bool) → (a || b) ≡ false → (a ≡ false) × (b ≡ false)
+    neither true b h = cc
+    neither false b h = (refl, h)
 
--- slots of names that differ, one below the other from an address of the window on
-slots_fit : (window : Window) (address : ℕ) (earlier : List Slot) (names : List (List ℕ)) → window.base ≡ 0 → address < window.size → list_all is_name names ≡ true → are_distinct names ≡ true → apart earlier names ≡ true
-    → all_behind (is_slot window) earlier (slots_from address names) ≡ true
-unfolding all_behind
-slots_fit window address earlier [] base below are_names differ before = refl
-slots_fit window address earlier (name ∷ names) base below are_names differ before =
-    let slot : Slot = record { name = name; shape = one_integer; address = address } in
+    others : (names : List (List ℕ)) → list_any (λ other. bytes_eq other name) names ≡ false → AllByRecursion (λ other. bytes_eq name other ≡ false) names
+    others [] none = tt
+    others (other ∷ names) none =
+        let q = neither (bytes_eq other name) (list_any (λ other. bytes_eq other name) names) none in
+        (nat_list_eq_equiv.symm name other ∙ q.0, others names q.1)
+
+names-slots_from : (address : ℕ) (names : List (List ℕ)) → map (λ (slot : Slot). slot.name) (slots_from address names) ≡ names
+names-slots_from address [] = refl
+names-slots_from address (name ∷ names) = ap (λ (ns : List (List ℕ)). name ∷ ns) (names-slots_from (address - 1) names)
+
+-- slots one below the other, from an address of the window on, fit it
+each_fits : (window : Window) (address : ℕ) (names : List (List ℕ)) → window.base ≡ 0 → address < window.size → list_all is_name names ≡ true → list_all (fits_window window) (slots_from address names) ≡ true
+each_fits window address [] base below are_names = refl
+each_fits window address (name ∷ names) base below are_names =
     let is = and_parts (is_name name) (list_all is_name names) are_names in
-    let other = and_parts (not (list_any (λ other. bytes_eq other name) names)) (are_distinct names) differ in
-    let new = and_parts (not (list_any (λ other. bytes_eq other.name name) earlier)) (apart earlier names) before in
-    let inside : is_slot_address window one_integer address ≡ true = and_from _ _ (le-leb (window.base + 1) (address + 1) (omega arith)) (lt-ltb address (window.base + window.size) (omega arith)) in
-    and_from _ _ (and_from _ _ (and_from _ _ (and_from _ _ is.0 new.0) refl) inside)
-    (slots_fit window (address - 1) (earlier ++ slot ∷ []) names base (omega arith) is.1 other.1 (apart_more earlier slot names new.1 other.0))
-
--- nothing stands before the first slot
-apart_none : (names : List (List ℕ)) → apart [] names ≡ true
-apart_none [] = refl
-apart_none (name ∷ names) = apart_none names
+    let inside : is_slot_address window one_integer address ≡ true =
+    and_from _ _ (le-leb (window.base + 1) (address + 1) (omega arith)) (lt-ltb address (window.base + window.size) (omega arith)) in
+    and_from _ _ (and_from _ _ is.0 (and_from _ _ refl inside)) (each_fits window (address - 1) names base (omega arith) is.1)
 
 pub image_fits : (names : List (List ℕ)) (system : System) → IsPlaceable system → (layout_of system).end ≤ 140000 → AreVariables names → IsTrue (is_image (image_of names system))
-unfolding all_behind
+unfolding all_after
 image_fits names system p few v =
     let image : ImageOf = image_of names system in
     let many = length-placed_words system p.frame in
@@ -82,7 +64,8 @@ image_fits names system p few v =
       condition_count = refl;
       conditions = refl;
       slot_count = le-leb _ 200 (let n = length-slots_from (size - 1) names in let k = v.few in omega arith);
-      slots = slots_fit (window_of image) (size - 1) [] names refl (omega arith) v.are_names v.differ (apart_none names);
+      slots = slots_fit (window_of image) image.slots (each_fits (window_of image) (size - 1) names refl (omega arith) v.are_names)
+      (subst (IsDistinct bytes_eq) (sym (names-slots_from (size - 1) names)) (names_differ names v.differ));
       words = le-leb _ size (omega arith);
     }
 

@@ -22,7 +22,7 @@ use Rattle.stack_build.specs.Image.{image_of}
 use Rattle.fm_words.specs.Word.{word_of_int}
 use Rattle.fm_loader.specs.Loaded.{loaded}
 use Rattle.display_maps.specs.declared.shown.Shown.TheVariants.{Normal}
-use Rattle.display_maps.specs.Reading.{ReadingOf, reading, word_of, condition_of}
+use Rattle.display_maps.specs.Reading.{ReadingOf, reading, word_or_zero, condition_of}
 use Rattle.stack_build.specs.Build.{control_need, temporary_need, shortage_of, source_image}
 use Rattle.stack_build.specs.Meaning.{Condition, Done, integer, variables_after, meaning}
 use Rattle.stack_build.specs.Meaning as meant
@@ -31,7 +31,7 @@ use Rattle.stack_build.specs.Implements.{variable_shown, meaning_shown, Finishes
 use Rattle.stack_build.proofs.Standing.{parts_of, final_pc-parts_of, are_parts, is_laid, program_stands, main_stands, assignment_stands}
 use Rattle.stack_build.proofs.Walking.{with_pc, doing_nothing, assigning, passes, assigns}
 use Rattle.stack_build.proofs.Laying.{moved, length-moved}
-use Rattle.stack_build.proofs.ReadBack.{word_of_read, values_read, set_moved}
+use Rattle.stack_build.proofs.ReadBack.{word_read, values_read, set_moved}
 use Rattle.stack_build.proofs.Sizes.{sizes_fit}
 use Rattle.stack_build.proofs.IntegerValues.{integers_of}
 use Rattle.stack_build.proofs.Sources.{source_is}
@@ -56,7 +56,7 @@ ends_normally names system values n finals temp e is many fits below =
     let areas_held = subst (λ b. Holds b e.state.memory (layout_of system).condition (2 ∷ [])) base e.laid.laid.areas_at in
     let temp_held = subst (λ b. Holds b e.state.memory (slice_index e.state.registers 2) temp) base e.laid.laid.temp_at in
     let end = e.laid.laid.temp_end in
-    let condition : condition_of [] (word_of e.state (layout_of system).condition) ≡ Normal = ap (condition_of []) (word_of_read e.state (layout_of system).condition 2 areas_held.0) in
+    let condition : condition_of [] (word_or_zero e.state (layout_of system).condition) ≡ Normal = ap (condition_of []) (word_read e.state (layout_of system).condition 2 areas_held.0) in
     let numbers = values_read e.state names ((layout_of system).end - 1) _ finals [] many (omega arith) (omega arith) fits (subst (Holds e.state.base e.state.memory _) is temp_held) in
     (e.state, subst (λ a. IsFirst (loaded (image_of names system) (map integer values)) a n e.state) (final_pc-parts_of system) (ends e (sym (final_pc-parts_of system))), λ i. record { condition = Some (condition i); items = numbers i })
 

@@ -3,7 +3,7 @@ use Rattle.stack_text.specs.declared.shape.Kind.{Kind}
 use Rattle.stack_text.specs.Values.{item_count}
 use Rattle.fm_machine.specs.State.{Fm}
 use Rattle.display_maps.specs.declared.shown.Shown.{Shown}
-use Rattle.display_maps.specs.Reading.{word_of, item_of, words_down}
+use Rattle.display_maps.specs.Reading.{word_or_zero, item_of, words_down}
 use Rattle.display_maps.proofs.ItemLaws.{items_next}
 use Rattle.display_maps.proofs.reading.items_of.Goals as goal
 
@@ -16,7 +16,7 @@ loop-preserved c =
     let so_far : List Shown = c.loop.items.items in
     let rest : List Shown = map (item_of kind) (words_down s (c.loop.address - 1) left) in
     let below : c.saturating_sub-address.result ≡ c.loop.address - 1 = search rules in
-    let item : c.item_of.result ≡ item_of kind (word_of s c.loop.address) = search rules in
+    let item : c.item_of.result ≡ item_of kind (word_or_zero s c.loop.address) = search rules in
     ap (λ (a : ℕ). c.push.new.self.items ++ map (item_of kind) (words_down s a left)) below
     ∙ ap (λ (xs : List Shown). xs ++ rest) c.in_ok-push.ensures.items
     ∙ append_assoc so_far (c.item_of.result ∷ []) rest
