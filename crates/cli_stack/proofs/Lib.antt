@@ -1,6 +1,8 @@
-pub mod Ending
-pub mod Finishing
-pub mod Gathering
-pub mod Printing
-pub mod Promising
-pub mod Saving
+pub mod GatherLaws
+pub mod ImplementsLaws
+pub mod PerformLaws
+pub mod PrintLaws
+pub mod PromisesLaws
+pub mod SizeLaws
+pub mod TellsLaws
+pub mod TextsLaws

@@ -1,115 +1,130 @@
--- What the program answers, for files that are told and devices that don't fail.
-use Rattle.std.specs.Prelude.{ℕ, List, [], ◌∷◌, ◌++◌, Option, Some, None, Result, Ok, Err, map, slice_index_or}
+-- What the program does with the words and the files, where all files are known and no device fails.
+use Rattle.std.specs.Prelude.{ℕ, List, [], ◌∷◌, ◌++◌, Option, Some, None, Result, Ok, Err, Bool, map, if◌then◌else◌}
 use Rattle.std.specs.Option.{option_to_list}
+use Rattle.stack_text.specs.Results.{◌>>=◌}
 use Rattle.fm_machine.specs.State.{Fm}
 use Rattle.stack_shelf.specs.Files.{Files, put_file}
 use Rattle.stack_shelf.specs.Shelf.{Refusal, Missing, TooLong, fetched}
-use Rattle.cli_stack.specs.declared.command.TheConstants.{TEXT_LIMIT, IMAGE_LIMIT}
-use Rattle.cli_stack.specs.declared.command.Command.{Command}
-use Rattle.cli_stack.specs.declared.command.Command.TheVariants.{Usage, NotBuilt, Go, Run, Show}
-use Rattle.cli_stack.specs.declared.reply.Verdict.TheVariants as verdict
-use Rattle.cli_stack.specs.Words.{command_of}
 use Rattle.stack_build.specs.Build.{built}
-use Rattle.cli_stack.specs.Replies.{Told, only, missing_line, long_line, status_of}
-use Rattle.cli_stack.specs.Go.{go_stored, go_told}
-use Rattle.cli_stack.specs.Runs.{run_told}
-use Rattle.cli_stack.specs.Shows.{show_told}
+use Rattle.cli_stack.specs.declared.command.Command.{Command}
+use Rattle.cli_stack.specs.declared.command.Command.TheVariants.{Go, Run, Show}
+use Rattle.cli_stack.specs.declared.driver.early_end.EarlyEnd.{EarlyEnd}
+use Rattle.cli_stack.specs.declared.driver.early_end.EarlyEnd.TheVariants as end
+use Rattle.cli_stack.specs.declared.reply.Verdict.TheVariants.{Usage, NotBuilt}
+use Rattle.cli_stack.specs.declared.role.Role.{Role}
+use Rattle.cli_stack.specs.declared.role.Role.TheVariants as role
+use Rattle.cli_stack.specs.declared.status.Status.{Status}
+use Rattle.cli_stack.specs.Roles.{limit_of, is_role}
+use Rattle.cli_stack.specs.Rows.{command_of}
+use Rattle.cli_stack.specs.Replies.{ReplyOf, verdict_alone, reply_text, status_of, end_status, end_line}
+use Rattle.cli_stack.specs.Go.{go_stored, go_reply}
+use Rattle.cli_stack.specs.Run.{image_file_reply}
+use Rattle.cli_stack.specs.Show.{show_reply}
 
--- 1. The files that a command reads, in order, each with its limit, and the one that it writes.
+-- 1. The files that a command reads, in order, and the one that it writes: each with its role and its name. A command that is
+-- yet to be built touches none.
 
-unfoldable pub inputs_of : Command → List (List ℕ × ℕ)
-inputs_of Usage = []
-inputs_of NotBuilt = []
-inputs_of (Go source values control temporary budget image) = (source, TEXT_LIMIT) ∷ (values, TEXT_LIMIT) ∷ []
-inputs_of (Run image values budget) = (image, IMAGE_LIMIT) ∷ (values, TEXT_LIMIT) ∷ []
-inputs_of (Show image) = (image, IMAGE_LIMIT) ∷ []
+unfoldable pub inputs_of : Command → List (Role × List ℕ)
+inputs_of (Go source values control temporary budget image) = (role.Source, source) ∷ (role.Values, values) ∷ []
+inputs_of (Run image values budget) = (role.Image, image) ∷ (role.Values, values) ∷ []
+inputs_of (Show image) = (role.Image, image) ∷ []
+inputs_of _ = []
 
-unfoldable pub output_of : Command → Option (List ℕ)
-output_of Usage = None
-output_of NotBuilt = None
-output_of (Go source values control temporary budget image) = Some image
-output_of (Run image values budget) = None
-output_of (Show image) = None
+unfoldable pub output_of : Command → Option (Role × List ℕ)
+output_of (Go source values control temporary budget image) = Some (role.Image, image)
+output_of _ = None
 
 -- 2. What it makes of their texts: what it stores, and what it replies.
 
-abbrev pub text_at : List (List ℕ) → ℕ → List ℕ
-text_at texts i = slice_index_or texts i []
+abbrev pub Texts : Type 0
+Texts = List (Role × List ℕ)
 
-unfoldable pub stored_by : Command → List (List ℕ) → Option (List ℕ)
-stored_by Usage texts = None
-stored_by NotBuilt texts = None
-stored_by (Go source values control temporary budget image) texts = go_stored (built (text_at texts 0) control temporary)
-stored_by (Run image values budget) texts = None
-stored_by (Show image) texts = None
+-- the first text of a role
+abbrev pub text_of : Role → Texts → List ℕ
+text_of role [] = []
+text_of role (text ∷ texts) = if is_role text.0 role then text.1 else text_of role texts
 
-unfoldable pub told_by : Command → List (List ℕ) → Told
-told_by Usage texts = only verdict.Usage
-told_by NotBuilt texts = only verdict.NotBuilt
-told_by (Go source values control temporary budget image) texts = go_told (built (text_at texts 0) control temporary) (text_at texts 1) budget
-told_by (Run image values budget) texts = run_told (text_at texts 0) (text_at texts 1) budget
-told_by (Show image) texts = show_told (text_at texts 0)
+unfoldable pub stored_by : Command → Texts → Option (List ℕ)
+stored_by (Go source values control temporary budget image) texts = go_stored (built (text_of role.Source texts) control temporary)
+stored_by _ texts = None
+
+unfoldable pub reply_by : Command → Texts → ReplyOf
+reply_by (Go source values control temporary budget image) texts =
+    go_reply (built (text_of role.Source texts) control temporary) (text_of role.Values texts) budget
+reply_by (Run image values budget) texts = image_file_reply (text_of role.Image texts) (text_of role.Values texts) budget
+reply_by (Show image) texts = show_reply (text_of role.Image texts)
+reply_by _ texts = verdict_alone NotBuilt
 
 -- 3. All together: the first file that is missing or too long ends the command.
 
+-- how the program ends: its status, what it prints, the file that it sets, and the state of the machine that was run
 pub record Answer : Type 0 where
-  pub status : ℕ
+  pub status : Status
   pub text : List ℕ
   pub output : Option (List ℕ × List ℕ)
   pub machine : Option Fm
 
--- an early end
-abbrev pub ends : ℕ → List ℕ → Answer
-ends status text = record { status = status; text = text; output = None; machine = None }
+-- an end before there is a reply
+abbrev pub early_answer : EarlyEnd → Answer
+early_answer early = record { status = end_status early; text = end_line early; output = None; machine = None }
 
-abbrev pub text_of : List ℕ → ℕ → Result (List ℕ) Refusal → Result (List ℕ) Answer
-text_of name limit (Ok text) = Ok text
-text_of name limit (Err Missing) = Err (ends 9 (missing_line name))
-text_of name limit (Err TooLong) = Err (ends 12 (long_line limit))
-
-abbrev pub before_texts : Result (List ℕ) Answer → Result (List (List ℕ)) Answer → Result (List (List ℕ)) Answer
-before_texts (Err early) rest = Err early
-before_texts (Ok text) (Err early) = Err early
-before_texts (Ok text) (Ok texts) = Ok (text ∷ texts)
+-- a file that can't be fetched ends the command
+abbrev pub text_or_end : Role × List ℕ → Result (List ℕ) Refusal → Result (List ℕ) EarlyEnd
+text_or_end input (Ok text) = Ok text
+text_or_end input (Err Missing) = Err (end.Missing input.1)
+text_or_end input (Err TooLong) = Err (end.TooLong (limit_of input.0))
 
 -- the texts of the files
-abbrev pub gathered : Files → List (List ℕ × ℕ) → Result (List (List ℕ)) Answer
+abbrev pub gathered : Files → List (Role × List ℕ) → Result Texts EarlyEnd
 gathered files [] = Ok []
-gathered files (input ∷ inputs) = before_texts (text_of input.0 input.1 (fetched files input.0 input.1)) (gathered files inputs)
+gathered files (input ∷ inputs) = do
+  text ← text_or_end input (fetched files input.1 (limit_of input.0))
+  texts ← gathered files inputs
+  Ok ((input.0, text) ∷ texts)
 
 -- the file that is set, where there is a name and something to store
-abbrev pub set_file : Option (List ℕ) → Option (List ℕ) → Option (List ℕ × List ℕ)
-set_file (Some name) (Some bytes) = Some (name, bytes)
-set_file (Some name) None = None
+abbrev pub set_file : Option (Role × List ℕ) → Option (List ℕ) → Option (List ℕ × List ℕ)
+set_file (Some file) (Some bytes) = Some (file.1, bytes)
+set_file (Some file) None = None
 set_file None bytes = None
 
-abbrev pub answer_with : Option (List ℕ × List ℕ) → Told → Answer
-answer_with output told = record { status = status_of told.verdict; text = told.text; output = output; machine = told.state }
+-- the end of a command that replies
+abbrev pub answer_with : Option (List ℕ × List ℕ) → ReplyOf → Answer
+answer_with output reply =
+    record { status = status_of reply.verdict; text = reply_text reply; output = output; machine = reply.state }
 
-abbrev pub answer_on : Command → Result (List (List ℕ)) Answer → Answer
-answer_on command (Err early) = early
-answer_on command (Ok texts) = answer_with (set_file (output_of command) (stored_by command texts)) (told_by command texts)
+abbrev pub answer_on : Command → Result Texts EarlyEnd → Answer
+answer_on command (Err early) = early_answer early
+answer_on command (Ok texts) = answer_with (set_file (output_of command) (stored_by command texts)) (reply_by command texts)
 
+-- the end of a command, over these files
 abbrev pub answer_to : Command → Files → Answer
 answer_to command files = answer_on command (gathered files (inputs_of command))
 
--- the answer to the words of a command line, over these files
+-- words that are no command end with `usage`
+abbrev pub answer_by : Option Command → Files → Answer
+answer_by None files = answer_with None (verdict_alone Usage)
+answer_by (Some command) files = answer_to command files
+
+-- the end of the program, by the words of its command line and the files
 abbrev pub answer : List (List ℕ) → Files → Answer
-answer words files = answer_to (command_of words) files
+answer words files = answer_by (command_of words) files
 
 -- the files afterwards
 abbrev pub files_after : Option (List ℕ × List ℕ) → Files → Files
 files_after None files = files
 files_after (Some output) files = put_file files output.0 output.1
 
-abbrev pub names_of : List (List ℕ × ℕ) → List (List ℕ)
-names_of inputs = map (λ input. input.0) inputs
+-- the names of files
+abbrev pub names_of : List (Role × List ℕ) → List (List ℕ)
+names_of files = map (λ file. file.1) files
 
--- the names of the files that a command reads and writes
-abbrev pub file_names : Command → List (List ℕ)
-file_names command = option_to_list (output_of command) ++ names_of (inputs_of command)
+-- the names of the files that a command reads
+abbrev pub input_names : Option Command → List (List ℕ)
+input_names None = []
+input_names (Some command) = names_of (inputs_of command)
 
--- with these texts in front
-abbrev pub with_texts : List (List ℕ) → Result (List (List ℕ)) Answer → Result (List (List ℕ)) Answer
-with_texts front (Ok texts) = Ok (front ++ texts)
-with_texts front (Err early) = Err early
+-- the names of the files that it reads and writes
+abbrev pub file_names : Option Command → List (List ℕ)
+file_names None = []
+file_names (Some command) = names_of (option_to_list (output_of command) ++ inputs_of command)

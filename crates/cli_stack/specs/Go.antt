@@ -2,19 +2,21 @@
 use Rattle.std.specs.Prelude.{ℕ, List, Option, Some, None, Result, Ok, Err}
 use Rattle.fm_loader.specs.Values.{values_in}
 use Rattle.stack_build.specs.declared.fault.BuildFault.{BuildFault}
-use Rattle.stack_build.specs.declared.fault.BuildFault.TheVariants as faults
+use Rattle.stack_build.specs.declared.fault.BuildFault.TheVariants as fault
 use Rattle.stack_build.specs.Build.{BuiltOf}
+use Rattle.cli_stack.specs.declared.reply.SizeOf.TheVariants.{Control, Temporary}
 use Rattle.cli_stack.specs.declared.reply.Verdict.{Verdict}
-use Rattle.cli_stack.specs.declared.reply.Verdict.TheVariants.{SmallControl, SmallTemporary, NotBuilt}
-use Rattle.cli_stack.specs.Replies.{Told, only}
-use Rattle.cli_stack.specs.Runs.{values_told}
+use Rattle.cli_stack.specs.declared.reply.Verdict.TheVariants.{Usage, Size, NotBuilt}
+use Rattle.cli_stack.specs.Replies.{ReplyOf, verdict_alone}
+use Rattle.cli_stack.specs.Run.{values_reply}
 
--- how the command ends where nothing is built; no definition gives `Memory`
-abbrev pub refusal_of : BuildFault → Verdict
-refusal_of faults.NotBuilt = NotBuilt
-refusal_of (faults.Control need) = SmallControl need
-refusal_of (faults.Temporary need) = SmallTemporary need
-refusal_of faults.Memory = NotBuilt
+-- how a command ends where nothing is built; sizes that no stack has are no words of a command, and `built` never runs out of memory
+abbrev pub build_verdict : BuildFault → Verdict
+build_verdict fault.NotBuilt = NotBuilt
+build_verdict fault.Size = Usage
+build_verdict (fault.Control need) = Size Control need
+build_verdict (fault.Temporary need) = Size Temporary need
+build_verdict fault.Memory = NotBuilt
 
 -- what is stored, whatever the values are
 abbrev pub go_stored : Result BuiltOf BuildFault → Option (List ℕ)
@@ -22,6 +24,6 @@ go_stored (Err fault) = None
 go_stored (Ok built) = Some built.bytes
 
 -- what is replied
-abbrev pub go_told : Result BuiltOf BuildFault → List ℕ → ℕ → Told
-go_told (Err fault) values budget = only (refusal_of fault)
-go_told (Ok built) values budget = values_told built.image budget (values_in built.image.slots values)
+abbrev pub go_reply : Result BuiltOf BuildFault → List ℕ → ℕ → ReplyOf
+go_reply (Err fault) values budget = verdict_alone (build_verdict fault)
+go_reply (Ok built) values budget = values_reply built.image budget (values_in built.image.slots values)

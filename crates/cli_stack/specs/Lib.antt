@@ -1,9 +1,18 @@
+-- what the program promises, and what that speaks of
+pub mod Promises
+pub mod Correct
 pub mod Answer
-pub mod Go
-pub mod Headline
-pub mod Promise
+pub mod World
+pub mod Status
 pub mod Replies
-pub mod Runs
-pub mod Shows
-pub mod Stages
+pub mod Roles
+-- the words of the commands
 pub mod Words
+pub mod Rows
+-- a page for each command
+pub mod Go
+pub mod Run
+pub mod Show
+-- what private functions say
+pub mod Plans
+pub mod Driver

@@ -4,56 +4,90 @@ use Rattle.std.specs.Option.{option_map}
 use Rattle.std.specs.Fmt.{decimal}
 use Rattle.fm_machine.specs.State.{Fm, Seen}
 use Rattle.fm_show.specs.Digits.{hex_digits}
-use Rattle.cli_stack.specs.declared.reply.Reply.{Reply}
+use Rattle.cli_stack.specs.declared.status.Status.{Status}
+use Rattle.cli_stack.specs.declared.status.Status.TheVariants as status
+use Rattle.cli_stack.specs.declared.reply.RuleLetter.{RuleLetter}
+use Rattle.cli_stack.specs.declared.reply.RuleLetter.TheVariants.{G, M, S, P, Q}
+use Rattle.cli_stack.specs.declared.reply.SizeOf.{SizeOf}
+use Rattle.cli_stack.specs.declared.reply.SizeOf.TheVariants.{Control, Temporary, Words}
 use Rattle.cli_stack.specs.declared.reply.Verdict.{Verdict}
-use Rattle.cli_stack.specs.declared.reply.Verdict.TheVariants.{Done, Usage, Values, Image, Unfinished, Outside, SmallControl, SmallTemporary, NotBuilt}
+use Rattle.cli_stack.specs.declared.reply.Verdict.TheVariants.{Done, Usage, Refused, Values, Image, Unfinished, Outside, Size, NotBuilt}
+use Rattle.cli_stack.specs.declared.reply.Reply.{Reply}
+use Rattle.cli_stack.specs.declared.driver.early_end.EarlyEnd.{EarlyEnd}
+use Rattle.cli_stack.specs.declared.driver.early_end.EarlyEnd.TheVariants.{Missing, TooLong, ShelfFault, OutOfMemory}
 
--- a line feed behind a text
+-- a line feed after a text
 abbrev pub line : List ℕ → List ℕ
 line text = text ++ 10 ∷ []
 
-abbrev pub missing_line : List ℕ → List ℕ
-missing_line name = line (codes "missing " ++ name)
+-- the letter of a rule
+abbrev pub letter_text : RuleLetter → List ℕ
+letter_text G = codes "G"
+letter_text M = codes "M"
+letter_text S = codes "S"
+letter_text P = codes "P"
+letter_text Q = codes "Q"
 
-abbrev pub long_line : ℕ → List ℕ
-long_line limit = line (codes "size file " ++ decimal limit)
+-- what a size is of
+abbrev pub size_of_text : SizeOf → List ℕ
+size_of_text Control = codes "control"
+size_of_text Temporary = codes "temporary"
+size_of_text Words = codes "words"
 
-abbrev pub fault_line : List ℕ → List ℕ
-fault_line name = line (codes "shelf fault " ++ name)
+-- 1. Ends of the command's own.
 
--- the exit status
-abbrev pub status_of : Verdict → ℕ
-status_of Done = 0
-status_of Usage = 1
-status_of (Values rule place) = 3
-status_of (Image rule place) = 4
-status_of (Unfinished budget) = 5
-status_of (Outside address count) = 6
-status_of (SmallControl need) = 12
-status_of (SmallTemporary need) = 12
-status_of NotBuilt = 15
+abbrev pub status_of : Verdict → Status
+status_of Done = status.Done
+status_of Usage = status.Usage
+status_of (Refused letter number place) = status.Refused
+status_of (Values rule place) = status.Values
+status_of (Image rule place) = status.Image
+status_of (Unfinished limit) = status.Unfinished
+status_of (Outside address count) = status.Outside
+status_of (Size of need) = status.Size
+status_of NotBuilt = status.NotBuilt
 
--- the last line; a command that comes to its defined end has said all
+-- the last line; a command that came to its defined end has said all
 abbrev pub verdict_line : Verdict → List ℕ
 verdict_line Done = []
 verdict_line Usage = line (codes "usage")
+verdict_line (Refused letter number place) =
+    line (codes "refused " ++ letter_text letter ++ decimal number ++ codes " at " ++ decimal place)
 verdict_line (Values rule place) = line (codes "values V" ++ decimal rule ++ codes " at " ++ decimal place)
 verdict_line (Image rule place) = line (codes "image I" ++ decimal rule ++ codes " at " ++ decimal place)
-verdict_line (Unfinished budget) = line (codes "unfinished " ++ decimal budget)
+verdict_line (Unfinished limit) = line (codes "unfinished " ++ decimal limit)
 verdict_line (Outside address count) = line (codes "outside " ++ hex_digits address ++ codes " after " ++ decimal count)
-verdict_line (SmallControl need) = line (codes "size control " ++ decimal need)
-verdict_line (SmallTemporary need) = line (codes "size temporary " ++ decimal need)
+verdict_line (Size of need) = line (codes "size " ++ size_of_text of ++ codes " " ++ decimal need)
 verdict_line NotBuilt = line (codes "not built")
 
--- what a command answers: its end, the text that is printed, and the state of the machine that was run
-pub record Told : Type 0 where
+-- what a command replies: what it says before its last line, how it ended, and the state of the machine that was run
+pub record ReplyOf : Type 0 where
+  pub said : List ℕ
   pub verdict : Verdict
-  pub text : List ℕ
   pub state : Option Fm
 
-abbrev pub told_of : Reply → Told
-told_of reply = record { verdict = reply.verdict; text = reply.text; state = option_map (λ (machine : Seen). machine.state) reply.machine }
+abbrev pub reply_of : Reply → ReplyOf
+reply_of reply =
+    record { said = reply.said; verdict = reply.verdict; state = option_map (λ (machine : Seen). machine.state) reply.machine }
 
--- the line of an end alone
-abbrev pub only : Verdict → Told
-only verdict = record { verdict = verdict; text = verdict_line verdict; state = None }
+-- a verdict alone
+abbrev pub verdict_alone : Verdict → ReplyOf
+verdict_alone verdict = record { said = []; verdict = verdict; state = None }
+
+-- all that a reply prints
+abbrev pub reply_text : ReplyOf → List ℕ
+reply_text reply = reply.said ++ verdict_line reply.verdict
+
+-- 2. Ends before there is a reply.
+
+abbrev pub end_status : EarlyEnd → Status
+end_status (Missing name) = status.Missing
+end_status (TooLong limit) = status.Size
+end_status (ShelfFault name) = status.ShelfFault
+end_status OutOfMemory = status.OutOfMemory
+
+abbrev pub end_line : EarlyEnd → List ℕ
+end_line (Missing name) = line (codes "missing " ++ name)
+end_line (TooLong limit) = line (codes "size file " ++ decimal limit)
+end_line (ShelfFault name) = line (codes "shelf fault " ++ name)
+end_line OutOfMemory = []

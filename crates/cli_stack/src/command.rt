@@ -1,32 +1,63 @@
 //! The commands.
-ghost use Rattle.std.specs.Prelude.{◌≡◌, IfOk, map, string_bytes};
-ghost use Rattle.std.specs.Option.{option_copied};
-ghost use Rattle.cli_stack.specs.Words.{go_of, go_with, run_of, run_with, show_of, later};
+ghost use Rattle.std.specs.Prelude.{◌≡◌, IfOk, map};
+ghost use Rattle.std.specs.Option.{option_map};
+ghost use Rattle.cli_stack.specs.Answer.{inputs_of, output_of};
 
-use crate::input::Input;
-use crate::name::FileName;
-use crate::number::{StackSize, number_within};
-use crate::row::{Verb, fits, row_of, verb_of};
+use crate::role::{Role, RoleFile};
+use crate::words::{FileName, Level, StackSize};
 use stack_text::Memory;
 use std::alloc::Global;
 
-/// The most bytes of a source and of a values file.
-pub const TEXT_LIMIT: u64 = 1_048_576;
-
-/// The most bytes of an image file that is read.
-pub const IMAGE_LIMIT: u64 = 8_388_608;
-
-/// The most instructions of a run.
-const MOST_INSTRUCTIONS: u64 = 1 << 40;
-
-/// What the words ask for.
+/// What the words ask for, with the names of the files, the sizes of the two stacks, and the most steps.
 #[derive(Debug, Drop)]
 pub enum Command {
-    /// They fit no row.
-    Usage,
-    /// They fit the row of a command that is yet to be built.
-    NotBuilt,
-    /// Compiles a source, stores the image, and runs it on the values.
+    /// Judges a source. To come.
+    Check {
+        source: FileName,
+    },
+    /// Follows the meaning of a source. To come.
+    Mean {
+        source: FileName,
+        values: FileName,
+        control: StackSize,
+        temporary: StackSize,
+        limit: u64,
+    },
+    /// Compiles a source to a Piton text, and stores that. To come.
+    Pit {
+        source: FileName,
+        control: StackSize,
+        temporary: StackSize,
+        piton: FileName,
+    },
+    /// Compiles a source to an image, and stores that. To come.
+    Build {
+        source: FileName,
+        control: StackSize,
+        temporary: StackSize,
+        image: FileName,
+    },
+    /// Judges a Piton text. To come.
+    Pcheck {
+        piton: FileName,
+    },
+    /// Runs a Piton text. To come.
+    Prun {
+        piton: FileName,
+        limit: u64,
+    },
+    /// Links a Piton text to an image, and stores that. To come.
+    Pbuild {
+        piton: FileName,
+        image: FileName,
+    },
+    /// Runs an image on values.
+    Run {
+        image: FileName,
+        values: FileName,
+        budget: u64,
+    },
+    /// Compiles a source to an image, stores that, and runs it on values.
     Go {
         source: FileName,
         values: FileName,
@@ -35,179 +66,79 @@ pub enum Command {
         budget: u64,
         image: FileName,
     },
-    /// Runs an image on the values.
-    Run {
-        image: FileName,
-        values: FileName,
-        budget: u64,
-    },
     /// Lists an image.
     Show {
         image: FileName,
     },
+    /// Plays a script of a debugger on the program of a source. To come.
+    Debug {
+        level: Level,
+        source: FileName,
+        values: FileName,
+        control: StackSize,
+        temporary: StackSize,
+        script: FileName,
+    },
+    /// Builds and runs a large source that is made from a number. To come.
+    Big {
+        number: u32,
+        procedures: u32,
+    },
 }
 
 impl Command {
-    ghost use Rattle.std.specs.Prelude.{◌≡◌, IfOk, map, string_bytes};
-    ghost use Rattle.std.specs.Option.{option_copied};
-    ghost use Rattle.cli_stack.specs.Words.{command_of};
+    ghost use Rattle.std.specs.Prelude.{◌≡◌, IfOk, map};
+    ghost use Rattle.std.specs.Option.{option_map};
     ghost use Rattle.cli_stack.specs.Answer.{inputs_of, output_of};
 
-    /// The command that the words spell.
-    #[tactic(auto, unfolding(crate::specs::Words::command_of))]
-    pub fn read(alloc: Global, words: &[String]) -> Result<Command, Memory>
-        ensures { IfOk result (λ command. command ≡ command_of (map (λ word. string_bytes word) words.now)) }
-    {
-        match words {
-            [] => Ok(Command::Usage),
-            [verb, rest @ ..] => match verb_of(verb.as_str()) {
-                None => Ok(Command::Usage),
-                Some(Verb::Go) => read_go(alloc, rest),
-                Some(Verb::Run) => read_run(alloc, rest),
-                Some(Verb::Show) => read_show(alloc, rest),
-                Some(verb) => Ok(later(verb, rest)),
-            },
-        }
-    }
-
-    /// The files that it reads, in order.
+    /// The files that it reads, in order. A command that is to come reads none yet.
     #[tactic(auto, unfolding(crate::specs::Answer::inputs_of))]
-    pub fn inputs(&self, alloc: Global) -> Result<Vec<Input<'_>>, Memory>
-        ensures { IfOk result (λ inputs. map (λ input. (input.name.now, input.limit)) inputs.items ≡ inputs_of self.now) }
+    pub fn inputs(&self, alloc: Global) -> Result<Vec<RoleFile<'_>>, Memory>
+        ensures { IfOk result (λ inputs.
+            map (λ input. (input.role, input.name.now)) inputs.items ≡ inputs_of self.now) }
     {
         match self {
-            Command::Usage | Command::NotBuilt => Ok(Vec::new(alloc)),
             Command::Go { source, values, .. } => Ok(vec![in alloc;
-                Input {
-                    name: source,
-                    limit: TEXT_LIMIT
+                RoleFile {
+                    role: Role::Source,
+                    name: source
                 },
-                Input {
-                    name: values,
-                    limit: TEXT_LIMIT
+                RoleFile {
+                    role: Role::Values,
+                    name: values
                 },
             ]?),
             Command::Run { image, values, .. } => Ok(vec![in alloc;
-                Input {
-                    name: image,
-                    limit: IMAGE_LIMIT
+                RoleFile {
+                    role: Role::Image,
+                    name: image
                 },
-                Input {
-                    name: values,
-                    limit: TEXT_LIMIT
+                RoleFile {
+                    role: Role::Values,
+                    name: values
                 },
             ]?),
             Command::Show { image } => Ok(vec![in alloc;
-                Input {
-                    name: image,
-                    limit: IMAGE_LIMIT
+                RoleFile {
+                    role: Role::Image,
+                    name: image
                 },
             ]?),
+            _ => Ok(Vec::new(alloc)),
         }
     }
 
-    /// The file that it writes.
+    /// The file that it writes. A command that is to come writes none yet.
     #[tactic(auto, unfolding(crate::specs::Answer::output_of))]
-    pub fn output(&self) -> Option<&str>
-        ensures { option_copied result ≡ output_of self.now }
+    pub fn output(&self) -> Option<RoleFile<'_>>
+        ensures { option_map (λ output. (output.role, output.name.now)) result ≡ output_of self.now }
     {
         match self {
-            Command::Usage | Command::NotBuilt => None,
-            Command::Run { .. } | Command::Show { .. } => None,
-            Command::Go { image, .. } => Some(image.as_str()),
+            Command::Go { image, .. } => Some(RoleFile {
+                role: Role::Image,
+                name: image,
+            }),
+            _ => None,
         }
-    }
-}
-
-/// A command that is yet to be built, where the words fit its row.
-fn later(verb: Verb, words: &[String]) -> Command
-    ensures { result ≡ later verb (map (λ word. string_bytes word) words.now) }
-{
-    if fits(row_of(verb), words) {
-        Command::NotBuilt
-    } else {
-        Command::Usage
-    }
-}
-
-/// `go` on these files, where both sizes and the budget are numbers in their ranges.
-fn go_with(
-    alloc: Global,
-    source: &str,
-    values: &str,
-    image: &str,
-    control: Option<StackSize>,
-    temporary: Option<StackSize>,
-    budget: Option<u64>,
-) -> Result<Command, Memory>
-    ensures { IfOk result (λ command. command ≡ go_with source.now values.now image.now control temporary budget) }
-{
-    match (control, temporary, budget) {
-        (Some(control), Some(temporary), Some(budget)) => Ok(Command::Go {
-            source: FileName::new(alloc, source)?,
-            values: FileName::new(alloc, values)?,
-            control,
-            temporary,
-            budget,
-            image: FileName::new(alloc, image)?,
-        }),
-        _ => Ok(Command::Usage),
-    }
-}
-
-fn read_go(alloc: Global, words: &[String]) -> Result<Command, Memory>
-    ensures { IfOk result (λ command. command ≡ go_of (map (λ word. string_bytes word) words.now)) }
-{
-    match words {
-        [source, values, control, temporary, budget, image] => {
-            let control = StackSize::read(control.as_str());
-            let temporary = StackSize::read(temporary.as_str());
-            let budget = number_within(0, MOST_INSTRUCTIONS, budget.as_str());
-            let (source, values, image) = (source.as_str(), values.as_str(), image.as_str());
-            go_with(alloc, source, values, image, control, temporary, budget)
-        }
-        _ => Ok(Command::Usage),
-    }
-}
-
-/// `run` on these files, where the budget is a number in its range.
-fn run_with(
-    alloc: Global,
-    image: &str,
-    values: &str,
-    budget: Option<u64>,
-) -> Result<Command, Memory>
-    ensures { IfOk result (λ command. command ≡ run_with image.now values.now budget) }
-{
-    match budget {
-        Some(budget) => Ok(Command::Run {
-            image: FileName::new(alloc, image)?,
-            values: FileName::new(alloc, values)?,
-            budget,
-        }),
-        None => Ok(Command::Usage),
-    }
-}
-
-fn read_run(alloc: Global, words: &[String]) -> Result<Command, Memory>
-    ensures { IfOk result (λ command. command ≡ run_of (map (λ word. string_bytes word) words.now)) }
-{
-    match words {
-        [image, values, budget] => {
-            let budget = number_within(0, MOST_INSTRUCTIONS, budget.as_str());
-            run_with(alloc, image.as_str(), values.as_str(), budget)
-        }
-        _ => Ok(Command::Usage),
-    }
-}
-
-fn read_show(alloc: Global, words: &[String]) -> Result<Command, Memory>
-    ensures { IfOk result (λ command. command ≡ show_of (map (λ word. string_bytes word) words.now)) }
-{
-    match words {
-        [image] => Ok(Command::Show {
-            image: FileName::new(alloc, image.as_str())?,
-        }),
-        _ => Ok(Command::Usage),
     }
 }

@@ -1,37 +1,29 @@
 //! The short stack as one program: runs the words of its command line over the files of the current folder.
 #![tactic(auto)]
 
+ghost use Rattle.std.specs.Prelude.{◌≡◌};
+ghost use Rattle.cli_stack.specs.Status.{exit_code};
+
 mod command;
-mod end;
-mod go;
-mod input;
-mod name;
-mod number;
-mod print;
+mod commands;
+mod driver;
 mod program;
 mod reply;
-mod row;
-mod run;
-mod runs;
-mod shows;
-mod stage;
+mod role;
+mod status;
 #[cfg(test)]
 mod tests;
-mod text;
+mod texts;
+mod words;
 
 use program::cli;
 use stack_shelf::{FolderShelf, StdoutSink};
+use status::Status;
 use std::alloc::Global;
 use std::path::PathBuf;
 use std::process::ExitCode;
 use std::rt::Env;
 use std::{env, io};
-
-/// The exit status where there is no memory.
-const NO_MEMORY: u8 = 14;
-
-/// The exit status where the arguments can't be had for another cause. `cli` never answers it.
-const NO_ARGUMENTS: u8 = 19;
 
 /// The words after the program's name.
 fn arguments(alloc: Global, rt: &(impl Env + AllocGlobal)) -> io::Result<Vec<String>> {
@@ -42,19 +34,27 @@ fn arguments(alloc: Global, rt: &(impl Env + AllocGlobal)) -> io::Result<Vec<Str
     Ok(words)
 }
 
-/// Runs the words over the current folder and standard output.
-fn run_words(rt: HostRuntime, words: &[String]) -> u8 {
+/// Runs the words of the command line over the current folder and standard output.
+fn run(rt: HostRuntime) -> io::Result<u8> {
     let alloc = rt.alloc();
+    let words = arguments(alloc, &rt)?;
     let mut shelf = FolderShelf::new(alloc, rt, PathBuf::new(alloc));
     let mut out = StdoutSink::new(rt);
     let mut kept = None;
-    cli(alloc, words, &mut shelf, &mut out, &mut kept)
+    Ok(cli(alloc, &words, &mut shelf, &mut out, &mut kept))
+}
+
+/// The exit status: that of the program, or why its words can't be read.
+fn exit_code(ran: io::Result<u8>) -> u8
+    ensures { result ≡ exit_code ran }
+{
+    match ran {
+        Ok(code) => code,
+        Err(e) if e.kind() == io::ErrorKind::OutOfMemory => Status::OutOfMemory.code(),
+        Err(_) => Status::NoWords.code(),
+    }
 }
 
 fn main(rt: HostRuntime) -> ExitCode {
-    match arguments(rt.alloc(), &rt) {
-        Ok(words) => ExitCode::from(run_words(rt, &words)),
-        Err(e) if e.kind() == io::ErrorKind::OutOfMemory => ExitCode::from(NO_MEMORY),
-        Err(_) => ExitCode::from(NO_ARGUMENTS),
-    }
+    ExitCode::from(exit_code(run(rt)))
 }

@@ -1,9 +1,9 @@
 -- What is built from a source.
-use Rattle.std.specs.Prelude.{◌≡◌, ◌≤◌, ℕ, ◌+◌, List, length, Option, Some, None, Result, Ok, Err, nat_lt, if◌then◌else◌}
+use Rattle.std.specs.Prelude.{◌≡◌, ◌≤◌, ℕ, ◌+◌, List, length, Option, Some, None, Result, Ok, Err, Bool, ◌&&◌, nat_lt, nat_le, if◌then◌else◌}
 use Rattle.fm_image.specs.Image.{ImageOf}
 use Rattle.fm_image.specs.Spelling.{Spelled, spelling}
 use Rattle.stack_build.specs.declared.fault.BuildFault.{BuildFault}
-use Rattle.stack_build.specs.declared.fault.BuildFault.TheVariants.{NotBuilt, Control, Temporary, Memory}
+use Rattle.stack_build.specs.declared.fault.BuildFault.TheVariants.{NotBuilt, Size, Control, Temporary, Memory}
 use Rattle.stack_build.specs.declared.source.Statement.{Statement}
 use Rattle.stack_build.specs.declared.source.Statement.TheVariants as statement
 use Rattle.stack_build.specs.declared.source.OneStatement.{OneStatement}
@@ -41,6 +41,14 @@ shortage_of source ctrl temp =
     if nat_lt ctrl (control_need source) then Some (Control (control_need source))
     else (if nat_lt temp (temporary_need source) then Some (Temporary (temporary_need source)) else None)
 
+-- a stack has 1 to 65,536 words
+abbrev pub is_stack_size : ℕ → Bool
+is_stack_size words = nat_le 1 words && nat_le words 65536
+
+-- why the sizes of the two stacks are refused, if they are
+abbrev pub size_fault : OneStatement → ℕ → ℕ → Option BuildFault
+size_fault source ctrl temp = if is_stack_size ctrl && is_stack_size temp then shortage_of source ctrl temp else Some Size
+
 -- the image of a source, one for all values
 unfoldable pub source_image : OneStatement → ℕ → ℕ → ImageOf
 source_image source ctrl temp = image_of source.variables (generated source ctrl temp)
@@ -52,7 +60,7 @@ built_unless (Some fault) image = Err fault
 
 -- what is built from a source
 abbrev pub source_built : OneStatement → ℕ → ℕ → Result BuiltOf BuildFault
-source_built source ctrl temp = built_unless (shortage_of source ctrl temp) (source_image source ctrl temp)
+source_built source ctrl temp = built_unless (size_fault source ctrl temp) (source_image source ctrl temp)
 
 -- the same, where there is a source
 abbrev pub built_from : Option OneStatement → ℕ → ℕ → Result BuiltOf BuildFault
@@ -63,14 +71,10 @@ built_from (Some source) ctrl temp = source_built source ctrl temp
 abbrev pub built : List ℕ → ℕ → ℕ → Result BuiltOf BuildFault
 built text ctrl temp = built_from (source_of text) ctrl temp
 
-abbrev pub Fails : BuildFault → Result BuiltOf BuildFault → Type 0
-Fails Memory found = Unit {0}
-Fails fault found = found ≡ Err fault
-
--- the call returned exactly this; out of memory is free
-abbrev pub Gives : Result BuiltOf BuildFault → Result BuiltOf BuildFault → Type 0
-Gives (Ok built) found = found ≡ Ok built
-Gives (Err fault) found = Fails fault found
+-- which fault of a text and two sizes an error of a call is: none where it ran out of memory
+abbrev pub fault_of : BuildFault → Option BuildFault
+fault_of Memory = None
+fault_of fault = Some fault
 
 -- What was built from a text for stacks of these sizes: the image does what the source in the text means, and its file of
 -- at most 8,388,608 bytes spells the image.

@@ -1,7 +1,8 @@
 //! Builds the image of a source.
-ghost use Rattle.std.specs.Prelude.{◌≡◌, ◌≤◌, ◌^◌, None, Some, IfOk, length};
+ghost use Rattle.std.specs.Prelude.{◌≡◌, ◌≤◌, ◌^◌, None, IfOk, length};
+ghost use Rattle.stack_text.specs.Gives.{Gives};
 ghost use Rattle.stack_build.specs.Source.{IsSource};
-ghost use Rattle.stack_build.specs.Build.{called_frame, pushed_words, shortage_of, source_image, source_built, built, Gives, BuildsText};
+ghost use Rattle.stack_build.specs.Build.{called_frame, pushed_words, shortage_of, is_stack_size, size_fault, source_image, source_built, built, fault_of, BuildsText};
 
 use crate::fault::BuildFault;
 use crate::form::FormFault;
@@ -75,13 +76,30 @@ fn shortage_of(source: &OneStatement, ctrl: u32, temp: u32) -> Option<BuildFault
     None
 }
 
+/// Whether a stack may have so many words.
+fn is_stack_size(words: u32) -> bool
+    ensures { result ≡ is_stack_size words }
+{
+    1 <= words && words <= 65_536
+}
+
+/// Why the sizes of the two stacks are refused, if they are.
+fn size_fault(source: &OneStatement, ctrl: u32, temp: u32) -> Option<BuildFault>
+    requires { length source.now.variables ≤ 200 }
+    ensures { result ≡ size_fault source.now ctrl temp }
+{
+    if is_stack_size(ctrl) && is_stack_size(temp) {
+        shortage_of(source, ctrl, temp)
+    } else {
+        Some(BuildFault::Size)
+    }
+}
+
 /// The image of a source whose stacks have the words that it needs.
 #[tactic(auto, using(crate::proofs::Sizes::placeable), unfolding(crate::specs::Build::source_image))]
 fn compile(alloc: Global, source: OneStatement, ctrl: u32, temp: u32) -> Result<Image, Memory>
     requires source { IsSource source }
-    requires control { ctrl ≤ 65536 }
-    requires temporary { temp ≤ 65536 }
-    requires sizes { shortage_of source ctrl temp ≡ None }
+    requires sizes { size_fault source ctrl temp ≡ None }
     ensures { IfOk result (λ image. image ≡ source_image source ctrl temp) }
 {
     let system = generate(alloc, &source, ctrl, temp)?;
@@ -95,12 +113,10 @@ fn build_source(
     ctrl: u32,
     temp: u32,
 ) -> Result<Built, BuildFault>
-    requires source { IsSource source }
-    requires control { ctrl ≤ 65536 }
-    requires temporary { temp ≤ 65536 }
-    ensures { Gives result (source_built source ctrl temp) }
+    requires { IsSource source }
+    ensures { Gives fault_of (λ built. built) result (source_built source ctrl temp) }
 {
-    if let Some(fault) = shortage_of(&source, ctrl, temp) {
+    if let Some(fault) = size_fault(&source, ctrl, temp) {
         return Err(fault);
     }
     let image = compile(alloc, source, ctrl, temp)?;
@@ -108,18 +124,15 @@ fn build_source(
     Ok(Built { image, bytes })
 }
 
-/// Builds the image of a source, for a control stack of `ctrl` words and a temporary stack of `temp` words, each at most
-/// 65,536.
+/// Builds the image of a source, for a control stack of `ctrl` words and a temporary stack of `temp` words.
 ///
 /// # Errors
 ///
 /// The first reason in the order of `BuildFault` for which there is no image; or out of memory.
 pub fn build(alloc: Global, text: &[u8], ctrl: u32, temp: u32) -> Result<Built, BuildFault>
-    requires text { length text.now ≤ 2 ^ 31 }
-    requires control { ctrl ≤ 65536 }
-    requires temporary { temp ≤ 65536 }
+    requires { length text.now ≤ 2 ^ 31 }
     // What is built, and each fault, are those of the text and the two sizes. Out of memory alone is free.
-    ensures value { Gives result (built text.now ctrl temp) }
+    ensures value { Gives fault_of (λ built. built) result (built text.now ctrl temp) }
     // The image does what the source means, and its file can be read again.
     ensures implements { IfOk result (BuildsText text.now ctrl temp) }
 {

@@ -10,6 +10,9 @@ pub enum BuildFault {
     /// The text is no program of one statement, the only form that is compiled so far.
     #[error("not built")]
     NotBuilt,
+    /// A size isn't 1 to 65,536.
+    #[error("a stack has 1 to 65,536 words")]
+    Size,
     /// The control stack has fewer words than the main procedure needs.
     #[error("size control {need}")]
     Control { need: u64 },

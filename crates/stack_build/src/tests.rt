@@ -6,11 +6,12 @@ const SEVEN: &[u8] =
     b"(program main\n(proc main ((x integer)) () () () (mg-simple-constant-assignment x 7)))\n";
 
 // A source, the sizes of both stacks, and why it is not built.
-const FAULTS: [(&[u8], u32, u32, BuildFault); 4] = [
+const FAULTS: [(&[u8], u32, u32, BuildFault); 5] = [
     (b"(program main", 7, 3, BuildFault::NotBuilt),
     (SEVEN, 6, 2, BuildFault::Control { need: 7 }),
     (SEVEN, 7, 2, BuildFault::Temporary { need: 3 }),
-    (SEVEN, 0, 0, BuildFault::Control { need: 7 }),
+    (SEVEN, 0, 3, BuildFault::Size),
+    (SEVEN, 7, 65_537, BuildFault::Size),
 ];
 
 #[test]

@@ -1,0 +1,258 @@
+-- The promises of the program, from what its two halves say: how the command was performed, and how it was concluded.
+use Rattle.std.proofs.Common.{◌≡◌, ◌⊎◌, inl, inr, ⊎_elim, ℕ, List, [], ◌++◌, Bool, true, false, Option, Some, None, IfSome, IfErr, IfOk, Result, Ok, Err, refl, sym, ap, ◌∙◌, subst}
+use Rattle.std.specs.Prelude.{◌≢◌, Contains, IsSomeAnd}
+use Rattle.std.specs.Option.{option_map}
+use Rattle.fm_machine.specs.State.{Fm, Seen}
+use Rattle.stack_shelf.specs.Files.{Files}
+use Rattle.stack_shelf.specs.Causes.{Counts, Rose}
+use Rattle.stack_shelf.specs.Shelf.{appended, PrefixAppended}
+use Rattle.cli_stack.specs.declared.command.Command.{Command}
+use Rattle.cli_stack.specs.declared.driver.conclude.Conclusion.{Conclusion}
+use Rattle.cli_stack.specs.declared.driver.early_end.EarlyEnd.{EarlyEnd}
+use Rattle.cli_stack.specs.declared.driver.early_end.EarlyEnd.TheVariants as early
+use Rattle.cli_stack.specs.declared.reply.Reply.{Reply}
+use Rattle.cli_stack.specs.declared.reply.SizeOf.{SizeOf}
+use Rattle.cli_stack.specs.declared.reply.Verdict.{Verdict}
+use Rattle.cli_stack.specs.declared.reply.Verdict.TheVariants as verdict
+use Rattle.cli_stack.specs.declared.status.Status.{Status}
+use Rattle.cli_stack.specs.declared.status.Status.TheVariants.{Missing, ShelfFault, SinkFault, Size, OutOfMemory}
+use Rattle.cli_stack.specs.Replies.{ReplyOf, status_of, verdict_line, reply_of, reply_text, end_status, end_line}
+use Rattle.cli_stack.specs.Answer.{Answer, answer_with, early_answer, files_after, input_names, file_names, answer_by}
+use Rattle.cli_stack.specs.World.{OutOf, World}
+use Rattle.cli_stack.specs.Promises.{HoldsMachine, Agrees, RoseAt, RoseAndPrinted, SizePrinted, TakesSizes, HoldsPart, FaultRose, LeavesFiles, PrintsPrefix, PromisesOf}
+use Rattle.cli_stack.specs.Correct.{Implements, Tells}
+use Rattle.cli_stack.specs.Driver.{HasReason, IsReplyTo, LeavesAs, Leaves, machine_kept, conclusion_of, Printed, Stopped, NotBegun, Concludes}
+use Rattle.cli_stack.proofs.PrintLaws.{nothing_printed}
+use Rattle.cli_stack.proofs.SizeLaws.{sizes_alone}
+
+-- 1. Statuses.
+
+-- not brought about by a device's failure or by memory alone
+abbrev is_plain : Status → Bool
+is_plain ShelfFault = false
+is_plain SinkFault = false
+is_plain OutOfMemory = false
+is_plain status = true
+
+-- one that a command ends with by itself
+abbrev is_own : Status → Bool
+is_own Missing = false
+is_own ShelfFault = false
+is_own SinkFault = false
+is_own OutOfMemory = false
+is_own status = true
+
+apart : (test : Status → Bool) (s t : Status) → test s ≡ true → test t ≡ false → s ≡ t → ⊥
+apart test s t passes fails e = let same : test s ≡ test t = ap test e in cc
+
+plain_verdict : (v : Verdict) → is_plain (status_of v) ≡ true
+plain_verdict verdict.Done = refl
+plain_verdict v = refl
+
+own_verdict : (v : Verdict) → is_own (status_of v) ≡ true
+own_verdict verdict.Done = refl
+own_verdict v = refl
+
+-- 2. Where the files are known.
+
+record Known (answer : Answer) (names : List (List ℕ)) (files : Files) (before after : World) (status : Status) : Type 0 where
+  pub answers : status ≢ ShelfFault → status ≢ SinkFault → status ≢ OutOfMemory → Agrees answer files before after status
+  pub files_at_10 : status ≡ ShelfFault → HoldsPart (Some files) after.shelf.files answer.output
+  pub files_at_11 : status ≡ SinkFault → LeavesFiles files answer.output names before after
+  pub files_at_14 : status ≡ OutOfMemory → (after.shelf.files ≡ Some files) ⊎ LeavesFiles files answer.output names before after
+  pub text : (status ≡ SinkFault) ⊎ (status ≡ OutOfMemory) → PrintsPrefix answer.text names before after
+
+holds_machine : (before after machine : Option Seen) (state : Option Fm) → after ≡ machine_kept before machine → state ≡ option_map (λ (m : Seen). m.state) machine → HoldsMachine before after state
+holds_machine before after None None kept is = kept
+holds_machine before after None (Some s) kept is = cc
+holds_machine before after (Some m) None kept is = cc
+holds_machine before after (Some m) (Some s) kept is = let same : s ≡ m.state = cc in rw kept (sym same)
+
+-- the command concludes as it is to answer, and has set its file
+agreeing : (answer : Answer) (names : List (List ℕ)) (files : Files) (before after : World) (c : Conclusion) (status : Status)
+    → answer.status ≡ c.status → answer.text ≡ c.text → answer.machine ≡ option_map (λ (m : Seen). m.state) c.machine
+    → after.shelf.files ≡ Some (files_after answer.output files) → is_plain c.status ≡ true
+    → Concludes (Some c) status before.out after.out → Known answer names files before after status
+agreeing answer names files before after c status ends says runs left plain (inl n) = record {
+  answers = λ h1 h2 h3. absurd (h3 n.ends);
+  files_at_10 = λ h. absurd (let e : ShelfFault ≡ OutOfMemory = sym h ∙ n.ends in cc);
+  files_at_11 = λ h. inl left;
+  files_at_14 = λ h. inr (inl left);
+  text = λ h. inl (nothing_printed before.out.taken after.out.taken answer.text n.text);
+}
+agreeing answer names files before after c status ends says runs left plain (inr (inl p)) = record {
+  answers = λ h1 h2 h3. record {
+    ends = p.ends ∙ sym ends;
+    files_left = left;
+    text = p.text ∙ ap (appended before.out.taken) (sym says);
+    machine = holds_machine before.out.kept after.out.kept c.machine answer.machine p.machine runs;
+  };
+  files_at_10 = λ h. absurd (apart is_plain c.status ShelfFault plain refl (sym p.ends ∙ h));
+  files_at_11 = λ h. inl left;
+  files_at_14 = λ h. inr (inl left);
+  text = λ h. absurd (⊎_elim (λ (e : status ≡ SinkFault). apart is_plain c.status SinkFault plain refl (sym p.ends ∙ e)) (λ e. apart is_plain c.status OutOfMemory plain refl (sym p.ends ∙ e)) h);
+}
+agreeing answer names files before after c status ends says runs left plain (inr (inr s)) = record {
+  answers = λ h1 h2 h3. absurd (⊎_elim (λ failed. h2 failed.0) (λ memory. h3 memory) s.cause);
+  files_at_10 = λ h. absurd (⊎_elim (λ failed. let e : ShelfFault ≡ SinkFault = sym h ∙ failed.0 in cc) (λ memory. let e : ShelfFault ≡ OutOfMemory = sym h ∙ memory in cc) s.cause);
+  files_at_11 = λ h. inl left;
+  files_at_14 = λ h. inr (inl left);
+  text = λ h. inl (subst (PrefixAppended before.out.taken after.out.taken) (sym says) s.text);
+}
+
+-- an early end that isn't a failure leaves the files, and sets none
+early_left : (answer : Answer) (end : EarlyEnd) (files : Files) (left : Option Files) → answer ≡ early_answer end → left ≡ Some files → left ≡ Some (files_after answer.output files)
+early_left answer end files left is same = same ∙ ap (λ (a : Answer). Some (files_after a.output files)) (sym is)
+
+known : (command : Option Command) (answer : Answer) (files : Files) (before after : World) (ran : Result Reply EarlyEnd) (status : Status)
+    → LeavesAs answer (file_names command) files before.shelf after.shelf ran → IfErr ran (HasReason before.shelf.counts after.shelf.counts command)
+    → Concludes (conclusion_of ran) status before.out after.out → Known answer (file_names command) files before after status
+known command answer files before after (Ok reply) status l reason ends =
+    agreeing answer (file_names command) files before after _ status (ap (λ (a : Answer). a.status) l.0) (ap (λ (a : Answer). a.text) l.0) (ap (λ (a : Answer). a.machine) l.0) l.1 (plain_verdict reply.verdict) ends
+known command answer files before after (Err (early.Missing name)) status l reason ends =
+    agreeing answer (file_names command) files before after _ status (ap (λ (a : Answer). a.status) l.0) (ap (λ (a : Answer). a.text) l.0) (ap (λ (a : Answer). a.machine) l.0) (early_left answer (early.Missing name) files after.shelf.files l.0 l.1) refl ends
+known command answer files before after (Err (early.TooLong limit)) status l reason ends =
+    agreeing answer (file_names command) files before after _ status (ap (λ (a : Answer). a.status) l.0) (ap (λ (a : Answer). a.text) l.0) (ap (λ (a : Answer). a.machine) l.0) (early_left answer (early.TooLong limit) files after.shelf.files l.0 l.1) refl ends
+known command answer files before after (Err (early.ShelfFault name)) status l reason (inl n) = record {
+  answers = λ h1 h2 h3. absurd (h3 n.ends);
+  files_at_10 = λ h. l;
+  files_at_11 = λ h. absurd (let e : SinkFault ≡ OutOfMemory = sym h ∙ n.ends in cc);
+  files_at_14 = λ h. inr (inr (l, (reason.0, reason.1, reason.2.1)));
+  text = λ h. inl (nothing_printed before.out.taken after.out.taken answer.text n.text);
+}
+known command answer files before after (Err (early.ShelfFault name)) status l reason (inr (inl p)) = record {
+  answers = λ h1 h2 h3. absurd (h1 p.ends);
+  files_at_10 = λ h. l;
+  files_at_11 = λ h. absurd (let e : SinkFault ≡ ShelfFault = sym h ∙ p.ends in cc);
+  files_at_14 = λ h. absurd (let e : OutOfMemory ≡ ShelfFault = sym h ∙ p.ends in cc);
+  text = λ h. absurd (⊎_elim (λ (e : status ≡ SinkFault). let f : SinkFault ≡ ShelfFault = sym e ∙ p.ends in cc) (λ e. let f : OutOfMemory ≡ ShelfFault = sym e ∙ p.ends in cc) h);
+}
+known command answer files before after (Err (early.ShelfFault name)) status l reason (inr (inr s)) = record {
+  answers = λ h1 h2 h3. absurd (⊎_elim (λ failed. h2 failed.0) (λ memory. h3 memory) s.cause);
+  files_at_10 = λ h. l;
+  files_at_11 = λ h. inr (l, (reason.0, reason.1, reason.2.1));
+  files_at_14 = λ h. inr (inr (l, (reason.0, reason.1, reason.2.1)));
+  text = λ h. inr (reason.0, reason.1, reason.2.1, subst (λ (n : List ℕ). PrefixAppended before.out.taken after.out.taken (end_line (early.ShelfFault n))) reason.2.0 s.text);
+}
+known command answer files before after (Err early.OutOfMemory) status l reason (inl n) = record {
+  answers = λ h1 h2 h3. absurd (h3 n.ends);
+  files_at_10 = λ h. absurd (let e : ShelfFault ≡ OutOfMemory = sym h ∙ n.ends in cc);
+  files_at_11 = λ h. absurd (let e : SinkFault ≡ OutOfMemory = sym h ∙ n.ends in cc);
+  files_at_14 = λ h. l;
+  text = λ h. inl (nothing_printed before.out.taken after.out.taken answer.text n.text);
+}
+known command answer files before after (Err early.OutOfMemory) status l reason (inr none) = absurd none
+
+-- 3. Causes.
+
+record Caused (command : Option Command) (before after : World) (status : Status) : Type 0 where
+  pub missing : status ≡ Missing → RoseAndPrinted (λ c. c.absences) (λ name. end_line (early.Missing name)) (input_names command) before after
+  pub shelf_fault : status ≡ ShelfFault → RoseAndPrinted (λ c. c.faults) (λ name. end_line (early.ShelfFault name)) (file_names command) before after
+  pub sink_fault : status ≡ SinkFault → Rose before.out.faults after.out.faults
+  pub too_long : status ≡ Size → RoseAt (λ c. c.overruns) (input_names command) before after ⊎ SizePrinted command before after
+  pub kept : (status ≡ ShelfFault) ⊎ ((status ≡ SinkFault) ⊎ (status ≡ OutOfMemory)) → after.out.kept ≡ before.out.kept
+
+not_begun : (command : Option Command) (before after : World) (status : Status) → NotBegun status before.out after.out → Caused command before after status
+not_begun command before after status n = record {
+  missing = λ h. absurd (let e : Missing ≡ OutOfMemory = sym h ∙ n.ends in cc);
+  shelf_fault = λ h. absurd (let e : ShelfFault ≡ OutOfMemory = sym h ∙ n.ends in cc);
+  sink_fault = λ h. absurd (let e : SinkFault ≡ OutOfMemory = sym h ∙ n.ends in cc);
+  too_long = λ h. absurd (let e : Size ≡ OutOfMemory = sym h ∙ n.ends in cc);
+  kept = λ h. n.machine;
+}
+
+stopped : (command : Option Command) (before after : World) (c : Conclusion) (status : Status) → Stopped c status before.out after.out → Caused command before after status
+stopped command before after c status s = record {
+  missing = λ h. absurd (other Missing refl h);
+  shelf_fault = λ h. absurd (⊎_elim (λ failed. let e : ShelfFault ≡ SinkFault = sym h ∙ failed.0 in cc) (λ memory. let e : ShelfFault ≡ OutOfMemory = sym h ∙ memory in cc) s.cause);
+  sink_fault = λ h. ⊎_elim (λ failed. failed.1) (λ memory. absurd (let e : SinkFault ≡ OutOfMemory = sym h ∙ memory in cc)) s.cause;
+  too_long = λ h. absurd (other Size refl h);
+  kept = λ h. s.machine;
+}
+  where
+    other : (t : Status) → is_plain t ≡ true → status ≡ t → ⊥
+    other t plain h = ⊎_elim (λ (failed : (status ≡ SinkFault) × Rose before.out.faults after.out.faults). apart is_plain t SinkFault plain refl (sym h ∙ failed.0)) (λ memory. apart is_plain t OutOfMemory plain refl (sym h ∙ memory)) s.cause
+
+-- a reply was printed whose verdict is a size
+size_printed : (command : Option Command) (before after : World) (reply : Reply) (v : Verdict) → reply.verdict ≡ v → status_of v ≡ Size → IsReplyTo command reply
+    → after.out.taken ≡ appended before.out.taken (reply.said ++ verdict_line reply.verdict) → SizePrinted command before after
+size_printed command before after reply (verdict.Size of need) is size to printed =
+    let alone = sizes_alone command reply of need to is in
+    (alone.0, of, need, printed ∙ ap (λ (said : List ℕ). appended before.out.taken (said ++ verdict_line reply.verdict)) alone.1 ∙ ap (λ (v : Verdict). appended before.out.taken (verdict_line v)) is)
+size_printed command before after reply verdict.Done is size to printed = absurd cc
+size_printed command before after reply v is size to printed = absurd cc
+
+caused : (command : Option Command) (before after : World) (ran : Result Reply EarlyEnd) (status : Status)
+    → IfErr ran (HasReason before.shelf.counts after.shelf.counts command) → IfOk ran (IsReplyTo command)
+    → Concludes (conclusion_of ran) status before.out after.out → Caused command before after status
+caused command before after ran status reason to (inl n) = not_begun command before after status n
+caused command before after (Ok reply) status reason to (inr (inr s)) = stopped command before after _ status s
+caused command before after (Ok reply) status reason to (inr (inl p)) = record {
+  missing = λ h. absurd (apart is_own (status_of reply.verdict) Missing (own_verdict reply.verdict) refl (sym p.ends ∙ h));
+  shelf_fault = λ h. absurd (apart is_own (status_of reply.verdict) ShelfFault (own_verdict reply.verdict) refl (sym p.ends ∙ h));
+  sink_fault = λ h. absurd (apart is_own (status_of reply.verdict) SinkFault (own_verdict reply.verdict) refl (sym p.ends ∙ h));
+  too_long = λ h. inr (size_printed command before after reply reply.verdict refl (sym p.ends ∙ h) to p.text);
+  kept = λ h. absurd (⊎_elim (λ (e : status ≡ ShelfFault). not_a ShelfFault refl e) (λ failed. ⊎_elim (λ (e : status ≡ SinkFault). not_a SinkFault refl e) (λ e. not_a OutOfMemory refl e) failed) h);
+}
+  where
+    not_a : (t : Status) → is_own t ≡ false → status ≡ t → ⊥
+    not_a t other e = apart is_own (status_of reply.verdict) t (own_verdict reply.verdict) other (sym p.ends ∙ e)
+caused command before after (Err (early.Missing name)) status reason to (inr (inr s)) = stopped command before after _ status s
+caused command before after (Err (early.Missing name)) status reason to (inr (inl p)) = record {
+  missing = λ h. (reason.0, reason.1, reason.2.1, p.text ∙ ap (λ (n : List ℕ). appended before.out.taken (end_line (early.Missing n))) reason.2.0);
+  shelf_fault = λ h. absurd (let e : ShelfFault ≡ Missing = sym h ∙ p.ends in cc);
+  sink_fault = λ h. absurd (let e : SinkFault ≡ Missing = sym h ∙ p.ends in cc);
+  too_long = λ h. absurd (let e : Size ≡ Missing = sym h ∙ p.ends in cc);
+  kept = λ h. p.machine;
+}
+caused command before after (Err (early.TooLong limit)) status reason to (inr (inr s)) = stopped command before after _ status s
+caused command before after (Err (early.TooLong limit)) status reason to (inr (inl p)) = record {
+  missing = λ h. absurd (let e : Missing ≡ Size = sym h ∙ p.ends in cc);
+  shelf_fault = λ h. absurd (let e : ShelfFault ≡ Size = sym h ∙ p.ends in cc);
+  sink_fault = λ h. absurd (let e : SinkFault ≡ Size = sym h ∙ p.ends in cc);
+  too_long = λ h. inl reason;
+  kept = λ h. p.machine;
+}
+caused command before after (Err (early.ShelfFault name)) status reason to (inr (inr s)) = stopped command before after _ status s
+caused command before after (Err (early.ShelfFault name)) status reason to (inr (inl p)) = record {
+  missing = λ h. absurd (let e : Missing ≡ ShelfFault = sym h ∙ p.ends in cc);
+  shelf_fault = λ h. (reason.0, reason.1, reason.2.1, p.text ∙ ap (λ (n : List ℕ). appended before.out.taken (end_line (early.ShelfFault n))) reason.2.0);
+  sink_fault = λ h. absurd (let e : SinkFault ≡ ShelfFault = sym h ∙ p.ends in cc);
+  too_long = λ h. absurd (let e : Size ≡ ShelfFault = sym h ∙ p.ends in cc);
+  kept = λ h. p.machine;
+}
+caused command before after (Err early.OutOfMemory) status reason to (inr none) = absurd none
+
+-- 4. Together.
+
+-- where the files are known
+if_known : (o : Option Files) (P Q : Files → Type 0) → ((files : Files) → P files → Q files) → IfSome o P → IfSome o Q
+if_known None P Q go p = tt
+if_known (Some files) P Q go p = go files p
+
+pub promises : (command : Option Command) (before after : World) (ran : Result Reply EarlyEnd) (status : Status)
+    → IfSome before.shelf.files (λ files. Leaves command files before.shelf after.shelf ran)
+    → IfErr ran (HasReason before.shelf.counts after.shelf.counts command) → IfOk ran (IsReplyTo command)
+    → Concludes (conclusion_of ran) status before.out after.out
+    → IfSome before.shelf.files (λ files. Implements command files (answer_by command files).output)
+    → IfSome before.shelf.files (λ files. Tells command files (answer_by command files))
+    → PromisesOf command (answer_by command) before after status
+promises command before after ran status leaves reason to ends implements tells =
+    let all : IfSome before.shelf.files (λ files. Known (answer_by command files) (file_names command) files before after status) =
+    if_known before.shelf.files (λ files. Leaves command files before.shelf after.shelf ran) (λ files. Known (answer_by command files) (file_names command) files before after status)
+    (λ files l. known command (answer_by command files) files before after ran status l reason ends) leaves in
+    let causes = caused command before after ran status reason to ends in
+    record {
+      answers = if_known before.shelf.files (λ files. Known (answer_by command files) (file_names command) files before after status) _ (λ files k. k.answers) all;
+      implements = implements;
+      tells = tells;
+      missing = causes.missing;
+      shelf_fault = causes.shelf_fault;
+      sink_fault = causes.sink_fault;
+      too_long = causes.too_long;
+      files_at_10 = if_known before.shelf.files (λ files. Known (answer_by command files) (file_names command) files before after status) _ (λ files k. k.files_at_10) all;
+      files_at_11 = if_known before.shelf.files (λ files. Known (answer_by command files) (file_names command) files before after status) _ (λ files k. k.files_at_11) all;
+      files_at_14 = if_known before.shelf.files (λ files. Known (answer_by command files) (file_names command) files before after status) _ (λ files k. k.files_at_14) all;
+      text = if_known before.shelf.files (λ files. Known (answer_by command files) (file_names command) files before after status) _ (λ files k. k.text) all;
+      kept = causes.kept;
+    }

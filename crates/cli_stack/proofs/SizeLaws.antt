@@ -1,0 +1,90 @@
+-- Refused sizes are those of commands that take sizes, and they say nothing else.
+use Rattle.std.proofs.Common.{◌≡◌, ℕ, List, [], Bool, true, false, Option, Some, None, Result, Ok, Err, refl, sym, ap, ◌∙◌}
+use Rattle.fm_machine.specs.Run.{Outcome, outcome}
+use Rattle.fm_machine.specs.State.{Fm}
+use Rattle.fm_machine.specs.declared.processor.Run.{Run}
+use Rattle.fm_machine.specs.declared.processor.Run.TheVariants as run
+use Rattle.fm_image.specs.Image.{ImageOf}
+use Rattle.fm_image.specs.Reading.{read_of}
+use Rattle.fm_loader.specs.Loaded.{loaded}
+use Rattle.fm_loader.specs.Values.{values_in}
+use Rattle.stack_text.specs.Values.{ValueOf}
+use Rattle.stack_build.specs.declared.fault.BuildFault.{BuildFault}
+use Rattle.stack_build.specs.Build.{BuiltOf, built}
+use Rattle.cli_stack.specs.declared.command.Command.{Command}
+use Rattle.cli_stack.specs.declared.command.Command.TheVariants as command
+use Rattle.cli_stack.specs.declared.reply.Reply.{Reply}
+use Rattle.cli_stack.specs.declared.reply.SizeOf.{SizeOf}
+use Rattle.cli_stack.specs.declared.reply.Verdict.{Verdict}
+use Rattle.cli_stack.specs.declared.reply.Verdict.TheVariants as verdict
+use Rattle.cli_stack.specs.declared.role.Role.TheVariants as role
+use Rattle.cli_stack.specs.Replies.{ReplyOf, reply_of}
+use Rattle.cli_stack.specs.Answer.{Texts, text_of, reply_by}
+use Rattle.cli_stack.specs.Go.{go_reply}
+use Rattle.cli_stack.specs.Run.{end_reply, outcome_reply, run_reply, values_reply, image_reply}
+use Rattle.cli_stack.specs.Show.{listing_reply}
+use Rattle.cli_stack.specs.Promises.{TakesSizes}
+use Rattle.cli_stack.specs.Driver.{IsReplyTo}
+
+abbrev is_size : Verdict → Bool
+is_size (verdict.Size of need) = true
+is_size v = false
+
+-- 1. Who never refuses a size.
+
+end_no_size : (image : ImageOf) (budget : ℕ) (r : Run) (s : Fm) → is_size (end_reply image budget r s).verdict ≡ false
+end_no_size image budget (run.Ended count) s = refl
+end_no_size image budget run.Spent s = refl
+end_no_size image budget (run.Outside address count) s = refl
+
+run_no_size : (image : ImageOf) (values : List ValueOf) (budget : ℕ) → is_size (run_reply image values budget).verdict ≡ false
+unfolding run_reply
+run_no_size image values budget =
+    let ended : Outcome = outcome budget image.final_pc (loaded image values) in end_no_size image budget ended.run ended.state
+
+values_no_size : (image : ImageOf) (budget : ℕ) (values : Result (List ValueOf) (ℕ × ℕ)) → is_size (values_reply image budget values).verdict ≡ false
+values_no_size image budget (Ok values) = run_no_size image values budget
+values_no_size image budget (Err fault) = refl
+
+image_no_size : (values : List ℕ) (budget : ℕ) (image : Result ImageOf (ℕ × ℕ)) → is_size (image_reply values budget image).verdict ≡ false
+image_no_size values budget (Ok image) = values_no_size image budget (values_in image.slots values)
+image_no_size values budget (Err fault) = refl
+
+listing_no_size : (image : Result ImageOf (ℕ × ℕ)) → is_size (listing_reply image).verdict ≡ false
+listing_no_size (Ok image) = refl
+listing_no_size (Err fault) = refl
+
+-- 2. Who may.
+
+-- a refused size is all that is said
+abbrev SizeAlone : ReplyOf → Type 0
+SizeAlone reply = is_size reply.verdict ≡ true → reply.said ≡ []
+
+go_alone : (found : Result BuiltOf BuildFault) (values : List ℕ) (budget : ℕ) → SizeAlone (go_reply found values budget)
+go_alone (Err fault) values budget size = refl
+go_alone (Ok built) values budget size = let none = values_no_size built.image budget (values_in built.image.slots values) in cc
+
+-- 3. All commands.
+
+abbrev Sizes : Command → ReplyOf → Type 0
+Sizes c reply = is_size reply.verdict ≡ true → TakesSizes (Some c) × (reply.said ≡ [])
+
+no_sizes : (c : Command) (reply : ReplyOf) → is_size reply.verdict ≡ false → Sizes c reply
+no_sizes c reply none size = absurd (let e : false ≡ true = sym none ∙ size in cc)
+
+sizes_by : (c : Command) (texts : Texts) → Sizes c (reply_by c texts)
+unfolding reply_by
+sizes_by (command.Go source values control temporary budget image) texts = λ size. (tt, go_alone (built (text_of role.Source texts) control temporary) (text_of role.Values texts) budget size)
+sizes_by (command.Run image values budget) texts =
+    no_sizes (command.Run image values budget) (reply_by (command.Run image values budget) texts) (image_no_size (text_of role.Values texts) budget (read_of (text_of role.Image texts)))
+sizes_by (command.Show image) texts = no_sizes (command.Show image) (reply_by (command.Show image) texts) (listing_no_size (read_of (text_of role.Image texts)))
+sizes_by c texts = no_sizes c (reply_by c texts) refl
+
+of_command : (c : Option Command) (reply : Reply) → IsReplyTo c reply → is_size reply.verdict ≡ true → TakesSizes c × (reply.said ≡ [])
+of_command None reply is size = let e : is_size reply.verdict ≡ false = ap (λ (r : ReplyOf). is_size r.verdict) is in absurd (let f : false ≡ true = sym e ∙ size in cc)
+of_command (Some c) reply (texts, is) size =
+    let found = sizes_by c texts (ap (λ (r : ReplyOf). is_size r.verdict) (sym is) ∙ size) in
+    (found.0, ap (λ (r : ReplyOf). r.said) is ∙ found.1)
+
+pub sizes_alone : (c : Option Command) (reply : Reply) (of : SizeOf) (need : ℕ) → IsReplyTo c reply → reply.verdict ≡ verdict.Size of need → TakesSizes c × (reply.said ≡ [])
+sizes_alone c reply of need is size = of_command c reply is (ap is_size size)

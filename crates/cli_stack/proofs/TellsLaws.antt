@@ -1,0 +1,143 @@
+-- What a command prints is what its source means.
+use Rattle.std.proofs.Common.{◌≡◌, ◌≤◌, ◌⊎◌, inl, inr, ⊎_elim, ℕ, zero, suc, List, [], ◌∷◌, ◌++◌, append-nil, false, Option, Some, None, IfSome, Result, Ok, Err, length, refl, sym, ap, ◌∙◌, subst, arith}
+use Rattle.std.specs.Prelude.{Contains, nat_lt, IsSomeAnd}
+use Rattle.std.proofs.lemmas.Bool.{le-ltb}
+use Rattle.stack_text.specs.Results.{◌>>=◌}
+use Rattle.stack_shelf.specs.Files.{Files, file_at}
+use Rattle.stack_shelf.specs.Shelf.{fetched, within}
+use Rattle.fm_machine.specs.Run.{Outcome, outcome}
+use Rattle.fm_machine.specs.declared.processor.Run.TheVariants.{Ended}
+use Rattle.fm_machine.proofs.Runs.{outcome_only}
+use Rattle.fm_image.specs.Image.{ImageOf}
+use Rattle.fm_image.specs.Spelling.{Spelled}
+use Rattle.fm_image.proofs.Whole.{spelled_reads}
+use Rattle.fm_loader.specs.Loaded.{loaded}
+use Rattle.fm_loader.specs.Values.{values_in}
+use Rattle.stack_text.specs.Values.{ValueOf}
+use Rattle.display_maps.specs.Report.{report_text}
+use Rattle.stack_build.specs.declared.fault.BuildFault.{BuildFault}
+use Rattle.stack_build.specs.declared.source.OneStatement.{OneStatement}
+use Rattle.stack_build.specs.Build.{BuiltOf, built, BuildsText}
+use Rattle.stack_build.specs.Meaning.{Condition, FitsVariables}
+use Rattle.stack_build.specs.Implements.{meaning_shown, Finishes}
+use Rattle.stack_build.specs.Implements as meant
+use Rattle.stack_build.proofs.BuiltLaws.{built_implements, built_fits}
+use Rattle.cli_stack.specs.declared.command.Command.{Command}
+use Rattle.cli_stack.specs.declared.command.Command.TheVariants as command
+use Rattle.cli_stack.specs.declared.driver.early_end.EarlyEnd.{EarlyEnd}
+use Rattle.cli_stack.specs.declared.reply.Verdict.{Verdict}
+use Rattle.cli_stack.specs.declared.reply.Verdict.TheVariants.{Done}
+use Rattle.cli_stack.specs.declared.role.Role.{Role}
+use Rattle.cli_stack.specs.declared.role.Role.TheVariants.{Source, Image, Values}
+use Rattle.cli_stack.specs.Roles.{limit_of}
+use Rattle.cli_stack.specs.Replies.{ReplyOf, status_of, verdict_line, reply_text}
+use Rattle.cli_stack.specs.Go.{go_reply}
+use Rattle.cli_stack.specs.Run.{outcome_reply, run_reply, image_file_reply}
+use Rattle.cli_stack.specs.Answer.{Texts, Answer, text_or_end, gathered, inputs_of, output_of, reply_by, answer_with, answer_on, answer_to, answer_by}
+use Rattle.cli_stack.specs.Correct.{ReadsFile, IsReadable, IsBuilt, IsRead, RunOf, BuiltFrom, ReadFrom, IsProgram, TellsMeaning, TellsRun, HasImage, run_of, TellsMeanings, Tells}
+
+-- 1. A run that is long enough tells the meaning.
+
+run_tells : (image : ImageOf) (source : OneStatement) (control temporary : ℕ) (values finals : List ValueOf) (condition : Condition) (count budget : ℕ) → meant.Implements image source control temporary → FitsVariables source values
+    → Finishes source control temporary values finals condition count → count ≤ budget
+    → ((run_reply image values budget).verdict ≡ Done) × ((run_reply image values budget).said ≡ report_text image (meaning_shown source finals condition) count)
+unfolding run_reply
+run_tells image source control temporary values finals condition count budget does fits done enough =
+    let end = does values finals condition count fits done in
+    let is : outcome budget image.final_pc (loaded image values) ≡ record { run = Ended count; state = end.state } =
+    outcome_only (loaded image values) image.final_pc budget (Ended count) end.state (enough, end.first) in
+    (ap (λ (o : Outcome). (outcome_reply image budget o).verdict) is, ap (λ (o : Outcome). (outcome_reply image budget o).said) is ∙ ap (λ r. report_text image r count) end.reads)
+
+-- so does the answer that has its reply
+reply_tells : (image : ImageOf) (source : OneStatement) (control temporary : ℕ) (values finals : List ValueOf) (condition : Condition) (count budget : ℕ) (output : Option (List ℕ × List ℕ)) (reply : ReplyOf) → meant.Implements image source control temporary → FitsVariables source values
+    → Finishes source control temporary values finals condition count → count ≤ budget → reply ≡ run_reply image values budget
+    → TellsMeaning source image finals condition count (answer_with output reply)
+reply_tells image source control temporary values finals condition count budget output reply does fits done enough is =
+    let ends = run_tells image source control temporary values finals condition count budget does fits done enough in
+    let verdict : reply.verdict ≡ Done = ap (λ (r : ReplyOf). r.verdict) is ∙ ends.0 in
+    let said : reply.said ≡ report_text image (meaning_shown source finals condition) count = ap (λ (r : ReplyOf). r.said) is ∙ ends.1 in
+    record {
+      status = ap status_of verdict;
+      text = ap (λ (v : Verdict). reply.said ++ verdict_line v) verdict ∙ append-nil reply.said ∙ said;
+    }
+
+-- 2. The files lead to it.
+
+is_there : (files : Files) (input : Role × List ℕ) (text : List ℕ) → IsReadable files input.0 input.1 text → text_or_end input (fetched files input.1 (limit_of input.0)) ≡ Ok text
+is_there files input text readable =
+    let long : nat_lt (limit_of input.0) (length text) ≡ false = le-ltb (limit_of input.0) (length text) readable.short in
+    ap (λ (o : Option (List ℕ)). text_or_end input (within (limit_of input.0) o)) readable.there ∙ rw long refl
+
+-- two files are there
+both_there : (files : Files) (first second : Role × List ℕ) (text other : List ℕ) → IsReadable files first.0 first.1 text → IsReadable files second.0 second.1 other
+    → gathered files (first ∷ second ∷ []) ≡ Ok ((first.0, text) ∷ (second.0, other) ∷ [])
+both_there files first second text other there there' = rw (is_there files first text there, is_there files second other there') refl
+
+module _ (files : Files) (control temporary : ℕ) (source : OneStatement) (image : ImageOf) (values_text : List ℕ) (values finals : List ValueOf) (condition : Condition) (count budget : ℕ)
+    (gives : values_in image.slots values_text ≡ Ok values) (done : Finishes source control temporary values finals condition count) (enough : count ≤ budget) where
+  go_tells : (source_name values_name image_name : List ℕ) → IsBuilt files source_name control temporary source image → IsReadable files Values values_name values_text
+      → TellsMeaning source image finals condition count (answer_to (command.Go source_name values_name control temporary budget image_name) files)
+  unfolding inputs_of reply_by
+  go_tells source_name values_name image_name made there =
+      let found : BuiltOf = record { image = image; bytes = made.bytes } in
+      let builds : BuildsText made.text control temporary found = rw made.made at (built_implements made.text control temporary) in
+      let read : Some builds.source ≡ Some source = sym builds.read ∙ made.read in
+      let same : builds.source ≡ source = cc in
+      let does : meant.Implements image source control temporary = subst (λ (s : OneStatement). meant.Implements image s control temporary) same builds.implements in
+      let fits = built_fits made.text control temporary source found values_text values made.read made.made gives in
+      let replies : go_reply (built made.text control temporary) values_text budget ≡ run_reply image values budget = rw (made.made, gives) refl in
+      subst (λ (r : Result Texts EarlyEnd). TellsMeaning source image finals condition count (answer_on (command.Go source_name values_name control temporary budget image_name) r))
+      (sym (both_there files (Source, source_name) (Values, values_name) made.text values_text made.readable there))
+      (reply_tells image source control temporary values finals condition count budget _ (go_reply (built made.text control temporary) values_text budget) does fits done enough replies)
+
+  -- the same, where the sizes of the command are these
+  sized_tells : (source_name values_name image_name : List ℕ) (given_control given_temporary : ℕ) → given_control ≡ control → given_temporary ≡ temporary
+      → IsBuilt files source_name control temporary source image → IsReadable files Values values_name values_text
+      → TellsMeaning source image finals condition count (answer_to (command.Go source_name values_name given_control given_temporary budget image_name) files)
+  sized_tells source_name values_name image_name given_control given_temporary c t made there =
+      subst (λ (k : ℕ). TellsMeaning source image finals condition count (answer_to (command.Go source_name values_name k given_temporary budget image_name) files)) (sym c)
+      (subst (λ (k : ℕ). TellsMeaning source image finals condition count (answer_to (command.Go source_name values_name control k budget image_name) files)) (sym t)
+        (go_tells source_name values_name image_name made there))
+
+  read_tells : (image_name values_name : List ℕ) → IsRead files image_name control temporary source image values → IsReadable files Values values_name values_text
+      → TellsMeaning source image finals condition count (answer_to (command.Run image_name values_name budget) files)
+  unfolding inputs_of reply_by
+  read_tells image_name values_name found there =
+      let replies : image_file_reply found.bytes values_text budget ≡ run_reply image values budget = rw (spelled_reads found.bytes image found.spells, gives) refl in
+      subst (λ (r : Result Texts EarlyEnd). TellsMeaning source image finals condition count (answer_on (command.Run image_name values_name budget) r))
+      (sym (both_there files (Image, image_name) (Values, values_name) found.bytes values_text found.readable there))
+      (reply_tells image source control temporary values finals condition count budget _ (image_file_reply found.bytes values_text budget) found.implements found.fit done enough replies)
+
+-- 3. All commands.
+
+-- a name that is read for values, after a file of another role, is the name of the values
+values_name : (role : Role) (first second name : List ℕ) → (role ≡ Values → ⊥) → Contains {X = Role × List ℕ} ((role, first) ∷ (Values, second) ∷ []) (Values, name) → second ≡ name
+values_name role first second name other (zero, lt, is) = absurd (other (ap (λ (f : Role × List ℕ). f.0) is))
+values_name role first second name other (suc zero, lt, is) = ap (λ (f : Role × List ℕ). f.1) is
+values_name role first second name other (suc (suc i), lt, is) = absurd (omega arith)
+
+tells_by : (c : Command) (files : Files) → TellsMeanings c files (answer_to c files)
+unfolding inputs_of
+tells_by (command.Go source_name values_file control temporary budget image_name) files = λ name reads has.
+    (values_name Source source_name values_file name (λ e. cc) reads,
+      λ own_control own_temporary source image values_text values finals condition count program there gives done enough.
+      sized_tells files own_control own_temporary source image values_text values finals condition count budget gives done enough source_name values_file image_name control temporary program.0 program.1 program.2 there)
+tells_by (command.Run image_name values_file budget) files = λ name reads has.
+    (values_name Image image_name values_file name (λ e. cc) reads,
+      λ control temporary source image values_text values finals condition count found there gives done enough.
+      read_tells files control temporary source image values_text values finals condition count budget gives done enough image_name values_file found there)
+tells_by (command.Show image_name) files = λ name reads has. absurd (no_values image_name name reads)
+  where
+    no_values : (first name : List ℕ) → Contains {X = Role × List ℕ} ((Image, first) ∷ []) (Values, name) → ⊥
+    no_values first name (zero, lt, is) = let e : Image ≡ Values = ap (λ (f : Role × List ℕ). f.0) is in cc
+    no_values first name (suc i, lt, is) = omega arith
+tells_by c files = λ name reads has. absurd (nothing name reads)
+  where
+    nothing : (name : List ℕ) → Contains {X = Role × List ℕ} [] (Values, name) → ⊥
+    nothing name (i, lt, is) = omega arith
+
+-- whatever the command and the files are
+pub tells : (c : Option Command) (o : Option Files) → IfSome o (λ files. Tells c files (answer_by c files))
+tells c None = tt
+tells None (Some files) = tt
+tells (Some c) (Some files) = tells_by c files

@@ -1,0 +1,123 @@
+-- What the functions of the driver say to one another.
+use Rattle.std.specs.Prelude.{◌≡◌, ◌≢◌, ◌⊎◌, ℕ, ◌∷◌, [], ◌++◌, List, Option, Some, None, Result, Ok, Err, Contains, All, IsSomeAnd}
+use Rattle.fm_machine.specs.State.{Seen}
+use Rattle.stack_shelf.specs.Files.{Files}
+use Rattle.stack_shelf.specs.Causes.{Counts, Rose}
+use Rattle.stack_shelf.specs.Shelf.{PartlyStored, appended, PrefixAppended}
+use Rattle.cli_stack.specs.declared.command.Command.{Command}
+use Rattle.cli_stack.specs.declared.driver.conclude.Conclusion.{Conclusion}
+use Rattle.cli_stack.specs.declared.driver.early_end.EarlyEnd.{EarlyEnd}
+use Rattle.cli_stack.specs.declared.driver.early_end.EarlyEnd.TheVariants.{Missing, TooLong, ShelfFault, OutOfMemory}
+use Rattle.cli_stack.specs.declared.reply.Reply.{Reply}
+use Rattle.cli_stack.specs.declared.reply.Verdict.TheVariants.{Usage}
+use Rattle.cli_stack.specs.declared.status.Status.{Status}
+use Rattle.cli_stack.specs.declared.status.Status.TheVariants as exit
+use Rattle.cli_stack.specs.Replies.{status_of, verdict_line, reply_of, verdict_alone, end_status, end_line}
+use Rattle.cli_stack.specs.Answer.{Answer, Texts, reply_by, answer_with, early_answer, answer_by, files_after, input_names, file_names}
+use Rattle.cli_stack.specs.World.{ShelfOf, OutOf}
+use Rattle.cli_stack.specs.Promises.{HoldsPart, FaultRose}
+
+-- 1. Fetching and storing.
+
+-- what a call returned, seen by view, is what the definition gives, unless the shelf failed or memory ran out
+abbrev pub Gives : {X Y : Type 0} → (X → Y) → Result X EarlyEnd → Result Y EarlyEnd → Type 0
+Gives view (Ok x) gives = gives ≡ Ok (view x)
+Gives view (Err (Missing name)) gives = gives ≡ Err (Missing name)
+Gives view (Err (TooLong limit)) gives = gives ≡ Err (TooLong limit)
+Gives view (Err (ShelfFault name)) gives = Unit {0}
+Gives view (Err OutOfMemory) gives = Unit {0}
+
+-- why a command ended early at this name
+abbrev pub EndsAt : Counts → Counts → List ℕ → EarlyEnd → Type 0
+EndsAt before after name (Missing missing) = (missing ≡ name) × Rose (before.absences name) (after.absences name)
+EndsAt before after name (TooLong limit) = Rose (before.overruns name) (after.overruns name)
+EndsAt before after name (ShelfFault failed) = (failed ≡ name) × Rose (before.faults name) (after.faults name)
+EndsAt before after name OutOfMemory = Unit {0}
+
+-- the same for one of these names
+abbrev pub EndsAtOne : Counts → Counts → List (List ℕ) → EarlyEnd → Type 0
+EndsAtOne before after names OutOfMemory = Unit {0}
+EndsAtOne before after names end = (name : List ℕ) × Contains names name × EndsAt before after name end
+
+-- what a store that failed, or whose fault could not be named, leaves
+abbrev pub LeavesPart : Option Files → Option Files → Counts → Counts → List ℕ → List ℕ → Type 0
+LeavesPart old new before after name bytes =
+    (new ≡ old) ⊎ (PartlyStored old new name bytes × Rose (before.faults name) (after.faults name))
+
+-- a failure at this name, or out of memory
+abbrev pub IsFaultAt : Counts → Counts → List ℕ → EarlyEnd → Type 0
+IsFaultAt before after name (Missing missing) = ⊥
+IsFaultAt before after name (TooLong limit) = ⊥
+IsFaultAt before after name end = EndsAt before after name end
+
+-- 2. Performing a command.
+
+-- why a command ended early: at a missing or long input, or by a failure at a file of its own
+abbrev pub HasReason : Counts → Counts → Option Command → EarlyEnd → Type 0
+HasReason before after command (Missing name) = EndsAtOne before after (input_names command) (Missing name)
+HasReason before after command (TooLong limit) = EndsAtOne before after (input_names command) (TooLong limit)
+HasReason before after command end = EndsAtOne before after (file_names command) end
+
+-- the reply is the command's to some texts
+abbrev pub IsReplyTo : Option Command → Reply → Type 0
+IsReplyTo None reply = reply_of reply ≡ verdict_alone Usage
+IsReplyTo (Some command) reply = (texts : Texts) × (reply_of reply ≡ reply_by command texts)
+
+-- the files and the end of a command with these file names and this answer over known files
+abbrev pub LeavesAs : Answer → List (List ℕ) → Files → ShelfOf → ShelfOf → Result Reply EarlyEnd → Type 0
+LeavesAs answer names files before after (Ok reply) =
+    (answer ≡ answer_with answer.output (reply_of reply)) × (after.files ≡ Some (files_after answer.output files))
+LeavesAs answer names files before after (Err (Missing name)) =
+    (answer ≡ early_answer (Missing name)) × (after.files ≡ Some files)
+LeavesAs answer names files before after (Err (TooLong limit)) =
+    (answer ≡ early_answer (TooLong limit)) × (after.files ≡ Some files)
+LeavesAs answer names files before after (Err (ShelfFault name)) = HoldsPart (Some files) after.files answer.output
+LeavesAs answer names files before after (Err OutOfMemory) =
+    (after.files ≡ Some files) ⊎ ((after.files ≡ Some (files_after answer.output files))
+    ⊎ (HoldsPart (Some files) after.files answer.output × FaultRose names before.counts after.counts))
+
+abbrev pub Leaves : Option Command → Files → ShelfOf → ShelfOf → Result Reply EarlyEnd → Type 0
+Leaves command files before after ran = LeavesAs (answer_by command files) (file_names command) files before after ran
+
+-- 3. Printing.
+
+-- a line ends with its first line feed, or it has none and nothing follows
+abbrev pub IsFirstLine : List ℕ → List ℕ → Type 0
+IsFirstLine line rest =
+    (All (λ byte. byte ≢ 10) line × (rest ≡ []))
+    ⊎ ((before : List ℕ) × (line ≡ before ++ 10 ∷ []) × All (λ byte. byte ≢ 10) before)
+
+-- the place for the machine afterwards: as before where none was run
+abbrev pub machine_kept : Option Seen → Option Seen → Option Seen
+machine_kept kept None = kept
+machine_kept kept (Some machine) = Some machine
+
+-- all that is printed at the end of a command, its status and its machine; nothing where memory ran out
+abbrev pub conclusion_of : Result Reply EarlyEnd → Option Conclusion
+conclusion_of (Ok reply) =
+    Some (record { text = reply.said ++ verdict_line reply.verdict; status = status_of reply.verdict; machine = reply.machine })
+conclusion_of (Err OutOfMemory) = None
+conclusion_of (Err end) = Some (record { text = end_line end; status = end_status end; machine = None })
+
+-- all was printed, and the machine is kept
+pub record Printed (conclusion : Conclusion) (status : Status) (before after : OutOf) : Type 0 where
+  pub ends : status ≡ conclusion.status
+  pub text : after.taken ≡ appended before.taken conclusion.text
+  pub machine : after.kept ≡ machine_kept before.kept conclusion.machine
+
+-- printing stopped before its end: the sink failed, or memory ran out
+pub record Stopped (conclusion : Conclusion) (status : Status) (before after : OutOf) : Type 0 where
+  pub text : PrefixAppended before.taken after.taken conclusion.text
+  pub machine : after.kept ≡ before.kept
+  pub cause : ((status ≡ exit.SinkFault) × Rose before.faults after.faults) ⊎ (status ≡ exit.OutOfMemory)
+
+-- memory ran out before anything was printed
+pub record NotBegun (status : Status) (before after : OutOf) : Type 0 where
+  pub ends : status ≡ exit.OutOfMemory
+  pub text : after.taken ≡ before.taken
+  pub machine : after.kept ≡ before.kept
+
+abbrev pub Concludes : Option Conclusion → Status → OutOf → OutOf → Type 0
+Concludes found status before after =
+    NotBegun status before after
+    ⊎ IsSomeAnd found (λ conclusion. Printed conclusion status before after ⊎ Stopped conclusion status before after)

@@ -1,0 +1,113 @@
+-- What the program promises.
+use Rattle.std.specs.Prelude.{◌≡◌, ◌≢◌, ◌⊎◌, ℕ, List, Option, Some, None, Contains, IfSome, IsSomeAnd}
+use Rattle.fm_machine.specs.State.{Fm, Seen}
+use Rattle.stack_shelf.specs.Files.{Files}
+use Rattle.stack_shelf.specs.Causes.{Counts, Rose}
+use Rattle.stack_shelf.specs.Shelf.{PartlyStored, appended, PrefixAppended}
+use Rattle.cli_stack.specs.declared.command.Command.{Command}
+use Rattle.cli_stack.specs.declared.command.Command.TheVariants.{Go}
+use Rattle.cli_stack.specs.declared.driver.early_end.EarlyEnd.TheVariants as end
+use Rattle.cli_stack.specs.declared.reply.SizeOf.{SizeOf}
+use Rattle.cli_stack.specs.declared.reply.Verdict.TheVariants as verdict
+use Rattle.cli_stack.specs.declared.status.Status.{Status}
+use Rattle.cli_stack.specs.declared.status.Status.TheVariants.{Missing, ShelfFault, SinkFault, Size, OutOfMemory}
+use Rattle.cli_stack.specs.Status.{status_code}
+use Rattle.cli_stack.specs.Rows.{command_of}
+use Rattle.cli_stack.specs.Replies.{verdict_line, end_line}
+use Rattle.cli_stack.specs.Answer.{Answer, files_after, input_names, file_names, answer}
+use Rattle.cli_stack.specs.World.{World}
+use Rattle.cli_stack.specs.Correct.{Implements, Tells}
+
+-- 1. What no failure spoils.
+
+-- the place holds a machine in this state, or is as before where none was run
+abbrev pub HoldsMachine : Option Seen → Option Seen → Option Fm → Type 0
+HoldsMachine before after None = after ≡ before
+HoldsMachine before after (Some s) = IsSomeAnd after (λ machine. machine.state ≡ s)
+
+-- the status, the files, what was printed and the machine are those of the answer
+pub record Agrees (answer : Answer) (files : Files) (before after : World) (status : Status) : Type 0 where
+  pub ends : status ≡ answer.status
+  pub files_left : after.shelf.files ≡ Some (files_after answer.output files)
+  pub text : after.out.taken ≡ appended before.out.taken answer.text
+  pub machine : HoldsMachine before.out.kept after.out.kept answer.machine
+
+-- 2. Causes.
+
+-- a count rose at one of these names
+abbrev pub RoseAt : (Counts → List ℕ → ℕ) → List (List ℕ) → World → World → Type 0
+RoseAt kind names before after =
+    (name : List ℕ) × Contains names name × Rose (kind before.shelf.counts name) (kind after.shelf.counts name)
+
+-- a count rose at one of these names, and its line is what was printed
+abbrev pub RoseAndPrinted : (Counts → List ℕ → ℕ) → (List ℕ → List ℕ) → List (List ℕ) → World → World → Type 0
+RoseAndPrinted kind line names before after =
+    (name : List ℕ) × Contains names name × Rose (kind before.shelf.counts name) (kind after.shelf.counts name)
+    × (after.out.taken ≡ appended before.out.taken (line name))
+
+-- a command whose sizes may be refused
+abbrev pub TakesSizes : Option Command → Type 0
+TakesSizes (Some (Go source values control temporary budget image)) = Unit {0}
+TakesSizes _ = ⊥
+
+-- a size of such a command was refused, and its line is what was printed
+abbrev pub SizePrinted : Option Command → World → World → Type 0
+SizePrinted command before after =
+    TakesSizes command × (of : SizeOf) × (need : ℕ) × (after.out.taken ≡ appended before.out.taken (verdict_line (verdict.Size of need)))
+
+-- 3. What a failure leaves.
+
+-- the file that is set holds part of its bytes
+abbrev pub HoldsPart : Option Files → Option Files → Option (List ℕ × List ℕ) → Type 0
+HoldsPart old new None = new ≡ old
+HoldsPart old new (Some output) = PartlyStored old new output.0 output.1
+
+-- a count of faults rose for one of these names
+abbrev pub FaultRose : List (List ℕ) → Counts → Counts → Type 0
+FaultRose names before after = (name : List ℕ) × Contains names name × Rose (before.faults name) (after.faults name)
+
+-- the files are those afterwards, or where the shelf failed, the file that is set holds part of its bytes
+abbrev pub LeavesFiles : Files → Option (List ℕ × List ℕ) → List (List ℕ) → World → World → Type 0
+LeavesFiles files output names before after =
+    (after.shelf.files ≡ Some (files_after output files))
+    ⊎ (HoldsPart (Some files) after.shelf.files output × FaultRose names before.shelf.counts after.shelf.counts)
+
+-- a prefix of the text was printed, or where the shelf failed, of the line that says so
+abbrev pub PrintsPrefix : List ℕ → List (List ℕ) → World → World → Type 0
+PrintsPrefix text names before after =
+    PrefixAppended before.out.taken after.out.taken text
+    ⊎ ((name : List ℕ) × Contains names name × Rose (before.shelf.counts.faults name) (after.shelf.counts.faults name)
+    × PrefixAppended before.out.taken after.out.taken (end_line (end.ShelfFault name)))
+
+-- 4. All promises, of a command and of the answer that it has over known files.
+
+pub record PromisesOf (command : Option Command) (answer : Files → Answer) (before after : World) (status : Status) : Type 0 where
+  -- where the files are known: the answer, unless a device failed or memory ran out
+  pub answers : IfSome before.shelf.files (λ files.
+      status ≢ ShelfFault → status ≢ SinkFault → status ≢ OutOfMemory → Agrees (answer files) files before after status)
+  -- who reads a source and stores an image stores what does as the source means, and who runs an image tells what its source means
+  pub implements : IfSome before.shelf.files (λ files. Implements command files (answer files).output)
+  pub tells : IfSome before.shelf.files (λ files. Tells command files (answer files))
+  -- why a device's failure is the status, and at which name
+  pub missing : status ≡ Missing
+      → RoseAndPrinted (λ c. c.absences) (λ name. end_line (end.Missing name)) (input_names command) before after
+  pub shelf_fault : status ≡ ShelfFault
+      → RoseAndPrinted (λ c. c.faults) (λ name. end_line (end.ShelfFault name)) (file_names command) before after
+  pub sink_fault : status ≡ SinkFault → Rose before.out.faults after.out.faults
+  pub too_long : status ≡ Size
+      → RoseAt (λ c. c.overruns) (input_names command) before after ⊎ SizePrinted command before after
+  -- what such an end leaves
+  pub files_at_10 : IfSome before.shelf.files (λ files. status ≡ ShelfFault
+      → HoldsPart (Some files) after.shelf.files (answer files).output)
+  pub files_at_11 : IfSome before.shelf.files (λ files. status ≡ SinkFault
+      → LeavesFiles files (answer files).output (file_names command) before after)
+  pub files_at_14 : IfSome before.shelf.files (λ files. status ≡ OutOfMemory
+      → (after.shelf.files ≡ Some files) ⊎ LeavesFiles files (answer files).output (file_names command) before after)
+  pub text : IfSome before.shelf.files (λ files. (status ≡ SinkFault) ⊎ (status ≡ OutOfMemory)
+      → PrintsPrefix (answer files).text (file_names command) before after)
+  pub kept : (status ≡ ShelfFault) ⊎ ((status ≡ SinkFault) ⊎ (status ≡ OutOfMemory)) → after.out.kept ≡ before.out.kept
+
+-- the promises of the program on the words of a command line: its result is the number of a status that keeps them
+abbrev pub Promises : List (List ℕ) → World → World → ℕ → Type 0
+Promises words before after result =
+    (status : Status) × (result ≡ status_code status) × PromisesOf (command_of words) (answer words) before after status

@@ -1,0 +1,58 @@
+//! The commands: what each makes of its texts.
+ghost use Rattle.std.specs.Prelude.{◌≡◌, IfOk};
+ghost use Rattle.cli_stack.specs.Answer.{stored_by, reply_by};
+ghost use Rattle.cli_stack.specs.Replies.{reply_of};
+ghost use Rattle.cli_stack.specs.Plans.{pending_reply};
+
+mod go;
+mod image_run;
+mod plan;
+mod run;
+mod show;
+
+use crate::command::Command;
+use crate::reply::{Reply, Verdict};
+use crate::role::Role;
+use crate::texts::Texts;
+pub use plan::{Pending, Plan};
+use stack_text::Memory;
+use std::alloc::Global;
+
+/// What a command stores, and what is left to do.
+#[tactic(auto, unfolding(crate::specs::Answer::stored_by, crate::specs::Answer::reply_by))]
+pub fn prepare(alloc: Global, command: &Command, texts: &Texts) -> Result<Plan, Memory>
+    ensures stored { IfOk result (λ plan. plan.stored ≡ stored_by command.now texts.now) }
+    ensures reply { IfOk result (λ plan. pending_reply plan.pending ≡ reply_by command.now texts.now) }
+{
+    match command {
+        Command::Go {
+            control,
+            temporary,
+            budget,
+            ..
+        } => {
+            let (source, values) = (texts.of(Role::Source), texts.of(Role::Values));
+            go::prepare(alloc, source, values, control, temporary, *budget)
+        }
+        Command::Run { budget, .. } => {
+            run::prepare(
+                alloc,
+                texts.of(Role::Image),
+                texts.of(Role::Values),
+                *budget,
+            )
+        }
+        Command::Show { .. } => show::prepare(alloc, texts.of(Role::Image)),
+        _ => Ok(Plan::verdict_alone(alloc, Verdict::NotBuilt)),
+    }
+}
+
+/// What a command replies.
+pub fn finish(alloc: Global, pending: Pending) -> Result<Reply, Memory>
+    ensures { IfOk result (λ reply. reply_of reply ≡ pending_reply pending) }
+{
+    match pending {
+        Pending::Reply(reply) => Ok(reply),
+        Pending::Run(run) => run::run_image(alloc, &run),
+    }
+}

@@ -1,0 +1,32 @@
+//! The command `show`.
+ghost use Rattle.std.specs.Prelude.{◌≡◌, None, IfOk};
+ghost use Rattle.cli_stack.specs.Show.{show_reply};
+ghost use Rattle.cli_stack.specs.Plans.{pending_reply};
+
+use crate::commands::plan::{Pending, Plan};
+use crate::reply::{Reply, Verdict};
+use fm_image::{ImageFault, read_image};
+use fm_show::show_image;
+use stack_text::{Memory, Seq};
+use std::alloc::Global;
+
+/// What is left of `show` once its text is there.
+pub fn prepare(alloc: Global, image: &[u8]) -> Result<Plan, Memory>
+    ensures stored { IfOk result (λ plan. plan.stored ≡ None) }
+    ensures reply { IfOk result (λ plan. pending_reply plan.pending ≡ show_reply image.now) }
+{
+    match read_image(alloc, image) {
+        Ok(image) => Ok(Plan {
+            stored: None,
+            pending: Pending::Reply(Reply {
+                said: Seq::from_vec(show_image(alloc, &image)?),
+                verdict: Verdict::Done,
+                machine: None,
+            }),
+        }),
+        Err(ImageFault::Refused { rule, place }) => {
+            Ok(Plan::verdict_alone(alloc, Verdict::Image { rule, place }))
+        }
+        Err(ImageFault::Memory) => Err(Memory),
+    }
+}

@@ -1,0 +1,99 @@
+//! Prints how a command ended, and keeps its machine.
+ghost use Rattle.std.specs.Prelude.{◌≡◌, IfOk, Some};
+ghost use Rattle.cli_stack.specs.World.{out_of};
+ghost use Rattle.cli_stack.specs.Driver.{machine_kept, conclusion_of, Concludes};
+
+use crate::driver::early_end::EarlyEnd;
+use crate::driver::print::print;
+use crate::reply::Reply;
+use crate::status::Status;
+use fm_machine::Machine;
+use stack_shelf::{PutFault, Sink};
+use stack_text::{Memory, Seq};
+use std::alloc::Global;
+
+/// All that is printed at the end of a command, its status, and the machine that was run.
+#[derive(Drop)]
+pub struct Conclusion {
+    pub text: Seq<u8>,
+    pub status: Status,
+    pub machine: Option<Machine>,
+}
+
+/// How a command concludes, unless memory ran out.
+fn conclusion_of(alloc: Global, ran: Result<Reply, EarlyEnd>) -> Result<Conclusion, Memory>
+    ensures { IfOk result (λ conclusion. conclusion_of ran ≡ Some conclusion) }
+{
+    match ran {
+        Ok(
+            Reply {
+                said,
+                verdict,
+                machine,
+            },
+        ) => {
+            let mut text = said.into_vec();
+            text.extend_from_slice(verdict.line(alloc)?.as_bytes())?;
+            Ok(Conclusion {
+                text: Seq::from_vec(text),
+                status: verdict.status(),
+                machine,
+            })
+        }
+        Err(EarlyEnd::OutOfMemory) => Err(Memory),
+        Err(end) => Ok(Conclusion {
+            text: Seq::from_vec(end.line(alloc)?.into_bytes()),
+            status: end.status(),
+            machine: None,
+        }),
+    }
+}
+
+/// Puts a machine into the place for it, where there is one.
+fn keep(kept: &mut Option<Machine>, machine: Option<Machine>)
+    ensures { kept.new ≡ machine_kept kept.old machine }
+{
+    if machine.is_some() {
+        *kept = machine;
+    }
+}
+
+/// Prints a conclusion, and ends with its status, or with that of what stopped the printing.
+fn print_conclusion<K: Sink>(
+    conclusion: Conclusion,
+    out: &mut K,
+    kept: &mut Option<Machine>,
+) -> Status
+    ensures { Concludes (Some conclusion) result (out_of (K.taken out.old) (K.faults out.old) kept.old)
+        (out_of (K.taken out.new) (K.faults out.new) kept.new) }
+{
+    let Conclusion {
+        text,
+        status,
+        machine,
+    } = conclusion;
+    match print(out, text.as_slice()) {
+        Ok(()) => {
+            keep(kept, machine);
+            status
+        }
+        Err(PutFault::Failed) => Status::SinkFault,
+        Err(PutFault::Memory) => Status::OutOfMemory,
+    }
+}
+
+/// Prints how a command ended, and ends with its status.
+pub fn conclude<K: Sink>(
+    alloc: Global,
+    ran: Result<Reply, EarlyEnd>,
+    out: &mut K,
+    kept: &mut Option<Machine>,
+) -> Status
+    ensures { Concludes (conclusion_of ran) result (out_of (K.taken out.old) (K.faults out.old) kept.old)
+        (out_of (K.taken out.new) (K.faults out.new) kept.new) }
+{
+    match conclusion_of(alloc, ran) {
+        Ok(conclusion) => print_conclusion(conclusion, out, kept),
+        Err(Memory) => Status::OutOfMemory,
+    }
+}

@@ -1,0 +1,57 @@
+//! Performs a command over a shelf.
+ghost use Rattle.std.specs.Prelude.{◌≡◌, IfOk, IfErr, IfSome, Some};
+ghost use Rattle.stack_shelf.specs.Causes.{NoneFell};
+ghost use Rattle.cli_stack.specs.Words.{spelled};
+ghost use Rattle.cli_stack.specs.Rows.{command_of};
+ghost use Rattle.cli_stack.specs.Answer.{answer_by, file_names};
+ghost use Rattle.cli_stack.specs.World.{shelf_of};
+ghost use Rattle.cli_stack.specs.Driver.{Leaves, HasReason, IsReplyTo};
+
+use crate::command::Command;
+use crate::commands::{Plan, finish, prepare};
+use crate::driver::early_end::EarlyEnd;
+use crate::driver::gather::gather;
+use crate::driver::save::save;
+use crate::reply::{Reply, Verdict};
+use crate::words::{WordsFault, command_of};
+use stack_shelf::Shelf;
+use std::alloc::Global;
+
+/// Performs a command: fetches what it reads, stores what it writes, and replies.
+fn perform<S: Shelf>(alloc: Global, command: &Command, shelf: &mut S) -> Result<Reply, EarlyEnd>
+    ensures leaves { IfSome (S.files shelf.old) (λ files. Leaves (Some command.now) files
+        (shelf_of (S.files shelf.old) (S.counts shelf.old))
+        (shelf_of (S.files shelf.new) (S.counts shelf.new)) result) }
+    ensures reason { IfErr result (HasReason (S.counts shelf.old) (S.counts shelf.new) (Some command.now)) }
+    ensures reply { IfOk result (IsReplyTo (Some command.now)) }
+    ensures counts { NoneFell (S.counts shelf.old) (S.counts shelf.new) }
+{
+    let inputs = command.inputs(alloc)?;
+    let texts = gather(alloc, shelf, &inputs)?;
+    let Plan { stored, pending } = prepare(alloc, command, &texts)?;
+    if let (Some(output), Some(bytes)) = (command.output(), stored) {
+        save(alloc, shelf, output.name.as_str(), bytes.as_slice())?;
+    }
+    Ok(finish(alloc, pending)?)
+}
+
+/// Performs the command that the words ask for.
+pub fn run_words<S: Shelf>(
+    alloc: Global,
+    words: &[String],
+    shelf: &mut S,
+) -> Result<Reply, EarlyEnd>
+    ensures leaves { IfSome (S.files shelf.old) (λ files. Leaves (command_of (spelled words.now)) files
+        (shelf_of (S.files shelf.old) (S.counts shelf.old))
+        (shelf_of (S.files shelf.new) (S.counts shelf.new)) result) }
+    ensures reason { IfErr result
+        (HasReason (S.counts shelf.old) (S.counts shelf.new) (command_of (spelled words.now))) }
+    ensures reply { IfOk result (IsReplyTo (command_of (spelled words.now))) }
+    ensures counts { NoneFell (S.counts shelf.old) (S.counts shelf.new) }
+{
+    match command_of(alloc, words) {
+        Ok(command) => perform(alloc, &command, shelf),
+        Err(WordsFault::Usage) => Ok(Reply::verdict_alone(alloc, Verdict::Usage)),
+        Err(WordsFault::Memory) => Err(EarlyEnd::OutOfMemory),
+    }
+}

@@ -1,0 +1,92 @@
+//! Files at their limits and one byte over.
+use crate::tests::{IMAGE_OF_SEVEN, SEVEN, plainly};
+use std::alloc::{AllocError, Global};
+use std::test::Fail;
+
+/// A text with bytes at its end, up to a length.
+fn padded(alloc: Global, text: &[u8], byte: u8, length: usize) -> Result<Vec<u8>, AllocError> {
+    let mut bytes = text.to_vec(alloc)?;
+    for _ in text.len()..length {
+        bytes.push(byte)?;
+    }
+    Ok(bytes)
+}
+
+/// How long the source, the values and the image are, and how a command on them ends.
+struct Row {
+    words: &'static str,
+    source: usize,
+    values: usize,
+    image: usize,
+    status: u8,
+    printed: &'static str,
+}
+
+fn rows() -> &'static [Row] {
+    &[
+        Row {
+            words: "go s v 7 3 28 o",
+            source: 1_048_576,
+            values: 1_048_576,
+            image: 0,
+            status: 0,
+            printed: "finished 28\ncondition normal\nx = 7\n",
+        },
+        Row {
+            words: "go s v 7 3 28 o",
+            source: 1_048_577,
+            values: 0,
+            image: 0,
+            status: 12,
+            printed: "size file 1048576\n",
+        },
+        Row {
+            words: "go s v 7 3 28 o",
+            source: 0,
+            values: 1_048_577,
+            image: 0,
+            status: 12,
+            printed: "size file 1048576\n",
+        },
+        Row {
+            words: "run i v 28",
+            source: 0,
+            values: 0,
+            image: 8_388_608,
+            status: 4,
+            printed: "image I4 at 345\n",
+        },
+        Row {
+            words: "run i v 28",
+            source: 0,
+            values: 0,
+            image: 8_388_609,
+            status: 12,
+            printed: "size file 8388608\n",
+        },
+        Row {
+            words: "run i v 28",
+            source: 0,
+            values: 1_048_577,
+            image: 0,
+            status: 12,
+            printed: "size file 1048576\n",
+        },
+    ]
+}
+
+#[test]
+fn files_at_their_limits(rt: HostRuntime) -> Result<(), Fail> {
+    let alloc = rt.alloc();
+    let image = hex::decode(alloc, IMAGE_OF_SEVEN.as_bytes())?;
+    for row in rows() {
+        let source = padded(alloc, SEVEN.as_bytes(), b' ', row.source)?;
+        let values = padded(alloc, b"((x 0))", b' ', row.values)?;
+        let image = padded(alloc, &image, 0, row.image)?;
+        let files: [(&str, &[u8]); 3] = [("s", &source), ("v", &values), ("i", &image)];
+        let outcome = plainly(alloc, row.words, &files)?;
+        assert_eq!(rt; outcome.status, row.status, "{}", row.printed);
+        assert_eq!(rt; outcome.printed.as_slice(), row.printed.as_bytes());
+    }
+    Ok(())
+}

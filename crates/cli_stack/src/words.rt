@@ -1,0 +1,12 @@
+//! The words of the command line.
+
+mod name;
+mod number;
+mod reader;
+mod row;
+mod verb;
+
+pub use name::FileName;
+pub use number::StackSize;
+pub use reader::{Level, WordsFault};
+pub use row::command_of;
