@@ -24,6 +24,7 @@ was_there files input text h = by_file (file_at files input.1) h
     by_length : (bytes : List ℕ) (b : Bool) → text_or_end input (if b then Err TooLong else Ok bytes) ≡ Ok text → Some bytes ≡ Some text
     by_length bytes true h = cc
     by_length bytes false h = cc
+
     by_file : (o : Option (List ℕ)) → text_or_end input (within (limit_of input.0) o) ≡ Ok text → o ≡ Some text
     by_file None h = cc
     by_file (Some bytes) h = by_length bytes (nat_lt (limit_of input.0) (length bytes)) h

@@ -97,7 +97,7 @@ module _ (files : Files) (control temporary : ℕ) (source : OneStatement) (imag
   sized_tells source_name values_name image_name given_control given_temporary c t made there =
       subst (λ (k : ℕ). TellsMeaning source image finals condition count (answer_to (command.Go source_name values_name k given_temporary budget image_name) files)) (sym c)
       (subst (λ (k : ℕ). TellsMeaning source image finals condition count (answer_to (command.Go source_name values_name control k budget image_name) files)) (sym t)
-        (go_tells source_name values_name image_name made there))
+      (go_tells source_name values_name image_name made there))
 
   read_tells : (image_name values_name : List ℕ) → IsRead files image_name control temporary source image values → IsReadable files Values values_name values_text
       → TellsMeaning source image finals condition count (answer_to (command.Run image_name values_name budget) files)
@@ -118,14 +118,16 @@ values_name role first second name other (suc (suc i), lt, is) = absurd (omega a
 
 tells_by : (c : Command) (files : Files) → TellsMeanings c files (answer_to c files)
 unfolding inputs_of
-tells_by (command.Go source_name values_file control temporary budget image_name) files = λ name reads has.
-    (values_name Source source_name values_file name (λ e. cc) reads,
-      λ own_control own_temporary source image values_text values finals condition count program there gives done enough.
-      sized_tells files own_control own_temporary source image values_text values finals condition count budget gives done enough source_name values_file image_name control temporary program.0 program.1 program.2 there)
-tells_by (command.Run image_name values_file budget) files = λ name reads has.
-    (values_name Image image_name values_file name (λ e. cc) reads,
-      λ control temporary source image values_text values finals condition count found there gives done enough.
-      read_tells files control temporary source image values_text values finals condition count budget gives done enough image_name values_file found there)
+tells_by (command.Go source_name values_file control temporary budget image_name) files = λ name reads has. (
+  values_name Source source_name values_file name (λ e. cc) reads,
+  λ own_control own_temporary source image values_text values finals condition count program there gives done enough.
+      sized_tells files own_control own_temporary source image values_text values finals condition count budget gives done enough source_name values_file image_name control temporary program.0 program.1 program.2 there,
+)
+tells_by (command.Run image_name values_file budget) files = λ name reads has. (
+  values_name Image image_name values_file name (λ e. cc) reads,
+  λ control temporary source image values_text values finals condition count found there gives done enough.
+      read_tells files control temporary source image values_text values finals condition count budget gives done enough image_name values_file found there,
+)
 tells_by (command.Show image_name) files = λ name reads has. absurd (no_values image_name name reads)
   where
     no_values : (first name : List ℕ) → Contains {X = Role × List ℕ} ((Image, first) ∷ []) (Values, name) → ⊥

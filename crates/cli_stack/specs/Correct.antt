@@ -91,7 +91,8 @@ pub record IsBuilt (files : Files) (name : List ℕ) (control temporary : ℕ) (
   pub made : built text control temporary ≡ Ok (record { image = image; bytes = bytes })
 
 -- a file spells the image, which implements the source for stacks of these sizes, and the values are for the source's variables
-pub record IsRead (files : Files) (name : List ℕ) (control temporary : ℕ) (source : OneStatement) (image : ImageOf) (values : List ValueOf) : Type 0 where
+pub record IsRead (files : Files) (name : List ℕ) (control temporary : ℕ)
+    (source : OneStatement) (image : ImageOf) (values : List ValueOf) : Type 0 where
   pub bytes : List ℕ
   pub readable : IsReadable files Image name bytes
   pub spells : Spelled bytes image
@@ -105,7 +106,8 @@ IsProgram files (BuiltFrom name given_control given_temporary) control temporary
 IsProgram files (ReadFrom name) control temporary source image values = IsRead files name control temporary source image values
 
 -- the answer is that all went well, and the report of these variables and this condition after so many instructions
-pub record TellsMeaning (source : OneStatement) (image : ImageOf) (finals : List ValueOf) (condition : Condition) (count : ℕ) (answer : Answer) : Type 0 where
+pub record TellsMeaning (source : OneStatement) (image : ImageOf) (finals : List ValueOf) (condition : Condition)
+    (count : ℕ) (answer : Answer) : Type 0 where
   pub status : answer.status ≡ Done
   pub text : answer.text ≡ report_text image (meaning_shown source finals condition) count
 

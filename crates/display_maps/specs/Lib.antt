@@ -2,6 +2,5 @@
 pub mod Reading
 pub mod Report
 pub mod ValueReading
-
 -- what private functions say
 pub mod Variable

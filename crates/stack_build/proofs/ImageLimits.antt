@@ -65,7 +65,7 @@ image_fits names system p few v =
       conditions = refl;
       slot_count = le-leb _ 200 (let n = length-slots_from (size - 1) names in let k = v.few in omega arith);
       slots = slots_fit (window_of image) image.slots (each_fits (window_of image) (size - 1) names refl (omega arith) v.are_names)
-      (subst (IsDistinct bytes_eq) (sym (names-slots_from (size - 1) names)) (names_differ names v.differ));
+          (subst (IsDistinct bytes_eq) (sym (names-slots_from (size - 1) names)) (names_differ names v.differ));
       words = le-leb _ size (omega arith);
     }
 

@@ -34,7 +34,8 @@ meaning_shown source values condition =
 
 -- The meaning of the source on these values, with stacks of these sizes, is done within some bound, with the values and
 -- the condition at the end, and with so many instructions counted.
-pub record Finishes (source : OneStatement) (control temporary : ℕ) (values finals : List ValueOf) (condition : Condition) (count : ℕ) : Type 0 where
+pub record Finishes (source : OneStatement) (control temporary : ℕ) (values finals : List ValueOf) (condition : Condition)
+    (count : ℕ) : Type 0 where
   pub bound : ℕ
   pub done : meaning source values control temporary bound ≡ Done finals condition
   pub counted : count ≡ instruction_count source

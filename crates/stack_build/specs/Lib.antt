@@ -4,7 +4,6 @@ pub mod Meaning
 pub mod Cost
 pub mod Implements
 pub mod Build
-
 -- how it is compiled
 pub mod Form
 pub mod Image

@@ -35,7 +35,8 @@ abbrev pub generated : OneStatement → ℕ → ℕ → System
 generated source control temporary =
     record { main = main_of source; assignment = assignment; variables = length source.variables; control = control; temporary = temporary }
 
--- from address 0: the code of both programs, the word of the final program counter, the condition word, the control stack and the temporary stack
+-- from address 0: the code of both programs, the word of the final program counter, the condition word, the control stack and the
+-- temporary stack
 abbrev pub layout_of : System → Layout
 layout_of system =
     let final_pc = program_size system.main + program_size system.assignment in
