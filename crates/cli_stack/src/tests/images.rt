@@ -1,5 +1,6 @@
 //! Images that are run, refused and listed.
-use crate::tests::{IMAGE_OF_RETURN, IMAGE_OF_SEVEN, plainly};
+use crate::tests::{IMAGE_OF_RETURN, IMAGE_OF_SEVEN, Outcome, plainly};
+use std::alloc::{AllocError, Global};
 use std::test::Fail;
 
 /// An image of one word whose program counter is after it.
@@ -103,13 +104,22 @@ fn rows() -> &'static [Row] {
     ]
 }
 
+/// Runs a command line over an image and values.
+fn with_values<'a>(
+    alloc: Global,
+    line: &str,
+    image: &'a [u8],
+    values: &'a [u8],
+) -> Result<Outcome, AllocError> {
+    plainly(alloc, line, &[("i", image), ("v", values)])
+}
+
 #[test]
 fn images_that_are_run_or_listed(rt: HostRuntime) -> Result<(), Fail> {
     let alloc = rt.alloc();
     for row in rows() {
         let image = hex::decode(alloc, row.image.as_bytes())?;
-        let files: [(&str, &[u8]); 2] = [("i", image.as_slice()), ("v", row.values.as_bytes())];
-        let outcome = plainly(alloc, row.words, &files)?;
+        let outcome = with_values(alloc, row.words, image.as_slice(), row.values.as_bytes())?;
         assert_eq!(rt; outcome.status, row.status, "{}", row.words);
         assert_eq!(rt;
             outcome.printed.as_slice(),
@@ -151,8 +161,7 @@ fn values_that_are_refused(rt: HostRuntime) -> Result<(), Fail> {
     let alloc = rt.alloc();
     let image = hex::decode(alloc, IMAGE_OF_THREE.as_bytes())?;
     for (values, printed) in refused_values() {
-        let files: [(&str, &[u8]); 2] = [("i", image.as_slice()), ("v", values.as_bytes())];
-        let outcome = plainly(alloc, "run i v 1", &files)?;
+        let outcome = with_values(alloc, "run i v 1", image.as_slice(), values.as_bytes())?;
         assert_eq!(rt; outcome.status, 3, "at {values}");
         assert_eq!(rt;
             outcome.printed.as_slice(),
