@@ -1,0 +1,10 @@
+use Rattle.std.proofs.Common.{◌≡◌, ◌++◌, drop}
+use Rattle.stack_text.specs.TreeText.{items_text}
+use Rattle.stack_text.specs.Grammar.Printed.{items_after}
+use Rattle.gypsy_syntax.specs.Printed.{literal_trees}
+use Rattle.gypsy_syntax.specs.SourceView.{items_of_list}
+use Rattle.gypsy_syntax.proofs.printing.literals.+literals.Given as goal
+
+abbrev pub invariant-print_values-loop-index : goal.invariant-print_values-loop-index
+invariant-print_values-loop-index l =
+    l.out.items ++ items_after l.index (literal_trees (items_of_list (drop l.index l.items))) ≡ l.fn.out.items ++ items_text (literal_trees (items_of_list l.items))

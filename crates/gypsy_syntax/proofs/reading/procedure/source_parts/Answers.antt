@@ -1,0 +1,13 @@
+use Rattle.std.proofs.lemmas.Result.{err_from_is_err_and}
+use Rattle.stack_text.specs.TreeView.{node_of, nodes_of}
+use Rattle.stack_text.specs.Grammar.Judged.{each_of}
+use Rattle.stack_text.proofs.PartLaws.{first_of_2}
+use Rattle.gypsy_syntax.specs.Grammar.{named_in, procedure_in}
+use Rattle.gypsy_syntax.specs.Made.{new_source}
+use Rattle.gypsy_syntax.proofs.reading.procedure.source_parts.Goals as goal
+
+pub returns-in_err-main : goal.returns-in_err-main
+returns-in_err-main c =
+    let p = err_from_is_err_and c.from_residual.result c.from_residual.ensures.1 in
+    rw (p.1, p.2)
+    (first_of_2 c.in_err-main.field-0.0 (new_source c.args.place) (named_in (node_of c.args.main.now)) (each_of procedure_in (nodes_of c.args.procs.now)) c.in_err-main.ensures)

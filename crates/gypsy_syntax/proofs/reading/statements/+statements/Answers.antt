@@ -1,0 +1,117 @@
+use Rattle.std.proofs.Common.{◌≡◌, [], Err, Some, None, length, map, refl, sym, ap, ◌∙◌, arith}
+use Rattle.std.proofs.lemmas.Bool.{eqb-false}
+use Rattle.std.proofs.lemmas.Result.{err_from_is_err_and}
+use Rattle.stack_text.specs.TreeView.{node_of, nodes_of}
+use Rattle.stack_text.proofs.PartLaws.{first_of_2, first_of_3, first_of_value, part_fails, parts_end}
+use Rattle.stack_text.proofs.TreeListLaws.{not_one, not_three, one_part, three_parts}
+use Rattle.gypsy_syntax.specs.declared.keyword.Keyword.TheVariants as word
+use Rattle.gypsy_syntax.specs.Grammar.{form_in, named_in, names_in, statement_in}
+use Rattle.gypsy_syntax.specs.Keywords.{keyword_named}
+use Rattle.gypsy_syntax.specs.Sources.{loop}
+use Rattle.stack_text.proofs.TreeViewLaws.{node_of-list}
+use Rattle.gypsy_syntax.specs.Made.{new_begin, new_branch}
+use Rattle.gypsy_syntax.specs.SourceView.{stmt_of}
+use Rattle.gypsy_syntax.proofs.GrammarLaws.{some_parts, statement_by_parts, statements_each}
+use Rattle.gypsy_syntax.proofs.reading.statements.+statements.Goals as goal
+
+pub statements-returns-in_err-part : goal.statements-returns-in_err-part
+statements-returns-in_err-part t c =
+    let p = err_from_is_err_and c.from_residual.result c.from_residual.ensures.1 in
+    rw (p.1, p.2, statements_each (nodes_of c.args.trees.now))
+    (part_fails statement_in (map stmt_of c.loop-tree.parts.items) c.loop-tree.tree-index c.args.trees.now c.loop-tree.invariant c.in_err-part.field-0.0 c.tree-item.result c.loop-tree-test.true c.tree-item.is
+    c.in_err-part.ensures)
+
+pub statements-returns : goal.statements-returns
+statements-returns t c =
+    statements_each (nodes_of c.args.trees.now)
+    ∙ parts_end statement_in (map stmt_of c.loop-tree.parts.items) c.loop-tree.tree-index c.args.trees.now c.loop-tree.invariant (omega (arith, c.loop-tree-test.false))
+
+pub sequence-returns : goal.sequence-returns
+sequence-returns t c =
+    some_parts c.args.place c.args.parts.now c.in_ok-parts.parts (eqb-false (length c.args.parts.now) 0 (sym c.is_empty.ensures ∙ c.if-is_empty.false)) c.in_ok-parts.ensures
+
+pub repetition-returns-then-parts-ne1 : goal.repetition-returns-then-parts-ne1
+repetition-returns-then-parts-ne1 t c =
+    rw c.wrong_items.ensures
+    ([], not_one (λ ts. form_in (Some word.Loop) c.args.place ts ≡ Err (record { place = c.args.place; rule = 10 }, [])) refl (λ t u ts. refl) c.args.parts.now c.if-parts-ne1.true)
+
+pub repetition-returns-in_err-body : goal.repetition-returns-in_err-body
+repetition-returns-in_err-body t c =
+    let p = err_from_is_err_and c.from_residual.result c.from_residual.ensures.1 in
+    rw (p.1, p.2, one_part c.args.parts.now c.index-parts-0.result c.if-parts-ne1.false c.index-parts-0.is)
+    (first_of_value c.in_err-body.field-0.0 (loop c.args.place) (statement_in (node_of c.index-parts-0.result)) c.in_err-body.ensures)
+
+pub repetition-returns : goal.repetition-returns
+repetition-returns t c =
+    rw (one_part c.args.parts.now c.index-parts-0.result c.if-parts-ne1.false c.index-parts-0.is, c.in_ok-body.ensures, c.in_ok-new.ensures.ok) refl
+
+pub branch-returns-then-parts-ne3 : goal.branch-returns-then-parts-ne3
+branch-returns-then-parts-ne3 t c =
+    rw c.wrong_items.ensures
+    ([], not_three (λ ts. form_in (Some word.If) c.args.place ts ≡ Err (record { place = c.args.place; rule = 10 }, [])) refl (λ t. refl) (λ t u. refl) (λ t u v w ts. refl) c.args.parts.now c.if-parts-ne3.true)
+
+pub branch-returns-in_err-yes : goal.branch-returns-in_err-yes
+branch-returns-in_err-yes t c =
+    let p = err_from_is_err_and c.from_residual-in_err-yes.result c.from_residual-in_err-yes.ensures.1 in
+    rw (p.1, p.2, three_parts c.args.parts.now c.index-parts-0.result c.index-parts-1.result c.index-parts-2.result c.if-parts-ne3.false c.index-parts-0.is c.index-parts-1.is c.index-parts-2.is, c.in_ok-test.ensures)
+    (first_of_2 c.in_err-yes.field-0.0 (new_branch c.args.place c.in_ok-test.test) (statement_in (node_of c.index-parts-1.result)) (statement_in (node_of c.index-parts-2.result)) c.in_err-yes.ensures)
+
+pub branch-returns-in_err-no : goal.branch-returns-in_err-no
+branch-returns-in_err-no t c =
+    let p = err_from_is_err_and c.from_residual-in_err-no.result c.from_residual-in_err-no.ensures.1 in
+    rw (p.1, p.2, three_parts c.args.parts.now c.index-parts-0.result c.index-parts-1.result c.index-parts-2.result c.if-parts-ne3.false c.index-parts-0.is c.index-parts-1.is c.index-parts-2.is, c.in_ok-test.ensures, c.in_ok-yes.ensures)
+    (first_of_value c.in_err-no.field-0.0 (new_branch c.args.place c.in_ok-test.test (stmt_of c.in_ok-yes.yes)) (statement_in (node_of c.index-parts-2.result)) c.in_err-no.ensures)
+
+pub branch-returns : goal.branch-returns
+branch-returns t c =
+    rw (three_parts c.args.parts.now c.index-parts-0.result c.index-parts-1.result c.index-parts-2.result c.if-parts-ne3.false c.index-parts-0.is c.index-parts-1.is c.index-parts-2.is, c.in_ok-test.ensures, c.in_ok-yes.ensures, c.in_ok-no.ensures, c.in_ok-new.ensures.ok, c.in_ok-new-2.ensures.ok) refl
+
+pub guarded-returns-then-parts-ne3 : goal.guarded-returns-then-parts-ne3
+guarded-returns-then-parts-ne3 t c =
+    rw c.wrong_items.ensures
+    ([], not_three (λ ts. form_in (Some word.Begin) c.args.place ts ≡ Err (record { place = c.args.place; rule = 10 }, [])) refl (λ t. refl) (λ t u. refl) (λ t u v w ts. refl) c.args.parts.now c.if-parts-ne3.true)
+
+pub guarded-returns-in_err-body : goal.guarded-returns-in_err-body
+guarded-returns-in_err-body t c =
+    let p = err_from_is_err_and c.from_residual.result c.from_residual.ensures.1 in
+    rw (p.1, p.2, three_parts c.args.parts.now c.index-parts-0.result c.index-parts-1.result c.index-parts-2.result c.if-parts-ne3.false c.index-parts-0.is c.index-parts-1.is c.index-parts-2.is, sym c.is_empty_list.ensures ∙ c.if-is_empty_list.false)
+    (first_of_3 c.in_err-body.field-0.0 (new_begin c.args.place) (statement_in (node_of c.index-parts-0.result)) (names_in (node_of c.index-parts-1.result)) (statement_in (node_of c.index-parts-2.result)) c.in_err-body.ensures)
+
+pub guarded-returns-in_err-conds : goal.guarded-returns-in_err-conds
+guarded-returns-in_err-conds t c =
+    let p = err_from_is_err_and c.from_residual-in_err-conds.result c.from_residual-in_err-conds.ensures.1 in
+    rw (p.1, p.2, three_parts c.args.parts.now c.index-parts-0.result c.index-parts-1.result c.index-parts-2.result c.if-parts-ne3.false c.index-parts-0.is c.index-parts-1.is c.index-parts-2.is, sym c.is_empty_list.ensures ∙ c.if-is_empty_list.false, c.in_ok-body.ensures)
+    (first_of_2 c.in_err-conds.field-0.0 (new_begin c.args.place (stmt_of c.in_ok-body.body)) (names_in (node_of c.index-parts-1.result)) (statement_in (node_of c.index-parts-2.result)) c.in_err-conds.ensures)
+
+pub guarded-returns-in_err-arm : goal.guarded-returns-in_err-arm
+guarded-returns-in_err-arm t c =
+    let p = err_from_is_err_and c.from_residual-in_err-arm.result c.from_residual-in_err-arm.ensures.1 in
+    rw (p.1, p.2, three_parts c.args.parts.now c.index-parts-0.result c.index-parts-1.result c.index-parts-2.result c.if-parts-ne3.false c.index-parts-0.is c.index-parts-1.is c.index-parts-2.is, sym c.is_empty_list.ensures ∙ c.if-is_empty_list.false, c.in_ok-body.ensures, c.in_ok-conds.ensures)
+    (first_of_value c.in_err-arm.field-0.0 (new_begin c.args.place (stmt_of c.in_ok-body.body) c.in_ok-conds.conds.items) (statement_in (node_of c.index-parts-2.result)) c.in_err-arm.ensures)
+
+pub guarded-returns : goal.guarded-returns
+guarded-returns t c =
+    rw (three_parts c.args.parts.now c.index-parts-0.result c.index-parts-1.result c.index-parts-2.result c.if-parts-ne3.false c.index-parts-0.is c.index-parts-1.is c.index-parts-2.is, sym c.is_empty_list.ensures ∙ c.if-is_empty_list.false, c.in_ok-body.ensures, c.in_ok-conds.ensures, c.in_ok-arm.ensures, c.in_ok-new.ensures.ok, c.in_ok-new-2.ensures.ok) refl
+
+pub statement-returns-in-None : goal.statement-returns-in-None
+statement-returns-in-None t c =
+    rw (
+      c.in-List.is,
+      node_of-list c.in-List.place c.in-List.items,
+      sym c.as_slice.ensures.value,
+      statement_by_parts c.in-List.place c.as_slice.result.now c.first-item.result c.in-Atom-first.place c.in-Atom-first.text None c.in-len1-up.len_at_least c.first-item.is c.in-Atom-first.is
+          (sym (ap keyword_named c.deref.ensures.value) ∙ sym c.keyword_named.ensures ∙ c.in-None.is),
+      c.no_statement-in-None.ensures,
+    )
+    ([], refl)
+
+pub statement-returns-in-Some : goal.statement-returns-in-Some
+statement-returns-in-Some t c =
+    rw (
+      c.in-List.is,
+      node_of-list c.in-List.place c.in-List.items,
+      sym c.as_slice.ensures.value,
+      statement_by_parts c.in-List.place c.as_slice.result.now c.first-item.result c.in-Atom-first.place c.in-Atom-first.text (Some c.in-Some.keyword) c.in-len1-up.len_at_least c.first-item.is c.in-Atom-first.is
+          (sym (ap keyword_named c.deref.ensures.value) ∙ sym c.keyword_named.ensures ∙ c.in-Some.is),
+    )
+    c.form.ensures

@@ -1,0 +1,74 @@
+-- What each predefined procedure does with the values of its arguments.
+use Rattle.std.specs.Prelude.{ℕ, ℤ, pos, negsuc, ◌+ℤ◌, ◌-ℤ◌, neg_ℤ, int_le, List, [], ◌∷◌, length, get_or, slice_set}
+use Rattle.std.specs.Prelude.{Bool, not, ◌&&◌, ◌||◌, nat_lt, if◌then◌else◌}
+use Rattle.std.specs.Ordering.{int_eq}
+use Rattle.stack_text.specs.declared.shape.Kind.TheVariants.{Integer, Boolean}
+use Rattle.stack_text.specs.Values.{ValueOf}
+use Rattle.gypsy_syntax.specs.declared.predef.Predef.{Predef}
+use Rattle.gypsy_syntax.specs.declared.predef.Predef.TheVariants as row
+use Rattle.gypsy_syntax.specs.Programs.{simple}
+use Rattle.gypsy_syntax.specs.Resolved.{truth_item}
+use Rattle.gypsy_syntax.specs.ProgramFits.{is_in_range}
+
+-- the value that is written to the first argument; a fault; or an index that isn't below the length
+pub data Effect : Type 0 where
+  Normal : (v : ValueOf) → Effect
+  Fault : Effect
+  Beyond : Effect
+
+abbrev pub same_int : ℤ → ℤ → Bool
+same_int = int_eq
+
+abbrev pub integer_value : ℤ → ValueOf
+integer_value z = record { shape = simple Integer; items = z ∷ [] }
+
+abbrev pub truth_value : Bool → ValueOf
+truth_value b = record { shape = simple Boolean; items = truth_item b ∷ [] }
+
+-- the item of a simple value
+abbrev pub item_of_value : ValueOf → ℤ
+item_of_value v = get_or v.items 0 (pos 0)
+
+abbrev pub is_true_value : ValueOf → Bool
+is_true_value v = same_int (item_of_value v) (pos 1)
+
+-- what stands past the last value
+abbrev pub no_value : ValueOf
+no_value = integer_value (pos 0)
+
+abbrev pub value_at : List ValueOf → ℕ → ValueOf
+value_at vs i = get_or vs i no_value
+
+-- a number, where 32 signed bits have it
+abbrev pub number_effect : ℤ → Effect
+number_effect z = if is_in_range Integer z then Normal (integer_value z) else Fault
+
+-- the item at an index
+abbrev pub indexed : ValueOf → ℤ → Effect
+indexed a (negsuc n) = Fault
+indexed a (pos i) =
+    if nat_lt i (length a.items) then Normal record { shape = simple a.shape.kind; items = get_or a.items i (pos 0) ∷ [] } else Beyond
+
+-- the array with another item at an index
+abbrev pub stored : ValueOf → ℤ → ℤ → Effect
+stored a (negsuc n) z = Fault
+stored a (pos i) z = if nat_lt i (length a.items) then Normal record { shape = a.shape; items = slice_set a.items i z } else Beyond
+
+abbrev pub are_same : ValueOf → ValueOf → Bool
+are_same v w = same_int (item_of_value v) (item_of_value w)
+
+-- on the values of all arguments, in their order
+unfoldable pub predef_effect : Predef → List ValueOf → Effect
+predef_effect row.MgSimpleVariableAssignment vs = Normal (value_at vs 1)
+predef_effect row.MgSimpleConstantAssignment vs = Normal (value_at vs 1)
+predef_effect row.MgSimpleVariableEq vs = Normal (truth_value (are_same (value_at vs 1) (value_at vs 2)))
+predef_effect row.MgSimpleConstantEq vs = Normal (truth_value (are_same (value_at vs 1) (value_at vs 2)))
+predef_effect row.MgIntegerLe vs = Normal (truth_value (int_le (item_of_value (value_at vs 1)) (item_of_value (value_at vs 2))))
+predef_effect row.MgIntegerUnaryMinus vs = number_effect (neg_ℤ (item_of_value (value_at vs 1)))
+predef_effect row.MgIntegerAdd vs = number_effect (item_of_value (value_at vs 1) +ℤ item_of_value (value_at vs 2))
+predef_effect row.MgIntegerSubtract vs = number_effect (item_of_value (value_at vs 1) -ℤ item_of_value (value_at vs 2))
+predef_effect row.MgBooleanOr vs = Normal (truth_value (is_true_value (value_at vs 1) || is_true_value (value_at vs 2)))
+predef_effect row.MgBooleanAnd vs = Normal (truth_value (is_true_value (value_at vs 1) && is_true_value (value_at vs 2)))
+predef_effect row.MgBooleanNot vs = Normal (truth_value (not (is_true_value (value_at vs 1))))
+predef_effect row.MgIndexArray vs = indexed (value_at vs 1) (item_of_value (value_at vs 2))
+predef_effect row.MgArrayElementAssignment vs = stored (value_at vs 0) (item_of_value (value_at vs 1)) (item_of_value (value_at vs 2))

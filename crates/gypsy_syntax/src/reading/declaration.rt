@@ -1,0 +1,170 @@
+//! Types and declarations.
+
+ghost use Rattle.std.specs.Prelude.{◌≡◌, Some, Ok};
+ghost use Rattle.stack_text.specs.Trees.{list};
+ghost use Rattle.stack_text.specs.TreeView.{node_of, nodes_of};
+ghost use Rattle.stack_text.specs.declared.grammar.fault.FormFault.TheVariants.{Form};
+ghost use Rattle.stack_text.specs.Grammar.Judged.{◌⊛◌};
+ghost use Rattle.stack_text.specs.Grammar.Parts.{list_or};
+ghost use Rattle.stack_text.specs.Grammar.Reading.{Reads};
+ghost use Rattle.gypsy_syntax.specs.Grammar.{array_type, decl_in, literal_in, local_in, named_in, type_in};
+ghost use Rattle.gypsy_syntax.specs.Made.{new_local};
+ghost use Rattle.gypsy_syntax.specs.SourceView.{local_of};
+
+use crate::keyword::kind_named;
+use crate::literal::{Decl, Local, TypeText};
+use crate::reading::literals::literal;
+use crate::reading::word::{is_array_word, is_numeral_atom, kind_in, named, number};
+use stack_text::{Kind, Tree};
+use std::alloc::Global;
+use stack_text::grammar::{FormFault, Part, each_in};
+
+/// M7 at a type.
+fn no_type(place: u32) -> FormFault
+    ensures { result ≡ Form 7 place }
+{
+    FormFault::Form { rule: 7, place }
+}
+
+/// An array's type, of which the kind and the length are given.
+fn array_type(place: u32, kind: Kind, length: &Tree) -> Result<TypeText, FormFault>
+    ensures { Reads (λ shape. shape) result (array_type place (Some kind) (node_of length.now)) }
+{
+    if !is_numeral_atom(length) {
+        return Err(no_type(place));
+    }
+    let length = number(length)?;
+    Ok(TypeText {
+        place,
+        kind,
+        length: Some(length),
+    })
+}
+
+/// The type that the items of a list are.
+fn array_at(place: u32, items: &[Tree]) -> Result<TypeText, FormFault>
+    ensures { Reads (λ shape. shape) result (type_in (list place (nodes_of items.now))) }
+{
+    if items.len() != 3 {
+        return Err(no_type(place));
+    }
+    let (word, kind, length) = (&items[0], &items[1], &items[2]);
+    if !is_array_word(word) {
+        return Err(no_type(place));
+    }
+    match kind_in(kind) {
+        None => Err(no_type(place)),
+        Some(kind) => array_type(place, kind, length),
+    }
+}
+
+/// The type that a tree is: M7 where it is none, M11 where its length is out of the 128-bit range.
+fn type_in(tree: &Tree) -> Result<TypeText, FormFault>
+    ensures { Reads (λ shape. shape) result (type_in (node_of tree.now)) }
+{
+    match tree {
+        Tree::List { place, items } => array_at(*place, items),
+        Tree::Atom { place, text } => match kind_named(text) {
+            None => Err(no_type(*place)),
+            Some(kind) => Ok(TypeText {
+                place: *place,
+                kind,
+                length: None,
+            }),
+        },
+    }
+}
+
+/// M4 at a tree.
+fn no_formal(place: u32) -> FormFault
+    ensures { result ≡ Form 4 place }
+{
+    FormFault::Form { rule: 4, place }
+}
+
+/// The declaration that the items of a list are.
+fn decl_at(alloc: Global, place: u32, items: &[Tree]) -> Result<Decl, FormFault>
+    ensures { Reads (λ decl. decl) result (decl_in (list place (nodes_of items.now))) }
+{
+    if items.len() != 2 {
+        return Err(no_formal(place));
+    }
+    let (name, shape) = (&items[0], &items[1]);
+    let name = named(alloc, name)?;
+    let shape = type_in(shape)?;
+    Ok(Decl { name, shape })
+}
+
+impl Part for Decl {
+    ghost use Rattle.gypsy_syntax.specs.Grammar.{decl_in};
+    ghost use Rattle.gypsy_syntax.specs.declared.literal.Decl.{Decl as DeclText};
+
+    ghost Seen = { DeclText };
+
+    ghost view = { λ decl. decl };
+
+    ghost part_of = { decl_in };
+
+    fn read(alloc: Global, tree: &Tree) -> Result<Decl, FormFault> {
+        match tree {
+            Tree::Atom { place, text: _ } => Err(no_formal(*place)),
+            Tree::List { place, items } => decl_at(alloc, *place, items),
+        }
+    }
+}
+
+/// The declarations that the items of a list are, or M4 where the tree is no list.
+pub fn formals(alloc: Global, tree: &Tree) -> Result<Vec<Decl>, FormFault>
+    ensures { Reads (λ decls. decls.items) result (list_or 4 decl_in (node_of tree.now)) }
+{
+    each_in(alloc, 4, tree)
+}
+
+/// M6 at a tree.
+fn no_local(place: u32) -> FormFault
+    ensures { result ≡ Form 6 place }
+{
+    FormFault::Form { rule: 6, place }
+}
+
+/// A local variable, of which the parts are given.
+fn local_parts(alloc: Global, name: &Tree, shape: &Tree, value: &Tree) -> Result<Local, FormFault>
+    ensures { Reads local_of result (Ok new_local ⊛ named_in (node_of name.now) ⊛ type_in (node_of shape.now) ⊛ literal_in (node_of value.now)) }
+{
+    let name = named(alloc, name)?;
+    let shape = type_in(shape)?;
+    let value = literal(alloc, value)?;
+    Ok(Local {
+        decl: Decl { name, shape },
+        value,
+    })
+}
+
+/// The local variable that the items of a list are.
+fn local_at(alloc: Global, place: u32, items: &[Tree]) -> Result<Local, FormFault>
+    ensures { Reads local_of result (local_in (list place (nodes_of items.now))) }
+{
+    if items.len() != 3 {
+        return Err(no_local(place));
+    }
+    local_parts(alloc, &items[0], &items[1], &items[2])
+}
+
+impl Part for Local {
+    ghost use Rattle.gypsy_syntax.specs.Grammar.{local_in};
+    ghost use Rattle.gypsy_syntax.specs.Sources.{LocalOf};
+    ghost use Rattle.gypsy_syntax.specs.SourceView.{local_of};
+
+    ghost Seen = { LocalOf };
+
+    ghost view = { local_of };
+
+    ghost part_of = { local_in };
+
+    fn read(alloc: Global, tree: &Tree) -> Result<Local, FormFault> {
+        match tree {
+            Tree::Atom { place, text: _ } => Err(no_local(*place)),
+            Tree::List { place, items } => local_at(alloc, *place, items),
+        }
+    }
+}

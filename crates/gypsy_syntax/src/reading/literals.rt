@@ -1,0 +1,120 @@
+//! Values, and the arguments of predefined procedures.
+
+ghost use Rattle.std.specs.Prelude.{◌≡◌, drop};
+ghost use Rattle.stack_text.specs.TreeView.{node_of};
+ghost use Rattle.stack_text.specs.declared.grammar.fault.FormFault.TheVariants.{Form};
+ghost use Rattle.stack_text.specs.Grammar.Reading.{Reads};
+ghost use Rattle.gypsy_syntax.specs.Grammar.{arg_at, is_character, literal_in, simple_at};
+ghost use Rattle.gypsy_syntax.specs.SourceView.{arg_of, literal_of};
+
+use crate::literal::Literal;
+use crate::reading::word::number_at;
+use crate::statement::Arg;
+use stack_text::{Named, Tree, is_digits, is_numeral, read_name};
+use std::alloc::Global;
+use stack_text::grammar::{FormFault, Part, each};
+
+/// M8 at a tree.
+fn no_value(place: u32) -> FormFault
+    ensures { result ≡ Form 8 place }
+{
+    FormFault::Form { rule: 8, place }
+}
+
+/// Whether the bytes are a `#` and digits.
+fn is_character(bytes: &[u8]) -> bool
+    ensures { result ≡ is_character bytes.now }
+{
+    match bytes {
+        [] => false,
+        [first, digits @ ..] => *first == b'#' && is_digits(digits),
+    }
+}
+
+/// The simple value that an atom is, or M8 where it is none, M11 where its number is out of range.
+fn simple_at(place: u32, text: &[u8]) -> Result<Literal, FormFault>
+    ensures { Reads literal_of result (simple_at place text.now) }
+{
+    if is_numeral(text) {
+        let number = number_at(place, text)?;
+        return Ok(Literal::Integer { place, number });
+    }
+    if is_character(text) {
+        let code = number_at(place, &text[1..])?;
+        return Ok(Literal::Character { place, code });
+    }
+    if text == b"true".as_slice() {
+        return Ok(Literal::Truth { place, truth: true });
+    }
+    if text == b"false".as_slice() {
+        return Ok(Literal::Truth {
+            place,
+            truth: false,
+        });
+    }
+    Err(no_value(place))
+}
+
+impl Part for Literal {
+    ghost use Rattle.gypsy_syntax.specs.Grammar.{simple_in};
+    ghost use Rattle.gypsy_syntax.specs.Sources.{LiteralOf};
+    ghost use Rattle.gypsy_syntax.specs.SourceView.{literal_of};
+
+    ghost Seen = { LiteralOf };
+
+    ghost view = { literal_of };
+
+    ghost part_of = { simple_in };
+
+    fn read(_alloc: Global, tree: &Tree) -> Result<Literal, FormFault> {
+        match tree {
+            Tree::Atom { place, text } => simple_at(*place, text),
+            Tree::List { place, items: _ } => Err(no_value(*place)),
+        }
+    }
+}
+
+/// The value that a tree is.
+pub fn literal(alloc: Global, tree: &Tree) -> Result<Literal, FormFault>
+    ensures { Reads literal_of result (literal_in (node_of tree.now)) }
+{
+    match tree {
+        Tree::Atom { place, text } => simple_at(*place, text),
+        Tree::List { place, items } => {
+            let items = each(alloc, items)?;
+            Ok(Literal::List {
+                place: *place,
+                items,
+            })
+        }
+    }
+}
+
+/// The argument that an atom is.
+fn arg_at(alloc: Global, place: u32, text: &[u8]) -> Result<Arg, FormFault>
+    ensures { Reads arg_of result (arg_at place text.now) }
+{
+    match read_name(alloc, text)? {
+        Some(name) => Ok(Arg::Variable(Named { place, name })),
+        None => Ok(Arg::Constant(simple_at(place, text)?)),
+    }
+}
+
+impl Part for Arg {
+    ghost use Rattle.gypsy_syntax.specs.Grammar.{arg_in};
+    ghost use Rattle.gypsy_syntax.specs.Sources.{ArgOf};
+    ghost use Rattle.gypsy_syntax.specs.SourceView.{arg_of};
+
+    ghost Seen = { ArgOf };
+
+    ghost view = { arg_of };
+
+    ghost part_of = { arg_in };
+
+    fn read(alloc: Global, tree: &Tree) -> Result<Arg, FormFault> {
+        match tree {
+            Tree::Atom { place, text } => arg_at(alloc, *place, text),
+            Tree::List { place, items: _ } => Err(no_value(*place)),
+        }
+    }
+}

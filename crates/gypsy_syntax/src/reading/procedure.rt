@@ -1,0 +1,168 @@
+//! Procedures, and whole sources.
+
+ghost use Rattle.std.specs.Prelude.{◌≡◌, Ok, nat_le};
+ghost use Rattle.stack_text.specs.Trees.{list};
+ghost use Rattle.stack_text.specs.TreeView.{node_of, nodes_of};
+ghost use Rattle.stack_text.specs.declared.grammar.fault.FormFault.TheVariants.{Form};
+ghost use Rattle.stack_text.specs.Grammar.Judged.{each_of, ◌⊛◌};
+ghost use Rattle.stack_text.specs.Grammar.Parts.{list_or};
+ghost use Rattle.stack_text.specs.Grammar.Reading.{Reads};
+ghost use Rattle.gypsy_syntax.specs.Grammar.{are_few, decl_in, local_in, named_in, names_in, procedure_in, source_in, statement_in};
+ghost use Rattle.gypsy_syntax.specs.Made.{new_proc, new_source};
+ghost use Rattle.gypsy_syntax.specs.SourceView.{proc_of, source_of};
+
+use crate::proc::{Proc, Source};
+use crate::reading::declaration::formals as read_formals;
+use crate::reading::statements::statement;
+use crate::reading::word::{is_proc_word, is_program_word, named, names};
+use stack_text::Tree;
+use std::alloc::Global;
+use stack_text::grammar::{FormFault, Part, each, each_in, list_length};
+
+/// The most procedures of a source.
+const MOST_PROCEDURES: usize = 1000;
+
+/// The most variables of a procedure, and the most conditions.
+const MOST_DECLARED: usize = 200;
+
+/// M2 at a procedure.
+fn no_procedure(place: u32) -> FormFault
+    ensures { result ≡ Form 2 place }
+{
+    FormFault::Form { rule: 2, place }
+}
+
+/// M12 at a tree.
+fn too_large(place: u32) -> FormFault
+    ensures { result ≡ Form 12 place }
+{
+    FormFault::Form { rule: 12, place }
+}
+
+/// Whether two lists have no more items together than a procedure may declare.
+fn are_few(first: &Tree, second: &Tree) -> bool
+    ensures { result ≡ are_few (node_of first.now) (node_of second.now) }
+{
+    list_length(first).saturating_add(list_length(second)) <= MOST_DECLARED
+}
+
+/// The trees of a procedure behind the word that begins it.
+#[derive(Clone, Copy)]
+struct ProcTrees<'a> {
+    name: &'a Tree,
+    formals: &'a Tree,
+    conds: &'a Tree,
+    locals: &'a Tree,
+    local_conds: &'a Tree,
+    body: &'a Tree,
+}
+
+/// A procedure, of which the parts are given.
+fn procedure_parts(alloc: Global, place: u32, trees: ProcTrees) -> Result<Proc, FormFault>
+    ensures { Reads proc_of result (Ok (new_proc place) ⊛ named_in (node_of trees.entry.name.now) ⊛ list_or 4 decl_in (node_of trees.entry.formals.now) ⊛ names_in (node_of trees.entry.conds.now) ⊛ list_or 6 local_in (node_of trees.entry.locals.now) ⊛ names_in (node_of trees.entry.local_conds.now) ⊛ statement_in (node_of trees.entry.body.now)) }
+{
+    let name = named(alloc, trees.name)?;
+    let formals = read_formals(alloc, trees.formals)?;
+    let conds = names(alloc, trees.conds)?;
+    let locals = each_in(alloc, 6, trees.locals)?;
+    let local_conds = names(alloc, trees.local_conds)?;
+    let body = statement(alloc, trees.body)?;
+    Ok(Proc {
+        place,
+        name,
+        formals,
+        conds,
+        locals,
+        local_conds,
+        body,
+    })
+}
+
+/// The procedure that the items of a list are.
+fn procedure_at(alloc: Global, place: u32, items: &[Tree]) -> Result<Proc, FormFault>
+    ensures { Reads proc_of result (procedure_in (list place (nodes_of items.now))) }
+{
+    if items.len() != 7 {
+        return Err(no_procedure(place));
+    }
+    let trees = ProcTrees {
+        name: &items[1],
+        formals: &items[2],
+        conds: &items[3],
+        locals: &items[4],
+        local_conds: &items[5],
+        body: &items[6],
+    };
+    if !is_proc_word(&items[0]) {
+        return Err(no_procedure(place));
+    }
+    if !are_few(trees.formals, trees.locals) {
+        return Err(too_large(place));
+    }
+    if !are_few(trees.conds, trees.local_conds) {
+        return Err(too_large(place));
+    }
+    procedure_parts(alloc, place, trees)
+}
+
+impl Part for Proc {
+    ghost use Rattle.gypsy_syntax.specs.Grammar.{procedure_in};
+    ghost use Rattle.gypsy_syntax.specs.Sources.{ProcOf};
+    ghost use Rattle.gypsy_syntax.specs.SourceView.{proc_of};
+
+    ghost Seen = { ProcOf };
+
+    ghost view = { proc_of };
+
+    ghost part_of = { procedure_in };
+
+    fn read(alloc: Global, tree: &Tree) -> Result<Proc, FormFault> {
+        match tree {
+            Tree::Atom { place, text: _ } => Err(no_procedure(*place)),
+            Tree::List { place, items } => procedure_at(alloc, *place, items),
+        }
+    }
+}
+
+/// M1 at the whole tree.
+fn no_source(place: u32) -> FormFault
+    ensures { result ≡ Form 1 place }
+{
+    FormFault::Form { rule: 1, place }
+}
+
+/// A source, of which the parts are given.
+fn source_parts(alloc: Global, place: u32, main: &Tree, procs: &[Tree]) -> Result<Source, FormFault>
+    ensures { Reads source_of result (Ok (new_source place) ⊛ named_in (node_of main.now) ⊛ each_of procedure_in (nodes_of procs.now)) }
+{
+    let main = named(alloc, main)?;
+    let procs = each(alloc, procs)?;
+    Ok(Source { place, main, procs })
+}
+
+/// The source that the items of a list are.
+fn source_at(alloc: Global, place: u32, items: &[Tree]) -> Result<Source, FormFault>
+    ensures { Reads source_of result (source_in (list place (nodes_of items.now))) }
+{
+    if items.len() < 3 {
+        return Err(no_source(place));
+    }
+    let (word, main, procs) = (&items[0], &items[1], &items[2..]);
+    if !is_program_word(word) {
+        return Err(no_source(place));
+    }
+    if procs.len() > MOST_PROCEDURES {
+        return Err(too_large(place));
+    }
+    source_parts(alloc, place, main, procs)
+}
+
+/// The source that a tree is: M1 where it is none, M12 where it is too large, and else the first fault in reading order.
+pub fn source(alloc: Global, tree: &Tree) -> Result<Source, FormFault>
+    ensures { Reads source_of result (source_in (node_of tree.now)) }
+{
+    match tree {
+        Tree::Atom { place, text: _ } => Err(no_source(*place)),
+        Tree::List { place, items } => source_at(alloc, *place, items),
+    }
+}

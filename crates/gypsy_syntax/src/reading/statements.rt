@@ -1,0 +1,222 @@
+//! Statements.
+
+ghost use Rattle.std.specs.Prelude.{◌≡◌, Ok, Some, map};
+ghost use Rattle.stack_text.specs.Trees.{place_of};
+ghost use Rattle.stack_text.specs.TreeView.{node_of, nodes_of};
+ghost use Rattle.stack_text.specs.declared.grammar.fault.FormFault.TheVariants.{Form};
+ghost use Rattle.stack_text.specs.Grammar.Judged.{◌⊛◌};
+ghost use Rattle.stack_text.specs.Grammar.Reading.{Reads};
+ghost use Rattle.gypsy_syntax.specs.declared.keyword.Keyword.TheVariants as words;
+ghost use Rattle.gypsy_syntax.specs.Grammar.{form_in, is_empty_list, named_in, names_in, statement_in, statements_in};
+ghost use Rattle.gypsy_syntax.specs.Made.{new_call};
+ghost use Rattle.gypsy_syntax.specs.SourceView.{stmt_of};
+
+use crate::keyword::{Keyword, keyword_named};
+use crate::predef::Predef;
+use crate::reading::word::{named, names};
+use crate::statement::Stmt;
+use stack_text::Tree;
+use std::alloc::Global;
+use stack_text::grammar::{FormFault, each};
+
+/// M9 at a tree.
+fn no_statement(place: u32) -> FormFault
+    ensures { result ≡ Form 9 place }
+{
+    FormFault::Form { rule: 9, place }
+}
+
+/// M10 at a statement.
+fn wrong_items(place: u32) -> FormFault
+    ensures { result ≡ Form 10 place }
+{
+    FormFault::Form { rule: 10, place }
+}
+
+fn no_op(place: u32, parts: &[Tree]) -> Result<Stmt, FormFault>
+    ensures { Reads stmt_of result (form_in (Some words.NoOp) place (nodes_of parts.now)) }
+{
+    if parts.is_empty() {
+        Ok(Stmt::NoOp { place })
+    } else {
+        Err(wrong_items(place))
+    }
+}
+
+fn signal(alloc: Global, place: u32, parts: &[Tree]) -> Result<Stmt, FormFault>
+    ensures { Reads stmt_of result (form_in (Some words.Signal) place (nodes_of parts.now)) }
+{
+    if parts.len() != 1 {
+        return Err(wrong_items(place));
+    }
+    let cond = named(alloc, &parts[0])?;
+    Ok(Stmt::Signal { place, cond })
+}
+
+/// A call, of which the parts are given.
+fn call_parts(
+    alloc: Global,
+    place: u32,
+    callee: &Tree,
+    actuals: &Tree,
+    conds: &Tree,
+) -> Result<Stmt, FormFault>
+    ensures { Reads stmt_of result (Ok (new_call place (place_of (node_of actuals.now)) (place_of (node_of conds.now))) ⊛ named_in (node_of callee.now) ⊛ names_in (node_of actuals.now) ⊛ names_in (node_of conds.now)) }
+{
+    let callee = named(alloc, callee)?;
+    let actuals_place = actuals.place();
+    let actuals = names(alloc, actuals)?;
+    let conds_place = conds.place();
+    let conds = names(alloc, conds)?;
+    Ok(Stmt::Call {
+        place,
+        callee,
+        actuals_place,
+        actuals,
+        conds_place,
+        conds,
+    })
+}
+
+fn call(alloc: Global, place: u32, parts: &[Tree]) -> Result<Stmt, FormFault>
+    ensures { Reads stmt_of result (form_in (Some words.Call) place (nodes_of parts.now)) }
+{
+    if parts.len() != 3 {
+        return Err(wrong_items(place));
+    }
+    call_parts(alloc, place, &parts[0], &parts[1], &parts[2])
+}
+
+fn predef_call(alloc: Global, which: Predef, place: u32, parts: &[Tree]) -> Result<Stmt, FormFault>
+    ensures { Reads stmt_of result (form_in (Some (words.Predef which)) place (nodes_of parts.now)) }
+{
+    let args = each(alloc, parts)?;
+    Ok(Stmt::Predef { place, which, args })
+}
+
+/// Whether the tree is a list without items.
+fn is_empty_list(tree: &Tree) -> bool
+    ensures { result ≡ is_empty_list (node_of tree.now) }
+{
+    match tree {
+        Tree::Atom { place: _, text: _ } => false,
+        Tree::List { place: _, items } => items.is_empty(),
+    }
+}
+
+/// The statement that each tree is.
+#[cycle(statements)]
+fn statements(alloc: Global, trees: &[Tree]) -> Result<Vec<Stmt>, FormFault>
+    ensures { Reads (λ parts. map stmt_of parts.items) result (statements_in (nodes_of trees.now)) }
+{
+    let mut parts = Vec::new(alloc);
+    for tree in trees {
+        let part = statement(alloc, tree)?;
+        parts.push(part)?;
+    }
+    Ok(parts)
+}
+
+#[cycle(statements)]
+fn sequence(alloc: Global, place: u32, parts: &[Tree]) -> Result<Stmt, FormFault>
+    ensures { Reads stmt_of result (form_in (Some words.Seq) place (nodes_of parts.now)) }
+{
+    if parts.is_empty() {
+        return Err(wrong_items(place));
+    }
+    let parts = statements(alloc, parts)?;
+    Ok(Stmt::Seq { place, parts })
+}
+
+#[cycle(statements)]
+fn repetition(alloc: Global, place: u32, parts: &[Tree]) -> Result<Stmt, FormFault>
+    ensures { Reads stmt_of result (form_in (Some words.Loop) place (nodes_of parts.now)) }
+{
+    if parts.len() != 1 {
+        return Err(wrong_items(place));
+    }
+    let body = statement(alloc, &parts[0])?;
+    Ok(Stmt::Loop {
+        place,
+        body: Box::new(alloc, body)?,
+    })
+}
+
+#[cycle(statements)]
+fn branch(alloc: Global, place: u32, parts: &[Tree]) -> Result<Stmt, FormFault>
+    ensures { Reads stmt_of result (form_in (Some words.If) place (nodes_of parts.now)) }
+{
+    if parts.len() != 3 {
+        return Err(wrong_items(place));
+    }
+    let (test, yes, no) = (&parts[0], &parts[1], &parts[2]);
+    let test = named(alloc, test)?;
+    let yes = statement(alloc, yes)?;
+    let no = statement(alloc, no)?;
+    Ok(Stmt::If {
+        place,
+        test,
+        yes: Box::new(alloc, yes)?,
+        no: Box::new(alloc, no)?,
+    })
+}
+
+#[cycle(statements)]
+fn guarded(alloc: Global, place: u32, parts: &[Tree]) -> Result<Stmt, FormFault>
+    ensures { Reads stmt_of result (form_in (Some words.Begin) place (nodes_of parts.now)) }
+{
+    if parts.len() != 3 {
+        return Err(wrong_items(place));
+    }
+    let (body, conds, arm) = (&parts[0], &parts[1], &parts[2]);
+    if is_empty_list(conds) {
+        return Err(wrong_items(place));
+    }
+    let body = statement(alloc, body)?;
+    let conds = names(alloc, conds)?;
+    let arm = statement(alloc, arm)?;
+    Ok(Stmt::Begin {
+        place,
+        body: Box::new(alloc, body)?,
+        conds,
+        arm: Box::new(alloc, arm)?,
+    })
+}
+
+/// What stands behind the first word of a statement.
+#[cycle(statements)]
+fn form(alloc: Global, keyword: Keyword, place: u32, parts: &[Tree]) -> Result<Stmt, FormFault>
+    ensures { Reads stmt_of result (form_in (Some keyword) place (nodes_of parts.now)) }
+{
+    match keyword {
+        Keyword::NoOp => no_op(place, parts),
+        Keyword::Signal => signal(alloc, place, parts),
+        Keyword::Seq => sequence(alloc, place, parts),
+        Keyword::Loop => repetition(alloc, place, parts),
+        Keyword::If => branch(alloc, place, parts),
+        Keyword::Begin => guarded(alloc, place, parts),
+        Keyword::Call => call(alloc, place, parts),
+        Keyword::Predef(which) => predef_call(alloc, which, place, parts),
+    }
+}
+
+/// The statement that a tree is: M9 where it begins with none of the twenty words, M10 where it has a wrong number of
+/// items.
+#[cycle(statements)]
+pub fn statement(alloc: Global, tree: &Tree) -> Result<Stmt, FormFault>
+    ensures { Reads stmt_of result (statement_in (node_of tree.now)) }
+{
+    match tree {
+        Tree::Atom { place, text: _ } => Err(no_statement(*place)),
+        Tree::List { place, items } => match items.as_slice() {
+            [] => Err(no_statement(*place)),
+            [first, parts @ ..] => match first {
+                Tree::List { place: _, items: _ } => Err(no_statement(*place)),
+                Tree::Atom { place: _, text } => match keyword_named(text) {
+                    None => Err(no_statement(*place)),
+                    Some(keyword) => form(alloc, keyword, *place, parts),
+                },
+            },
+        },
+    }
+}

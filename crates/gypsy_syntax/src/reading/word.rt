@@ -1,0 +1,103 @@
+//! Words, names and numerals.
+
+ghost use Rattle.std.specs.Prelude.{◌≡◌, IsTrue, codes, map};
+ghost use Rattle.stack_text.specs.Numerals.{is_numeral};
+ghost use Rattle.stack_text.specs.Trees.{none};
+ghost use Rattle.stack_text.specs.TreeView.{node_of};
+ghost use Rattle.stack_text.specs.Grammar.Parts.{is_atom_of};
+ghost use Rattle.stack_text.specs.Grammar.Reading.{Reads};
+ghost use Rattle.gypsy_syntax.specs.Grammar.{is_word, kind_in, named_in, names_in, number_at, number_in};
+
+use crate::keyword::kind_named;
+use stack_text::{Kind, Named, Tree, is_numeral, read_numeral};
+use std::alloc::Global;
+use stack_text::grammar::{self, FormFault};
+
+/// Whether the tree is the word `array`.
+pub fn is_array_word(tree: &Tree) -> bool
+    ensures { result ≡ is_word (codes "array") (node_of tree.now) }
+{
+    match tree {
+        Tree::Atom { place: _, text } => text.as_slice() == b"array".as_slice(),
+        Tree::List { place: _, items: _ } => false,
+    }
+}
+
+/// Whether the tree is the word `proc`.
+pub fn is_proc_word(tree: &Tree) -> bool
+    ensures { result ≡ is_word (codes "proc") (node_of tree.now) }
+{
+    match tree {
+        Tree::Atom { place: _, text } => text.as_slice() == b"proc".as_slice(),
+        Tree::List { place: _, items: _ } => false,
+    }
+}
+
+/// Whether the tree is the word `program`.
+pub fn is_program_word(tree: &Tree) -> bool
+    ensures { result ≡ is_word (codes "program") (node_of tree.now) }
+{
+    match tree {
+        Tree::Atom { place: _, text } => text.as_slice() == b"program".as_slice(),
+        Tree::List { place: _, items: _ } => false,
+    }
+}
+
+/// Whether the tree is a numeral's atom.
+pub fn is_numeral_atom(tree: &Tree) -> bool
+    ensures { result ≡ is_atom_of is_numeral (node_of tree.now) }
+{
+    match tree {
+        Tree::Atom { place: _, text } => is_numeral(text),
+        Tree::List { place: _, items: _ } => false,
+    }
+}
+
+/// The simple type whose word the tree is.
+pub fn kind_in(tree: &Tree) -> Option<Kind>
+    ensures { result ≡ kind_in (node_of tree.now) }
+{
+    match tree {
+        Tree::Atom { place: _, text } => kind_named(text),
+        Tree::List { place: _, items: _ } => None,
+    }
+}
+
+/// What a numeral stands for, or M11 where it is out of the 128-bit range.
+pub fn number_at(place: u32, numeral: &[u8]) -> Result<i128, FormFault>
+    requires { IsTrue (is_numeral numeral.now) }
+    ensures { Reads (λ number. number) result (number_at place numeral.now) }
+{
+    match read_numeral(numeral) {
+        Some(number) => Ok(number),
+        None => Err(FormFault::Form { rule: 11, place }),
+    }
+}
+
+/// The number of a numeral's atom, or M11 where it is out of the 128-bit range.
+pub fn number(tree: &Tree) -> Result<i128, FormFault>
+    requires { IsTrue (is_atom_of is_numeral (node_of tree.now)) }
+    ensures { Reads (λ number. number) result (number_in (node_of tree.now)) }
+{
+    match tree {
+        Tree::List { place, items: _ } => Err(FormFault::Form {
+            rule: 11,
+            place: *place,
+        }),
+        Tree::Atom { place, text } => number_at(*place, text),
+    }
+}
+
+/// The name that a tree is, or M3 where it is none.
+pub fn named(alloc: Global, tree: &Tree) -> Result<Named, FormFault>
+    ensures { Reads (λ name. name) result (named_in (node_of tree.now)) }
+{
+    grammar::named(alloc, 3, tree)
+}
+
+/// The names that the items of a list are, or M5 where the tree is no list.
+pub fn names(alloc: Global, tree: &Tree) -> Result<Vec<Named>, FormFault>
+    ensures { Reads (λ names. names.items) result (names_in (node_of tree.now)) }
+{
+    grammar::names(alloc, 5, 3, tree)
+}
