@@ -29,6 +29,7 @@ use Rattle.gypsy_syntax.specs.declared.literal.Decl.{Decl}
 use Rattle.gypsy_syntax.specs.declared.literal.TypeText.{TypeText}
 use Rattle.gypsy_syntax.specs.declared.predef.Predef.TheVariants as row
 use Rattle.gypsy_syntax.specs.Answers.{KeepsForm}
+use Rattle.gypsy_syntax.specs.Fits.{IsNumber}
 use Rattle.gypsy_syntax.specs.Grammar.{named_in, names_in, is_word, number_at, number_in, kind_in, simple_type, array_type, type_in, is_character, simple_at, simple_in, literal_in, decl_in, local_in, arg_at, arg_in, is_empty_list, statement_in, form_in, statements_in, are_few, procedure_in, source_in}
 use Rattle.gypsy_syntax.specs.Keywords.{keyword_name, keyword_named, keywords, kind_name, kind_named}
 use Rattle.gypsy_syntax.specs.Made.{literals, statements, new_name, new_simple, new_array, new_decl, new_local, new_list, new_seq, new_branch, new_begin, new_call, new_predef, new_proc, new_source}
@@ -39,24 +40,21 @@ use Rattle.gypsy_syntax.proofs.PlacesLaws.{literals_unplaced, statements_unplace
 
 -- ---- numbers
 
-abbrev IsNumber : ℤ → Type 0
-IsNumber z = fits_128_bits z ≡ true
-
-number_run : (z : ℤ) → IsNumber z → IsRun (signed_decimal z)
+pub number_run : (z : ℤ) → IsNumber z → IsRun (signed_decimal z)
 number_run z h = numeral_is_run (signed_decimal z) (numeral-signed_decimal z h)
 
 number_judged : (v z : ℤ) → v ≡ z → IsNumber z → judged 0 11 (fits_128_bits v) (Ok v) ≡ Ok z
 number_judged v z e h = subst (λ (u : ℤ). judged 0 11 (fits_128_bits u) (Ok u) ≡ Ok z) (sym e) (passes 0 11 (fits_128_bits z) _ _ h refl)
 
-number_again : (z : ℤ) → IsNumber z → number_at 0 (signed_decimal z) ≡ Ok z
+pub number_again : (z : ℤ) → IsNumber z → number_at 0 (signed_decimal z) ≡ Ok z
 number_again z h = number_judged (numeral_value (signed_decimal z)) z (value-signed_decimal z h) h
 
 keeps_number : (p : ℕ) (w : List ℕ) → Holds IsNumber (number_at p w)
 keeps_number p w = holds_judged IsNumber p 11 (fits_128_bits (numeral_value w)) _ (λ k. record { of_value = k })
 
-record KeepsDigits (z : ℤ) : Type 0 where
-  digits : is_digits (signed_decimal z) ≡ true
-  fits : fits_128_bits z ≡ true
+pub record KeepsDigits (z : ℤ) : Type 0 where
+  pub digits : is_digits (signed_decimal z) ≡ true
+  pub fits : fits_128_bits z ≡ true
 
 keeps_digits : (p : ℕ) (w : List ℕ) → is_digits w ≡ true → Holds KeepsDigits (number_at p w)
 keeps_digits p w h = holds_judged KeepsDigits p 11 (fits_128_bits (numeral_value w)) _ (λ k. record { of_value = record { digits = digits-signed_decimal w h k; fits = k } })
@@ -64,12 +62,12 @@ keeps_digits p w h = holds_judged KeepsDigits p 11 (fits_128_bits (numeral_value
 -- ---- values
 
 -- a simple value, printed as an atom that is no name
-record KeepsSimple (l : LiteralOf) : Type 0 where
-  bytes : List ℕ
-  tree_is : literal_tree l ≡ atom 0 bytes
-  run : IsRun bytes
-  reads : simple_at 0 bytes ≡ Ok (unplaced_literal l)
-  no_name : is_name bytes ≡ false
+pub record KeepsSimple (l : LiteralOf) : Type 0 where
+  pub bytes : List ℕ
+  pub tree_is : literal_tree l ≡ atom 0 bytes
+  pub run : IsRun bytes
+  pub reads : simple_at 0 bytes ≡ Ok (unplaced_literal l)
+  pub no_name : is_name bytes ≡ false
 
 small_no_letter : (b : ℕ) → b ≤ 57 → is_ascii_alphabetic b ≡ false
 small_no_letter b le = rw (lt-leb 65 b (omega arith), lt-leb 97 b (omega arith)) refl
@@ -96,7 +94,7 @@ and_false false = refl
 mark_no_numeral : (ds : List ℕ) → is_numeral (35 ∷ ds) ≡ false
 mark_no_numeral ds = and_false (nat_lt 0 (length (35 ∷ ds)))
 
-integer_kept : (p : ℕ) (z : ℤ) → IsNumber z → KeepsSimple (integer p z)
+pub integer_kept : (p : ℕ) (z : ℤ) → IsNumber z → KeepsSimple (integer p z)
 integer_kept p z h = let numeral = numeral-signed_decimal z h in
     record {
       bytes = signed_decimal z;
@@ -113,7 +111,7 @@ mark_run z k = let r = number_run z k.fits in (omega arith, ap (λ (w : List ℕ
 mark_again : (ds : List ℕ) → is_digits ds ≡ true → simple_at 0 (35 ∷ ds) ≡ (Ok (character 0) ⊛ number_at 0 ds)
 mark_again ds h = rw (mark_no_numeral ds, h) refl
 
-character_kept : (p : ℕ) (z : ℤ) → KeepsDigits z → KeepsSimple (character p z)
+pub character_kept : (p : ℕ) (z : ℤ) → KeepsDigits z → KeepsSimple (character p z)
 character_kept p z k = record {
   bytes = 35 ∷ signed_decimal z;
   tree_is = refl;
@@ -122,11 +120,11 @@ character_kept p z k = record {
   no_name = refl;
 }
 
-truth_kept : (p : ℕ) (b : Bool) → KeepsSimple (truth p b)
+pub truth_kept : (p : ℕ) (b : Bool) → KeepsSimple (truth p b)
 truth_kept p true = record { bytes = codes "true"; tree_is = refl; run = (omega arith, refl); reads = refl; no_name = refl }
 truth_kept p false = record { bytes = codes "false"; tree_is = refl; run = (omega arith, refl); reads = refl; no_name = refl }
 
-character_digits : (w : List ℕ) → is_character w ≡ true → is_digits (drop 1 w) ≡ true
+pub character_digits : (w : List ℕ) → is_character w ≡ true → is_digits (drop 1 w) ≡ true
 character_digits [] h = absurd cc
 character_digits (b ∷ bs) h = (and_parts (b == 35) (is_digits bs) h).1
 
@@ -155,7 +153,7 @@ keeps_simple (atom p w) =
     (λ l k. record { alike = subst (Alike (atom p w)) (sym k.tree_is) k.run; reads = ap simple_in k.tree_is ∙ k.reads }) (keeps_simple_at p w)
 keeps_simple (list p ts) = record { of_value = tt }
 
-literal_nodes : (ls : List LiteralOf) → literal_trees (literals ls) ≡ nodes (map literal_tree ls)
+pub literal_nodes : (ls : List LiteralOf) → literal_trees (literals ls) ≡ nodes (map literal_tree ls)
 literal_nodes [] = refl
 literal_nodes (l ∷ ls) = ap (more (literal_tree l)) (literal_nodes ls)
 
@@ -174,12 +172,12 @@ keeps_literal (list p ts) =
 
 -- ---- types and declarations
 
-kind_again : (k : Kind) → kind_named (kind_name k) ≡ Some k
+pub kind_again : (k : Kind) → kind_named (kind_name k) ≡ Some k
 kind_again Integer = refl
 kind_again Boolean = refl
 kind_again Character = refl
 
-kind_run : (k : Kind) → IsRun (kind_name k)
+pub kind_run : (k : Kind) → IsRun (kind_name k)
 kind_run Integer = (omega arith, refl)
 kind_run Boolean = (omega arith, refl)
 kind_run Character = (omega arith, refl)
@@ -191,7 +189,7 @@ keeps_simple_type : (p : ℕ) (w : List ℕ) (k : Option Kind) → Holds (KeepsT
 keeps_simple_type p w None = record { of_value = tt }
 keeps_simple_type p w (Some k) = record { of_value = record { alike = kind_run k; reads = ap (simple_type 0) (kind_again k) } }
 
-array_again : (k : Kind) (z : ℤ) → IsNumber z → type_in (type_tree_by k (Some z)) ≡ Ok (new_array 0 k z)
+pub array_again : (k : Kind) (z : ℤ) → IsNumber z → type_in (type_tree_by k (Some z)) ≡ Ok (new_array 0 k z)
 array_again k z h =
     ap (λ (o : Option Kind). array_type 0 o (number_tree z)) (kind_again k)
     ∙ passes 0 7 (is_numeral (signed_decimal z)) _ _ (numeral-signed_decimal z h) (ok_one (new_array 0 k) _ z (number_again z h))
@@ -259,6 +257,15 @@ keeps_local (list p (more v (more t (more l (more u ts))))) = record { of_value 
 abbrev KeepsArg : Node → ArgOf → Type 0
 KeepsArg = Keeps arg_in arg_tree unplaced_arg
 
+-- a simple value is read again as an argument, since it is no name
+pub argument_again : (l : LiteralOf) (k : KeepsSimple l) → arg_in (literal_tree l) ≡ Ok (constant (unplaced_literal l))
+argument_again l k =
+    ap arg_in k.tree_is ∙ ap (λ (b : Bool). if b then Ok (variable (new_name 0 k.bytes)) else Ok constant ⊛ simple_at 0 k.bytes) k.no_name ∙ ok_one constant _ _ k.reads
+
+-- and so is a variable
+pub variable_again : (w : List ℕ) → is_name w ≡ true → arg_in (atom 0 w) ≡ Ok (variable (new_name 0 w))
+variable_again w e = ap (λ (b : Bool). if b then Ok (variable (new_name 0 w)) else Ok constant ⊛ simple_at 0 w) e
+
 keeps_arg : (t : Node) → Holds (KeepsArg t) (arg_in t)
 keeps_arg (list p ts) = record { of_value = tt }
 keeps_arg (atom p w) = pick (is_name w) refl
@@ -267,18 +274,18 @@ keeps_arg (atom p w) = pick (is_name w) refl
     pick true e = record {
       of_value = record {
         alike = name_is_run w e;
-        reads = ap (λ (b : Bool). if b then Ok (variable (new_name 0 w)) else Ok constant ⊛ simple_at 0 w) e;
+        reads = variable_again w e;
       };
     }
     pick false e =
         holds_one KeepsSimple (KeepsArg (atom p w)) constant (simple_at p w)
         (λ l k. record {
           alike = subst (Alike (atom p w)) (sym k.tree_is) k.run;
-          reads = ap arg_in k.tree_is ∙ ap (λ (b : Bool). if b then Ok (variable (new_name 0 k.bytes)) else Ok constant ⊛ simple_at 0 k.bytes) k.no_name ∙ ok_one constant _ _ k.reads;
+          reads = argument_again l k;
         })
         (keeps_simple_at p w)
 
-keyword_run : (k : Keyword) → IsRun (keyword_name k)
+pub keyword_run : (k : Keyword) → IsRun (keyword_name k)
 unfolding keyword_name
 keyword_run word.NoOp = (omega arith, refl)
 keyword_run word.Signal = (omega arith, refl)
@@ -301,7 +308,7 @@ keyword_run (word.Predef row.MgBooleanNot) = (omega arith, refl)
 keyword_run (word.Predef row.MgIndexArray) = (omega arith, refl)
 keyword_run (word.Predef row.MgArrayElementAssignment) = (omega arith, refl)
 
-keyword_again : (k : Keyword) → keyword_named (keyword_name k) ≡ Some k
+pub keyword_again : (k : Keyword) → keyword_named (keyword_name k) ≡ Some k
 unfolding keyword_name keywords
 keyword_again word.NoOp = refl
 keyword_again word.Signal = refl
@@ -337,12 +344,16 @@ KeepsNames = Keeps names_in (list_tree name_tree) (map unplaced_name)
 keeps_names : (t : Node) → Holds (KeepsNames t) (names_in t)
 keeps_names = keeps_list 5 named_in name_tree unplaced_name (keeps_named 3)
 
+-- a statement is read by its first word
+pub statement_again : (k : Keyword) (s : StmtOf) (us : Nodes) → stmt_tree s ≡ list 0 (more (keyword_tree k) us) → form_in (Some k) 0 us ≡ Ok (unplaced_stmt s) → statement_in (stmt_tree s) ≡ Ok (unplaced_stmt s)
+statement_again k s us e reads = ap statement_in e ∙ ap (λ (o : Option Keyword). form_in o 0 us) (keyword_again k) ∙ reads
+
 -- a statement of a form whose parts are kept
 form_kept : (p q : ℕ) (w : List ℕ) (ts : Nodes) (k : Keyword) (s : StmtOf) (us : Nodes) → stmt_tree s ≡ list 0 (more (keyword_tree k) us) → AllAlike ts us → form_in (Some k) 0 us ≡ Ok (unplaced_stmt s)
     → KeepsStmt (list p (more (atom q w) ts)) s
 form_kept p q w ts k s us e h reads = record {
   alike = subst (Alike (list p (more (atom q w) ts))) (sym e) (keyword_run k, h);
-  reads = ap statement_in e ∙ ap (λ (o : Option Keyword). form_in o 0 us) (keyword_again k) ∙ reads;
+  reads = statement_again k s us e reads;
 }
 
 stmt_nodes : (ss : List StmtOf) → stmt_trees (statements ss) ≡ nodes (map stmt_tree ss)
@@ -364,10 +375,10 @@ alike_empty (list p (more t ts)) (list q none) h = absurd h
 alike_empty (atom p w) (list q us) h = absurd h
 alike_empty (list p ts) (atom q v) h = absurd h
 
-begin_again : (cs : Node) (r : Judged StmtOf) (s : StmtOf) → is_empty_list cs ≡ false → r ≡ Ok s → (if is_empty_list cs then fault 0 10 else r) ≡ Ok s
+pub begin_again : (cs : Node) (r : Judged StmtOf) (s : StmtOf) → is_empty_list cs ≡ false → r ≡ Ok s → (if is_empty_list cs then fault 0 10 else r) ≡ Ok s
 begin_again cs r s e h = ap (λ (b : Bool). if b then fault 0 10 else r) e ∙ h
 
-by_empty : (P : StmtOf → Type 0) (p : ℕ) (b : Bool) (r : Judged StmtOf) → (b ≡ false → Holds P r) → Holds P (if b then fault p 10 else r)
+pub by_empty : (P : StmtOf → Type 0) (p : ℕ) (b : Bool) (r : Judged StmtOf) → (b ≡ false → Holds P r) → Holds P (if b then fault p 10 else r)
 by_empty P p true r h = record { of_value = tt }
 by_empty P p false r h = h refl
 

@@ -31,7 +31,7 @@ names_in = list_or 5 named_in
 abbrev pub is_word : List ℕ → Node → Bool
 is_word w = is_atom_of (λ bytes. bytes_eq bytes w)
 
--- what a numeral at a place stands for, or M11 where it is out of range
+-- the number of a numeral at a place, or M11 where it is out of range
 abbrev pub number_at : ℕ → List ℕ → Judged ℤ
 number_at p bytes = judged p 11 (fits_128_bits (numeral_value bytes)) (Ok (numeral_value bytes))
 
@@ -107,7 +107,7 @@ abbrev mutual
   statement_in (list p (more (atom q bytes) ts)) = form_in (keyword_named bytes) p ts
   statement_in t = fault (place_of t) 9
 
-  -- what stands behind the first word of a statement, or M10 at the statement
+  -- what follows the first word of a statement, or M10 at the statement
   pub form_in : Option Keyword → ℕ → Nodes → Judged StmtOf
   form_in None p ts = fault p 9
   form_in (Some word.NoOp) p none = Ok (no_op p)
@@ -126,7 +126,7 @@ abbrev mutual
   statements_in none = Ok []
   statements_in (more s ss) = Ok front ⊛ statement_in s ⊛ statements_in ss
 
--- two lists, or what stands for them, with at most 200 items together
+-- two lists, or trees in their places, with at most 200 items together
 abbrev pub are_few : Node → Node → Bool
 are_few t u = nat_le (list_length t + list_length u) 200
 

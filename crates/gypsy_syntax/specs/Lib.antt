@@ -7,6 +7,8 @@ pub mod Grammar
 pub mod Places
 pub mod Printed
 pub mod Answers
+pub mod Sizes
+pub mod Fits
 -- What all crates above share: the program that a source is, when it fits, and what predefined procedures take and do.
 pub mod Programs
 pub mod Resolved

@@ -4,7 +4,7 @@ use stack_text::{TextFault, TextRule};
 use thiserror::Error;
 use stack_text::grammar::FormFault;
 
-/// Why no source was read: the first fault of the text, the least fault of its tree, or want of memory.
+/// Why no source was read: the first fault of the text, the least fault of its tree, or out of memory.
 #[derive(Clone, Copy, Debug, PartialEq, Eq, Error)]
 pub enum GypsyFault {
     /// The text is no tree. The place is counted in bytes from 0.

@@ -63,7 +63,8 @@ fn print_procedures(out: &mut Vec<u8>, procs: &[Proc]) -> Result<(), Memory>
 
 /// Appends a source.
 fn print_source(out: &mut Vec<u8>, source: &Source) -> Result<(), Memory>
-    ensures { OnOk result (out.new.items ≡ out.old.items ++ lines_text proc_text (source_head (source_of source.now)) (source_of source.now).procs) }
+    ensures { let text = lines_text proc_text (source_head (source_of source.now)) (source_of source.now).procs in
+        OnOk result (out.new.items ≡ out.old.items ++ text) }
 {
     out.extend_from_slice(b"(program ")?;
     print_name(out, &source.main)?;
@@ -73,7 +74,7 @@ fn print_source(out: &mut Vec<u8>, source: &Source) -> Result<(), Memory>
 }
 
 /// The text of a source: a single space between the items of each list, but a line end before each procedure, and one
-/// behind the whole.
+/// at the end.
 ///
 /// It is read again as the same source but for places. So it asks for a source that keeps the form, as each does that
 /// was read.

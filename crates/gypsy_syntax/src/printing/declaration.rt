@@ -40,7 +40,8 @@ fn print_type(out: &mut Vec<u8>, shape: TypeText) -> Result<(), Memory>
 
 /// Appends a name and a type.
 fn print_declared(out: &mut Vec<u8>, decl: &Decl) -> Result<(), Memory>
-    ensures { OnOk result (out.new.items ≡ out.old.items ++ decl.now.name.name ++ 32 ∷ tree_text (type_tree decl.now.shape)) }
+    ensures { let text = decl.now.name.name ++ 32 ∷ tree_text (type_tree decl.now.shape) in
+        OnOk result (out.new.items ≡ out.old.items ++ text) }
 {
     print_name(out, &decl.name)?;
     out.push(b' ')?;
@@ -88,7 +89,8 @@ pub fn spaced_list<T: Print>(out: &mut Vec<u8>, items: &[T]) -> Result<(), Memor
 
 /// Appends a space and the list of local variables.
 pub fn spaced_locals(out: &mut Vec<u8>, locals: &[Local]) -> Result<(), Memory>
-    ensures { OnOk result (out.new.items ≡ out.old.items ++ 32 ∷ tree_text (list_tree local_tree (map local_of locals.now))) }
+    ensures { let text = 32 ∷ tree_text (list_tree local_tree (map local_of locals.now)) in
+        OnOk result (out.new.items ≡ out.old.items ++ text) }
 {
     spaced_list(out, locals)?;
     Ok(())

@@ -1,6 +1,6 @@
 //! Numbers, values and arguments.
 
-ghost use Rattle.std.specs.Prelude.{◌≡◌, ◌++◌, ◌==◌, ◌∷◌, [], if◌then◌else◌, OnOk};
+ghost use Rattle.std.specs.Prelude.{◌≡◌, ◌++◌, OnOk};
 ghost use Rattle.std.specs.Fmt.{signed_decimal};
 ghost use Rattle.stack_text.specs.TreeText.{items_text, tree_text};
 ghost use Rattle.gypsy_syntax.specs.Printed.{literal_tree, literal_trees, truth_tree};
@@ -10,9 +10,9 @@ use crate::literal::Literal;
 use crate::statement::Arg;
 use itoa::Buffer;
 use stack_text::Memory;
-use stack_text::grammar::{Print, print_name};
+use stack_text::grammar::{Print, print_name, separate};
 
-/// Appends a number in decimal digits, behind a `-` where it is negative.
+/// Appends a number in decimal digits, after a `-` where it is negative.
 pub fn print_number(out: &mut Vec<u8>, number: i128) -> Result<(), Memory>
     ensures { OnOk result (out.new.items ≡ out.old.items ++ signed_decimal number) }
 {
@@ -29,16 +29,6 @@ fn print_truth(out: &mut Vec<u8>, truth: bool) -> Result<(), Memory>
         out.extend_from_slice(b"true")?;
     } else {
         out.extend_from_slice(b"false")?;
-    }
-    Ok(())
-}
-
-/// A space before each item but the first.
-fn separate(out: &mut Vec<u8>, index: usize) -> Result<(), Memory>
-    ensures { OnOk result (out.new.items ≡ out.old.items ++ (if index == 0 then [] else 32 ∷ [])) }
-{
-    if index > 0 {
-        out.push(b' ')?;
     }
     Ok(())
 }

@@ -3,10 +3,9 @@
 ghost use Rattle.std.specs.Prelude.{◌≡◌, Some, Ok};
 ghost use Rattle.stack_text.specs.Trees.{list};
 ghost use Rattle.stack_text.specs.TreeView.{node_of, nodes_of};
-ghost use Rattle.stack_text.specs.declared.grammar.fault.FormFault.TheVariants.{Form};
 ghost use Rattle.stack_text.specs.Grammar.Judged.{◌⊛◌};
 ghost use Rattle.stack_text.specs.Grammar.Parts.{list_or};
-ghost use Rattle.stack_text.specs.Grammar.Reading.{Reads};
+ghost use Rattle.stack_text.specs.Grammar.Reading.{Finds, Reads};
 ghost use Rattle.gypsy_syntax.specs.Grammar.{array_type, decl_in, literal_in, local_in, named_in, type_in};
 ghost use Rattle.gypsy_syntax.specs.Made.{new_local};
 ghost use Rattle.gypsy_syntax.specs.SourceView.{local_of};
@@ -15,20 +14,20 @@ use crate::keyword::kind_named;
 use crate::literal::{Decl, Local, TypeText};
 use crate::reading::literals::literal;
 use crate::reading::word::{is_array_word, is_numeral_atom, kind_in, named, number};
-use stack_text::{Kind, Tree};
+use stack_text::{Breach, Kind, Tree};
 use std::alloc::Global;
 use stack_text::grammar::{FormFault, Part, each_in};
 
 /// M7 at a type.
-fn no_type(place: u32) -> FormFault
-    ensures { result ≡ Form 7 place }
+fn no_type(place: u32) -> Breach
+    ensures { result ≡ record { rule = 7; place = place } }
 {
-    FormFault::Form { rule: 7, place }
+    Breach { rule: 7, place }
 }
 
 /// An array's type, of which the kind and the length are given.
-fn array_type(place: u32, kind: Kind, length: &Tree) -> Result<TypeText, FormFault>
-    ensures { Reads (λ shape. shape) result (array_type place (Some kind) (node_of length.now)) }
+fn array_type(place: u32, kind: Kind, length: &Tree) -> Result<TypeText, Breach>
+    ensures { Finds (λ shape. shape) result (array_type place (Some kind) (node_of length.now)) }
 {
     if !is_numeral_atom(length) {
         return Err(no_type(place));
@@ -42,8 +41,8 @@ fn array_type(place: u32, kind: Kind, length: &Tree) -> Result<TypeText, FormFau
 }
 
 /// The type that the items of a list are.
-fn array_at(place: u32, items: &[Tree]) -> Result<TypeText, FormFault>
-    ensures { Reads (λ shape. shape) result (type_in (list place (nodes_of items.now))) }
+fn array_at(place: u32, items: &[Tree]) -> Result<TypeText, Breach>
+    ensures { Finds (λ shape. shape) result (type_in (list place (nodes_of items.now))) }
 {
     if items.len() != 3 {
         return Err(no_type(place));
@@ -59,8 +58,8 @@ fn array_at(place: u32, items: &[Tree]) -> Result<TypeText, FormFault>
 }
 
 /// The type that a tree is: M7 where it is none, M11 where its length is out of the 128-bit range.
-fn type_in(tree: &Tree) -> Result<TypeText, FormFault>
-    ensures { Reads (λ shape. shape) result (type_in (node_of tree.now)) }
+fn type_in(tree: &Tree) -> Result<TypeText, Breach>
+    ensures { Finds (λ shape. shape) result (type_in (node_of tree.now)) }
 {
     match tree {
         Tree::List { place, items } => array_at(*place, items),
@@ -76,10 +75,10 @@ fn type_in(tree: &Tree) -> Result<TypeText, FormFault>
 }
 
 /// M4 at a tree.
-fn no_formal(place: u32) -> FormFault
-    ensures { result ≡ Form 4 place }
+fn no_formal(place: u32) -> Breach
+    ensures { result ≡ record { rule = 4; place = place } }
 {
-    FormFault::Form { rule: 4, place }
+    Breach { rule: 4, place }
 }
 
 /// The declaration that the items of a list are.
@@ -87,7 +86,7 @@ fn decl_at(alloc: Global, place: u32, items: &[Tree]) -> Result<Decl, FormFault>
     ensures { Reads (λ decl. decl) result (decl_in (list place (nodes_of items.now))) }
 {
     if items.len() != 2 {
-        return Err(no_formal(place));
+        return Err(no_formal(place).into());
     }
     let (name, shape) = (&items[0], &items[1]);
     let name = named(alloc, name)?;
@@ -107,7 +106,7 @@ impl Part for Decl {
 
     fn read(alloc: Global, tree: &Tree) -> Result<Decl, FormFault> {
         match tree {
-            Tree::Atom { place, text: _ } => Err(no_formal(*place)),
+            Tree::Atom { place, text: _ } => Err(no_formal(*place).into()),
             Tree::List { place, items } => decl_at(alloc, *place, items),
         }
     }
@@ -121,15 +120,16 @@ pub fn formals(alloc: Global, tree: &Tree) -> Result<Vec<Decl>, FormFault>
 }
 
 /// M6 at a tree.
-fn no_local(place: u32) -> FormFault
-    ensures { result ≡ Form 6 place }
+fn no_local(place: u32) -> Breach
+    ensures { result ≡ record { rule = 6; place = place } }
 {
-    FormFault::Form { rule: 6, place }
+    Breach { rule: 6, place }
 }
 
 /// A local variable, of which the parts are given.
 fn local_parts(alloc: Global, name: &Tree, shape: &Tree, value: &Tree) -> Result<Local, FormFault>
-    ensures { Reads local_of result (Ok new_local ⊛ named_in (node_of name.now) ⊛ type_in (node_of shape.now) ⊛ literal_in (node_of value.now)) }
+    ensures { Reads local_of result
+        (Ok new_local ⊛ named_in (node_of name.now) ⊛ type_in (node_of shape.now) ⊛ literal_in (node_of value.now)) }
 {
     let name = named(alloc, name)?;
     let shape = type_in(shape)?;
@@ -145,7 +145,7 @@ fn local_at(alloc: Global, place: u32, items: &[Tree]) -> Result<Local, FormFaul
     ensures { Reads local_of result (local_in (list place (nodes_of items.now))) }
 {
     if items.len() != 3 {
-        return Err(no_local(place));
+        return Err(no_local(place).into());
     }
     local_parts(alloc, &items[0], &items[1], &items[2])
 }
@@ -163,7 +163,7 @@ impl Part for Local {
 
     fn read(alloc: Global, tree: &Tree) -> Result<Local, FormFault> {
         match tree {
-            Tree::Atom { place, text: _ } => Err(no_local(*place)),
+            Tree::Atom { place, text: _ } => Err(no_local(*place).into()),
             Tree::List { place, items } => local_at(alloc, *place, items),
         }
     }

@@ -2,23 +2,22 @@
 
 ghost use Rattle.std.specs.Prelude.{◌≡◌, drop};
 ghost use Rattle.stack_text.specs.TreeView.{node_of};
-ghost use Rattle.stack_text.specs.declared.grammar.fault.FormFault.TheVariants.{Form};
-ghost use Rattle.stack_text.specs.Grammar.Reading.{Reads};
+ghost use Rattle.stack_text.specs.Grammar.Reading.{Finds, Reads};
 ghost use Rattle.gypsy_syntax.specs.Grammar.{arg_at, is_character, literal_in, simple_at};
 ghost use Rattle.gypsy_syntax.specs.SourceView.{arg_of, literal_of};
 
 use crate::literal::Literal;
 use crate::reading::word::number_at;
 use crate::statement::Arg;
-use stack_text::{Named, Tree, is_digits, is_numeral, read_name};
+use stack_text::{Breach, Named, Tree, is_digits, is_numeral, read_name};
 use std::alloc::Global;
 use stack_text::grammar::{FormFault, Part, each};
 
 /// M8 at a tree.
-fn no_value(place: u32) -> FormFault
-    ensures { result ≡ Form 8 place }
+fn no_value(place: u32) -> Breach
+    ensures { result ≡ record { rule = 8; place = place } }
 {
-    FormFault::Form { rule: 8, place }
+    Breach { rule: 8, place }
 }
 
 /// Whether the bytes are a `#` and digits.
@@ -32,8 +31,8 @@ fn is_character(bytes: &[u8]) -> bool
 }
 
 /// The simple value that an atom is, or M8 where it is none, M11 where its number is out of range.
-fn simple_at(place: u32, text: &[u8]) -> Result<Literal, FormFault>
-    ensures { Reads literal_of result (simple_at place text.now) }
+fn simple_at(place: u32, text: &[u8]) -> Result<Literal, Breach>
+    ensures { Finds literal_of result (simple_at place text.now) }
 {
     if is_numeral(text) {
         let number = number_at(place, text)?;
@@ -68,8 +67,8 @@ impl Part for Literal {
 
     fn read(_alloc: Global, tree: &Tree) -> Result<Literal, FormFault> {
         match tree {
-            Tree::Atom { place, text } => simple_at(*place, text),
-            Tree::List { place, items: _ } => Err(no_value(*place)),
+            Tree::Atom { place, text } => Ok(simple_at(*place, text)?),
+            Tree::List { place, items: _ } => Err(no_value(*place).into()),
         }
     }
 }
@@ -79,7 +78,7 @@ pub fn literal(alloc: Global, tree: &Tree) -> Result<Literal, FormFault>
     ensures { Reads literal_of result (literal_in (node_of tree.now)) }
 {
     match tree {
-        Tree::Atom { place, text } => simple_at(*place, text),
+        Tree::Atom { place, text } => Ok(simple_at(*place, text)?),
         Tree::List { place, items } => {
             let items = each(alloc, items)?;
             Ok(Literal::List {
@@ -114,7 +113,7 @@ impl Part for Arg {
     fn read(alloc: Global, tree: &Tree) -> Result<Arg, FormFault> {
         match tree {
             Tree::Atom { place, text } => arg_at(alloc, *place, text),
-            Tree::List { place, items: _ } => Err(no_value(*place)),
+            Tree::List { place, items: _ } => Err(no_value(*place).into()),
         }
     }
 }

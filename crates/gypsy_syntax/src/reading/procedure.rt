@@ -3,7 +3,6 @@
 ghost use Rattle.std.specs.Prelude.{◌≡◌, Ok, nat_le};
 ghost use Rattle.stack_text.specs.Trees.{list};
 ghost use Rattle.stack_text.specs.TreeView.{node_of, nodes_of};
-ghost use Rattle.stack_text.specs.declared.grammar.fault.FormFault.TheVariants.{Form};
 ghost use Rattle.stack_text.specs.Grammar.Judged.{each_of, ◌⊛◌};
 ghost use Rattle.stack_text.specs.Grammar.Parts.{list_or};
 ghost use Rattle.stack_text.specs.Grammar.Reading.{Reads};
@@ -15,7 +14,7 @@ use crate::proc::{Proc, Source};
 use crate::reading::declaration::formals as read_formals;
 use crate::reading::statements::statement;
 use crate::reading::word::{is_proc_word, is_program_word, named, names};
-use stack_text::Tree;
+use stack_text::{Breach, Tree};
 use std::alloc::Global;
 use stack_text::grammar::{FormFault, Part, each, each_in, list_length};
 
@@ -26,17 +25,17 @@ const MOST_PROCEDURES: usize = 1000;
 const MOST_DECLARED: usize = 200;
 
 /// M2 at a procedure.
-fn no_procedure(place: u32) -> FormFault
-    ensures { result ≡ Form 2 place }
+fn no_procedure(place: u32) -> Breach
+    ensures { result ≡ record { rule = 2; place = place } }
 {
-    FormFault::Form { rule: 2, place }
+    Breach { rule: 2, place }
 }
 
 /// M12 at a tree.
-fn too_large(place: u32) -> FormFault
-    ensures { result ≡ Form 12 place }
+fn too_large(place: u32) -> Breach
+    ensures { result ≡ record { rule = 12; place = place } }
 {
-    FormFault::Form { rule: 12, place }
+    Breach { rule: 12, place }
 }
 
 /// Whether two lists have no more items together than a procedure may declare.
@@ -46,7 +45,7 @@ fn are_few(first: &Tree, second: &Tree) -> bool
     list_length(first).saturating_add(list_length(second)) <= MOST_DECLARED
 }
 
-/// The trees of a procedure behind the word that begins it.
+/// The trees of a procedure after the word that begins it.
 #[derive(Clone, Copy)]
 struct ProcTrees<'a> {
     name: &'a Tree,
@@ -59,7 +58,11 @@ struct ProcTrees<'a> {
 
 /// A procedure, of which the parts are given.
 fn procedure_parts(alloc: Global, place: u32, trees: ProcTrees) -> Result<Proc, FormFault>
-    ensures { Reads proc_of result (Ok (new_proc place) ⊛ named_in (node_of trees.entry.name.now) ⊛ list_or 4 decl_in (node_of trees.entry.formals.now) ⊛ names_in (node_of trees.entry.conds.now) ⊛ list_or 6 local_in (node_of trees.entry.locals.now) ⊛ names_in (node_of trees.entry.local_conds.now) ⊛ statement_in (node_of trees.entry.body.now)) }
+    ensures { let parts = trees.entry in
+        Reads proc_of result
+        (Ok (new_proc place) ⊛ named_in (node_of parts.name.now) ⊛ list_or 4 decl_in (node_of parts.formals.now)
+        ⊛ names_in (node_of parts.conds.now) ⊛ list_or 6 local_in (node_of parts.locals.now)
+        ⊛ names_in (node_of parts.local_conds.now) ⊛ statement_in (node_of parts.body.now)) }
 {
     let name = named(alloc, trees.name)?;
     let formals = read_formals(alloc, trees.formals)?;
@@ -83,7 +86,7 @@ fn procedure_at(alloc: Global, place: u32, items: &[Tree]) -> Result<Proc, FormF
     ensures { Reads proc_of result (procedure_in (list place (nodes_of items.now))) }
 {
     if items.len() != 7 {
-        return Err(no_procedure(place));
+        return Err(no_procedure(place).into());
     }
     let trees = ProcTrees {
         name: &items[1],
@@ -94,13 +97,13 @@ fn procedure_at(alloc: Global, place: u32, items: &[Tree]) -> Result<Proc, FormF
         body: &items[6],
     };
     if !is_proc_word(&items[0]) {
-        return Err(no_procedure(place));
+        return Err(no_procedure(place).into());
     }
     if !are_few(trees.formals, trees.locals) {
-        return Err(too_large(place));
+        return Err(too_large(place).into());
     }
     if !are_few(trees.conds, trees.local_conds) {
-        return Err(too_large(place));
+        return Err(too_large(place).into());
     }
     procedure_parts(alloc, place, trees)
 }
@@ -118,22 +121,23 @@ impl Part for Proc {
 
     fn read(alloc: Global, tree: &Tree) -> Result<Proc, FormFault> {
         match tree {
-            Tree::Atom { place, text: _ } => Err(no_procedure(*place)),
+            Tree::Atom { place, text: _ } => Err(no_procedure(*place).into()),
             Tree::List { place, items } => procedure_at(alloc, *place, items),
         }
     }
 }
 
 /// M1 at the whole tree.
-fn no_source(place: u32) -> FormFault
-    ensures { result ≡ Form 1 place }
+fn no_source(place: u32) -> Breach
+    ensures { result ≡ record { rule = 1; place = place } }
 {
-    FormFault::Form { rule: 1, place }
+    Breach { rule: 1, place }
 }
 
 /// A source, of which the parts are given.
 fn source_parts(alloc: Global, place: u32, main: &Tree, procs: &[Tree]) -> Result<Source, FormFault>
-    ensures { Reads source_of result (Ok (new_source place) ⊛ named_in (node_of main.now) ⊛ each_of procedure_in (nodes_of procs.now)) }
+    ensures { Reads source_of result
+        (Ok (new_source place) ⊛ named_in (node_of main.now) ⊛ each_of procedure_in (nodes_of procs.now)) }
 {
     let main = named(alloc, main)?;
     let procs = each(alloc, procs)?;
@@ -145,14 +149,14 @@ fn source_at(alloc: Global, place: u32, items: &[Tree]) -> Result<Source, FormFa
     ensures { Reads source_of result (source_in (list place (nodes_of items.now))) }
 {
     if items.len() < 3 {
-        return Err(no_source(place));
+        return Err(no_source(place).into());
     }
     let (word, main, procs) = (&items[0], &items[1], &items[2..]);
     if !is_program_word(word) {
-        return Err(no_source(place));
+        return Err(no_source(place).into());
     }
     if procs.len() > MOST_PROCEDURES {
-        return Err(too_large(place));
+        return Err(too_large(place).into());
     }
     source_parts(alloc, place, main, procs)
 }
@@ -162,7 +166,7 @@ pub fn source(alloc: Global, tree: &Tree) -> Result<Source, FormFault>
     ensures { Reads source_of result (source_in (node_of tree.now)) }
 {
     match tree {
-        Tree::Atom { place, text: _ } => Err(no_source(*place)),
+        Tree::Atom { place, text: _ } => Err(no_source(*place).into()),
         Tree::List { place, items } => source_at(alloc, *place, items),
     }
 }

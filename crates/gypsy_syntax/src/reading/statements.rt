@@ -3,9 +3,8 @@
 ghost use Rattle.std.specs.Prelude.{◌≡◌, Ok, Some, map};
 ghost use Rattle.stack_text.specs.Trees.{place_of};
 ghost use Rattle.stack_text.specs.TreeView.{node_of, nodes_of};
-ghost use Rattle.stack_text.specs.declared.grammar.fault.FormFault.TheVariants.{Form};
 ghost use Rattle.stack_text.specs.Grammar.Judged.{◌⊛◌};
-ghost use Rattle.stack_text.specs.Grammar.Reading.{Reads};
+ghost use Rattle.stack_text.specs.Grammar.Reading.{Finds, Reads};
 ghost use Rattle.gypsy_syntax.specs.declared.keyword.Keyword.TheVariants as words;
 ghost use Rattle.gypsy_syntax.specs.Grammar.{form_in, is_empty_list, named_in, names_in, statement_in, statements_in};
 ghost use Rattle.gypsy_syntax.specs.Made.{new_call};
@@ -15,26 +14,26 @@ use crate::keyword::{Keyword, keyword_named};
 use crate::predef::Predef;
 use crate::reading::word::{named, names};
 use crate::statement::Stmt;
-use stack_text::Tree;
+use stack_text::{Breach, Tree};
 use std::alloc::Global;
 use stack_text::grammar::{FormFault, each};
 
 /// M9 at a tree.
-fn no_statement(place: u32) -> FormFault
-    ensures { result ≡ Form 9 place }
+fn no_statement(place: u32) -> Breach
+    ensures { result ≡ record { rule = 9; place = place } }
 {
-    FormFault::Form { rule: 9, place }
+    Breach { rule: 9, place }
 }
 
 /// M10 at a statement.
-fn wrong_items(place: u32) -> FormFault
-    ensures { result ≡ Form 10 place }
+fn wrong_items(place: u32) -> Breach
+    ensures { result ≡ record { rule = 10; place = place } }
 {
-    FormFault::Form { rule: 10, place }
+    Breach { rule: 10, place }
 }
 
-fn no_op(place: u32, parts: &[Tree]) -> Result<Stmt, FormFault>
-    ensures { Reads stmt_of result (form_in (Some words.NoOp) place (nodes_of parts.now)) }
+fn no_op(place: u32, parts: &[Tree]) -> Result<Stmt, Breach>
+    ensures { Finds stmt_of result (form_in (Some words.NoOp) place (nodes_of parts.now)) }
 {
     if parts.is_empty() {
         Ok(Stmt::NoOp { place })
@@ -47,7 +46,7 @@ fn signal(alloc: Global, place: u32, parts: &[Tree]) -> Result<Stmt, FormFault>
     ensures { Reads stmt_of result (form_in (Some words.Signal) place (nodes_of parts.now)) }
 {
     if parts.len() != 1 {
-        return Err(wrong_items(place));
+        return Err(wrong_items(place).into());
     }
     let cond = named(alloc, &parts[0])?;
     Ok(Stmt::Signal { place, cond })
@@ -61,7 +60,9 @@ fn call_parts(
     actuals: &Tree,
     conds: &Tree,
 ) -> Result<Stmt, FormFault>
-    ensures { Reads stmt_of result (Ok (new_call place (place_of (node_of actuals.now)) (place_of (node_of conds.now))) ⊛ named_in (node_of callee.now) ⊛ names_in (node_of actuals.now) ⊛ names_in (node_of conds.now)) }
+    ensures { let made = new_call place (place_of (node_of actuals.now)) (place_of (node_of conds.now)) in
+        Reads stmt_of result
+        (Ok made ⊛ named_in (node_of callee.now) ⊛ names_in (node_of actuals.now) ⊛ names_in (node_of conds.now)) }
 {
     let callee = named(alloc, callee)?;
     let actuals_place = actuals.place();
@@ -82,7 +83,7 @@ fn call(alloc: Global, place: u32, parts: &[Tree]) -> Result<Stmt, FormFault>
     ensures { Reads stmt_of result (form_in (Some words.Call) place (nodes_of parts.now)) }
 {
     if parts.len() != 3 {
-        return Err(wrong_items(place));
+        return Err(wrong_items(place).into());
     }
     call_parts(alloc, place, &parts[0], &parts[1], &parts[2])
 }
@@ -122,7 +123,7 @@ fn sequence(alloc: Global, place: u32, parts: &[Tree]) -> Result<Stmt, FormFault
     ensures { Reads stmt_of result (form_in (Some words.Seq) place (nodes_of parts.now)) }
 {
     if parts.is_empty() {
-        return Err(wrong_items(place));
+        return Err(wrong_items(place).into());
     }
     let parts = statements(alloc, parts)?;
     Ok(Stmt::Seq { place, parts })
@@ -133,7 +134,7 @@ fn repetition(alloc: Global, place: u32, parts: &[Tree]) -> Result<Stmt, FormFau
     ensures { Reads stmt_of result (form_in (Some words.Loop) place (nodes_of parts.now)) }
 {
     if parts.len() != 1 {
-        return Err(wrong_items(place));
+        return Err(wrong_items(place).into());
     }
     let body = statement(alloc, &parts[0])?;
     Ok(Stmt::Loop {
@@ -147,7 +148,7 @@ fn branch(alloc: Global, place: u32, parts: &[Tree]) -> Result<Stmt, FormFault>
     ensures { Reads stmt_of result (form_in (Some words.If) place (nodes_of parts.now)) }
 {
     if parts.len() != 3 {
-        return Err(wrong_items(place));
+        return Err(wrong_items(place).into());
     }
     let (test, yes, no) = (&parts[0], &parts[1], &parts[2]);
     let test = named(alloc, test)?;
@@ -166,11 +167,11 @@ fn guarded(alloc: Global, place: u32, parts: &[Tree]) -> Result<Stmt, FormFault>
     ensures { Reads stmt_of result (form_in (Some words.Begin) place (nodes_of parts.now)) }
 {
     if parts.len() != 3 {
-        return Err(wrong_items(place));
+        return Err(wrong_items(place).into());
     }
     let (body, conds, arm) = (&parts[0], &parts[1], &parts[2]);
     if is_empty_list(conds) {
-        return Err(wrong_items(place));
+        return Err(wrong_items(place).into());
     }
     let body = statement(alloc, body)?;
     let conds = names(alloc, conds)?;
@@ -183,13 +184,13 @@ fn guarded(alloc: Global, place: u32, parts: &[Tree]) -> Result<Stmt, FormFault>
     })
 }
 
-/// What stands behind the first word of a statement.
+/// The statement that begins with the word, of which the other items are given.
 #[cycle(statements)]
 fn form(alloc: Global, keyword: Keyword, place: u32, parts: &[Tree]) -> Result<Stmt, FormFault>
     ensures { Reads stmt_of result (form_in (Some keyword) place (nodes_of parts.now)) }
 {
     match keyword {
-        Keyword::NoOp => no_op(place, parts),
+        Keyword::NoOp => Ok(no_op(place, parts)?),
         Keyword::Signal => signal(alloc, place, parts),
         Keyword::Seq => sequence(alloc, place, parts),
         Keyword::Loop => repetition(alloc, place, parts),
@@ -207,13 +208,13 @@ pub fn statement(alloc: Global, tree: &Tree) -> Result<Stmt, FormFault>
     ensures { Reads stmt_of result (statement_in (node_of tree.now)) }
 {
     match tree {
-        Tree::Atom { place, text: _ } => Err(no_statement(*place)),
+        Tree::Atom { place, text: _ } => Err(no_statement(*place).into()),
         Tree::List { place, items } => match items.as_slice() {
-            [] => Err(no_statement(*place)),
+            [] => Err(no_statement(*place).into()),
             [first, parts @ ..] => match first {
-                Tree::List { place: _, items: _ } => Err(no_statement(*place)),
+                Tree::List { place: _, items: _ } => Err(no_statement(*place).into()),
                 Tree::Atom { place: _, text } => match keyword_named(text) {
-                    None => Err(no_statement(*place)),
+                    None => Err(no_statement(*place).into()),
                     Some(keyword) => form(alloc, keyword, *place, parts),
                 },
             },

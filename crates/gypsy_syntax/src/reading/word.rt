@@ -5,11 +5,11 @@ ghost use Rattle.stack_text.specs.Numerals.{is_numeral};
 ghost use Rattle.stack_text.specs.Trees.{none};
 ghost use Rattle.stack_text.specs.TreeView.{node_of};
 ghost use Rattle.stack_text.specs.Grammar.Parts.{is_atom_of};
-ghost use Rattle.stack_text.specs.Grammar.Reading.{Reads};
+ghost use Rattle.stack_text.specs.Grammar.Reading.{Finds, Reads};
 ghost use Rattle.gypsy_syntax.specs.Grammar.{is_word, kind_in, named_in, names_in, number_at, number_in};
 
 use crate::keyword::kind_named;
-use stack_text::{Kind, Named, Tree, is_numeral, read_numeral};
+use stack_text::{Breach, Kind, Named, Tree, is_numeral, read_numeral};
 use std::alloc::Global;
 use stack_text::grammar::{self, FormFault};
 
@@ -63,24 +63,24 @@ pub fn kind_in(tree: &Tree) -> Option<Kind>
     }
 }
 
-/// What a numeral stands for, or M11 where it is out of the 128-bit range.
-pub fn number_at(place: u32, numeral: &[u8]) -> Result<i128, FormFault>
+/// The number of a numeral, or M11 where it is out of the 128-bit range.
+pub fn number_at(place: u32, numeral: &[u8]) -> Result<i128, Breach>
     requires { IsTrue (is_numeral numeral.now) }
-    ensures { Reads (λ number. number) result (number_at place numeral.now) }
+    ensures { Finds (λ number. number) result (number_at place numeral.now) }
 {
     match read_numeral(numeral) {
         Some(number) => Ok(number),
-        None => Err(FormFault::Form { rule: 11, place }),
+        None => Err(Breach { rule: 11, place }),
     }
 }
 
 /// The number of a numeral's atom, or M11 where it is out of the 128-bit range.
-pub fn number(tree: &Tree) -> Result<i128, FormFault>
+pub fn number(tree: &Tree) -> Result<i128, Breach>
     requires { IsTrue (is_atom_of is_numeral (node_of tree.now)) }
-    ensures { Reads (λ number. number) result (number_in (node_of tree.now)) }
+    ensures { Finds (λ number. number) result (number_in (node_of tree.now)) }
 {
     match tree {
-        Tree::List { place, items: _ } => Err(FormFault::Form {
+        Tree::List { place, items: _ } => Err(Breach {
             rule: 11,
             place: *place,
         }),

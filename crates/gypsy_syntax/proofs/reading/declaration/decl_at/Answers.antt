@@ -10,7 +10,7 @@ use Rattle.gypsy_syntax.proofs.reading.declaration.decl_at.Goals as goal
 
 pub returns-then-items-ne2 : goal.returns-then-items-ne2
 returns-then-items-ne2 c =
-    rw c.no_formal.ensures ([], not_two (λ ts. decl_in (list c.args.place ts) ≡ Err (record { place = c.args.place; rule = 4 }, [])) refl (λ t. refl) (λ t u v ts. refl) c.args.items.now c.if-items-ne2.true)
+    rw (c.into.ensures, c.no_formal.ensures) ([], not_two (λ ts. decl_in (list c.args.place ts) ≡ Err (record { place = c.args.place; rule = 4 }, [])) refl (λ t. refl) (λ t u v ts. refl) c.args.items.now c.if-items-ne2.true)
 
 pub returns-in_err-name : goal.returns-in_err-name
 returns-in_err-name c =

@@ -1,5 +1,6 @@
 use Rattle.std.proofs.lemmas.Result.{err_from_is_err_and}
 use Rattle.stack_text.specs.TreeView.{node_of}
+use Rattle.stack_text.specs.declared.grammar.fault.FormFault.TheVariants.{Form}
 use Rattle.stack_text.proofs.PartLaws.{first_of_2, first_of_3}
 use Rattle.gypsy_syntax.specs.Grammar.{literal_in, named_in, type_in}
 use Rattle.gypsy_syntax.specs.Made.{new_local}
@@ -15,4 +16,4 @@ pub returns-in_err-shape : goal.returns-in_err-shape
 returns-in_err-shape c =
     let p = err_from_is_err_and c.from_residual-in_err-shape.result c.from_residual-in_err-shape.ensures.1 in
     rw (p.1, p.2, c.in_ok-name.ensures)
-    (first_of_2 c.in_err-shape.field-0.0 (new_local c.in_ok-name.name) (type_in (node_of c.args.shape.now)) (literal_in (node_of c.args.value.now)) c.in_err-shape.ensures)
+    (first_of_2 (Form c.in_err-shape.field-0.0.rule c.in_err-shape.field-0.0.place) (new_local c.in_ok-name.name) (type_in (node_of c.args.shape.now)) (literal_in (node_of c.args.value.now)) c.in_err-shape.ensures)

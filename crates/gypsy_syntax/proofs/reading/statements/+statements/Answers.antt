@@ -32,7 +32,7 @@ sequence-returns t c =
 
 pub repetition-returns-then-parts-ne1 : goal.repetition-returns-then-parts-ne1
 repetition-returns-then-parts-ne1 t c =
-    rw c.wrong_items.ensures
+    rw (c.into.ensures, c.wrong_items.ensures)
     ([], not_one (λ ts. form_in (Some word.Loop) c.args.place ts ≡ Err (record { place = c.args.place; rule = 10 }, [])) refl (λ t u ts. refl) c.args.parts.now c.if-parts-ne1.true)
 
 pub repetition-returns-in_err-body : goal.repetition-returns-in_err-body
@@ -47,7 +47,7 @@ repetition-returns t c =
 
 pub branch-returns-then-parts-ne3 : goal.branch-returns-then-parts-ne3
 branch-returns-then-parts-ne3 t c =
-    rw c.wrong_items.ensures
+    rw (c.into.ensures, c.wrong_items.ensures)
     ([], not_three (λ ts. form_in (Some word.If) c.args.place ts ≡ Err (record { place = c.args.place; rule = 10 }, [])) refl (λ t. refl) (λ t u. refl) (λ t u v w ts. refl) c.args.parts.now c.if-parts-ne3.true)
 
 pub branch-returns-in_err-yes : goal.branch-returns-in_err-yes
@@ -68,7 +68,7 @@ branch-returns t c =
 
 pub guarded-returns-then-parts-ne3 : goal.guarded-returns-then-parts-ne3
 guarded-returns-then-parts-ne3 t c =
-    rw c.wrong_items.ensures
+    rw (c.into.ensures, c.wrong_items.ensures)
     ([], not_three (λ ts. form_in (Some word.Begin) c.args.place ts ≡ Err (record { place = c.args.place; rule = 10 }, [])) refl (λ t. refl) (λ t u. refl) (λ t u v w ts. refl) c.args.parts.now c.if-parts-ne3.true)
 
 pub guarded-returns-in_err-body : goal.guarded-returns-in_err-body
@@ -96,6 +96,7 @@ guarded-returns t c =
 pub statement-returns-in-None : goal.statement-returns-in-None
 statement-returns-in-None t c =
     rw (
+      c.into-in-None.ensures,
       c.in-List.is,
       node_of-list c.in-List.place c.in-List.items,
       sym c.as_slice.ensures.value,

@@ -6,5 +6,5 @@ use Rattle.gypsy_syntax.proofs.reading.statements.call.Goals as goal
 
 pub returns-then-parts-ne3 : goal.returns-then-parts-ne3
 returns-then-parts-ne3 c =
-    rw c.wrong_items.ensures
+    rw (c.into.ensures, c.wrong_items.ensures)
     ([], not_three (λ ts. form_in (Some word.Call) c.args.place ts ≡ Err (record { place = c.args.place; rule = 10 }, [])) refl (λ t. refl) (λ t u. refl) (λ t u v w ts. refl) c.args.parts.now c.if-parts-ne3.true)

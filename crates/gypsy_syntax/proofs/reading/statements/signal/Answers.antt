@@ -6,5 +6,5 @@ use Rattle.gypsy_syntax.proofs.reading.statements.signal.Goals as goal
 
 pub returns-then-parts-ne1 : goal.returns-then-parts-ne1
 returns-then-parts-ne1 c =
-    rw c.wrong_items.ensures
+    rw (c.into.ensures, c.wrong_items.ensures)
     ([], not_one (λ ts. form_in (Some word.Signal) c.args.place ts ≡ Err (record { place = c.args.place; rule = 10 }, [])) refl (λ t u ts. refl) c.args.parts.now c.if-parts-ne1.true)

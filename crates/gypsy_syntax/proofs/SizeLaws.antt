@@ -1,0 +1,88 @@
+-- The tree of a source has no more atoms and lists than its plain counts allow.
+use Rattle.std.proofs.Common.{◌≡◌, ℕ, ◌+◌, ◌*◌, ◌≤◌, List, [], ◌∷◌, map, length, Option, Some, None, Bool, true, false, refl, arith}
+use Rattle.std.specs.Prelude.{ℤ}
+use Rattle.std.specs.List.{sum_by}
+use Rattle.std.proofs.lemmas.List.Sums.{sum_by-cons}
+use Rattle.stack_text.specs.declared.name.Named.{Named}
+use Rattle.stack_text.specs.declared.shape.Kind.{Kind}
+use Rattle.stack_text.specs.Trees.{Node, node_count, node_counts}
+use Rattle.stack_text.specs.TreeView.{nodes}
+use Rattle.stack_text.specs.Grammar.Printed.{name_tree}
+use Rattle.gypsy_syntax.specs.declared.literal.Decl.{Decl}
+use Rattle.gypsy_syntax.specs.Printed.{type_tree_by, truth_tree, literal_tree, literal_trees, arg_tree, decl_tree, local_tree, stmt_tree, stmt_trees, proc_tree, tree_of}
+use Rattle.gypsy_syntax.specs.Sizes.{literal_size, items_size, argument_size, statement_size, parts_size, local_size, procedure_size, text_size}
+use Rattle.gypsy_syntax.specs.Sources.{LiteralOf, LiteralsOf, integer, truth, character, array, no_items, item, ArgOf, variable, constant}
+use Rattle.gypsy_syntax.specs.Sources.{StmtOf, StmtsOf, no_op, signal, seq, loop, branch, begin, call, predef, no_parts, part, LocalOf, ProcOf, SourceOf}
+
+-- ---- lists
+
+sum_over : {X : Type 0} (f : X → ℕ) (tree : X → Node) → ((x : X) → node_count (tree x) ≤ f x) → (xs : List X) → node_counts (nodes (map tree xs)) ≤ sum_by f xs
+sum_over f tree over [] = omega arith
+sum_over f tree over (x ∷ xs) = let one = over x in let others = sum_over f tree over xs in omega (arith, sum_by-cons f x xs, one, others)
+
+each_over : {X : Type 0} (n : ℕ) (tree : X → Node) → ((x : X) → node_count (tree x) ≤ n) → (xs : List X) → node_counts (nodes (map tree xs)) ≤ n * length xs
+each_over n tree over [] = omega arith
+each_over n tree over (x ∷ xs) =
+    let one = over x in
+    let others = each_over n tree over xs in
+    let product : n * (1 + length xs) ≡ n + n * length xs = omega arith in
+    omega (arith, one, others, product)
+
+names_over : (ns : List Named) → node_counts (nodes (map name_tree ns)) ≤ length ns
+names_over ns = let over = each_over 1 name_tree (λ n. omega arith) ns in omega (arith, over)
+
+-- ---- parts
+
+truth_count : (b : Bool) → node_count (truth_tree b) ≡ 1
+truth_count true = refl
+truth_count false = refl
+
+mutual
+  literal_over : (l : LiteralOf) → node_count (literal_tree l) ≤ literal_size l
+  literal_over (integer p z) = omega arith
+  literal_over (truth p b) = omega (arith, truth_count b)
+  literal_over (character p z) = omega arith
+  literal_over (array p ls) = let items = items_over ls in omega (arith, items)
+
+  items_over : (ls : LiteralsOf) → node_counts (literal_trees ls) ≤ items_size ls
+  items_over no_items = omega arith
+  items_over (item l ls) = let one = literal_over l in let others = items_over ls in omega (arith, one, others)
+
+argument_over : (a : ArgOf) → node_count (arg_tree a) ≤ argument_size a
+argument_over (variable n) = omega arith
+argument_over (constant l) = literal_over l
+
+type_over : (k : Kind) (n : Option ℤ) → node_count (type_tree_by k n) ≤ 4
+type_over k None = omega arith
+type_over k (Some n) = omega arith
+
+decl_over : (d : Decl) → node_count (decl_tree d) ≤ 6
+decl_over d = omega (arith, type_over d.shape.kind d.shape.length)
+
+local_over : (l : LocalOf) → node_count (local_tree l) ≤ local_size l
+local_over l = let value = literal_over l.value in omega (arith, type_over l.decl.shape.kind l.decl.shape.length, value)
+
+mutual
+  statement_over : (s : StmtOf) → node_count (stmt_tree s) ≤ statement_size s
+  statement_over (no_op p) = omega arith
+  statement_over (signal p c) = omega arith
+  statement_over (seq p ss) = let parts = parts_over ss in omega (arith, parts)
+  statement_over (loop p s) = let one = statement_over s in omega (arith, one)
+  statement_over (branch p b s t) = let one = statement_over s in let two = statement_over t in omega (arith, one, two)
+  statement_over (begin p s cs t) = let one = statement_over s in let two = statement_over t in omega (arith, one, two, names_over cs)
+  statement_over (call p f q xs r cs) = omega (arith, names_over xs, names_over cs)
+  statement_over (predef p which args) = let each = sum_over argument_size arg_tree argument_over args in omega (arith, each)
+
+  parts_over : (ss : StmtsOf) → node_counts (stmt_trees ss) ≤ parts_size ss
+  parts_over no_parts = omega arith
+  parts_over (part s ss) = let one = statement_over s in let others = parts_over ss in omega (arith, one, others)
+
+procedure_over : (p : ProcOf) → node_count (proc_tree p) ≤ procedure_size p
+procedure_over p =
+    let formals = each_over 6 decl_tree decl_over p.formals in
+    let locals = sum_over local_size local_tree local_over p.locals in
+    let body = statement_over p.body in
+    omega (arith, formals, names_over p.conds, locals, names_over p.local_conds, body)
+
+pub text_over : (s : SourceOf) → node_count (tree_of s) ≤ text_size s
+text_over s = let procs = sum_over procedure_size proc_tree procedure_over s.procs in omega (arith, procs)
