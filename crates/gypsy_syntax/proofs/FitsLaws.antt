@@ -1,7 +1,7 @@
 -- What keeps the form fits it in plain words: what the grammar gives for a tree fits, nests no deeper than the tree, and places
 -- don't count.
-use Rattle.std.proofs.Common.{◌≡◌, ℕ, suc, ◌+◌, ◌<◌, ◌≤◌, ◌^◌, max, Bool, true, false, cond, leb, List, [], ◌∷◌, length, map, Option, Some, None, Ok, All, refl, sym, subst, arith}
-use Rattle.std.specs.Prelude.{ℤ, pos, negsuc, codes, drop, ◌&&◌, if◌then◌else◌}
+use Rattle.std.proofs.Common.{◌≡◌, ℕ, suc, ◌+◌, ◌<◌, ◌≤◌, ◌^◌, max, Bool, true, false, leb, List, [], ◌∷◌, length, map, Option, Some, None, Ok, All, refl, sym, subst, arith}
+use Rattle.std.specs.Prelude.{ℤ, pos, codes, drop, ◌&&◌, if◌then◌else◌}
 use Rattle.std.specs.Str.{bytes_eq}
 use Rattle.std.specs.Str.Parse.{digits_value, without_leading_plus}
 use Rattle.std.proofs.lemmas.Bool.{and_parts, ltb-true, leb-true}
@@ -12,7 +12,7 @@ use Rattle.stack_text.specs.declared.shape.Kind.{Kind}
 use Rattle.stack_text.specs.Names.{is_name, is_truth_word}
 use Rattle.stack_text.specs.Numerals.{is_digits, is_numeral, numeral_value, fits_128_bits}
 use Rattle.stack_text.specs.Trees.{Node, Nodes, atom, list, none, more, place_of, depth, depths}
-use Rattle.stack_text.specs.Grammar.Judged.{Judged, fault, judged, ◌⊛◌, front, each_of}
+use Rattle.stack_text.specs.Grammar.Judged.{Judged, judged, ◌⊛◌, front, each_of}
 use Rattle.stack_text.specs.Grammar.Parts.{count_of, is_atom_of, list_length, list_or}
 use Rattle.stack_text.specs.Grammar.Printed.{unplaced_name}
 use Rattle.stack_text.proofs.NumeralTextLaws.{value-digits}
@@ -23,10 +23,10 @@ use Rattle.gypsy_syntax.specs.declared.literal.Decl.{Decl}
 use Rattle.gypsy_syntax.specs.declared.literal.TypeText.{TypeText}
 use Rattle.gypsy_syntax.specs.Answers.{KeepsForm}
 use Rattle.gypsy_syntax.specs.Fits.{IsNamed, IsNumber, IsCode, FitsLength, FitsSimple, AllSimple, FitsLiteral, FitsArgument, FitsDecl, FitsLocal, FitsStatement, FitsStatements, FitsProcedure, FitsForm}
-use Rattle.gypsy_syntax.specs.Grammar.{named_in, names_in, is_word, number_at, number_in, kind_in, simple_type, array_type, type_in, is_character, simple_at, simple_in, literal_in, decl_in, local_in, arg_at, arg_in, is_empty_list, statement_in, form_in, statements_in, are_few, procedure_in, source_in}
+use Rattle.gypsy_syntax.specs.Grammar.{named_in, names_in, is_word, number_at, number_in, kind_in, simple_type, array_type, type_in, is_character, simple_at, simple_in, literal_in, decl_in, local_in, arg_in, is_empty_list, statement_in, form_in, statements_in, are_few, procedure_in, source_in}
 use Rattle.gypsy_syntax.specs.Keywords.{keyword_named, kind_named}
-use Rattle.gypsy_syntax.specs.Made.{literals, statements, new_name, new_simple, new_array, new_decl, new_local, new_list, new_seq, new_branch, new_begin, new_call, new_predef, new_proc, new_source}
-use Rattle.gypsy_syntax.specs.Places.{unplaced_type, unplaced_literal, unplaced_literals, unplaced_arg, unplaced_decl, unplaced_local, unplaced_stmt, unplaced_stmts, unplaced_proc, without_places}
+use Rattle.gypsy_syntax.specs.Made.{literals, statements, new_name, new_array, new_decl, new_local, new_list, new_seq, new_branch, new_begin, new_call, new_predef, new_proc, new_source}
+use Rattle.gypsy_syntax.specs.Places.{unplaced_literal, unplaced_literals, unplaced_arg, unplaced_decl, unplaced_local, unplaced_stmt, unplaced_stmts, unplaced_proc, without_places}
 use Rattle.gypsy_syntax.specs.Printed.{tree_of}
 use Rattle.gypsy_syntax.specs.Sizes.{nesting, deepest}
 use Rattle.gypsy_syntax.specs.Sources.{LiteralOf, LiteralsOf, integer, truth, character, array, no_items, item, ArgOf, variable, constant}

@@ -1,9 +1,9 @@
 -- Trees by their items, as the grammar of sources takes them apart.
-use Rattle.std.proofs.Common.{Vec, Global, Option, ◌≡◌, ◌≢◌, ◌<◌, ◌≤◌, ℕ, List, [], ◌∷◌, length, map, drop, get_or, Ok, Some, refl, sym, ap, ◌∙◌, arith}
+use Rattle.std.proofs.Common.{Vec, Global, Option, ◌≡◌, ◌≢◌, ◌<◌, ◌≤◌, ℕ, List, [], ◌∷◌, length, map, get_or, Ok, Some, refl, sym, ap, ◌∙◌, arith}
 use Rattle.std.proofs.Math.Dec.{eqb, leb}
 use Rattle.std.proofs.lemmas.Bool.{ne_eqb, le-leb, lt-leb}
 use Rattle.std.specs.Prelude.{codes, false, nat_le, true}
-use Rattle.stack_text.specs.Trees.{Node, Nodes, list, none, more}
+use Rattle.stack_text.specs.Trees.{Nodes, list, none, more}
 use Rattle.stack_text.specs.TreeView.{node_of, nodes_of}
 use Rattle.stack_text.specs.declared.tree.Tree.{Tree, Atom}
 use Rattle.stack_text.proofs.TreeViewLaws.{node_of-atom}

@@ -1,17 +1,16 @@
 -- A source that was read keeps the form.
-use Rattle.std.proofs.Common.{◌≡◌, ℕ, ◌+◌, ◌<◌, ◌≤◌, Bool, true, false, cond, List, [], ◌∷◌, length, map, Option, Some, None, Ok, Err, refl, sym, ap, subst, ◌∙◌, arith}
-use Rattle.std.specs.Prelude.{ℤ, ◌&&◌, ◌||◌, ◌==◌, codes, drop, nat_lt, nat_le, if◌then◌else◌}
+use Rattle.std.proofs.Common.{◌≡◌, ℕ, ◌≤◌, Bool, true, false, cond, List, [], ◌∷◌, length, map, Option, Some, None, Ok, Err, refl, sym, ap, subst, ◌∙◌, arith}
+use Rattle.std.specs.Prelude.{ℤ, ◌&&◌, ◌==◌, codes, drop, nat_lt, nat_le, if◌then◌else◌}
 use Rattle.std.specs.List.{list_all}
 use Rattle.std.specs.Char.{is_ascii_digit, is_ascii_alphabetic}
 use Rattle.std.specs.Str.{bytes_eq}
-use Rattle.std.specs.Str.Parse.{starts_with_minus}
 use Rattle.std.specs.Fmt.{signed_decimal}
 use Rattle.std.proofs.Math.Dec.{eqb, leb}
 use Rattle.std.proofs.lemmas.Bool.{eqb-true, lt-leb}
 use Rattle.stack_text.specs.declared.name.Named.{Named}
 use Rattle.stack_text.specs.declared.shape.Kind.{Kind}
 use Rattle.stack_text.specs.declared.shape.Kind.TheVariants.{Integer, Boolean, Character}
-use Rattle.stack_text.specs.Names.{begins_with_letter, is_name, is_truth_word}
+use Rattle.stack_text.specs.Names.{is_name, is_truth_word}
 use Rattle.stack_text.specs.Numerals.{is_digits, is_numeral, numeral_value, fits_128_bits}
 use Rattle.stack_text.specs.Trees.{Node, Nodes, atom, list, none, more, place_of, IsWellFormed}
 use Rattle.stack_text.specs.TreeView.{nodes}
@@ -19,10 +18,10 @@ use Rattle.std.proofs.lemmas.Bool.{and_parts}
 use Rattle.stack_text.proofs.NumeralLaws.{digit_in_range}
 use Rattle.stack_text.proofs.AtomLaws.{name_is_run, numeral_is_run}
 use Rattle.stack_text.specs.Grammar.Judged.{Judged, fault, front, judged, ◌⊛◌, each_of}
-use Rattle.stack_text.specs.Grammar.Parts.{count_of, is_atom_of, list_length, list_or}
-use Rattle.stack_text.specs.Grammar.Printed.{list_tree, name_tree, tree_of_all, unplaced_name}
+use Rattle.stack_text.specs.Grammar.Parts.{count_of, list_or}
+use Rattle.stack_text.specs.Grammar.Printed.{list_tree, name_tree, unplaced_name}
 use Rattle.stack_text.proofs.NumeralTextLaws.{value-signed_decimal, numeral-signed_decimal, digits-signed_decimal}
-use Rattle.stack_text.proofs.KeepsLaws.{Alike, AllAlike, Holds, IsRun, Keeps, KeepsEach, KeepsName, alike_list_length, alike_items, holds_at, holds_if, holds_judged, holds_one, holds_six, holds_three, holds_two, keeps_each, keeps_list, keeps_name, keeps_named, named_again, ok_one, ok_six, ok_three, ok_two, passes, well_formed}
+use Rattle.stack_text.proofs.KeepsLaws.{Alike, AllAlike, Holds, IsRun, Keeps, KeepsEach, KeepsName, alike_list_length, alike_items, holds_at, holds_judged, holds_one, holds_six, holds_three, holds_two, keeps_each, keeps_list, keeps_name, keeps_named, named_again, ok_one, ok_six, ok_three, ok_two, passes, well_formed}
 use Rattle.gypsy_syntax.specs.declared.keyword.Keyword.{Keyword}
 use Rattle.gypsy_syntax.specs.declared.keyword.Keyword.TheVariants as word
 use Rattle.gypsy_syntax.specs.declared.literal.Decl.{Decl}
@@ -30,11 +29,11 @@ use Rattle.gypsy_syntax.specs.declared.literal.TypeText.{TypeText}
 use Rattle.gypsy_syntax.specs.declared.predef.Predef.TheVariants as row
 use Rattle.gypsy_syntax.specs.Answers.{KeepsForm}
 use Rattle.gypsy_syntax.specs.Fits.{IsNumber}
-use Rattle.gypsy_syntax.specs.Grammar.{named_in, names_in, is_word, number_at, number_in, kind_in, simple_type, array_type, type_in, is_character, simple_at, simple_in, literal_in, decl_in, local_in, arg_at, arg_in, is_empty_list, statement_in, form_in, statements_in, are_few, procedure_in, source_in}
+use Rattle.gypsy_syntax.specs.Grammar.{named_in, names_in, number_at, simple_type, array_type, type_in, is_character, simple_at, simple_in, literal_in, decl_in, local_in, arg_in, is_empty_list, statement_in, form_in, statements_in, are_few, procedure_in, source_in}
 use Rattle.gypsy_syntax.specs.Keywords.{keyword_name, keyword_named, keywords, kind_name, kind_named}
-use Rattle.gypsy_syntax.specs.Made.{literals, statements, new_name, new_simple, new_array, new_decl, new_local, new_list, new_seq, new_branch, new_begin, new_call, new_predef, new_proc, new_source}
-use Rattle.gypsy_syntax.specs.Places.{unplaced_type, unplaced_literal, unplaced_literals, unplaced_arg, unplaced_decl, unplaced_local, unplaced_stmt, unplaced_stmts, unplaced_proc, without_places}
-use Rattle.gypsy_syntax.specs.Printed.{number_tree, type_tree, type_tree_by, truth_tree, literal_tree, literal_trees, arg_tree, decl_tree, local_tree, keyword_tree, stmt_tree, stmt_trees, proc_tree, tree_of}
+use Rattle.gypsy_syntax.specs.Made.{literals, statements, new_name, new_array, new_decl, new_local, new_list, new_seq, new_branch, new_begin, new_call, new_predef, new_proc, new_source}
+use Rattle.gypsy_syntax.specs.Places.{unplaced_type, unplaced_literal, unplaced_arg, unplaced_decl, unplaced_local, unplaced_stmt, unplaced_proc, without_places}
+use Rattle.gypsy_syntax.specs.Printed.{number_tree, type_tree, type_tree_by, literal_tree, literal_trees, arg_tree, decl_tree, local_tree, keyword_tree, stmt_tree, stmt_trees, proc_tree, tree_of}
 use Rattle.gypsy_syntax.specs.Sources.{LiteralOf, integer, truth, character, array, ArgOf, variable, constant, StmtOf, no_op, signal, seq, loop, LocalOf, ProcOf, SourceOf}
 use Rattle.gypsy_syntax.proofs.PlacesLaws.{literals_unplaced, statements_unplaced}
 

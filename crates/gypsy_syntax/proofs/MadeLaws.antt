@@ -1,19 +1,16 @@
 -- What fits the form keeps it, where its tree is not too large: the tree of each part is judged to be that part but for
 -- places, its atoms are runs, and it is shallow.
-use Rattle.std.proofs.Common.{◌∙◌, ◌≡◌, ℕ, suc, ◌+◌, ◌<◌, ◌≤◌, ◌^◌, max, Bool, true, false, leb, List, [], ◌∷◌, length, map, Option, Some, None, Ok, All, refl, sym, ap, subst, arith}
-use Rattle.std.specs.Prelude.{ℤ, pos, negsuc, codes, ◌&&◌}
-use Rattle.std.specs.Fmt.{signed_decimal}
+use Rattle.std.proofs.Common.{◌∙◌, ◌≡◌, ℕ, suc, ◌+◌, ◌<◌, ◌≤◌, ◌^◌, max, true, false, leb, List, [], ◌∷◌, length, map, Option, Some, None, Ok, All, refl, sym, ap, subst, arith}
+use Rattle.std.specs.Prelude.{ℤ, pos, negsuc, ◌&&◌}
 use Rattle.std.proofs.lemmas.Bool.{lt-ltb, le-leb}
 use Rattle.std.proofs.lemmas.List.Elements.{All-head, All-tail}
 use Rattle.stack_text.specs.declared.name.Named.{Named}
-use Rattle.stack_text.specs.declared.shape.Kind.{Kind}
-use Rattle.stack_text.specs.Names.{is_name}
-use Rattle.stack_text.specs.Numerals.{is_numeral, fits_128_bits}
-use Rattle.stack_text.specs.Trees.{Node, Nodes, atom, list, none, more, depth, depths, node_count, AtomsAreRuns, AllAtomsAreRuns}
+use Rattle.stack_text.specs.Numerals.{fits_128_bits}
+use Rattle.stack_text.specs.Trees.{Node, Nodes, list, none, more, depth, depths, node_count, AtomsAreRuns, AllAtomsAreRuns}
 use Rattle.stack_text.specs.TreeView.{nodes}
-use Rattle.stack_text.specs.Grammar.Judged.{Judged, ◌⊛◌, front, each_of}
-use Rattle.stack_text.specs.Grammar.Parts.{count_of, list_or}
-use Rattle.stack_text.specs.Grammar.Printed.{list_tree, name_tree, tree_of_all, unplaced_name}
+use Rattle.stack_text.specs.Grammar.Judged.{Judged, front, each_of}
+use Rattle.stack_text.specs.Grammar.Parts.{count_of}
+use Rattle.stack_text.specs.Grammar.Printed.{list_tree, name_tree, unplaced_name}
 use Rattle.stack_text.proofs.AtomLaws.{name_is_run}
 use Rattle.stack_text.proofs.NumeralTextLaws.{digits-pos}
 use Rattle.stack_text.proofs.KeepsLaws.{and_true, named_again, ok_one, ok_two, ok_three, ok_six, passes}
@@ -22,12 +19,11 @@ use Rattle.gypsy_syntax.specs.declared.keyword.Keyword.TheVariants as word
 use Rattle.gypsy_syntax.specs.declared.literal.Decl.{Decl}
 use Rattle.gypsy_syntax.specs.declared.literal.TypeText.{TypeText}
 use Rattle.gypsy_syntax.specs.Answers.{KeepsForm}
-use Rattle.gypsy_syntax.specs.Fits.{IsNamed, IsNumber, FitsLength, FitsSimple, AllSimple, FitsLiteral, FitsArgument, FitsDecl, FitsLocal, FitsStatement, FitsStatements, FitsProcedure, FitsForm}
-use Rattle.gypsy_syntax.specs.Grammar.{named_in, names_in, simple_type, type_in, simple_in, literal_in, decl_in, local_in, arg_in, is_empty_list, statement_in, form_in, statements_in, are_few, procedure_in, source_in}
-use Rattle.gypsy_syntax.specs.Keywords.{kind_name}
+use Rattle.gypsy_syntax.specs.Fits.{IsNamed, FitsLength, FitsSimple, AllSimple, FitsLiteral, FitsArgument, FitsDecl, FitsLocal, FitsStatement, FitsStatements, FitsProcedure, FitsForm}
+use Rattle.gypsy_syntax.specs.Grammar.{named_in, simple_type, type_in, simple_in, literal_in, decl_in, local_in, arg_in, is_empty_list, statement_in, form_in, statements_in, are_few, procedure_in, source_in}
 use Rattle.gypsy_syntax.specs.Made.{literals, statements, new_decl, new_local, new_list, new_seq, new_branch, new_begin, new_call, new_predef, new_proc, new_source}
 use Rattle.gypsy_syntax.specs.Places.{unplaced_type, unplaced_literal, unplaced_literals, unplaced_arg, unplaced_decl, unplaced_local, unplaced_stmt, unplaced_stmts, unplaced_proc, without_places}
-use Rattle.gypsy_syntax.specs.Printed.{type_tree, type_tree_by, literal_tree, literal_trees, arg_tree, decl_tree, local_tree, keyword_tree, stmt_tree, stmt_trees, proc_tree, tree_of}
+use Rattle.gypsy_syntax.specs.Printed.{type_tree, literal_tree, literal_trees, arg_tree, decl_tree, local_tree, keyword_tree, stmt_tree, stmt_trees, proc_tree, tree_of}
 use Rattle.gypsy_syntax.specs.Sizes.{nesting, deepest}
 use Rattle.gypsy_syntax.specs.Sources.{LiteralOf, LiteralsOf, integer, truth, character, array, no_items, item, ArgOf, variable, constant}
 use Rattle.gypsy_syntax.specs.Sources.{StmtOf, StmtsOf, no_op, signal, seq, loop, branch, begin, call, predef, no_parts, part, LocalOf, ProcOf, SourceOf}

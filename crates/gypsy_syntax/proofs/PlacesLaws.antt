@@ -1,6 +1,6 @@
 -- The grammar of sources is blind to places.
 use Rattle.std.proofs.Common.{◌≡◌, ℕ, List, [], ◌∷◌, map, Option, Some, None, Ok, refl, sym, ap, subst, ◌∙◌}
-use Rattle.std.specs.Prelude.{ℤ, Bool, true, false, ◌&&◌, codes, drop, nat_le, if◌then◌else◌}
+use Rattle.std.specs.Prelude.{Bool, ◌&&◌, codes, drop, nat_le, if◌then◌else◌}
 use Rattle.std.specs.Str.{bytes_eq}
 use Rattle.stack_text.specs.Names.{is_name, is_truth_word}
 use Rattle.stack_text.specs.Numerals.{is_numeral, numeral_value, fits_128_bits}
@@ -10,12 +10,12 @@ use Rattle.stack_text.specs.declared.shape.Kind.{Kind}
 use Rattle.stack_text.specs.Grammar.Judged.{Judged, fault, front}
 use Rattle.stack_text.specs.Grammar.Parts.{count_of}
 use Rattle.stack_text.specs.Grammar.Printed.{unplaced_name}
-use Rattle.stack_text.proofs.PlacesLaws.{Agree, IsSame, agree_if, agree_judged, same_one, same_two, same_three, same_six, same_each, same_atom, same_count, same_list_length, same_name, same_list, unplaced_place}
+use Rattle.stack_text.proofs.PlacesLaws.{IsSame, agree_if, agree_judged, same_one, same_two, same_three, same_six, same_each, same_atom, same_count, same_list_length, same_name, same_list, unplaced_place}
 use Rattle.gypsy_syntax.specs.declared.keyword.Keyword.{Keyword}
 use Rattle.gypsy_syntax.specs.declared.keyword.Keyword.TheVariants as word
 use Rattle.gypsy_syntax.specs.Keywords.{keyword_named, kind_named}
-use Rattle.gypsy_syntax.specs.Grammar.{named_in, names_in, is_word, number_at, number_in, kind_in, simple_type, array_type, type_in, is_character, simple_at, simple_in, literal_in, decl_in, local_in, arg_at, arg_in, is_empty_list, statement_in, form_in, statements_in, are_few, procedure_in, source_in}
-use Rattle.gypsy_syntax.specs.Made.{literals, statements, new_simple, new_array, new_decl, new_local, new_list, new_seq, new_branch, new_begin, new_call, new_predef, new_proc, new_source}
+use Rattle.gypsy_syntax.specs.Grammar.{named_in, names_in, number_at, number_in, kind_in, simple_type, array_type, type_in, is_character, simple_at, simple_in, literal_in, decl_in, local_in, arg_in, is_empty_list, statement_in, form_in, statements_in, are_few, procedure_in, source_in}
+use Rattle.gypsy_syntax.specs.Made.{literals, statements, new_array, new_decl, new_local, new_list, new_seq, new_branch, new_begin, new_call, new_predef, new_proc, new_source}
 use Rattle.gypsy_syntax.specs.Places.{unplaced_type, unplaced_literal, unplaced_literals, unplaced_arg, unplaced_decl, unplaced_local, unplaced_stmt, unplaced_stmts, unplaced_proc, without_places}
 use Rattle.gypsy_syntax.specs.Sources.{LiteralOf, StmtOf, integer, truth, character, constant, array, item, seq, part, signal, loop}
 

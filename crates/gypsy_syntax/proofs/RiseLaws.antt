@@ -1,5 +1,5 @@
 -- In a tree whose places go up, the faults of each part of a source go up too.
-use Rattle.std.proofs.Common.{◌+◌, ◌<◌, ◌≤◌, ℕ, List, [], ◌∷◌, Option, Some, None, Ok, arith}
+use Rattle.std.proofs.Common.{◌+◌, ◌<◌, ◌≤◌, ℕ, List, [], Option, Some, None, Ok, arith}
 use Rattle.std.specs.Prelude.{Bool, true, false, ◌&&◌, codes, drop, nat_le, if◌then◌else◌}
 use Rattle.std.specs.Str.{bytes_eq}
 use Rattle.stack_text.specs.Names.{is_name, is_truth_word}
@@ -9,14 +9,14 @@ use Rattle.stack_text.specs.Trees.{Node, Nodes, atom, list, none, more, place_of
 use Rattle.stack_text.specs.declared.shape.Kind.{Kind}
 use Rattle.stack_text.specs.Grammar.Judged.{Judged, ◌⊛◌, fault, front, judged}
 use Rattle.stack_text.specs.Grammar.Parts.{count_of, is_atom_of}
-use Rattle.stack_text.proofs.RiseLaws.{Up, Rising, higher, lower, starts, apply_up, goes_on, goes_on_with_each, at_fault, is_judged, place_within, named_up, only, both, apply_value, list_up}
+use Rattle.stack_text.proofs.RiseLaws.{Up, Rising, higher, starts, apply_up, goes_on, goes_on_with_each, at_fault, is_judged, place_within, named_up, only, both, apply_value, list_up}
 use Rattle.gypsy_syntax.specs.declared.keyword.Keyword.{Keyword}
 use Rattle.gypsy_syntax.specs.declared.keyword.Keyword.TheVariants as word
 use Rattle.gypsy_syntax.specs.Keywords.{keyword_named, kind_named}
 use Rattle.gypsy_syntax.specs.Made.{new_name, new_simple, new_array, new_decl, new_local, new_list}
 use Rattle.gypsy_syntax.specs.Made.{new_seq, new_branch, new_begin, new_call, new_predef, new_proc, new_source}
-use Rattle.gypsy_syntax.specs.Sources.{LiteralOf, integer, truth, character, variable, constant, no_op, signal, loop}
-use Rattle.gypsy_syntax.specs.Grammar.{named_in, names_in, is_word, number_at, number_in, kind_in, simple_type, array_type, type_in, is_character, simple_at, simple_in, literal_in, decl_in, local_in, arg_at, arg_in, is_empty_list, statement_in, form_in, statements_in, are_few, procedure_in, source_in}
+use Rattle.gypsy_syntax.specs.Sources.{integer, truth, character, variable, constant, no_op, signal, loop}
+use Rattle.gypsy_syntax.specs.Grammar.{named_in, names_in, is_word, number_at, number_in, kind_in, simple_type, array_type, type_in, is_character, simple_at, simple_in, literal_in, decl_in, local_in, arg_in, is_empty_list, statement_in, form_in, statements_in, are_few, procedure_in, source_in}
 
 name_up : Rising named_in
 name_up = named_up 3

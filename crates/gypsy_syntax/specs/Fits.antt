@@ -1,11 +1,10 @@
 -- The form of a source in plain words: names are names, what must not be empty isn't, a value is simple or a list of simple
 -- values, numbers have 128 bits, and all counts are within the limits.
-use Rattle.std.specs.Prelude.{ℕ, ◌+◌, ◌<◌, ◌≤◌, ◌^◌, ℤ, pos, negsuc, List, length, Option, Some, None, All, IsTrue}
+use Rattle.std.specs.Prelude.{◌+◌, ◌<◌, ◌≤◌, ◌^◌, ℤ, pos, negsuc, length, Option, Some, None, All, IsTrue}
 use Rattle.stack_text.specs.Names.{is_name}
 use Rattle.stack_text.specs.Numerals.{fits_128_bits}
 use Rattle.stack_text.specs.declared.name.Named.{Named}
 use Rattle.gypsy_syntax.specs.declared.literal.Decl.{Decl}
-use Rattle.gypsy_syntax.specs.declared.literal.TypeText.{TypeText}
 use Rattle.gypsy_syntax.specs.Sizes.{nesting}
 use Rattle.gypsy_syntax.specs.Sources.{LiteralOf, LiteralsOf, integer, truth, character, array, no_items, item}
 use Rattle.gypsy_syntax.specs.Sources.{ArgOf, variable, constant}

@@ -1,5 +1,5 @@
 -- A source with 0 in all its places.
-use Rattle.std.specs.Prelude.{List, map}
+use Rattle.std.specs.Prelude.{map}
 use Rattle.stack_text.specs.Grammar.Printed.{unplaced_name}
 use Rattle.gypsy_syntax.specs.declared.literal.Decl.{Decl}
 use Rattle.gypsy_syntax.specs.declared.literal.TypeText.{TypeText}

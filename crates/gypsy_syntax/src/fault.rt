@@ -1,8 +1,8 @@
 //! Why a text is no source.
 
+use stack_text::grammar::FormFault;
 use stack_text::{TextFault, TextRule};
 use thiserror::Error;
-use stack_text::grammar::FormFault;
 
 /// Why no source was read: the first fault of the text, the least fault of its tree, or out of memory.
 #[derive(Clone, Copy, Debug, PartialEq, Eq, Error)]

@@ -17,8 +17,8 @@ use crate::printing::declaration::{spaced_list, spaced_locals};
 use crate::printing::statements::print_statement;
 use crate::proc::{Proc, Source};
 use stack_text::Memory;
-use std::alloc::Global;
 use stack_text::grammar::print_name;
+use std::alloc::Global;
 
 /// What a procedure takes.
 fn print_head(out: &mut Vec<u8>, proc: &Proc) -> Result<(), Memory>

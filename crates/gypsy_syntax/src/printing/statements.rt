@@ -9,8 +9,8 @@ ghost use Rattle.gypsy_syntax.specs.SourceView.{parts_of_list, stmt_of};
 use crate::keyword::Keyword;
 use crate::printing::declaration::spaced_list;
 use crate::statement::Stmt;
-use stack_text::{Memory, Named};
 use stack_text::grammar::{print_name, spaced_items};
+use stack_text::{Memory, Named};
 
 /// Appends `(` and the first word of a statement.
 fn open_statement(out: &mut Vec<u8>, keyword: Keyword) -> Result<(), Memory>

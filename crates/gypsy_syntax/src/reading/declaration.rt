@@ -14,9 +14,9 @@ use crate::keyword::kind_named;
 use crate::literal::{Decl, Local, TypeText};
 use crate::reading::literals::literal;
 use crate::reading::word::{is_array_word, is_numeral_atom, kind_in, named, number};
+use stack_text::grammar::{FormFault, Part, each_in};
 use stack_text::{Breach, Kind, Tree};
 use std::alloc::Global;
-use stack_text::grammar::{FormFault, Part, each_in};
 
 /// M7 at a type.
 fn no_type(place: u32) -> Breach

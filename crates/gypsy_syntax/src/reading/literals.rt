@@ -9,9 +9,9 @@ ghost use Rattle.gypsy_syntax.specs.SourceView.{arg_of, literal_of};
 use crate::literal::Literal;
 use crate::reading::word::number_at;
 use crate::statement::Arg;
+use stack_text::grammar::{FormFault, Part, each};
 use stack_text::{Breach, Named, Tree, is_digits, is_numeral, read_name};
 use std::alloc::Global;
-use stack_text::grammar::{FormFault, Part, each};
 
 /// M8 at a tree.
 fn no_value(place: u32) -> Breach

@@ -14,9 +14,9 @@ use crate::proc::{Proc, Source};
 use crate::reading::declaration::formals as read_formals;
 use crate::reading::statements::statement;
 use crate::reading::word::{is_proc_word, is_program_word, named, names};
+use stack_text::grammar::{FormFault, Part, each, each_in, list_length};
 use stack_text::{Breach, Tree};
 use std::alloc::Global;
-use stack_text::grammar::{FormFault, Part, each, each_in, list_length};
 
 /// The most procedures of a source.
 const MOST_PROCEDURES: usize = 1000;

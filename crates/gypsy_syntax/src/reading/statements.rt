@@ -14,9 +14,9 @@ use crate::keyword::{Keyword, keyword_named};
 use crate::predef::Predef;
 use crate::reading::word::{named, names};
 use crate::statement::Stmt;
+use stack_text::grammar::{FormFault, each};
 use stack_text::{Breach, Tree};
 use std::alloc::Global;
-use stack_text::grammar::{FormFault, each};
 
 /// M9 at a tree.
 fn no_statement(place: u32) -> Breach

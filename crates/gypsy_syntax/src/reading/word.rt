@@ -9,9 +9,9 @@ ghost use Rattle.stack_text.specs.Grammar.Reading.{Finds, Reads};
 ghost use Rattle.gypsy_syntax.specs.Grammar.{is_word, kind_in, named_in, names_in, number_at, number_in};
 
 use crate::keyword::kind_named;
+use stack_text::grammar::{self, FormFault};
 use stack_text::{Breach, Kind, Named, Tree, is_numeral, read_numeral};
 use std::alloc::Global;
-use stack_text::grammar::{self, FormFault};
 
 /// Whether the tree is the word `array`.
 pub fn is_array_word(tree: &Tree) -> bool

@@ -5,7 +5,7 @@ use Rattle.stack_text.specs.TreeView.{node_of, nodes_of}
 use Rattle.stack_text.proofs.PartLaws.{first_of_2, first_of_3, first_of_value, part_fails, parts_end}
 use Rattle.stack_text.proofs.TreeListLaws.{not_one, not_three, one_part, three_parts}
 use Rattle.gypsy_syntax.specs.declared.keyword.Keyword.TheVariants as word
-use Rattle.gypsy_syntax.specs.Grammar.{form_in, named_in, names_in, statement_in}
+use Rattle.gypsy_syntax.specs.Grammar.{form_in, names_in, statement_in}
 use Rattle.gypsy_syntax.specs.Keywords.{keyword_named}
 use Rattle.gypsy_syntax.specs.Sources.{loop}
 use Rattle.stack_text.proofs.TreeViewLaws.{node_of-list}
