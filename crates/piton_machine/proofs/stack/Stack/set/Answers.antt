@@ -1,0 +1,16 @@
+use Rattle.std.proofs.Common.{ap, ◌∙◌, ◌≡◌, List, length, reverse, arith, ◌<◌, ◌-◌}
+use Rattle.std.specs.Prelude.{slice_set}
+use Rattle.std.proofs.lemmas.List.{length-reverse}
+use Rattle.piton_words.specs.declared.word.Word.{Word}
+use Rattle.piton_machine.specs.Stacked.{Stacked}
+use Rattle.piton_machine.proofs.ReverseLaws.{reverse_set}
+use Rattle.piton_machine.proofs.stack.Stack.set.Goals as goal
+
+pub returns : goal.returns
+returns c =
+    let xs = c.self.inside.words.items in
+    let size : c.len-len.result ≡ length xs = c.len-len.ensures ∙ c.self.inside.words.ok.0 in
+    let words : length (reverse xs) ≡ length c.args.self.now.words = ap (λ (s : Stacked). length s.words) c.self.view_is in
+    let within : c.args.depth < length xs = omega (arith, length-reverse xs, c.requires) in
+    let made : List Word → Stacked = λ ws. record { words = ws; room = c.self.inside.room } in
+    rw (← c.self.view_is) (ap made (ap (λ n. reverse (slice_set xs (n - 1 - c.args.depth) c.args.word)) size ∙ reverse_set xs c.args.depth c.args.word within))

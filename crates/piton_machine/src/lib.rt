@@ -1,0 +1,34 @@
+//! Piton's machine: a state with a temporary stack, frames and data areas, its step by the rows of the instructions, and its
+//! runs.
+//!
+//! `specs/` also has Piton on the processor: the code of each instruction, the placed system, and when a machine of the
+//! processor stands for a state. That the code does the steps is a law of the definitions (`placed_laws`).
+#![tactic(auto)]
+
+mod act;
+mod areas;
+mod argument;
+mod calls;
+mod error_kind;
+mod frames;
+mod group;
+mod jumps;
+mod law;
+mod moves;
+mod piece;
+mod stack;
+mod state;
+mod stepped;
+mod view;
+
+pub use act::variables;
+pub use argument::{
+    area_argument, local_argument, number_argument, place_argument, place_of, program_argument,
+    test_argument, word_argument,
+};
+pub use error_kind::ErrorKind;
+pub use group::{Group, group_of};
+pub use law::{placed_laws, step_laws};
+pub use piece::{code_pieces, literal_pieces, piece_vec, word_piece};
+pub use state::{State, instruction};
+pub use stepped::{PitonRun, Stepped};
