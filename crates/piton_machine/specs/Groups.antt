@@ -1,46 +1,39 @@
 -- The three tables of instructions.
-use Rattle.std.specs.Prelude.{◌≡◌, ℕ, List, [], slice_get, slice_index_or, Option, IfSome}
+use Rattle.std.specs.Prelude.{◌≡◌, ℕ, Bool, true, false, List, [], slice_get, slice_index_or, Option, Some, None, IfSome}
+use Rattle.piton_words.specs.declared.op.WordOp.{WordOp}
 use Rattle.piton_syntax.specs.declared.op.PitonOp.{PitonOp}
 use Rattle.piton_syntax.specs.declared.op.PitonOp.TheVariants as op
+use Rattle.piton_check.specs.Words.{word_operation}
 use Rattle.piton_check.specs.Resolved.{ResolvedInstrOf, ResolvedOf}
 use Rattle.piton_check.specs.declared.piece.Piece.{Piece}
 use Rattle.piton_machine.specs.declared.group.Group.{Group}
 use Rattle.piton_machine.specs.declared.group.Group.TheVariants.{Move, Jump, Word}
 
--- moves; jumps and calls; and operations on words
+-- jumps, calls and returns
+abbrev pub is_jump : PitonOp → Bool
+is_jump op.Jump = true
+is_jump op.JumpIfTempStkFull = true
+is_jump op.JumpIfTempStkEmpty = true
+is_jump op.JumpCase = true
+is_jump op.Pushj = true
+is_jump op.Popj = true
+is_jump op.TestNatAndJump = true
+is_jump op.TestIntAndJump = true
+is_jump op.TestBoolAndJump = true
+is_jump op.TestBitvAndJump = true
+is_jump op.Call = true
+is_jump op.PopCall = true
+is_jump op.Ret = true
+is_jump o = false
+
+abbrev pub group_by : Option WordOp → Bool → Group
+group_by (Some operation) jump = Word
+group_by None true = Jump
+group_by None false = Move
+
+-- an operation on words; a jump; any other is a move
 abbrev pub group_of : PitonOp → Group
-group_of op.PushConstant = Move
-group_of op.PushLocal = Move
-group_of op.PopLocal = Move
-group_of op.SetLocal = Move
-group_of op.PushGlobal = Move
-group_of op.PopGlobal = Move
-group_of op.SetGlobal = Move
-group_of op.PushTempStkIndex = Move
-group_of op.PushTempStkFreeSize = Move
-group_of op.PushCtrlStkFreeSize = Move
-group_of op.FetchTempStk = Move
-group_of op.DepositTempStk = Move
-group_of op.Fetch = Move
-group_of op.Deposit = Move
-group_of op.Pop = Move
-group_of op.PopStar = Move
-group_of op.Popn = Move
-group_of op.NoOp = Move
-group_of op.Jump = Jump
-group_of op.JumpIfTempStkFull = Jump
-group_of op.JumpIfTempStkEmpty = Jump
-group_of op.JumpCase = Jump
-group_of op.Pushj = Jump
-group_of op.Popj = Jump
-group_of op.TestNatAndJump = Jump
-group_of op.TestIntAndJump = Jump
-group_of op.TestBoolAndJump = Jump
-group_of op.TestBitvAndJump = Jump
-group_of op.Call = Jump
-group_of op.PopCall = Jump
-group_of op.Ret = Jump
-group_of op = Word
+group_of o = group_by (word_operation o) (is_jump o)
 
 -- the instruction at a place of a program, as it was resolved
 abbrev pub resolved_at : ResolvedOf → ℕ → ℕ → Option ResolvedInstrOf

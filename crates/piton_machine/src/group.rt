@@ -1,8 +1,9 @@
 //! The three tables of instructions.
 
 ghost use Rattle.std.specs.Prelude.{◌≡◌};
-ghost use Rattle.piton_machine.specs.Groups.{group_of};
+ghost use Rattle.piton_machine.specs.Groups.{group_of, is_jump};
 
+use piton_check::word_operation;
 use piton_syntax::PitonOp;
 
 /// The table that an instruction is in.
@@ -20,25 +21,18 @@ pub enum Group {
 pub fn group_of(op: PitonOp) -> Group
     ensures { result ≡ group_of op }
 {
+    match word_operation(op) {
+        Some(_) => Group::Word,
+        None if is_jump(op) => Group::Jump,
+        None => Group::Move,
+    }
+}
+
+// Whether an operation is a jump, a call or a return.
+fn is_jump(op: PitonOp) -> bool
+    ensures { result ≡ is_jump op }
+{
     match op {
-        PitonOp::PushConstant
-        | PitonOp::PushLocal
-        | PitonOp::PopLocal
-        | PitonOp::SetLocal
-        | PitonOp::PushGlobal
-        | PitonOp::PopGlobal
-        | PitonOp::SetGlobal
-        | PitonOp::PushTempStkIndex
-        | PitonOp::PushTempStkFreeSize
-        | PitonOp::PushCtrlStkFreeSize
-        | PitonOp::FetchTempStk
-        | PitonOp::DepositTempStk
-        | PitonOp::Fetch
-        | PitonOp::Deposit
-        | PitonOp::Pop
-        | PitonOp::PopStar
-        | PitonOp::Popn
-        | PitonOp::NoOp => Group::Move,
         PitonOp::Jump
         | PitonOp::JumpIfTempStkFull
         | PitonOp::JumpIfTempStkEmpty
@@ -51,7 +45,7 @@ pub fn group_of(op: PitonOp) -> Group
         | PitonOp::TestBitvAndJump
         | PitonOp::Call
         | PitonOp::PopCall
-        | PitonOp::Ret => Group::Jump,
-        _ => Group::Word,
+        | PitonOp::Ret => true,
+        _ => false,
     }
 }

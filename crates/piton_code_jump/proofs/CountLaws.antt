@@ -1,0 +1,20 @@
+-- A checked system has few places and few locals.
+use Rattle.std.proofs.Common.{◌≡◌, ℕ, ◌+◌, ◌<◌, ◌≤◌, Some, sym, subst, arith}
+use Rattle.std.specs.Prelude.{◌^◌}
+use Rattle.std.proofs.lemmas.Option.{slice_get_within}
+use Rattle.piton_check.specs.Answers.{CheckedOf, IsChecked}
+use Rattle.piton_check.specs.Instruction.{Instruction, SystemView, system_view}
+use Rattle.piton_check.specs.Resolved.{ResolvedOf}
+use Rattle.piton_check.specs.Sound.{IsSound}
+use Rattle.piton_machine.specs.State.{program_of, instruction_at, variables_of}
+use Rattle.piton_machine.specs.Fits.{system_in}
+use Rattle.piton_machine.proofs.SoundLaws.{known}
+
+pub next_fits : (s : SystemView) → IsSound s → (program place : ℕ) (instruction : Instruction) → instruction_at s program place ≡ Some instruction → place + 1 < 2 ^ 32
+next_fits s sound program place instruction e =
+    let few = (known s sound).lengths program in
+    let within = slice_get_within (program_of s program).instructions place instruction e in
+    omega arith
+
+pub checked_few : (c : CheckedOf) (r : ResolvedOf) (program : ℕ) → r ≡ c.resolved → IsChecked c → variables_of (system_view r) program ≤ 400
+checked_few c r program same h = subst (λ (u : ResolvedOf). variables_of (system_view u) program ≤ 400) (sym same) ((known (system_in c) h.sound).variables program)

@@ -1,0 +1,7 @@
+//! The code of Piton's moves, as pieces whose addresses are not known yet.
+#![tactic(auto)]
+
+mod emission;
+mod row;
+
+pub use emission::emit;
