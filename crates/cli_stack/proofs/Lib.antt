@@ -1,6 +1,7 @@
 pub mod GatherLaws
 pub mod ImplementsLaws
 pub mod PerformLaws
+pub mod PitonTextLaws
 pub mod PrintLaws
 pub mod PromisesLaws
 pub mod SizeLaws

@@ -1,5 +1,5 @@
 -- Refused sizes are those of commands that take sizes, and they say nothing else.
-use Rattle.std.proofs.Common.{◌≡◌, ℕ, List, [], Bool, true, false, Option, Some, None, Result, Ok, Err, refl, sym, ap, ◌∙◌}
+use Rattle.std.proofs.Common.{◌≡◌, ℕ, List, [], Bool, true, false, Option, Some, None, Result, Ok, Err, IfErr, refl, sym, ap, ◌∙◌}
 use Rattle.fm_machine.specs.Run.{Outcome, outcome}
 use Rattle.fm_machine.specs.State.{Fm}
 use Rattle.fm_machine.specs.declared.processor.Run.{Run}
@@ -9,6 +9,13 @@ use Rattle.fm_image.specs.Reading.{read_of}
 use Rattle.fm_loader.specs.Loaded.{loaded}
 use Rattle.fm_loader.specs.Values.{values_in}
 use Rattle.stack_text.specs.Values.{ValueOf}
+use Rattle.stack_text.specs.declared.breach.Breach.{Breach}
+use Rattle.stack_text.specs.Breaches.{least}
+use Rattle.piton_syntax.specs.declared.fault.PitonFault.{PitonFault}
+use Rattle.piton_syntax.specs.declared.fault.PitonFault.TheVariants as fault
+use Rattle.piton_syntax.specs.Answers.{piton_in}
+use Rattle.piton_syntax.specs.Systems.{SystemOf}
+use Rattle.piton_check.specs.Violations.{violations}
 use Rattle.stack_build.specs.declared.fault.BuildFault.{BuildFault}
 use Rattle.stack_build.specs.Build.{BuiltOf, built}
 use Rattle.cli_stack.specs.declared.command.Command.{Command}
@@ -18,11 +25,12 @@ use Rattle.cli_stack.specs.declared.reply.SizeOf.{SizeOf}
 use Rattle.cli_stack.specs.declared.reply.Verdict.{Verdict}
 use Rattle.cli_stack.specs.declared.reply.Verdict.TheVariants as verdict
 use Rattle.cli_stack.specs.declared.role.Role.TheVariants as role
-use Rattle.cli_stack.specs.Replies.{ReplyOf, reply_of}
+use Rattle.cli_stack.specs.Replies.{ReplyOf, reply_of, judgement_reply}
 use Rattle.cli_stack.specs.Answer.{Texts, text_of, reply_by}
 use Rattle.cli_stack.specs.Go.{go_reply}
 use Rattle.cli_stack.specs.Run.{end_reply, outcome_reply, run_reply, values_reply, image_reply}
 use Rattle.cli_stack.specs.Show.{listing_reply}
+use Rattle.cli_stack.specs.PitonText.{piton_verdict, checked_unless, checked_by, checked_in}
 use Rattle.cli_stack.specs.Promises.{TakesSizes}
 use Rattle.cli_stack.specs.Driver.{IsReplyTo}
 
@@ -54,6 +62,28 @@ listing_no_size : (image : Result ImageOf (ℕ × ℕ)) → is_size (listing_rep
 listing_no_size (Ok image) = refl
 listing_no_size (Err fault) = refl
 
+piton_no_size : (fault : PitonFault) → is_size (piton_verdict fault) ≡ false
+piton_no_size (fault.Text rule place) = refl
+piton_no_size (fault.Form rule place) = refl
+piton_no_size fault.Memory = refl
+
+-- a refused Piton text is refused by a rule
+refused_no_size : (text : List ℕ) → IfErr (checked_in text) (λ v. is_size v ≡ false)
+unfolding checked_in
+refused_no_size text = by_reading (piton_in text)
+  where
+    by_breach : (system : SystemOf) (breach : Option Breach) → IfErr (checked_unless system breach) (λ v. is_size v ≡ false)
+    by_breach system None = tt
+    by_breach system (Some breach) = refl
+
+    by_reading : (found : Result SystemOf PitonFault) → IfErr (checked_by found) (λ v. is_size v ≡ false)
+    by_reading (Ok system) = by_breach system (least (violations system))
+    by_reading (Err fault) = piton_no_size fault
+
+judgement_no_size : {X : Type 0} (found : Result X Verdict) → IfErr found (λ v. is_size v ≡ false) → is_size (judgement_reply found).verdict ≡ false
+judgement_no_size (Ok checked) none = refl
+judgement_no_size (Err verdict) none = none
+
 -- 2. Who may.
 
 -- a refused size is all that is said
@@ -74,10 +104,11 @@ no_sizes c reply none size = absurd (let e : false ≡ true = sym none ∙ size 
 
 sizes_by : (c : Command) (texts : Texts) → Sizes c (reply_by c texts)
 unfolding reply_by
-sizes_by (command.Go source values control temporary budget image) texts = λ size. (tt, go_alone (built (text_of role.Source texts) control temporary) (text_of role.Values texts) budget size)
+sizes_by (command.Go source values control temporary budget image) texts = λ size. (refl, go_alone (built (text_of role.Source texts) control temporary) (text_of role.Values texts) budget size)
 sizes_by (command.Run image values budget) texts =
     no_sizes (command.Run image values budget) (reply_by (command.Run image values budget) texts) (image_no_size (text_of role.Values texts) budget (read_of (text_of role.Image texts)))
 sizes_by (command.Show image) texts = no_sizes (command.Show image) (reply_by (command.Show image) texts) (listing_no_size (read_of (text_of role.Image texts)))
+sizes_by (command.Pcheck piton) texts = no_sizes (command.Pcheck piton) (reply_by (command.Pcheck piton) texts) (judgement_no_size (checked_in (text_of role.Piton texts)) (refused_no_size (text_of role.Piton texts)))
 sizes_by c texts = no_sizes c (reply_by c texts) refl
 
 of_command : (c : Option Command) (reply : Reply) → IsReplyTo c reply → is_size reply.verdict ≡ true → TakesSizes c × (reply.said ≡ [])

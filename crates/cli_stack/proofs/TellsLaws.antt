@@ -28,7 +28,7 @@ use Rattle.cli_stack.specs.declared.driver.early_end.EarlyEnd.{EarlyEnd}
 use Rattle.cli_stack.specs.declared.reply.Verdict.{Verdict}
 use Rattle.cli_stack.specs.declared.reply.Verdict.TheVariants.{Done}
 use Rattle.cli_stack.specs.declared.role.Role.{Role}
-use Rattle.cli_stack.specs.declared.role.Role.TheVariants.{Source, Image, Values}
+use Rattle.cli_stack.specs.declared.role.Role.TheVariants.{Source, Piton, Image, Values}
 use Rattle.cli_stack.specs.Roles.{limit_of}
 use Rattle.cli_stack.specs.Replies.{ReplyOf, status_of, verdict_line, reply_text}
 use Rattle.cli_stack.specs.Go.{go_reply}
@@ -116,6 +116,11 @@ values_name role first second name other (zero, lt, is) = absurd (other (ap (λ 
 values_name role first second name other (suc zero, lt, is) = ap (λ (f : Role × List ℕ). f.1) is
 values_name role first second name other (suc (suc i), lt, is) = absurd (omega arith)
 
+-- who reads one file, of another role, reads no values
+no_values : (role : Role) (first name : List ℕ) → (role ≡ Values → ⊥) → Contains {X = Role × List ℕ} ((role, first) ∷ []) (Values, name) → ⊥
+no_values role first name other (zero, lt, is) = other (ap (λ (f : Role × List ℕ). f.0) is)
+no_values role first name other (suc i, lt, is) = omega arith
+
 tells_by : (c : Command) (files : Files) → TellsMeanings c files (answer_to c files)
 unfolding inputs_of
 tells_by (command.Go source_name values_file control temporary budget image_name) files = λ name reads has. (
@@ -128,11 +133,8 @@ tells_by (command.Run image_name values_file budget) files = λ name reads has. 
   λ control temporary source image values_text values finals condition count found there gives done enough.
       read_tells files control temporary source image values_text values finals condition count budget gives done enough image_name values_file found there,
 )
-tells_by (command.Show image_name) files = λ name reads has. absurd (no_values image_name name reads)
-  where
-    no_values : (first name : List ℕ) → Contains {X = Role × List ℕ} ((Image, first) ∷ []) (Values, name) → ⊥
-    no_values first name (zero, lt, is) = let e : Image ≡ Values = ap (λ (f : Role × List ℕ). f.0) is in cc
-    no_values first name (suc i, lt, is) = omega arith
+tells_by (command.Show image_name) files = λ name reads has. absurd (no_values Image image_name name (λ e. cc) reads)
+tells_by (command.Pcheck piton_name) files = λ name reads has. absurd (no_values Piton piton_name name (λ e. cc) reads)
 tells_by c files = λ name reads has. absurd (nothing name reads)
   where
     nothing : (name : List ℕ) → Contains {X = Role × List ℕ} [] (Values, name) → ⊥

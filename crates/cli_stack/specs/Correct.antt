@@ -13,7 +13,7 @@ use Rattle.stack_build.specs.Meaning.{Condition, FitsVariables}
 use Rattle.stack_build.specs.Implements.{meaning_shown, Finishes}
 use Rattle.stack_build.specs.Implements as meant
 use Rattle.cli_stack.specs.declared.command.Command.{Command}
-use Rattle.cli_stack.specs.declared.command.Command.TheVariants.{Go, Run}
+use Rattle.cli_stack.specs.declared.command.Command.TheVariants.{Mean, Pit, Build, Run, Go, Debug}
 use Rattle.cli_stack.specs.declared.role.Role.{Role}
 use Rattle.cli_stack.specs.declared.role.Role.TheVariants.{Source, Image, Values}
 use Rattle.cli_stack.specs.declared.status.Status.TheVariants.{Done}
@@ -28,9 +28,13 @@ ReadsFile command role name = Contains (inputs_of command) (role, name)
 abbrev pub StoresFile : Command → Role → List ℕ → Type 0
 StoresFile command role name = output_of command ≡ Some (role, name)
 
--- the sizes of the stacks, of a command that builds an image
+-- the sizes of the stacks, of a command that takes them
 abbrev pub sizes_of : Command → Option (ℕ × ℕ)
+sizes_of (Mean source values control temporary limit) = Some (control, temporary)
+sizes_of (Pit source control temporary piton) = Some (control, temporary)
+sizes_of (Build source control temporary image) = Some (control, temporary)
 sizes_of (Go source values control temporary budget image) = Some (control, temporary)
+sizes_of (Debug level source values control temporary script) = Some (control, temporary)
 sizes_of _ = None
 
 -- 1. What is stored.

@@ -13,6 +13,8 @@ pub mod Rows
 pub mod Go
 pub mod Run
 pub mod Show
+pub mod PitonText
+pub mod Pcheck
 -- what private functions say
 pub mod Plans
 pub mod Driver

@@ -1,11 +1,10 @@
 -- What the program promises.
-use Rattle.std.specs.Prelude.{◌≡◌, ◌≢◌, ◌⊎◌, ℕ, List, Option, Some, None, Contains, IfSome, IsSomeAnd}
+use Rattle.std.specs.Prelude.{◌≡◌, ◌≢◌, ◌⊎◌, ℕ, List, Option, Some, None, Contains, IfSome, IsSome, IsSomeAnd}
 use Rattle.fm_machine.specs.State.{Fm, Seen}
 use Rattle.stack_shelf.specs.Files.{Files}
 use Rattle.stack_shelf.specs.Causes.{Counts, Rose}
 use Rattle.stack_shelf.specs.Shelf.{PartlyStored, appended, PrefixAppended}
 use Rattle.cli_stack.specs.declared.command.Command.{Command}
-use Rattle.cli_stack.specs.declared.command.Command.TheVariants.{Go}
 use Rattle.cli_stack.specs.declared.driver.early_end.EarlyEnd.TheVariants as end
 use Rattle.cli_stack.specs.declared.reply.SizeOf.{SizeOf}
 use Rattle.cli_stack.specs.declared.reply.Verdict.TheVariants as verdict
@@ -16,7 +15,7 @@ use Rattle.cli_stack.specs.Rows.{command_of}
 use Rattle.cli_stack.specs.Replies.{verdict_line, end_line}
 use Rattle.cli_stack.specs.Answer.{Answer, files_after, input_names, file_names, answer}
 use Rattle.cli_stack.specs.World.{World}
-use Rattle.cli_stack.specs.Correct.{Implements, Tells}
+use Rattle.cli_stack.specs.Correct.{sizes_of, Implements, Tells}
 
 -- 1. What no failure spoils.
 
@@ -45,10 +44,10 @@ RoseAndPrinted kind line names before after =
     (name : List ℕ) × Contains names name × Rose (kind before.shelf.counts name) (kind after.shelf.counts name)
     × (after.out.taken ≡ appended before.out.taken (line name))
 
--- a command whose sizes may be refused
+-- a command whose sizes may be refused: one that takes them
 abbrev pub TakesSizes : Option Command → Type 0
-TakesSizes (Some (Go source values control temporary budget image)) = Unit {0}
-TakesSizes _ = ⊥
+TakesSizes None = ⊥
+TakesSizes (Some command) = IsSome (sizes_of command)
 
 -- a size of such a command was refused, and its line is what was printed
 abbrev pub SizePrinted : Option Command → World → World → Type 0

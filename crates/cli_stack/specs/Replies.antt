@@ -1,9 +1,11 @@
 -- The ends of a command, with their exit statuses and their lines.
-use Rattle.std.specs.Prelude.{ℕ, List, [], ◌∷◌, ◌++◌, Option, None, codes}
+use Rattle.std.specs.Prelude.{ℕ, List, [], ◌∷◌, ◌++◌, Option, None, Result, Ok, Err, codes}
 use Rattle.std.specs.Option.{option_map}
 use Rattle.std.specs.Fmt.{decimal}
 use Rattle.fm_machine.specs.State.{Fm, Seen}
 use Rattle.fm_show.specs.Digits.{hex_digits}
+use Rattle.stack_text.specs.declared.text_fault.TextRule.{TextRule}
+use Rattle.stack_text.specs.declared.text_fault.TextRule.TheVariants as text
 use Rattle.cli_stack.specs.declared.status.Status.{Status}
 use Rattle.cli_stack.specs.declared.status.Status.TheVariants as status
 use Rattle.cli_stack.specs.declared.reply.RuleLetter.{RuleLetter}
@@ -27,6 +29,15 @@ letter_text M = codes "M"
 letter_text S = codes "S"
 letter_text P = codes "P"
 letter_text Q = codes "Q"
+
+-- the number of a rule of the form of texts, whose letter is G
+abbrev pub text_rule_number : TextRule → ℕ
+text_rule_number text.G1 = 1
+text_rule_number text.G2 = 2
+text_rule_number text.G3 = 3
+text_rule_number text.G4 = 4
+text_rule_number text.G5 = 5
+text_rule_number text.G6 = 6
 
 -- what a size is of
 abbrev pub size_of_text : SizeOf → List ℕ
@@ -73,6 +84,15 @@ reply_of reply =
 -- a verdict alone
 abbrev pub verdict_alone : Verdict → ReplyOf
 verdict_alone verdict = record { said = []; verdict = verdict; state = None }
+
+-- a text, after which the command came to its defined end
+abbrev pub all_said : List ℕ → ReplyOf
+all_said text = record { said = text; verdict = Done; state = None }
+
+-- that a text was accepted, or why it is refused
+abbrev pub judgement_reply : {X : Type 0} → Result X Verdict → ReplyOf
+judgement_reply (Ok accepted) = all_said (line (codes "ok"))
+judgement_reply (Err verdict) = verdict_alone verdict
 
 -- all that a reply prints
 abbrev pub reply_text : ReplyOf → List ℕ

@@ -37,7 +37,7 @@ pub enum Command {
         temporary: StackSize,
         image: FileName,
     },
-    /// Judges a Piton text. To come.
+    /// Judges a Piton text.
     Pcheck {
         piton: FileName,
     },
@@ -122,6 +122,12 @@ impl Command {
                 RoleFile {
                     role: Role::Image,
                     name: image
+                },
+            ]?),
+            Command::Pcheck { piton } => Ok(vec![in alloc;
+                RoleFile {
+                    role: Role::Piton,
+                    name: piton
                 },
             ]?),
             _ => Ok(Vec::new(alloc)),

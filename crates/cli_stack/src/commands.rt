@@ -6,6 +6,8 @@ ghost use Rattle.cli_stack.specs.Plans.{pending_reply};
 
 mod go;
 mod image_run;
+mod pcheck;
+mod piton_text;
 mod plan;
 mod run;
 mod show;
@@ -43,6 +45,7 @@ pub fn prepare(alloc: Global, command: &Command, texts: &Texts) -> Result<Plan, 
             )
         }
         Command::Show { .. } => show::prepare(alloc, texts.of(Role::Image)),
+        Command::Pcheck { .. } => pcheck::prepare(alloc, texts.of(Role::Piton)),
         _ => Ok(Plan::verdict_alone(alloc, Verdict::NotBuilt)),
     }
 }

@@ -1,11 +1,11 @@
 //! What a command replies.
 ghost use Rattle.std.specs.Prelude.{◌≡◌, IfOk, string_bytes};
-ghost use Rattle.cli_stack.specs.Replies.{letter_text, size_of_text, status_of, verdict_line};
+ghost use Rattle.cli_stack.specs.Replies.{letter_text, text_rule_number, size_of_text, status_of, verdict_line};
 
 use crate::status::Status;
 use fm_machine::Machine;
 use fm_show::hex_digits;
-use stack_text::{Memory, Seq};
+use stack_text::{Memory, Seq, TextRule};
 use std::alloc::Global;
 
 /// The letter of a rule by which a text is refused: G for the form of trees, M and S for sources, P and Q for Piton.
@@ -77,6 +77,20 @@ fn letter_text(letter: RuleLetter) -> &'static str
         RuleLetter::S => "S",
         RuleLetter::P => "P",
         RuleLetter::Q => "Q",
+    }
+}
+
+/// The number of a rule of the form of texts, whose letter is G.
+pub fn text_rule_number(rule: TextRule) -> u8
+    ensures { result ≡ text_rule_number rule }
+{
+    match rule {
+        TextRule::G1 => 1,
+        TextRule::G2 => 2,
+        TextRule::G3 => 3,
+        TextRule::G4 => 4,
+        TextRule::G5 => 5,
+        TextRule::G6 => 6,
     }
 }
 

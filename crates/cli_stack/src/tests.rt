@@ -4,6 +4,7 @@ mod devices;
 mod go;
 mod images;
 mod limits;
+mod piton;
 mod words;
 
 use crate::program::cli;
@@ -36,6 +37,9 @@ const IMAGE_OF_RETURN: &str = concat!(
     "0000000000000000",
     "0000000a00e0840000e0000100e0040003e0043f0000000000e0003100e03c3105e03c0f0000000000000007",
 );
+
+/// The Piton program of that image.
+const RETURN: &str = "(piton main 2 1 0 () () (main () () (ret)))";
 
 /// No call fails.
 const NEVER: (u64, u64) = (99, 0);

@@ -1,6 +1,6 @@
 //! What a command makes of its texts: first what it stores, then its reply.
 ghost use Rattle.std.specs.Prelude.{◌≡◌, None};
-ghost use Rattle.cli_stack.specs.Replies.{verdict_alone};
+ghost use Rattle.cli_stack.specs.Replies.{verdict_alone, all_said};
 ghost use Rattle.cli_stack.specs.Plans.{pending_reply};
 
 use crate::commands::image_run::ImageRun;
@@ -24,7 +24,7 @@ pub struct Plan {
 
 impl Plan {
     ghost use Rattle.std.specs.Prelude.{◌≡◌, None};
-    ghost use Rattle.cli_stack.specs.Replies.{verdict_alone};
+    ghost use Rattle.cli_stack.specs.Replies.{verdict_alone, all_said};
     ghost use Rattle.cli_stack.specs.Plans.{pending_reply};
 
     /// Stores nothing, and replies a verdict alone. It takes no memory.
@@ -35,6 +35,21 @@ impl Plan {
         Plan {
             stored: None,
             pending: Pending::Reply(Reply::verdict_alone(alloc, verdict)),
+        }
+    }
+
+    /// Stores nothing, and replies a text after which the command came to its defined end.
+    pub fn all_said(said: Seq<u8>) -> Plan
+        ensures stored { result.stored ≡ None }
+        ensures reply { pending_reply result.pending ≡ all_said said }
+    {
+        Plan {
+            stored: None,
+            pending: Pending::Reply(Reply {
+                said,
+                verdict: Verdict::Done,
+                machine: None,
+            }),
         }
     }
 }

@@ -3,8 +3,8 @@ ghost use Rattle.std.specs.Prelude.{◌≡◌, None, IfOk};
 ghost use Rattle.cli_stack.specs.Show.{show_reply};
 ghost use Rattle.cli_stack.specs.Plans.{pending_reply};
 
-use crate::commands::plan::{Pending, Plan};
-use crate::reply::{Reply, Verdict};
+use crate::commands::plan::Plan;
+use crate::reply::Verdict;
 use fm_image::{ImageFault, read_image};
 use fm_show::show_image;
 use stack_text::{Memory, Seq};
@@ -16,14 +16,7 @@ pub fn prepare(alloc: Global, image: &[u8]) -> Result<Plan, Memory>
     ensures reply { IfOk result (λ plan. pending_reply plan.pending ≡ show_reply image.now) }
 {
     match read_image(alloc, image) {
-        Ok(image) => Ok(Plan {
-            stored: None,
-            pending: Pending::Reply(Reply {
-                said: Seq::from_vec(show_image(alloc, &image)?),
-                verdict: Verdict::Done,
-                machine: None,
-            }),
-        }),
+        Ok(image) => Ok(Plan::all_said(Seq::from_vec(show_image(alloc, &image)?))),
         Err(ImageFault::Refused { rule, place }) => {
             Ok(Plan::verdict_alone(alloc, Verdict::Image { rule, place }))
         }

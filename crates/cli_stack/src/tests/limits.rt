@@ -1,23 +1,23 @@
 //! Files at their limits and one byte over.
-use crate::tests::{IMAGE_OF_SEVEN, SEVEN, plainly};
+use crate::tests::{IMAGE_OF_SEVEN, RETURN, SEVEN, plainly};
 use std::alloc::{AllocError, Global};
 use std::test::Fail;
 
 /// A text with bytes at its end, up to a length.
 fn padded(alloc: Global, text: &[u8], byte: u8, length: usize) -> Result<Vec<u8>, AllocError> {
     let mut bytes = text.to_vec(alloc)?;
-    for _ in text.len()..length {
-        bytes.push(byte)?;
-    }
+    let more = vec![in alloc; byte; length.saturating_sub(text.len())]?;
+    bytes.extend_from_slice(&more)?;
     Ok(bytes)
 }
 
-/// How long the source, the values and the image are, and how a command on them ends.
+/// How long the source, the values, the image and the Piton text are, and how a command on them ends.
 struct Row {
     words: &'static str,
     source: usize,
     values: usize,
     image: usize,
+    piton: usize,
     status: u8,
     printed: &'static str,
 }
@@ -29,6 +29,7 @@ fn rows() -> &'static [Row] {
             source: 1_048_576,
             values: 1_048_576,
             image: 0,
+            piton: 0,
             status: 0,
             printed: "finished 28\ncondition normal\nx = 7\n",
         },
@@ -37,6 +38,7 @@ fn rows() -> &'static [Row] {
             source: 1_048_577,
             values: 0,
             image: 0,
+            piton: 0,
             status: 12,
             printed: "size file 1048576\n",
         },
@@ -45,6 +47,7 @@ fn rows() -> &'static [Row] {
             source: 0,
             values: 1_048_577,
             image: 0,
+            piton: 0,
             status: 12,
             printed: "size file 1048576\n",
         },
@@ -53,6 +56,7 @@ fn rows() -> &'static [Row] {
             source: 0,
             values: 0,
             image: 8_388_608,
+            piton: 0,
             status: 4,
             printed: "image I4 at 345\n",
         },
@@ -61,6 +65,7 @@ fn rows() -> &'static [Row] {
             source: 0,
             values: 0,
             image: 8_388_609,
+            piton: 0,
             status: 12,
             printed: "size file 8388608\n",
         },
@@ -69,8 +74,27 @@ fn rows() -> &'static [Row] {
             source: 0,
             values: 1_048_577,
             image: 0,
+            piton: 0,
             status: 12,
             printed: "size file 1048576\n",
+        },
+        Row {
+            words: "pcheck p",
+            source: 0,
+            values: 0,
+            image: 0,
+            piton: 16_777_216,
+            status: 2,
+            printed: "refused G5 at 43\n",
+        },
+        Row {
+            words: "pcheck p",
+            source: 0,
+            values: 0,
+            image: 0,
+            piton: 16_777_217,
+            status: 12,
+            printed: "size file 16777216\n",
         },
     ]
 }
@@ -83,7 +107,13 @@ fn files_at_their_limits(rt: HostRuntime) -> Result<(), Fail> {
         let source = padded(alloc, SEVEN.as_bytes(), b' ', row.source)?;
         let values = padded(alloc, b"((x 0))", b' ', row.values)?;
         let image = padded(alloc, &image, 0, row.image)?;
-        let files: [(&str, &[u8]); 3] = [("s", &source), ("v", &values), ("i", &image)];
+        let piton = padded(alloc, RETURN.as_bytes(), b')', row.piton)?;
+        let files: [(&str, &[u8]); 4] = [
+            ("s", &source),
+            ("v", &values),
+            ("i", &image),
+            ("p", &piton),
+        ];
         let outcome = plainly(alloc, row.words, &files)?;
         assert_eq!(rt; outcome.status, row.status, "{}", row.printed);
         assert_eq!(rt; outcome.printed.as_slice(), row.printed.as_bytes());

@@ -1,0 +1,21 @@
+//! The command `pcheck`.
+ghost use Rattle.std.specs.Prelude.{◌≡◌, ◌≤◌, ◌^◌, None, IfOk, length};
+ghost use Rattle.cli_stack.specs.Pcheck.{pcheck_reply};
+ghost use Rattle.cli_stack.specs.Plans.{pending_reply};
+
+use crate::commands::piton_text::read_checked;
+use crate::commands::plan::Plan;
+use stack_text::{Memory, Seq};
+use std::alloc::Global;
+
+/// What is left of `pcheck` once its text is there.
+pub fn prepare(alloc: Global, piton: &[u8]) -> Result<Plan, Memory>
+    requires { length piton.now ≤ 2 ^ 31 }
+    ensures stored { IfOk result (λ plan. plan.stored ≡ None) }
+    ensures reply { IfOk result (λ plan. pending_reply plan.pending ≡ pcheck_reply piton.now) }
+{
+    match read_checked(alloc, piton)? {
+        Ok(_) => Ok(Plan::all_said(Seq::from_vec(b"ok\n".to_vec(alloc)?))),
+        Err(verdict) => Ok(Plan::verdict_alone(alloc, verdict)),
+    }
+}
