@@ -1,0 +1,10 @@
+pub mod CleanLaws
+pub mod NameLaws
+pub mod LookupLaws
+pub mod LiteralLaws
+pub mod ArgumentLaws
+pub mod FitsLaws
+pub mod NoteLaws
+pub mod DeclarationLaws
+pub mod RepeatLaws
+pub mod CalleeLaws

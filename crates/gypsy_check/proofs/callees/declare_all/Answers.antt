@@ -1,0 +1,27 @@
+use Rattle.std.proofs.Common.{◌∙◌, ◌+◌, [], map, take, ap, List, is_some}
+use Rattle.std.proofs.lemmas.List.{take_all}
+use Rattle.stack_text.specs.Breaches.{lesser_of, least}
+use Rattle.gypsy_syntax.specs.declared.proc.Proc.{Proc}
+use Rattle.gypsy_check.specs.Declarations.{repeats}
+use Rattle.gypsy_check.specs.Tables.{look_up}
+use Rattle.gypsy_check.proofs.NoteLaws.{noted}
+use Rattle.gypsy_check.proofs.RepeatLaws.{noted_more, items_more}
+use Rattle.gypsy_check.proofs.CalleeLaws.{known_next, known_name}
+use Rattle.gypsy_check.proofs.callees.declare_all.Goals as goal
+
+pub loop-proc-preserved : goal.loop-proc-preserved
+loop-proc-preserved c =
+    let one = c.proc-item.result in
+    let procs = c.args.procs.now in
+    let i = c.loop-proc.proc-index in
+    let known = c.loop-proc.invariant.known in
+    record {
+      known = known_next procs i one (look_up c.loop-proc.table) (look_up c.declare.new.table) c.loop-proc-test.true c.proc-item.is known c.in_ok-declare.ensures.entered;
+      noted = noted_more 1 (map (λ (p : Proc). p.name) (take i procs)) (map (λ (p : Proc). p.name) (take (i + 1) procs)) one.name c.args.best.now c.loop-proc.best c.declare.new.best (λ name. is_some (look_up c.loop-proc.table name))
+          (items_more (λ (p : Proc). p.name) [] procs i one c.loop-proc-test.true c.proc-item.is) (known_name procs i (look_up c.loop-proc.table) known) c.loop-proc.invariant.noted c.in_ok-declare.ensures.noted;
+    }
+
+pub returns-clause-noted : goal.returns-clause-noted
+returns-clause-noted c =
+    c.loop-proc.invariant.noted
+    ∙ ap (λ (ps : List Proc). lesser_of c.args.best.now (least (repeats 1 [] (map (λ (p : Proc). p.name) ps)))) (take_all c.loop-proc.proc-index c.args.procs.now c.loop-proc-test.false)

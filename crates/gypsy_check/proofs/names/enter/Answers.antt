@@ -1,0 +1,9 @@
+use Rattle.std.proofs.Common.{◌∙◌, ◌||◌, ap, List, bytes_eq, ℕ}
+use Rattle.gypsy_check.specs.Tables.{has}
+use Rattle.gypsy_check.proofs.RepeatLaws.{entered}
+use Rattle.gypsy_check.proofs.names.enter.Goals as goal
+
+pub returns-clause-entered : goal.returns-clause-entered
+returns-clause-entered c = λ other.
+    entered c.args.names.now.keys c.insert.new.self.keys c.bytes.result c.in_ok-is_new.ensures.keys other
+    ∙ ap (λ (text : List ℕ). bytes_eq other text || has c.args.names.now other) c.bytes.ensures.bytes

@@ -1,0 +1,56 @@
+-- What a source's names are declared as, and names that stand more than once.
+use Rattle.std.specs.Prelude.{ℕ, List, [], ◌∷◌, ◌++◌, map, slice_get, Bool, true, false, not, Option, Some, None, is_none}
+use Rattle.std.specs.List.{list_any}
+use Rattle.std.specs.Str.{bytes_eq}
+use Rattle.stack_text.specs.declared.breach.Breach.{Breach}
+use Rattle.stack_text.specs.declared.name.Named.{Named}
+use Rattle.stack_text.specs.Breaches.{when}
+use Rattle.gypsy_syntax.specs.declared.literal.TypeText.{TypeText}
+use Rattle.gypsy_syntax.specs.declared.keyword.Keyword.{Keyword}
+use Rattle.gypsy_syntax.specs.declared.keyword.Keyword.TheVariants.{Predef}
+use Rattle.gypsy_syntax.specs.Keywords.{keyword_named}
+use Rattle.gypsy_syntax.specs.Resolved.{place_among, variable_names, variable_types, condition_names, procedure_names}
+use Rattle.gypsy_syntax.specs.Sources.{ProcOf, SourceOf}
+
+-- the type of the first variable of a name, formals before locals
+abbrev pub type_at : List TypeText → Option ℕ → Option TypeText
+type_at types None = None
+type_at types (Some i) = slice_get types i
+
+abbrev pub type_of : ProcOf → List ℕ → Option TypeText
+type_of p name = type_at (variable_types p) (place_among name (variable_names p))
+
+-- the first procedure of a name
+abbrev pub procedure_at : List ProcOf → Option ℕ → Option ProcOf
+procedure_at procs None = None
+procedure_at procs (Some i) = slice_get procs i
+
+abbrev pub procedure_named : SourceOf → List ℕ → Option ProcOf
+procedure_named s name = procedure_at s.procs (place_among name (procedure_names s))
+
+-- a condition of the name is declared, formal or local
+abbrev pub is_condition : ProcOf → List ℕ → Bool
+is_condition p name = not (is_none (place_among name (condition_names p)))
+
+-- the name is that of a predefined procedure
+abbrev pub is_predefined_word : Option Keyword → Bool
+is_predefined_word (Some (Predef which)) = true
+is_predefined_word _ = false
+
+abbrev pub is_predefined : List ℕ → Bool
+is_predefined name = is_predefined_word (keyword_named name)
+
+-- the declared names in order: variables, formals before locals, and conditions, formal before local
+abbrev pub variables_of : ProcOf → List Named
+variables_of p = map (λ d. d.name) p.formals ++ map (λ l. l.decl.name) p.locals
+
+abbrev pub conditions_of : ProcOf → List Named
+conditions_of p = p.conds ++ p.local_conds
+
+abbrev pub is_among : List ℕ → List (List ℕ) → Bool
+is_among name names = list_any (bytes_eq name) names
+
+-- the rule is broken at each name that stands earlier
+abbrev pub repeats : ℕ → List (List ℕ) → List Named → List Breach
+repeats rule earlier [] = []
+repeats rule earlier (n ∷ ns) = when (is_among n.name earlier) n.place rule ++ repeats rule (n.name ∷ earlier) ns

@@ -1,0 +1,40 @@
+-- Tables of names.
+use Rattle.std.specs.Prelude.{◌≡◌, ℕ, List, find, Bool, true, false, Option, Some, None, option_map}
+use Rattle.std.specs.Borrow.{Bor}
+use Rattle.std.specs.List.{list_any}
+use Rattle.std.specs.Map.{lookup}
+use Rattle.std.specs.Str.{bytes_eq}
+use Rattle.indexmap.specs.IndexMap.{IndexMap}
+use Rattle.indexmap.specs.IndexSet.{IndexSet}
+use Rattle.stack_text.specs.declared.name.Named.{Named}
+use Rattle.gypsy_syntax.specs.declared.proc.Proc.{Proc}
+use Rattle.gypsy_check.specs.declared.callees.Callees.{Callees}
+
+-- a name of these
+abbrev pub is_named : List ℕ → List Named → Bool
+is_named name names = list_any (λ n. bytes_eq name n.name) names
+
+-- a name that the set has
+abbrev pub has : {S : Type 0} → IndexSet (Bor (List ℕ)) S → List ℕ → Bool
+has set name = list_any (λ key. bytes_eq name key.now) set.keys
+
+-- the set has the names of these
+abbrev pub KnowsNames : {S : Type 0} → IndexSet (Bor (List ℕ)) S → List Named → Type 0
+KnowsNames set names = (name : List ℕ) → has set name ≡ is_named name names
+
+-- what is known, or else the value where the test holds
+abbrev pub first_or : {V : Type 0} → Option V → Bool → V → Option V
+first_or (Some known) test value = Some known
+first_or None true value = Some value
+first_or None false value = None
+
+-- the procedure that the table has for a name
+abbrev pub look_up : {S : Type 0} → IndexMap (Bor (List ℕ)) (Bor Proc) S → List ℕ → Option Proc
+look_up table name = option_map (λ proc. proc.now) (lookup (λ key. bytes_eq name key.now) table.entries)
+
+-- the table has the first procedure of each name
+abbrev pub KnowsProcs : {S : Type 0} → IndexMap (Bor (List ℕ)) (Bor Proc) S → List Proc → Type 0
+KnowsProcs table procs = (name : List ℕ) → look_up table name ≡ find (λ p. bytes_eq name p.name.name) procs
+
+abbrev pub KnowsCallees : Callees → Type 0
+KnowsCallees callees = KnowsProcs callees.procs callees.source.now.procs.items

@@ -1,0 +1,84 @@
+//! The procedures of a source by their names.
+
+ghost use Rattle.std.specs.Prelude.{◌≡◌, ℕ, List, [], map, is_some, IfOk, OnOk, option_map};
+ghost use Rattle.std.specs.Str.{bytes_eq};
+ghost use Rattle.stack_text.specs.Breaches.{when, Notes};
+ghost use Rattle.gypsy_syntax.specs.SourceView.{proc_of, source_of};
+ghost use Rattle.gypsy_check.specs.Declarations.{procedure_named, repeats};
+ghost use Rattle.gypsy_check.specs.Tables.{first_or, look_up, KnowsCallees, KnowsProcs};
+
+use gypsy_syntax::{Proc, Source};
+use indexmap::IndexMap;
+use stack_text::{Breach, Memory, Name, note_if};
+use std::alloc::Global;
+
+/// A source, with the first procedure of each name.
+#[derive(Drop)]
+pub(crate) struct Callees<'a> {
+    pub source: &'a Source,
+    pub procs: IndexMap<&'a [u8], &'a Proc>,
+}
+
+impl<'a> Callees<'a> {
+    /// The first procedure of a name.
+    pub(crate) fn named(&self, name: &Name) -> Option<&'a Proc>
+        requires { KnowsCallees self.now }
+        ensures { let found = procedure_named (source_of self.now.source.now) name.now in
+            option_map (λ proc. proc_of proc.now) result ≡ found }
+    {
+        self.procs.get(name.bytes()).copied()
+    }
+}
+
+/// Enters a procedure by its name, or notes that the name was entered before.
+fn declare<'a>(
+    best: &mut Option<Breach>,
+    table: &mut IndexMap<&'a [u8], &'a Proc>,
+    proc: &'a Proc,
+) -> Result<(), Memory>
+    ensures entered { OnOk result
+        ((other : List ℕ) →
+        look_up table.new other ≡ first_or (look_up table.old other) (bytes_eq other proc.now.name.name) proc.now) }
+    ensures noted { let is_known = is_some (look_up table.old proc.now.name.name) in
+        OnOk result (Notes best.old (when is_known proc.now.name.place 1) best.new) }
+{
+    let name = proc.name.name.bytes();
+    let is_known = table.contains_key(name);
+    note_if(best, is_known, proc.name.place, 1);
+    if is_known {
+        return Ok(());
+    }
+    table.insert(name, proc)?;
+    Ok(())
+}
+
+/// Enters each procedure by its name, or notes that the name was entered before.
+fn declare_all<'a>(
+    best: &mut Option<Breach>,
+    table: &mut IndexMap<&'a [u8], &'a Proc>,
+    procs: &'a [Proc],
+) -> Result<(), Memory>
+    requires { KnowsProcs table.old [] }
+    ensures known { OnOk result (KnowsProcs table.new procs.now) }
+    ensures noted { OnOk result (Notes best.old (repeats 1 [] (map (λ p. p.name) procs.now)) best.new) }
+{
+    for proc in procs {
+        declare(best, table, proc)?;
+    }
+    Ok(())
+}
+
+/// The procedures of a source by their names; each name that was used earlier is noted.
+pub(crate) fn callees_of<'a>(
+    alloc: Global,
+    best: &mut Option<Breach>,
+    source: &'a Source,
+) -> Result<Callees<'a>, Memory>
+    ensures of { IfOk result (λ callees. callees.source.now ≡ source.now) }
+    ensures known { IfOk result KnowsCallees }
+    ensures noted { OnOk result (Notes best.old (repeats 1 [] (map (λ p. p.name) source.now.procs.items)) best.new) }
+{
+    let mut procs = IndexMap::new(alloc);
+    declare_all(best, &mut procs, source.procs.as_slice())?;
+    Ok(Callees { source, procs })
+}

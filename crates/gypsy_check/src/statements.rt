@@ -1,0 +1,104 @@
+//! Statements.
+
+ghost use Rattle.std.specs.Prelude.{OnOk};
+ghost use Rattle.std.specs.List.{flat_map};
+ghost use Rattle.stack_text.specs.Breaches.{Notes};
+ghost use Rattle.gypsy_syntax.specs.SourceView.{proc_of, source_of, stmt_of};
+ghost use Rattle.gypsy_check.specs.Rules.{statement_breaches};
+ghost use Rattle.gypsy_check.specs.Tables.{KnowsCallees};
+
+use crate::callees::Callees;
+use crate::calls::{CallText, check_call};
+use crate::conditions::{check_handlers, check_raised};
+use crate::predefs::check_predef;
+use crate::variables::check_test;
+use gypsy_syntax::{Proc, Stmt};
+use stack_text::{Breach, Memory};
+use std::alloc::Global;
+
+/// Notes the breaches of a statement, inside a loop or not.
+#[cycle(statements)]
+pub(crate) fn check_statement(
+    alloc: Global,
+    best: &mut Option<Breach>,
+    callees: &Callees,
+    proc: &Proc,
+    in_loop: bool,
+    stmt: &Stmt,
+) -> Result<(), Memory>
+    requires { KnowsCallees callees.now }
+    ensures { let breaches = statement_breaches (source_of callees.now.source.now) (proc_of proc.now) in_loop in
+        OnOk result (Notes best.old (breaches (stmt_of stmt.now)) best.new) }
+{
+    match stmt {
+        Stmt::NoOp { place: _ } => {}
+        Stmt::Signal { place: _, cond } => check_raised(best, proc, in_loop, cond),
+        Stmt::Seq { place: _, parts } => {
+            check_parts(alloc, best, callees, proc, in_loop, parts.as_slice())?;
+        }
+        Stmt::Loop { place: _, body } => {
+            check_statement(alloc, best, callees, proc, true, body)?;
+        }
+        Stmt::If {
+            place: _,
+            test,
+            yes,
+            no,
+        } => {
+            check_test(best, proc, test);
+            check_statement(alloc, best, callees, proc, in_loop, yes)?;
+            check_statement(alloc, best, callees, proc, in_loop, no)?;
+        }
+        Stmt::Begin {
+            place: _,
+            body,
+            conds,
+            arm,
+        } => {
+            check_statement(alloc, best, callees, proc, in_loop, body)?;
+            check_handlers(alloc, best, proc, conds.as_slice())?;
+            check_statement(alloc, best, callees, proc, in_loop, arm)?;
+        }
+        Stmt::Call {
+            place: _,
+            callee,
+            actuals_place,
+            actuals,
+            conds_place,
+            conds,
+        } => {
+            let call = CallText {
+                callee,
+                actuals_place: *actuals_place,
+                actuals: actuals.as_slice(),
+                conds_place: *conds_place,
+                conds: conds.as_slice(),
+            };
+            check_call(alloc, best, callees, proc, in_loop, call)?;
+        }
+        Stmt::Predef { place, which, args } => {
+            check_predef(best, proc, *place, *which, args.as_slice());
+        }
+    }
+    Ok(())
+}
+
+/// The same of each statement.
+#[cycle(statements)]
+fn check_parts(
+    alloc: Global,
+    best: &mut Option<Breach>,
+    callees: &Callees,
+    proc: &Proc,
+    in_loop: bool,
+    parts: &[Stmt],
+) -> Result<(), Memory>
+    requires { KnowsCallees callees.now }
+    ensures { let breaches = statement_breaches (source_of callees.now.source.now) (proc_of proc.now) in_loop in
+        OnOk result (Notes best.old (flat_map (λ s. breaches (stmt_of s)) parts.now) best.new) }
+{
+    for part in parts {
+        check_statement(alloc, best, callees, proc, in_loop, part)?;
+    }
+    Ok(())
+}
