@@ -1,13 +1,9 @@
 -- The procedures of a source by their names, one procedure after the other.
-use Rattle.std.proofs.Common.{◌≡◌, Bor, ℕ, suc, ◌+◌, ◌<◌, length, List, [], ◌∷◌, ◌++◌, map, get_or, take, find, Option, Some, None, Bool, true, false, cond, ◌||◌, is_some, option_map, bytes_eq, refl, sym, ap, ◌∙◌}
+use Rattle.std.proofs.Common.{◌≡◌, Bor, ℕ, ◌+◌, ◌<◌, length, List, [], ◌∷◌, ◌++◌, map, get_or, take, find, Option, Some, None, Bool, true, false, cond, ◌||◌, is_some, option_map, bytes_eq, refl, sym, ap, ◌∙◌}
 use Rattle.std.specs.Map.{lookup}
-use Rattle.std.proofs.lemmas.List.{map_push, take_more}
+use Rattle.std.proofs.lemmas.List.{take_more}
 use Rattle.indexmap.specs.IndexMap.{insert_entry}
-use Rattle.stack_text.specs.declared.breach.Breach.{Breach}
-use Rattle.stack_text.specs.declared.name.Named.{Named}
-use Rattle.stack_text.specs.Breaches.{when, lesser_of, least, Notes}
 use Rattle.gypsy_syntax.specs.declared.proc.Proc.{Proc}
-use Rattle.gypsy_check.specs.Declarations.{repeats}
 use Rattle.gypsy_check.specs.Tables.{is_named, first_or}
 
 abbrev Key : Type 0

@@ -4,7 +4,6 @@ use Rattle.std.proofs.Common.{Option, Some, None, is_none, flat_map, refl, ap, s
 use Rattle.gypsy_syntax.specs.ProgramFits.{Each}
 use Rattle.stack_text.specs.declared.breach.Breach.{Breach}
 use Rattle.stack_text.specs.Breaches.{when}
-use Rattle.gypsy_check.specs.Rules.{violations}
 
 pub two : {X : Type 0} (a b : List X) → a ++ b ≡ [] → (a ≡ []) × (b ≡ [])
 two [] b e = (refl, e)

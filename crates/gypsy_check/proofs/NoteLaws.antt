@@ -1,6 +1,6 @@
 -- What was noted, and then more.
 use Rattle.std.proofs.Common.{◌≡◌, ℕ, zero, suc, ◌+◌, ◌<◌, ◌≤◌, List, [], ◌∷◌, ◌++◌, map, length, drop, get_or}
-use Rattle.std.proofs.Common.{Option, Some, None, Bool, true, false, not, ◌||◌, if◌then◌else◌, refl, ap, ap₂, sym, ◌∙◌, append_assoc}
+use Rattle.std.proofs.Common.{Option, None, Bool, true, false, not, ◌||◌, if◌then◌else◌, refl, ap, ap₂, sym, ◌∙◌, append_assoc}
 use Rattle.std.specs.List.{flat_map, list_any}
 use Rattle.std.proofs.lemmas.List.{drop_more, drop_all}
 use Rattle.stack_text.specs.declared.breach.Breach.{Breach}

@@ -1,5 +1,5 @@
 -- Names that stand earlier, one name after the other.
-use Rattle.std.proofs.Common.{◌≡◌, Bor, ℕ, ◌+◌, ◌<◌, length, List, [], ◌∷◌, ◌++◌, map, get_or, take, Option, Bool, true, false, cond, ◌||◌, bytes_eq, refl, ap, ap₂, sym, ◌∙◌, append_assoc}
+use Rattle.std.proofs.Common.{◌≡◌, Bor, ℕ, ◌+◌, ◌<◌, length, List, [], ◌∷◌, ◌++◌, map, get_or, take, Option, Bool, true, false, cond, ◌||◌, bytes_eq, refl, ap, sym, ◌∙◌, append_assoc}
 use Rattle.std.specs.List.{list_any}
 use Rattle.std.proofs.lemmas.List.{append-nil, map_push, take_more}
 use Rattle.std.proofs.lemmas.Slice.Eq.{bytes_eq-Decides}
@@ -32,7 +32,7 @@ repeats-push rule earlier (m ∷ ns) n =
     ap (λ (bs : List Breach). when (is_among m.name earlier) m.place rule ++ bs) (repeats-push rule (m.name ∷ earlier) ns n)
     ∙ sym (append_assoc (when (is_among m.name earlier) m.place rule) (repeats rule (m.name ∷ earlier) ns) (when (is_named n.name ns || (bytes_eq n.name m.name || is_among n.name earlier)) n.place rule))
     ∙ ap (λ (b : Bool). (when (is_among m.name earlier) m.place rule ++ repeats rule (m.name ∷ earlier) ns) ++ when b n.place rule)
-        (first (is_named n.name ns) (bytes_eq n.name m.name) (is_among n.name earlier))
+    (first (is_named n.name ns) (bytes_eq n.name m.name) (is_among n.name earlier))
   where
     first : (a b c : Bool) → (a || (b || c)) ≡ ((b || a) || c)
     first true true c = refl

@@ -1,5 +1,5 @@
 -- The arguments of a predefined procedure, and the kind that they share.
-use Rattle.std.specs.Prelude.{List, Bool, true, false, Option, Some, None, is_none, if◌then◌else◌}
+use Rattle.std.specs.Prelude.{Bool, true, false, Option, Some, None, is_none, if◌then◌else◌}
 use Rattle.stack_text.specs.declared.shape.Kind.{Kind}
 use Rattle.gypsy_syntax.specs.declared.literal.TypeText.{TypeText}
 use Rattle.gypsy_syntax.specs.declared.slot.Form.{Form}

@@ -6,7 +6,7 @@ use Rattle.stack_text.specs.declared.shape.Kind.TheVariants.{Integer, Boolean, C
 use Rattle.gypsy_syntax.specs.declared.literal.TypeText.{TypeText}
 use Rattle.gypsy_syntax.specs.Effects.{same_int}
 use Rattle.gypsy_syntax.specs.Resolved.{literal_kind}
-use Rattle.gypsy_syntax.specs.Sources.{LiteralOf, LiteralsOf, integer, truth, character, array, no_items, item}
+use Rattle.gypsy_syntax.specs.Sources.{LiteralOf, LiteralsOf, array, no_items, item}
 
 abbrev pub same_kind : Kind → Kind → Bool
 same_kind Integer Integer = true

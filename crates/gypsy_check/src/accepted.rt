@@ -25,7 +25,6 @@ impl Model for Accepted {
     ghost use Rattle.gypsy_syntax.specs.SourceView.{source_of};
     ghost use Rattle.gypsy_syntax.specs.declared.proc.Source.{Source};
     ghost use Rattle.gypsy_check.specs.Accepted.{IsAccepted};
-
     ghost use Rattle.gypsy_syntax.specs.contracts.literal.Literal as literal;
     ghost use Rattle.gypsy_syntax.specs.contracts.statement.Stmt as statement;
     ghost use Rattle.std.specs.Coded.{codes};

@@ -54,12 +54,7 @@ pub(crate) fn check_variables(
 ) -> Result<(), Memory>
     ensures { OnOk result (Notes best.old (variable_breaches (proc_of proc.now)) best.new) }
 {
-    check_variable_names(
-        alloc,
-        best,
-        proc.formals.as_slice(),
-        proc.locals.as_slice(),
-    )?;
+    check_variable_names(alloc, best, proc.formals.as_slice(), proc.locals.as_slice())?;
     check_types(best, proc);
     check_locals(best, proc.locals.as_slice());
     Ok(())

@@ -14,6 +14,8 @@ mod names;
 mod predefs;
 mod procedures;
 mod statements;
+#[cfg(test)]
+mod tests;
 mod types;
 mod values;
 mod variables;

@@ -1,4 +1,4 @@
-use Rattle.std.proofs.Common.{◌∙◌, sym, rules}
+use Rattle.std.proofs.Common.{◌∙◌, sym}
 use Rattle.stack_text.proofs.BreachLaws.{none_least}
 use Rattle.gypsy_syntax.specs.SourceView.{source_of}
 use Rattle.gypsy_check.specs.Rules.{violations}

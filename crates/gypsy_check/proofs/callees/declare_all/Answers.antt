@@ -4,7 +4,6 @@ use Rattle.stack_text.specs.Breaches.{lesser_of, least}
 use Rattle.gypsy_syntax.specs.declared.proc.Proc.{Proc}
 use Rattle.gypsy_check.specs.Declarations.{repeats}
 use Rattle.gypsy_check.specs.Tables.{look_up}
-use Rattle.gypsy_check.proofs.NoteLaws.{noted}
 use Rattle.gypsy_check.proofs.RepeatLaws.{noted_more, items_more}
 use Rattle.gypsy_check.proofs.CalleeLaws.{known_next, known_name}
 use Rattle.gypsy_check.proofs.callees.declare_all.Goals as goal

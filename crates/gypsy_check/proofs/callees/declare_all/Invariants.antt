@@ -3,7 +3,6 @@ use Rattle.stack_text.specs.Breaches.{Notes}
 use Rattle.gypsy_syntax.specs.declared.proc.Proc.{Proc}
 use Rattle.gypsy_check.specs.Declarations.{repeats}
 use Rattle.gypsy_check.specs.Tables.{KnowsProcs}
-use Rattle.gypsy_check.proofs.NoteLaws.{noted}
 use Rattle.gypsy_check.proofs.callees.declare_all.Given as goal
 
 -- the procedures so far

@@ -1,6 +1,5 @@
 use Rattle.std.proofs.Common.{◌++◌}
 use Rattle.std.specs.List.{flat_map}
-use Rattle.gypsy_syntax.specs.Sources.{call}
 use Rattle.gypsy_syntax.specs.SourceView.{proc_of, source_of}
 use Rattle.gypsy_check.specs.Declarations.{procedure_named}
 use Rattle.gypsy_check.specs.Rules.{raised_breaches, callee_breaches, callee_name_breaches, actual_name_breaches}

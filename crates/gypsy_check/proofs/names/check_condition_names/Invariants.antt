@@ -2,7 +2,6 @@ use Rattle.std.proofs.Common.{◌++◌, [], take}
 use Rattle.stack_text.specs.Breaches.{Notes}
 use Rattle.gypsy_check.specs.Declarations.{repeats}
 use Rattle.gypsy_check.specs.Tables.{KnowsNames}
-use Rattle.gypsy_check.proofs.NoteLaws.{noted}
 use Rattle.gypsy_check.proofs.names.check_condition_names.Given as goal
 
 -- the formal conditions so far

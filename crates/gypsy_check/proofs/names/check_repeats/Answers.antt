@@ -1,6 +1,5 @@
 use Rattle.std.proofs.Common.{◌+◌, [], take}
 use Rattle.gypsy_check.specs.Tables.{has}
-use Rattle.gypsy_check.proofs.NoteLaws.{noted}
 use Rattle.gypsy_check.proofs.RepeatLaws.{known_more, noted_more, names_more}
 use Rattle.gypsy_check.proofs.names.check_repeats.Goals as goal
 

@@ -5,7 +5,6 @@ use Rattle.gypsy_syntax.specs.declared.literal.Decl.{Decl}
 use Rattle.gypsy_syntax.specs.declared.literal.Local.{Local}
 use Rattle.gypsy_check.specs.Declarations.{repeats}
 use Rattle.gypsy_check.specs.Tables.{has}
-use Rattle.gypsy_check.proofs.NoteLaws.{noted}
 use Rattle.gypsy_check.proofs.RepeatLaws.{known_more, noted_more, items_more}
 use Rattle.gypsy_check.proofs.names.check_variable_names.Goals as goal
 

@@ -4,7 +4,6 @@ use Rattle.gypsy_syntax.specs.declared.literal.Decl.{Decl}
 use Rattle.gypsy_syntax.specs.declared.literal.Local.{Local}
 use Rattle.gypsy_check.specs.Declarations.{repeats}
 use Rattle.gypsy_check.specs.Tables.{KnowsNames}
-use Rattle.gypsy_check.proofs.NoteLaws.{noted}
 use Rattle.gypsy_check.proofs.names.check_variable_names.Given as goal
 
 -- the formals so far
