@@ -31,7 +31,8 @@ pub fn emit(
 ) -> Result<Vec<Piece>, Memory>
     requires { IsOfGroup Word checked.now.resolved program place }
     ensures pieces { IfOk result (λ pieces. pieces.items ≡ pieces_at (system_in checked.now) program place) }
-    ensures steps { IfOk result (λ pieces. (placed (system_in checked.now)).size ≤ 2 ^ 20 → DoesStepsAt (system_in checked.now) program place) }
+    ensures steps { IfOk result (λ pieces.
+        (placed (system_in checked.now)).size ≤ 2 ^ 20 → DoesStepsAt (system_in checked.now) program place) }
 {
     match instruction(checked.resolved(), program, place) {
         Some(instr) => match word_operation(instr.op) {

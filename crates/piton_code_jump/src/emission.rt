@@ -40,7 +40,8 @@ pub fn emit(
 ) -> Result<Vec<Piece>, Memory>
     requires { IsOfGroup Jump checked.now.resolved program place }
     ensures pieces { IfOk result (λ pieces. pieces.items ≡ pieces_at (system_in checked.now) program place) }
-    ensures steps { IfOk result (λ pieces. (placed (system_in checked.now)).size ≤ 2 ^ 20 → DoesStepsAt (system_in checked.now) program place) }
+    ensures steps { IfOk result (λ pieces.
+        (placed (system_in checked.now)).size ≤ 2 ^ 20 → DoesStepsAt (system_in checked.now) program place) }
 {
     let resolved = checked.resolved();
     match instruction(resolved, program, place) {
@@ -69,7 +70,9 @@ fn emitted(
     args: &[ResolvedArg],
 ) -> Result<Vec<Piece>, AllocError>
     requires next { place + 1 < 2 ^ 32 }
-    ensures { IfOk result (λ pieces. pieces.items ≡ only_of Jump (group_of op) (pieces_of program place locals (instruction_by_argument op args.now))) }
+    ensures { IfOk result (λ pieces.
+        pieces.items ≡
+        only_of Jump (group_of op) (pieces_of program place locals (instruction_by_argument op args.now))) }
 {
     match op {
         PitonOp::Jump => match place_argument(args) {
@@ -151,7 +154,8 @@ fn no_op(alloc: Global) -> Result<Vec<Piece>, AllocError>
 
 // A jump by a table of the places of these labels.
 fn jump_case(alloc: Global, program: u32, args: &[ResolvedArg]) -> Result<Vec<Piece>, AllocError>
-    ensures { IfOk result (λ pieces. pieces.items ≡ jump_case_pieces ++ map (λ to. Place program to) (map place_of args.now)) }
+    ensures { IfOk result (λ pieces.
+        pieces.items ≡ jump_case_pieces ++ map (λ to. Place program to) (map place_of args.now)) }
 {
     let mut pieces = piece_vec(alloc, &jump_case_pieces())?;
     for arg in args {

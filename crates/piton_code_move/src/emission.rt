@@ -35,7 +35,8 @@ pub fn emit(
 ) -> Result<Vec<Piece>, Memory>
     requires { IsOfGroup Move checked.now.resolved program place }
     ensures pieces { IfOk result (λ pieces. pieces.items ≡ pieces_at (system_in checked.now) program place) }
-    ensures steps { IfOk result (λ pieces. (placed (system_in checked.now)).size ≤ 2 ^ 20 → DoesStepsAt (system_in checked.now) program place) }
+    ensures steps { IfOk result (λ pieces.
+        (placed (system_in checked.now)).size ≤ 2 ^ 20 → DoesStepsAt (system_in checked.now) program place) }
 {
     match instruction(checked.resolved(), program, place) {
         Some(instr) => Ok(emitted(alloc, instr.op, instr.args.as_slice())?),
@@ -46,7 +47,9 @@ pub fn emit(
 // The pieces of a move; none for another instruction.
 fn emitted(alloc: Global, op: PitonOp, args: &[ResolvedArg]) -> Result<Vec<Piece>, AllocError>
     requires counts { (n : ℕ) → instruction_by_argument op args.now ≡ PushTempStkIndex n → n ≤ 65536 }
-    ensures { (program place locals : ℕ) → IfOk result (λ pieces. pieces.items ≡ only_of Move (group_of op) (pieces_of program place locals (instruction_by_argument op args.now))) }
+    ensures { (program place locals : ℕ) → IfOk result (λ pieces.
+        pieces.items ≡
+        only_of Move (group_of op) (pieces_of program place locals (instruction_by_argument op args.now))) }
 {
     match op {
         PitonOp::PushConstant => match word_argument(args) {

@@ -32,7 +32,8 @@ NumbersTell = (s : SystemView) (v w : Word) (b : Bool) → IsWordOf s v → IsWo
 
 -- the machine with the placed words, and with any initial stack of the system's length, stands for the opening state
 abbrev pub OpeningStands : Type 0
-OpeningStands = (s : SystemView) (stack : List Word) → IsSound s → length stack ≡ length s.stack → Stands s (loaded s stack) (started s stack)
+OpeningStands = (s : SystemView) (stack : List Word) → IsSound s → length stack ≡ length s.stack →
+    Stands s (loaded s stack) (started s stack)
 
 -- in a sound system whose placed size is at most 2^20, the code at each place does its steps
 abbrev pub EachPlaceDoesSteps : Type 0

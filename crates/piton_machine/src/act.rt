@@ -25,8 +25,10 @@ impl State {
         requires temp { self.old.temp ≡ checked.now.temp }
         requires ctrl { self.old.ctrl ≡ checked.now.ctrl }
         requires few { (program : ℕ) → variables_of (system_view checked.now) program ≤ 400 }
-        ensures ok { OnOk result (row_of (system_view checked.now) self.old.state (instruction_view instr.now) ≡ Ok self.new.state) }
-        ensures err { IfErr result (λ e. row_of (system_view checked.now) self.old.state (instruction_view instr.now) ≡ Err e) }
+        ensures ok { OnOk result
+            (row_of (system_view checked.now) self.old.state (instruction_view instr.now) ≡ Ok self.new.state) }
+        ensures err { IfErr result (λ e.
+            row_of (system_view checked.now) self.old.state (instruction_view instr.now) ≡ Err e) }
         ensures rest { self.new ≡ record self.old { state = self.new.state } }
         ensures unchanged { OnErr result (self.new ≡ self.old) }
     {
@@ -47,8 +49,11 @@ impl State {
         requires temp { self.old.temp ≡ checked.now.temp }
         requires ctrl { self.old.ctrl ≡ checked.now.ctrl }
         requires few { (program : ℕ) → variables_of (system_view checked.now) program ≤ 400 }
-        ensures ok { OnOk result (row_of (system_view checked.now) self.old.state (instruction_by_argument op args.now) ≡ Ok self.new.state) }
-        ensures err { IfErr result (λ e. row_of (system_view checked.now) self.old.state (instruction_by_argument op args.now) ≡ Err e) }
+        ensures ok { OnOk result
+            (row_of (system_view checked.now) self.old.state (instruction_by_argument op args.now) ≡
+            Ok self.new.state) }
+        ensures err { IfErr result (λ e.
+            row_of (system_view checked.now) self.old.state (instruction_by_argument op args.now) ≡ Err e) }
         ensures rest { self.new ≡ record self.old { state = self.new.state } }
         ensures unchanged { OnErr result (self.new ≡ self.old) }
     {
@@ -179,7 +184,8 @@ impl State {
     // What a move, a jump, a call or a return costs.
     fn cost_otherwise(&self, checked: &Resolved, op: PitonOp, args: &[ResolvedArg]) -> u64
         requires { (program : ℕ) → variables_of (system_view checked.now) program ≤ 400 }
-        ensures value { result ≡ cost_of (system_view checked.now) self.now.state (instruction_by_argument op args.now) }
+        ensures value { result ≡
+            cost_of (system_view checked.now) self.now.state (instruction_by_argument op args.now) }
     {
         match op {
             PitonOp::PushConstant => match word_argument(args) {

@@ -210,7 +210,8 @@ impl State {
 
 /// The instruction at a place of a program.
 pub fn instruction(checked: &Resolved, program: u32, place: u32) -> Option<&ResolvedInstr>
-    ensures instruction { option_map (λ instr. instruction_view instr.now) result ≡ instruction_at (system_view checked.now) program place }
+    ensures instruction { option_map (λ instr. instruction_view instr.now) result ≡
+        instruction_at (system_view checked.now) program place }
     ensures resolved { option_map (λ instr. instr.now) result ≡ resolved_at checked.now program place }
 {
     checked
