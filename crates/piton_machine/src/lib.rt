@@ -19,6 +19,8 @@ mod piece;
 mod stack;
 mod state;
 mod stepped;
+#[cfg(test)]
+mod tests;
 mod view;
 
 pub use act::variables;
