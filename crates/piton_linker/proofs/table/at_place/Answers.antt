@@ -1,0 +1,10 @@
+use Rattle.std.proofs.Common.{ap, ◌∙◌}
+use Rattle.std.specs.Prelude.{unwrap_or}
+use Rattle.piton_check.specs.Instruction.{system_view}
+use Rattle.piton_linker.proofs.LookupLaws.{place_word}
+use Rattle.piton_linker.proofs.table.at_place.Goals as goal
+
+pub returns : goal.returns
+returns c =
+    c.unwrap_or.ensures ∙ ap (λ o. unwrap_or o 0) c.place.ensures
+    ∙ place_word (system_view c.args._checked.now) c.args.table.now c.args.program c.args.to c.requires.table c.requires.there

@@ -1,0 +1,40 @@
+use Rattle.std.proofs.Common.{◌≡◌, ◌+◌, ◌<◌, ◌++◌, length, ap, sym, ◌∙◌, subst, arith}
+use Rattle.std.specs.Prelude.{◌^◌}
+use Rattle.piton_check.specs.Resolved.{ResolvedOf}
+use Rattle.piton_check.specs.Instruction.{system_view}
+use Rattle.piton_machine.specs.Fits.{Each, system_in}
+use Rattle.piton_machine.specs.Placed.{address_of_place, addresses_of}
+use Rattle.piton_machine.specs.Templates.{pieces_at}
+use Rattle.piton_linker.proofs.EmissionLaws.{place_known}
+use Rattle.piton_machine.specs.Templates.{words_of}
+use Rattle.piton_linker.specs.Tables.{IsNamed}
+use Rattle.piton_linker.proofs.words.append_place.Goals as goal
+
+pub append-requires-clause-named : goal.append-requires-clause-named
+append-requires-clause-named c =
+    let s = system_in c.args.checked.now in
+    let value = c.resolved.ensures.value in
+    let known = place_known s c.resolved.ensures.checked.sound c.args.program c.args.place c.requires.there in
+    let pieces : c.as_slice.result.now ≡ pieces_at s c.args.program c.args.place = c.as_slice.ensures.value ∙ c.in_ok-pieces.ensures in
+    subst (λ (u : ResolvedOf). Each (IsNamed (system_view u)) c.as_slice.result.now) (sym value) (subst (Each (IsNamed s)) (sym pieces) known.named)
+
+pub append-requires-clause-room : goal.append-requires-clause-room
+append-requires-clause-room c =
+    let s = system_in c.args.checked.now in
+    let value = c.resolved.ensures.value in
+    let known = place_known s c.resolved.ensures.checked.sound c.args.program c.args.place c.requires.there in
+    let pieces : c.as_slice.result.now ≡ pieces_at s c.args.program c.args.place = c.as_slice.ensures.value ∙ c.in_ok-pieces.ensures in
+    let base : c.resolved.result.now.base ≡ s.base = ap (λ (u : ResolvedOf). u.base) value in
+    omega (arith, base, ap length pieces, known.room, c.requires.at, c.requires.fits)
+
+pub returns : goal.returns
+returns c =
+    let s = system_in c.args.checked.now in
+    let value = c.resolved.ensures.value in
+    let known = place_known s c.resolved.ensures.checked.sound c.args.program c.args.place c.requires.there in
+    let pieces : c.as_slice.result.now ≡ pieces_at s c.args.program c.args.place = c.as_slice.ensures.value ∙ c.in_ok-pieces.ensures in
+    let old = c.args.words.now.items in
+    c.in_ok-append.ensures
+    ∙ ap (λ (u : ResolvedOf). old ++ words_of (addresses_of (system_view u)) (u.base + length old) c.as_slice.result.now) value
+    ∙ ap (λ a. old ++ words_of (addresses_of s) a c.as_slice.result.now) c.requires.at
+    ∙ ap (λ ps. old ++ words_of (addresses_of s) (address_of_place s c.args.program c.args.place) ps) pieces

@@ -1,0 +1,41 @@
+use Rattle.std.proofs.Common.{◌≡◌, ◌+◌, ◌<◌, ◌++◌, length, ap, sym, ◌∙◌, subst, arith}
+use Rattle.std.specs.Prelude.{◌^◌}
+use Rattle.piton_check.specs.Resolved.{ResolvedOf}
+use Rattle.piton_check.specs.Instruction.{system_view}
+use Rattle.piton_machine.specs.Fits.{Each, system_in}
+use Rattle.piton_machine.specs.State.{program_of}
+use Rattle.piton_machine.specs.Placed.{entry_of, addresses_of}
+use Rattle.piton_machine.specs.Templates.{prelude_pieces}
+use Rattle.piton_linker.proofs.EmissionLaws.{prelude_known}
+use Rattle.piton_machine.specs.Templates.{words_of}
+use Rattle.piton_linker.specs.Tables.{IsNamed}
+use Rattle.piton_linker.proofs.words.append_prelude.Goals as goal
+
+pub append-requires-clause-named : goal.append-requires-clause-named
+append-requires-clause-named c =
+    let s = system_in c.args.checked.now in
+    let value = c.resolved.ensures.value in
+    let known = prelude_known s c.resolved.ensures.checked.sound c.args.program c.requires.there in
+    let pieces : c.as_slice.result.now ≡ prelude_pieces (program_of s c.args.program) = c.as_slice.ensures.value ∙ c.in_ok-pieces.ensures in
+    subst (λ (u : ResolvedOf). Each (IsNamed (system_view u)) c.as_slice.result.now) (sym value) (subst (Each (IsNamed s)) (sym pieces) known.named)
+
+pub append-requires-clause-room : goal.append-requires-clause-room
+append-requires-clause-room c =
+    let s = system_in c.args.checked.now in
+    let value = c.resolved.ensures.value in
+    let known = prelude_known s c.resolved.ensures.checked.sound c.args.program c.requires.there in
+    let pieces : c.as_slice.result.now ≡ prelude_pieces (program_of s c.args.program) = c.as_slice.ensures.value ∙ c.in_ok-pieces.ensures in
+    let base : c.resolved.result.now.base ≡ s.base = ap (λ (u : ResolvedOf). u.base) value in
+    omega (arith, base, ap length pieces, known.room, c.requires.at, c.requires.fits)
+
+pub returns : goal.returns
+returns c =
+    let s = system_in c.args.checked.now in
+    let value = c.resolved.ensures.value in
+    let known = prelude_known s c.resolved.ensures.checked.sound c.args.program c.requires.there in
+    let pieces : c.as_slice.result.now ≡ prelude_pieces (program_of s c.args.program) = c.as_slice.ensures.value ∙ c.in_ok-pieces.ensures in
+    let old = c.args.words.now.items in
+    c.in_ok-append.ensures
+    ∙ ap (λ (u : ResolvedOf). old ++ words_of (addresses_of (system_view u)) (u.base + length old) c.as_slice.result.now) value
+    ∙ ap (λ a. old ++ words_of (addresses_of s) a c.as_slice.result.now) c.requires.at
+    ∙ ap (λ ps. old ++ words_of (addresses_of s) (entry_of s c.args.program) ps) pieces

@@ -1,0 +1,5 @@
+-- What the crate promises: what linking returns, and the theorem.
+pub mod Layouts
+pub mod Theorem
+-- Scaffold: what only private functions say.
+pub mod Tables

@@ -1,0 +1,86 @@
+//! Linked systems.
+
+ghost use Rattle.std.specs.Prelude.{◌≡◌, ◌≤◌, ◌^◌, IfOk, IfErr, map};
+ghost use Rattle.piton_machine.specs.Fits.{system_in};
+ghost use Rattle.piton_machine.specs.Placed.{placed};
+ghost use Rattle.piton_linker.specs.Layouts.{places_of, trimmed, IsFault};
+ghost use Rattle.piton_linker.specs.Theorem.{RunsOnProcessor};
+
+use crate::fault::LinkFault;
+use crate::memory::{memory, registers, trim};
+use crate::sizes::layout;
+use crate::table::tabulated;
+use piton_check::Checked;
+use stack_text::Memory;
+use std::alloc::Global;
+
+/// A system with all its words in their places.
+#[derive(Debug, Drop)]
+pub struct Linked {
+    /// The first address.
+    pub base: u32,
+    /// How many words the memory has from there on.
+    pub size: u32,
+    /// The address after the code, where the program has ended.
+    pub final_pc: u32,
+    /// The sixteen registers at the start.
+    pub registers: Vec<u32>,
+    /// The words from the first address on, up to the last that isn't zero.
+    pub words: Vec<u32>,
+    /// The address of each instruction of each program.
+    pub places: Vec<Vec<u32>>,
+}
+
+/// Links a system: gives each program, area and stack its place in memory, and each instruction its words.
+///
+/// Whatever the system does on Piton's machine, its words then do on the processor, in as many instructions as the steps
+/// cost. The time is linear in the words.
+///
+/// # Errors
+///
+/// Its placed words are over 1,048,576, or there is no memory.
+pub fn link(alloc: Global, checked: &Checked) -> Result<Linked, LinkFault>
+    ensures small { IfOk result (λ linked. (placed (system_in checked.now)).size ≤ 2 ^ 20) }
+    ensures fault { IfErr result (IsFault (system_in checked.now)) }
+    ensures base { IfOk result (λ linked. linked.base ≡ (system_in checked.now).base) }
+    ensures size { IfOk result (λ linked. linked.size ≡ (placed (system_in checked.now)).size) }
+    ensures final_pc { IfOk result (λ linked. linked.final_pc ≡ (placed (system_in checked.now)).final_pc) }
+    ensures registers { IfOk result (λ linked. linked.registers.items ≡ (placed (system_in checked.now)).registers) }
+    ensures words { IfOk result (λ linked. linked.words.items ≡ trimmed (placed (system_in checked.now)).words) }
+    ensures places { IfOk result (λ linked. map (λ row. row.items) linked.places.items ≡ places_of (system_in checked.now) 0 (system_in checked.now).programs) }
+    ensures runs { IfOk result (λ linked. RunsOnProcessor (system_in checked.now)) }
+{
+    let parts = layout(checked);
+    if parts.size > 1_048_576 {
+        return Err(LinkFault::Large { words: parts.size });
+    }
+    Ok(link_small(alloc, checked)?)
+}
+
+// Links a system whose placed words are few enough.
+#[tactic(auto, using(crate::proofs::ProcessorLaws::checked_end))]
+fn link_small(alloc: Global, checked: &Checked) -> Result<Linked, Memory>
+    requires small { (placed (system_in checked.now)).size ≤ 2 ^ 20 }
+    ensures base { IfOk result (λ linked. linked.base ≡ (system_in checked.now).base) }
+    ensures size { IfOk result (λ linked. linked.size ≡ (placed (system_in checked.now)).size) }
+    ensures final_pc { IfOk result (λ linked. linked.final_pc ≡ (placed (system_in checked.now)).final_pc) }
+    ensures registers { IfOk result (λ linked. linked.registers.items ≡ (placed (system_in checked.now)).registers) }
+    ensures words { IfOk result (λ linked. linked.words.items ≡ trimmed (placed (system_in checked.now)).words) }
+    ensures places { IfOk result (λ linked. map (λ row. row.items) linked.places.items ≡ places_of (system_in checked.now) 0 (system_in checked.now).programs) }
+    ensures runs { IfOk result (λ linked. RunsOnProcessor (system_in checked.now)) }
+{
+    let parts = layout(checked);
+    let resolved = checked.resolved();
+    let table = tabulated(alloc, resolved, parts)?;
+    let registers = registers(alloc, &table, checked, parts)?;
+    let mut words = memory(alloc, &table, checked, parts.final_pc as u32)?;
+    trim(&mut words);
+    Ok(Linked {
+        base: resolved.base,
+        size: parts.size as u32,
+        final_pc: parts.final_pc as u32,
+        registers,
+        words,
+        places: table.places,
+    })
+}

@@ -1,0 +1,190 @@
+//! All words of a placed system.
+
+ghost use Rattle.std.specs.Prelude.{◌≡◌, ◌+◌, ◌-◌, ◌++◌, ◌<◌, ◌^◌, IfOk, OnOk, length, replicate, reverse, take};
+ghost use Rattle.piton_machine.specs.Fits.{system_in};
+ghost use Rattle.piton_machine.specs.State.{program_of};
+ghost use Rattle.piton_machine.specs.Addresses.{numbers};
+ghost use Rattle.piton_machine.specs.Placed.{end_of, final_pc_of, first_frame, first_frame_at, first_top, address_of_place, placed_registers, placed, addresses_of};
+ghost use Rattle.piton_linker.specs.Tables.{areas_words};
+ghost use Rattle.piton_linker.specs.Layouts.{layout_of, trimmed};
+ghost use Rattle.piton_linker.specs.Tables.{table_of};
+
+use crate::data::{append_areas, append_reversed, append_words};
+use crate::placement::Layout;
+use crate::table::{Table, at_place};
+use crate::words::code;
+use fm_code::word::HALT_WORD;
+use piton_check::Checked;
+use piton_words::Word;
+use stack_text::Memory;
+use std::alloc::Global;
+
+/// All words of a placed system.
+pub(crate) fn memory(
+    alloc: Global,
+    table: &Table,
+    checked: &Checked,
+    final_pc: u32,
+) -> Result<Vec<u32>, Memory>
+    requires table { table.now ≡ table_of (system_in checked.now) }
+    requires fits { end_of (system_in checked.now) + 2 < 2 ^ 32 }
+    requires final_pc { final_pc ≡ final_pc_of (system_in checked.now) }
+    ensures { IfOk result (λ words. words.items ≡ (placed (system_in checked.now)).words) }
+{
+    let mut words = code(alloc, table, checked)?;
+    words.push(HALT_WORD)?;
+    append_data(&mut words, table, checked)?;
+    append_zeros(&mut words, ctrl_gap(checked))?;
+    append_frame(&mut words, table, checked, final_pc)?;
+    append_zeros(&mut words, temp_gap(checked))?;
+    append_stack(&mut words, table, checked)?;
+    Ok(words)
+}
+
+// The words of the areas.
+fn append_data(words: &mut Vec<u32>, table: &Table, checked: &Checked) -> Result<(), Memory>
+    requires table { table.now ≡ table_of (system_in checked.now) }
+    requires fits { end_of (system_in checked.now) + 2 < 2 ^ 32 }
+    ensures { OnOk result (words.new.items ≡ words.old.items ++ areas_words (system_in checked.now) (system_in checked.now).areas) }
+{
+    let resolved = checked.resolved();
+    append_areas(words, table, resolved, resolved.areas.as_slice())?;
+    Ok(())
+}
+
+// The words of the temporary stack.
+fn append_stack(words: &mut Vec<u32>, table: &Table, checked: &Checked) -> Result<(), Memory>
+    requires table { table.now ≡ table_of (system_in checked.now) }
+    requires fits { end_of (system_in checked.now) + 2 < 2 ^ 32 }
+    ensures { OnOk result (words.new.items ≡ words.old.items ++ numbers (addresses_of (system_in checked.now)) (reverse (system_in checked.now).stack)) }
+{
+    let resolved = checked.resolved();
+    append_reversed(words, table, resolved, resolved.stack.as_slice())?;
+    Ok(())
+}
+
+// The words of main's frame.
+fn append_frame(
+    words: &mut Vec<u32>,
+    table: &Table,
+    checked: &Checked,
+    final_pc: u32,
+) -> Result<(), Memory>
+    requires table { table.now ≡ table_of (system_in checked.now) }
+    requires fits { end_of (system_in checked.now) + 2 < 2 ^ 32 }
+    requires final_pc { final_pc ≡ final_pc_of (system_in checked.now) }
+    ensures { OnOk result (words.new.items ≡ words.old.items ++ first_frame (system_in checked.now)) }
+{
+    append_words(words, table, checked.resolved(), main_temporaries(checked))?;
+    words.push(0)?;
+    words.push(final_pc)?;
+    Ok(())
+}
+
+// The first values of main's locals.
+fn main_temporaries(checked: &Checked) -> &[Word]
+    ensures { result.now ≡ (program_of (system_in checked.now) (system_in checked.now).main).temporaries }
+{
+    let resolved = checked.resolved();
+    match resolved.programs.get(resolved.main as usize) {
+        Some(main) => main.temporaries.as_slice(),
+        None => &[],
+    }
+}
+
+// How many words of the control stack lie below main's frame.
+fn ctrl_gap(checked: &Checked) -> u32
+    ensures { result ≡ (system_in checked.now).ctrl - 2 - length (program_of (system_in checked.now) (system_in checked.now).main).temporaries }
+{
+    let used = 2 + main_temporaries(checked).len();
+    (checked.resolved().ctrl as usize).saturating_sub(used) as u32
+}
+
+// How many words of the temporary stack are free.
+fn temp_gap(checked: &Checked) -> u32
+    ensures { result ≡ (system_in checked.now).temp - length (system_in checked.now).stack }
+{
+    let resolved = checked.resolved();
+    (resolved.temp as usize).saturating_sub(resolved.stack.len()) as u32
+}
+
+// So many zeros.
+fn append_zeros(words: &mut Vec<u32>, count: u32) -> Result<(), Memory>
+    ensures { OnOk result (words.new.items ≡ words.old.items ++ replicate count 0) }
+{
+    let len = words.len();
+    words.resize(len.saturating_add(count as usize), 0)?;
+    Ok(())
+}
+
+/// The registers of a placed system.
+pub(crate) fn registers(
+    alloc: Global,
+    table: &Table,
+    checked: &Checked,
+    parts: Layout,
+) -> Result<Vec<u32>, Memory>
+    requires table { table.now ≡ table_of (system_in checked.now) }
+    requires fits { end_of (system_in checked.now) + 2 < 2 ^ 32 }
+    requires parts { parts ≡ layout_of (system_in checked.now) }
+    ensures { IfOk result (λ registers. registers.items ≡ placed_registers (system_in checked.now)) }
+{
+    let frame = first_frame_at(checked, parts);
+    let top = first_top(checked, parts);
+    let entry = main_at(table, checked);
+    let registers = [frame, frame, top, 0, 0, 0, 0, 0, 0, 0, 0, 0, 0, 0, 0, entry];
+    let mut made = Vec::with_capacity(alloc, 16)?;
+    made.extend_from_slice(&registers)?;
+    Ok(made)
+}
+
+// The first address of main's frame.
+fn first_frame_at(checked: &Checked, parts: Layout) -> u32
+    requires fits { end_of (system_in checked.now) + 2 < 2 ^ 32 }
+    requires parts { parts ≡ layout_of (system_in checked.now) }
+    ensures { result ≡ first_frame_at (system_in checked.now) }
+{
+    let used = 2 + main_temporaries(checked).len() as u64;
+    parts.temp_start.saturating_sub(used) as u32
+}
+
+// The address of the temporary stack's top.
+fn first_top(checked: &Checked, parts: Layout) -> u32
+    requires fits { end_of (system_in checked.now) + 2 < 2 ^ 32 }
+    requires parts { parts ≡ layout_of (system_in checked.now) }
+    ensures { result ≡ first_top (system_in checked.now) }
+{
+    let held = checked.resolved().stack.len() as u64;
+    parts.end.saturating_sub(held) as u32
+}
+
+// The address of main's first place.
+#[tactic(auto, using(crate::proofs::EmissionLaws::main_begins))]
+fn main_at(table: &Table, checked: &Checked) -> u32
+    requires table { table.now ≡ table_of (system_in checked.now) }
+    ensures { result ≡ address_of_place (system_in checked.now) (system_in checked.now).main 0 }
+{
+    let resolved = checked.resolved();
+    at_place(table, resolved, resolved.main, 0)
+}
+
+/// Takes off the zeros after the last word that isn't zero.
+pub(crate) fn trim(words: &mut Vec<u32>)
+    ensures { words.new.items ≡ trimmed words.old.items }
+{
+    let used = used(words.as_slice());
+    words.truncate(used);
+}
+
+// How many words there are up to the last that isn't zero.
+fn used(words: &[u32]) -> usize
+    ensures { take result words.now ≡ trimmed words.now }
+{
+    let mut used = 0;
+    for (at, word) in words.iter().enumerate() {
+        if *word != 0 {
+            used = at + 1;
+        }
+    }
+    used
+}
