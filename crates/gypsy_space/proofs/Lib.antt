@@ -1,0 +1,4 @@
+mod FirstLaws
+mod CappedLaws
+mod EventLaws
+pub mod NodeLaws

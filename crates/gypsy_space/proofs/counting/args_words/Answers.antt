@@ -1,0 +1,12 @@
+use Rattle.std.proofs.Common.{drop, map, arith}
+use Rattle.std.proofs.lemmas.List.{drop_all}
+use Rattle.gypsy_space.specs.Needs.{args_words}
+use Rattle.gypsy_space.specs.Nodes.{seen_arg}
+use Rattle.gypsy_space.specs.StatementNeeds.{HasMoreWords}
+use Rattle.gypsy_space.proofs.CappedLaws.{no_more_words}
+use Rattle.gypsy_space.proofs.counting.args_words.Goals as goal
+
+pub returns : goal.returns
+returns c =
+    no_more_words c.loop-arg.words (args_words (map seen_arg c.args.args.now))
+    (rw (drop_all c.loop-arg.arg-index c.args.args.now (omega (arith, c.loop-arg-test.false))) at c.loop-arg.invariant)

@@ -1,0 +1,8 @@
+use Rattle.std.proofs.Common.{drop, map}
+use Rattle.gypsy_space.specs.Needs.{args_words}
+use Rattle.gypsy_space.specs.Nodes.{seen_arg}
+use Rattle.gypsy_space.specs.StatementNeeds.{HasMoreWords}
+use Rattle.gypsy_space.proofs.counting.args_words.Given as goal
+
+abbrev pub invariant-loop-arg : goal.invariant-loop-arg
+invariant-loop-arg l = HasMoreWords l.words (args_words (map seen_arg (drop l.arg-index l.args))) (args_words (map seen_arg l.args))

@@ -1,0 +1,7 @@
+use Rattle.std.proofs.Common.{◌≡◌, length}
+use Rattle.gypsy_space.specs.Nodes.{seen_program}
+use Rattle.gypsy_space.specs.StatementNeeds.{AreFirst}
+use Rattle.gypsy_space.proofs.counting.needs_of.Given as goal
+
+abbrev pub invariant-loop-index : goal.invariant-loop-index
+invariant-loop-index l = AreFirst (seen_program l.program) l.index l.procedures.items

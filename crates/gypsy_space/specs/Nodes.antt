@@ -1,0 +1,58 @@
+-- What clauses see of nodes.
+use Rattle.std.specs.Prelude.{ℕ, List, [], ◌∷◌, map, length}
+use Rattle.std.specs.declared.rc.Rc.{Rc}
+use Rattle.std.specs.declared.alloc.Global.{Global}
+use Rattle.gypsy_syntax.specs.Programs.{Cond, Leave, Routine, Declared, Arg, Var, Lit, Stmt, Proc}
+use Rattle.gypsy_space.specs.declared.program.Procedure.{Procedure}
+use Rattle.gypsy_space.specs.declared.program.Program.{Program}
+use Rattle.gypsy_syntax.specs.Programs as program
+use Rattle.gypsy_space.specs.declared.program.Condition.{Condition}
+use Rattle.gypsy_space.specs.declared.program.Condition.TheVariants as condition
+use Rattle.gypsy_space.specs.declared.program.Argument.{Argument}
+use Rattle.gypsy_space.specs.declared.program.Argument.TheVariants.{Variable, Constant}
+use Rattle.gypsy_space.specs.declared.program.Node.{Node, NoOp, Signal, Seq', Loop', If', Begin', Call, Apply}
+use Rattle.gypsy_space.specs.declared.program.Node.{Row_of-Node-Seq-0-1, end_of-Node-Seq-0-1, more_of-Node-Seq-0-1}
+
+abbrev pub seen_cond : Condition → Cond
+seen_cond condition.Leave = Leave
+seen_cond condition.Routine = Routine
+seen_cond (condition.Declared i) = Declared i
+
+abbrev pub seen_arg : Argument → Arg
+seen_arg (Variable i) = Var i
+seen_arg (Constant v) = Lit v
+
+abbrev mutual
+  pub seen_statement : Node → Stmt
+  seen_statement (NoOp place) = program.NoOp place
+  seen_statement (Signal place c) = program.Signal place (seen_cond c)
+  seen_statement (Seq' p shape parts) = seen_parts parts
+  seen_statement (Loop' place p body) = program.Loop place (seen_statement body)
+  seen_statement (If' place test p s q w) = program.If place test (seen_statement s) (seen_statement w)
+  seen_statement (Begin' place p body conds q arm) =
+      program.Begin place (seen_statement body) (map seen_cond conds.value.items) (seen_statement arm)
+  seen_statement (Call call) =
+      program.Call call.value.place call.value.callee call.value.actuals.items (map seen_cond call.value.conds.items)
+  seen_statement (Apply call) = program.Apply call.value.place call.value.which (map seen_arg call.value.args.items)
+
+  pub seen_parts : {m : _} → Row_of-Node-Seq-0-1 m → Stmt
+  seen_parts end_of-Node-Seq-0-1 = program.Skip
+  seen_parts (more_of-Node-Seq-0-1 p n rest) = program.Seq (seen_statement n) (seen_parts rest)
+
+-- statements in turn
+abbrev pub seen_statements : List (Rc Node Global) → Stmt
+seen_statements [] = program.Skip
+seen_statements (n ∷ ns) = program.Seq (seen_statement n.value) (seen_statements ns)
+
+abbrev pub seen_proc : Procedure → Proc
+seen_proc p = record {
+  place = p.place;
+  formals = map (λ f. f.1) p.formals.items;
+  locals = map (λ l. l.1) p.locals.items;
+  conds = length p.conds.items;
+  local_conds = length p.local_conds.items;
+  body = seen_statement p.body.value;
+}
+
+abbrev pub seen_program : Program → program.Program
+seen_program q = record { main = q.main; procs = map seen_proc q.procedures.items }

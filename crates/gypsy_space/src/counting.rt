@@ -1,0 +1,250 @@
+//! What statements and procedures need.
+
+ghost use Rattle.std.specs.Prelude.{◌≡◌, ◌+◌, ◌^◌, ◌*◌, ◌≤◌, ◌<◌, IfOk, map, length};
+ghost use Rattle.gypsy_syntax.specs.Programs.{proc_at, words_of};
+ghost use Rattle.gypsy_syntax.specs.PredefinedCosts.{predef_ctrl, predef_temp, predef_words};
+ghost use Rattle.gypsy_space.specs.Events.{IsSmall, AreSmall, need_of};
+ghost use Rattle.gypsy_space.specs.Needs.{arg_words, args_words, local_words, vars_of};
+ghost use Rattle.gypsy_space.specs.Nodes.{seen_arg, seen_program, seen_statement, seen_statements};
+ghost use Rattle.gypsy_space.specs.StatementNeeds.{capped, capped_need, joined, AreCapped, IsStatementNeed};
+
+use crate::need::{Need, Needs};
+use crate::program::{Argument, CallSite, Node, Program};
+use gypsy_syntax::Predef;
+use stack_text::{Memory, Name, Value};
+use std::alloc::Global;
+use std::rc::Rc;
+
+/// Sums are exact up to this number, 2^60, and stay there. No source that keeps the form comes so far.
+const MOST: u64 = 1_152_921_504_606_846_976;
+
+/// The greatest words of predefined calls on both stacks, and the words of code.
+#[derive(Clone, Copy, Debug)]
+pub struct StatementNeed {
+    pub temp: u64,
+    pub ctrl: u64,
+    pub words: u64,
+}
+
+/// What takes no predefined call, and these words of code.
+fn plain_need(words: u64) -> StatementNeed
+    ensures { result ≡ record { temp = 0; ctrl = 0; words = words } }
+{
+    StatementNeed {
+        temp: 0,
+        ctrl: 0,
+        words,
+    }
+}
+
+/// A sum.
+fn sum(left: u64, right: u64) -> u64
+    ensures { result ≡ capped (left + right) }
+{
+    left.saturating_add(right).min(MOST)
+}
+
+/// The words of the temporary stack that a predefined call takes.
+fn predef_temp(which: Predef) -> u64
+    ensures exact { result ≡ predef_temp which }
+    ensures bounded { result ≤ 4 }
+{
+    match which {
+        Predef::MgSimpleVariableAssignment
+        | Predef::MgSimpleConstantAssignment
+        | Predef::MgIntegerUnaryMinus
+        | Predef::MgBooleanNot => 2,
+        Predef::MgSimpleVariableEq
+        | Predef::MgSimpleConstantEq
+        | Predef::MgIntegerLe
+        | Predef::MgIntegerAdd
+        | Predef::MgIntegerSubtract
+        | Predef::MgBooleanOr
+        | Predef::MgBooleanAnd => 3,
+        Predef::MgIndexArray | Predef::MgArrayElementAssignment => 4,
+    }
+}
+
+/// The frame of a predefined call.
+fn predef_ctrl(which: Predef) -> u64
+    ensures exact { result ≡ predef_ctrl which }
+    ensures bounded { result ≤ 7 }
+{
+    match which {
+        Predef::MgSimpleVariableAssignment
+        | Predef::MgSimpleConstantAssignment
+        | Predef::MgIntegerUnaryMinus
+        | Predef::MgBooleanNot => 4,
+        Predef::MgSimpleVariableEq
+        | Predef::MgSimpleConstantEq
+        | Predef::MgIntegerLe
+        | Predef::MgBooleanOr
+        | Predef::MgBooleanAnd => 5,
+        Predef::MgIntegerAdd | Predef::MgIntegerSubtract => 6,
+        Predef::MgIndexArray | Predef::MgArrayElementAssignment => 7,
+    }
+}
+
+/// The words of code of a predefined call, beside its pushes and the call itself.
+fn predef_words(which: Predef) -> u64
+    ensures { result ≡ predef_words which }
+{
+    match which {
+        Predef::MgIntegerUnaryMinus | Predef::MgIntegerAdd | Predef::MgIntegerSubtract => 7,
+        Predef::MgIndexArray | Predef::MgArrayElementAssignment => 9,
+        _ => 0,
+    }
+}
+
+/// The words of a procedure's locals.
+fn local_words(locals: &[(Name, Value)]) -> u64
+    ensures { result ≡ capped (words_of (map (λ v. v.shape) (map (λ v. v.1) locals.now))) }
+{
+    let mut words = 0;
+    for (_, value) in locals {
+        words = sum(words, value.shape.item_count() as u64);
+    }
+    words
+}
+
+/// The words of code of an argument.
+fn arg_words(arg: &Argument) -> u64
+    ensures { result ≡ arg_words (seen_arg arg.now) }
+{
+    match arg {
+        Argument::Variable(_) => 4,
+        Argument::Constant(_) => 2,
+    }
+}
+
+/// The words of code of a call's arguments.
+fn args_words(args: &[Argument]) -> u64
+    ensures { result ≡ capped (args_words (map seen_arg args.now)) }
+{
+    let mut words = 0;
+    for arg in args {
+        words = sum(words, arg_words(arg));
+    }
+    words
+}
+
+/// The words of the locals of a procedure.
+fn local_words_of(program: &Program, procedure: u32) -> u64
+    ensures { result ≡ capped (local_words (proc_at (seen_program program.now) procedure)) }
+{
+    match program.procedures.get(procedure as usize) {
+        Some(procedure) => local_words(procedure.locals.as_slice()),
+        None => 0,
+    }
+}
+
+/// How many variables a procedure has.
+fn vars_of(program: &Program, procedure: u32) -> u64
+    ensures { result ≡ capped (vars_of (proc_at (seen_program program.now) procedure)) }
+{
+    match program.procedures.get(procedure as usize) {
+        Some(procedure) => sum(
+            procedure.formals.len() as u64,
+            procedure.locals.len() as u64,
+        ),
+        None => 0,
+    }
+}
+
+/// The words of code of a call.
+fn call_words(program: &Program, call: &CallSite) -> u64
+    ensures { let callee = proc_at (seen_program program.now) call.now.callee in
+        result ≡ capped (2 * local_words callee + 4 * vars_of callee + 24 + 8 * length call.now.conds.items) }
+{
+    let locals = local_words_of(program, call.callee);
+    let vars = vars_of(program, call.callee);
+    let conds = sum(call.conds.len() as u64, 0);
+    sum(sum(sum(2 * locals, 4 * vars), 24), 8 * conds)
+}
+
+/// The need of two statements, and these words of code.
+fn join(words: u64, first: StatementNeed, second: StatementNeed) -> StatementNeed
+    ensures { result ≡ joined words first second }
+{
+    StatementNeed {
+        temp: first.temp.max(second.temp),
+        ctrl: first.ctrl.max(second.ctrl),
+        words: sum(sum(words, first.words), second.words),
+    }
+}
+
+/// What a statement needs.
+#[cycle(statements)]
+fn statement_need(program: &Program, node: &Rc<Node>) -> StatementNeed
+    ensures { IsStatementNeed (seen_program program.now) (seen_statement node.now.value) result }
+{
+    match &**node {
+        Node::NoOp(_) => plain_need(1),
+        Node::Signal(_, _) => plain_need(7),
+        Node::Seq(parts) => parts_need(program, parts),
+        Node::Loop(_, body) => join(8, statement_need(program, body), plain_need(0)),
+        Node::If(_, _, yes, no) => join(
+            15,
+            statement_need(program, yes),
+            statement_need(program, no),
+        ),
+        Node::Begin(_, body, _, arm) => join(
+            8,
+            statement_need(program, body),
+            statement_need(program, arm),
+        ),
+        Node::Call(call) => plain_need(call_words(program, call)),
+        Node::Apply(call) => StatementNeed {
+            temp: predef_temp(call.which),
+            ctrl: predef_ctrl(call.which),
+            words: sum(
+                sum(4, args_words(call.args.as_slice())),
+                predef_words(call.which),
+            ),
+        },
+    }
+}
+
+/// What the parts of a sequence need.
+#[cycle(statements)]
+fn parts_need(program: &Program, parts: &Rc<Vec<Rc<Node>>>) -> StatementNeed
+    ensures { IsStatementNeed (seen_program program.now) (seen_statements parts.now.value.items) result }
+{
+    let mut need = plain_need(0);
+    for index in 0..parts.len() {
+        need = join(0, need, statement_need(program, &parts[index]));
+    }
+    need
+}
+
+/// What a procedure needs.
+#[tactic(auto, unfolding(crate::specs::Needs::code_words))]
+fn need_of(program: &Program, procedure: u32) -> Need
+    requires { procedure < length program.now.procedures.items }
+    ensures exact { result ≡ capped_need (need_of (seen_program program.now) procedure) }
+    ensures small { IsSmall result }
+{
+    let body = statement_need(program, &program.procedures[procedure as usize].body);
+    let vars = vars_of(program, procedure);
+    let each = if procedure == program.main { 2 } else { 1 };
+    Need {
+        temp: body.temp.max(1),
+        ctrl: body.ctrl,
+        locals_words: local_words_of(program, procedure),
+        vars,
+        code_words: sum(14 + each * vars, body.words),
+    }
+}
+
+/// What each procedure needs.
+pub fn needs_of(alloc: Global, program: &Program) -> Result<Needs, Memory>
+    requires { length program.now.procedures.items ≤ 2 ^ 32 }
+    ensures exact { IfOk result (λ n. AreCapped (seen_program program.now) n.procedures.items) }
+    ensures small { IfOk result (λ n. AreSmall n.procedures.items) }
+{
+    let mut procedures = Vec::new(alloc);
+    for index in 0..program.procedures.len() {
+        procedures.push(need_of(program, index as u32))?;
+    }
+    Ok(Needs { procedures })
+}

@@ -1,0 +1,70 @@
+//! What costs instructions.
+
+ghost use Rattle.std.specs.Prelude.{◌≡◌, ◌≤◌};
+ghost use Rattle.gypsy_space.specs.Events.{predef_count};
+
+use gypsy_syntax::Predef;
+
+/// How a predefined call ends.
+#[derive(Clone, Copy, Debug, PartialEq, Eq)]
+pub enum Outcome {
+    Normal,
+    Fault,
+    Beyond,
+}
+
+/// A row of the table of costs.
+#[derive(Clone, Copy, Debug)]
+pub enum CostEvent {
+    NoOp,
+    Signal,
+    /// A condition comes to the handler or the loop that stops it.
+    Caught,
+    LoopRound,
+    LoopBack,
+    IfTrue,
+    IfFalse,
+    JoinThen,
+    JoinOne,
+    GuardNormal,
+    Call { callee: u32 },
+    EndMain,
+    EndProc,
+    /// A formal condition leaves a procedure.
+    OutFormal,
+    /// Another condition leaves a procedure.
+    OutOther,
+    /// A condition comes back from a call.
+    ReturnRaised,
+    Predef { which: Predef, outcome: Outcome },
+}
+
+/// The instructions of a predefined call.
+#[tactic(auto, unfolding(crate::specs::Events::predef_count, gypsy_syntax::specs::PredefinedCosts::predef_cost))]
+pub fn predef_count(which: Predef, outcome: Outcome) -> u64
+    ensures count { result ≡ predef_count which outcome }
+    ensures bounded { result ≤ 69 }
+{
+    match which {
+        Predef::MgSimpleVariableAssignment => 28,
+        Predef::MgSimpleConstantAssignment => 23,
+        Predef::MgSimpleVariableEq => 42,
+        Predef::MgSimpleConstantEq => 37,
+        Predef::MgIntegerLe => 44,
+        Predef::MgIntegerUnaryMinus => match outcome {
+            Outcome::Normal => 47,
+            Outcome::Fault | Outcome::Beyond => 37,
+        },
+        Predef::MgIntegerAdd | Predef::MgIntegerSubtract => match outcome {
+            Outcome::Normal => 60,
+            Outcome::Fault | Outcome::Beyond => 54,
+        },
+        Predef::MgBooleanOr | Predef::MgBooleanAnd => 39,
+        Predef::MgBooleanNot => 29,
+        Predef::MgIndexArray | Predef::MgArrayElementAssignment => match outcome {
+            Outcome::Normal => 69,
+            Outcome::Fault => 42,
+            Outcome::Beyond => 55,
+        },
+    }
+}

@@ -1,0 +1,21 @@
+//! Needs and costs by the table are those of the definitions.
+
+ghost use Rattle.std.specs.Prelude.{◌≡◌, ℕ, ◌+◌, ◌<◌, List, length};
+ghost use Rattle.gypsy_syntax.specs.Programs.{Program};
+ghost use Rattle.gypsy_space.specs.Costs.{Tally};
+ghost use Rattle.gypsy_space.specs.Needs.{Words, has_room};
+ghost use Rattle.gypsy_space.specs.Events.{AreNeeds, need_of, has_room_by, event_count, event_spend};
+ghost use Rattle.gypsy_space.specs.declared.need.Need.{Need};
+ghost use Rattle.gypsy_space.specs.declared.event.CostEvent.TheVariants as event;
+
+/// A call has room by a procedure's needs exactly where it has room.
+pub fn room_is_room()
+    ensures { (q : Program) (sizes : Words) (p : ℕ) (u : Words) →
+        has_room q sizes p u ≡ has_room_by (need_of q p) sizes u }
+{}
+
+/// What a call costs by the needs is what it spends.
+pub fn calls_cost()
+    ensures { (q : Program) (ns : List Need) (c : ℕ) (t : Tally) → AreNeeds q ns → c < length q.procs →
+        (event_spend q (event.Call c) t).count ≡ t.count + event_count ns (event.Call c) }
+{}

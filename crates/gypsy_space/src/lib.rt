@@ -1,0 +1,15 @@
+//! What programs of Micro-Gypsy need and cost: words of both stacks, words of code, instructions and steps.
+//!
+//! `specs/` has the definitions over programs with positions in place of names; such programs as code are here too.
+#![tactic(auto)]
+
+pub mod counting;
+mod event;
+mod laws;
+mod need;
+mod program;
+
+pub use event::{CostEvent, Outcome};
+pub use laws::{calls_cost, room_is_room};
+pub use need::{Need, Needs};
+pub use program::{Application, Argument, CallSite, Condition, Node, Procedure, Program};

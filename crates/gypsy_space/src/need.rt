@@ -1,0 +1,86 @@
+//! The words that procedures need, and what their runs cost.
+
+ghost use Rattle.std.specs.Prelude.{◌≡◌, ◌≤◌, ◌^◌, ◌<◌};
+ghost use Rattle.gypsy_space.specs.Events.{AreSmall, has_room_by, event_count, need_at};
+ghost use Rattle.gypsy_space.specs.Needs.{stack_words};
+
+use crate::event::{CostEvent, predef_count};
+
+/// What a procedure needs.
+#[derive(Clone, Copy, Debug)]
+pub struct Need {
+    /// The most words of the temporary stack that its predefined calls take, and at least 1.
+    pub temp: u64,
+    /// The greatest frame of its predefined calls.
+    pub ctrl: u64,
+    /// The words of its locals.
+    pub locals_words: u64,
+    /// How many formals and locals it has.
+    pub vars: u64,
+    /// The words of its code.
+    pub code_words: u64,
+}
+
+/// What each procedure of a source needs, in the order of the source.
+#[derive(Debug, Drop)]
+pub struct Needs {
+    pub procedures: Vec<Need>,
+}
+
+impl Needs {
+    /// What a procedure needs, or nothing where there is no such procedure.
+    fn need_of(&self, procedure: u32) -> Need
+        ensures { result ≡ need_at self.now.procedures.items procedure }
+    {
+        match self.procedures.get(procedure as usize) {
+            Some(need) => *need,
+            None => Need {
+                temp: 0,
+                ctrl: 0,
+                locals_words: 0,
+                vars: 0,
+                code_words: 0,
+            },
+        }
+    }
+
+    /// Whether a call has room, with these words in use, on stacks of these sizes.
+    #[tactic(auto, unfolding(crate::specs::Events::has_room_by))]
+    pub fn room(&self, callee: u32, used_temp: u64, used_ctrl: u64, temp: u32, ctrl: u32) -> bool
+        requires { AreSmall self.now.procedures.items }
+        ensures { result
+            ≡ has_room_by (need_at self.now.procedures.items callee) (stack_words temp ctrl) (stack_words used_temp used_ctrl) }
+    {
+        let need = self.need_of(callee);
+        let above = (need.locals_words + need.vars).max(need.locals_words + need.temp);
+        let frame = 2 + need.vars + need.ctrl;
+        used_temp.saturating_add(above) <= temp as u64
+            && used_ctrl.saturating_add(frame) <= ctrl as u64
+    }
+
+    /// What a step costs, in instructions.
+    #[tactic(auto, unfolding(crate::specs::Events::event_count))]
+    pub fn cost(&self, event: CostEvent) -> u64
+        requires { AreSmall self.now.procedures.items }
+        ensures count { result ≡ event_count self.now.procedures.items event }
+        ensures bounded { result < 2 ^ 63 }
+    {
+        match event {
+            CostEvent::NoOp | CostEvent::LoopRound | CostEvent::LoopBack | CostEvent::JoinOne => 1,
+            CostEvent::JoinThen | CostEvent::GuardNormal => 2,
+            CostEvent::Caught => 3,
+            CostEvent::Signal | CostEvent::OutFormal => 4,
+            CostEvent::EndMain => 5,
+            CostEvent::OutOther => 7,
+            CostEvent::IfTrue => 8,
+            CostEvent::IfFalse => 9,
+            CostEvent::ReturnRaised => 10,
+            CostEvent::EndProc => 12,
+            CostEvent::Call { callee } => {
+                let need = self.need_of(callee);
+                need.locals_words + 4 * need.vars + 4
+            }
+            CostEvent::Predef { which, outcome } => predef_count(which, outcome),
+        }
+    }
+}
