@@ -2,3 +2,6 @@ mod FirstLaws
 mod CappedLaws
 mod EventLaws
 pub mod NodeLaws
+mod PositionLaws
+mod ResolveLaws
+pub mod SmallLaws

@@ -6,3 +6,4 @@ pub mod Events
 pub mod Nodes
 -- Scaffold: what only private functions and lemmas say.
 pub mod StatementNeeds
+pub mod CallSites

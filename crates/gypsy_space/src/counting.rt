@@ -3,13 +3,17 @@
 ghost use Rattle.std.specs.Prelude.{◌≡◌, ◌+◌, ◌^◌, ◌*◌, ◌≤◌, ◌<◌, IfOk, map, length};
 ghost use Rattle.gypsy_syntax.specs.Programs.{proc_at, words_of};
 ghost use Rattle.gypsy_syntax.specs.PredefinedCosts.{predef_ctrl, predef_temp, predef_words};
-ghost use Rattle.gypsy_space.specs.Events.{IsSmall, AreSmall, need_of};
+ghost use Rattle.gypsy_syntax.specs.Resolved.{program_of};
+ghost use Rattle.gypsy_syntax.specs.SourceView.{source_of};
+ghost use Rattle.gypsy_space.specs.Events.{AreNeeds, AreSmall, IsSmall, need_of};
 ghost use Rattle.gypsy_space.specs.Needs.{arg_words, args_words, local_words, vars_of};
 ghost use Rattle.gypsy_space.specs.Nodes.{seen_arg, seen_program, seen_statement, seen_statements};
 ghost use Rattle.gypsy_space.specs.StatementNeeds.{capped, capped_need, joined, AreCapped, IsStatementNeed};
 
 use crate::need::{Need, Needs};
 use crate::program::{Argument, CallSite, Node, Program};
+use crate::resolving::resolve;
+use gypsy_check::Accepted;
 use gypsy_syntax::Predef;
 use stack_text::{Memory, Name, Value};
 use std::alloc::Global;
@@ -236,8 +240,8 @@ fn need_of(program: &Program, procedure: u32) -> Need
     }
 }
 
-/// What each procedure needs.
-pub fn needs_of(alloc: Global, program: &Program) -> Result<Needs, Memory>
+/// What each procedure needs, with sums that are exact up to 2^60.
+fn needs_of(alloc: Global, program: &Program) -> Result<Needs, Memory>
     requires { length program.now.procedures.items ≤ 2 ^ 32 }
     ensures exact { IfOk result (λ n. AreCapped (seen_program program.now) n.procedures.items) }
     ensures small { IfOk result (λ n. AreSmall n.procedures.items) }
@@ -247,4 +251,14 @@ pub fn needs_of(alloc: Global, program: &Program) -> Result<Needs, Memory>
         procedures.push(need_of(program, index as u32))?;
     }
     Ok(Needs { procedures })
+}
+
+/// What each procedure of an accepted source needs.
+pub fn needs(alloc: Global, accepted: &Accepted) -> Result<Needs, Memory>
+    ensures exact { IfOk result (λ n. AreNeeds (program_of (source_of accepted.now)) n.procedures.items) }
+    ensures small { IfOk result (λ n. AreSmall n.procedures.items) }
+{
+    let program = resolve(alloc, accepted)?;
+    let needs = needs_of(alloc, &program)?;
+    Ok(needs)
 }

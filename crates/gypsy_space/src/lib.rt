@@ -3,13 +3,16 @@
 //! `specs/` has the definitions over programs with positions in place of names; such programs as code are here too.
 #![tactic(auto)]
 
-pub mod counting;
+mod counting;
 mod event;
 mod laws;
 mod need;
 mod program;
+mod resolving;
 
+pub use counting::needs;
 pub use event::{CostEvent, Outcome};
 pub use laws::{calls_cost, room_is_room};
 pub use need::{Need, Needs};
 pub use program::{Application, Argument, CallSite, Condition, Node, Procedure, Program};
+pub use resolving::resolve;

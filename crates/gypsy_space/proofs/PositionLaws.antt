@@ -1,0 +1,86 @@
+-- Where a name stands first among those of two lists.
+use Rattle.std.proofs.Common.{◌≡◌, ℕ, zero, suc, ◌+◌, List, [], ◌∷◌, ◌++◌, map, length, Bool, true, false, not, cond, Option, Some, None, option_map, nat_lt, bytes_eq, refl, sym, ap, ap₂, ◌∙◌, zero-add, arith}
+use Rattle.std.specs.List.{position, position_or_len}
+use Rattle.std.specs.Option.{unwrap_or}
+use Rattle.std.proofs.lemmas.List.{length-map}
+use Rattle.stack_text.specs.declared.name.Named.{Named}
+use Rattle.gypsy_syntax.specs.declared.literal.Decl.{Decl}
+use Rattle.gypsy_syntax.specs.declared.literal.Local.{Local}
+use Rattle.gypsy_syntax.specs.declared.proc.Proc.{Proc}
+use Rattle.gypsy_syntax.specs.declared.proc.Source.{Source}
+use Rattle.gypsy_syntax.specs.Resolved.{condition_names, place_among, position_of, procedure_names, variable_names}
+use Rattle.gypsy_syntax.specs.SourceView.{local_of, proc_of, source_of}
+use Rattle.gypsy_syntax.specs.Sources.{LocalOf, ProcOf}
+use Rattle.gypsy_check.proofs.LookupLaws.{place_cons}
+
+position_or_len-map : {X Y : Type 0} (p : Y → Bool) (f : X → Y) (xs : List X) → position_or_len (λ x. p (f x)) xs ≡ position_or_len p (map f xs)
+position_or_len-map p f [] = refl
+position_or_len-map p f (x ∷ xs) = ap (λ (n : ℕ). cond (not (p (f x))) (1 + n) 0) (position_or_len-map p f xs)
+
+-- by the names of the items
+pub position-map : {X : Type 0} (name : List ℕ) (key : X → List ℕ) (xs : List X) → position (λ x. bytes_eq name (key x)) xs ≡ place_among name (map key xs)
+unfolding place_among
+position-map name key xs =
+    ap₂ (λ (n l : ℕ). cond (nat_lt n l) (Some n) None) (position_or_len-map (bytes_eq name) key xs) (sym (length-map xs key))
+
+place_none : (name : List ℕ) → place_among name [] ≡ None
+unfolding place_among
+place_none name = refl
+
+-- the place in the first list, and else in the second, after so many
+abbrev pub place_or : ℕ → Option ℕ → Option ℕ → Option ℕ
+place_or k (Some i) o = Some i
+place_or k None o = option_map (λ i. k + i) o
+
+place_or-suc : (k : ℕ) (m o : Option ℕ) → option_map suc (place_or k m o) ≡ place_or (suc k) (option_map suc m) o
+place_or-suc k (Some i) o = refl
+place_or-suc k None None = refl
+place_or-suc k None (Some i) = ap Some (let e : suc (k + i) ≡ suc k + i = omega arith in e)
+
+place_or-zero : (o : Option ℕ) → place_or 0 None o ≡ o
+place_or-zero None = refl
+place_or-zero (Some i) = ap Some (zero-add i)
+
+pub place_among-append : (name : List ℕ) (ms ns : List (List ℕ)) → place_among name (ms ++ ns) ≡ place_or (length ms) (place_among name ms) (place_among name ns)
+place_among-append name [] ns = sym (ap (λ (m : Option ℕ). place_or 0 m (place_among name ns)) (place_none name) ∙ place_or-zero (place_among name ns))
+place_among-append name (m ∷ ms) ns =
+    place_cons name m (ms ++ ns)
+    ∙ pick (bytes_eq name m) (place_among-append name ms ns)
+    ∙ ap (λ (o : Option ℕ). place_or (suc (length ms)) o (place_among name ns)) (sym (place_cons name m ms))
+  where
+    pick : (b : Bool) → place_among name (ms ++ ns) ≡ place_or (length ms) (place_among name ms) (place_among name ns) →
+        cond b (Some 0) (option_map suc (place_among name (ms ++ ns))) ≡ place_or (suc (length ms)) (cond b (Some 0) (option_map suc (place_among name ms))) (place_among name ns)
+    pick true e = refl
+    pick false e = ap (option_map suc) e ∙ place_or-suc (length ms) (place_among name ms) (place_among name ns)
+
+-- the position of a name among those of two lists of items
+pub position_two : {X Y : Type 0} (name : List ℕ) (key : X → List ℕ) (other : Y → List ℕ) (xs : List X) (ys : List Y) →
+    place_or (length xs) (position (λ x. bytes_eq name (key x)) xs) (position (λ y. bytes_eq name (other y)) ys) ≡ place_among name (map key xs ++ map other ys)
+position_two name key other xs ys =
+    ap₂ (λ (m n : Option ℕ). place_or (length xs) m n) (position-map name key xs) (position-map name other ys)
+    ∙ ap (λ (k : ℕ). place_or k (place_among name (map key xs)) (place_among name (map other ys))) (sym (length-map xs key))
+    ∙ sym (place_among-append name (map key xs) (map other ys))
+
+map_again : {X Y Z : Type 0} (f : X → Y) (g : Y → Z) (xs : List X) → map (λ x. g (f x)) xs ≡ map g (map f xs)
+map_again f g [] = refl
+map_again f g (x ∷ xs) = ap (λ ys. g (f x) ∷ ys) (map_again f g xs)
+
+-- the position of a variable, of a condition and of a procedure
+pub variable_position : (p : Proc) (name : List ℕ) (m o : Option ℕ) → m ≡ position (λ (d : Decl). bytes_eq name d.name.name) p.formals.items → o ≡ position (λ (l : Local). bytes_eq name l.decl.name.name) p.locals.items →
+    unwrap_or (place_or (length p.formals.items) m o) 0 ≡ position_of name (variable_names (proc_of p))
+variable_position p name m o e f =
+    ap (λ (i : Option ℕ). unwrap_or i 0)
+    (ap₂ (place_or (length p.formals.items)) e f
+    ∙ position_two name (λ (d : Decl). d.name.name) (λ (l : Local). l.decl.name.name) p.formals.items p.locals.items
+    ∙ ap (λ (ns : List (List ℕ)). place_among name (map (λ (d : Decl). d.name.name) p.formals.items ++ ns)) (map_again local_of (λ (l : LocalOf). l.decl.name.name) p.locals.items))
+
+pub condition_position : (p : Proc) (name : List ℕ) (m o : Option ℕ) → m ≡ position (λ (n : Named). bytes_eq name n.name) p.conds.items → o ≡ position (λ (n : Named). bytes_eq name n.name) p.local_conds.items →
+    unwrap_or (place_or (length p.conds.items) m o) 0 ≡ position_of name (condition_names (proc_of p))
+condition_position p name m o e f =
+    ap (λ (i : Option ℕ). unwrap_or i 0)
+    (ap₂ (place_or (length p.conds.items)) e f ∙ position_two name (λ (n : Named). n.name) (λ (n : Named). n.name) p.conds.items p.local_conds.items)
+
+pub procedure_position : (s : Source) (name : List ℕ) (m : Option ℕ) → m ≡ position (λ (p : Proc). bytes_eq name p.name.name) s.procs.items → unwrap_or m 0 ≡ position_of name (procedure_names (source_of s))
+procedure_position s name m e =
+    ap (λ (i : Option ℕ). unwrap_or i 0)
+    (e ∙ position-map name (λ (p : Proc). p.name.name) s.procs.items ∙ ap (place_among name) (map_again proc_of (λ (p : ProcOf). p.name.name) s.procs.items))

@@ -1,0 +1,36 @@
+-- The parts of a sequence, resolved one after another.
+use Rattle.std.proofs.Common.{◌≡◌, ℕ, ◌+◌, ◌<◌, ◌≤◌, List, [], ◌∷◌, ◌++◌, length, get_or, drop, refl, sym, ap, ◌∙◌}
+use Rattle.std.specs.declared.alloc.Global.{Global}
+use Rattle.std.specs.declared.rc.Rc.{Rc}
+use Rattle.std.proofs.lemmas.List.{drop_all}
+use Rattle.stack_text.proofs.Loops.{drop-item}
+use Rattle.gypsy_syntax.specs.declared.statement.Stmt.{Stmt as Text}
+use Rattle.gypsy_syntax.specs.Programs.{Stmt, Skip, Seq}
+use Rattle.gypsy_syntax.specs.Resolved.{statement_of, statement_of_all}
+use Rattle.gypsy_syntax.specs.SourceView.{parts_of_list, stmt_of}
+use Rattle.gypsy_syntax.specs.Sources.{ProcOf, SourceOf}
+use Rattle.gypsy_space.specs.declared.program.Node.{Node}
+use Rattle.gypsy_space.specs.Nodes.{seen_statement, seen_statements}
+use Rattle.gypsy_space.specs.CallSites.{followed}
+
+followed-push : (ns : List (Rc Node Global)) (n : Rc Node Global) (rest : Stmt) → followed (ns ++ n ∷ []) rest ≡ followed ns (Seq (seen_statement n.value) rest)
+followed-push [] n rest = refl
+followed-push (m ∷ ns) n rest = ap (Seq (seen_statement m.value)) (followed-push ns n rest)
+
+followed-skip : (ns : List (Rc Node Global)) → followed ns Skip ≡ seen_statements ns
+followed-skip [] = refl
+followed-skip (n ∷ ns) = ap (Seq (seen_statement n.value)) (followed-skip ns)
+
+module _ (s : SourceOf) (p : ProcOf) (ns : List (Rc Node Global)) (parts : List Text) (k : ℕ) (whole : Stmt) (so_far : followed ns (statement_of_all s p (parts_of_list (drop k parts))) ≡ whole) where
+  pub next_part : (n : Rc Node Global) (x : Text) → k < length parts → x ≡ get_or parts k x → seen_statement n.value ≡ statement_of s p (stmt_of x) → followed (ns ++ n ∷ []) (statement_of_all s p (parts_of_list (drop (k + 1) parts))) ≡ whole
+  next_part n x lt is e =
+      let rest = statement_of_all s p (parts_of_list (drop (k + 1) parts)) in
+      followed-push ns n rest
+      ∙ ap (followed ns) (ap (λ (st : Stmt). Seq st rest) e ∙ ap (λ (xs : List Text). statement_of_all s p (parts_of_list xs)) (sym (drop-item parts k x lt is)))
+      ∙ so_far
+
+  pub all_parts : length parts ≤ k → seen_statements ns ≡ whole
+  all_parts past =
+      sym (followed-skip ns)
+      ∙ ap (λ (xs : List Text). followed ns (statement_of_all s p (parts_of_list xs))) (sym (drop_all k parts past))
+      ∙ so_far

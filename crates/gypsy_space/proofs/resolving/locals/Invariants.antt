@@ -1,0 +1,7 @@
+use Rattle.std.proofs.Common.{◌≡◌, ◌++◌, map, drop}
+use Rattle.gypsy_syntax.specs.Resolved.{local_value}
+use Rattle.gypsy_syntax.specs.SourceView.{local_of}
+use Rattle.gypsy_space.proofs.resolving.locals.Given as goal
+
+abbrev pub invariant-loop-local : goal.invariant-loop-local
+invariant-loop-local l = map (λ v. v.1) l.values.items ++ map local_value (map local_of (drop l.local-index l.locals)) ≡ map local_value (map local_of l.locals)

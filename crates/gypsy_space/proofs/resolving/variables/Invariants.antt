@@ -1,0 +1,7 @@
+use Rattle.std.proofs.Common.{◌≡◌, ◌++◌, map, drop}
+use Rattle.gypsy_syntax.specs.Resolved.{variable_of}
+use Rattle.gypsy_syntax.specs.SourceView.{proc_of}
+use Rattle.gypsy_space.proofs.resolving.variables.Given as goal
+
+abbrev pub invariant-loop-name : goal.invariant-loop-name
+invariant-loop-name l = l.variables.items ++ map (variable_of (proc_of l.proc)) (drop l.name-index l.names) ≡ map (variable_of (proc_of l.proc)) l.names

@@ -1,0 +1,20 @@
+-- Parts of the program that is made of a source.
+use Rattle.std.specs.Prelude.{◌≡◌, ℕ, List, [], ◌∷◌, map}
+use Rattle.std.specs.declared.alloc.Global.{Global}
+use Rattle.std.specs.declared.rc.Rc.{Rc}
+use Rattle.gypsy_syntax.specs.Programs.{Cond, Stmt, Seq}
+use Rattle.gypsy_space.specs.declared.program.CallSite.{CallSite}
+use Rattle.gypsy_space.specs.declared.program.Node.{Node}
+use Rattle.gypsy_space.specs.Nodes.{seen_cond, seen_statement}
+
+-- a call at a place, of this callee, with these data and condition actuals
+pub record IsCallSite (place callee : ℕ) (xs : List ℕ) (cs : List Cond) (site : CallSite) : Type 0 where
+  pub place_is : site.place ≡ place
+  pub callee_is : site.callee ≡ callee
+  pub actuals_are : site.actuals.items ≡ xs
+  pub conds_are : map seen_cond site.conds.items ≡ cs
+
+-- statements in turn, and then what follows them
+abbrev pub followed : List (Rc Node Global) → Stmt → Stmt
+followed [] rest = rest
+followed (n ∷ ns) rest = Seq (seen_statement n.value) (followed ns rest)
