@@ -1,0 +1,159 @@
+-- The texts of the bodies keep the form.
+use Rattle.std.proofs.Common.{◌≡◌, ℕ, ◌+◌, ◌<◌, ◌≤◌, Bool, true, false, List, [], ◌∷◌, ◌++◌, length, map, if◌then◌else◌, All, IsTrue, Some, pos, refl, sym, subst, lit<, lit≤, flat_map}
+use Rattle.stack_text.specs.Names.{is_name}
+use Rattle.stack_text.specs.Numerals.{fits_128_bits}
+use Rattle.piton_syntax.specs.declared.op.PitonOp.{PitonOp}
+use Rattle.piton_syntax.specs.declared.op.PitonOp.TheVariants as op
+use Rattle.piton_syntax.specs.declared.argument.ArgKind.TheVariants as kind
+use Rattle.piton_syntax.specs.declared.argument.ArgText.TheVariants as arg
+use Rattle.piton_syntax.specs.declared.argument.Arguments.{Arguments}
+use Rattle.piton_syntax.specs.declared.argument.Arguments.TheVariants.{Zero, One}
+use Rattle.piton_syntax.specs.declared.word_text.WordItem.TheVariants as item
+use Rattle.piton_syntax.specs.Operations as operations
+use Rattle.piton_syntax.specs.Operations.{op_arguments}
+use Rattle.piton_syntax.specs.Systems.{InstrOf}
+use Rattle.piton_syntax.specs.Fits.{IsNamed, FitsArguments, FitsInstruction, FitsTemporary, FitsProgram}
+use Rattle.piton_syntax.proofs.FitsLaws.{all_none, all_front, all_first, all_rest}
+use Rattle.gypsy_syntax.specs.declared.predef.Predef.{Predef}
+use Rattle.gypsy_syntax.specs.declared.predef.Predef.TheVariants as row
+use Rattle.gypsy_syntax.specs.Predefined.{predef_name}
+use Rattle.gypsy_predef.specs.declared.line.Local.{Local}
+use Rattle.gypsy_predef.specs.declared.line.Local.TheVariants as local
+use Rattle.gypsy_predef.specs.declared.line.Line.{Line}
+use Rattle.gypsy_predef.specs.declared.line.Line.TheVariants as line
+use Rattle.gypsy_predef.specs.Resolving.{BodiesFit}
+use Rattle.gypsy_predef.specs.Texts.{local_name, lines_of, formals_of, has_temporary, named, plain, of_name, constant, fail_label, condition_area}
+use Rattle.gypsy_predef.specs.Texts.{line_text, temporary, temporaries_text, named_local, body_text}
+
+-- ---- names
+
+pub program_names : (r : Predef) → IsTrue (is_name (predef_name r))
+program_names row.MgSimpleVariableAssignment = refl
+program_names row.MgSimpleConstantAssignment = refl
+program_names row.MgSimpleVariableEq = refl
+program_names row.MgSimpleConstantEq = refl
+program_names row.MgIntegerLe = refl
+program_names row.MgIntegerUnaryMinus = refl
+program_names row.MgIntegerAdd = refl
+program_names row.MgIntegerSubtract = refl
+program_names row.MgBooleanOr = refl
+program_names row.MgBooleanAnd = refl
+program_names row.MgBooleanNot = refl
+program_names row.MgIndexArray = refl
+program_names row.MgArrayElementAssignment = refl
+
+local_names : (x : Local) → IsTrue (is_name (local_name x))
+local_names local.A = refl
+local_names local.B = refl
+local_names local.D = refl
+local_names local.I = refl
+local_names local.N = refl
+local_names local.T = refl
+local_names local.V = refl
+local_names local.X = refl
+local_names local.Y = refl
+
+formals_fit : (xs : List Local) → All IsNamed (map named_local xs)
+formals_fit [] = all_none IsNamed
+formals_fit (x ∷ xs) = all_front IsNamed (named_local x) (map named_local xs) (local_names x) (formals_fit xs)
+
+temporaries_fit : (b : Bool) → All FitsTemporary (if b then temporary ∷ [] else [])
+temporaries_fit true = all_front FitsTemporary temporary [] (refl, refl) (all_none FitsTemporary)
+temporaries_fit false = all_none FitsTemporary
+
+-- ---- lines
+
+abbrev LineFits : Line → Type 0
+LineFits (line.Local o x) = op_arguments o ≡ One kind.Local
+LineFits (line.Plain o) = op_arguments o ≡ Zero
+LineFits (line.Integer z) = IsTrue (fits_128_bits z)
+LineFits (line.Test o k) = FitsArguments (op_arguments o) (arg.Test k ∷ arg.Name (named fail_label) ∷ [])
+LineFits _ = Unit {0}
+
+local_fits : (o : PitonOp) (x : Local) → op_arguments o ≡ One kind.Local → FitsInstruction (of_name o (local_name x))
+local_fits o x h = record { label = tt; args = subst (λ (a : Arguments). FitsArguments a (arg.Name (named_local x) ∷ [])) (sym h) (local_names x) }
+
+plain_fits : (o : PitonOp) → op_arguments o ≡ Zero → FitsInstruction (plain o)
+plain_fits o h = record { label = tt; args = subst (λ (a : Arguments). FitsArguments a []) (sym h) tt }
+
+alone : (i : InstrOf) → FitsInstruction i → All FitsInstruction (i ∷ [])
+alone i h = all_front FitsInstruction i [] h (all_none FitsInstruction)
+
+both : (i j : InstrOf) → FitsInstruction i → FitsInstruction j → All FitsInstruction (i ∷ j ∷ [])
+both i j h k = all_front FitsInstruction i (j ∷ []) h (alone j k)
+
+line_fits : (l : Line) → LineFits l → All FitsInstruction (line_text l)
+unfolding operations.row_of
+line_fits (line.Get x) h = both (of_name op.PushLocal (local_name x)) (plain op.FetchTempStk) (local_fits op.PushLocal x refl) (plain_fits op.FetchTempStk refl)
+line_fits (line.Put d) h = both (of_name op.PushLocal (local_name d)) (plain op.DepositTempStk) (local_fits op.PushLocal d refl) (plain_fits op.DepositTempStk refl)
+line_fits (line.Local o x) h = alone (of_name o (local_name x)) (local_fits o x h)
+line_fits (line.Plain o) h = alone (plain o) (plain_fits o h)
+line_fits (line.Truth b) h = alone _ (record { label = tt; args = tt })
+line_fits (line.Integer z) h = alone _ (record { label = tt; args = h })
+line_fits (line.Test o k) h = alone _ (record { label = tt; args = h })
+line_fits line.Fail h =
+    all_front FitsInstruction (constant (Some (named fail_label)) (item.Nat record { place = 0; number = pos 1 })) (of_name op.PopGlobal condition_area ∷ plain op.Ret ∷ []) (record { label = refl; args = lit< tt })
+    (both (of_name op.PopGlobal condition_area) (plain op.Ret) (record { label = tt; args = refl }) (plain_fits op.Ret refl))
+
+abbrev LinesFit : List Line → Type 0
+LinesFit [] = Unit {0}
+LinesFit (l ∷ ls) = LineFits l × LinesFit ls
+
+all_join : (is js : List InstrOf) → All FitsInstruction is → All FitsInstruction js → All FitsInstruction (is ++ js)
+all_join [] js h k = k
+all_join (i ∷ is) js h k = all_front FitsInstruction i (is ++ js) (all_first FitsInstruction i is h) (all_join is js (all_rest FitsInstruction i is h) k)
+
+lines_fit : (ls : List Line) → LinesFit ls → All FitsInstruction (flat_map line_text ls)
+lines_fit [] h = all_none FitsInstruction
+lines_fit (l ∷ ls) h = all_join (line_text l) (flat_map line_text ls) (line_fits l h.0) (lines_fit ls h.1)
+
+table_fits : (r : Predef) → LinesFit (lines_of r)
+unfolding operations.row_of
+table_fits row.MgSimpleVariableAssignment = (tt, (tt, (refl, tt)))
+table_fits row.MgSimpleConstantAssignment = (refl, (tt, (refl, tt)))
+table_fits row.MgSimpleVariableEq = (tt, (tt, (refl, (tt, (refl, tt)))))
+table_fits row.MgSimpleConstantEq = (tt, (refl, (refl, (tt, (refl, tt)))))
+table_fits row.MgIntegerLe = (tt, (tt, (refl, (refl, (tt, (refl, tt))))))
+table_fits row.MgIntegerUnaryMinus = (tt, (refl, (refl, (((0, lit< tt, refl), refl), (tt, (refl, (tt, (refl, (tt, tt)))))))))
+table_fits row.MgIntegerAdd = (tt, (tt, (tt, (refl, (refl, (((0, lit< tt, refl), refl), (refl, (tt, (refl, (tt, tt))))))))))
+table_fits row.MgIntegerSubtract = (tt, (tt, (tt, (refl, (refl, (((0, lit< tt, refl), refl), (refl, (tt, (refl, (tt, tt))))))))))
+table_fits row.MgBooleanOr = (tt, (tt, (refl, (tt, (refl, tt)))))
+table_fits row.MgBooleanAnd = (tt, (tt, (refl, (tt, (refl, tt)))))
+table_fits row.MgBooleanNot = (tt, (refl, (tt, (refl, tt))))
+table_fits row.MgIndexArray = (tt, (refl, (((2, lit< tt, refl), refl), (refl, (refl, (refl, (((1, lit< tt, refl), refl), (refl, (refl, (refl, (refl, (refl, (tt, (refl, (tt, tt)))))))))))))))
+table_fits row.MgArrayElementAssignment = (tt, (refl, (((2, lit< tt, refl), refl), (refl, (refl, (refl, (((1, lit< tt, refl), refl), (tt, (refl, (refl, (refl, (refl, (refl, (refl, (tt, tt)))))))))))))))
+
+-- ---- counts
+
+record AreFew (r : Predef) : Type 0 where
+  locals : length (map named_local (formals_of r)) + length (temporaries_text r) ≤ 400
+  some_instrs : 0 < length (flat_map line_text (lines_of r))
+  instrs : length (flat_map line_text (lines_of r)) ≤ 1048576
+
+are_few : (r : Predef) → AreFew r
+are_few row.MgSimpleVariableAssignment = record { locals = lit≤ tt; some_instrs = lit< tt; instrs = lit≤ tt }
+are_few row.MgSimpleConstantAssignment = record { locals = lit≤ tt; some_instrs = lit< tt; instrs = lit≤ tt }
+are_few row.MgSimpleVariableEq = record { locals = lit≤ tt; some_instrs = lit< tt; instrs = lit≤ tt }
+are_few row.MgSimpleConstantEq = record { locals = lit≤ tt; some_instrs = lit< tt; instrs = lit≤ tt }
+are_few row.MgIntegerLe = record { locals = lit≤ tt; some_instrs = lit< tt; instrs = lit≤ tt }
+are_few row.MgIntegerUnaryMinus = record { locals = lit≤ tt; some_instrs = lit< tt; instrs = lit≤ tt }
+are_few row.MgIntegerAdd = record { locals = lit≤ tt; some_instrs = lit< tt; instrs = lit≤ tt }
+are_few row.MgIntegerSubtract = record { locals = lit≤ tt; some_instrs = lit< tt; instrs = lit≤ tt }
+are_few row.MgBooleanOr = record { locals = lit≤ tt; some_instrs = lit< tt; instrs = lit≤ tt }
+are_few row.MgBooleanAnd = record { locals = lit≤ tt; some_instrs = lit< tt; instrs = lit≤ tt }
+are_few row.MgBooleanNot = record { locals = lit≤ tt; some_instrs = lit< tt; instrs = lit≤ tt }
+are_few row.MgIndexArray = record { locals = lit≤ tt; some_instrs = lit< tt; instrs = lit≤ tt }
+are_few row.MgArrayElementAssignment = record { locals = lit≤ tt; some_instrs = lit< tt; instrs = lit≤ tt }
+
+pub fit : BodiesFit
+fit r =
+    let few = are_few r in
+    record {
+      name = program_names r;
+      formals = formals_fit (formals_of r);
+      temporaries = temporaries_fit (has_temporary r);
+      instrs = lines_fit (lines_of r) (table_fits r);
+      few_locals = few.locals;
+      some_instrs = few.some_instrs;
+      few_instrs = few.instrs;
+    }

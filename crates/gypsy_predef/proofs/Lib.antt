@@ -1,0 +1,9 @@
+mod StackLaws
+mod RunningLaws
+mod ValueLaws
+mod NumberLaws
+mod RowLaws
+mod CallLaws
+mod ArgumentLaws
+mod FormLaws
+mod ResolvingLaws

@@ -1,0 +1,30 @@
+-- What is known of the texts of the bodies: they keep the form and the rules, and mean the programs.
+use Rattle.std.specs.Prelude.{◌≡◌, ◌+◌, List, [], ◌++◌, length, slice_get, Some}
+use Rattle.piton_syntax.specs.Systems.{ProgramOf, SystemOf}
+use Rattle.piton_check.specs.Declarations.{area_names, first_of}
+use Rattle.piton_check.specs.Violations.{program_breaches}
+use Rattle.piton_syntax.specs.Fits.{FitsProgram}
+use Rattle.piton_check.specs.Resolved.{resolved, resolved_program}
+use Rattle.piton_check.specs.Instruction.{program_view, system_view}
+use Rattle.gypsy_syntax.specs.declared.predef.Predef.{Predef}
+use Rattle.gypsy_predef.specs.Bodies.{body_of, predef_number}
+use Rattle.gypsy_predef.specs.Texts.{body_text, body_texts, condition_area}
+
+-- in a system whose first area is `c-c`, the texts mean the programs
+abbrev pub BodiesResolve : Type 0
+BodiesResolve = (s : SystemOf) (r : Predef) → first_of (area_names s) condition_area ≡ Some 0 →
+    program_view (resolved_program s (body_text r)) ≡ body_of r
+
+-- the texts at the end of such a system's programs: its programs by position
+abbrev pub BodiesStandResolved : Type 0
+BodiesStandResolved = (s : SystemOf) (programs : List ProgramOf) (r : Predef) → s.programs ≡ programs ++ body_texts →
+    first_of (area_names s) condition_area ≡ Some 0 →
+    slice_get (system_view (resolved s)).programs (length programs + predef_number r) ≡ Some (body_of r)
+
+-- in a system whose first area is `c-c`, the texts break no rule
+abbrev pub BodiesKeepRules : Type 0
+BodiesKeepRules = (s : SystemOf) (r : Predef) → first_of (area_names s) condition_area ≡ Some 0 → program_breaches s (body_text r) ≡ []
+
+-- each text keeps the form of a program
+abbrev pub BodiesFit : Type 0
+BodiesFit = (r : Predef) → FitsProgram (body_text r)

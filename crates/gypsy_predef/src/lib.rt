@@ -1,0 +1,35 @@
+//! The predefined procedures of Micro-Gypsy as programs of Piton.
+#![tactic(auto)]
+
+ghost use Rattle.gypsy_predef.specs.Runs.{PredefRuns, CountsAdd, WordsWritten};
+ghost use Rattle.gypsy_predef.specs.Calls.{PredefCallRuns, BodiesStand, ArgumentsHold, ValuesKept};
+ghost use Rattle.gypsy_predef.specs.Resolving.{BodiesFit, BodiesKeepRules, BodiesResolve, BodiesStandResolved};
+
+mod line;
+mod rows;
+#[cfg(test)]
+mod tests;
+mod writing;
+
+pub use writing::bodies;
+
+/// A call of a predefined program does what its row says, in the row's steps and at the row's cost: from the call itself,
+/// and from the first push to behind the test for a fault. It does nothing: its clauses hold of all systems and states.
+pub fn predefs_run()
+    ensures runs { PredefRuns }
+    ensures counts { CountsAdd }
+    ensures calls { PredefCallRuns }
+    ensures stand { BodiesStand }
+    ensures arguments { ArgumentsHold }
+    ensures values { ValuesKept }
+    ensures written { WordsWritten }
+{}
+
+/// The texts of the predefined programs keep the form; in each system whose first area is `c-c` they break no rule, and
+/// mean those programs. It does nothing: its clauses hold of all systems.
+pub fn bodies_resolve()
+    ensures fit { BodiesFit }
+    ensures rules { BodiesKeepRules }
+    ensures one { BodiesResolve }
+    ensures all { BodiesStandResolved }
+{}

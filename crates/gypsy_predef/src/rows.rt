@@ -1,0 +1,223 @@
+//! The thirteen bodies, line by line.
+
+ghost use Rattle.std.specs.Prelude.{◌≡◌, IsTrue};
+ghost use Rattle.stack_text.specs.Names.{is_name};
+ghost use Rattle.gypsy_syntax.specs.Predefined.{predef_name};
+ghost use Rattle.gypsy_predef.specs.Texts.{formals_of, has_temporary, lines_of};
+
+use crate::line::{Line, Local};
+use gypsy_syntax::Predef;
+use piton_syntax::{PitonOp, TestKind};
+
+static SIMPLE_VARIABLE_ASSIGNMENT: [Line; 3] = [
+    Line::Get(Local::X),
+    Line::Put(Local::D),
+    Line::Plain(PitonOp::Ret),
+];
+
+static SIMPLE_CONSTANT_ASSIGNMENT: [Line; 3] = [
+    Line::Local(PitonOp::PushLocal, Local::V),
+    Line::Put(Local::D),
+    Line::Plain(PitonOp::Ret),
+];
+
+static SIMPLE_VARIABLE_EQ: [Line; 5] = [
+    Line::Get(Local::X),
+    Line::Get(Local::Y),
+    Line::Plain(PitonOp::Eq),
+    Line::Put(Local::B),
+    Line::Plain(PitonOp::Ret),
+];
+
+static SIMPLE_CONSTANT_EQ: [Line; 5] = [
+    Line::Get(Local::X),
+    Line::Local(PitonOp::PushLocal, Local::V),
+    Line::Plain(PitonOp::Eq),
+    Line::Put(Local::B),
+    Line::Plain(PitonOp::Ret),
+];
+
+static INTEGER_LE: [Line; 6] = [
+    Line::Get(Local::Y),
+    Line::Get(Local::X),
+    Line::Plain(PitonOp::LtInt),
+    Line::Plain(PitonOp::NotBool),
+    Line::Put(Local::B),
+    Line::Plain(PitonOp::Ret),
+];
+
+static INTEGER_UNARY_MINUS: [Line; 9] = [
+    Line::Get(Local::X),
+    Line::Integer(-2147483648),
+    Line::Plain(PitonOp::Eq),
+    Line::Test(PitonOp::TestBoolAndJump, TestKind::T),
+    Line::Get(Local::X),
+    Line::Plain(PitonOp::NegInt),
+    Line::Put(Local::D),
+    Line::Plain(PitonOp::Ret),
+    Line::Fail,
+];
+
+static INTEGER_ADD: [Line; 10] = [
+    Line::Truth(false),
+    Line::Get(Local::X),
+    Line::Get(Local::Y),
+    Line::Plain(PitonOp::AddIntWithCarry),
+    Line::Local(PitonOp::PopLocal, Local::T),
+    Line::Test(PitonOp::TestBoolAndJump, TestKind::T),
+    Line::Local(PitonOp::PushLocal, Local::T),
+    Line::Put(Local::D),
+    Line::Plain(PitonOp::Ret),
+    Line::Fail,
+];
+
+static INTEGER_SUBTRACT: [Line; 10] = [
+    Line::Truth(false),
+    Line::Get(Local::X),
+    Line::Get(Local::Y),
+    Line::Plain(PitonOp::SubIntWithCarry),
+    Line::Local(PitonOp::PopLocal, Local::T),
+    Line::Test(PitonOp::TestBoolAndJump, TestKind::T),
+    Line::Local(PitonOp::PushLocal, Local::T),
+    Line::Put(Local::D),
+    Line::Plain(PitonOp::Ret),
+    Line::Fail,
+];
+
+static BOOLEAN_OR: [Line; 5] = [
+    Line::Get(Local::X),
+    Line::Get(Local::Y),
+    Line::Plain(PitonOp::OrBool),
+    Line::Put(Local::B),
+    Line::Plain(PitonOp::Ret),
+];
+
+static BOOLEAN_AND: [Line; 5] = [
+    Line::Get(Local::X),
+    Line::Get(Local::Y),
+    Line::Plain(PitonOp::AndBool),
+    Line::Put(Local::B),
+    Line::Plain(PitonOp::Ret),
+];
+
+static BOOLEAN_NOT: [Line; 4] = [
+    Line::Get(Local::X),
+    Line::Plain(PitonOp::NotBool),
+    Line::Put(Local::B),
+    Line::Plain(PitonOp::Ret),
+];
+
+static INDEX_ARRAY: [Line; 15] = [
+    Line::Get(Local::I),
+    Line::Local(PitonOp::SetLocal, Local::T),
+    Line::Test(PitonOp::TestIntAndJump, TestKind::Neg),
+    Line::Local(PitonOp::PushLocal, Local::T),
+    Line::Local(PitonOp::PushLocal, Local::N),
+    Line::Plain(PitonOp::LtInt),
+    Line::Test(PitonOp::TestBoolAndJump, TestKind::F),
+    Line::Local(PitonOp::PushLocal, Local::A),
+    Line::Local(PitonOp::PushLocal, Local::T),
+    Line::Plain(PitonOp::IntToNat),
+    Line::Plain(PitonOp::AddNat),
+    Line::Plain(PitonOp::FetchTempStk),
+    Line::Put(Local::D),
+    Line::Plain(PitonOp::Ret),
+    Line::Fail,
+];
+
+static ARRAY_ELEMENT_ASSIGNMENT: [Line; 15] = [
+    Line::Get(Local::I),
+    Line::Local(PitonOp::SetLocal, Local::T),
+    Line::Test(PitonOp::TestIntAndJump, TestKind::Neg),
+    Line::Local(PitonOp::PushLocal, Local::T),
+    Line::Local(PitonOp::PushLocal, Local::N),
+    Line::Plain(PitonOp::LtInt),
+    Line::Test(PitonOp::TestBoolAndJump, TestKind::F),
+    Line::Get(Local::X),
+    Line::Local(PitonOp::PushLocal, Local::A),
+    Line::Local(PitonOp::PushLocal, Local::T),
+    Line::Plain(PitonOp::IntToNat),
+    Line::Plain(PitonOp::AddNat),
+    Line::Plain(PitonOp::DepositTempStk),
+    Line::Plain(PitonOp::Ret),
+    Line::Fail,
+];
+
+static D_X: [Local; 2] = [Local::D, Local::X];
+
+static D_V: [Local; 2] = [Local::D, Local::V];
+
+static B_X_Y: [Local; 3] = [Local::B, Local::X, Local::Y];
+
+static B_X_V: [Local; 3] = [Local::B, Local::X, Local::V];
+
+static D_X_Y: [Local; 3] = [Local::D, Local::X, Local::Y];
+
+static B_X: [Local; 2] = [Local::B, Local::X];
+
+static D_A_I_N: [Local; 4] = [Local::D, Local::A, Local::I, Local::N];
+
+static A_I_X_N: [Local; 4] = [Local::A, Local::I, Local::X, Local::N];
+
+/// The lines of a body.
+pub fn lines_of(row: Predef) -> &'static [Line]
+    ensures { result.now ≡ lines_of row }
+{
+    match row {
+        Predef::MgSimpleVariableAssignment => SIMPLE_VARIABLE_ASSIGNMENT.as_slice(),
+        Predef::MgSimpleConstantAssignment => SIMPLE_CONSTANT_ASSIGNMENT.as_slice(),
+        Predef::MgSimpleVariableEq => SIMPLE_VARIABLE_EQ.as_slice(),
+        Predef::MgSimpleConstantEq => SIMPLE_CONSTANT_EQ.as_slice(),
+        Predef::MgIntegerLe => INTEGER_LE.as_slice(),
+        Predef::MgIntegerUnaryMinus => INTEGER_UNARY_MINUS.as_slice(),
+        Predef::MgIntegerAdd => INTEGER_ADD.as_slice(),
+        Predef::MgIntegerSubtract => INTEGER_SUBTRACT.as_slice(),
+        Predef::MgBooleanOr => BOOLEAN_OR.as_slice(),
+        Predef::MgBooleanAnd => BOOLEAN_AND.as_slice(),
+        Predef::MgBooleanNot => BOOLEAN_NOT.as_slice(),
+        Predef::MgIndexArray => INDEX_ARRAY.as_slice(),
+        Predef::MgArrayElementAssignment => ARRAY_ELEMENT_ASSIGNMENT.as_slice(),
+    }
+}
+
+/// The formals of a body: one for each argument, and one for an array's length.
+pub fn formals_of(row: Predef) -> &'static [Local]
+    ensures { result.now ≡ formals_of row }
+{
+    match row {
+        Predef::MgSimpleVariableAssignment => D_X.as_slice(),
+        Predef::MgSimpleConstantAssignment => D_V.as_slice(),
+        Predef::MgSimpleVariableEq => B_X_Y.as_slice(),
+        Predef::MgSimpleConstantEq => B_X_V.as_slice(),
+        Predef::MgIntegerLe => B_X_Y.as_slice(),
+        Predef::MgIntegerUnaryMinus => D_X.as_slice(),
+        Predef::MgIntegerAdd => D_X_Y.as_slice(),
+        Predef::MgIntegerSubtract => D_X_Y.as_slice(),
+        Predef::MgBooleanOr => B_X_Y.as_slice(),
+        Predef::MgBooleanAnd => B_X_Y.as_slice(),
+        Predef::MgBooleanNot => B_X.as_slice(),
+        Predef::MgIndexArray => D_A_I_N.as_slice(),
+        Predef::MgArrayElementAssignment => A_I_X_N.as_slice(),
+    }
+}
+
+/// Whether a body has the temporary `t`.
+pub fn has_temporary(row: Predef) -> bool
+    ensures { result ≡ has_temporary row }
+{
+    matches!(
+        row,
+        Predef::MgIntegerAdd
+            | Predef::MgIntegerSubtract
+            | Predef::MgIndexArray
+            | Predef::MgArrayElementAssignment
+    )
+}
+
+/// The name of a row's program.
+pub fn program_name(row: Predef) -> &'static [u8]
+    ensures name { result.now ≡ predef_name row }
+    ensures is_name { IsTrue (is_name result.now) }
+{
+    row.name().as_bytes()
+}
