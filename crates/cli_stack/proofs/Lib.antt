@@ -5,5 +5,6 @@ pub mod PitonTextLaws
 pub mod PrintLaws
 pub mod PromisesLaws
 pub mod SizeLaws
+pub mod SourceTextLaws
 pub mod TellsLaws
 pub mod TextsLaws

@@ -1,12 +1,13 @@
--- A system that was checked is the one of its text.
-use Rattle.std.proofs.Common.{◌≡◌, ℕ, List, [], Option, Result, Ok, sym, ap, ◌∙◌, subst}
+-- A system that was checked: it is the one of its text, and keeps the limits.
+use Rattle.std.proofs.Common.{◌≡◌, ◌≤◌, ℕ, List, [], Option, Result, Ok, length, sym, ap, ◌∙◌, subst}
+use Rattle.std.proofs.lemmas.List.{length-map}
 use Rattle.stack_text.specs.declared.breach.Breach.{Breach}
 use Rattle.stack_text.specs.Breaches.{least}
 use Rattle.piton_syntax.specs.declared.fault.PitonFault.{PitonFault}
 use Rattle.piton_syntax.specs.Answers.{piton_in}
 use Rattle.piton_syntax.specs.Systems.{SystemOf}
 use Rattle.piton_check.specs.Answers.{CheckedOf, IsChecked}
-use Rattle.piton_check.specs.Resolved.{ResolvedOf, resolved}
+use Rattle.piton_check.specs.Resolved.{ResolvedOf, resolved, resolved_area}
 use Rattle.piton_check.specs.Violations.{violations}
 use Rattle.cli_stack.specs.PitonText.{checked_unless, checked_by, checked_in}
 
@@ -17,3 +18,9 @@ reads_checked text system c read is kept =
     let names : resolved system ≡ c.resolved = sym (is.names ∙ ap resolved kept) in
     let whole : record { system = system; resolved = resolved system } ≡ c = λ i. record { system = sym kept i; resolved = names i } in
     sym (ap checked_by read ∙ ap (λ (breaches : List Breach). checked_unless system (least breaches)) clean ∙ ap (λ (found : CheckedOf). Ok found) whole)
+
+-- it has few areas
+pub few_areas : (c : CheckedOf) → IsChecked c → length c.system.areas ≤ 1000
+few_areas c is =
+    let same : length c.resolved.areas ≡ length c.system.areas = ap (λ (r : ResolvedOf). length r.areas) is.names ∙ length-map c.system.areas (resolved_area c.system) in
+    subst (λ (n : ℕ). n ≤ 1000) same is.sound.few_areas

@@ -16,6 +16,17 @@ use Rattle.piton_syntax.specs.declared.fault.PitonFault.TheVariants as fault
 use Rattle.piton_syntax.specs.Answers.{piton_in}
 use Rattle.piton_syntax.specs.Systems.{SystemOf}
 use Rattle.piton_check.specs.Violations.{violations}
+use Rattle.piton_check.specs.Answers.{CheckedOf}
+use Rattle.gypsy_syntax.specs.declared.fault.GypsyFault.{GypsyFault}
+use Rattle.gypsy_syntax.specs.declared.fault.GypsyFault.TheVariants as gypsy
+use Rattle.gypsy_syntax.specs.Answers.{gypsy_in}
+use Rattle.gypsy_syntax.specs.Sources.{SourceOf}
+use Rattle.gypsy_check.specs.Rules.{violations as gypsy_violations}
+use Rattle.piton_machine.specs.declared.stepped.PitonRun.{PitonRun}
+use Rattle.piton_machine.specs.declared.stepped.PitonRun.TheVariants as piton_run
+use Rattle.piton_machine.specs.Fits.{system_in}
+use Rattle.piton_machine.specs.Seen.{Ran, run_of, opening}
+use Rattle.piton_machine.specs.Seen.{Seen as PitonSeen}
 use Rattle.stack_build.specs.declared.fault.BuildFault.{BuildFault}
 use Rattle.stack_build.specs.Build.{BuiltOf, built}
 use Rattle.cli_stack.specs.declared.command.Command.{Command}
@@ -30,6 +41,8 @@ use Rattle.cli_stack.specs.Answer.{Texts, text_of, reply_by}
 use Rattle.cli_stack.specs.Go.{go_reply}
 use Rattle.cli_stack.specs.Run.{end_reply, outcome_reply, run_reply, values_reply, image_reply}
 use Rattle.cli_stack.specs.Show.{listing_reply}
+use Rattle.cli_stack.specs.Prun.{run_end_reply, checked_run_reply, system_run_reply}
+use Rattle.cli_stack.specs.SourceText.{gypsy_verdict, accepted_unless, accepted_by, accepted_in}
 use Rattle.cli_stack.specs.PitonText.{piton_verdict, checked_unless, checked_by, checked_in}
 use Rattle.cli_stack.specs.Promises.{TakesSizes}
 use Rattle.cli_stack.specs.Driver.{IsReplyTo}
@@ -80,9 +93,38 @@ refused_no_size text = by_reading (piton_in text)
     by_reading (Ok system) = by_breach system (least (violations system))
     by_reading (Err fault) = piton_no_size fault
 
+gypsy_no_size : (fault : GypsyFault) → is_size (gypsy_verdict fault) ≡ false
+gypsy_no_size (gypsy.Text rule place) = refl
+gypsy_no_size (gypsy.Form rule place) = refl
+gypsy_no_size gypsy.Memory = refl
+
+-- so is a refused source
+source_no_size : (text : List ℕ) → IfErr (accepted_in text) (λ v. is_size v ≡ false)
+unfolding accepted_in
+source_no_size text = by_reading (gypsy_in text)
+  where
+    by_breach : (source : SourceOf) (breach : Option Breach) → IfErr (accepted_unless source breach) (λ v. is_size v ≡ false)
+    by_breach source None = tt
+    by_breach source (Some breach) = refl
+
+    by_reading : (found : Result SourceOf GypsyFault) → IfErr (accepted_by found) (λ v. is_size v ≡ false)
+    by_reading (Ok source) = by_breach source (least (gypsy_violations source))
+    by_reading (Err fault) = gypsy_no_size fault
+
 judgement_no_size : {X : Type 0} (found : Result X Verdict) → IfErr found (λ v. is_size v ≡ false) → is_size (judgement_reply found).verdict ≡ false
 judgement_no_size (Ok checked) none = refl
 judgement_no_size (Err verdict) none = none
+
+piton_run_no_size : (system : SystemOf) (limit : ℕ) (r : PitonRun) (seen : PitonSeen) → is_size (run_end_reply system limit r seen).verdict ≡ false
+piton_run_no_size system limit piton_run.Halted seen = refl
+piton_run_no_size system limit piton_run.Spent seen = refl
+piton_run_no_size system limit (piton_run.Error kind) seen = refl
+
+checked_run_no_size : (found : Result CheckedOf Verdict) (limit : ℕ) → IfErr found (λ v. is_size v ≡ false) → is_size (checked_run_reply found limit).verdict ≡ false
+unfolding system_run_reply
+checked_run_no_size (Ok checked) limit none =
+    let ran : Ran = run_of (system_in checked) limit (opening (system_in checked) (system_in checked).stack) in piton_run_no_size checked.system limit ran.run ran.seen
+checked_run_no_size (Err verdict) limit none = none
 
 -- 2. Who may.
 
@@ -108,7 +150,9 @@ sizes_by (command.Go source values control temporary budget image) texts = λ si
 sizes_by (command.Run image values budget) texts =
     no_sizes (command.Run image values budget) (reply_by (command.Run image values budget) texts) (image_no_size (text_of role.Values texts) budget (read_of (text_of role.Image texts)))
 sizes_by (command.Show image) texts = no_sizes (command.Show image) (reply_by (command.Show image) texts) (listing_no_size (read_of (text_of role.Image texts)))
+sizes_by (command.Check source) texts = no_sizes (command.Check source) (reply_by (command.Check source) texts) (judgement_no_size (accepted_in (text_of role.Source texts)) (source_no_size (text_of role.Source texts)))
 sizes_by (command.Pcheck piton) texts = no_sizes (command.Pcheck piton) (reply_by (command.Pcheck piton) texts) (judgement_no_size (checked_in (text_of role.Piton texts)) (refused_no_size (text_of role.Piton texts)))
+sizes_by (command.Prun piton limit) texts = no_sizes (command.Prun piton limit) (reply_by (command.Prun piton limit) texts) (checked_run_no_size (checked_in (text_of role.Piton texts)) limit (refused_no_size (text_of role.Piton texts)))
 sizes_by c texts = no_sizes c (reply_by c texts) refl
 
 of_command : (c : Option Command) (reply : Reply) → IsReplyTo c reply → is_size reply.verdict ≡ true → TakesSizes c × (reply.said ≡ [])

@@ -134,7 +134,9 @@ tells_by (command.Run image_name values_file budget) files = λ name reads has. 
       read_tells files control temporary source image values_text values finals condition count budget gives done enough image_name values_file found there,
 )
 tells_by (command.Show image_name) files = λ name reads has. absurd (no_values Image image_name name (λ e. cc) reads)
+tells_by (command.Check source_name) files = λ name reads has. absurd (no_values Source source_name name (λ e. cc) reads)
 tells_by (command.Pcheck piton_name) files = λ name reads has. absurd (no_values Piton piton_name name (λ e. cc) reads)
+tells_by (command.Prun piton_name limit) files = λ name reads has. absurd (no_values Piton piton_name name (λ e. cc) reads)
 tells_by c files = λ name reads has. absurd (nothing name reads)
   where
     nothing : (name : List ℕ) → Contains {X = Role × List ℕ} [] (Values, name) → ⊥

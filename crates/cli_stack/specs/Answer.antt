@@ -7,7 +7,7 @@ use Rattle.stack_shelf.specs.Files.{Files, put_file}
 use Rattle.stack_shelf.specs.Shelf.{Refusal, Missing, TooLong, fetched}
 use Rattle.stack_build.specs.Build.{built}
 use Rattle.cli_stack.specs.declared.command.Command.{Command}
-use Rattle.cli_stack.specs.declared.command.Command.TheVariants.{Go, Run, Show, Pcheck}
+use Rattle.cli_stack.specs.declared.command.Command.TheVariants.{Check, Pcheck, Prun, Run, Go, Show}
 use Rattle.cli_stack.specs.declared.driver.early_end.EarlyEnd.{EarlyEnd}
 use Rattle.cli_stack.specs.declared.driver.early_end.EarlyEnd.TheVariants as end
 use Rattle.cli_stack.specs.declared.reply.Verdict.TheVariants.{Usage, NotBuilt}
@@ -20,7 +20,9 @@ use Rattle.cli_stack.specs.Replies.{ReplyOf, verdict_alone, reply_text, status_o
 use Rattle.cli_stack.specs.Go.{go_stored, go_reply}
 use Rattle.cli_stack.specs.Run.{image_file_reply}
 use Rattle.cli_stack.specs.Show.{show_reply}
+use Rattle.cli_stack.specs.Check.{check_reply}
 use Rattle.cli_stack.specs.Pcheck.{pcheck_reply}
+use Rattle.cli_stack.specs.Prun.{prun_reply}
 
 -- 1. The files that a command reads, in order, and the one that it writes: each with its role and its name. A command that is
 -- yet to be built touches none.
@@ -29,7 +31,9 @@ unfoldable pub inputs_of : Command → List (Role × List ℕ)
 inputs_of (Go source values control temporary budget image) = (role.Source, source) ∷ (role.Values, values) ∷ []
 inputs_of (Run image values budget) = (role.Image, image) ∷ (role.Values, values) ∷ []
 inputs_of (Show image) = (role.Image, image) ∷ []
+inputs_of (Check source) = (role.Source, source) ∷ []
 inputs_of (Pcheck piton) = (role.Piton, piton) ∷ []
+inputs_of (Prun piton limit) = (role.Piton, piton) ∷ []
 inputs_of _ = []
 
 unfoldable pub output_of : Command → Option (Role × List ℕ)
@@ -55,7 +59,9 @@ reply_by (Go source values control temporary budget image) texts =
     go_reply (built (text_of role.Source texts) control temporary) (text_of role.Values texts) budget
 reply_by (Run image values budget) texts = image_file_reply (text_of role.Image texts) (text_of role.Values texts) budget
 reply_by (Show image) texts = show_reply (text_of role.Image texts)
+reply_by (Check source) texts = check_reply (text_of role.Source texts)
 reply_by (Pcheck piton) texts = pcheck_reply (text_of role.Piton texts)
+reply_by (Prun piton limit) texts = prun_reply (text_of role.Piton texts) limit
 reply_by _ texts = verdict_alone NotBuilt
 
 -- 3. All together: the first file that is missing or too long ends the command.

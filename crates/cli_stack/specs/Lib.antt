@@ -13,8 +13,12 @@ pub mod Rows
 pub mod Go
 pub mod Run
 pub mod Show
+pub mod SourceText
+pub mod Check
 pub mod PitonText
 pub mod Pcheck
+pub mod NamedWords
+pub mod Prun
 -- what private functions say
 pub mod Plans
 pub mod Driver

@@ -4,6 +4,8 @@ use Rattle.std.specs.Option.{option_map}
 use Rattle.std.specs.Fmt.{decimal}
 use Rattle.fm_machine.specs.State.{Fm, Seen}
 use Rattle.fm_show.specs.Digits.{hex_digits}
+use Rattle.piton_machine.specs.declared.error_kind.ErrorKind.{ErrorKind}
+use Rattle.piton_machine.specs.declared.error_kind.ErrorKind.TheVariants as kind
 use Rattle.stack_text.specs.declared.text_fault.TextRule.{TextRule}
 use Rattle.stack_text.specs.declared.text_fault.TextRule.TheVariants as text
 use Rattle.cli_stack.specs.declared.status.Status.{Status}
@@ -13,7 +15,7 @@ use Rattle.cli_stack.specs.declared.reply.RuleLetter.TheVariants.{G, M, S, P, Q}
 use Rattle.cli_stack.specs.declared.reply.SizeOf.{SizeOf}
 use Rattle.cli_stack.specs.declared.reply.SizeOf.TheVariants.{Control, Temporary, Words}
 use Rattle.cli_stack.specs.declared.reply.Verdict.{Verdict}
-use Rattle.cli_stack.specs.declared.reply.Verdict.TheVariants.{Done, Usage, Refused, Values, Image, Unfinished, Outside, Size, NotBuilt}
+use Rattle.cli_stack.specs.declared.reply.Verdict.TheVariants.{Done, Usage, Refused, Values, Image, Unfinished, Outside, Error, Size, NotBuilt}
 use Rattle.cli_stack.specs.declared.reply.Reply.{Reply}
 use Rattle.cli_stack.specs.declared.driver.early_end.EarlyEnd.{EarlyEnd}
 use Rattle.cli_stack.specs.declared.driver.early_end.EarlyEnd.TheVariants.{Missing, TooLong, ShelfFault, OutOfMemory}
@@ -45,6 +47,14 @@ size_of_text Control = codes "control"
 size_of_text Temporary = codes "temporary"
 size_of_text Words = codes "words"
 
+-- why a step of Piton is refused
+abbrev pub kind_text : ErrorKind → List ℕ
+kind_text kind.TempEmpty = codes "temp-empty"
+kind_text kind.Tag = codes "tag"
+kind_text kind.Range = codes "range"
+kind_text kind.TempFull = codes "temp-full"
+kind_text kind.CtrlFull = codes "ctrl-full"
+
 -- 1. Ends of the command's own.
 
 abbrev pub status_of : Verdict → Status
@@ -55,6 +65,7 @@ status_of (Values rule place) = status.Values
 status_of (Image rule place) = status.Image
 status_of (Unfinished limit) = status.Unfinished
 status_of (Outside address count) = status.Outside
+status_of (Error kind program place count) = status.Error
 status_of (Size of need) = status.Size
 status_of NotBuilt = status.NotBuilt
 
@@ -68,6 +79,8 @@ verdict_line (Values rule place) = line (codes "values V" ++ decimal rule ++ cod
 verdict_line (Image rule place) = line (codes "image I" ++ decimal rule ++ codes " at " ++ decimal place)
 verdict_line (Unfinished limit) = line (codes "unfinished " ++ decimal limit)
 verdict_line (Outside address count) = line (codes "outside " ++ hex_digits address ++ codes " after " ++ decimal count)
+verdict_line (Error kind program place count) =
+    line (codes "error " ++ kind_text kind ++ codes " at " ++ program ++ codes " " ++ decimal place ++ codes " after " ++ decimal count)
 verdict_line (Size of need) = line (codes "size " ++ size_of_text of ++ codes " " ++ decimal need)
 verdict_line NotBuilt = line (codes "not built")
 

@@ -11,7 +11,7 @@ use std::alloc::Global;
 /// What the words ask for, with the names of the files, the sizes of the two stacks, and the most steps.
 #[derive(Debug, Drop)]
 pub enum Command {
-    /// Judges a source. To come.
+    /// Judges a source.
     Check {
         source: FileName,
     },
@@ -41,7 +41,7 @@ pub enum Command {
     Pcheck {
         piton: FileName,
     },
-    /// Runs a Piton text. To come.
+    /// Runs a Piton text.
     Prun {
         piton: FileName,
         limit: u64,
@@ -124,7 +124,13 @@ impl Command {
                     name: image
                 },
             ]?),
-            Command::Pcheck { piton } => Ok(vec![in alloc;
+            Command::Check { source } => Ok(vec![in alloc;
+                RoleFile {
+                    role: Role::Source,
+                    name: source
+                },
+            ]?),
+            Command::Pcheck { piton } | Command::Prun { piton, .. } => Ok(vec![in alloc;
                 RoleFile {
                     role: Role::Piton,
                     name: piton

@@ -4,13 +4,17 @@ ghost use Rattle.cli_stack.specs.Answer.{stored_by, reply_by};
 ghost use Rattle.cli_stack.specs.Replies.{reply_of};
 ghost use Rattle.cli_stack.specs.Plans.{pending_reply};
 
+mod check;
 mod go;
 mod image_run;
+mod named_words;
 mod pcheck;
 mod piton_text;
 mod plan;
+mod prun;
 mod run;
 mod show;
+mod source_text;
 
 use crate::command::Command;
 use crate::reply::{Reply, Verdict};
@@ -45,7 +49,9 @@ pub fn prepare(alloc: Global, command: &Command, texts: &Texts) -> Result<Plan, 
             )
         }
         Command::Show { .. } => show::prepare(alloc, texts.of(Role::Image)),
+        Command::Check { .. } => check::prepare(alloc, texts.of(Role::Source)),
         Command::Pcheck { .. } => pcheck::prepare(alloc, texts.of(Role::Piton)),
+        Command::Prun { limit, .. } => prun::prepare(alloc, texts.of(Role::Piton), *limit),
         _ => Ok(Plan::verdict_alone(alloc, Verdict::NotBuilt)),
     }
 }

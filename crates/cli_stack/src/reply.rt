@@ -1,11 +1,12 @@
 //! What a command replies.
-ghost use Rattle.std.specs.Prelude.{◌≡◌, IfOk, string_bytes};
-ghost use Rattle.cli_stack.specs.Replies.{letter_text, text_rule_number, size_of_text, status_of, verdict_line};
+ghost use Rattle.std.specs.Prelude.{◌≡◌, IfOk};
+ghost use Rattle.cli_stack.specs.Replies.{letter_text, text_rule_number, size_of_text, kind_text, status_of, verdict_line};
 
 use crate::status::Status;
 use fm_machine::Machine;
 use fm_show::hex_digits;
-use stack_text::{Memory, Seq, TextRule};
+use piton_machine::ErrorKind;
+use stack_text::{Memory, Name, Seq, TextRule};
 use std::alloc::Global;
 
 /// The letter of a rule by which a text is refused: G for the form of trees, M and S for sources, P and Q for Piton.
@@ -27,7 +28,7 @@ pub enum SizeOf {
 }
 
 /// How a command came to its end, with what its last line says.
-#[derive(Clone, Copy, Debug, PartialEq, Eq)]
+#[derive(Debug, Drop)]
 pub enum Verdict {
     /// It came to its defined end.
     Done,
@@ -56,6 +57,13 @@ pub enum Verdict {
     /// After so many instructions the next one needs an address outside the window.
     Outside {
         address: u32,
+        count: u64,
+    },
+    /// After so many steps a run of Piton met an error, at a place of a program.
+    Error {
+        kind: ErrorKind,
+        program: Name,
+        place: u32,
         count: u64,
     },
     /// A size is refused: a stack needs at least so many words, or a program has so many.
@@ -106,50 +114,92 @@ fn size_of_text(of: SizeOf) -> &'static str
 }
 
 /// The line of a text that breaks a rule.
-fn refused_line(alloc: Global, letter: RuleLetter, number: u8, place: u32) -> Result<String, Memory>
-    ensures { IfOk result (λ line. string_bytes line ≡ verdict_line (Verdict.Refused letter number place)) }
+fn refused_line(
+    alloc: Global,
+    letter: RuleLetter,
+    number: u8,
+    place: u32,
+) -> Result<Vec<u8>, Memory>
+    ensures { IfOk result (λ line. line.items ≡ verdict_line (Verdict.Refused letter number place)) }
 {
     let letter = letter_text(letter);
-    Ok(format!(in alloc; "refused {letter}{number} at {place}\n")?)
+    Ok(format!(in alloc; "refused {letter}{number} at {place}\n")?.into_bytes())
 }
 
 /// The line of values that break a rule.
-fn values_line(alloc: Global, rule: u8, place: u32) -> Result<String, Memory>
-    ensures { IfOk result (λ line. string_bytes line ≡ verdict_line (Verdict.Values rule place)) }
+fn values_line(alloc: Global, rule: u8, place: u32) -> Result<Vec<u8>, Memory>
+    ensures { IfOk result (λ line. line.items ≡ verdict_line (Verdict.Values rule place)) }
 {
-    Ok(format!(in alloc; "values V{rule} at {place}\n")?)
+    Ok(format!(in alloc; "values V{rule} at {place}\n")?.into_bytes())
 }
 
 /// The line of an image that breaks a rule.
-fn image_line(alloc: Global, rule: u8, place: u64) -> Result<String, Memory>
-    ensures { IfOk result (λ line. string_bytes line ≡ verdict_line (Verdict.Image rule place)) }
+fn image_line(alloc: Global, rule: u8, place: u64) -> Result<Vec<u8>, Memory>
+    ensures { IfOk result (λ line. line.items ≡ verdict_line (Verdict.Image rule place)) }
 {
-    Ok(format!(in alloc; "image I{rule} at {place}\n")?)
+    Ok(format!(in alloc; "image I{rule} at {place}\n")?.into_bytes())
+}
+
+/// The line of a run that did not come to its end.
+fn unfinished_line(alloc: Global, limit: u64) -> Result<Vec<u8>, Memory>
+    ensures { IfOk result (λ line. line.items ≡ verdict_line (Verdict.Unfinished limit)) }
+{
+    Ok(format!(in alloc; "unfinished {limit}\n")?.into_bytes())
 }
 
 /// The line of an address outside the window.
-fn outside_line(alloc: Global, address: u32, count: u64) -> Result<String, Memory>
-    ensures { IfOk result (λ line. string_bytes line ≡ verdict_line (Verdict.Outside address count)) }
+fn outside_line(alloc: Global, address: u32, count: u64) -> Result<Vec<u8>, Memory>
+    ensures { IfOk result (λ line. line.items ≡ verdict_line (Verdict.Outside address count)) }
 {
     let address = hex_digits(alloc, address)?;
-    Ok(format!(in alloc; "outside {address} after {count}\n")?)
+    Ok(format!(in alloc; "outside {address} after {count}\n")?.into_bytes())
 }
 
 /// The line of a size that is refused.
-fn size_line(alloc: Global, of: SizeOf, need: u64) -> Result<String, Memory>
-    ensures { IfOk result (λ line. string_bytes line ≡ verdict_line (Verdict.Size of need)) }
+fn size_line(alloc: Global, of: SizeOf, need: u64) -> Result<Vec<u8>, Memory>
+    ensures { IfOk result (λ line. line.items ≡ verdict_line (Verdict.Size of need)) }
 {
     let of = size_of_text(of);
-    Ok(format!(in alloc; "size {of} {need}\n")?)
+    Ok(format!(in alloc; "size {of} {need}\n")?.into_bytes())
+}
+
+/// Why a step of Piton is refused.
+fn kind_text(kind: ErrorKind) -> &'static str
+    ensures { result.now ≡ kind_text kind }
+{
+    match kind {
+        ErrorKind::TempEmpty => "temp-empty",
+        ErrorKind::Tag => "tag",
+        ErrorKind::Range => "range",
+        ErrorKind::TempFull => "temp-full",
+        ErrorKind::CtrlFull => "ctrl-full",
+    }
+}
+
+/// The line of a run of Piton that met an error.
+fn error_line(
+    alloc: Global,
+    kind: ErrorKind,
+    program: &Name,
+    place: u32,
+    count: u64,
+) -> Result<Vec<u8>, Memory>
+    ensures { IfOk result (λ line. line.items ≡ verdict_line (Verdict.Error kind program.now place count)) }
+{
+    let kind = kind_text(kind);
+    let mut line = format!(in alloc; "error {kind} at ")?.into_bytes();
+    line.extend_from_slice(program.bytes())?;
+    line.extend_from_slice(format!(in alloc; " {place} after {count}\n")?.as_bytes())?;
+    Ok(line)
 }
 
 impl Verdict {
-    ghost use Rattle.std.specs.Prelude.{◌≡◌, IfOk, string_bytes};
+    ghost use Rattle.std.specs.Prelude.{◌≡◌, IfOk};
     ghost use Rattle.cli_stack.specs.Replies.{status_of, verdict_line};
 
     /// The exit status.
-    pub fn status(self) -> Status
-        ensures { result ≡ status_of self }
+    pub fn status(&self) -> Status
+        ensures { result ≡ status_of self.now }
     {
         match self {
             Verdict::Done => Status::Done,
@@ -159,29 +209,36 @@ impl Verdict {
             Verdict::Image { .. } => Status::Image,
             Verdict::Unfinished { .. } => Status::Unfinished,
             Verdict::Outside { .. } => Status::Outside,
+            Verdict::Error { .. } => Status::Error,
             Verdict::Size { .. } => Status::Size,
             Verdict::NotBuilt => Status::NotBuilt,
         }
     }
 
     /// The last line, or nothing where all is said.
-    pub fn line(self, alloc: Global) -> Result<String, Memory>
-        ensures { IfOk result (λ line. string_bytes line ≡ verdict_line self) }
+    pub fn line(&self, alloc: Global) -> Result<Vec<u8>, Memory>
+        ensures { IfOk result (λ line. line.items ≡ verdict_line self.now) }
     {
         match self {
-            Verdict::Done => Ok(String::new(alloc)),
-            Verdict::Usage => Ok("usage\n".to_string(alloc)?),
+            Verdict::Done => Ok(Vec::new(alloc)),
+            Verdict::Usage => Ok(b"usage\n".to_vec(alloc)?),
             Verdict::Refused {
                 letter,
                 number,
                 place,
-            } => refused_line(alloc, letter, number, place),
-            Verdict::Values { rule, place } => values_line(alloc, rule, place),
-            Verdict::Image { rule, place } => image_line(alloc, rule, place),
-            Verdict::Unfinished { limit } => Ok(format!(in alloc; "unfinished {limit}\n")?),
-            Verdict::Outside { address, count } => outside_line(alloc, address, count),
-            Verdict::Size { of, need } => size_line(alloc, of, need),
-            Verdict::NotBuilt => Ok("not built\n".to_string(alloc)?),
+            } => refused_line(alloc, *letter, *number, *place),
+            Verdict::Values { rule, place } => values_line(alloc, *rule, *place),
+            Verdict::Image { rule, place } => image_line(alloc, *rule, *place),
+            Verdict::Unfinished { limit } => unfinished_line(alloc, *limit),
+            Verdict::Outside { address, count } => outside_line(alloc, *address, *count),
+            Verdict::Error {
+                kind,
+                program,
+                place,
+                count,
+            } => error_line(alloc, *kind, program, *place, *count),
+            Verdict::Size { of, need } => size_line(alloc, *of, *need),
+            Verdict::NotBuilt => Ok(b"not built\n".to_vec(alloc)?),
         }
     }
 }

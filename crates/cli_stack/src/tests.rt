@@ -4,7 +4,7 @@ mod devices;
 mod go;
 mod images;
 mod limits;
-mod piton;
+mod texts;
 mod words;
 
 use crate::program::cli;

@@ -33,7 +33,7 @@ fn conclusion_of(alloc: Global, ran: Result<Reply, EarlyEnd>) -> Result<Conclusi
             },
         ) => {
             let mut text = said.into_vec();
-            text.extend_from_slice(verdict.line(alloc)?.as_bytes())?;
+            text.extend_from_slice(verdict.line(alloc)?.as_slice())?;
             Ok(Conclusion {
                 text: Seq::from_vec(text),
                 status: verdict.status(),

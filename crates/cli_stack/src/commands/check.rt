@@ -1,0 +1,21 @@
+//! The command `check`.
+ghost use Rattle.std.specs.Prelude.{◌≡◌, ◌≤◌, ◌^◌, None, IfOk, length};
+ghost use Rattle.cli_stack.specs.Check.{check_reply};
+ghost use Rattle.cli_stack.specs.Plans.{pending_reply};
+
+use crate::commands::plan::Plan;
+use crate::commands::source_text::read_accepted;
+use stack_text::{Memory, Seq};
+use std::alloc::Global;
+
+/// What is left of `check` once its text is there.
+pub fn prepare(alloc: Global, source: &[u8]) -> Result<Plan, Memory>
+    requires { length source.now ≤ 2 ^ 31 }
+    ensures stored { IfOk result (λ plan. plan.stored ≡ None) }
+    ensures reply { IfOk result (λ plan. pending_reply plan.pending ≡ check_reply source.now) }
+{
+    match read_accepted(alloc, source)? {
+        Ok(_) => Ok(Plan::all_said(Seq::from_vec(b"ok\n".to_vec(alloc)?))),
+        Err(verdict) => Ok(Plan::verdict_alone(alloc, verdict)),
+    }
+}
