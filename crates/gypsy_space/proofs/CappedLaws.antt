@@ -1,5 +1,5 @@
 -- Sums that are exact up to 2^60.
-use Rattle.std.proofs.Common.{◌≡◌, ℕ, ◌+◌, ◌^◌, ◌≤◌, max, min, arith}
+use Rattle.std.proofs.Common.{◌≡◌, ℕ, arith}
 use Rattle.gypsy_syntax.specs.Programs.{Program, Stmt, Skip}
 use Rattle.gypsy_space.specs.StatementNeeds.{capped, HasMore, HasMoreWords, IsStatementNeed}
 use Rattle.gypsy_space.specs.declared.counting.StatementNeed.{StatementNeed}

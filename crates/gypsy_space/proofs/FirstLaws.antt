@@ -1,8 +1,8 @@
 -- Needs that are pushed one after another.
-use Rattle.std.proofs.Common.{◌≡◌, ◌⊎◌, ℕ, zero, suc, ◌+◌, ◌<◌, ◌≤◌, List, [], ◌∷◌, ◌++◌, length, length-append, refl, sym, ◌∙◌, ap, subst, arith, ⊎_elim}
+use Rattle.std.proofs.Common.{◌≡◌, ℕ, zero, suc, ◌+◌, ◌<◌, List, [], ◌∷◌, ◌++◌, length, length-append, refl, sym, ◌∙◌, ap, arith, ⊎_elim}
 use Rattle.std.proofs.lemmas.Bool.{cases_lt}
 use Rattle.gypsy_syntax.specs.Programs.{Program}
-use Rattle.gypsy_space.specs.Events.{need_at, need_of, IsSmall, no_need}
+use Rattle.gypsy_space.specs.Events.{need_at, need_of, IsSmall}
 use Rattle.gypsy_space.specs.StatementNeeds.{AreFirst, capped_need}
 use Rattle.gypsy_space.specs.declared.need.Need.{Need}
 

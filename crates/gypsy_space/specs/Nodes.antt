@@ -1,5 +1,5 @@
 -- What clauses see of nodes.
-use Rattle.std.specs.Prelude.{ℕ, List, [], ◌∷◌, map, length}
+use Rattle.std.specs.Prelude.{List, [], ◌∷◌, map, length}
 use Rattle.std.specs.declared.rc.Rc.{Rc}
 use Rattle.std.specs.declared.alloc.Global.{Global}
 use Rattle.gypsy_syntax.specs.Programs.{Cond, Leave, Routine, Declared, Arg, Var, Lit, Stmt, Proc}

@@ -9,6 +9,8 @@ mod laws;
 mod need;
 mod program;
 mod resolving;
+#[cfg(test)]
+mod tests;
 
 pub use counting::needs;
 pub use event::{CostEvent, Outcome};

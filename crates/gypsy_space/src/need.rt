@@ -7,7 +7,7 @@ ghost use Rattle.gypsy_space.specs.Needs.{stack_words};
 use crate::event::{CostEvent, predef_count};
 
 /// What a procedure needs.
-#[derive(Clone, Copy, Debug)]
+#[derive(Clone, Copy, Debug, PartialEq, Eq)]
 pub struct Need {
     /// The most words of the temporary stack that its predefined calls take, and at least 1.
     pub temp: u64,
@@ -48,8 +48,8 @@ impl Needs {
     #[tactic(auto, unfolding(crate::specs::Events::has_room_by))]
     pub fn room(&self, callee: u32, used_temp: u64, used_ctrl: u64, temp: u32, ctrl: u32) -> bool
         requires { AreSmall self.now.procedures.items }
-        ensures { result
-            ≡ has_room_by (need_at self.now.procedures.items callee) (stack_words temp ctrl) (stack_words used_temp used_ctrl) }
+        ensures { let need = need_at self.now.procedures.items callee in
+            result ≡ has_room_by need (stack_words temp ctrl) (stack_words used_temp used_ctrl) }
     {
         let need = self.need_of(callee);
         let above = (need.locals_words + need.vars).max(need.locals_words + need.temp);

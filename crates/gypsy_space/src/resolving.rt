@@ -35,9 +35,7 @@ fn position_word(position: usize) -> Result<u32, Memory>
 fn formal_place(proc: &Proc, name: &Name) -> Option<usize>
     ensures { result ≡ position (λ d. bytes_eq name.now d.name.name) proc.now.formals.items }
 {
-    proc.formals
-        .iter()
-        .position(|decl| *name == decl.name.name)
+    proc.formals.iter().position(|decl| *name == decl.name.name)
 }
 
 /// Where the first local of a name is.
@@ -120,9 +118,7 @@ fn condition(proc: &Proc, name: &Named) -> Result<Condition, Memory>
     if name.name.bytes() == b"routineerror".as_slice() {
         return Ok(Condition::Routine);
     }
-    Ok(Condition::Declared(position_word(condition_place(
-        proc, &name.name,
-    ))?))
+    Ok(Condition::Declared(position_word(condition_place(proc, &name.name))?))
 }
 
 /// Each variable.
@@ -227,9 +223,11 @@ fn kind(literal: &Literal) -> Kind
     match literal {
         Literal::Truth { place: _, truth: _ } => Kind::Boolean,
         Literal::Character { place: _, code: _ } => Kind::Character,
-        Literal::Integer { place: _, number: _ } | Literal::List { place: _, items: _ } => {
-            Kind::Integer
+        Literal::Integer {
+            place: _,
+            number: _,
         }
+        | Literal::List { place: _, items: _ } => { Kind::Integer }
     }
 }
 
@@ -325,12 +323,7 @@ fn call_site(
 
 /// A statement.
 #[cycle(statements)]
-fn statement(
-    alloc: Global,
-    source: &Source,
-    proc: &Proc,
-    stmt: &Stmt,
-) -> Result<Node, Memory>
+fn statement(alloc: Global, source: &Source, proc: &Proc, stmt: &Stmt) -> Result<Node, Memory>
     ensures { IfOk result (λ n. seen_statement n
         ≡ statement_of (source_of source.now) (proc_of proc.now) (stmt_of stmt.now)) }
 {
@@ -397,12 +390,7 @@ fn statement(
 
 /// A part of a statement, which is shared with the work that is made of it.
 #[cycle(statements)]
-fn shared(
-    alloc: Global,
-    source: &Source,
-    proc: &Proc,
-    stmt: &Stmt,
-) -> Result<Rc<Node>, Memory>
+fn shared(alloc: Global, source: &Source, proc: &Proc, stmt: &Stmt) -> Result<Rc<Node>, Memory>
     ensures { IfOk result (λ n. seen_statement n.value
         ≡ statement_of (source_of source.now) (proc_of proc.now) (stmt_of stmt.now)) }
 {

@@ -1,8 +1,7 @@
-use Rattle.std.proofs.Common.{◌≡◌, ap, sym, ◌∙◌, drop, vec_len, arith}
+use Rattle.std.proofs.Common.{◌≡◌, ap, sym, ◌∙◌, vec_len, arith}
 use Rattle.std.proofs.lemmas.List.{drop_all}
 use Rattle.gypsy_space.specs.Nodes.{seen_program, seen_statement, seen_statements}
 use Rattle.gypsy_space.proofs.NodeLaws.{seen_statement-seq}
-use Rattle.gypsy_space.specs.StatementNeeds.{IsStatementNeed, HasMore}
 use Rattle.gypsy_space.proofs.CappedLaws.{no_more}
 use Rattle.gypsy_space.proofs.counting.+statements.Goals as goal
 

@@ -1,8 +1,7 @@
-use Rattle.std.proofs.Common.{drop, map, arith}
+use Rattle.std.proofs.Common.{map, arith}
 use Rattle.std.proofs.lemmas.List.{drop_all}
 use Rattle.gypsy_space.specs.Needs.{args_words}
 use Rattle.gypsy_space.specs.Nodes.{seen_arg}
-use Rattle.gypsy_space.specs.StatementNeeds.{HasMoreWords}
 use Rattle.gypsy_space.proofs.CappedLaws.{no_more_words}
 use Rattle.gypsy_space.proofs.counting.args_words.Goals as goal
 

@@ -1,5 +1,5 @@
-use Rattle.std.proofs.Common.{◌≡◌, List, map, ap}
-use Rattle.gypsy_syntax.specs.Programs.{Proc, Program}
+use Rattle.std.proofs.Common.{ap}
+use Rattle.gypsy_syntax.specs.Programs.{Program}
 use Rattle.gypsy_syntax.specs.SourceView.{source_of}
 use Rattle.gypsy_space.specs.Nodes.{seen_proc, seen_program}
 use Rattle.gypsy_space.proofs.SmallLaws.{counted_needs, few_procedures}

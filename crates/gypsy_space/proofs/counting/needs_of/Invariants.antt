@@ -1,4 +1,3 @@
-use Rattle.std.proofs.Common.{◌≡◌, length}
 use Rattle.gypsy_space.specs.Nodes.{seen_program}
 use Rattle.gypsy_space.specs.StatementNeeds.{AreFirst}
 use Rattle.gypsy_space.proofs.counting.needs_of.Given as goal

@@ -5,7 +5,7 @@ use Rattle.gypsy_syntax.specs.Resolved.{statement_of, statement_of_all}
 use Rattle.gypsy_syntax.specs.SourceView.{parts_of_list, proc_of, source_of, stmt_of}
 use Rattle.gypsy_syntax.proofs.ViewLaws.{stmt_of-seq}
 use Rattle.gypsy_space.specs.declared.program.Node.{Node}
-use Rattle.gypsy_space.specs.Nodes.{seen_statement, seen_statements}
+use Rattle.gypsy_space.specs.Nodes.{seen_statements}
 use Rattle.gypsy_space.specs.CallSites.{followed}
 use Rattle.gypsy_space.proofs.NodeLaws.{seen_statement-seq}
 use Rattle.gypsy_space.proofs.ResolveLaws.{all_parts, next_part}

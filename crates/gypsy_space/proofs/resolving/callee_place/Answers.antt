@@ -1,4 +1,4 @@
-use Rattle.std.proofs.Common.{◌≡◌, ◌∙◌}
+use Rattle.std.proofs.Common.{◌∙◌}
 use Rattle.gypsy_space.proofs.PositionLaws.{procedure_position}
 use Rattle.gypsy_space.proofs.resolving.callee_place.Goals as goal
 

@@ -1,4 +1,4 @@
-use Rattle.std.proofs.Common.{◌≡◌, ◌++◌, map, drop}
+use Rattle.std.proofs.Common.{◌≡◌, ◌++◌, drop}
 use Rattle.gypsy_syntax.specs.Resolved.{items_of_all}
 use Rattle.gypsy_syntax.specs.SourceView.{items_of_list}
 use Rattle.gypsy_space.proofs.resolving.list_items.Given as goal
