@@ -35,7 +35,8 @@ pub(crate) fn append_words(
     requires table { table.now ≡ table_of (system_view checked.now) }
     requires fits { end_of (system_view checked.now) < 2 ^ 32 }
     requires there { Each (IsWordOf (system_view checked.now)) items.now }
-    ensures { OnOk result (words.new.items ≡ words.old.items ++ numbers (addresses_of (system_view checked.now)) items.now) }
+    ensures { OnOk result (words.new.items
+        ≡ words.old.items ++ numbers (addresses_of (system_view checked.now)) items.now) }
 {
     for item in items {
         words.push(number(table, checked, *item))?;
@@ -53,7 +54,8 @@ pub(crate) fn append_reversed(
     requires table { table.now ≡ table_of (system_view checked.now) }
     requires fits { end_of (system_view checked.now) < 2 ^ 32 }
     requires there { Each (IsWordOf (system_view checked.now)) items.now }
-    ensures { OnOk result (words.new.items ≡ words.old.items ++ numbers (addresses_of (system_view checked.now)) (reverse items.now)) }
+    ensures { OnOk result (words.new.items
+        ≡ words.old.items ++ numbers (addresses_of (system_view checked.now)) (reverse items.now)) }
 {
     let count = items.len();
     for done in 0..count {
@@ -72,7 +74,8 @@ pub(crate) fn append_areas(
     requires table { table.now ≡ table_of (system_view checked.now) }
     requires fits { end_of (system_view checked.now) < 2 ^ 32 }
     requires there { Each (Each (IsWordOf (system_view checked.now))) (map words_in areas.now) }
-    ensures { OnOk result (words.new.items ≡ words.old.items ++ areas_words (system_view checked.now) (map words_in areas.now)) }
+    ensures { OnOk result (words.new.items
+        ≡ words.old.items ++ areas_words (system_view checked.now) (map words_in areas.now)) }
 {
     for area in areas {
         append_words(words, table, checked, area.as_slice())?;

@@ -47,7 +47,9 @@ pub fn link(alloc: Global, checked: &Checked) -> Result<Linked, LinkFault>
     ensures final_pc { IfOk result (λ linked. linked.final_pc ≡ (placed (system_in checked.now)).final_pc) }
     ensures registers { IfOk result (λ linked. linked.registers.items ≡ (placed (system_in checked.now)).registers) }
     ensures words { IfOk result (λ linked. linked.words.items ≡ trimmed (placed (system_in checked.now)).words) }
-    ensures places { IfOk result (λ linked. map (λ row. row.items) linked.places.items ≡ places_of (system_in checked.now) 0 (system_in checked.now).programs) }
+    ensures places { IfOk result
+        (λ linked. map (λ row. row.items) linked.places.items
+        ≡ places_of (system_in checked.now) 0 (system_in checked.now).programs) }
     ensures runs { IfOk result (λ linked. RunsOnProcessor (system_in checked.now)) }
 {
     let parts = layout(checked);
@@ -66,7 +68,9 @@ fn link_small(alloc: Global, checked: &Checked) -> Result<Linked, Memory>
     ensures final_pc { IfOk result (λ linked. linked.final_pc ≡ (placed (system_in checked.now)).final_pc) }
     ensures registers { IfOk result (λ linked. linked.registers.items ≡ (placed (system_in checked.now)).registers) }
     ensures words { IfOk result (λ linked. linked.words.items ≡ trimmed (placed (system_in checked.now)).words) }
-    ensures places { IfOk result (λ linked. map (λ row. row.items) linked.places.items ≡ places_of (system_in checked.now) 0 (system_in checked.now).programs) }
+    ensures places { IfOk result
+        (λ linked. map (λ row. row.items) linked.places.items
+        ≡ places_of (system_in checked.now) 0 (system_in checked.now).programs) }
     ensures runs { IfOk result (λ linked. RunsOnProcessor (system_in checked.now)) }
 {
     let parts = layout(checked);

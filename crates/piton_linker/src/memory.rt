@@ -45,7 +45,8 @@ pub(crate) fn memory(
 fn append_data(words: &mut Vec<u32>, table: &Table, checked: &Checked) -> Result<(), Memory>
     requires table { table.now ≡ table_of (system_in checked.now) }
     requires fits { end_of (system_in checked.now) + 2 < 2 ^ 32 }
-    ensures { OnOk result (words.new.items ≡ words.old.items ++ areas_words (system_in checked.now) (system_in checked.now).areas) }
+    ensures { OnOk result (words.new.items
+        ≡ words.old.items ++ areas_words (system_in checked.now) (system_in checked.now).areas) }
 {
     let resolved = checked.resolved();
     append_areas(words, table, resolved, resolved.areas.as_slice())?;
@@ -56,7 +57,8 @@ fn append_data(words: &mut Vec<u32>, table: &Table, checked: &Checked) -> Result
 fn append_stack(words: &mut Vec<u32>, table: &Table, checked: &Checked) -> Result<(), Memory>
     requires table { table.now ≡ table_of (system_in checked.now) }
     requires fits { end_of (system_in checked.now) + 2 < 2 ^ 32 }
-    ensures { OnOk result (words.new.items ≡ words.old.items ++ numbers (addresses_of (system_in checked.now)) (reverse (system_in checked.now).stack)) }
+    ensures { OnOk result (words.new.items
+        ≡ words.old.items ++ numbers (addresses_of (system_in checked.now)) (reverse (system_in checked.now).stack)) }
 {
     let resolved = checked.resolved();
     append_reversed(words, table, resolved, resolved.stack.as_slice())?;
@@ -94,7 +96,8 @@ fn main_temporaries(checked: &Checked) -> &[Word]
 
 // How many words of the control stack lie below main's frame.
 fn ctrl_gap(checked: &Checked) -> u32
-    ensures { result ≡ (system_in checked.now).ctrl - 2 - length (program_of (system_in checked.now) (system_in checked.now).main).temporaries }
+    ensures { result ≡ (system_in checked.now).ctrl - 2 - length
+        (program_of (system_in checked.now) (system_in checked.now).main).temporaries }
 {
     let used = 2 + main_temporaries(checked).len();
     (checked.resolved().ctrl as usize).saturating_sub(used) as u32

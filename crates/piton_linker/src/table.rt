@@ -75,7 +75,8 @@ fn entries(alloc: Global, base: u32, programs: &[ResolvedProgram]) -> Result<Vec
 // The addresses of the places of these programs, the first of which stands at an address.
 fn places(alloc: Global, base: u32, programs: &[ResolvedProgram]) -> Result<Vec<Vec<u32>>, Memory>
     requires { base + programs_size (map program_view programs.now) < 2 ^ 32 }
-    ensures { IfOk result (λ made. map (λ row. row.items) made.items ≡ place_rows base (map program_view programs.now)) }
+    ensures { IfOk result (λ made. map (λ row. row.items) made.items
+        ≡ place_rows base (map program_view programs.now)) }
 {
     let mut made = Vec::new(alloc);
     let mut at = u64::from(base);

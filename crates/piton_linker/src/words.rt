@@ -27,7 +27,9 @@ pub(crate) fn append(
     requires fits { end_of (system_view checked.now) < 2 ^ 32 }
     requires named { Each (IsNamed (system_view checked.now)) pieces.now }
     requires room { (system_view checked.now).base + length words.old.items + length pieces.now + 2 < 2 ^ 32 }
-    ensures { OnOk result (words.new.items ≡ words.old.items ++ words_of (addresses_of (system_view checked.now)) ((system_view checked.now).base + length words.old.items) pieces.now) }
+    ensures { OnOk result (words.new.items
+        ≡ words.old.items ++ words_of (addresses_of (system_view checked.now))
+        ((system_view checked.now).base + length words.old.items) pieces.now) }
 {
     for piece in pieces {
         let at = table.base + words.len() as u32;
@@ -48,7 +50,9 @@ fn append_prelude(
     requires fits { end_of (system_in checked.now) + 2 < 2 ^ 32 }
     requires there { program < length (system_in checked.now).programs }
     requires at { (system_in checked.now).base + length words.old.items ≡ entry_of (system_in checked.now) program }
-    ensures { OnOk result (words.new.items ≡ words.old.items ++ prelude_words (addresses_of (system_in checked.now)) program (program_of (system_in checked.now) program)) }
+    ensures { OnOk result (words.new.items
+        ≡ words.old.items ++ prelude_words (addresses_of (system_in checked.now)) program
+        (program_of (system_in checked.now) program)) }
 {
     let pieces = prelude(alloc, checked, program)?;
     append(words, table, checked.resolved(), pieces.as_slice())?;
@@ -81,7 +85,8 @@ fn append_place(
     requires table { table.now ≡ table_of (system_in checked.now) }
     requires fits { end_of (system_in checked.now) + 2 < 2 ^ 32 }
     requires there { IsPlace (system_in checked.now) program place }
-    requires at { (system_in checked.now).base + length words.old.items ≡ address_of_place (system_in checked.now) program place }
+    requires at { (system_in checked.now).base + length words.old.items
+        ≡ address_of_place (system_in checked.now) program place }
     ensures { OnOk result (words.new.items ≡ words.old.items ++ words_at (system_in checked.now) program place) }
 {
     let pieces = emit(alloc, checked, program, place)?;
@@ -111,7 +116,9 @@ fn append_program(
     requires fits { end_of (system_in checked.now) + 2 < 2 ^ 32 }
     requires there { program < length (system_in checked.now).programs }
     requires at { (system_in checked.now).base + length words.old.items ≡ entry_of (system_in checked.now) program }
-    ensures { OnOk result (words.new.items ≡ words.old.items ++ program_words (addresses_of (system_in checked.now)) program (program_of (system_in checked.now) program)) }
+    ensures { OnOk result (words.new.items
+        ≡ words.old.items ++ program_words (addresses_of (system_in checked.now)) program
+        (program_of (system_in checked.now) program)) }
 {
     append_prelude(alloc, words, table, checked, program)?;
     let count = place_count(checked, program);
@@ -125,7 +132,8 @@ fn append_program(
 pub(crate) fn code(alloc: Global, table: &Table, checked: &Checked) -> Result<Vec<u32>, Memory>
     requires table { table.now ≡ table_of (system_in checked.now) }
     requires fits { end_of (system_in checked.now) + 2 < 2 ^ 32 }
-    ensures { IfOk result (λ words. words.items ≡ programs_words (addresses_of (system_in checked.now)) 0 (system_in checked.now).programs) }
+    ensures { IfOk result (λ words. words.items
+        ≡ programs_words (addresses_of (system_in checked.now)) 0 (system_in checked.now).programs) }
 {
     let mut words = Vec::new(alloc);
     let count = table.entries.len() as u32;
