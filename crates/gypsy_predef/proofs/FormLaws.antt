@@ -1,5 +1,5 @@
 -- The texts of the bodies keep the form.
-use Rattle.std.proofs.Common.{◌≡◌, ℕ, ◌+◌, ◌<◌, ◌≤◌, Bool, true, false, List, [], ◌∷◌, ◌++◌, length, map, if◌then◌else◌, All, IsTrue, Some, pos, refl, sym, subst, lit<, lit≤, flat_map}
+use Rattle.std.proofs.Common.{◌≡◌, ◌+◌, ◌<◌, ◌≤◌, Bool, true, false, List, [], ◌∷◌, ◌++◌, length, map, if◌then◌else◌, All, IsTrue, Some, pos, refl, sym, subst, lit<, lit≤, flat_map}
 use Rattle.stack_text.specs.Names.{is_name}
 use Rattle.stack_text.specs.Numerals.{fits_128_bits}
 use Rattle.piton_syntax.specs.declared.op.PitonOp.{PitonOp}
@@ -12,7 +12,7 @@ use Rattle.piton_syntax.specs.declared.word_text.WordItem.TheVariants as item
 use Rattle.piton_syntax.specs.Operations as operations
 use Rattle.piton_syntax.specs.Operations.{op_arguments}
 use Rattle.piton_syntax.specs.Systems.{InstrOf}
-use Rattle.piton_syntax.specs.Fits.{IsNamed, FitsArguments, FitsInstruction, FitsTemporary, FitsProgram}
+use Rattle.piton_syntax.specs.Fits.{IsNamed, FitsArguments, FitsInstruction, FitsTemporary}
 use Rattle.piton_syntax.proofs.FitsLaws.{all_none, all_front, all_first, all_rest}
 use Rattle.gypsy_syntax.specs.declared.predef.Predef.{Predef}
 use Rattle.gypsy_syntax.specs.declared.predef.Predef.TheVariants as row
@@ -23,7 +23,7 @@ use Rattle.gypsy_predef.specs.declared.line.Line.{Line}
 use Rattle.gypsy_predef.specs.declared.line.Line.TheVariants as line
 use Rattle.gypsy_predef.specs.Resolving.{BodiesFit}
 use Rattle.gypsy_predef.specs.Texts.{local_name, lines_of, formals_of, has_temporary, named, plain, of_name, constant, fail_label, condition_area}
-use Rattle.gypsy_predef.specs.Texts.{line_text, temporary, temporaries_text, named_local, body_text}
+use Rattle.gypsy_predef.specs.Texts.{line_text, temporary, temporaries_text, named_local}
 
 -- ---- names
 
