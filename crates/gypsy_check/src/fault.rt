@@ -36,7 +36,7 @@ pub enum CheckFault {
     /// | S24 | the variables whose types keep S7 take more than 65,536 words | the procedure |
     ///
     /// S18, S19 and S21 are judged where the callee is there. Where a name is repeated, its first declaration is meant.
-    #[error("S{rule} at {place}")]
+    #[error("gypsy S{rule} at {place}")]
     Violation { rule: u8, place: u32 },
     /// An allocation failed.
     #[error("out of memory")]
