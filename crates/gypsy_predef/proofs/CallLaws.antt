@@ -27,8 +27,8 @@ use Rattle.gypsy_syntax.specs.Effects.{Effect, Normal, Fault, Beyond, predef_eff
 use Rattle.gypsy_syntax.specs.PredefinedCosts.{predef_cost}
 use Rattle.gypsy_syntax.specs.PredefinedCosts.{predef_temp}
 use Rattle.gypsy_predef.specs.Bodies.{body_of, bodies, predef_number, lengths_of}
-use Rattle.gypsy_predef.specs.Runs.{Argument, ArgumentsFit, pushed_word, pushed_words, push_all, values_of, length_words, can_fail, with_elements, target_of, words_of_value, push_count, pushes_count, called_count, called_steps, behind_call, IsAtCall}
-use Rattle.gypsy_predef.specs.Calls.{argument_code, arguments_code, test_code, CodeAt, LocalHolds, LocalsHold, behind_code, PredefCallRuns, BodiesStand}
+use Rattle.gypsy_predef.specs.Runs.{Argument, ArgumentsFit, pushed_word, pushed_words, push_all, values_of, length_words, can_fail, with_elements, target_of, words_of_value, push_count, pushes_count, called_count, called_steps, after_call, IsAtCall}
+use Rattle.gypsy_predef.specs.Calls.{argument_code, arguments_code, test_code, CodeAt, LocalHolds, LocalsHold, after_code, PredefCallRuns, BodiesStand}
 use Rattle.gypsy_predef.proofs.StackLaws.{written_length}
 use Rattle.gypsy_predef.proofs.RunningLaws.{step_first}
 use Rattle.gypsy_predef.proofs.RowLaws.{runs, counts}
@@ -53,18 +53,18 @@ counted : (s : SystemView) (j n j' n' : ℕ) (p q : PitonState) → j ≡ j' →
 counted s j n j' n' p q a b steps = subst (λ i. Steps s i n' p q) a (subst (λ i. Steps s j i p q) b steps)
 
 -- Code and then other code.
-code_behind : (s : SystemView) (program place : ℕ) (front rest : List Instruction) → CodeAt s program place (front ++ rest) → CodeAt s program (place + length front) rest
-code_behind s program place [] rest h = λ i ins e. let same : place + i ≡ place + 0 + i = omega arith in subst (λ l. instruction_at s program l ≡ Some ins) same (h i ins e)
-code_behind s program place (x ∷ front) rest h = λ i ins e.
+code_after : (s : SystemView) (program place : ℕ) (front rest : List Instruction) → CodeAt s program place (front ++ rest) → CodeAt s program (place + length front) rest
+code_after s program place [] rest h = λ i ins e. let same : place + i ≡ place + 0 + i = omega arith in subst (λ l. instruction_at s program l ≡ Some ins) same (h i ins e)
+code_after s program place (x ∷ front) rest h = λ i ins e.
     let same : place + 1 + length front + i ≡ place + suc (length front) + i = omega arith in
     subst (λ l. instruction_at s program l ≡ Some ins) same
-    (code_behind s program (place + 1) front rest (λ i ins e. let same : place + suc i ≡ place + 1 + i = omega arith in subst (λ l. instruction_at s program l ≡ Some ins) same (h (suc i) ins e)) i ins e)
+    (code_after s program (place + 1) front rest (λ i ins e. let same : place + suc i ≡ place + 1 + i = omega arith in subst (λ l. instruction_at s program l ≡ Some ins) same (h (suc i) ins e)) i ins e)
 
 code_first : (s : SystemView) (program place : ℕ) (ins : Instruction) (rest : List Instruction) → CodeAt s program place (ins ∷ rest) → instruction_at s program place ≡ Some ins
 code_first s program place ins rest h = let same : place + 0 ≡ place = omega arith in subst (λ l. instruction_at s program l ≡ Some ins) same (h 0 ins refl)
 
 code_rest : (s : SystemView) (program place : ℕ) (ins : Instruction) (rest : List Instruction) → CodeAt s program place (ins ∷ rest) → CodeAt s program (place + 1) rest
-code_rest s program place ins rest h = code_behind s program place (ins ∷ []) rest h
+code_rest s program place ins rest h = code_after s program place (ins ∷ []) rest h
 
 -- What pushes words, at a cost.
 data Pushing (locals : List Word) : List Instruction → List Word → ℕ → Type 0 where
@@ -201,32 +201,32 @@ is_zero : test_of family.Nat test.Zero (Nat 0) ≡ Ok true
 unfolding then_on
 is_zero = refl
 
--- behind the call: the test, where there is one
-after_call : (s : SystemView) (r : Predef) (args : List Argument) (f : Frame) (fs : List Frame) (p : PitonState) (place target size : ℕ) (words : List Word) (e : Effect) (b : Bool) →
+-- after the call: the test, where there is one
+test_follows : (s : SystemView) (r : Predef) (args : List Argument) (f : Frame) (fs : List Frame) (p : PitonState) (place target size : ℕ) (words : List Word) (e : Effect) (b : Bool) →
     predef_effect r (values_of args) ≡ e → can_fail r ≡ b → p.frames ≡ f ∷ fs → word_at p.areas 0 0 ≡ Some (Nat 2) → length p.stack < s.temp →
     CodeAt s p.program (place + 1) (if b then PushGlobal 0 ∷ Apply op.Sub1Nat ∷ TestAndJump family.Nat test.Zero target ∷ [] else []) →
     p.place + size ≡ place + 1 + (if b then 3 else 0) → ((v : ValueOf) → length (with_elements p.stack (target_of args) (words_of_value v)) ≡ length p.stack) →
-    Steps s (if b then 3 else 0) (if b then 5 else 0) (behind_call (record p { place = place; frames = f ∷ fs; stack = words }) p.stack args e)
-    (behind_code (record p { frames = f ∷ fs }) target size args e)
-after_call s r args f fs p place target size words (Normal v) false he hb frames two room code at lengths =
+    Steps s (if b then 3 else 0) (if b then 5 else 0) (after_call (record p { place = place; frames = f ∷ fs; stack = words }) p.stack args e)
+    (after_code (record p { frames = f ∷ fs }) target size args e)
+test_follows s r args f fs p place target size words (Normal v) false he hb frames two room code at lengths =
     let same : place + 1 ≡ p.place + size = omega (arith, at) in
     let q = with_elements p.stack (target_of args) (words_of_value v) in
     subst (λ l. Steps s 0 0 (state s p.program f fs p.areas (place + 1) q) (state s p.program f fs p.areas l q)) same none
-after_call s r args f fs p place target size words Fault false he hb frames two room code at lengths =
+test_follows s r args f fs p place target size words Fault false he hb frames two room code at lengths =
     let n = is_normal r (values_of args) hb in
     let clash : Normal n.0 ≡ Fault = sym n.1 ∙ he in cc
-after_call s r args f fs p place target size words Beyond false he hb frames two room code at lengths =
+test_follows s r args f fs p place target size words Beyond false he hb frames two room code at lengths =
     let n = is_normal r (values_of args) hb in
     let clash : Normal n.0 ≡ Beyond = sym n.1 ∙ he in cc
-after_call s r args f fs p place target size words (Normal v) true he hb frames two room code at lengths =
+test_follows s r args f fs p place target size words (Normal v) true he hb frames two room code at lengths =
     let same : place + 1 + 1 + 1 + 1 ≡ p.place + size = omega (arith, at) in
     let q = with_elements p.stack (target_of args) (words_of_value v) in
     let low : length q < s.temp = omega (arith, room, lengths v) in
     subst (λ l. Steps s 3 5 (state s p.program f fs p.areas (place + 1) q) (state s p.program f fs p.areas l q)) same
     (test_runs s p.program f fs p.areas (place + 1) target 2 1 false q code two refl not_zero low)
-after_call s r args f fs p place target size words Fault true he hb frames two room code at lengths =
+test_follows s r args f fs p place target size words Fault true he hb frames two room code at lengths =
     test_runs s p.program f fs (with_word p.areas 0 0 (Nat 1)) (place + 1) target 1 0 true p.stack code (word_set p.areas (Nat 2) (Nat 1) two) refl is_zero room
-after_call s r args f fs p place target size words Beyond true he hb frames two room code at lengths =
+test_follows s r args f fs p place target size words Beyond true he hb frames two room code at lengths =
     test_runs s p.program f fs (with_word p.areas 0 0 (Nat 1)) (place + 1) target 1 0 true p.stack code (word_set p.areas (Nat 2) (Nat 1) two) refl is_zero room
 
 test_length : (b : Bool) (target : ℕ) → length (if b then PushGlobal 0 ∷ Apply op.Sub1Nat ∷ TestAndJump family.Nat test.Zero target ∷ [] else []) ≡ (if b then 3 else 0)
@@ -258,8 +258,8 @@ calls s start target r k args f fs p found at =
     let size1 : length acode ≡ length (slots_of r) = pushing.1 in
     let size2 : length lcode ≡ length lw = length-map lw PushConstant in
     let code1 : CodeAt s p.program p.place (acode ++ (lcode ++ (Call program ∷ tcode))) = at.code in
-    let code2 = code_behind s p.program p.place acode (lcode ++ (Call program ∷ tcode)) code1 in
-    let code3 = code_behind s p.program l1 lcode (Call program ∷ tcode) code2 in
+    let code2 = code_after s p.program p.place acode (lcode ++ (Call program ∷ tcode)) code1 in
+    let code3 = code_after s p.program l1 lcode (Call program ∷ tcode) code2 in
     let call = code_first s p.program l2 (Call program) tcode code3 in
     let code4 = code_rest s p.program l2 (Call program) tcode code3 in
     let room1 : length p.stack + length acode ≤ s.temp = omega (arith, at.temp_room, covers.0, size1) in
@@ -276,7 +276,7 @@ calls s start target r k args f fs p found at =
     let there : IsAtCall s program r args p.stack f fs (state s p.program f fs p.areas l2 (push_all lw w1)) =
     record { call = call; frames = refl; pushed = refl; temp = at.temp; temp_room = at.temp_room; ctrl_room = at.ctrl_room } in
     let called = runs s start r k args p.stack f fs (state s p.program f fs p.areas l2 (push_all lw w1)) found there at.arguments in
-    let after = after_call s r args f fs p l2 target (length (acode ++ (lcode ++ (Call program ∷ tcode)))) (push_all lw w1) e (can_fail r) refl refl at.frames at.condition
+    let after = test_follows s r args f fs p l2 target (length (acode ++ (lcode ++ (Call program ∷ tcode)))) (push_all lw w1) e (can_fail r) refl refl at.frames at.condition
     (omega (arith, at.temp_room, covers.1)) code4 place (λ v. written_length (words_of_value v) p.stack (target_of args)) in
     let all = counts r e in
     let fail_steps = if can_fail r then 3 else 0 in
@@ -285,16 +285,16 @@ calls s start target r k args f fs p found at =
     let spent_count = pushes_count (slots_of r) + (length lw + (called_count r e + fail_count)) in
     let steps : spent_steps ≡ (predef_cost r e).1 = omega (arith, all.1, size1, size2, lengths) in
     let count : spent_count ≡ (predef_cost r e).0 = omega (arith, all.0, lengths) in
-    let end = behind_code p0 target (length (acode ++ (lcode ++ (Call program ∷ tcode)))) args e in
-    subst (λ q. Steps s (predef_cost r e).1 (predef_cost r e).0 q (behind_code q target (length (acode ++ (lcode ++ (Call program ∷ tcode)))) args e)) (sym same)
+    let end = after_code p0 target (length (acode ++ (lcode ++ (Call program ∷ tcode)))) args e in
+    subst (λ q. Steps s (predef_cost r e).1 (predef_cost r e).0 q (after_code q target (length (acode ++ (lcode ++ (Call program ∷ tcode)))) args e)) (sym same)
     (counted s spent_steps spent_count (predef_cost r e).1 (predef_cost r e).0 p0 end steps count
     (joined pushed (joined longer (joined called after))))
 
-pub get_behind : {X : Type 0} (xs ys : List X) (i : ℕ) → slice_get (xs ++ ys) (length xs + i) ≡ slice_get ys i
-get_behind [] ys i = ap (slice_get ys) (omega arith)
-get_behind (x ∷ xs) ys i =
+pub get_after : {X : Type 0} (xs ys : List X) (i : ℕ) → slice_get (xs ++ ys) (length xs + i) ≡ slice_get ys i
+get_after [] ys i = ap (slice_get ys) (omega arith)
+get_after (x ∷ xs) ys i =
     let same : suc (length xs) + i ≡ suc (length xs + i) = omega arith in
-    ap (slice_get (x ∷ xs ++ ys)) same ∙ get_behind xs ys i
+    ap (slice_get (x ∷ xs ++ ys)) same ∙ get_after xs ys i
 
 number_is : (r : Predef) → slice_get bodies (predef_number r) ≡ Some (body_of r)
 number_is row.MgSimpleVariableAssignment = refl
@@ -313,4 +313,4 @@ number_is row.MgArrayElementAssignment = refl
 
 pub stand : BodiesStand
 stand s programs r h =
-    ap (λ ps. slice_get ps (length programs + predef_number r)) h ∙ get_behind programs bodies (predef_number r) ∙ number_is r
+    ap (λ ps. slice_get ps (length programs + predef_number r)) h ∙ get_after programs bodies (predef_number r) ∙ number_is r

@@ -12,7 +12,7 @@ use Rattle.gypsy_syntax.specs.declared.predef.Predef.TheVariants as row
 use Rattle.gypsy_predef.specs.Bodies.{predef_number}
 use Rattle.gypsy_predef.specs.Texts.{body_text, body_texts}
 use Rattle.gypsy_predef.specs.Resolving.{BodiesResolve, BodiesStandResolved, BodiesKeepRules}
-use Rattle.gypsy_predef.proofs.CallLaws.{get_behind}
+use Rattle.gypsy_predef.proofs.CallLaws.{get_after}
 
 pub resolve : BodiesResolve
 unfolding operations.row_of
@@ -49,7 +49,7 @@ pub stand_resolved : BodiesStandResolved
 stand_resolved s programs r e h =
     let view = λ (p : ProgramOf). program_view (resolved_program s p) in
     let there : slice_get s.programs (length programs + predef_number r) ≡ Some (body_text r) =
-    ap (λ (ps : List ProgramOf). slice_get ps (length programs + predef_number r)) e ∙ get_behind programs body_texts (predef_number r) ∙ text_number r in
+    ap (λ (ps : List ProgramOf). slice_get ps (length programs + predef_number r)) e ∙ get_after programs body_texts (predef_number r) ∙ text_number r in
     slice_get-map program_view (map (resolved_program s) s.programs) (length programs + predef_number r)
     ∙ ap (option_map program_view) (slice_get-map (resolved_program s) s.programs (length programs + predef_number r) ∙ ap (option_map (resolved_program s)) there)
     ∙ ap Some (resolve s r h)

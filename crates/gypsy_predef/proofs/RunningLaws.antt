@@ -41,7 +41,7 @@ pub record Called : Type 0 where
 module _ (here : Called) where
   open here use {s, program, body, is, caller, place, f, fs}
 
-  -- in the body, and behind the call
+  -- in the body, and after the call
   abbrev pub within : ℕ → List Word → List Word → List (List Word) → PitonState
   within l locals stack areas = record {
     program = program;
@@ -51,8 +51,8 @@ module _ (here : Called) where
     areas = areas;
   }
 
-  abbrev pub behind : List Word → List (List Word) → PitonState
-  behind stack areas = record { program = caller; place = place + 1; frames = f ∷ fs; stack = stack; areas = areas }
+  abbrev pub afterwards : List Word → List (List Word) → PitonState
+  afterwards stack areas = record { program = caller; place = place + 1; frames = f ∷ fs; stack = stack; areas = areas }
 
   abbrev pub At : ℕ → Instruction → Type 0
   At l ins = slice_get body.instructions l ≡ Some ins
@@ -132,7 +132,7 @@ module _ (here : Called) where
   applies_three l locals o t u v out stack areas at taken result small rest =
       goes l locals (t ∷ u ∷ v ∷ stack) areas (i.Apply o) at (does_apply s.temp (within l locals (t ∷ u ∷ v ∷ stack) areas) o record { third = v; second = u; top = t; below = stack } out (ap (λ k. operands_of k (t ∷ u ∷ v ∷ stack)) taken) result small) rest
 
-  pub returns : (l : ℕ) (locals stack : List Word) (areas : List (List Word)) → At l i.Ret → Steps s 1 4 (within l locals stack areas) (behind stack areas)
+  pub returns : (l : ℕ) (locals stack : List Word) (areas : List (List Word)) → At l i.Ret → Steps s 1 4 (within l locals stack areas) (afterwards stack areas)
   returns l locals stack areas at = goes l locals stack areas i.Ret at refl none
 
   -- the rows of the table: get, put and return, fail
@@ -144,14 +144,14 @@ module _ (here : Called) where
 
   pub puts : (l : ℕ) (locals : List Word) (o index : ℕ) (w : Word) (stack : List Word) (areas : List (List Word)) → At l (i.PushLocal o) → At (l + 1) i.DepositTempStk →
       At (l + 1 + 1) i.Ret → slice_get locals o ≡ Some (Nat index) → index < length stack → length (w ∷ stack) < s.temp →
-      Steps s 3 10 (within l locals (w ∷ stack) areas) (behind (with_element stack index w) areas)
+      Steps s 3 10 (within l locals (w ∷ stack) areas) (afterwards (with_element stack index w) areas)
   puts l locals o index w stack areas at at' at'' read low room =
       pushes_local l locals (w ∷ stack) areas o (Nat index) at read room
       (deposits (l + 1) locals index w stack areas at' low
       (returns (l + 1 + 1) locals (with_element stack index w) areas at''))
 
   pub fails : (l : ℕ) (locals stack : List Word) (areas : List (List Word)) → At l (i.PushConstant (Nat 1)) → At (l + 1) (i.PopGlobal 0) → At (l + 1 + 1) i.Ret →
-      length stack < s.temp → Steps s 3 7 (within l locals stack areas) (behind stack (with_word areas 0 0 (Nat 1)))
+      length stack < s.temp → Steps s 3 7 (within l locals stack areas) (afterwards stack (with_word areas 0 0 (Nat 1)))
   fails l locals stack areas at at' at'' room =
       pushes l locals stack areas (Nat 1) at room
       (pops_global (l + 1) locals (Nat 1) stack areas at'

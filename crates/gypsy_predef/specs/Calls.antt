@@ -36,7 +36,7 @@ arguments_code [] args = []
 arguments_code (slot ∷ slots) [] = []
 arguments_code (slot ∷ slots) (a ∷ args) = argument_code slot.form a ∷ arguments_code slots args
 
--- behind the call of a program that can fail: where `c-c` is 1, the jump to the target of routineerror
+-- after the call of a program that can fail: where `c-c` is 1, the jump to the target of routineerror
 abbrev pub test_code : Predef → ℕ → List Instruction
 test_code r target = if can_fail r then PushGlobal 0 ∷ Apply op.Sub1Nat ∷ TestAndJump family.Nat test.Zero target ∷ [] else []
 
@@ -73,12 +73,12 @@ pub record IsAtCode (s : SystemView) (program target : ℕ) (r : Predef) (k : Ki
   pub temp_room : length p.stack + predef_temp r ≤ s.temp
   pub ctrl_room : ctrl_used (f ∷ fs) + predef_ctrl r ≤ s.ctrl
 
--- the state behind the code with the variable written, or at the target of routineerror with `c-c` at 1
-abbrev pub behind_code : PitonState → ℕ → ℕ → List Argument → Effect → PitonState
-behind_code p target size args (Normal v) =
+-- the state after the code with the variable written, or at the target of routineerror with `c-c` at 1
+abbrev pub after_code : PitonState → ℕ → ℕ → List Argument → Effect → PitonState
+after_code p target size args (Normal v) =
     record p { place = p.place + size; stack = with_elements p.stack (target_of args) (words_of_value v) }
-behind_code p target size args Fault = record p { place = target; areas = with_word p.areas 0 0 (Nat 1) }
-behind_code p target size args Beyond = record p { place = target; areas = with_word p.areas 0 0 (Nat 1) }
+after_code p target size args Fault = record p { place = target; areas = with_word p.areas 0 0 (Nat 1) }
+after_code p target size args Beyond = record p { place = target; areas = with_word p.areas 0 0 (Nat 1) }
 
 -- The code of a predefined call has the row's effect, in the steps and at the cost of the table.
 abbrev pub PredefCallRuns : Type 0
@@ -87,7 +87,7 @@ PredefCallRuns = (s : SystemView) (start target : ℕ) (r : Predef) (k : Kind) (
     slice_get s.programs (start + predef_number r) ≡ Some (body_of r) → IsAtCode s (start + predef_number r) target r k args f fs p →
     let e = predef_effect r (values_of args) in
     let size = length (predef_code r (start + predef_number r) target args) in
-    Steps s (predef_cost r e).1 (predef_cost r e).0 p (behind_code p target size args e)
+    Steps s (predef_cost r e).1 (predef_cost r e).0 p (after_code p target size args e)
 
 -- an argument of a statement, where variables have these locals, indices and values
 abbrev pub argument_of : (ℕ → ℕ) → (ℕ → ℕ) → List ValueOf → Arg → Argument

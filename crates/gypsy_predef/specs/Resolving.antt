@@ -23,7 +23,8 @@ BodiesStandResolved = (s : SystemOf) (programs : List ProgramOf) (r : Predef) �
 
 -- in a system whose first area is `c-c`, the texts break no rule
 abbrev pub BodiesKeepRules : Type 0
-BodiesKeepRules = (s : SystemOf) (r : Predef) → first_of (area_names s) condition_area ≡ Some 0 → program_breaches s (body_text r) ≡ []
+BodiesKeepRules =
+    (s : SystemOf) (r : Predef) → first_of (area_names s) condition_area ≡ Some 0 → program_breaches s (body_text r) ≡ []
 
 -- each text keeps the form of a program
 abbrev pub BodiesFit : Type 0

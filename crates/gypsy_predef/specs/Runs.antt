@@ -1,4 +1,4 @@
--- What a call of a predefined program does: from the `call`, its arguments pushed, to the place behind it.
+-- What a call of a predefined program does: from the `call`, its arguments pushed, to the place after it.
 use Rattle.std.specs.Prelude.{◌≡◌, ℕ, ◌+◌, ◌-◌, ◌^◌, ◌≤◌, ◌<◌, ◌≢◌, ℤ, pos, Bool, true, false, List, [], ◌∷◌, length, map, slice_get, Some}
 use Rattle.std.specs.Prelude.{if◌then◌else◌}
 use Rattle.stack_text.specs.declared.shape.Kind.{Kind}
@@ -95,13 +95,13 @@ abbrev pub target_of : List Argument → ℕ
 target_of [] = 0
 target_of (a ∷ args) = a.index
 
--- the state behind the call: the variable written, or `c-c` at 1 for routineerror
-abbrev pub behind_call : PitonState → List Word → List Argument → Effect → PitonState
-behind_call p stack args (Normal v) = record p { place = p.place + 1; stack = with_elements stack (target_of args) (words_of_value v) }
-behind_call p stack args Fault = record p { place = p.place + 1; stack = stack; areas = with_word p.areas 0 0 (Nat 1) }
-behind_call p stack args Beyond = record p { place = p.place + 1; stack = stack; areas = with_word p.areas 0 0 (Nat 1) }
+-- the state after the call: the variable written, or `c-c` at 1 for routineerror
+abbrev pub after_call : PitonState → List Word → List Argument → Effect → PitonState
+after_call p stack args (Normal v) = record p { place = p.place + 1; stack = with_elements stack (target_of args) (words_of_value v) }
+after_call p stack args Fault = record p { place = p.place + 1; stack = stack; areas = with_word p.areas 0 0 (Nat 1) }
+after_call p stack args Beyond = record p { place = p.place + 1; stack = stack; areas = with_word p.areas 0 0 (Nat 1) }
 
--- What the table counts beside the call itself: the pushes before it, and behind it the test for a fault.
+-- What the table counts beside the call itself: the pushes before it, and after it the test for a fault.
 abbrev pub push_count : Form → ℕ
 push_count Simple = 3
 push_count Array = 3
@@ -125,7 +125,7 @@ beside_count r = pushes_count (slots_of r) + lengths_of r + (if can_fail r then 
 abbrev pub beside_steps : Predef → ℕ
 beside_steps r = length (slots_of r) + lengths_of r + (if can_fail r then 3 else 0)
 
--- instructions and steps from the call to behind it
+-- instructions and steps from the call until after it
 abbrev pub called_count : Predef → Effect → ℕ
 called_count r e = (predef_cost r e).0 - beside_count r
 
@@ -142,9 +142,9 @@ pub record IsAtCall (s : SystemView) (program : ℕ) (r : Predef) (args : List A
   pub temp_room : length stack + predef_temp r ≤ s.temp
   pub ctrl_room : ctrl_used (f ∷ fs) + predef_ctrl r ≤ s.ctrl
 
--- The call of a row's program leads behind it with the row's effect, in the steps and at the cost of the table.
+-- The call of a row's program leads to the place after it with the row's effect, in the steps and at the cost of the table.
 abbrev pub Runs : SystemView → Predef → List Argument → List Word → PitonState → Effect → Type 0
-Runs s r args stack p e = Steps s (called_steps r e) (called_count r e) p (behind_call p stack args e)
+Runs s r args stack p e = Steps s (called_steps r e) (called_count r e) p (after_call p stack args e)
 
 abbrev pub PredefRuns : Type 0
 PredefRuns = (s : SystemView) (start : ℕ) (r : Predef) (k : Kind) (args : List Argument) (stack : List Word) (f : Frame) (fs : List Frame)

@@ -14,7 +14,7 @@ mod writing;
 pub use writing::bodies;
 
 /// A call of a predefined program does what its row says, in the row's steps and at the row's cost: from the call itself,
-/// and from the first push to behind the test for a fault. It does nothing: its clauses hold of all systems and states.
+/// and from the first push until after the test for a fault. It does nothing: its clauses hold of all systems and states.
 pub fn predefs_run()
     ensures runs { PredefRuns }
     ensures counts { CountsAdd }

@@ -9,6 +9,15 @@ use crate::line::{Line, Local};
 use gypsy_syntax::Predef;
 use piton_syntax::{PitonOp, TestKind};
 
+/// The jump to `fail` where the top word is true: the least integer has no minus, or a sum was carried.
+const FAIL_IF_TRUE: Line = Line::Test(PitonOp::TestBoolAndJump, TestKind::T);
+
+/// The jump to `fail` where the top word is false: an index isn't below the length.
+const FAIL_IF_FALSE: Line = Line::Test(PitonOp::TestBoolAndJump, TestKind::F);
+
+/// The jump to `fail` where the top word is negative, as an index may be.
+const FAIL_IF_NEGATIVE: Line = Line::Test(PitonOp::TestIntAndJump, TestKind::Neg);
+
 static SIMPLE_VARIABLE_ASSIGNMENT: [Line; 3] = [
     Line::Get(Local::X),
     Line::Put(Local::D),
@@ -50,7 +59,7 @@ static INTEGER_UNARY_MINUS: [Line; 9] = [
     Line::Get(Local::X),
     Line::Integer(-2147483648),
     Line::Plain(PitonOp::Eq),
-    Line::Test(PitonOp::TestBoolAndJump, TestKind::T),
+    FAIL_IF_TRUE,
     Line::Get(Local::X),
     Line::Plain(PitonOp::NegInt),
     Line::Put(Local::D),
@@ -64,7 +73,7 @@ static INTEGER_ADD: [Line; 10] = [
     Line::Get(Local::Y),
     Line::Plain(PitonOp::AddIntWithCarry),
     Line::Local(PitonOp::PopLocal, Local::T),
-    Line::Test(PitonOp::TestBoolAndJump, TestKind::T),
+    FAIL_IF_TRUE,
     Line::Local(PitonOp::PushLocal, Local::T),
     Line::Put(Local::D),
     Line::Plain(PitonOp::Ret),
@@ -77,7 +86,7 @@ static INTEGER_SUBTRACT: [Line; 10] = [
     Line::Get(Local::Y),
     Line::Plain(PitonOp::SubIntWithCarry),
     Line::Local(PitonOp::PopLocal, Local::T),
-    Line::Test(PitonOp::TestBoolAndJump, TestKind::T),
+    FAIL_IF_TRUE,
     Line::Local(PitonOp::PushLocal, Local::T),
     Line::Put(Local::D),
     Line::Plain(PitonOp::Ret),
@@ -110,11 +119,11 @@ static BOOLEAN_NOT: [Line; 4] = [
 static INDEX_ARRAY: [Line; 15] = [
     Line::Get(Local::I),
     Line::Local(PitonOp::SetLocal, Local::T),
-    Line::Test(PitonOp::TestIntAndJump, TestKind::Neg),
+    FAIL_IF_NEGATIVE,
     Line::Local(PitonOp::PushLocal, Local::T),
     Line::Local(PitonOp::PushLocal, Local::N),
     Line::Plain(PitonOp::LtInt),
-    Line::Test(PitonOp::TestBoolAndJump, TestKind::F),
+    FAIL_IF_FALSE,
     Line::Local(PitonOp::PushLocal, Local::A),
     Line::Local(PitonOp::PushLocal, Local::T),
     Line::Plain(PitonOp::IntToNat),
@@ -128,11 +137,11 @@ static INDEX_ARRAY: [Line; 15] = [
 static ARRAY_ELEMENT_ASSIGNMENT: [Line; 15] = [
     Line::Get(Local::I),
     Line::Local(PitonOp::SetLocal, Local::T),
-    Line::Test(PitonOp::TestIntAndJump, TestKind::Neg),
+    FAIL_IF_NEGATIVE,
     Line::Local(PitonOp::PushLocal, Local::T),
     Line::Local(PitonOp::PushLocal, Local::N),
     Line::Plain(PitonOp::LtInt),
-    Line::Test(PitonOp::TestBoolAndJump, TestKind::F),
+    FAIL_IF_FALSE,
     Line::Get(Local::X),
     Line::Local(PitonOp::PushLocal, Local::A),
     Line::Local(PitonOp::PushLocal, Local::T),

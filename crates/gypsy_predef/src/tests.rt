@@ -31,7 +31,7 @@ struct Case {
     stack: &'static str,
     /// The locals.
     variables: &'static str,
-    /// The pushes, the call, and behind a program that can fail the test of `c-c`.
+    /// The pushes, the call, and after a program that can fail the test of `c-c`.
     code: &'static str,
     steps: u64,
     counted: u64,
@@ -417,7 +417,7 @@ fn cases() -> &'static [Case] {
     &CASES
 }
 
-/// The text of a system of the programs behind a main program.
+/// The text of a system of the programs after a main program.
 fn system_text(alloc: Global, stack: &str, variables: &str, code: &str) -> Result<String, Fail> {
     let programs = programs();
     let text = format!(in alloc;
@@ -536,8 +536,8 @@ fn writes_the_table(rt: HostRuntime) -> Result<(), Fail> {
     let checked = checked_of(rt.alloc(), text.as_str().as_bytes())?;
     let made = bodies(rt.alloc())?;
     assert!(rt; made.len() == 13);
-    let behind_main = checked.system().programs.iter().skip(1);
-    for (program, wanted) in made.iter().zip(behind_main) {
+    let after_main = checked.system().programs.iter().skip(1);
+    for (program, wanted) in made.iter().zip(after_main) {
         assert!(rt; is_program(program, wanted), "{program:?}");
     }
     Ok(())
