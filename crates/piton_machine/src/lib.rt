@@ -19,8 +19,6 @@ mod piece;
 mod stack;
 mod state;
 mod stepped;
-#[cfg(test)]
-mod tests;
 mod view;
 
 pub use act::variables;

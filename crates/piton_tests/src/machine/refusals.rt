@@ -1,8 +1,8 @@
 //! Instructions that are refused, each in each way that its row has. Where two hold, the first in the order of checks is the
 //! answer.
 
-use crate::ErrorKind;
-use crate::ErrorKind::{CtrlFull, Range, Tag, TempEmpty, TempFull};
+use piton_machine::ErrorKind;
+use piton_machine::ErrorKind::{CtrlFull, Range, Tag, TempEmpty, TempFull};
 use std::alloc::{AllocError, Global};
 
 /// The words on the stack from the bottom, the room of the temporary stack, the instruction, and why it is refused.

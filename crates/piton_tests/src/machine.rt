@@ -4,9 +4,9 @@ mod halts;
 mod refusals;
 mod words;
 
-use crate::{PitonRun, State};
 use halts::{HALTS, TESTS};
 use piton_check::{Checked, check};
+use piton_machine::{PitonRun, State};
 use piton_syntax::read_piton;
 use piton_words::Word;
 use refusals::{REFUSALS, Refusal, refusal_text};

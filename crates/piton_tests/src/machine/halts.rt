@@ -1,6 +1,6 @@
 //! Systems that halt. Steps and costs are counted by hand: an instruction's cost is that of its row, `ret` takes 4.
 
-use crate::tests::Halt;
+use crate::machine::Halt;
 use piton_words::Word;
 
 /// Moves, jumps and calls.

@@ -1,0 +1,7 @@
+//! Tests of the crates of Piton, over their public calls.
+//!
+//! They have a crate of their own, since a crate with tests is proved twice.
+#![tactic(auto)]
+
+#[cfg(test)]
+mod machine;
