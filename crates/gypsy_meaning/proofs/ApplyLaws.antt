@@ -1,0 +1,130 @@
+-- Predefined calls by the positions of their arguments.
+use Rattle.std.proofs.Common.{◌≡◌, ℕ, zero, suc, List, [], ◌∷◌, map, get_or, slice_set, false, refl, sym, subst, ap, ap₂, ◌∙◌}
+use Rattle.stack_text.specs.Values.{ValueOf}
+use Rattle.gypsy_syntax.specs.declared.predef.Predef.{Predef}
+use Rattle.gypsy_syntax.specs.declared.predef.Predef.TheVariants as row
+use Rattle.gypsy_syntax.specs.Programs.{Arg, Lit, Routine}
+use Rattle.gypsy_syntax.specs.Effects.{Effect, Normal}
+use Rattle.gypsy_space.specs.Costs.{Tally, spend, predef_spend}
+use Rattle.gypsy_syntax.specs.PredefinedCosts.{predef_cost}
+use Rattle.gypsy_space.specs.Events.{event_spend, effect_of}
+use Rattle.gypsy_space.specs.declared.event.CostEvent.{CostEvent}
+use Rattle.gypsy_space.specs.declared.event.CostEvent.TheVariants as event
+use Rattle.gypsy_space.specs.declared.event.Outcome.{Outcome}
+use Rattle.gypsy_space.specs.declared.event.Outcome.TheVariants as outcome
+use Rattle.gypsy_space.specs.declared.program.Application.{Application}
+use Rattle.gypsy_meaning.specs.Machine.{Item, Frame, At, Next, settle, raise, apply_step}
+use Rattle.gypsy_meaning.specs.Work.{work_of, caught_spend}
+use Rattle.gypsy_meaning.specs.Turns.{IsPlain, GoesOn, RaisesOn}
+use Rattle.gypsy_meaning.specs.Applied.{call_item, WritesOn, IsApplied}
+use Rattle.gypsy_meaning.specs.declared.applying.Applied.{Applied}
+use Rattle.gypsy_meaning.specs.declared.applying.Applied.TheVariants.{Writes, Fails}
+use Rattle.gypsy_meaning.specs.declared.turn.Advance.{Advance}
+use Rattle.gypsy_syntax.specs.Effects.{value_at, no_value, predef_effect}
+use Rattle.gypsy_space.specs.declared.program.Argument.{Argument}
+use Rattle.gypsy_space.specs.Nodes.{seen_arg}
+use Rattle.gypsy_meaning.specs.Calls.{value_of, values_of, target_of}
+use Rattle.gypsy_meaning.specs.Applying.{applied_effect, effect_by}
+
+value_listed : (x : List ValueOf) (args : List Arg) (i : ℕ) → value_of x (get_or args i (Lit no_value)) ≡ value_at (values_of x args) i
+unfolding values_of
+value_listed x [] i = refl
+value_listed x (a ∷ args) zero = refl
+value_listed x (a ∷ args) (suc i) = value_listed x args i
+
+abbrev at_most_three : ValueOf → ValueOf → ValueOf → ℕ → ValueOf
+at_most_three a b c zero = a
+at_most_three a b c (suc zero) = b
+at_most_three a b c (suc (suc n)) = c
+
+effects_alike : (r : Predef) (f : ℕ → ValueOf) (vs : List ValueOf) → ((i : ℕ) → f i ≡ value_at vs i) → effect_by r f ≡ predef_effect r vs
+unfolding effect_by predef_effect
+effects_alike row.MgSimpleVariableAssignment f vs e = ap (λ a. effect_by row.MgSimpleVariableAssignment (at_most_three no_value a no_value)) (e 1)
+effects_alike row.MgSimpleConstantAssignment f vs e = ap (λ a. effect_by row.MgSimpleConstantAssignment (at_most_three no_value a no_value)) (e 1)
+effects_alike row.MgSimpleVariableEq f vs e = ap₂ (λ a b. effect_by row.MgSimpleVariableEq (at_most_three no_value a b)) (e 1) (e 2)
+effects_alike row.MgSimpleConstantEq f vs e = ap₂ (λ a b. effect_by row.MgSimpleConstantEq (at_most_three no_value a b)) (e 1) (e 2)
+effects_alike row.MgIntegerLe f vs e = ap₂ (λ a b. effect_by row.MgIntegerLe (at_most_three no_value a b)) (e 1) (e 2)
+effects_alike row.MgIntegerUnaryMinus f vs e = ap (λ a. effect_by row.MgIntegerUnaryMinus (at_most_three no_value a no_value)) (e 1)
+effects_alike row.MgIntegerAdd f vs e = ap₂ (λ a b. effect_by row.MgIntegerAdd (at_most_three no_value a b)) (e 1) (e 2)
+effects_alike row.MgIntegerSubtract f vs e = ap₂ (λ a b. effect_by row.MgIntegerSubtract (at_most_three no_value a b)) (e 1) (e 2)
+effects_alike row.MgBooleanOr f vs e = ap₂ (λ a b. effect_by row.MgBooleanOr (at_most_three no_value a b)) (e 1) (e 2)
+effects_alike row.MgBooleanAnd f vs e = ap₂ (λ a b. effect_by row.MgBooleanAnd (at_most_three no_value a b)) (e 1) (e 2)
+effects_alike row.MgBooleanNot f vs e = ap (λ a. effect_by row.MgBooleanNot (at_most_three no_value a no_value)) (e 1)
+effects_alike row.MgIndexArray f vs e = ap₂ (λ a b. effect_by row.MgIndexArray (at_most_three no_value a b)) (e 1) (e 2)
+effects_alike row.MgArrayElementAssignment f vs e =
+    ap (λ a. effect_by row.MgArrayElementAssignment (at_most_three a (f 1) (f 2))) (e 0) ∙
+    ap₂ (λ a b. effect_by row.MgArrayElementAssignment (at_most_three (value_at vs 0) a b)) (e 1) (e 2)
+
+pub applied_is : (r : Predef) (x : List ValueOf) (args : List Argument) → applied_effect r x args ≡ predef_effect r (values_of x (map seen_arg args))
+unfolding applied_effect
+applied_is r x args = effects_alike r _ (values_of x (map seen_arg args)) (value_listed x (map seen_arg args))
+
+normal_cost : (r : Predef) (v : ValueOf) → predef_cost r (Normal v) ≡ predef_cost r (Normal no_value)
+unfolding predef_cost
+normal_cost row.MgSimpleVariableAssignment v = refl
+normal_cost row.MgSimpleConstantAssignment v = refl
+normal_cost row.MgSimpleVariableEq v = refl
+normal_cost row.MgSimpleConstantEq v = refl
+normal_cost row.MgIntegerLe v = refl
+normal_cost row.MgIntegerUnaryMinus v = refl
+normal_cost row.MgIntegerAdd v = refl
+normal_cost row.MgIntegerSubtract v = refl
+normal_cost row.MgBooleanOr v = refl
+normal_cost row.MgBooleanAnd v = refl
+normal_cost row.MgBooleanNot v = refl
+normal_cost row.MgIndexArray v = refl
+normal_cost row.MgArrayElementAssignment v = refl
+
+normal_spend : (r : Predef) (v : ValueOf) (t : Tally) → predef_spend r (Normal v) t ≡ predef_spend r (Normal no_value) t
+unfolding predef_spend
+normal_spend r v t = ap (λ c. spend c.0 c.1 t) (normal_cost r v)
+
+-- a predefined call that writes
+pub writes_law : (call : Application) (x : List ValueOf) (w : List Item) (e : Effect) (i : ℕ) (v : ValueOf) (a : Advance) → e ≡ Normal v → e ≡ applied_effect call.which x call.args.items → i ≡ target_of (map seen_arg call.args.items) → a.event ≡ event.Predef call.which outcome.Normal → a.caught ≡ false → work_of a.work.value ≡ settle w → WritesOn x (call_item call ∷ w) i v a
+writes_law call x w e i v a is eff at ev free wk =
+    let P : CostEvent → Type 0 = IsPlain in
+    (subst P (sym ev) tt,
+    λ q sizes p fs t.
+      let r = call.which in
+      let args = map seen_arg call.args.items in
+      let done : predef_effect r (values_of x args) ≡ Normal v = sym (applied_is r x call.args.items) ∙ sym eff ∙ is in
+      ap (λ f. apply_step r args f p x w fs t) done ∙
+      ap (λ u. Next (At p (slice_set x (target_of args) v) (settle w) fs u)) (normal_spend r v t) ∙
+      ap (λ j. Next (At p (slice_set x j v) (settle w) fs (predef_spend r (Normal no_value) t))) (sym at) ∙
+      ap (λ l. Next (At p (slice_set x i v) l fs (predef_spend r (Normal no_value) t))) (sym wk) ∙
+      ap (λ n. Next (At p (slice_set x i v) (work_of a.work.value) fs (caught_spend false (event_spend q n t)))) (sym ev) ∙
+      ap (λ b. Next (At p (slice_set x i v) (work_of a.work.value) fs (caught_spend b (event_spend q a.event t)))) (sym free))
+
+abbrev pub IsFailure : Outcome → Type 0
+IsFailure outcome.Normal = ⊥
+IsFailure outcome.Fault = Unit {0}
+IsFailure outcome.Beyond = Unit {0}
+
+failed : (r : Predef) (args : List Arg) (o : Outcome) (p : ℕ) (x : List ValueOf) (w : List Item) (fs : List Frame) (t : Tally) → IsFailure o → apply_step r args (effect_of o) p x w fs t ≡ Next (raise Routine p x w fs (predef_spend r (effect_of o) t))
+failed r args outcome.Normal p x w fs t f = absurd f
+failed r args outcome.Fault p x w fs t f = refl
+failed r args outcome.Beyond p x w fs t f = refl
+
+-- and one that fails
+pub fails_law : (call : Application) (x : List ValueOf) (w : List Item) (e : Effect) (o : Outcome) (a : Advance) → IsFailure o → e ≡ effect_of o → e ≡ applied_effect call.which x call.args.items → RaisesOn call.which o w a → GoesOn x (call_item call ∷ w) a
+fails_law call x w e o a f is eff r =
+    (r.0,
+    λ q sizes p fs t.
+      let args = map seen_arg call.args.items in
+      let done : predef_effect call.which (values_of x args) ≡ effect_of o = sym (applied_is call.which x call.args.items) ∙ sym eff ∙ is in
+      ap (λ g. apply_step call.which args g p x w fs t) done ∙ failed call.which args o p x w fs t f ∙ ap Next (r.1 q p x fs t))
+
+-- what is known of a step of a predefined call, at the state
+pub writes_here : (x y : List ValueOf) (call : Application) (w l : List Item) (o : Applied) (i : ℕ) (v : ValueOf) (a : Advance) → y ≡ x → o ≡ Writes i v a → l ≡ call_item call ∷ w → IsApplied y call w o → WritesOn x l i v a
+writes_here x y call w l o i v a e f g h =
+    let P : List ValueOf → Type 0 = λ z. IsApplied z call w o in
+    let Q : Applied → Type 0 = IsApplied x call w in
+    let R : List Item → Type 0 = λ m. WritesOn x m i v a in
+    subst R (sym g) (subst Q f (subst P e h))
+
+pub fails_here : (x y : List ValueOf) (call : Application) (w l : List Item) (o : Applied) (a : Advance) → y ≡ x → o ≡ Fails a → l ≡ call_item call ∷ w → IsApplied y call w o → GoesOn x l a
+fails_here x y call w l o a e f g h =
+    let P : List ValueOf → Type 0 = λ z. IsApplied z call w o in
+    let Q : Applied → Type 0 = IsApplied x call w in
+    let R : List Item → Type 0 = λ m. GoesOn x m a in
+    subst R (sym g) (subst Q f (subst P e h))

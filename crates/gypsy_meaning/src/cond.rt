@@ -1,0 +1,38 @@
+//! Conditions.
+
+ghost use Rattle.std.specs.Prelude.{◌≡◌, map};
+ghost use Rattle.std.specs.List.{list_any};
+ghost use Rattle.gypsy_space.specs.Nodes.{seen_cond};
+ghost use Rattle.gypsy_meaning.specs.Calls.{has_cond, same_cond, is_leave};
+
+use gypsy_space::Condition;
+
+pub fn is_leave(cond: Condition) -> bool
+    ensures { result ≡ is_leave (seen_cond cond) }
+{
+    matches!(cond, Condition::Leave)
+}
+
+pub fn is_same(left: Condition, right: Condition) -> bool
+    ensures { result ≡ same_cond (seen_cond left) (seen_cond right) }
+{
+    match (left, right) {
+        (Condition::Leave, Condition::Leave) => true,
+        (Condition::Routine, Condition::Routine) => true,
+        (Condition::Declared(i), Condition::Declared(j)) => i == j,
+        _ => false,
+    }
+}
+
+fn is_any(cond: Condition, conds: &[Condition]) -> bool
+    ensures { result ≡ list_any (λ d. same_cond (seen_cond cond) (seen_cond d)) conds.now }
+{
+    conds.iter().any(|other| is_same(cond, *other))
+}
+
+#[tactic(auto, using(crate::proofs::CondLaws::has_any))]
+pub fn is_among(cond: Condition, conds: &[Condition]) -> bool
+    ensures { result ≡ has_cond (seen_cond cond) (map seen_cond conds.now) }
+{
+    is_any(cond, conds)
+}

@@ -1,0 +1,211 @@
+//! What predefined calls do.
+
+ghost use Rattle.std.specs.Prelude.{◌≡◌, ℕ, ◌∷◌, [], IfOk, map, pos};
+ghost use Rattle.gypsy_syntax.specs.Programs.{simple};
+ghost use Rattle.gypsy_syntax.specs.Effects as effect;
+ghost use Rattle.gypsy_syntax.specs.Effects.{item_of_value, is_true_value, value_at, number_effect, truth_value, indexed, stored, predef_effect};
+ghost use Rattle.gypsy_space.specs.Nodes.{seen_arg};
+ghost use Rattle.gypsy_meaning.specs.Calls.{values_of};
+ghost use Rattle.gypsy_meaning.specs.Applying.{effect_of, argument_at, applied_effect};
+
+use crate::turn::item_of;
+use gypsy_space::Argument;
+use gypsy_syntax::Predef;
+use stack_text::{Kind, Name, Shape, Value};
+use std::alloc::{AllocError, Global};
+
+/// The value that a predefined call writes, or how it fails.
+#[derive(Drop)]
+pub enum Effected {
+    Normal(Value),
+    Fault,
+    Beyond,
+}
+
+/// The item of a variable.
+fn item_in(variables: &[(Name, Value)], variable: u32) -> i32
+    ensures { result ≡ item_of_value (value_at (map (λ v. v.1) variables.now) variable) }
+{
+    match variables.get(variable as usize) {
+        Some((_, value)) => item_of(value),
+        None => 0,
+    }
+}
+
+/// The item of an argument.
+fn item_at(variables: &[(Name, Value)], args: &[Argument], index: usize) -> i32
+    ensures { result ≡ item_of_value (argument_at (map (λ v. v.1) variables.now) args.now index) }
+{
+    match args.get(index) {
+        Some(Argument::Variable(variable)) => item_in(variables, *variable),
+        Some(Argument::Constant(value)) => item_of(value),
+        None => 0,
+    }
+}
+
+/// Whether an argument is a Boolean that is true.
+fn truth_at(variables: &[(Name, Value)], args: &[Argument], index: usize) -> bool
+    ensures { result ≡ is_true_value (argument_at (map (λ v. v.1) variables.now) args.now index) }
+{
+    item_at(variables, args, index) == 1
+}
+
+/// A value of a simple kind with this item, which is of the kind.
+fn simple_value(alloc: Global, kind: Kind, item: i32) -> Result<Value, AllocError>
+    ensures { IfOk result (λ v. v ≡ record { shape = simple kind; items = item ∷ [] }) }
+{
+    let items = vec![in alloc; item]?;
+    match Value::new(Shape { kind, length: 0 }, items) {
+        Some(value) => Ok(value),
+        None => Err(AllocError),
+    }
+}
+
+/// A copy of a variable's value.
+pub fn value_in(
+    alloc: Global,
+    variables: &[(Name, Value)],
+    variable: u32,
+) -> Result<Value, AllocError>
+    ensures { IfOk result (λ v. v ≡ value_at (map (λ v. v.1) variables.now) variable) }
+{
+    match variables.get(variable as usize) {
+        Some((_, value)) => value.clone(),
+        None => simple_value(alloc, Kind::Integer, 0),
+    }
+}
+
+/// A copy of an argument's value.
+fn argument(
+    alloc: Global,
+    variables: &[(Name, Value)],
+    args: &[Argument],
+    index: usize,
+) -> Result<Value, AllocError>
+    ensures { IfOk result (λ v. v ≡ argument_at (map (λ v. v.1) variables.now) args.now index) }
+{
+    match args.get(index) {
+        Some(Argument::Variable(variable)) => value_in(alloc, variables, *variable),
+        Some(Argument::Constant(value)) => value.clone(),
+        None => simple_value(alloc, Kind::Integer, 0),
+    }
+}
+
+/// A number, where 32 signed bits have it.
+fn number(alloc: Global, number: i64) -> Result<Effected, AllocError>
+    ensures { IfOk result (λ e. effect_of e ≡ number_effect number) }
+{
+    if -2_147_483_648 <= number && number <= 2_147_483_647 {
+        Ok(Effected::Normal(simple_value(
+            alloc,
+            Kind::Integer,
+            number as i32,
+        )?))
+    } else {
+        Ok(Effected::Fault)
+    }
+}
+
+fn truth(alloc: Global, truth: bool) -> Result<Effected, AllocError>
+    ensures { IfOk result (λ e. effect_of e ≡ effect.Normal (truth_value truth)) }
+{
+    let item = if truth { 1 } else { 0 };
+    Ok(Effected::Normal(simple_value(alloc, Kind::Boolean, item)?))
+}
+
+/// The item at an index.
+fn indexed(alloc: Global, array: &Value, index: i32) -> Result<Effected, AllocError>
+    ensures { IfOk result (λ e. effect_of e ≡ indexed array.now index) }
+{
+    if index < 0 {
+        return Ok(Effected::Fault);
+    }
+    match array.items.get(index as usize) {
+        Some(item) => Ok(Effected::Normal(simple_value(
+            alloc,
+            array.shape.kind,
+            *item,
+        )?)),
+        None => Ok(Effected::Beyond),
+    }
+}
+
+/// The array with another item at an index.
+fn stored(
+    alloc: Global,
+    array: &Value,
+    index: i32,
+    item: i32,
+) -> Result<Effected, AllocError>
+    ensures { IfOk result (λ e. effect_of e ≡ stored array.now index item) }
+{
+    if index < 0 {
+        return Ok(Effected::Fault);
+    }
+    let place = index as usize;
+    if place >= array.items.len() {
+        return Ok(Effected::Beyond);
+    }
+    let mut items = Vec::from_slice(alloc, array.items.as_slice())?;
+    items[place] = item;
+    match Value::new(array.shape, items) {
+        Some(value) => Ok(Effected::Normal(value)),
+        None => Err(AllocError),
+    }
+}
+
+/// What a predefined call does.
+#[tactic(auto, unfolding(crate::specs::Applying::applied_effect, crate::specs::Applying::effect_by))]
+pub fn apply(
+    alloc: Global,
+    which: Predef,
+    variables: &[(Name, Value)],
+    args: &[Argument],
+) -> Result<Effected, AllocError>
+    ensures { IfOk result (λ e. effect_of e ≡ applied_effect which (map (λ v. v.1) variables.now) args.now) }
+{
+    match which {
+        Predef::MgSimpleVariableAssignment | Predef::MgSimpleConstantAssignment => {
+            Ok(Effected::Normal(argument(alloc, variables, args, 1)?))
+        }
+        Predef::MgSimpleVariableEq | Predef::MgSimpleConstantEq => truth(
+            alloc,
+            item_at(variables, args, 1) == item_at(variables, args, 2),
+        ),
+        Predef::MgIntegerLe => truth(
+            alloc,
+            item_at(variables, args, 1) <= item_at(variables, args, 2),
+        ),
+        Predef::MgIntegerUnaryMinus => number(alloc, -(item_at(variables, args, 1) as i64)),
+        Predef::MgIntegerAdd => number(
+            alloc,
+            item_at(variables, args, 1) as i64 + item_at(variables, args, 2) as i64,
+        ),
+        Predef::MgIntegerSubtract => number(
+            alloc,
+            item_at(variables, args, 1) as i64 - item_at(variables, args, 2) as i64,
+        ),
+        Predef::MgBooleanOr => truth(
+            alloc,
+            truth_at(variables, args, 1) | truth_at(variables, args, 2),
+        ),
+        Predef::MgBooleanAnd => truth(
+            alloc,
+            truth_at(variables, args, 1) & truth_at(variables, args, 2),
+        ),
+        Predef::MgBooleanNot => truth(alloc, !truth_at(variables, args, 1)),
+        Predef::MgIndexArray => {
+            let array = argument(alloc, variables, args, 1)?;
+            indexed(alloc, &array, item_at(variables, args, 2))
+        }
+        Predef::MgArrayElementAssignment => {
+            let array = argument(alloc, variables, args, 0)?;
+            stored(
+                alloc,
+                &array,
+                item_at(variables, args, 1),
+                item_at(variables, args, 2),
+            )
+        }
+    }
+}

@@ -1,0 +1,44 @@
+//! Laws of the meaning and of the step machine. The functions do nothing: their clauses hold of all programs.
+
+ghost use Rattle.std.specs.Prelude.{◌≡◌, ℕ, ◌≤◌, List};
+ghost use Rattle.stack_text.specs.Values.{ValueOf};
+ghost use Rattle.gypsy_syntax.specs.Programs.{Program, proc_at};
+ghost use Rattle.gypsy_syntax.specs.ProgramFits.{ProgramFits};
+ghost use Rattle.gypsy_space.specs.Needs.{Words, main_need};
+ghost use Rattle.gypsy_meaning.specs.Agree.{Agree};
+ghost use Rattle.gypsy_meaning.specs.Counted.{counted_meaning, uncounted};
+ghost use Rattle.gypsy_meaning.specs.Machine.{State, start, gypsy_step};
+ghost use Rattle.gypsy_meaning.specs.Meaning.{meaning};
+ghost use Rattle.gypsy_meaning.specs.Kept.{VarsFit, StateFits, MoveFits};
+ghost use Rattle.gypsy_meaning.specs.Room.{StateRoom, MoveRoom};
+
+/// The step machine and the meaning agree, and count the same instructions and the same steps of Piton.
+pub fn meanings_agree()
+    ensures { (q : Program) (sizes : Words) (v : List ValueOf) → Agree q sizes v }
+{}
+
+/// Counting changes no meaning.
+pub fn counting_changes_nothing()
+    ensures { (q : Program) (sizes : Words) (v : List ValueOf) (n : ℕ) →
+        uncounted (counted_meaning q sizes v n) ≡ meaning q sizes v n }
+{}
+
+/// A program that fits starts in a state that fits.
+pub fn start_fits()
+    ensures { (q : Program) (v : List ValueOf) → ProgramFits q → VarsFit (proc_at q q.main).formals v →
+        StateFits q (start q v) }
+{}
+
+/// Each step of a program that fits leads from a state that fits to another, or to an end that fits.
+pub fn steps_keep_fit()
+    ensures { (q : Program) (sizes : Words) (g : State) → ProgramFits q → StateFits q g →
+        MoveFits q (gypsy_step q sizes g) }
+{}
+
+/// Where the sizes cover main's own needs, a program starts with room for its predefined calls, and each step keeps it.
+pub fn steps_keep_room()
+    ensures start { (q : Program) (sizes : Words) (v : List ValueOf) →
+        (main_need q).temp ≤ sizes.temp → (main_need q).ctrl ≤ sizes.ctrl → StateRoom q sizes (start q v) }
+    ensures step { (q : Program) (sizes : Words) (g : State) → StateRoom q sizes g →
+        MoveRoom q sizes (gypsy_step q sizes g) }
+{}

@@ -1,0 +1,173 @@
+//! The work that an activation has still to do.
+
+ghost use Rattle.std.specs.Prelude.{◌≡◌, ◌∷◌, List, IfOk, ℕ, drop};
+ghost use Rattle.stack_text.specs.Values.{ValueOf};
+ghost use Rattle.gypsy_space.specs.Costs.{Tally};
+ghost use Rattle.gypsy_meaning.specs.Machine as machine;
+ghost use Rattle.gypsy_meaning.specs.Machine.{opens, open_on, settle, raise, Frame};
+ghost use Rattle.gypsy_space.specs.Nodes.{seen_cond, seen_statement, seen_statements};
+ghost use Rattle.gypsy_meaning.specs.Work.{item_of, work_of, work_or, caught_spend};
+
+use crate::cond::{is_among, is_leave};
+use gypsy_space::{Condition, Node};
+use std::alloc::{AllocError, Global};
+use std::rc::Rc;
+
+/// One item of work.
+#[derive(Drop)]
+pub enum Item {
+    Do(Rc<Node>),
+    /// The parts of a sequence from a position on.
+    Parts(Rc<Vec<Rc<Node>>>, usize),
+    Back(u32, Rc<Node>),
+    JoinThen(u32, Rc<Node>),
+    JoinOne(u32),
+    Guard(u32, Rc<Vec<Condition>>, Rc<Node>),
+    Out(Condition),
+}
+
+/// The items, the top first.
+#[derive(Drop)]
+pub enum Work {
+    End,
+    More(Item, Rc<Work>),
+}
+
+/// The work with this item on top.
+pub fn put(alloc: Global, item: Item, rest: &Rc<Work>) -> Result<Rc<Work>, AllocError>
+    ensures { IfOk result (λ w. work_of w.value ≡ item_of item ∷ work_of rest.now.value) }
+{
+    let rest = rest.clone()?;
+    Ok(Rc::new(alloc, Work::More(item, rest))?)
+}
+
+/// The work with a statement on top, opened, or `None` where the statement opens to nothing.
+#[cycle(opening)]
+pub fn open(alloc: Global, node: &Rc<Node>, rest: &Rc<Work>) -> Result<Option<Rc<Work>>, AllocError>
+    ensures { IfOk result (λ o. (ws : List machine.Item) → opens (seen_statement node.now.value) (work_of rest.now.value) ws ≡ work_or o ws) }
+{
+    match &**node {
+        Node::Seq(parts) => open_parts(alloc, parts, 0, rest),
+        Node::Begin(place, body, conds, arm) => {
+            let guarded = put(
+                alloc,
+                Item::Guard(*place, conds.clone()?, arm.clone()?),
+                rest,
+            )?;
+            match open(alloc, body, &guarded)? {
+                Some(opened) => Ok(Some(opened)),
+                None => Ok(Some(guarded)),
+            }
+        }
+        Node::NoOp(_) => Ok(Some(put(alloc, Item::Do(node.clone()?), rest)?)),
+        Node::Signal(_, _) => Ok(Some(put(alloc, Item::Do(node.clone()?), rest)?)),
+        Node::Loop(_, _) => Ok(Some(put(alloc, Item::Do(node.clone()?), rest)?)),
+        Node::If(_, _, _, _) => Ok(Some(put(alloc, Item::Do(node.clone()?), rest)?)),
+        Node::Call(_) => Ok(Some(put(alloc, Item::Do(node.clone()?), rest)?)),
+        Node::Apply(_) => Ok(Some(put(alloc, Item::Do(node.clone()?), rest)?)),
+    }
+}
+
+/// The same for the parts of a sequence from a position on.
+#[cycle(opening)]
+fn open_parts(
+    alloc: Global,
+    parts: &Rc<Vec<Rc<Node>>>,
+    from: usize,
+    rest: &Rc<Work>,
+) -> Result<Option<Rc<Work>>, AllocError>
+    ensures { IfOk result (λ o. (ws : List machine.Item) → opens (seen_statements (drop from parts.now.value.items)) (work_of rest.now.value) ws ≡ work_or o ws) }
+{
+    for index in from..parts.len() {
+        let later = put(alloc, Item::Parts(parts.clone()?, index + 1), rest)?;
+        if let Some(opened) = open(alloc, &parts[index], &later)? {
+            return Ok(Some(opened));
+        }
+    }
+    Ok(None)
+}
+
+/// The work with a statement on top, opened.
+pub fn opened(alloc: Global, node: &Rc<Node>, rest: &Rc<Work>) -> Result<Rc<Work>, AllocError>
+    ensures { IfOk result (λ w. work_of w.value ≡ open_on (seen_statement node.now.value) (work_of rest.now.value)) }
+{
+    match open(alloc, node, rest)? {
+        Some(opened) => Ok(opened),
+        None => settled(alloc, rest),
+    }
+}
+
+/// The same for the parts of a sequence from a position on.
+pub fn opened_parts(
+    alloc: Global,
+    parts: &Rc<Vec<Rc<Node>>>,
+    from: usize,
+    rest: &Rc<Work>,
+) -> Result<Rc<Work>, AllocError>
+    ensures { IfOk result (λ w. work_of w.value ≡ open_on (seen_statements (drop from parts.now.value.items)) (work_of rest.now.value)) }
+{
+    match open_parts(alloc, parts, from, rest)? {
+        Some(opened) => Ok(opened),
+        None => settled(alloc, rest),
+    }
+}
+
+/// The work once its top is opened.
+pub fn settled(alloc: Global, rest: &Rc<Work>) -> Result<Rc<Work>, AllocError>
+    ensures { IfOk result (λ w. work_of w.value ≡ settle (work_of rest.now.value)) }
+{
+    match &**rest {
+        Work::More(Item::Do(node), below) => match open(alloc, node, below)? {
+            Some(opened) => Ok(opened),
+            None => settled(alloc, below),
+        },
+        Work::More(Item::Parts(parts, next), below) => {
+            match open_parts(alloc, parts, *next, below)? {
+                Some(opened) => Ok(opened),
+                None => settled(alloc, below),
+            }
+        }
+        _ => Ok(rest.clone()?),
+    }
+}
+
+/// The work on which a raised condition comes to rest, and whether it was caught there.
+#[derive(Drop)]
+pub struct Raised {
+    pub work: Rc<Work>,
+    pub caught: bool,
+}
+
+/// Raises a condition above this work.
+pub fn raise(alloc: Global, cond: Condition, rest: &Rc<Work>) -> Result<Raised, AllocError>
+    ensures { IfOk result (λ r. (p : ℕ) (x : List ValueOf) (fs : List Frame) (t : Tally) → raise (seen_cond cond) p x (work_of rest.now.value) fs t ≡ machine.At p x (work_of r.work.value) fs (caught_spend r.caught t)) }
+{
+    match &**rest {
+        Work::End => Ok(Raised {
+            work: put(alloc, Item::Out(cond), rest)?,
+            caught: false,
+        }),
+        Work::More(Item::Back(_, _), below) => {
+            if is_leave(cond) {
+                Ok(Raised {
+                    work: settled(alloc, below)?,
+                    caught: true,
+                })
+            } else {
+                raise(alloc, cond, below)
+            }
+        }
+        Work::More(Item::Guard(place, conds, arm), below) => {
+            if is_among(cond, conds.as_slice()) {
+                let joined = put(alloc, Item::JoinOne(*place), below)?;
+                Ok(Raised {
+                    work: opened(alloc, arm, &joined)?,
+                    caught: true,
+                })
+            } else {
+                raise(alloc, cond, below)
+            }
+        }
+        Work::More(_, below) => raise(alloc, cond, below),
+    }
+}
