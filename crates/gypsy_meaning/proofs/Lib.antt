@@ -9,3 +9,4 @@ mod TurnLaws
 mod RunningLaws
 mod ApplyLaws
 mod CopyLaws
+mod ReturningLaws

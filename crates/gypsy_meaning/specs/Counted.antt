@@ -51,7 +51,8 @@ counted_caught CountedNoRoom cs arm = CountedNoRoom
 -- a round's end
 abbrev pub counted_round_end : CountedOutcome → (List ValueOf → Tally → CountedOutcome) → CountedOutcome
 counted_round_end (CountedDone x None t) again = again x (spend 1 1 t)
-counted_round_end (CountedDone x (Some c) t) again = counted_either (is_leave c) (CountedDone x None (spend 3 2 t)) (CountedDone x (Some c) t)
+counted_round_end (CountedDone x (Some c) t) again =
+    counted_either (is_leave c) (CountedDone x None (spend 3 2 t)) (CountedDone x (Some c) t)
 counted_round_end CountedUnfinished again = CountedUnfinished
 counted_round_end CountedNoRoom again = CountedNoRoom
 
@@ -64,7 +65,8 @@ counted_applied r args Beyond x t = CountedDone x (Some Routine) (predef_spend r
 -- a call's end
 abbrev pub counted_returned : Program → ℕ → List ℕ → List Cond → List ValueOf → CountedOutcome → CountedOutcome
 counted_returned q p xs cs x (CountedDone y None t) = CountedDone (copied_out xs y x) None (spend 12 6 t)
-counted_returned q p xs cs x (CountedDone y (Some c) t) = CountedDone (copied_out xs y x) (Some (matching q p cs c)) (out_spend (is_formal q p c) t)
+counted_returned q p xs cs x (CountedDone y (Some c) t) =
+    CountedDone (copied_out xs y x) (Some (matching q p cs c)) (out_spend (is_formal q p c) t)
 counted_returned q p xs cs x CountedUnfinished = CountedUnfinished
 counted_returned q p xs cs x CountedNoRoom = CountedNoRoom
 
@@ -78,7 +80,8 @@ counted_evaluate q sizes zero s u x t = CountedUnfinished
 counted_evaluate q sizes (suc n) Skip u x t = CountedDone x None t
 counted_evaluate q sizes (suc n) (NoOp place) u x t = CountedDone x None (spend 1 1 t)
 counted_evaluate q sizes (suc n) (Signal place c) u x t = CountedDone x (Some c) (spend 4 3 t)
-counted_evaluate q sizes (suc n) (Seq a b) u x t = counted_then (counted_evaluate q sizes (suc n) a u x t) (counted_evaluate q sizes (suc n) b u)
+counted_evaluate q sizes (suc n) (Seq a b) u x t =
+    counted_then (counted_evaluate q sizes (suc n) a u x t) (counted_evaluate q sizes (suc n) b u)
 counted_evaluate q sizes (suc n) (Loop place s) u x t =
     counted_round_end (counted_evaluate q sizes (suc n) s u x (spend 1 1 t)) (counted_evaluate q sizes n (Loop place s) u)
 counted_evaluate q sizes (suc n) (If place b s w) u x t =

@@ -13,3 +13,4 @@ pub mod Running
 pub mod Turns
 pub mod Applying
 pub mod Applied
+pub mod Returning

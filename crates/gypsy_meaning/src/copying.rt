@@ -38,7 +38,8 @@ pub fn copy_in(
     actuals: &[u32],
     callee: &Procedure,
 ) -> Result<Vec<(Name, Value)>, AllocError>
-    ensures { IfOk result (λ r. map (λ v. v.1) r.items ≡ map (value_at (map (λ v. v.1) variables.now)) actuals.now ++ map (λ v. v.1) callee.now.locals.items) }
+    ensures { let copies = map (value_at (map (λ v. v.1) variables.now)) actuals.now in
+        IfOk result (λ r. map (λ v. v.1) r.items ≡ copies ++ map (λ v. v.1) callee.now.locals.items) }
 {
     let mut all = copies(alloc, variables, actuals, callee)?;
     for (name, value) in callee.locals.as_slice() {
@@ -49,7 +50,8 @@ pub fn copy_in(
 
 /// Puts the values of a callee's formals back.
 pub fn copy_out(variables: &mut Vec<(Name, Value)>, actuals: &[u32], values: Vec<(Name, Value)>)
-    ensures values { map (λ v. v.1) variables.new.items ≡ copied_out actuals.now (map (λ v. v.1) values.items) (map (λ v. v.1) variables.old.items) }
+    ensures values { map (λ v. v.1) variables.new.items
+        ≡ copied_out actuals.now (map (λ v. v.1) values.items) (map (λ v. v.1) variables.old.items) }
     ensures names { map (λ v. v.0) variables.new.items ≡ map (λ v. v.0) variables.old.items }
 {
     let mut place: usize = 0;

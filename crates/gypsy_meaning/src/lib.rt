@@ -8,6 +8,7 @@ mod cond;
 pub mod copying;
 pub mod effects;
 mod laws;
+pub mod returning;
 pub mod running;
 pub mod turn;
 pub mod work;

@@ -27,6 +27,9 @@ pub struct Frame {
     pub variables: Vec<(Name, Value)>,
     pub work: Rc<Work>,
     pub call: Rc<CallSite>,
+    /// The words in use of both stacks while it runs.
+    pub used_temp: u64,
+    pub used_ctrl: u64,
 }
 
 /// A run of a source, from step to step.
@@ -81,7 +84,8 @@ impl Meaning {
     /// Makes a step that writes a variable.
     pub fn write(&mut self, needs: &Needs, variable: u32, value: Value, advance: Advance)
         requires small { AreSmall needs.now.procedures.items }
-        requires turn { WritesOn (map (λ v. v.1) self.old.variables.items) (work_of self.old.work.value) variable value advance }
+        requires turn { WritesOn (map (λ v. v.1) self.old.variables.items) (work_of self.old.work.value)
+            variable value advance }
         ensures { (q : programs.Program) (sizes : Words) → Goes q sizes self.old self.new }
     {
         write(&mut self.variables, variable, value);
@@ -139,7 +143,8 @@ impl Meaning {
 
     /// Makes a step that opens the work.
     fn open(&mut self, work: Rc<Work>)
-        requires { OpensTo (map (λ v. v.1) self.old.variables.items) (work_of self.old.work.value) (work_of work.value) }
+        requires { OpensTo (map (λ v. v.1) self.old.variables.items)
+            (work_of self.old.work.value) (work_of work.value) }
         ensures { (q : programs.Program) (sizes : Words) → Goes q sizes self.old self.new }
     {
         self.work = work;

@@ -58,7 +58,8 @@ fn is_true(variables: &[(Name, Value)], variable: u32) -> bool
 }
 
 fn signal(alloc: Global, cond: Condition, below: &Rc<Work>) -> Result<Advance, AllocError>
-    ensures { IfOk result (λ a. (x : List ValueOf) (place : ℕ) → GoesOn x (machine.Do (program.Signal place (seen_cond cond)) ∷ work_of below.now.value) a) }
+    ensures { IfOk result (λ a. (x : List ValueOf) (place : ℕ) →
+        GoesOn x (machine.Do (program.Signal place (seen_cond cond)) ∷ work_of below.now.value) a) }
 {
     let raised = raise(alloc, cond, below)?;
     Ok(Advance {
@@ -74,7 +75,8 @@ fn enter_loop(
     body: &Rc<Node>,
     below: &Rc<Work>,
 ) -> Result<Advance, AllocError>
-    ensures { IfOk result (λ a. (x : List ValueOf) → GoesOn x (machine.Do (program.Loop place (seen_statement body.now.value)) ∷ work_of below.now.value) a) }
+    ensures { IfOk result (λ a. (x : List ValueOf) →
+        GoesOn x (machine.Do (program.Loop place (seen_statement body.now.value)) ∷ work_of below.now.value) a) }
 {
     let back = put(alloc, Item::Back(place, body.clone()?), below)?;
     Ok(Advance {
@@ -90,7 +92,8 @@ fn loop_again(
     body: &Rc<Node>,
     below: &Rc<Work>,
 ) -> Result<Advance, AllocError>
-    ensures { IfOk result (λ a. (x : List ValueOf) → GoesOn x (machine.Back place (seen_statement body.now.value) ∷ work_of below.now.value) a) }
+    ensures { IfOk result (λ a. (x : List ValueOf) →
+        GoesOn x (machine.Back place (seen_statement body.now.value) ∷ work_of below.now.value) a) }
 {
     let again = Rc::new(alloc, Node::Loop(place, body.clone()?))?;
     Ok(Advance {
@@ -109,7 +112,8 @@ fn branch(
     variables: &[(Name, Value)],
     below: &Rc<Work>,
 ) -> Result<Advance, AllocError>
-    ensures { IfOk result (λ a. GoesOn (map (λ v. v.1) variables.now) (machine.Do (program.If place test (seen_statement yes.now.value) (seen_statement no.now.value)) ∷ work_of below.now.value) a) }
+    ensures { let statement = program.If place test (seen_statement yes.now.value) (seen_statement no.now.value) in
+        IfOk result (λ a. GoesOn (map (λ v. v.1) variables.now) (machine.Do statement ∷ work_of below.now.value) a) }
 {
     if is_true(variables, test) {
         let joined = put(alloc, Item::JoinThen(place, no.clone()?), below)?;
@@ -130,7 +134,8 @@ fn branch(
 
 /// Removes the top, over this work.
 fn removed(alloc: Global, event: CostEvent, below: &Rc<Work>) -> Result<Advance, AllocError>
-    ensures { IfOk result (λ a. (a.event ≡ event) × (a.caught ≡ false) × (work_of a.work.value ≡ machine.settle (work_of below.now.value))) }
+    ensures { IfOk result (λ a. (a.event ≡ event) × (a.caught ≡ false)
+        × (work_of a.work.value ≡ machine.settle (work_of below.now.value))) }
 {
     Ok(Advance {
         work: settled(alloc, below)?,
@@ -146,7 +151,8 @@ fn begin(
     variables: &[(Name, Value)],
     below: &Rc<Work>,
 ) -> Result<Turn, AllocError>
-    ensures { IfOk result (IsTurn (map (λ v. v.1) variables.now) (machine.Do (seen_statement node.now.value) ∷ work_of below.now.value)) }
+    ensures { let work = machine.Do (seen_statement node.now.value) ∷ work_of below.now.value in
+        IfOk result (IsTurn (map (λ v. v.1) variables.now) work) }
 {
     match &**node {
         Node::NoOp(_) => Ok(Turn::Goes(removed(alloc, CostEvent::NoOp, below)?)),

@@ -44,7 +44,8 @@ pub fn put(alloc: Global, item: Item, rest: &Rc<Work>) -> Result<Rc<Work>, Alloc
 /// The work with a statement on top, opened, or `None` where the statement opens to nothing.
 #[cycle(opening)]
 pub fn open(alloc: Global, node: &Rc<Node>, rest: &Rc<Work>) -> Result<Option<Rc<Work>>, AllocError>
-    ensures { IfOk result (λ o. (ws : List machine.Item) → opens (seen_statement node.now.value) (work_of rest.now.value) ws ≡ work_or o ws) }
+    ensures { IfOk result (λ o. (ws : List machine.Item) →
+        opens (seen_statement node.now.value) (work_of rest.now.value) ws ≡ work_or o ws) }
 {
     match &**node {
         Node::Seq(parts) => open_parts(alloc, parts, 0, rest),
@@ -76,7 +77,8 @@ fn open_parts(
     from: usize,
     rest: &Rc<Work>,
 ) -> Result<Option<Rc<Work>>, AllocError>
-    ensures { IfOk result (λ o. (ws : List machine.Item) → opens (seen_statements (drop from parts.now.value.items)) (work_of rest.now.value) ws ≡ work_or o ws) }
+    ensures { IfOk result (λ o. (ws : List machine.Item) →
+        opens (seen_statements (drop from parts.now.value.items)) (work_of rest.now.value) ws ≡ work_or o ws) }
 {
     for index in from..parts.len() {
         let later = put(alloc, Item::Parts(parts.clone()?, index + 1), rest)?;
@@ -104,7 +106,8 @@ pub fn opened_parts(
     from: usize,
     rest: &Rc<Work>,
 ) -> Result<Rc<Work>, AllocError>
-    ensures { IfOk result (λ w. work_of w.value ≡ open_on (seen_statements (drop from parts.now.value.items)) (work_of rest.now.value)) }
+    ensures { let statements = seen_statements (drop from parts.now.value.items) in
+        IfOk result (λ w. work_of w.value ≡ open_on statements (work_of rest.now.value)) }
 {
     match open_parts(alloc, parts, from, rest)? {
         Some(opened) => Ok(opened),
@@ -140,7 +143,9 @@ pub struct Raised {
 
 /// Raises a condition above this work.
 pub fn raise(alloc: Global, cond: Condition, rest: &Rc<Work>) -> Result<Raised, AllocError>
-    ensures { IfOk result (λ r. (p : ℕ) (x : List ValueOf) (fs : List Frame) (t : Tally) → raise (seen_cond cond) p x (work_of rest.now.value) fs t ≡ machine.At p x (work_of r.work.value) fs (caught_spend r.caught t)) }
+    ensures { IfOk result (λ r. (p : ℕ) (x : List ValueOf) (fs : List Frame) (t : Tally) →
+        raise (seen_cond cond) p x (work_of rest.now.value) fs t
+        ≡ machine.At p x (work_of r.work.value) fs (caught_spend r.caught t)) }
 {
     match &**rest {
         Work::End => Ok(Raised {

@@ -1,0 +1,123 @@
+//! What a step does at the end of a procedure for which another waits.
+
+ghost use Rattle.std.specs.Prelude.{◌≡◌, ℕ, [], get_or, map, IfErr, IfOk, IfSome, IfNone, MatchBool};
+ghost use Rattle.gypsy_syntax.specs.Programs as programs;
+ghost use Rattle.gypsy_space.specs.Events.{AreSmall};
+ghost use Rattle.gypsy_space.specs.Needs.{Words};
+ghost use Rattle.gypsy_syntax.specs.Programs.{Routine};
+ghost use Rattle.gypsy_space.specs.Nodes.{seen_cond, seen_program};
+ghost use Rattle.gypsy_meaning.specs.Calls.{is_formal, matching};
+ghost use Rattle.gypsy_meaning.specs.Machine.{settle};
+ghost use Rattle.gypsy_meaning.specs.Returning.{HasResumed, IsLast, paid};
+ghost use Rattle.gypsy_meaning.specs.Running.{Goes};
+ghost use Rattle.gypsy_meaning.specs.Work.{work_of};
+
+use crate::copying::copy_out;
+use crate::running::{Frame, Meaning};
+use crate::work::{Work, settled};
+use gypsy_space::{Condition, CostEvent, Needs, Program};
+use std::alloc::{AllocError, Global};
+use std::mem;
+use std::rc::Rc;
+
+/// The work of the activation that waits for the active one, once its top is opened.
+fn waiting_work(alloc: Global, waiting: &[Frame]) -> Result<Option<Rc<Work>>, AllocError>
+    ensures some { IfOk result (λ o. IfSome o (λ w. IsLast waiting.now (λ f. work_of w.value ≡ settle (work_of f.work.value)))) }
+    ensures none { IfOk result (λ o. IfNone o (waiting.now ≡ [])) }
+{
+    match waiting.last() {
+        None => Ok(None),
+        Some(frame) => Ok(Some(settled(alloc, &frame.work)?)),
+    }
+}
+
+/// Whether a condition is one of a procedure's formal ones.
+#[tactic(auto, unfolding(crate::specs::Calls::is_formal))]
+fn is_formal(program: &Program, procedure: u32, cond: Condition) -> bool
+    ensures { result ≡ is_formal (seen_program program.now) procedure (seen_cond cond) }
+{
+    match (cond, program.procedures.get(procedure as usize)) {
+        (Condition::Declared(number), Some(procedure)) => (number as usize) < procedure.conds.len(),
+        _ => false,
+    }
+}
+
+/// The condition of the caller: the matching actual of a formal condition, and else routineerror.
+#[tactic(auto, unfolding(crate::specs::Calls::matching, crate::specs::Calls::is_formal))]
+fn matching(program: &Program, procedure: u32, conds: &[Condition], cond: Condition) -> Condition
+    ensures { let actuals = map seen_cond conds.now in
+        seen_cond result ≡ matching (seen_program program.now) procedure actuals (seen_cond cond) }
+{
+    match cond {
+        Condition::Declared(number) => {
+            if is_formal(program, procedure, cond) {
+                actual(conds, number)
+            } else {
+                Condition::Routine
+            }
+        }
+        Condition::Leave | Condition::Routine => Condition::Routine,
+    }
+}
+
+/// The condition at a position, or routineerror where there is none.
+fn actual(conds: &[Condition], number: u32) -> Condition
+    ensures { seen_cond result ≡ get_or (map seen_cond conds.now) number Routine }
+{
+    match conds.get(number as usize) {
+        Some(cond) => *cond,
+        None => Condition::Routine,
+    }
+}
+
+impl Meaning {
+    /// Makes the activation that waits the active one, with this work; its variables get the formals' values. Where none
+    /// waits it changes nothing.
+    fn resume(&mut self, work: Rc<Work>)
+        ensures { HasResumed work.value self.old self.new }
+    {
+        if let Some(frame) = self.waiting.pop() {
+            let Frame {
+                procedure,
+                variables,
+                work: _,
+                call,
+                used_temp,
+                used_ctrl,
+            } = frame;
+            let values = mem::replace(&mut self.variables, variables);
+            copy_out(&mut self.variables, call.actuals.as_slice(), values);
+            self.procedure = procedure;
+            self.work = work;
+            self.used_temp = used_temp;
+            self.used_ctrl = used_ctrl;
+        }
+    }
+
+    /// Counts a step with this event.
+    fn pay(&mut self, needs: &Needs, event: CostEvent)
+        requires { AreSmall needs.now.procedures.items }
+        ensures { self.new ≡ paid needs.now.procedures.items event self.old }
+    {
+        self.counted = self.counted.saturating_add(needs.cost(event));
+        self.steps = self.steps.saturating_add(1);
+    }
+
+    /// Makes the step at the normal end of a procedure for which another waits; `false` where none waits.
+    pub fn end_call(&mut self, alloc: Global, needs: &Needs) -> Result<bool, AllocError>
+        requires small { AreSmall needs.now.procedures.items }
+        requires turn { work_of self.old.work.value ≡ [] }
+        ensures done { IfOk result (λ b. MatchBool b ((q : programs.Program) (sizes : Words) → Goes q sizes self.old self.new)
+            ((self.new ≡ self.old) × (self.old.waiting.items ≡ []))) }
+        ensures unchanged { IfErr result (λ e. self.new ≡ self.old) }
+    {
+        match waiting_work(alloc, self.waiting.as_slice())? {
+            None => Ok(false),
+            Some(work) => {
+                self.resume(work);
+                self.pay(needs, CostEvent::EndProc);
+                Ok(true)
+            }
+        }
+    }
+}
