@@ -1,11 +1,14 @@
 -- The end of a procedure for which another waits, as the code has it.
-use Rattle.std.specs.Prelude.{◌≡◌, ℕ, List, [], ◌∷◌, ◌++◌, map}
-use Rattle.gypsy_space.specs.Events.{event_count}
-use Rattle.gypsy_space.specs.declared.event.CostEvent.{CostEvent}
-use Rattle.gypsy_space.specs.declared.need.Need.{Need}
-use Rattle.gypsy_meaning.specs.Calls.{copied_out}
+use Rattle.std.specs.Prelude.{◌≡◌, ℕ, List, [], ◌∷◌, ◌++◌, map, Bool, true, false}
+use Rattle.stack_text.specs.Values.{ValueOf}
+use Rattle.gypsy_syntax.specs.Programs.{Cond, Program}
+use Rattle.gypsy_space.specs.Costs.{Tally}
+use Rattle.gypsy_space.specs.Nodes.{seen_cond}
+use Rattle.gypsy_meaning.specs.Calls.{copied_out, matching}
+use Rattle.gypsy_meaning.specs.Machine.{Item, Out, At, raise}
+use Rattle.gypsy_meaning.specs.Machine as machine
 use Rattle.gypsy_meaning.specs.Running.{added}
-use Rattle.gypsy_meaning.specs.Work.{work_of}
+use Rattle.gypsy_meaning.specs.Work.{caught_spend, work_of}
 use Rattle.gypsy_meaning.specs.declared.running.Frame.{Frame}
 use Rattle.gypsy_meaning.specs.declared.running.Meaning.{Meaning}
 use Rattle.gypsy_meaning.specs.declared.work.Work.{Work}
@@ -14,9 +17,27 @@ use Rattle.gypsy_meaning.specs.declared.work.Work.{Work}
 abbrev pub IsLast : List Frame → (Frame → Type 0) → Type 0
 IsLast fs P = (gs : List Frame) × (f : Frame) × (fs ≡ gs ++ f ∷ []) × P f
 
--- a step with this event is counted
-abbrev pub paid : List Need → CostEvent → Meaning → Meaning
-paid ns e m = record m { steps = added m.steps 1; counted = added m.counted (event_count ns e) }
+-- a step of this cost is counted
+abbrev pub paid : ℕ → Meaning → Meaning
+paid cost m = record m { steps = added m.steps 1; counted = added m.counted cost }
+
+-- what a condition costs that leaves a procedure: a formal one or not, and where it was caught or not
+abbrev pub out_price : Bool → Bool → ℕ
+out_price true true = 17
+out_price true false = 14
+out_price false true = 20
+out_price false false = 17
+
+-- the work is a condition on its way out
+abbrev pub Leaves : Cond → List Item → Type 0
+Leaves c work = (below : List Item) × (work ≡ Out c ∷ below)
+
+-- a condition that leaves a procedure, raised in the activation that waits, comes to rest on this work
+abbrev pub RaisesTo : Program → ℕ → Cond → Work → Bool → Frame → Type 0
+RaisesTo q callee c w caught f =
+    (p : ℕ) (x : List ValueOf) (fs : List machine.Frame) (t : Tally) →
+    raise (matching q callee (map seen_cond f.call.value.conds.items) c) p x (work_of f.work.value) fs t
+    ≡ At p x (work_of w) fs (caught_spend caught t)
 
 -- the last of those that wait goes on, with this work and the callee's formals put back
 pub record Resumes (w : Work) (m n : Meaning) (f : Frame) : Type 0 where

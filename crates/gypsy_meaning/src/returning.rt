@@ -8,13 +8,13 @@ ghost use Rattle.gypsy_syntax.specs.Programs.{Routine};
 ghost use Rattle.gypsy_space.specs.Nodes.{seen_cond, seen_program};
 ghost use Rattle.gypsy_meaning.specs.Calls.{is_formal, matching};
 ghost use Rattle.gypsy_meaning.specs.Machine.{settle};
-ghost use Rattle.gypsy_meaning.specs.Returning.{HasResumed, IsLast, paid};
+ghost use Rattle.gypsy_meaning.specs.Returning.{HasResumed, IsLast, Leaves, RaisesTo, out_price, paid};
 ghost use Rattle.gypsy_meaning.specs.Running.{Goes};
 ghost use Rattle.gypsy_meaning.specs.Work.{work_of};
 
 use crate::copying::copy_out;
 use crate::running::{Frame, Meaning};
-use crate::work::{Work, settled};
+use crate::work::{Raised, Work, raise, settled};
 use gypsy_space::{Condition, CostEvent, Needs, Program};
 use std::alloc::{AllocError, Global};
 use std::mem;
@@ -70,6 +70,46 @@ fn actual(conds: &[Condition], number: u32) -> Condition
     }
 }
 
+/// The work of the activation that waits, once a condition that leaves the active one is raised there.
+fn raised_out(
+    alloc: Global,
+    program: &Program,
+    procedure: u32,
+    waiting: &[Frame],
+    cond: Condition,
+) -> Result<Option<Raised>, AllocError>
+    ensures some { IfOk result (λ o. IfSome o (λ r.
+        IsLast waiting.now (RaisesTo (seen_program program.now) procedure (seen_cond cond) r.work.value r.caught))) }
+    ensures none { IfOk result (λ o. IfNone o (waiting.now ≡ [])) }
+{
+    match waiting.last() {
+        None => Ok(None),
+        Some(frame) => {
+            let cond = matching(program, procedure, frame.call.conds.as_slice(), cond);
+            Ok(Some(raise(alloc, cond, &frame.work)?))
+        }
+    }
+}
+
+/// What a condition costs that leaves a procedure: a formal one or not, and where it was caught.
+#[tactic(auto, unfolding(gypsy_space::specs::Events::event_count))]
+fn out_price(needs: &Needs, formal: bool, caught: bool) -> u64
+    requires { AreSmall needs.now.procedures.items }
+    ensures { result ≡ out_price formal caught }
+{
+    let event = if formal {
+        CostEvent::OutFormal
+    } else {
+        CostEvent::OutOther
+    };
+    let left = needs.cost(event).saturating_add(needs.cost(CostEvent::ReturnRaised));
+    if caught {
+        left.saturating_add(needs.cost(CostEvent::Caught))
+    } else {
+        left
+    }
+}
+
 impl Meaning {
     /// Makes the activation that waits the active one, with this work; its variables get the formals' values. Where none
     /// waits it changes nothing.
@@ -94,12 +134,11 @@ impl Meaning {
         }
     }
 
-    /// Counts a step with this event.
-    fn pay(&mut self, needs: &Needs, event: CostEvent)
-        requires { AreSmall needs.now.procedures.items }
-        ensures { self.new ≡ paid needs.now.procedures.items event self.old }
+    /// Counts a step of this cost.
+    fn pay(&mut self, cost: u64)
+        ensures { self.new ≡ paid cost self.old }
     {
-        self.counted = self.counted.saturating_add(needs.cost(event));
+        self.counted = self.counted.saturating_add(cost);
         self.steps = self.steps.saturating_add(1);
     }
 
@@ -115,7 +154,39 @@ impl Meaning {
             None => Ok(false),
             Some(work) => {
                 self.resume(work);
-                self.pay(needs, CostEvent::EndProc);
+                self.pay(needs.cost(CostEvent::EndProc));
+                Ok(true)
+            }
+        }
+    }
+
+    /// Makes the step of a condition that leaves a procedure for which another waits; `false` where none waits.
+    pub fn leave_call(
+        &mut self,
+        alloc: Global,
+        needs: &Needs,
+        cond: Condition,
+    ) -> Result<bool, AllocError>
+        requires small { AreSmall needs.now.procedures.items }
+        requires turn { Leaves (seen_cond cond) (work_of self.old.work.value) }
+        ensures done { IfOk result (λ b. MatchBool b
+            ((sizes : Words) → Goes (seen_program self.old.program) sizes self.old self.new)
+            ((self.new ≡ self.old) × (self.old.waiting.items ≡ []))) }
+        ensures unchanged { IfErr result (λ e. self.new ≡ self.old) }
+    {
+        let formal = is_formal(&self.program, self.procedure, cond);
+        match raised_out(
+            alloc,
+            &self.program,
+            self.procedure,
+            self.waiting.as_slice(),
+            cond,
+        )? {
+            None => Ok(false),
+            Some(raised) => {
+                let Raised { work, caught } = raised;
+                self.resume(work);
+                self.pay(out_price(needs, formal, caught));
                 Ok(true)
             }
         }

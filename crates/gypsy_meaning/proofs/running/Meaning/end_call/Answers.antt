@@ -1,7 +1,7 @@
-use Rattle.std.proofs.Common.{◌≡◌, List, sym, subst}
+use Rattle.std.proofs.Common.{◌≡◌, ℕ, List, sym, subst}
 use Rattle.gypsy_space.specs.declared.event.CostEvent.TheVariants as event
 use Rattle.gypsy_meaning.specs.Machine.{settle}
-use Rattle.gypsy_meaning.specs.Returning.{IsLast}
+use Rattle.gypsy_meaning.specs.Returning.{IsLast, paid}
 use Rattle.gypsy_meaning.specs.Running.{Goes}
 use Rattle.gypsy_meaning.specs.Work.{work_of}
 use Rattle.gypsy_meaning.specs.declared.running.Frame.{Frame}
@@ -16,4 +16,6 @@ returns-in-Some-clause-done c = λ q sizes.
     let P : List Frame → Type 0 = λ fs. IsLast fs (λ f. work_of w ≡ settle (work_of f.work.value)) in
     let last : P m.waiting.items = subst P c.as_slice.ensures.value (rw c.in-Some.is at c.in_ok-waiting_work.ensures.some) in
     let Q : Meaning → Type 0 = Goes q sizes m in
-    subst Q (sym c.pay.ensures) (end_goes q sizes c.args.needs.now.procedures.items m c.resume.new.self w c.requires.turn last c.resume.ensures)
+    let R : ℕ → Type 0 = λ cost. Goes q sizes m (paid cost c.resume.new.self) in
+    subst Q (sym c.pay.ensures)
+    (subst R (sym c.cost.ensures.count) (end_goes q sizes c.args.needs.now.procedures.items m c.resume.new.self w c.requires.turn last c.resume.ensures))
