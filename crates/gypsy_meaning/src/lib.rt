@@ -4,6 +4,7 @@
 #![tactic(auto)]
 
 pub mod applying;
+pub mod calling;
 mod cond;
 pub mod copying;
 pub mod effects;
