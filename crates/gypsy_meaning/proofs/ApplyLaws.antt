@@ -82,18 +82,19 @@ normal_spend r v t = ap (λ c. spend c.0 c.1 t) (normal_cost r v)
 -- a predefined call that writes
 pub writes_law : (call : Application) (x : List ValueOf) (w : List Item) (e : Effect) (i : ℕ) (v : ValueOf) (a : Advance) → e ≡ Normal v → e ≡ applied_effect call.which x call.args.items → i ≡ target_of (map seen_arg call.args.items) → a.event ≡ event.Predef call.which outcome.Normal → a.caught ≡ false → work_of a.work.value ≡ settle w → WritesOn x (call_item call ∷ w) i v a
 writes_law call x w e i v a is eff at ev free wk =
-    let P : CostEvent → Type 0 = IsPlain in
-    (subst P (sym ev) tt,
-    λ q sizes p fs t.
-      let r = call.which in
-      let args = map seen_arg call.args.items in
-      let done : predef_effect r (values_of x args) ≡ Normal v = sym (applied_is r x call.args.items) ∙ sym eff ∙ is in
-      ap (λ f. apply_step r args f p x w fs t) done ∙
-      ap (λ u. Next (At p (slice_set x (target_of args) v) (settle w) fs u)) (normal_spend r v t) ∙
-      ap (λ j. Next (At p (slice_set x j v) (settle w) fs (predef_spend r (Normal no_value) t))) (sym at) ∙
-      ap (λ l. Next (At p (slice_set x i v) l fs (predef_spend r (Normal no_value) t))) (sym wk) ∙
-      ap (λ n. Next (At p (slice_set x i v) (work_of a.work.value) fs (caught_spend false (event_spend q n t)))) (sym ev) ∙
-      ap (λ b. Next (At p (slice_set x i v) (work_of a.work.value) fs (caught_spend b (event_spend q a.event t)))) (sym free))
+    let P : CostEvent → Type 0 = IsPlain in (
+      subst P (sym ev) tt,
+      λ q sizes p fs t.
+          let r = call.which in
+          let args = map seen_arg call.args.items in
+          let done : predef_effect r (values_of x args) ≡ Normal v = sym (applied_is r x call.args.items) ∙ sym eff ∙ is in
+          ap (λ f. apply_step r args f p x w fs t) done ∙
+          ap (λ u. Next (At p (slice_set x (target_of args) v) (settle w) fs u)) (normal_spend r v t) ∙
+          ap (λ j. Next (At p (slice_set x j v) (settle w) fs (predef_spend r (Normal no_value) t))) (sym at) ∙
+          ap (λ l. Next (At p (slice_set x i v) l fs (predef_spend r (Normal no_value) t))) (sym wk) ∙
+          ap (λ n. Next (At p (slice_set x i v) (work_of a.work.value) fs (caught_spend false (event_spend q n t)))) (sym ev) ∙
+          ap (λ b. Next (At p (slice_set x i v) (work_of a.work.value) fs (caught_spend b (event_spend q a.event t)))) (sym free),
+    )
 
 abbrev pub IsFailure : Outcome → Type 0
 IsFailure outcome.Normal = ⊥
@@ -107,12 +108,13 @@ failed r args outcome.Beyond p x w fs t f = refl
 
 -- and one that fails
 pub fails_law : (call : Application) (x : List ValueOf) (w : List Item) (e : Effect) (o : Outcome) (a : Advance) → IsFailure o → e ≡ effect_of o → e ≡ applied_effect call.which x call.args.items → RaisesOn call.which o w a → GoesOn x (call_item call ∷ w) a
-fails_law call x w e o a f is eff r =
-    (r.0,
-    λ q sizes p fs t.
+fails_law call x w e o a f is eff r = (
+  r.0,
+  λ q sizes p fs t.
       let args = map seen_arg call.args.items in
       let done : predef_effect call.which (values_of x args) ≡ effect_of o = sym (applied_is call.which x call.args.items) ∙ sym eff ∙ is in
-      ap (λ g. apply_step call.which args g p x w fs t) done ∙ failed call.which args o p x w fs t f ∙ ap Next (r.1 q p x fs t))
+      ap (λ g. apply_step call.which args g p x w fs t) done ∙ failed call.which args o p x w fs t f ∙ ap Next (r.1 q p x fs t),
+)
 
 -- what is known of a step of a predefined call, at the state
 pub writes_here : (x y : List ValueOf) (call : Application) (w l : List Item) (o : Applied) (i : ℕ) (v : ValueOf) (a : Advance) → y ≡ x → o ≡ Writes i v a → l ≡ call_item call ∷ w → IsApplied y call w o → WritesOn x l i v a

@@ -71,9 +71,9 @@ evaluate-uncounted q sizes (suc n) (Loop place s) u x t =
 evaluate-uncounted q sizes (suc n) (If place b s w) u x t =
     either-uncounted (is_true_value (value_at x b)) (counted_part (counted_evaluate q sizes (suc n) s u x (spend 8 3 t)) (spend 2 2)) (counted_part (counted_evaluate q sizes (suc n) w u x (spend 9 4 t)) (spend 1 1))
     ∙ ap (λ (o : Outcome). either_way (is_true_value (value_at x b)) o (uncounted (counted_part (counted_evaluate q sizes (suc n) w u x (spend 9 4 t)) (spend 1 1))))
-        (part-uncounted (counted_evaluate q sizes (suc n) s u x (spend 8 3 t)) (spend 2 2) ∙ evaluate-uncounted q sizes (suc n) s u x (spend 8 3 t))
+    (part-uncounted (counted_evaluate q sizes (suc n) s u x (spend 8 3 t)) (spend 2 2) ∙ evaluate-uncounted q sizes (suc n) s u x (spend 8 3 t))
     ∙ ap (λ (o : Outcome). either_way (is_true_value (value_at x b)) (evaluate q sizes (suc n) s u x) o)
-        (part-uncounted (counted_evaluate q sizes (suc n) w u x (spend 9 4 t)) (spend 1 1) ∙ evaluate-uncounted q sizes (suc n) w u x (spend 9 4 t))
+    (part-uncounted (counted_evaluate q sizes (suc n) w u x (spend 9 4 t)) (spend 1 1) ∙ evaluate-uncounted q sizes (suc n) w u x (spend 9 4 t))
 evaluate-uncounted q sizes (suc n) (Begin place s cs w) u x t =
     caught-uncounted (counted_evaluate q sizes (suc n) s u x t) cs (counted_evaluate q sizes (suc n) w u) (evaluate q sizes (suc n) w u) (evaluate-uncounted q sizes (suc n) w u)
     ∙ ap (λ (o : Outcome). caught o cs (evaluate q sizes (suc n) w u)) (evaluate-uncounted q sizes (suc n) s u x t)
@@ -81,7 +81,7 @@ evaluate-uncounted q sizes (suc n) (Call place p xs cs) u x t =
     let inner = counted_evaluate q sizes n (body_of q p) (with_call q p u) (copied_in q p xs x) (call_spend q p t) in
     room-uncounted (has_room q sizes p u) (counted_returned q p xs cs x inner)
     ∙ ap (if_room (has_room q sizes p u))
-        (returned-uncounted q p xs cs x inner ∙ ap (returned q p xs cs x) (evaluate-uncounted q sizes n (body_of q p) (with_call q p u) (copied_in q p xs x) (call_spend q p t)))
+    (returned-uncounted q p xs cs x inner ∙ ap (returned q p xs cs x) (evaluate-uncounted q sizes n (body_of q p) (with_call q p u) (copied_in q p xs x) (call_spend q p t)))
 evaluate-uncounted q sizes (suc n) (Apply place r args) u x t = applied-uncounted r args (predef_effect r (values_of x args)) x t
 
 main-uncounted : (q : Program) (o : CountedOutcome) → uncounted (counted_main_end q o) ≡ main_end q (uncounted o)

@@ -1,20 +1,19 @@
 -- The end of a procedure for which another waits.
-use Rattle.std.proofs.Common.{◌≡◌, ℕ, zero, suc, ◌+◌, ◌-◌, ◌^◌, min, List, [], ◌∷◌, ◌++◌, length, map, reverse, take, Bool, true, false, Some, refl, sym, ap, ◌∙◌, arith}
+use Rattle.std.proofs.Common.{◌≡◌, ℕ, zero, suc, ◌+◌, ◌-◌, List, [], ◌∷◌, ◌++◌, length, map, take, Bool, true, false, Some, refl, sym, ap, ◌∙◌, arith}
 use Rattle.std.specs.Prelude.{slice_get}
 use Rattle.std.proofs.lemmas.List.{reverse-append}
 use Rattle.stack_text.specs.Values.{ValueOf}
 use Rattle.gypsy_syntax.specs.Programs.{Cond, Program}
 use Rattle.gypsy_space.specs.Costs.{Tally, spend, out_spend}
-use Rattle.gypsy_space.specs.Nodes.{seen_cond}
 use Rattle.gypsy_space.specs.Needs.{Words}
 use Rattle.gypsy_space.specs.Events.{event_count}
 use Rattle.gypsy_space.specs.declared.event.CostEvent.TheVariants as event
 use Rattle.gypsy_space.specs.declared.need.Need.{Need}
-use Rattle.gypsy_meaning.specs.Calls.{copied_out, is_formal, matching}
+use Rattle.gypsy_meaning.specs.Calls.{copied_out, is_formal}
 use Rattle.gypsy_meaning.specs.Machine.{Item, Out, At, Next, Move, gypsy_step, settle, raise}
 use Rattle.gypsy_meaning.specs.Machine as machine
 use Rattle.gypsy_meaning.specs.Returning.{HasResumed, IsLast, RaisesTo, out_price, paid}
-use Rattle.gypsy_meaning.specs.Running.{Goes, Shows, frame_of, frames_of, state_of}
+use Rattle.gypsy_meaning.specs.Running.{Goes, frame_of, frames_of, state_of}
 use Rattle.gypsy_meaning.specs.Work.{caught_spend, work_of}
 use Rattle.gypsy_meaning.specs.declared.running.Frame.{Frame}
 use Rattle.gypsy_meaning.specs.declared.running.Meaning.{Meaning}
@@ -53,11 +52,12 @@ end_goes q sizes ns m n w nothing last resumed t e =
     let step : gypsy_step q sizes (state_of m t) ≡ Next (At f.procedure y (settle (work_of f.work.value)) (frames_of gs) u) =
     ap (λ (v : List Item). gypsy_step q sizes (At m.procedure x v (frames_of m.waiting.items) t)) nothing
     ∙ ap (λ (fs : List machine.Frame). gypsy_step q sizes (At m.procedure x [] fs t)) (ap frames_of last.2 ∙ frames_of-push gs f) in
-    let shown : n.counted ≡ m.counted = r.counted in
-    (u,
-    step ∙ same_state f.procedure n.procedure y (map (λ v. v.1) n.variables.items) (settle (work_of f.work.value)) (work_of n.work.value) (frames_of gs) (frames_of n.waiting.items) u
-        (sym r.procedure) (sym r.values) (sym last.3 ∙ sym r.work) (ap frames_of (sym both.0)),
-    omega (arith, e, shown))
+    let shown : n.counted ≡ m.counted = r.counted in (
+      u,
+      step ∙ same_state f.procedure n.procedure y (map (λ v. v.1) n.variables.items) (settle (work_of f.work.value)) (work_of n.work.value) (frames_of gs) (frames_of n.waiting.items) u
+          (sym r.procedure) (sym r.values) (sym last.3 ∙ sym r.work) (ap frames_of (sym both.0)),
+      omega (arith, e, shown),
+    )
 
 out_paid : (formal caught : Bool) (t : Tally) → (caught_spend caught (out_spend formal t)).count ≡ t.count + out_price formal caught
 unfolding spend out_spend
@@ -83,8 +83,9 @@ leave_goes q sizes m n w caught d below out last resumed t e =
     ∙ ap (λ (fs : List machine.Frame). gypsy_step q sizes (At m.procedure x (Out d ∷ below) fs t)) (ap frames_of last.2 ∙ frames_of-push gs f)
     ∙ ap Next (last.3 f.procedure y (frames_of gs) left) in
     let shown : n.counted ≡ m.counted = r.counted in
-    let spent : u.count ≡ t.count + out_price formal caught = out_paid formal caught t in
-    (u,
-    step ∙ same_state f.procedure n.procedure y (map (λ v. v.1) n.variables.items) (work_of w) (work_of n.work.value) (frames_of gs) (frames_of n.waiting.items) u
-        (sym r.procedure) (sym r.values) (sym r.work) (ap frames_of (sym both.0)),
-    omega (arith, e, shown, spent))
+    let spent : u.count ≡ t.count + out_price formal caught = out_paid formal caught t in (
+      u,
+      step ∙ same_state f.procedure n.procedure y (map (λ v. v.1) n.variables.items) (work_of w) (work_of n.work.value) (frames_of gs) (frames_of n.waiting.items) u
+          (sym r.procedure) (sym r.values) (sym r.work) (ap frames_of (sym both.0)),
+      omega (arith, e, shown, spent),
+    )

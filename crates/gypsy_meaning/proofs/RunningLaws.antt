@@ -1,19 +1,18 @@
 -- What the code's counters show.
-use Rattle.std.proofs.Common.{◌≡◌, ℕ, ◌+◌, ◌-◌, ◌^◌, ◌<◌, length, min, List, ◌∷◌, map, slice_set, Bool, true, false, refl, ap, sym, ◌∙◌, arith}
+use Rattle.std.proofs.Common.{◌≡◌, ℕ, ◌+◌, List, map, slice_set, Bool, true, false, refl, ap, sym, ◌∙◌, arith}
 use Rattle.stack_text.specs.Values.{ValueOf}
 use Rattle.gypsy_syntax.specs.Programs.{Program}
-use Rattle.gypsy_space.specs.Nodes.{seen_program}
 use Rattle.gypsy_space.specs.Costs.{Tally, spend, predef_spend}
-use Rattle.gypsy_space.specs.Needs.{Words, call_spend}
-use Rattle.gypsy_space.specs.Events.{AreNeeds, need_at, need_of, event_count, event_spend, predef_count}
+use Rattle.gypsy_space.specs.Needs.{Words}
+use Rattle.gypsy_space.specs.Events.{event_count, event_spend, predef_count}
 use Rattle.gypsy_space.specs.declared.event.CostEvent.{CostEvent}
 use Rattle.gypsy_space.specs.declared.event.CostEvent.TheVariants as event
 use Rattle.gypsy_space.specs.declared.need.Need.{Need}
-use Rattle.gypsy_meaning.specs.Machine.{State, At, Next, gypsy_step}
+use Rattle.gypsy_meaning.specs.Machine.{At, Next}
 use Rattle.gypsy_meaning.specs.Work.{work_of, caught_spend}
 use Rattle.gypsy_meaning.specs.Turns.{IsPlain, GoesOn}
 use Rattle.gypsy_meaning.specs.Applied.{WritesOn}
-use Rattle.gypsy_meaning.specs.Running.{Shows, price, advanced, Goes, state_of, frames_of}
+use Rattle.gypsy_meaning.specs.Running.{price, advanced, Goes, frames_of}
 use Rattle.gypsy_meaning.specs.declared.turn.Advance.{Advance}
 use Rattle.gypsy_meaning.specs.declared.running.Meaning.{Meaning}
 
@@ -53,8 +52,9 @@ advance_goes q sizes ns a m goes t e =
 pub write_goes : (q : Program) (sizes : Words) (ns : List Need) (i : ℕ) (v : ValueOf) (a : Advance) (m n : Meaning) → WritesOn (map (λ w. w.1) m.variables.items) (work_of m.work.value) i v a → map (λ w. w.1) n.variables.items ≡ slice_set (map (λ w. w.1) m.variables.items) i v → Goes q sizes m (advanced ns a (record m { variables = n.variables }))
 write_goes q sizes ns i v a m n goes wrote t e =
     let u = event_spend q a.event t in
-    let paid : (caught_spend a.caught u).count ≡ t.count + price ns a.event a.caught = caught_is a.caught ns a.event t u (plain_table q ns a.event goes.0 t) in
-    (caught_spend a.caught u,
-    goes.1 q sizes m.procedure (frames_of m.waiting.items) t ∙
-    ap (λ x. Next (At m.procedure x (work_of a.work.value) (frames_of m.waiting.items) (caught_spend a.caught u))) (sym wrote),
-    omega (arith, e, paid))
+    let paid : (caught_spend a.caught u).count ≡ t.count + price ns a.event a.caught = caught_is a.caught ns a.event t u (plain_table q ns a.event goes.0 t) in (
+      caught_spend a.caught u,
+      goes.1 q sizes m.procedure (frames_of m.waiting.items) t ∙
+          ap (λ x. Next (At m.procedure x (work_of a.work.value) (frames_of m.waiting.items) (caught_spend a.caught u))) (sym wrote),
+      omega (arith, e, paid),
+    )

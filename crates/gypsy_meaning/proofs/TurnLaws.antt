@@ -1,11 +1,11 @@
 -- Steps that open what is on top.
-use Rattle.std.proofs.Common.{◌≡◌, ℕ, List, [], ◌∷◌, drop, refl, ap, sym, ◌∙◌, subst}
+use Rattle.std.proofs.Common.{◌≡◌, ℕ, List, [], ◌∷◌, refl, sym, subst}
 use Rattle.std.specs.declared.rc.Rc.{Rc}
 use Rattle.std.specs.declared.alloc.Global.{Global}
 use Rattle.stack_text.specs.Values.{ValueOf}
-use Rattle.gypsy_syntax.specs.Programs.{Stmt, Skip, Seq, Begin, Cond}
+use Rattle.gypsy_syntax.specs.Programs.{Stmt, Begin, Cond}
 use Rattle.gypsy_space.specs.declared.program.Node.{Node}
-use Rattle.gypsy_space.specs.Nodes.{seen_statement, seen_statements}
+use Rattle.gypsy_space.specs.Nodes.{seen_statements}
 use Rattle.gypsy_meaning.specs.Machine.{Item, Do, open_on}
 use Rattle.gypsy_meaning.specs.Turns.{OpensTo, GoesOn}
 use Rattle.gypsy_meaning.specs.declared.turn.Advance.{Advance}

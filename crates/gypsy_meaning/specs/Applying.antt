@@ -1,8 +1,6 @@
 -- Effects of predefined calls, as the code has them.
 use Rattle.std.specs.Prelude.{ℕ, List, map, get_or, ◌&&◌, ◌||◌, not, int_le, neg_ℤ, ◌+ℤ◌, ◌-ℤ◌}
 use Rattle.stack_text.specs.Values.{ValueOf}
-use Rattle.stack_text.specs.declared.name.Name.{Name}
-use Rattle.stack_text.specs.declared.value.Value.{Value}
 use Rattle.gypsy_syntax.specs.Programs.{Lit}
 use Rattle.gypsy_syntax.specs.Effects.{Effect, no_value, truth_value, item_of_value, is_true_value, are_same}
 use Rattle.gypsy_syntax.specs.Effects.{number_effect, indexed, stored}

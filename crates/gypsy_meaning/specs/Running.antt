@@ -1,10 +1,7 @@
 -- The state of the step machine, as the code keeps it.
-use Rattle.std.specs.Prelude.{◌≡◌, ℕ, ◌+◌, ◌-◌, ◌^◌, List, [], ◌∷◌, map, min, reverse, Bool, true, false, Option, Some, None}
-use Rattle.stack_text.specs.Values.{ValueOf}
-use Rattle.stack_text.specs.declared.name.Name.{Name}
-use Rattle.stack_text.specs.declared.value.Value.{Value}
+use Rattle.std.specs.Prelude.{◌≡◌, ℕ, ◌+◌, ◌-◌, ◌^◌, List, map, min, reverse, Bool, true, false, Option, Some, None}
 use Rattle.gypsy_syntax.specs.Programs.{Program}
-use Rattle.gypsy_space.specs.Nodes.{seen_cond, seen_program}
+use Rattle.gypsy_space.specs.Nodes.{seen_cond}
 use Rattle.gypsy_space.specs.Costs.{Tally}
 use Rattle.gypsy_space.specs.Needs.{Words}
 use Rattle.gypsy_space.specs.Events.{event_count}

@@ -1,7 +1,5 @@
 -- What a step does with the top of the work.
 use Rattle.std.specs.Prelude.{◌≡◌, ℕ, List, [], ◌∷◌, map}
-use Rattle.std.specs.declared.rc.Rc.{Rc}
-use Rattle.std.specs.declared.alloc.Global.{Global}
 use Rattle.stack_text.specs.Values.{ValueOf}
 use Rattle.gypsy_syntax.specs.Programs.{Program, Apply, Call, Routine}
 use Rattle.gypsy_syntax.specs.declared.predef.Predef.{Predef}

@@ -13,8 +13,7 @@ ghost use Rattle.gypsy_meaning.specs.Applied.{IsApplied};
 use crate::effects::{Effected, apply};
 use crate::turn::Advance;
 use crate::work::{Work, raise, settled};
-use gypsy_space::{Application, Argument, Condition};
-use gypsy_space::{CostEvent, Outcome};
+use gypsy_space::{Application, Argument, Condition, CostEvent, Outcome};
 use gypsy_syntax::Predef;
 use stack_text::{Name, Value};
 use std::alloc::{AllocError, Global};
@@ -79,17 +78,7 @@ pub fn application(
                 caught: false,
             },
         )),
-        Effected::Fault => Ok(Applied::Fails(fail(
-            alloc,
-            call.which,
-            Outcome::Fault,
-            below,
-        )?)),
-        Effected::Beyond => Ok(Applied::Fails(fail(
-            alloc,
-            call.which,
-            Outcome::Beyond,
-            below,
-        )?)),
+        Effected::Fault => Ok(Applied::Fails(fail(alloc, call.which, Outcome::Fault, below)?)),
+        Effected::Beyond => Ok(Applied::Fails(fail(alloc, call.which, Outcome::Beyond, below)?)),
     }
 }

@@ -96,11 +96,7 @@ fn number(alloc: Global, number: i64) -> Result<Effected, AllocError>
     ensures { IfOk result (λ e. effect_of e ≡ number_effect number) }
 {
     if -2_147_483_648 <= number && number <= 2_147_483_647 {
-        Ok(Effected::Normal(simple_value(
-            alloc,
-            Kind::Integer,
-            number as i32,
-        )?))
+        Ok(Effected::Normal(simple_value(alloc, Kind::Integer, number as i32)?))
     } else {
         Ok(Effected::Fault)
     }
@@ -121,22 +117,13 @@ fn indexed(alloc: Global, array: &Value, index: i32) -> Result<Effected, AllocEr
         return Ok(Effected::Fault);
     }
     match array.items.get(index as usize) {
-        Some(item) => Ok(Effected::Normal(simple_value(
-            alloc,
-            array.shape.kind,
-            *item,
-        )?)),
+        Some(item) => Ok(Effected::Normal(simple_value(alloc, array.shape.kind, *item)?)),
         None => Ok(Effected::Beyond),
     }
 }
 
 /// The array with another item at an index.
-fn stored(
-    alloc: Global,
-    array: &Value,
-    index: i32,
-    item: i32,
-) -> Result<Effected, AllocError>
+fn stored(alloc: Global, array: &Value, index: i32, item: i32) -> Result<Effected, AllocError>
     ensures { IfOk result (λ e. effect_of e ≡ stored array.now index item) }
 {
     if index < 0 {

@@ -15,4 +15,6 @@ pub mod turn;
 pub mod work;
 pub mod writing;
 
-pub use laws::{counting_changes_nothing, meanings_agree, start_fits, steps_keep_fit, steps_keep_room};
+pub use laws::{
+    counting_changes_nothing, meanings_agree, start_fits, steps_keep_fit, steps_keep_room,
+};

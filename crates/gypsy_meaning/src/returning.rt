@@ -102,7 +102,9 @@ fn out_price(needs: &Needs, formal: bool, caught: bool) -> u64
     } else {
         CostEvent::OutOther
     };
-    let left = needs.cost(event).saturating_add(needs.cost(CostEvent::ReturnRaised));
+    let left = needs
+        .cost(event)
+        .saturating_add(needs.cost(CostEvent::ReturnRaised));
     if caught {
         left.saturating_add(needs.cost(CostEvent::Caught))
     } else {

@@ -14,8 +14,7 @@ use crate::applying::{Applied, application};
 use crate::turn::{Advance, Turn, next_turn};
 use crate::work::Work;
 use crate::writing::write;
-use gypsy_space::{Application, CallSite, Program};
-use gypsy_space::{CostEvent, Needs};
+use gypsy_space::{Application, CallSite, CostEvent, Needs, Program};
 use stack_text::{Name, Value};
 use std::alloc::{AllocError, Global};
 use std::rc::Rc;
@@ -106,18 +105,16 @@ impl Meaning {
         ensures unchanged { IfErr result (λ e. self.new ≡ self.old) }
     {
         match application(alloc, self.variables.as_slice(), call, below)? {
-            Applied::Writes(variable, value, advance) => self.write(needs, variable, value, advance),
+            Applied::Writes(variable, value, advance) => self.write(
+                needs, variable, value, advance,
+            ),
             Applied::Fails(advance) => self.go(needs, advance),
         }
         Ok(())
     }
 
     /// Makes a step, or tells what it is to be where it is a call, an end or a condition that leaves a procedure.
-    pub fn step_within(
-        &mut self,
-        alloc: Global,
-        needs: &Needs,
-    ) -> Result<Option<Turn>, AllocError>
+    pub fn step_within(&mut self, alloc: Global, needs: &Needs) -> Result<Option<Turn>, AllocError>
         requires small { AreSmall needs.now.procedures.items }
         ensures done { IfOk result (IsWithin self.old self.new) }
         ensures unchanged { IfErr result (λ e. self.new ≡ self.old) }

@@ -10,8 +10,7 @@ ghost use Rattle.gypsy_meaning.specs.Work.{work_of};
 ghost use Rattle.gypsy_meaning.specs.Turns.{GoesOn, IsTurn};
 
 use crate::work::{Item, Work, opened, opened_parts, put, raise, settled};
-use gypsy_space::{Application, CallSite, Condition, Node};
-use gypsy_space::CostEvent;
+use gypsy_space::{Application, CallSite, Condition, CostEvent, Node};
 use stack_text::{Name, Value};
 use std::alloc::{AllocError, Global};
 use std::rc::Rc;

@@ -1,4 +1,4 @@
-use Rattle.std.proofs.Common.{◌≡◌, List, map, false, refl, ap, ◌∙◌}
+use Rattle.std.proofs.Common.{List, map, false, refl, ap, ◌∙◌}
 use Rattle.stack_text.specs.Values.{ValueOf}
 use Rattle.gypsy_space.specs.Nodes.{seen_arg}
 use Rattle.gypsy_space.specs.declared.event.CostEvent.TheVariants as event

@@ -1,8 +1,8 @@
-use Rattle.std.proofs.Common.{◌≡◌, ◌∷◌, List, ℕ, suc, drop, length, ◌<◌, ◌≤◌, ◌+◌, get_or, ap, sym, ◌∙◌, rules, arith, IfOk}
+use Rattle.std.proofs.Common.{◌≡◌, ◌∷◌, List, suc, drop, length, ◌<◌, ◌≤◌, ◌+◌, get_or, ap, sym, ◌∙◌, rules, arith}
 use Rattle.std.specs.declared.rc.Rc.{Rc}
 use Rattle.std.specs.declared.alloc.Global.{Global}
 use Rattle.gypsy_space.specs.declared.program.Node.{Node}
-use Rattle.gypsy_meaning.specs.Machine.{Item, Do, opens}
+use Rattle.gypsy_meaning.specs.Machine.{Do, opens}
 use Rattle.gypsy_space.specs.Nodes.{seen_statement, seen_statements}
 use Rattle.gypsy_meaning.specs.Work.{work_of, work_or}
 use Rattle.gypsy_space.proofs.NodeLaws.{seen_statement-seq}
@@ -25,10 +25,10 @@ open_parts-returns-in-Some t c =
     let lt : k < length ns = omega (arith, same, c.loop-index-test.true, c.len-index-end.ensures) in
     let at : n ≡ get_or ns k n = search rules in
     λ ws.
-      let rest = opens (seen_statements (drop (suc k) ns)) w ws in
-      c.loop-index.invariant ws ∙ part_opens ns k n w ws lt at ∙
-      ap (λ v. opens (seen_statement n.value) v rest) (sym later) ∙
-      c.in_ok-opened.ensures rest ∙ ap (λ o. work_or o rest) c.in-Some.is
+    let rest = opens (seen_statements (drop (suc k) ns)) w ws in
+    c.loop-index.invariant ws ∙ part_opens ns k n w ws lt at ∙
+    ap (λ v. opens (seen_statement n.value) v rest) (sym later) ∙
+    c.in_ok-opened.ensures rest ∙ ap (λ o. work_or o rest) c.in-Some.is
 
 pub open_parts-loop-index-preserved : goal.open_parts-loop-index-preserved
 open_parts-loop-index-preserved t c =
@@ -42,11 +42,11 @@ open_parts-loop-index-preserved t c =
     let lt : k < length ns = omega (arith, same, c.loop-index-test.true, c.len-index-end.ensures) in
     let at : n ≡ get_or ns k n = search rules in
     λ ws.
-      let rest = opens (seen_statements (drop (suc k) ns)) w ws in
-      c.loop-index.invariant ws ∙ part_opens ns k n w ws lt at ∙
-      ap (λ v. opens (seen_statement n.value) v rest) (sym later) ∙
-      c.in_ok-opened.ensures rest ∙ ap (λ o. work_or o rest) c.in_default.is ∙
-      ap (λ i. opens (seen_statements (drop i ns)) w ws) plus
+    let rest = opens (seen_statements (drop (suc k) ns)) w ws in
+    c.loop-index.invariant ws ∙ part_opens ns k n w ws lt at ∙
+    ap (λ v. opens (seen_statement n.value) v rest) (sym later) ∙
+    c.in_ok-opened.ensures rest ∙ ap (λ o. work_or o rest) c.in_default.is ∙
+    ap (λ i. opens (seen_statements (drop i ns)) w ws) plus
 
 pub open_parts-returns : goal.open_parts-returns
 open_parts-returns t c =

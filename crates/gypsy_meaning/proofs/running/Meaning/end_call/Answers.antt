@@ -1,5 +1,4 @@
 use Rattle.std.proofs.Common.{◌≡◌, ℕ, List, sym, subst}
-use Rattle.gypsy_space.specs.declared.event.CostEvent.TheVariants as event
 use Rattle.gypsy_meaning.specs.Machine.{settle}
 use Rattle.gypsy_meaning.specs.Returning.{IsLast, paid}
 use Rattle.gypsy_meaning.specs.Running.{Goes}
