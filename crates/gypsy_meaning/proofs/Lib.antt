@@ -10,3 +10,4 @@ mod RunningLaws
 mod ApplyLaws
 mod CopyLaws
 mod ReturningLaws
+mod CallingLaws

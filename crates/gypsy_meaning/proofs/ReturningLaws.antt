@@ -35,7 +35,7 @@ last_is (g ∷ fs) f P h p =
 pub frames_of-push : (fs : List Frame) (f : Frame) → frames_of (fs ++ f ∷ []) ≡ frame_of f ∷ frames_of fs
 frames_of-push fs f = ap (map frame_of) (reverse-append fs (f ∷ []))
 
-same_state : (p p' : ℕ) (x x' : List ValueOf) (w w' : List Item) (fs fs' : List machine.Frame) (t : Tally) → p ≡ p' → x ≡ x' → w ≡ w' → fs ≡ fs' → Next (At p x w fs t) ≡ Next (At p' x' w' fs' t)
+pub same_state : (p p' : ℕ) (x x' : List ValueOf) (w w' : List Item) (fs fs' : List machine.Frame) (t : Tally) → p ≡ p' → x ≡ x' → w ≡ w' → fs ≡ fs' → Next (At p x w fs t) ≡ Next (At p' x' w' fs' t)
 same_state p p' x x' w w' fs fs' t a b c d = cc
 
 pub end_goes : (q : Program) (sizes : Words) (ns : List Need) (m n : Meaning) (w : Work) → work_of m.work.value ≡ [] → IsLast m.waiting.items (λ f. work_of w ≡ settle (work_of f.work.value)) → HasResumed w m n →

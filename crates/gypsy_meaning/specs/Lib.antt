@@ -14,3 +14,4 @@ pub mod Turns
 pub mod Applying
 pub mod Applied
 pub mod Returning
+pub mod Calling

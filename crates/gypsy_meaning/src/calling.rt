@@ -1,17 +1,21 @@
 //! What a step does where a procedure is called.
 
-ghost use Rattle.std.specs.Prelude.{◌≡◌, ◌<◌, [], IfOk, length, map};
+ghost use Rattle.std.specs.Prelude.{◌≡◌, ◌<◌, [], ◌∷◌, IfErr, IfOk, MatchBool, length, map};
 ghost use Rattle.gypsy_syntax.specs.Programs.{body_of};
+ghost use Rattle.gypsy_space.specs.Events.{AreNeeds, AreSmall, need_at};
 ghost use Rattle.gypsy_space.specs.Nodes.{seen_program};
+ghost use Rattle.gypsy_meaning.specs.Calling.{Enters, IsFull, IsUnchanged, UsesWords, Waits, call_top, with_words};
 ghost use Rattle.gypsy_meaning.specs.Calls.{copied_in};
 ghost use Rattle.gypsy_meaning.specs.Machine.{open_on};
 ghost use Rattle.gypsy_meaning.specs.Work.{work_of};
 
 use crate::copying::copy_in;
+use crate::running::{Frame, Meaning};
 use crate::work::{Work, opened};
-use gypsy_space::{CallSite, Program};
+use gypsy_space::{CallSite, CostEvent, Needs, Program};
 use stack_text::{Name, Value};
 use std::alloc::{AllocError, Global};
+use std::mem;
 use std::rc::Rc;
 
 /// An activation at its start.
@@ -40,4 +44,82 @@ pub fn callee_start(
     let end = Rc::new(alloc, Work::End)?;
     let work = opened(alloc, &callee.body, &end)?;
     Ok(Start { variables, work })
+}
+
+impl Meaning {
+    /// Puts the active procedure to those that wait, at this call and with this work behind it; the callee's variables
+    /// are then the active ones.
+    fn wait(
+        &mut self,
+        variables: Vec<(Name, Value)>,
+        below: Rc<Work>,
+        site: Rc<CallSite>,
+    ) -> Result<(), AllocError>
+        ensures done { IfOk result (λ u. Waits self.old variables below site self.new) }
+        ensures unchanged { IfErr result (λ e. IsUnchanged self.old self.new) }
+    {
+        let frame = Frame {
+            procedure: self.procedure,
+            variables: mem::replace(&mut self.variables, variables),
+            work: below,
+            call: site,
+            used_temp: self.used_temp,
+            used_ctrl: self.used_ctrl,
+        };
+        match self.waiting.push(frame) {
+            Ok(()) => Ok(()),
+            Err(failed) => {
+                let Frame {
+                    procedure: _,
+                    variables,
+                    work: _,
+                    call: _,
+                    used_temp: _,
+                    used_ctrl: _,
+                } = failed.value;
+                self.variables = variables;
+                Err(AllocError)
+            }
+        }
+    }
+
+    /// The words in use of both stacks, with those of a callee's locals and frame.
+    fn use_words(&mut self, needs: &Needs, callee: u32)
+        ensures { self.new ≡ with_words (need_at needs.now.procedures.items callee) self.old }
+    {
+        let need = needs.need_of(callee);
+        self.used_temp = self.used_temp.saturating_add(need.locals_words);
+        self.used_ctrl = self.used_ctrl.saturating_add(need.vars.saturating_add(2));
+    }
+
+    /// Makes the step of a call; `false` where the call has no room, and nothing is changed then.
+    pub fn enter_call(
+        &mut self,
+        alloc: Global,
+        needs: &Needs,
+        site: Rc<CallSite>,
+        below: Rc<Work>,
+    ) -> Result<bool, AllocError>
+        requires small { AreSmall needs.now.procedures.items }
+        requires needs { AreNeeds (seen_program self.old.program) needs.now.procedures.items }
+        requires callee { site.value.callee < length self.old.program.procedures.items }
+        requires turn { work_of self.old.work.value ≡ call_top site.value ∷ work_of below.value }
+        requires used { UsesWords self.old }
+        ensures done { IfOk result (λ entered. MatchBool entered
+            (Enters self.old self.new) ((self.new ≡ self.old) × IsFull self.old)) }
+        ensures unchanged { IfErr result (λ e. IsUnchanged self.old self.new) }
+    {
+        let callee = site.callee;
+        if !needs.room(callee, self.used_temp, self.used_ctrl, self.temp, self.ctrl) {
+            return Ok(false);
+        }
+        let Start { variables, work } =
+            callee_start(alloc, &self.program, self.variables.as_slice(), &site)?;
+        self.wait(variables, below, site)?;
+        self.procedure = callee;
+        self.work = work;
+        self.use_words(needs, callee);
+        self.pay(needs.cost(CostEvent::Call { callee }));
+        Ok(true)
+    }
 }

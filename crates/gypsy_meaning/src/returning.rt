@@ -137,7 +137,7 @@ impl Meaning {
     }
 
     /// Counts a step of this cost.
-    fn pay(&mut self, cost: u64)
+    pub(crate) fn pay(&mut self, cost: u64)
         ensures { self.new ≡ paid cost self.old }
     {
         self.counted = self.counted.saturating_add(cost);

@@ -1,6 +1,6 @@
 mod FirstLaws
 mod CappedLaws
-mod EventLaws
+pub mod EventLaws
 pub mod NodeLaws
 mod PositionLaws
 mod ResolveLaws

@@ -29,7 +29,7 @@ pub struct Needs {
 
 impl Needs {
     /// What a procedure needs, or nothing where there is no such procedure.
-    fn need_of(&self, procedure: u32) -> Need
+    pub fn need_of(&self, procedure: u32) -> Need
         ensures { result ≡ need_at self.now.procedures.items procedure }
     {
         match self.procedures.get(procedure as usize) {

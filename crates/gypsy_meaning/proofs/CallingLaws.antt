@@ -1,0 +1,111 @@
+-- The call of a procedure.
+use Rattle.std.proofs.Common.{◌≡◌, ℕ, ◌+◌, ◌^◌, ◌<◌, ◌≤◌, max, min, nat_le, ◌&&◌, List, [], ◌∷◌, ◌++◌, length, map, Bool, true, false, refl, sym, ap, ap₂, ◌∙◌, subst, arith}
+use Rattle.std.specs.declared.alloc.Global.{Global}
+use Rattle.std.specs.declared.rc.Rc.{Rc}
+use Rattle.std.specs.Global.{Vec}
+use Rattle.std.proofs.lemmas.Bool.{and_parts, leb-true}
+use Rattle.stack_text.specs.Values.{ValueOf}
+use Rattle.stack_text.specs.declared.name.Name.{Name}
+use Rattle.stack_text.specs.declared.value.Value.{Value}
+use Rattle.gypsy_syntax.specs.Programs.{Program, body_of}
+use Rattle.gypsy_space.specs.Costs.{Tally}
+use Rattle.gypsy_space.specs.Needs.{Words, call_spend, has_room, stack_words, with_call}
+use Rattle.gypsy_space.specs.Nodes.{seen_cond, seen_program}
+use Rattle.gypsy_space.specs.Events.{AreNeeds, event_count, has_room_by, need_at, need_of}
+use Rattle.gypsy_space.specs.declared.event.CostEvent.TheVariants as event
+use Rattle.gypsy_space.specs.declared.need.Need.{Need}
+use Rattle.gypsy_space.specs.declared.program.CallSite.{CallSite}
+use Rattle.gypsy_space.proofs.EventLaws.{call_table, room_same}
+use Rattle.gypsy_meaning.specs.Calling.{Enters, IsFull, UsesWords, Waits, call_top, with_words}
+use Rattle.gypsy_meaning.specs.Calls.{copied_in}
+use Rattle.gypsy_meaning.specs.Machine.{Item, At, Next, State, full_or, gypsy_step, open_on, used}
+use Rattle.gypsy_meaning.specs.Machine as machine
+use Rattle.gypsy_meaning.specs.Returning.{paid}
+use Rattle.gypsy_meaning.specs.Running.{Goes, frame_of, frames_of, sizes_of, state_of}
+use Rattle.gypsy_meaning.specs.Work.{work_of}
+use Rattle.gypsy_meaning.specs.declared.running.Meaning.{Meaning}
+use Rattle.gypsy_meaning.specs.declared.work.Work.{Work}
+use Rattle.gypsy_meaning.proofs.ReturningLaws.{frames_of-push, same_state}
+
+module _ (m : Meaning) (ns : List Need) (site : CallSite) (below : List Item) (needs : AreNeeds (seen_program m.program) ns) (there : site.callee < length (seen_program m.program).procs)
+    (turn : work_of m.work.value ≡ call_top site ∷ below) (counts : UsesWords m) where
+  abbrev q : Program
+  q = seen_program m.program
+
+  abbrev x : List ValueOf
+  x = map (λ v. v.1) m.variables.items
+
+  -- the callee's activation
+  abbrev entered : Tally → State
+  entered t =
+      At site.callee (copied_in q site.callee site.actuals.items x) (open_on (body_of q site.callee) [])
+      (machine.Held m.procedure x below site.actuals.items (map seen_cond site.conds.items) ∷ frames_of m.waiting.items) (call_spend q site.callee t)
+
+  pub room_is : has_room q (sizes_of m) site.callee (used q m.procedure (frames_of m.waiting.items)) ≡ has_room_by (need_at ns site.callee) (sizes_of m) (stack_words m.used_temp m.used_ctrl)
+  room_is =
+      ap (has_room q (sizes_of m) site.callee) counts
+      ∙ room_same q (sizes_of m) site.callee (stack_words m.used_temp m.used_ctrl)
+      ∙ ap (λ (n : Need). has_room_by n (sizes_of m) (stack_words m.used_temp m.used_ctrl)) (sym (needs.each site.callee there))
+
+  pub call_step : (b : Bool) → has_room_by (need_at ns site.callee) (sizes_of m) (stack_words m.used_temp m.used_ctrl) ≡ b → (t : Tally) → gypsy_step q (sizes_of m) (state_of m t) ≡ full_or b (entered t)
+  call_step b h t =
+      ap (λ (w : List Item). gypsy_step q (sizes_of m) (At m.procedure x w (frames_of m.waiting.items) t)) turn
+      ∙ ap (λ (c : Bool). full_or c (entered t)) (room_is ∙ h)
+
+  pub is_full : has_room_by (need_at ns site.callee) (sizes_of m) (stack_words m.used_temp m.used_ctrl) ≡ false → IsFull m
+  is_full h t = call_step false h t
+
+-- the state after the step, from the one in which the caller waits
+abbrev pub after_call : List Need → ℕ → Rc Work Global → Meaning → Meaning
+after_call ns callee w a = paid (event_count ns (event.Call callee)) (with_words (need_at ns callee) (record a { procedure = callee; work = w }))
+
+module _ (m a : Meaning) (ns : List Need) (site : Rc CallSite Global) (below w : Rc Work Global) (vars : Vec (Name × Value)) (needs : AreNeeds (seen_program m.program) ns) (there : site.value.callee < length (seen_program m.program).procs)
+    (turn : work_of m.work.value ≡ call_top site.value ∷ work_of below.value) (counts : UsesWords m) (room : has_room_by (need_at ns site.value.callee) (sizes_of m) (stack_words m.used_temp m.used_ctrl) ≡ true)
+    (values : map (λ v. v.1) vars.items ≡ copied_in (seen_program m.program) site.value.callee site.value.actuals.items (map (λ v. v.1) m.variables.items))
+    (body : work_of w.value ≡ open_on (body_of (seen_program m.program) site.value.callee) []) (waits : Waits m vars below site a) where
+  abbrev after : Meaning
+  after = after_call ns site.value.callee w a
+
+  frames_are : frames_of a.waiting.items ≡ machine.Held m.procedure (map (λ v. v.1) m.variables.items) (work_of below.value) site.value.actuals.items (map seen_cond site.value.conds.items) ∷ frames_of m.waiting.items
+  frames_are = ap frames_of waits.waiting ∙ frames_of-push m.waiting.items _
+
+  pub enter_goes : Goes (seen_program m.program) (sizes_of m) m after
+  enter_goes t e =
+      let r = seen_program m.program in
+      let c = site.value.callee in
+      let u : Tally = call_spend r c t in
+      let shown : a.counted ≡ m.counted = ap (λ (k : Meaning). k.counted) waits.others in
+      let spent : u.count ≡ t.count + event_count ns (event.Call c) = call_table r ns needs c there t in
+      let held : map (λ v. v.1) a.variables.items ≡ map (λ v. v.1) vars.items = ap (λ (k : Meaning). map (λ v. v.1) k.variables.items) waits.others in
+      (u,
+      call_step m ns site.value (work_of below.value) needs there turn counts true room t
+      ∙ same_state c c (copied_in r c site.value.actuals.items (map (λ v. v.1) m.variables.items)) (map (λ v. v.1) a.variables.items) (open_on (body_of r c) []) (work_of w.value)
+          (machine.Held m.procedure (map (λ v. v.1) m.variables.items) (work_of below.value) site.value.actuals.items (map seen_cond site.value.conds.items) ∷ frames_of m.waiting.items) (frames_of a.waiting.items) u
+          refl (sym values ∙ sym held) (sym body) (sym frames_are),
+      omega (arith, e, shown, spent))
+
+  pub enter_uses : m.temp < 2 ^ 32 → m.ctrl < 2 ^ 32 → UsesWords after
+  unfolding has_room_by with_call
+  enter_uses lt_temp lt_ctrl =
+      let n = need_at ns site.value.callee in
+      let c = site.value.callee in
+      let r = seen_program m.program in
+      let parts = and_parts (nat_le (m.used_temp + max (n.locals_words + n.vars) (n.locals_words + n.temp)) m.temp) (nat_le (m.used_ctrl + (2 + n.vars + n.ctrl)) m.ctrl) room in
+      let temp : m.used_temp + max (n.locals_words + n.vars) (n.locals_words + n.temp) ≤ m.temp = leb-true _ _ parts.0 in
+      let ctrl : m.used_ctrl + (2 + n.vars + n.ctrl) ≤ m.ctrl = leb-true _ _ parts.1 in
+      let same_temp : a.used_temp ≡ m.used_temp = ap (λ (k : Meaning). k.used_temp) waits.others in
+      let same_ctrl : a.used_ctrl ≡ m.used_ctrl = ap (λ (k : Meaning). k.used_ctrl) waits.others in
+      let program : a.program ≡ m.program = ap (λ (k : Meaning). k.program) waits.others in
+      let exact : n ≡ need_of r c = needs.each c there in
+      let new_temp : after.used_temp ≡ m.used_temp + n.locals_words = omega (arith, temp, lt_temp, same_temp) in
+      let new_ctrl : after.used_ctrl ≡ m.used_ctrl + (2 + n.vars) = omega (arith, ctrl, lt_ctrl, same_ctrl) in
+      ap (λ (p : _). used (seen_program p) c (frames_of a.waiting.items)) program
+      ∙ ap (used r c) frames_are
+      ∙ ap (with_call r c) counts
+      ∙ ap₂ stack_words
+          (ap (λ (k : Need). m.used_temp + k.locals_words) (sym exact) ∙ sym new_temp)
+          (ap (λ (k : Need). m.used_ctrl + (2 + k.vars)) (sym exact) ∙ sym new_ctrl)
+
+  pub enters : (n : Meaning) → n ≡ after → m.temp < 2 ^ 32 → m.ctrl < 2 ^ 32 → Enters m n
+  enters n is lt_temp lt_ctrl =
+      subst (Enters m) (sym is) (record { goes = enter_goes; used_words = enter_uses lt_temp lt_ctrl; program = ap (λ (k : Meaning). k.program) waits.others })

@@ -1,0 +1,57 @@
+-- The call of a procedure, as the code has it.
+use Rattle.std.specs.Prelude.{◌≡◌, ℕ, ◌+◌, ◌^◌, List, [], ◌∷◌, ◌++◌, map, min}
+use Rattle.std.specs.declared.alloc.Global.{Global}
+use Rattle.std.specs.declared.rc.Rc.{Rc}
+use Rattle.std.specs.Global.{Vec}
+use Rattle.stack_text.specs.declared.name.Name.{Name}
+use Rattle.stack_text.specs.declared.value.Value.{Value}
+use Rattle.gypsy_syntax.specs.Programs.{Call}
+use Rattle.gypsy_space.specs.Costs.{Tally}
+use Rattle.gypsy_space.specs.Needs.{stack_words}
+use Rattle.gypsy_space.specs.Nodes.{seen_cond, seen_program}
+use Rattle.gypsy_space.specs.declared.need.Need.{Need}
+use Rattle.gypsy_space.specs.declared.program.CallSite.{CallSite}
+use Rattle.gypsy_meaning.specs.Machine.{Item, Do, Full, gypsy_step, used}
+use Rattle.gypsy_meaning.specs.Running.{Goes, added, frames_of, sizes_of, state_of}
+use Rattle.gypsy_meaning.specs.declared.running.Frame.{Frame}
+use Rattle.gypsy_meaning.specs.declared.running.Meaning.{Meaning}
+use Rattle.gypsy_meaning.specs.declared.work.Work.{Work}
+
+-- the item of a call
+abbrev pub call_top : CallSite → Item
+call_top site = Do (Call site.place site.callee site.actuals.items (map seen_cond site.conds.items))
+
+-- what the counters say of the words in use
+abbrev pub UsesWords : Meaning → Type 0
+UsesWords m = used (seen_program m.program) m.procedure (frames_of m.waiting.items) ≡ stack_words m.used_temp m.used_ctrl
+
+-- a call was entered
+pub record Enters (m n : Meaning) : Type 0 where
+  pub goes : Goes (seen_program m.program) (sizes_of m) m n
+  pub used_words : UsesWords n
+  pub program : n.program ≡ m.program
+
+-- the step is a call without room
+abbrev pub IsFull : Meaning → Type 0
+IsFull m = (t : Tally) → gypsy_step (seen_program m.program) (sizes_of m) (state_of m t) ≡ Full
+
+-- all that is seen is as it was
+pub record IsUnchanged (m n : Meaning) : Type 0 where
+  pub waiting : n.waiting.items ≡ m.waiting.items
+  pub others : n ≡ record m { waiting = n.waiting }
+
+-- the active procedure waits at this call, with this work behind it
+pub record Waits (m : Meaning) (variables : Vec (Name × Value)) (below : Rc Work Global) (site : Rc CallSite Global) (n : Meaning) : Type 0
+    where
+  pub waiting : n.waiting.items ≡ m.waiting.items ++ record {
+    procedure = m.procedure;
+    variables = m.variables;
+    work = below;
+    call = site;
+    used_temp = m.used_temp;
+    used_ctrl = m.used_ctrl;
+  } ∷ []
+  pub others : n ≡ record m { variables = variables; waiting = n.waiting }
+
+abbrev pub with_words : Need → Meaning → Meaning
+with_words need m = record m { used_temp = added m.used_temp need.locals_words; used_ctrl = added m.used_ctrl (added need.vars 2) }
