@@ -1,5 +1,5 @@
 -- The call of a procedure.
-use Rattle.std.proofs.Common.{◌≡◌, ℕ, ◌+◌, ◌^◌, ◌<◌, ◌≤◌, max, min, nat_le, ◌&&◌, List, [], ◌∷◌, ◌++◌, length, map, Bool, true, false, refl, sym, ap, ap₂, ◌∙◌, subst, arith}
+use Rattle.std.proofs.Common.{◌≡◌, ℕ, ◌+◌, ◌^◌, ◌<◌, ◌≤◌, max, nat_le, List, [], ◌∷◌, length, map, Bool, true, false, refl, sym, ap, ap₂, ◌∙◌, subst, arith}
 use Rattle.std.specs.declared.alloc.Global.{Global}
 use Rattle.std.specs.declared.rc.Rc.{Rc}
 use Rattle.std.specs.Global.{Vec}
@@ -9,7 +9,7 @@ use Rattle.stack_text.specs.declared.name.Name.{Name}
 use Rattle.stack_text.specs.declared.value.Value.{Value}
 use Rattle.gypsy_syntax.specs.Programs.{Program, body_of}
 use Rattle.gypsy_space.specs.Costs.{Tally}
-use Rattle.gypsy_space.specs.Needs.{Words, call_spend, has_room, stack_words, with_call}
+use Rattle.gypsy_space.specs.Needs.{call_spend, has_room, stack_words, with_call}
 use Rattle.gypsy_space.specs.Nodes.{seen_cond, seen_program}
 use Rattle.gypsy_space.specs.Events.{AreNeeds, event_count, has_room_by, need_at, need_of}
 use Rattle.gypsy_space.specs.declared.event.CostEvent.TheVariants as event
@@ -21,7 +21,7 @@ use Rattle.gypsy_meaning.specs.Calls.{copied_in}
 use Rattle.gypsy_meaning.specs.Machine.{Item, At, Next, State, full_or, gypsy_step, open_on, used}
 use Rattle.gypsy_meaning.specs.Machine as machine
 use Rattle.gypsy_meaning.specs.Returning.{paid}
-use Rattle.gypsy_meaning.specs.Running.{Goes, frame_of, frames_of, sizes_of, state_of}
+use Rattle.gypsy_meaning.specs.Running.{Goes, frames_of, sizes_of, state_of}
 use Rattle.gypsy_meaning.specs.Work.{work_of}
 use Rattle.gypsy_meaning.specs.declared.running.Meaning.{Meaning}
 use Rattle.gypsy_meaning.specs.declared.work.Work.{Work}
@@ -76,13 +76,14 @@ module _ (m a : Meaning) (ns : List Need) (site : Rc CallSite Global) (below w :
       let u : Tally = call_spend r c t in
       let shown : a.counted ≡ m.counted = ap (λ (k : Meaning). k.counted) waits.others in
       let spent : u.count ≡ t.count + event_count ns (event.Call c) = call_table r ns needs c there t in
-      let held : map (λ v. v.1) a.variables.items ≡ map (λ v. v.1) vars.items = ap (λ (k : Meaning). map (λ v. v.1) k.variables.items) waits.others in
-      (u,
-      call_step m ns site.value (work_of below.value) needs there turn counts true room t
-      ∙ same_state c c (copied_in r c site.value.actuals.items (map (λ v. v.1) m.variables.items)) (map (λ v. v.1) a.variables.items) (open_on (body_of r c) []) (work_of w.value)
-          (machine.Held m.procedure (map (λ v. v.1) m.variables.items) (work_of below.value) site.value.actuals.items (map seen_cond site.value.conds.items) ∷ frames_of m.waiting.items) (frames_of a.waiting.items) u
-          refl (sym values ∙ sym held) (sym body) (sym frames_are),
-      omega (arith, e, shown, spent))
+      let held : map (λ v. v.1) a.variables.items ≡ map (λ v. v.1) vars.items = ap (λ (k : Meaning). map (λ v. v.1) k.variables.items) waits.others in (
+        u,
+        call_step m ns site.value (work_of below.value) needs there turn counts true room t
+            ∙ same_state c c (copied_in r c site.value.actuals.items (map (λ v. v.1) m.variables.items)) (map (λ v. v.1) a.variables.items) (open_on (body_of r c) []) (work_of w.value)
+            (machine.Held m.procedure (map (λ v. v.1) m.variables.items) (work_of below.value) site.value.actuals.items (map seen_cond site.value.conds.items) ∷ frames_of m.waiting.items) (frames_of a.waiting.items) u
+            refl (sym values ∙ sym held) (sym body) (sym frames_are),
+        omega (arith, e, shown, spent),
+      )
 
   pub enter_uses : m.temp < 2 ^ 32 → m.ctrl < 2 ^ 32 → UsesWords after
   unfolding has_room_by with_call
@@ -103,8 +104,8 @@ module _ (m a : Meaning) (ns : List Need) (site : Rc CallSite Global) (below w :
       ∙ ap (used r c) frames_are
       ∙ ap (with_call r c) counts
       ∙ ap₂ stack_words
-          (ap (λ (k : Need). m.used_temp + k.locals_words) (sym exact) ∙ sym new_temp)
-          (ap (λ (k : Need). m.used_ctrl + (2 + k.vars)) (sym exact) ∙ sym new_ctrl)
+      (ap (λ (k : Need). m.used_temp + k.locals_words) (sym exact) ∙ sym new_temp)
+      (ap (λ (k : Need). m.used_ctrl + (2 + k.vars)) (sym exact) ∙ sym new_ctrl)
 
   pub enters : (n : Meaning) → n ≡ after → m.temp < 2 ^ 32 → m.ctrl < 2 ^ 32 → Enters m n
   enters n is lt_temp lt_ctrl =

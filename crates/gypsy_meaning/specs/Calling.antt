@@ -1,5 +1,5 @@
 -- The call of a procedure, as the code has it.
-use Rattle.std.specs.Prelude.{◌≡◌, ℕ, ◌+◌, ◌^◌, List, [], ◌∷◌, ◌++◌, map, min}
+use Rattle.std.specs.Prelude.{◌≡◌, [], ◌∷◌, ◌++◌, map}
 use Rattle.std.specs.declared.alloc.Global.{Global}
 use Rattle.std.specs.declared.rc.Rc.{Rc}
 use Rattle.std.specs.Global.{Vec}
@@ -13,7 +13,6 @@ use Rattle.gypsy_space.specs.declared.need.Need.{Need}
 use Rattle.gypsy_space.specs.declared.program.CallSite.{CallSite}
 use Rattle.gypsy_meaning.specs.Machine.{Item, Do, Full, gypsy_step, used}
 use Rattle.gypsy_meaning.specs.Running.{Goes, added, frames_of, sizes_of, state_of}
-use Rattle.gypsy_meaning.specs.declared.running.Frame.{Frame}
 use Rattle.gypsy_meaning.specs.declared.running.Meaning.{Meaning}
 use Rattle.gypsy_meaning.specs.declared.work.Work.{Work}
 
@@ -42,16 +41,16 @@ pub record IsUnchanged (m n : Meaning) : Type 0 where
 
 -- the active procedure waits at this call, with this work behind it
 pub record Waits (m : Meaning) (variables : Vec (Name × Value)) (below : Rc Work Global) (site : Rc CallSite Global) (n : Meaning) : Type 0
-    where
-  pub waiting : n.waiting.items ≡ m.waiting.items ++ record {
-    procedure = m.procedure;
-    variables = m.variables;
-    work = below;
-    call = site;
-    used_temp = m.used_temp;
-    used_ctrl = m.used_ctrl;
-  } ∷ []
-  pub others : n ≡ record m { variables = variables; waiting = n.waiting }
+  where
+    pub waiting : n.waiting.items ≡ m.waiting.items ++ record {
+      procedure = m.procedure;
+      variables = m.variables;
+      work = below;
+      call = site;
+      used_temp = m.used_temp;
+      used_ctrl = m.used_ctrl;
+    } ∷ []
+    pub others : n ≡ record m { variables = variables; waiting = n.waiting }
 
 abbrev pub with_words : Need → Meaning → Meaning
 with_words need m = record m { used_temp = added m.used_temp need.locals_words; used_ctrl = added m.used_ctrl (added need.vars 2) }

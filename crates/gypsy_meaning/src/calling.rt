@@ -113,8 +113,12 @@ impl Meaning {
         if !needs.room(callee, self.used_temp, self.used_ctrl, self.temp, self.ctrl) {
             return Ok(false);
         }
-        let Start { variables, work } =
-            callee_start(alloc, &self.program, self.variables.as_slice(), &site)?;
+        let Start { variables, work } = callee_start(
+            alloc,
+            &self.program,
+            self.variables.as_slice(),
+            &site,
+        )?;
         self.wait(variables, below, site)?;
         self.procedure = callee;
         self.work = work;

@@ -22,7 +22,8 @@ use std::rc::Rc;
 
 /// The work of the activation that waits for the active one, once its top is opened.
 fn waiting_work(alloc: Global, waiting: &[Frame]) -> Result<Option<Rc<Work>>, AllocError>
-    ensures some { IfOk result (λ o. IfSome o (λ w. IsLast waiting.now (λ f. work_of w.value ≡ settle (work_of f.work.value)))) }
+    ensures some { IfOk result (λ o. IfSome o (λ w.
+        IsLast waiting.now (λ f. work_of w.value ≡ settle (work_of f.work.value)))) }
     ensures none { IfOk result (λ o. IfNone o (waiting.now ≡ [])) }
 {
     match waiting.last() {
@@ -148,7 +149,8 @@ impl Meaning {
     pub fn end_call(&mut self, alloc: Global, needs: &Needs) -> Result<bool, AllocError>
         requires small { AreSmall needs.now.procedures.items }
         requires turn { work_of self.old.work.value ≡ [] }
-        ensures done { IfOk result (λ b. MatchBool b ((q : programs.Program) (sizes : Words) → Goes q sizes self.old self.new)
+        ensures done { IfOk result (λ b. MatchBool b
+            ((q : programs.Program) (sizes : Words) → Goes q sizes self.old self.new)
             ((self.new ≡ self.old) × (self.old.waiting.items ≡ []))) }
         ensures unchanged { IfErr result (λ e. self.new ≡ self.old) }
     {

@@ -1,20 +1,17 @@
-use Rattle.std.proofs.Common.{◌≡◌, ℕ, ◌<◌, ◌^◌, List, [], length, map, Bool, true, false, refl, sym, ap, ap₂, ◌∙◌, subst, arith}
+use Rattle.std.proofs.Common.{◌≡◌, ℕ, ◌<◌, List, [], length, map, true, false, refl, sym, ap, ap₂, ◌∙◌, arith}
 use Rattle.std.proofs.lemmas.List.{length-map}
 use Rattle.stack_text.specs.declared.name.Name.{Name}
 use Rattle.stack_text.specs.declared.value.Value.{Value}
 use Rattle.gypsy_syntax.specs.Programs.{body_of}
 use Rattle.gypsy_space.specs.Needs.{stack_words}
 use Rattle.gypsy_space.specs.Nodes.{seen_proc, seen_program}
-use Rattle.gypsy_space.specs.Events.{event_count, has_room_by, need_at}
-use Rattle.gypsy_space.specs.declared.event.CostEvent.TheVariants as event
+use Rattle.gypsy_space.specs.Events.{has_room_by, need_at}
 use Rattle.gypsy_space.specs.declared.program.CallSite.{CallSite}
-use Rattle.gypsy_meaning.specs.Calling.{Enters, UsesWords, with_words}
 use Rattle.gypsy_meaning.specs.Calls.{copied_in}
 use Rattle.gypsy_meaning.specs.Machine.{open_on}
 use Rattle.gypsy_meaning.specs.Returning.{paid}
 use Rattle.gypsy_meaning.specs.Running.{sizes_of}
 use Rattle.gypsy_meaning.specs.Work.{work_of}
-use Rattle.gypsy_meaning.specs.declared.running.Meaning.{Meaning}
 use Rattle.gypsy_meaning.proofs.CallingLaws.{after_call, enters, is_full}
 use Rattle.gypsy_meaning.proofs.running.Meaning.enter_call.Goals as goal
 
