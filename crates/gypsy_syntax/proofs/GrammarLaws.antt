@@ -40,7 +40,7 @@ pub some_parts : (place : ℕ) (ts : List Tree) (ss : Vec Stmt Global) → lengt
 some_parts place [] ss ne e = absurd (ne refl)
 some_parts place (t ∷ ts) ss ne e = rw e (ap Ok (sym (seq_is_new place ss)))
 
--- a source by the word that it begins with, its main procedure's name, and what stands behind
+-- a source by the word that it begins with, its main procedure's name, and what follows
 pub source_by_parts : (place : ℕ) (ts : List Tree) (w main : Tree) → 3 ≤ length ts → w ≡ get_or ts 0 w → main ≡ get_or ts 1 main
     → source_in (list place (nodes_of ts)) ≡ judged place 1 (is_word (codes "program") (node_of w))
     (judged place 12 (nat_le (count_of (nodes_of (rest 2 ts))) 1000) (Ok (new_source place) ⊛ named_in (node_of main) ⊛ each_of procedure_in (nodes_of (rest 2 ts))))
