@@ -11,7 +11,7 @@ use Rattle.cli_stack.specs.declared.command.Command.{Command}
 use Rattle.cli_stack.specs.declared.command.Command.TheVariants as command
 use Rattle.cli_stack.specs.declared.driver.early_end.EarlyEnd.{EarlyEnd}
 use Rattle.cli_stack.specs.declared.role.Role.{Role}
-use Rattle.cli_stack.specs.declared.role.Role.TheVariants.{Source, Values, Image}
+use Rattle.cli_stack.specs.declared.role.Role.TheVariants.{Source, Piton, Values, Image}
 use Rattle.cli_stack.specs.Roles.{limit_of}
 use Rattle.cli_stack.specs.Answer.{Texts, text_of, Answer, early_answer, text_or_end, gathered, set_file, inputs_of, output_of, stored_by, reply_by, answer_on, answer_to, answer_by}
 use Rattle.cli_stack.specs.Go.{go_stored}
@@ -67,11 +67,17 @@ go_source source values name (zero, lt, is) = ap (λ (f : Role × List ℕ). f.1
 go_source source values name (suc zero, lt, is) = absurd (let e : Values ≡ Source = ap (λ (f : Role × List ℕ). f.0) is in cc)
 go_source source values name (suc (suc i), lt, is) = absurd (omega arith)
 
+-- a Piton text is no source
+no_source : (piton name : List ℕ) → Contains {X = Role × List ℕ} ((Piton, piton) ∷ []) (Source, name) → ⊥
+no_source piton name (zero, lt, is) = let e : Piton ≡ Source = ap (λ (f : Role × List ℕ). f.0) is in cc
+no_source piton name (suc i, lt, is) = omega arith
+
 stores : (c : Command) (files : Files) → StoresImplementation c files (answer_to c files).output
 unfolding inputs_of output_of
 stores (command.Go source values control temporary budget image) files = λ name own stored bytes reads writes sets.
     subst (λ (n : List ℕ). HoldsImplementation files n control temporary bytes) (go_source source values name reads)
     (go_holds files source values image control temporary budget _ _ stored bytes refl sets)
+stores (command.Pbuild piton image) files = λ name own stored bytes reads writes sets. absurd (no_source piton name reads)
 stores c files = λ name own stored bytes reads writes sets. absurd (let e : None ≡ Some (Image, own) = writes in cc)
 
 -- whatever the command and the files are

@@ -1,5 +1,6 @@
 pub mod GatherLaws
 pub mod ImplementsLaws
+pub mod LinkedLaws
 pub mod PerformLaws
 pub mod PitonTextLaws
 pub mod PrintLaws

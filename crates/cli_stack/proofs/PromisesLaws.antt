@@ -19,7 +19,7 @@ use Rattle.cli_stack.specs.declared.status.Status.TheVariants.{Missing, ShelfFau
 use Rattle.cli_stack.specs.Replies.{ReplyOf, status_of, verdict_line, reply_of, reply_text, end_status, end_line}
 use Rattle.cli_stack.specs.Answer.{Answer, answer_with, early_answer, files_after, input_names, file_names, answer_by}
 use Rattle.cli_stack.specs.World.{OutOf, World}
-use Rattle.cli_stack.specs.Promises.{HoldsMachine, Agrees, RoseAt, RoseAndPrinted, SizePrinted, TakesSizes, HoldsPart, FaultRose, LeavesFiles, PrintsPrefix, PromisesOf}
+use Rattle.cli_stack.specs.Promises.{HoldsMachine, Agrees, RoseAt, RoseAndPrinted, SizePrinted, HasSizes, HoldsPart, FaultRose, LeavesFiles, PrintsPrefix, PromisesOf}
 use Rattle.cli_stack.specs.Correct.{Implements, Tells}
 use Rattle.cli_stack.specs.Driver.{HasReason, IsReplyTo, LeavesAs, Leaves, machine_kept, conclusion_of, Printed, Stopped, NotBegun, Concludes}
 use Rattle.cli_stack.proofs.PrintLaws.{nothing_printed}

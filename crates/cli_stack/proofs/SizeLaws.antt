@@ -1,5 +1,6 @@
 -- Refused sizes are those of commands that take sizes, and they say nothing else.
-use Rattle.std.proofs.Common.{◌≡◌, ℕ, List, [], Bool, true, false, Option, Some, None, Result, Ok, Err, IfErr, refl, sym, ap, ◌∙◌}
+use Rattle.std.proofs.Common.{◌≡◌, inl, inr, ℕ, List, [], Bool, true, false, Option, Some, None, Result, Ok, Err, IfErr, refl, sym, ap, ◌∙◌}
+use Rattle.std.specs.Prelude.{if◌then◌else◌}
 use Rattle.fm_machine.specs.Run.{Outcome, outcome}
 use Rattle.fm_machine.specs.State.{Fm}
 use Rattle.fm_machine.specs.declared.processor.Run.{Run}
@@ -24,7 +25,9 @@ use Rattle.gypsy_syntax.specs.Sources.{SourceOf}
 use Rattle.gypsy_check.specs.Rules.{violations as gypsy_violations}
 use Rattle.piton_machine.specs.declared.stepped.PitonRun.{PitonRun}
 use Rattle.piton_machine.specs.declared.stepped.PitonRun.TheVariants as piton_run
+use Rattle.piton_check.specs.Instruction.{SystemView}
 use Rattle.piton_machine.specs.Fits.{system_in}
+use Rattle.piton_machine.specs.Placed.{placed}
 use Rattle.piton_machine.specs.Seen.{Ran, run_of, opening}
 use Rattle.piton_machine.specs.Seen.{Seen as PitonSeen}
 use Rattle.stack_build.specs.declared.fault.BuildFault.{BuildFault}
@@ -33,18 +36,20 @@ use Rattle.cli_stack.specs.declared.command.Command.{Command}
 use Rattle.cli_stack.specs.declared.command.Command.TheVariants as command
 use Rattle.cli_stack.specs.declared.reply.Reply.{Reply}
 use Rattle.cli_stack.specs.declared.reply.SizeOf.{SizeOf}
+use Rattle.cli_stack.specs.declared.reply.SizeOf.TheVariants.{Words}
 use Rattle.cli_stack.specs.declared.reply.Verdict.{Verdict}
 use Rattle.cli_stack.specs.declared.reply.Verdict.TheVariants as verdict
 use Rattle.cli_stack.specs.declared.role.Role.TheVariants as role
-use Rattle.cli_stack.specs.Replies.{ReplyOf, reply_of, judgement_reply}
-use Rattle.cli_stack.specs.Answer.{Texts, text_of, reply_by}
+use Rattle.cli_stack.specs.Replies.{ReplyOf, reply_of, verdict_alone, judgement_reply}
+use Rattle.cli_stack.specs.Answer.{Texts, text_of, output_of, reply_by}
 use Rattle.cli_stack.specs.Go.{go_reply}
 use Rattle.cli_stack.specs.Run.{end_reply, outcome_reply, run_reply, values_reply, image_reply}
 use Rattle.cli_stack.specs.Show.{listing_reply}
 use Rattle.cli_stack.specs.Prun.{run_end_reply, checked_run_reply, system_run_reply}
+use Rattle.cli_stack.specs.Pbuild.{linked_image, is_large, built_reply, linked_reply, checked_reply}
 use Rattle.cli_stack.specs.SourceText.{gypsy_verdict, accepted_unless, accepted_by, accepted_in}
 use Rattle.cli_stack.specs.PitonText.{piton_verdict, checked_unless, checked_by, checked_in}
-use Rattle.cli_stack.specs.Promises.{TakesSizes}
+use Rattle.cli_stack.specs.Promises.{HasSizes}
 use Rattle.cli_stack.specs.Driver.{IsReplyTo}
 
 abbrev is_size : Verdict → Bool
@@ -136,30 +141,43 @@ go_alone : (found : Result BuiltOf BuildFault) (values : List ℕ) (budget : ℕ
 go_alone (Err fault) values budget size = refl
 go_alone (Ok built) values budget size = let none = values_no_size built.image budget (values_in built.image.slots values) in cc
 
+-- a linked system says nothing before its size, and a refused text is refused by a rule
+linked_alone : (system : SystemView) → SizeAlone (linked_reply system)
+linked_alone system = by_size (is_large system)
+  where
+    by_size : (large : Bool) → SizeAlone (if large then verdict_alone (verdict.Size Words (placed system).size) else built_reply (linked_image system))
+    by_size true size = refl
+    by_size false size = absurd cc
+
+checked_alone : (found : Result CheckedOf Verdict) → SizeAlone (checked_reply found)
+checked_alone (Ok checked) = linked_alone (system_in checked)
+checked_alone (Err verdict) = λ size. refl
+
 -- 3. All commands.
 
 abbrev Sizes : Command → ReplyOf → Type 0
-Sizes c reply = is_size reply.verdict ≡ true → TakesSizes (Some c) × (reply.said ≡ [])
+Sizes c reply = is_size reply.verdict ≡ true → HasSizes (Some c) × (reply.said ≡ [])
 
 no_sizes : (c : Command) (reply : ReplyOf) → is_size reply.verdict ≡ false → Sizes c reply
 no_sizes c reply none size = absurd (let e : false ≡ true = sym none ∙ size in cc)
 
 sizes_by : (c : Command) (texts : Texts) → Sizes c (reply_by c texts)
-unfolding reply_by
-sizes_by (command.Go source values control temporary budget image) texts = λ size. (refl, go_alone (built (text_of role.Source texts) control temporary) (text_of role.Values texts) budget size)
+unfolding reply_by output_of
+sizes_by (command.Go source values control temporary budget image) texts = λ size. (inl refl, go_alone (built (text_of role.Source texts) control temporary) (text_of role.Values texts) budget size)
 sizes_by (command.Run image values budget) texts =
     no_sizes (command.Run image values budget) (reply_by (command.Run image values budget) texts) (image_no_size (text_of role.Values texts) budget (read_of (text_of role.Image texts)))
 sizes_by (command.Show image) texts = no_sizes (command.Show image) (reply_by (command.Show image) texts) (listing_no_size (read_of (text_of role.Image texts)))
 sizes_by (command.Check source) texts = no_sizes (command.Check source) (reply_by (command.Check source) texts) (judgement_no_size (accepted_in (text_of role.Source texts)) (source_no_size (text_of role.Source texts)))
 sizes_by (command.Pcheck piton) texts = no_sizes (command.Pcheck piton) (reply_by (command.Pcheck piton) texts) (judgement_no_size (checked_in (text_of role.Piton texts)) (refused_no_size (text_of role.Piton texts)))
 sizes_by (command.Prun piton limit) texts = no_sizes (command.Prun piton limit) (reply_by (command.Prun piton limit) texts) (checked_run_no_size (checked_in (text_of role.Piton texts)) limit (refused_no_size (text_of role.Piton texts)))
+sizes_by (command.Pbuild piton image) texts = λ size. (inr (image, refl), checked_alone (checked_in (text_of role.Piton texts)) size)
 sizes_by c texts = no_sizes c (reply_by c texts) refl
 
-of_command : (c : Option Command) (reply : Reply) → IsReplyTo c reply → is_size reply.verdict ≡ true → TakesSizes c × (reply.said ≡ [])
+of_command : (c : Option Command) (reply : Reply) → IsReplyTo c reply → is_size reply.verdict ≡ true → HasSizes c × (reply.said ≡ [])
 of_command None reply is size = let e : is_size reply.verdict ≡ false = ap (λ (r : ReplyOf). is_size r.verdict) is in absurd (let f : false ≡ true = sym e ∙ size in cc)
 of_command (Some c) reply (texts, is) size =
     let found = sizes_by c texts (ap (λ (r : ReplyOf). is_size r.verdict) (sym is) ∙ size) in
     (found.0, ap (λ (r : ReplyOf). r.said) is ∙ found.1)
 
-pub sizes_alone : (c : Option Command) (reply : Reply) (of : SizeOf) (need : ℕ) → IsReplyTo c reply → reply.verdict ≡ verdict.Size of need → TakesSizes c × (reply.said ≡ [])
+pub sizes_alone : (c : Option Command) (reply : Reply) (of : SizeOf) (need : ℕ) → IsReplyTo c reply → reply.verdict ≡ verdict.Size of need → HasSizes c × (reply.said ≡ [])
 sizes_alone c reply of need is size = of_command c reply is (ap is_size size)

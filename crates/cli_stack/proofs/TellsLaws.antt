@@ -136,6 +136,7 @@ tells_by (command.Run image_name values_file budget) files = λ name reads has. 
 tells_by (command.Show image_name) files = λ name reads has. absurd (no_values Image image_name name (λ e. cc) reads)
 tells_by (command.Check source_name) files = λ name reads has. absurd (no_values Source source_name name (λ e. cc) reads)
 tells_by (command.Pcheck piton_name) files = λ name reads has. absurd (no_values Piton piton_name name (λ e. cc) reads)
+tells_by (command.Pbuild piton_name image_name) files = λ name reads has. absurd (no_values Piton piton_name name (λ e. cc) reads)
 tells_by (command.Prun piton_name limit) files = λ name reads has. absurd (no_values Piton piton_name name (λ e. cc) reads)
 tells_by c files = λ name reads has. absurd (nothing name reads)
   where

@@ -7,7 +7,7 @@ use Rattle.stack_shelf.specs.Files.{Files, put_file}
 use Rattle.stack_shelf.specs.Shelf.{Refusal, Missing, TooLong, fetched}
 use Rattle.stack_build.specs.Build.{built}
 use Rattle.cli_stack.specs.declared.command.Command.{Command}
-use Rattle.cli_stack.specs.declared.command.Command.TheVariants.{Check, Pcheck, Prun, Run, Go, Show}
+use Rattle.cli_stack.specs.declared.command.Command.TheVariants.{Check, Pcheck, Prun, Pbuild, Run, Go, Show}
 use Rattle.cli_stack.specs.declared.driver.early_end.EarlyEnd.{EarlyEnd}
 use Rattle.cli_stack.specs.declared.driver.early_end.EarlyEnd.TheVariants as end
 use Rattle.cli_stack.specs.declared.reply.Verdict.TheVariants.{Usage, NotBuilt}
@@ -23,6 +23,7 @@ use Rattle.cli_stack.specs.Show.{show_reply}
 use Rattle.cli_stack.specs.Check.{check_reply}
 use Rattle.cli_stack.specs.Pcheck.{pcheck_reply}
 use Rattle.cli_stack.specs.Prun.{prun_reply}
+use Rattle.cli_stack.specs.Pbuild.{pbuild_stored, pbuild_reply}
 
 -- 1. The files that a command reads, in order, and the one that it writes: each with its role and its name. A command that is
 -- yet to be built touches none.
@@ -34,10 +35,12 @@ inputs_of (Show image) = (role.Image, image) ∷ []
 inputs_of (Check source) = (role.Source, source) ∷ []
 inputs_of (Pcheck piton) = (role.Piton, piton) ∷ []
 inputs_of (Prun piton limit) = (role.Piton, piton) ∷ []
+inputs_of (Pbuild piton image) = (role.Piton, piton) ∷ []
 inputs_of _ = []
 
 unfoldable pub output_of : Command → Option (Role × List ℕ)
 output_of (Go source values control temporary budget image) = Some (role.Image, image)
+output_of (Pbuild piton image) = Some (role.Image, image)
 output_of _ = None
 
 -- 2. What it makes of their texts: what it stores, and what it replies.
@@ -52,6 +55,7 @@ text_of role (text ∷ texts) = if is_role text.0 role then text.1 else text_of 
 
 unfoldable pub stored_by : Command → Texts → Option (List ℕ)
 stored_by (Go source values control temporary budget image) texts = go_stored (built (text_of role.Source texts) control temporary)
+stored_by (Pbuild piton image) texts = pbuild_stored (text_of role.Piton texts)
 stored_by _ texts = None
 
 unfoldable pub reply_by : Command → Texts → ReplyOf
@@ -62,6 +66,7 @@ reply_by (Show image) texts = show_reply (text_of role.Image texts)
 reply_by (Check source) texts = check_reply (text_of role.Source texts)
 reply_by (Pcheck piton) texts = pcheck_reply (text_of role.Piton texts)
 reply_by (Prun piton limit) texts = prun_reply (text_of role.Piton texts) limit
+reply_by (Pbuild piton image) texts = pbuild_reply (text_of role.Piton texts)
 reply_by _ texts = verdict_alone NotBuilt
 
 -- 3. All together: the first file that is missing or too long ends the command.

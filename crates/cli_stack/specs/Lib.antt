@@ -19,6 +19,7 @@ pub mod PitonText
 pub mod Pcheck
 pub mod NamedWords
 pub mod Prun
+pub mod Pbuild
 -- what private functions say
 pub mod Plans
 pub mod Driver

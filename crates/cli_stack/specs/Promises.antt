@@ -8,6 +8,7 @@ use Rattle.cli_stack.specs.declared.command.Command.{Command}
 use Rattle.cli_stack.specs.declared.driver.early_end.EarlyEnd.TheVariants as end
 use Rattle.cli_stack.specs.declared.reply.SizeOf.{SizeOf}
 use Rattle.cli_stack.specs.declared.reply.Verdict.TheVariants as verdict
+use Rattle.cli_stack.specs.declared.role.Role.TheVariants.{Image}
 use Rattle.cli_stack.specs.declared.status.Status.{Status}
 use Rattle.cli_stack.specs.declared.status.Status.TheVariants.{Missing, ShelfFault, SinkFault, Size, OutOfMemory}
 use Rattle.cli_stack.specs.Status.{status_code}
@@ -15,7 +16,7 @@ use Rattle.cli_stack.specs.Rows.{command_of}
 use Rattle.cli_stack.specs.Replies.{verdict_line, end_line}
 use Rattle.cli_stack.specs.Answer.{Answer, files_after, input_names, file_names, answer}
 use Rattle.cli_stack.specs.World.{World}
-use Rattle.cli_stack.specs.Correct.{sizes_of, Implements, Tells}
+use Rattle.cli_stack.specs.Correct.{StoresFile, sizes_of, Implements, Tells}
 
 -- 1. What no failure spoils.
 
@@ -44,15 +45,15 @@ RoseAndPrinted kind line names before after =
     (name : List ℕ) × Contains names name × Rose (kind before.shelf.counts name) (kind after.shelf.counts name)
     × (after.out.taken ≡ appended before.out.taken (line name))
 
--- a command whose sizes may be refused: one that takes them
-abbrev pub TakesSizes : Option Command → Type 0
-TakesSizes None = ⊥
-TakesSizes (Some command) = IsSome (sizes_of command)
+-- a command whose sizes may be refused: one that takes those of the stacks, or stores an image
+abbrev pub HasSizes : Option Command → Type 0
+HasSizes None = ⊥
+HasSizes (Some command) = IsSome (sizes_of command) ⊎ ((image : List ℕ) × StoresFile command Image image)
 
 -- a size of such a command was refused, and its line is what was printed
 abbrev pub SizePrinted : Option Command → World → World → Type 0
 SizePrinted command before after =
-    TakesSizes command × (of : SizeOf) × (need : ℕ) × (after.out.taken ≡ appended before.out.taken (verdict_line (verdict.Size of need)))
+    HasSizes command × (of : SizeOf) × (need : ℕ) × (after.out.taken ≡ appended before.out.taken (verdict_line (verdict.Size of need)))
 
 -- 3. What a failure leaves.
 

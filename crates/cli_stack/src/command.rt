@@ -46,7 +46,7 @@ pub enum Command {
         piton: FileName,
         limit: u64,
     },
-    /// Links a Piton text to an image, and stores that. To come.
+    /// Links a Piton text to an image, and stores that.
     Pbuild {
         piton: FileName,
         image: FileName,
@@ -130,7 +130,9 @@ impl Command {
                     name: source
                 },
             ]?),
-            Command::Pcheck { piton } | Command::Prun { piton, .. } => Ok(vec![in alloc;
+            Command::Pcheck { piton }
+            | Command::Prun { piton, .. }
+            | Command::Pbuild { piton, .. } => Ok(vec![in alloc;
                 RoleFile {
                     role: Role::Piton,
                     name: piton
@@ -146,7 +148,7 @@ impl Command {
         ensures { option_map (λ output. (output.role, output.name.now)) result ≡ output_of self.now }
     {
         match self {
-            Command::Go { image, .. } => Some(RoleFile {
+            Command::Go { image, .. } | Command::Pbuild { image, .. } => Some(RoleFile {
                 role: Role::Image,
                 name: image,
             }),

@@ -8,6 +8,7 @@ mod check;
 mod go;
 mod image_run;
 mod named_words;
+mod pbuild;
 mod pcheck;
 mod piton_text;
 mod plan;
@@ -51,6 +52,7 @@ pub fn prepare(alloc: Global, command: &Command, texts: &Texts) -> Result<Plan, 
         Command::Show { .. } => show::prepare(alloc, texts.of(Role::Image)),
         Command::Check { .. } => check::prepare(alloc, texts.of(Role::Source)),
         Command::Pcheck { .. } => pcheck::prepare(alloc, texts.of(Role::Piton)),
+        Command::Pbuild { .. } => pbuild::prepare(alloc, texts.of(Role::Piton)),
         Command::Prun { limit, .. } => prun::prepare(alloc, texts.of(Role::Piton), *limit),
         _ => Ok(Plan::verdict_alone(alloc, Verdict::NotBuilt)),
     }

@@ -1,5 +1,6 @@
 //! Piton texts, read and judged.
 ghost use Rattle.std.specs.Prelude.{◌≡◌, ◌≤◌, ◌^◌, IfOk, length};
+ghost use Rattle.piton_check.specs.Answers.{IsChecked};
 ghost use Rattle.cli_stack.specs.PitonText.{checked_in};
 
 use crate::reply::{RuleLetter, Verdict, text_rule_number};
@@ -12,7 +13,8 @@ use std::alloc::Global;
 #[tactic(auto, unfolding(crate::specs::PitonText::checked_in))]
 pub fn read_checked(alloc: Global, text: &[u8]) -> Result<Result<Checked, Verdict>, Memory>
     requires { length text.now ≤ 2 ^ 31 }
-    ensures { IfOk result (λ found. found ≡ checked_in text.now) }
+    ensures found { IfOk result (λ found. found ≡ checked_in text.now) }
+    ensures checked { IfOk result (λ found. IfOk found IsChecked) }
 {
     let system = match read_piton(alloc, text) {
         Ok(system) => system,

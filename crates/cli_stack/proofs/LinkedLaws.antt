@@ -1,0 +1,65 @@
+-- The image of a linked system keeps the limits of images; what is stored and replied where it has too many words, and where not.
+use Rattle.std.proofs.Common.{◌≡◌, ◌≤◌, ◌<◌, ◌+◌, ◌-◌, ℕ, List, [], true, false, length, None, refl, sym, ap, subst, arith}
+use Rattle.std.specs.Prelude.{◌^◌, IsTrue, replicate}
+use Rattle.std.proofs.lemmas.Bool.{and_from, le-leb, le-ltb, lt-ltb}
+use Rattle.std.proofs.lemmas.List.{length-append}
+use Rattle.fm_words.specs.Code.{no_flags}
+use Rattle.fm_image.specs.declared.slot.Slot.{Slot}
+use Rattle.fm_image.specs.Image.{ImageOf, all_after, is_image}
+use Rattle.fm_image.proofs.Limits.{from_limits}
+use Rattle.piton_check.specs.Answers.{CheckedOf, IsChecked}
+use Rattle.piton_check.specs.Instruction.{SystemView}
+use Rattle.piton_machine.specs.Fits.{system_in}
+use Rattle.piton_machine.specs.Placed.{placed, final_pc_of}
+use Rattle.piton_machine.proofs.SizeLaws.{length-placed}
+use Rattle.piton_machine.proofs.SoundLaws.{known}
+use Rattle.piton_linker.specs.Layouts.{trimmed}
+use Rattle.piton_linker.proofs.TrimLaws.{trimmed-rest}
+use Rattle.cli_stack.specs.Pbuild.{linked_image, is_large}
+
+-- the words up to the last that isn't zero are no more than all
+shorter : (ws : List ℕ) → length (trimmed ws) ≤ length ws
+shorter ws = omega (arith, ap length (trimmed-rest ws), length-append (trimmed ws) (replicate (length ws - length (trimmed ws)) 0))
+
+-- the image keeps the limits of images
+pub image_fits : (c : CheckedOf) → IsChecked c → (placed (system_in c)).size ≤ 2 ^ 20 → IsTrue (is_image (linked_image (system_in c)))
+unfolding all_after
+image_fits c is small =
+    let s : SystemView = system_in c in
+    let long = length-placed s (known s is.sound) in
+    let size : ℕ = (placed s).size in
+    let low = is.sound.low_base in
+    let some = is.sound.some_temp in
+    from_limits (linked_image s) record {
+      window = and_from _ _ (and_from _ _ (and_from _ _ (le-leb 1 size (omega arith)) (le-leb size 1048576 (omega arith))) (le-leb (s.base + size) 4294967295 (omega arith))) (and_from _ _ (le-leb s.base (final_pc_of s) (omega arith)) (lt-ltb (final_pc_of s) (s.base + size) (omega arith)));
+      registers = refl;
+      condition_address = refl;
+      condition_count = refl;
+      conditions = refl;
+      slot_count = refl;
+      slots = refl;
+      words = le-leb (length (trimmed (placed s).words)) size (omega (arith, shorter (placed s).words));
+    }
+
+-- the same of what is made of equal parts
+pub parts_fit : (c : CheckedOf) → IsChecked c → (placed (system_in c)).size ≤ 2 ^ 20 → (base size final_pc : ℕ) (registers : List ℕ) (conditions : List (List ℕ)) (slots : List Slot) (words : List ℕ)
+    → base ≡ (system_in c).base → size ≡ (placed (system_in c)).size → final_pc ≡ (placed (system_in c)).final_pc → registers ≡ (placed (system_in c)).registers → conditions ≡ [] → slots ≡ [] → words ≡ trimmed (placed (system_in c)).words
+    → IsTrue (is_image record { base = base; size = size; final_pc = final_pc; registers = registers; flags = no_flags; condition_address = None; conditions = conditions; slots = slots; words = words })
+parts_fit c is small base size final_pc registers conditions slots words b n f r o l w =
+    let b' = sym b in
+    let n' = sym n in
+    let f' = sym f in
+    let r' = sym r in
+    let o' = sym o in
+    let l' = sym l in
+    let w' = sym w in
+    let image : ImageOf = record { base = base; size = size; final_pc = final_pc; registers = registers; flags = no_flags; condition_address = None; conditions = conditions; slots = slots; words = words } in
+    let whole : linked_image (system_in c) ≡ image =
+    λ i. record { base = b' i; size = n' i; final_pc = f' i; registers = r' i; flags = no_flags; condition_address = None; conditions = o' i; slots = l' i; words = w' i } in
+    subst (λ (m : ImageOf). IsTrue (is_image m)) whole (image_fits c is small)
+
+pub is_small : (s : SystemView) → (placed s).size ≤ 2 ^ 20 → is_large s ≡ false
+is_small s small = le-ltb (2 ^ 20) (placed s).size small
+
+pub is_larger : (s : SystemView) → 2 ^ 20 < (placed s).size → is_large s ≡ true
+is_larger s large = lt-ltb (2 ^ 20) (placed s).size large
