@@ -1,5 +1,5 @@
-//! Sources that are judged, and Piton texts that are judged and run.
-use crate::tests::{NEVER, RETURN, SEVEN, ask};
+//! Sources that are judged, and Piton texts that are judged, run and linked.
+use crate::tests::{IMAGE_OF_RETURN, NEVER, RETURN, SEVEN, ask, plainly};
 use std::test::Fail;
 
 const JUMP_WITHOUT_LABEL: &str = "(piton main 2 1 0 () () (main () () (jump)))";
@@ -106,6 +106,8 @@ fn rows() -> &'static [(&'static str, &'static str, u8, &'static str)] {
             "halted 2\ncounted 6\na (nat 1) (int -2)\nb (addr a 1) (pc p 1) (subr p) (bool t) (bitv 5)\nstack (bool f) (nat 1)\n",
         ),
         ("prun t 9", "(piton)", 2, "refused P1 at 0\n"),
+        ("pbuild t i", JUMP_TO_NOWHERE, 2, "refused Q7 at 77\n"),
+        ("pbuild t i", SEVEN_LESS_FIVE, 0, "built 18\n"),
     ]
 }
 
@@ -118,6 +120,9 @@ fn failing() -> &'static [(&'static str, (u64, u64), (u64, u64), u8, &'static st
         ("pcheck t", (1, 3), NEVER, 0, "ok\n"),
         ("pcheck t", NEVER, (0, 0), 11, ""),
         ("pcheck t", NEVER, (0, 2), 11, "ok"),
+        ("pbuild t i", (0, 3), NEVER, 10, "shelf fault t\n"),
+        ("pbuild t i", (1, 3), NEVER, 10, "shelf fault i\n"),
+        ("pbuild t i", NEVER, (0, 5), 11, "built"),
         ("prun t 5", (0, 3), NEVER, 10, "shelf fault t\n"),
         ("prun t 5", NEVER, (1, 4), 11, "halted 1\ncoun"),
         ("prun t 5", NEVER, (3, 4), 0, "halted 1\ncounted 4\nstack\n"),
@@ -142,6 +147,30 @@ fn texts_that_are_judged_or_run(rt: HostRuntime) -> Result<(), Fail> {
         let files: [(&str, &[u8]); 1] = [("t", RETURN.as_bytes())];
         let outcome = ask(alloc, words, &files, *shelf_call, *sink_call, None)?;
         assert_eq!(rt; outcome.status, *status, "{words}");
+        assert_eq!(rt; outcome.printed.as_slice(), printed.as_bytes(), "{words}");
+    }
+    Ok(())
+}
+
+/// Each byte of an image, and what another one does.
+#[test]
+fn linked_texts(rt: HostRuntime) -> Result<(), Fail> {
+    let alloc = rt.alloc();
+    let outcome = plainly(alloc, "pbuild t i", &[("t", RETURN.as_bytes())])?;
+    let image = outcome.image.ok_or("no image")?;
+    assert_eq!(rt; outcome.printed.as_slice(), b"built 11\n".as_slice());
+    assert_eq!(rt;
+        hex::encode(alloc, image.as_slice())?.as_str(),
+        IMAGE_OF_RETURN
+    );
+    let outcome = plainly(alloc, "pbuild t i", &[("t", SEVEN_LESS_FIVE.as_bytes())])?;
+    let image = outcome.image.ok_or("no image")?;
+    for (words, printed) in [
+        ("run i v 7", "finished 7\n"),
+        ("run i v 6", "unfinished 6\n"),
+    ] {
+        let files: [(&str, &[u8]); 2] = [("i", image.as_slice()), ("v", b"()")];
+        let outcome = plainly(alloc, words, &files)?;
         assert_eq!(rt; outcome.printed.as_slice(), printed.as_bytes(), "{words}");
     }
     Ok(())
