@@ -14,8 +14,6 @@ mod names;
 mod predefs;
 mod procedures;
 mod statements;
-#[cfg(test)]
-mod tests;
 mod types;
 mod values;
 mod variables;

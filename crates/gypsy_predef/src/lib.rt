@@ -7,8 +7,6 @@ ghost use Rattle.gypsy_predef.specs.Resolving.{BodiesFit, BodiesKeepRules, Bodie
 
 mod line;
 mod rows;
-#[cfg(test)]
-mod tests;
 mod writing;
 
 pub use writing::bodies;

@@ -9,8 +9,6 @@ mod laws;
 mod need;
 mod program;
 mod resolving;
-#[cfg(test)]
-mod tests;
 
 pub use counting::needs;
 pub use event::{CostEvent, Outcome};

@@ -1,6 +1,6 @@
 //! Texts of sources that break a rule, or two, and of sources that keep them all.
 
-use crate::{Accepted, CheckFault, check};
+use gypsy_check::{Accepted, CheckFault, check};
 use gypsy_syntax::read_gypsy;
 use std::alloc::Global;
 use std::test::Fail;

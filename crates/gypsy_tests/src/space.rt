@@ -1,7 +1,7 @@
 //! The needs of a source that calls itself, and rooms and costs by them, counted by hand.
 
-use crate::{CostEvent, Need, Outcome, needs};
 use gypsy_check::check;
+use gypsy_space::{CostEvent, Need, Outcome, needs};
 use gypsy_syntax::{Predef, read_gypsy};
 use std::test::Fail;
 

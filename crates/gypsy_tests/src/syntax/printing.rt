@@ -1,4 +1,4 @@
-use crate::{print_gypsy, read_gypsy};
+use gypsy_syntax::{print_gypsy, read_gypsy};
 use std::alloc::Global;
 use std::process::Abort;
 use std::test::Fail;

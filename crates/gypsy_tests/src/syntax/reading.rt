@@ -1,6 +1,6 @@
 //! Texts that are sources', and texts that break one rule each.
 
-use crate::{GypsyFault, print_gypsy, read_gypsy};
+use gypsy_syntax::{GypsyFault, print_gypsy, read_gypsy};
 use stack_text::TextRule;
 use std::alloc::{AllocError, Global};
 use std::process::Abort;

@@ -1,6 +1,6 @@
 //! The programs' texts, and calls of them: what each leaves, in how many steps, and at what cost.
 
-use crate::bodies;
+use gypsy_predef::bodies;
 use piton_check::{Checked, check};
 use piton_machine::{PitonRun, State};
 use piton_syntax::{ArgText, InstrText, Program, WordItem, read_piton};

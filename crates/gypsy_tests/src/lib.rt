@@ -1,0 +1,13 @@
+//! Tests of the crates of Micro-Gypsy, over their public calls.
+//!
+//! They have a crate of their own, since a crate with tests is proved twice.
+#![tactic(auto)]
+
+#[cfg(test)]
+mod predef;
+#[cfg(test)]
+mod rules;
+#[cfg(test)]
+mod space;
+#[cfg(test)]
+mod syntax;
