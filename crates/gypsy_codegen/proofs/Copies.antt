@@ -1,0 +1,126 @@
+-- Copying a callee's formals back into the caller's variables.
+use Rattle.std.proofs.Common.{◌≡◌, ℕ, zero, suc, ◌<◌, ◌≤◌, List, [], ◌∷◌, ◌++◌, length, map, drop, Some, refl, sym, ap, ◌∙◌, subst, arith}
+use Rattle.std.specs.Prelude.{slice_index, slice_set, slice_get}
+use Rattle.std.proofs.lemmas.List.{length-set, get_or-set_same, get_or-set_other, set-get_or, set_comm}
+use Rattle.stack_text.specs.declared.shape.Shape.{Shape}
+use Rattle.stack_text.specs.Values.{ValueOf}
+use Rattle.gypsy_syntax.specs.ProgramFits.{Misses, Distinct, ActualsFit, ValueFits, Each}
+use Rattle.gypsy_syntax.specs.Effects.{value_at, no_value}
+use Rattle.gypsy_meaning.specs.Calls.{copied_out}
+use Rattle.gypsy_meaning.specs.Kept.{VarsFit}
+use Rattle.gypsy_meaning.proofs.EffectLaws.{set_fits}
+
+pub copied-length : (xs : List ℕ) (y x : List ValueOf) → length (copied_out xs y x) ≡ length x
+copied-length [] y x = refl
+copied-length (a ∷ xs) [] x = refl
+copied-length (a ∷ xs) (v ∷ y) x = copied-length xs y (slice_set x a v) ∙ length-set x a v
+
+-- each is below n
+abbrev pub Below : ℕ → List ℕ → Type 0
+Below n [] = Unit {0}
+Below n (a ∷ xs) = (a < n) × Below n xs
+
+pub copied_miss : (xs : List ℕ) (y x : List ValueOf) (a : ℕ) → Misses a xs → value_at (copied_out xs y x) a ≡ value_at x a
+copied_miss [] y x a m = refl
+copied_miss (b ∷ xs) [] x a m = refl
+copied_miss (b ∷ xs) (v ∷ y) x a m = copied_miss xs y (slice_set x b v) a m.1 ∙ get_or-set_other x b a v no_value m.0
+
+pub copied_at : (xs : List ℕ) (y x : List ValueOf) (i : ℕ) → Distinct xs → Below (length x) xs → i < length xs → i < length y → value_at (copied_out xs y x) (slice_index xs i) ≡ value_at y i
+copied_at [] y x i d b lx ly = absurd (omega arith)
+copied_at (a ∷ xs) [] x i d b lx ly = absurd (omega arith)
+copied_at (a ∷ xs) (v ∷ y) x zero d b lx ly = copied_miss xs y (slice_set x a v) a d.0 ∙ get_or-set_same x a v no_value b.0
+copied_at (a ∷ xs) (v ∷ y) x (suc i) d b lx ly =
+    copied_at xs y (slice_set x a v) i d.1 (subst (λ n. Below n xs) (sym (length-set x a v)) b.1) (omega arith) (omega arith)
+
+pub copied_set_miss : (xs : List ℕ) (y x : List ValueOf) (a : ℕ) (v : ValueOf) → Misses a xs → copied_out xs y (slice_set x a v) ≡ slice_set (copied_out xs y x) a v
+copied_set_miss [] y x a v m = refl
+copied_set_miss (b ∷ xs) [] x a v m = refl
+copied_set_miss (b ∷ xs) (w ∷ y) x a v m = ap (copied_out xs y) (set_comm x a b v w m.0) ∙ copied_set_miss xs y (slice_set x b w) a v m.1
+
+set_twice : (x : List ValueOf) (a : ℕ) (v w : ValueOf) → slice_set (slice_set x a v) a w ≡ slice_set x a w
+set_twice [] a v w = refl
+set_twice (y ∷ x) zero v w = refl
+set_twice (y ∷ x) (suc a) v w = ap (λ l. y ∷ l) (set_twice x a v w)
+
+pub copied_set : (xs : List ℕ) (y x : List ValueOf) (i : ℕ) (v : ValueOf) → Distinct xs → i < length xs → i < length y → copied_out xs (slice_set y i v) x ≡ slice_set (copied_out xs y x) (slice_index xs i) v
+copied_set [] y x i v d lx ly = absurd (omega arith)
+copied_set (a ∷ xs) [] x i v d lx ly = absurd (omega arith)
+copied_set (a ∷ xs) (w ∷ y) x zero v d lx ly = ap (copied_out xs y) (sym (set_twice x a w v)) ∙ copied_set_miss xs y (slice_set x a w) a v d.0
+copied_set (a ∷ xs) (w ∷ y) x (suc i) v d lx ly = copied_set xs y (slice_set x a w) i v d.1 (omega arith) (omega arith)
+
+pub copied_past : (xs : List ℕ) (y x : List ValueOf) (i : ℕ) (v : ValueOf) → length xs ≤ i → copied_out xs (slice_set y i v) x ≡ copied_out xs y x
+copied_past [] y x i v l = refl
+copied_past (a ∷ xs) [] x i v l = refl
+copied_past (a ∷ xs) (w ∷ y) x zero v l = absurd (omega arith)
+copied_past (a ∷ xs) (w ∷ y) x (suc i) v l = copied_past xs y (slice_set x a w) i v (omega arith)
+
+back_at : (ls x : List ValueOf) (xs : List ℕ) (z : List ValueOf) → z ≡ x → copied_out xs (map (value_at x) xs ++ ls) z ≡ x
+back_at ls x [] z e = e
+back_at ls x (a ∷ xs) z e =
+    back_at ls x xs (slice_set z a (value_at x a)) (ap (λ u. slice_set u a (value_at x a)) e ∙ set-get_or x a no_value)
+
+pub copied_back : (xs : List ℕ) (ls x : List ValueOf) → copied_out xs (map (value_at x) xs ++ ls) x ≡ x
+copied_back xs ls x = back_at ls x xs x refl
+
+pub below_at : (n : ℕ) (xs : List ℕ) (i : ℕ) → Below n xs → i < length xs → slice_index xs i < n
+below_at n [] i b h = absurd (omega arith)
+below_at n (a ∷ xs) zero b h = b.0
+below_at n (a ∷ xs) (suc i) b h = below_at n xs i b.1 (omega arith)
+
+-- what is there is below the length
+pub get_below : {A : Type 0} (xs : List A) (i : ℕ) (x : A) → slice_get xs i ≡ Some x → i < length xs
+get_below [] i x e = cc
+get_below (y ∷ xs) zero x e = omega arith
+get_below (y ∷ xs) (suc i) x e = let h = get_below xs i x e in omega (arith, h)
+
+-- Actuals that fit.
+
+pub actuals_below : (shapes formals : List Shape) (xs : List ℕ) → ActualsFit shapes formals xs → Below (length shapes) xs
+actuals_below shapes [] [] f = tt
+actuals_below shapes [] (x ∷ xs) f = absurd f
+actuals_below shapes (s ∷ formals) [] f = absurd f
+actuals_below shapes (s ∷ formals) (x ∷ xs) f = (get_below shapes x s f.0, actuals_below shapes formals xs f.1)
+
+pub actuals_number : (shapes formals : List Shape) (xs : List ℕ) → ActualsFit shapes formals xs → length xs ≡ length formals
+actuals_number shapes [] [] f = refl
+actuals_number shapes [] (x ∷ xs) f = absurd f
+actuals_number shapes (s ∷ formals) [] f = absurd f
+actuals_number shapes (s ∷ formals) (x ∷ xs) f = ap suc (actuals_number shapes formals xs f.1)
+
+-- the actual of a formal has its shape
+pub actual_shape : (shapes formals rest : List Shape) (xs : List ℕ) (b : ℕ) → ActualsFit shapes formals xs → b < length formals → slice_get shapes (slice_index xs b) ≡ slice_get (formals ++ rest) b
+actual_shape shapes [] rest xs b f h = absurd (omega arith)
+actual_shape shapes (s ∷ formals) rest [] b f h = absurd f
+actual_shape shapes (s ∷ formals) rest (x ∷ xs) zero f h = f.0
+actual_shape shapes (s ∷ formals) rest (x ∷ xs) (suc b) f h = actual_shape shapes formals rest xs b f.1 (omega arith)
+
+-- Variables that fit.
+
+pub vars_number : (shapes : List Shape) (x : List ValueOf) → VarsFit shapes x → length x ≡ length shapes
+vars_number [] [] h = refl
+vars_number [] (v ∷ x) h = absurd h
+vars_number (s ∷ shapes) [] h = absurd h
+vars_number (s ∷ shapes) (v ∷ x) h = ap suc (vars_number shapes x h.2)
+
+pub vars_behind : (formals rest : List Shape) (y : List ValueOf) → VarsFit (formals ++ rest) y → VarsFit rest (drop (length formals) y)
+vars_behind [] rest y h = h
+vars_behind (s ∷ formals) rest [] h = absurd h
+vars_behind (s ∷ formals) rest (v ∷ y) h = vars_behind formals rest y h.2
+
+pub vars_join : (ss shapes : List Shape) (y x : List ValueOf) → VarsFit ss y → VarsFit shapes x → VarsFit (ss ++ shapes) (y ++ x)
+vars_join [] shapes [] x h f = f
+vars_join [] shapes (v ∷ y) x h f = absurd h
+vars_join (s ∷ ss) shapes [] x h f = absurd h
+vars_join (s ∷ ss) shapes (v ∷ y) x h f = (h.0, h.1, vars_join ss shapes y x h.2 f)
+
+pub locals_fit : (locals : List ValueOf) → Each ValueFits locals → VarsFit (map (λ (v : ValueOf). v.shape) locals) locals
+locals_fit [] h = tt
+locals_fit (v ∷ locals) h = (refl, h.0, locals_fit locals h.1)
+
+pub copies_fit : (shapes formals rest : List Shape) (xs : List ℕ) (y x : List ValueOf) → ActualsFit shapes formals xs → VarsFit (formals ++ rest) y → VarsFit shapes x → VarsFit shapes (copied_out xs y x)
+copies_fit shapes [] rest [] y x f g h = h
+copies_fit shapes [] rest (a ∷ xs) y x f g h = absurd f
+copies_fit shapes (s ∷ formals) rest [] y x f g h = absurd f
+copies_fit shapes (s ∷ formals) rest (a ∷ xs) [] x f g h = absurd g
+copies_fit shapes (s ∷ formals) rest (a ∷ xs) (v ∷ y) x f g h =
+    copies_fit shapes formals rest xs y (slice_set x a v) f.1 g.2 (set_fits shapes x a v h (f.0 ∙ ap Some (sym g.0)) g.1)

@@ -1,0 +1,12 @@
+pub mod Copies
+pub mod Stacked
+pub mod Laid
+pub mod Going
+pub mod Pushes
+pub mod Standing
+pub mod Calling
+pub mod Applying
+pub mod Rows
+pub mod Runs
+pub mod Examples
+pub mod Sized

@@ -1,0 +1,185 @@
+-- The generated system. A label is the place that it stands for.
+use Rattle.std.specs.Prelude.{ℕ, zero, suc, ◌+◌, ◌*◌, ◌-◌, ◌==◌, pos, List, [], ◌∷◌, ◌++◌, map, length, get_or, nat_lt, if◌then◌else◌}
+use Rattle.stack_text.specs.declared.shape.Shape.{Shape}
+use Rattle.stack_text.specs.declared.shape.Kind.TheVariants.{Integer}
+use Rattle.stack_text.specs.Values.{item_count}
+use Rattle.piton_words.specs.declared.word.Word.{Word}
+use Rattle.piton_words.specs.declared.word.Word.TheVariants.{Int, Nat}
+use Rattle.piton_words.specs.declared.op.WordOp.TheVariants as op
+use Rattle.piton_syntax.specs.declared.test_kind.TestFamily.TheVariants as family
+use Rattle.piton_syntax.specs.declared.test_kind.TestKind.TheVariants as test
+use Rattle.piton_check.specs.Instruction as i
+use Rattle.piton_check.specs.Instruction.{Instruction, ProgramView, SystemView}
+use Rattle.gypsy_syntax.specs.declared.predef.Predef.{Predef}
+use Rattle.gypsy_syntax.specs.declared.predef.Predef.TheVariants as row
+use Rattle.gypsy_syntax.specs.Programs.{Cond, Routine, Arg, Var, Lit, Program, simple, proc_at, body_of, shapes_of}
+use Rattle.gypsy_syntax.specs.Programs.{Stmt, Skip, NoOp, Signal, Seq, Loop, If, Begin, Call, Apply}
+use Rattle.gypsy_syntax.specs.Effects.{item_of_value}
+use Rattle.gypsy_space.specs.Needs.{Words, local_words, vars_of}
+use Rattle.gypsy_meaning.specs.Calls.{has_cond, is_leave, is_formal}
+use Rattle.gypsy_predef.specs.Bodies.{bodies, predef_number, lengths_of}
+use Rattle.gypsy_predef.specs.Runs.{word_of_item, can_fail}
+use Rattle.gypsy_predef.specs.Calls.{test_code}
+use Rattle.gypsy_codegen.specs.WordsOf.{words_of_values, zero_value, starts, local_shapes, number_of}
+
+-- what stands round a statement, the nearest first: a loop by the place of its b, a begin by its list and the place of its a
+pub data Scope : Type 0 where
+  InLoop : (b : ℕ) → Scope
+  InBegin : (cs : List Cond) (a : ℕ) → Scope
+
+-- where a condition leaves procedure p, whose body has n instructions: L1 or L0
+abbrev pub out_place : Program → ℕ → ℕ → Cond → ℕ
+out_place q p n c = if is_formal q p c then n + 3 else n + 1
+
+-- where a condition goes
+abbrev pub target : Program → ℕ → ℕ → List Scope → Cond → ℕ
+target q p n [] c = out_place q p n c
+target q p n (InLoop b ∷ env) c = if is_leave c then b else target q p n env c
+target q p n (InBegin cs a ∷ env) c = if has_cond c cs then a else target q p n env c
+
+abbrev pub raise_code : Program → ℕ → ℕ → List Scope → Cond → List Instruction
+raise_code q p n env c = i.PushConstant (Nat (number_of c)) ∷ i.PopGlobal 0 ∷ i.Jump (target q p n env c) ∷ []
+
+-- the condition is normal again
+abbrev pub normal_code : List Instruction
+normal_code = i.PushConstant (Nat 2) ∷ i.PopGlobal 0 ∷ []
+
+abbrev pub back_code : ℕ → List Instruction
+back_code a = i.Jump a ∷ normal_code
+
+-- the raises of the condition actuals, and their places
+abbrev pub raises : Program → ℕ → ℕ → List Scope → List Cond → List Instruction
+raises q p n env [] = []
+raises q p n env (c ∷ cs) = raise_code q p n env c ++ raises q p n env cs
+
+abbrev pub raise_places : ℕ → List Cond → List ℕ
+raise_places at [] = []
+raise_places at (c ∷ cs) = at ∷ raise_places (at + 3) cs
+
+-- what follows a call whose callee has l words of locals
+abbrev pub after_size : List Cond → ℕ
+after_size cs = 3 * length cs + 7
+
+abbrev pub after_code : Program → ℕ → ℕ → List Scope → ℕ → ℕ → List Cond → List Instruction
+after_code q p n env at l cs =
+    i.PopStar l ∷ i.PushGlobal 0 ∷ i.JumpCase ((at + 3) ∷ (at + 3) ∷ (at + 6 + 3 * length cs) ∷ raise_places (at + 6) cs) ∷
+    (raise_code q p n env Routine ++ (raises q p n env cs ++ i.NoOp ∷ []))
+
+-- the constants, and the indices of the locals that they make: of those from number k on, whose first word is o
+abbrev pub push_words : List Word → List Instruction
+push_words [] = []
+push_words (w ∷ ws) = i.PushConstant w ∷ push_words ws
+
+abbrev pub push_indices : ℕ → ℕ → ℕ → List Shape → List Instruction
+push_indices l k o [] = []
+push_indices l k o (s ∷ shapes) = i.PushTempStkIndex (l + k - 1 - o) ∷ push_indices l (k + 1) (o + item_count s) shapes
+
+-- the offset of a variable in the frame of procedure p: main's as they are, else the locals before the formals
+abbrev pub offset : Program → ℕ → ℕ → ℕ
+offset q p b =
+    let c = proc_at q p in
+    if p == q.main then b else if nat_lt b (length c.formals) then length c.locals + b else b - length c.formals
+
+abbrev pub push_actuals : Program → ℕ → List ℕ → List Instruction
+push_actuals q p [] = []
+push_actuals q p (b ∷ xs) = i.PushLocal (offset q p b) ∷ push_actuals q p xs
+
+abbrev pub before_size : Program → ℕ → List ℕ → ℕ
+before_size q c xs = length (words_of_values (proc_at q c).locals) + (length (proc_at q c).locals + (length xs + 1))
+
+-- the arguments of a predefined call
+abbrev pub push_args : Program → ℕ → List Arg → List Instruction
+push_args q p [] = []
+push_args q p (Var b ∷ args) = i.PushLocal (offset q p b) ∷ push_args q p args
+push_args q p (Lit v ∷ args) = i.PushConstant (word_of_item v.shape.kind (item_of_value v)) ∷ push_args q p args
+
+-- the length of the array among them
+abbrev pub arg_length : List Shape → Arg → ℕ
+arg_length shapes (Var b) = (get_or shapes b (simple Integer)).length
+arg_length shapes (Lit v) = 0
+
+-- which the array rows push last
+abbrev pub length_code : List Shape → Predef → List Arg → List Instruction
+length_code shapes row.MgIndexArray args = i.PushConstant (Int (pos (arg_length shapes (get_or args 1 (Var 0))))) ∷ []
+length_code shapes row.MgArrayElementAssignment args = i.PushConstant (Int (pos (arg_length shapes (get_or args 0 (Var 0))))) ∷ []
+length_code shapes r args = []
+
+-- how many instructions test for a fault
+abbrev pub test_size : Predef → ℕ
+test_size r = if can_fail r then 3 else 0
+
+-- the position of a predefined program
+abbrev pub predef_position : Program → Predef → ℕ
+predef_position q r = length q.procs + predef_number r
+
+-- how many instructions a statement has
+abbrev pub size : Program → Stmt → ℕ
+size q Skip = 0
+size q (NoOp place) = 1
+size q (Signal place c) = 3
+size q (Seq a b) = size q a + size q b
+size q (Loop place s) = size q s + 4
+size q (If place b s v) = size q s + size q v + 6
+size q (Begin place s cs v) = size q s + size q v + 4
+size q (Call place c xs cs) = before_size q c xs + after_size cs
+size q (Apply place r args) = length args + (lengths_of r + (test_size r + 1))
+
+-- the code of a statement of procedure p, whose body has n instructions, at this place
+module _ (q : Program) (p n : ℕ) where
+  abbrev pub gen : List Scope → ℕ → Stmt → List Instruction
+  gen env at Skip = []
+  gen env at (NoOp place) = i.NoOp ∷ []
+  gen env at (Signal place c) = raise_code q p n env c
+  gen env at (Seq a b) = gen env at a ++ gen env (at + size q a) b
+  gen env at (Loop place s) = i.NoOp ∷ (gen (InLoop (at + 1 + size q s + 1) ∷ env) (at + 1) s ++ back_code at)
+  gen env at (If place b s v) =
+      i.PushLocal (offset q p b) ∷ i.FetchTempStk ∷ i.TestAndJump family.Bool test.F (at + 3 + size q s + 1) ∷
+      (gen env (at + 3) s ++ i.Jump (at + 3 + size q s + 2 + size q v) ∷ i.NoOp ∷ (gen env (at + 3 + size q s + 2) v ++ i.NoOp ∷ []))
+  gen env at (Begin place s cs v) =
+      gen (InBegin cs (at + size q s + 1) ∷ env) at s ++
+      i.Jump (at + size q s + 3 + size q v) ∷ i.PushConstant (Nat 2) ∷ i.PopGlobal 0 ∷ (gen env (at + size q s + 3) v ++ i.NoOp ∷ [])
+  gen env at (Call place c xs cs) =
+      let l = local_words (proc_at q c) in
+      push_words (words_of_values (proc_at q c).locals) ++
+      (push_indices l 0 0 (local_shapes (proc_at q c)) ++
+      (push_actuals q p xs ++ i.Call c ∷ after_code q p n env (at + before_size q c xs) l cs))
+  gen env at (Apply place r args) =
+      push_args q p args ++
+      (length_code (shapes_of (proc_at q p)) r args ++ i.Call (predef_position q r) ∷ test_code r (target q p n env Routine))
+
+abbrev pub tail_code : ℕ → List Instruction
+tail_code n = i.Jump (n + 3) ∷ i.PushConstant (Nat 1) ∷ i.PopGlobal 0 ∷ i.Ret ∷ []
+
+-- the code of a procedure
+abbrev pub code_of : Program → ℕ → List Instruction
+code_of q p = gen q p (size q (body_of q p)) [] 0 (body_of q p) ++ tail_code (size q (body_of q p))
+
+-- the program of a procedure
+abbrev pub generated_program : Program → ℕ → ProgramView
+generated_program q p = record {
+  formals = if p == q.main then 0 else vars_of (proc_at q p);
+  temporaries = if p == q.main then map (λ n. Nat n) (starts 0 (shapes_of (proc_at q p))) else [];
+  instructions = code_of q p;
+}
+
+-- the numbers from n, so many
+abbrev pub count_from : ℕ → ℕ → List ℕ
+count_from n zero = []
+count_from n (suc k) = n ∷ count_from (suc n) k
+
+-- the words of main's variables before its formals are given
+abbrev pub opening_words : Program → List Word
+opening_words q =
+    let p = proc_at q q.main in words_of_values (map zero_value p.formals ++ p.locals)
+
+-- the generated system
+abbrev pub generated_view : Program → Words → ℕ → SystemView
+generated_view q sizes base = record {
+  main = q.main;
+  ctrl = sizes.ctrl;
+  temp = sizes.temp;
+  base = base;
+  areas = (Nat 2 ∷ []) ∷ [];
+  stack = opening_words q;
+  programs = map (generated_program q) (count_from 0 (length q.procs)) ++ bodies;
+}

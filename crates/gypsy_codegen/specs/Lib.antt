@@ -1,0 +1,9 @@
+-- The generated system by places: the words of its code and of its stack.
+pub mod WordsOf
+pub mod Generated
+pub mod Memory
+-- What the crate promises: what each step and each run of the system does, and its sizes.
+pub mod Showing
+pub mod Law
+pub mod Whole
+pub mod Sizes

@@ -1,0 +1,54 @@
+//! Laws of the generated system. The functions do nothing: their clauses hold of all programs that fit, and of all sizes and states.
+
+ghost use Rattle.gypsy_codegen.specs.Law.{StepsFollow};
+ghost use Rattle.gypsy_codegen.specs.Sizes.{ProceduresTakeWords};
+ghost use Rattle.gypsy_codegen.specs.Whole.{StartShows, EachIsShown, MeaningRuns, LimitedRunHalts, RaiseFollows};
+ghost use Rattle.gypsy_codegen.specs.Whole.{PlaceIsMark, VariablesStand, WaitingVariablesStand, ActualsShare};
+
+/// Each step of the step machine is so many steps of the generated system, at its cost: from a state that shows the
+/// one of the step machine to one that shows the next, or that has halted where the program ends.
+pub fn steps_follow()
+    ensures { StepsFollow }
+{
+    gypsy_predef::predefs_run();
+}
+
+/// A condition that is raised comes from its target to the item that stops it.
+pub fn raise_follows()
+    ensures { RaiseFollows }
+{
+    gypsy_predef::predefs_run();
+}
+
+/// The opening state shows the start, and each state that the step machine comes to is shown after the steps that its
+/// tally tells.
+pub fn states_are_shown()
+    ensures start { StartShows }
+    ensures each { EachIsShown }
+{
+    gypsy_predef::predefs_run();
+}
+
+/// A state that shows one of the step machine stands at its mark, and its stack has the words of the variables: of the
+/// activation on top, and of those that wait but where an actual stands, which has its formal's index.
+pub fn shown_states_read()
+    ensures place { PlaceIsMark }
+    ensures variables { VariablesStand }
+    ensures waiting { WaitingVariablesStand }
+    ensures shared { ActualsShare }
+{}
+
+/// Micro-Gypsy runs on Piton: where the meaning is done, the generated system first halts with the same, after the
+/// counted steps and at the counted cost, and no step before is an error. A run with a limit of so many steps or more
+/// halts there.
+pub fn meaning_runs()
+    ensures steps { MeaningRuns }
+    ensures limited { LimitedRunHalts }
+{
+    gypsy_predef::predefs_run();
+}
+
+/// Each generated procedure takes its code words on the processor, its prelude with them.
+pub fn procedures_take_words()
+    ensures { ProceduresTakeWords }
+{}

@@ -1,0 +1,6 @@
+//! The generated Piton system of a program of Micro-Gypsy, and what its steps do.
+#![tactic(auto)]
+
+mod law;
+
+pub use law::{meaning_runs, procedures_take_words, raise_follows, shown_states_read, states_are_shown, steps_follow};
