@@ -10,3 +10,17 @@ pub mod Rows
 pub mod Runs
 pub mod Examples
 pub mod Sized
+pub mod MeansLaws
+pub mod LabelLaws
+pub mod DeclareLaws
+pub mod LinesLaws
+pub mod ResolveLaws
+pub mod FineLaws
+pub mod ProgramLaws
+pub mod SourceLaws
+pub mod BaseLaws
+pub mod CountLaws
+pub mod ProcedureLaws
+pub mod NodeLaws
+pub mod FrameLaws
+pub mod SystemLaws

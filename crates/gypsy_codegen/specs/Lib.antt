@@ -2,8 +2,13 @@
 pub mod WordsOf
 pub mod Generated
 pub mod Memory
+-- The same system as a text: names, labels, lines.
+pub mod Written
+pub mod Lines
+pub mod Text
 -- What the crate promises: what each step and each run of the system does, and its sizes.
 pub mod Showing
 pub mod Law
 pub mod Whole
 pub mod Sizes
+pub mod Acceptable

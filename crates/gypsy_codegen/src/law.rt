@@ -1,5 +1,6 @@
 //! Laws of the generated system. The functions do nothing: their clauses hold of all programs that fit, and of all sizes and states.
 
+ghost use Rattle.gypsy_codegen.specs.Acceptable.{GeneratedIsAcceptable, VariablesKeepNames};
 ghost use Rattle.gypsy_codegen.specs.Law.{StepsFollow};
 ghost use Rattle.gypsy_codegen.specs.Sizes.{ProceduresTakeWords};
 ghost use Rattle.gypsy_codegen.specs.Whole.{StartShows, EachIsShown, MeaningRuns, LimitedRunHalts, RaiseFollows};
@@ -51,4 +52,17 @@ pub fn meaning_runs()
 /// Each generated procedure takes its code words on the processor, its prelude with them.
 pub fn procedures_take_words()
     ensures { ProceduresTakeWords }
+{}
+
+/// The system of an accepted source, as a text with names and labels, keeps the form and breaks no rule of Piton, and
+/// its names and labels resolve to the system by places.
+pub fn generated_is_acceptable()
+    ensures { GeneratedIsAcceptable }
+{
+    gypsy_predef::bodies_resolve();
+}
+
+/// The name that is written for a variable is the variable's own.
+pub fn variables_keep_names()
+    ensures { VariablesKeepNames }
 {}

@@ -3,4 +3,5 @@
 
 mod law;
 
+pub use law::{generated_is_acceptable, variables_keep_names};
 pub use law::{meaning_runs, procedures_take_words, raise_follows, shown_states_read, states_are_shown, steps_follow};

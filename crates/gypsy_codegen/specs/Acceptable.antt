@@ -1,0 +1,47 @@
+-- What is known of the generated system as a text.
+use Rattle.std.specs.Prelude.{◌≡◌, ◌<◌, get_or, ℕ, ◌+◌, ◌≤◌, ◌^◌, List, [], ◌∷◌, length}
+use Rattle.piton_syntax.specs.Answers.{KeepsForm}
+use Rattle.piton_check.specs.Violations.{violations}
+use Rattle.piton_check.specs.Resolved.{resolved}
+use Rattle.piton_check.specs.Instruction.{system_view}
+use Rattle.piton_check.specs.Sound.{IsSound}
+use Rattle.gypsy_syntax.specs.Sources.{ProcOf, SourceOf}
+use Rattle.gypsy_syntax.specs.Programs.{Program, proc_at}
+use Rattle.gypsy_syntax.specs.Resolved.{variable_names, procedure_of, program_of}
+use Rattle.gypsy_check.specs.Accepted.{IsAccepted}
+use Rattle.gypsy_space.specs.Needs.{Words, code_words}
+use Rattle.gypsy_codegen.specs.Generated.{generated_view, count_from, offset}
+use Rattle.gypsy_codegen.specs.Text.{frame_texts, generated}
+use Rattle.gypsy_codegen.specs.Whole.{SizesFit}
+
+-- the words of code of procedures together
+abbrev pub code_words_of : Program → List ℕ → ℕ
+code_words_of q [] = 0
+code_words_of q (p ∷ ps) = code_words q p + code_words_of q ps
+
+abbrev pub total_words : Program → ℕ
+total_words q = code_words_of q (count_from 0 (length q.procs))
+
+-- the sizes cover main's own need, and sizes, base and code are within their limits
+pub record LimitsFit (q : Program) (sizes : Words) (base : ℕ) : Type 0 where
+  pub sizes_fit : SizesFit q sizes
+  pub few_ctrl : sizes.ctrl ≤ 2 ^ 16
+  pub low_base : base ≤ 2 ^ 31
+  pub few_words : total_words q ≤ 2 ^ 20
+
+-- it keeps the form, breaks no rule, and is seen as the system by places, which is sound
+pub record IsAcceptable (s : SourceOf) (sizes : Words) (base : ℕ) : Type 0 where
+  pub form : KeepsForm (generated s sizes base)
+  pub rules : violations (generated s sizes base) ≡ []
+  pub view : system_view (resolved (generated s sizes base)) ≡ generated_view (program_of s) sizes base
+  pub sound : IsSound (generated_view (program_of s) sizes base)
+
+-- the system of an accepted source is acceptable
+abbrev pub GeneratedIsAcceptable : Type 0
+GeneratedIsAcceptable = (s : SourceOf) (sizes : Words) (base : ℕ) → IsAccepted s → LimitsFit (program_of s) sizes base →
+    IsAcceptable s sizes base
+
+-- the name that is written for a variable is the variable's
+abbrev pub VariablesKeepNames : Type 0
+VariablesKeepNames = (s : SourceOf) (q : Program) (p : ℕ) (proc : ProcOf) (v : ℕ) → proc_at q p ≡ procedure_of s proc →
+    v < length (variable_names proc) → get_or (frame_texts q p proc) (offset q p v) [] ≡ get_or (variable_names proc) v []

@@ -1,0 +1,64 @@
+-- The generated system, as a text has it.
+use Rattle.std.specs.Prelude.{ℕ, suc, ◌==◌, pos, List, [], ◌∷◌, ◌++◌, map, if◌then◌else◌}
+use Rattle.stack_text.specs.declared.name.Named.{Named}
+use Rattle.piton_words.specs.declared.word.Word.{Word}
+use Rattle.piton_words.specs.declared.word.Word.TheVariants.{Nat}
+use Rattle.piton_syntax.specs.declared.word_text.WordText.{WordText}
+use Rattle.piton_syntax.specs.Systems.{ProgramOf, AreaOf, SystemOf, new_program, new_area, new_system}
+use Rattle.gypsy_syntax.specs.Sources.{ProcOf, SourceOf}
+use Rattle.gypsy_syntax.specs.Programs.{Program, proc_at, shapes_of}
+use Rattle.gypsy_syntax.specs.Predefined.{predefs, predef_name}
+use Rattle.gypsy_syntax.specs.Resolved.{variable_names, procedure_names, program_of}
+use Rattle.gypsy_space.specs.Needs.{Words}
+use Rattle.gypsy_predef.specs.Texts.{named, condition_area, body_texts}
+use Rattle.gypsy_codegen.specs.WordsOf.{starts}
+use Rattle.gypsy_codegen.specs.Generated.{opening_words}
+use Rattle.gypsy_codegen.specs.Written.{Names, number, written_word, written}
+use Rattle.gypsy_codegen.specs.Lines.{lines_of}
+
+-- the names of the programs, and of the one area
+abbrev pub program_texts : SourceOf → List (List ℕ)
+program_texts s = procedure_names s ++ map predef_name predefs
+
+abbrev pub area_texts : List (List ℕ)
+area_texts = condition_area ∷ []
+
+-- the words of a frame by name: main's variables in order, else the locals and behind them the formals
+abbrev pub frame_texts : Program → ℕ → ProcOf → List (List ℕ)
+frame_texts q p proc =
+    if p == q.main then variable_names proc
+    else map (λ l. l.decl.name.name) proc.locals ++ map (λ d. d.name.name) proc.formals
+
+-- the names of a procedure, whose words of a frame have these
+abbrev pub names_with : SourceOf → List (List ℕ) → Names
+names_with s locals = record { areas = area_texts; programs = program_texts s; locals = locals }
+
+-- temporaries of these names that hold these words
+abbrev pub temporaries_of : Names → List (List ℕ) → List Word → List (Named × WordText)
+temporaries_of n (name ∷ names) (w ∷ ws) = (named name, written_word n w) ∷ temporaries_of n names ws
+temporaries_of n _ _ = []
+
+-- the program of procedure p
+abbrev pub written_procedure : SourceOf → ℕ → ProcOf → ProgramOf
+written_procedure s p proc =
+    let q = program_of s in
+    let frame = frame_texts q p proc in
+    let n = names_with s frame in
+    new_program 0 0 (named proc.name.name) (if p == q.main then [] else map named frame)
+    (if p == q.main then temporaries_of n frame (map (λ at. Nat at) (starts 0 (shapes_of (proc_at q p)))) else [])
+    (map (written n) (lines_of q p))
+
+abbrev pub written_procedures : SourceOf → ℕ → List ProcOf → List ProgramOf
+written_procedures s p [] = []
+written_procedures s p (proc ∷ procs) = written_procedure s p proc ∷ written_procedures s (suc p) procs
+
+-- the one area, of one word: the number of the normal condition
+abbrev pub written_area : SourceOf → AreaOf
+written_area s = new_area 0 (named condition_area) (written_word (names_with s []) (Nat 2) ∷ [])
+
+-- the system of a source, with these sizes of the stacks and this base
+abbrev pub generated : SourceOf → Words → ℕ → SystemOf
+generated s sizes base =
+    new_system 0 (named s.main.name) (number (pos sizes.ctrl)) (number (pos sizes.temp)) (number (pos base))
+    (written_area s ∷ []) (map (written_word (names_with s [])) (opening_words (program_of s)))
+    (written_procedures s 0 s.procs ++ body_texts)
