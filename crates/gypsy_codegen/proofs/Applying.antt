@@ -41,7 +41,7 @@ use Rattle.gypsy_codegen.specs.Showing.{HasAt, Stands}
 use Rattle.gypsy_codegen.specs.Law.{Follows}
 use Rattle.gypsy_codegen.proofs.Copies.{get_below}
 use Rattle.gypsy_codegen.proofs.Laid.{reads_at, writes_at, frame_at, if_no}
-use Rattle.gypsy_codegen.proofs.Going.{P, Pt, state, state_at, Goes, predef_there, program_is}
+use Rattle.gypsy_codegen.proofs.Going.{Pt, state, state_at, Goes, predef_there, program_is}
 use Rattle.gypsy_codegen.proofs.Pushes.{Live, free_temp, free_ctrl, here, top}
 use Rattle.gypsy_codegen.proofs.Standing.{settle_stands, Comes, comes_on, leads, lands, raise_leads, apply_size}
 

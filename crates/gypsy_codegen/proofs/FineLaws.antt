@@ -31,7 +31,6 @@ use Rattle.gypsy_syntax.specs.ProgramFits.{Each, is_in_range, ValueFits, CondFit
 use Rattle.gypsy_space.specs.Needs.{local_words, vars_of}
 use Rattle.gypsy_meaning.specs.Calls.{has_cond, is_leave, is_formal}
 use Rattle.gypsy_predef.specs.Runs.{word_of_item, words_of_value, can_fail}
-use Rattle.gypsy_predef.specs.Calls.{test_code}
 use Rattle.gypsy_codegen.specs.WordsOf.{words_of_values, local_shapes, number_of}
 use Rattle.gypsy_predef.specs.Bodies.{predef_number}
 use Rattle.gypsy_codegen.specs.Generated.{Scope, InLoop, InBegin, push_words, push_indices, push_actuals, push_args, length_code}

@@ -1,10 +1,10 @@
 -- What a source without violations says of its names: they differ, and none is predefined.
 use Rattle.std.proofs.Common.{◌≡◌, ℕ, zero, suc, ◌+◌, ◌<◌, List, [], ◌∷◌, ◌++◌, map, length, get_or, bytes_eq}
-use Rattle.std.proofs.Common.{Bool, true, false, cond, ltb, ◌&&◌, not, is_none, true≢false, refl, ap, sym, subst, ◌∙◌, arith, flat_map, length-append}
+use Rattle.std.proofs.Common.{Bool, true, false, cond, ◌&&◌, not, is_none, true≢false, refl, ap, sym, subst, ◌∙◌, arith, flat_map, length-append}
 use Rattle.std.specs.Prelude.{IsTrue, ◌==◌, ◌≤◌, All}
 use Rattle.piton_syntax.proofs.FitsLaws.{all_first, all_rest}
 use Rattle.gypsy_syntax.specs.Fits.{FitsDecl, FitsLocal, FitsProcedure}
-use Rattle.std.specs.List.{list_any, list_all}
+use Rattle.std.specs.List.{list_all}
 use Rattle.std.proofs.lemmas.List.{length-map}
 use Rattle.std.proofs.lemmas.Slice.Eq.{bytes_eq-Decides}
 use Rattle.std.proofs.lemmas.Bool.{and_parts}
@@ -19,14 +19,13 @@ use Rattle.gypsy_syntax.specs.Programs.{Program}
 use Rattle.gypsy_syntax.specs.Predefined.{predefs, predef_name}
 use Rattle.gypsy_syntax.specs.Resolved.{variable_names, variable_types, procedure_names}
 use Rattle.gypsy_syntax.specs.ProgramFits.{Each}
-use Rattle.stack_text.specs.Breaches.{when}
 use Rattle.gypsy_check.specs.Declarations.{procedure_named, is_predefined, variables_of, repeats}
 use Rattle.gypsy_check.specs.Rules.{type_breaches, local_breaches, condition_name_breaches, size_breaches, statement_breaches}
 use Rattle.gypsy_check.specs.Rules.{variable_breaches, procedure_breaches, name_breaches, main_breaches, violations}
 use Rattle.gypsy_check.proofs.CleanLaws.{two, three, four, fails}
 use Rattle.gypsy_check.proofs.NameLaws.{Found, procedure_found}
 use Rattle.gypsy_codegen.specs.Text.{program_texts, frame_texts}
-use Rattle.gypsy_codegen.proofs.DeclareLaws.{or_false, Differ, Unlike, Cross, like_sym, differ_both, differ_swap, differ_source}
+use Rattle.gypsy_codegen.proofs.DeclareLaws.{Differ, Unlike, Cross, differ_both, differ_swap, differ_source}
 
 -- closed lists by computing
 abbrev pub differ_all : List (List ℕ) → Bool

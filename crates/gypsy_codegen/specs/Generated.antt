@@ -5,7 +5,6 @@ use Rattle.stack_text.specs.declared.shape.Kind.TheVariants.{Integer}
 use Rattle.stack_text.specs.Values.{item_count}
 use Rattle.piton_words.specs.declared.word.Word.{Word}
 use Rattle.piton_words.specs.declared.word.Word.TheVariants.{Int, Nat}
-use Rattle.piton_words.specs.declared.op.WordOp.TheVariants as op
 use Rattle.piton_syntax.specs.declared.test_kind.TestFamily.TheVariants as family
 use Rattle.piton_syntax.specs.declared.test_kind.TestKind.TheVariants as test
 use Rattle.piton_check.specs.Instruction as i

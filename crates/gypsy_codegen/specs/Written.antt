@@ -1,5 +1,5 @@
 -- Instructions as a text has them: with names in place of positions. A place in a jump is the number of a label.
-use Rattle.std.specs.Prelude.{ℕ, ℤ, pos, List, [], ◌∷◌, map, get_or, Option, Some, None}
+use Rattle.std.specs.Prelude.{ℕ, ℤ, pos, List, [], ◌∷◌, map, get_or, Some, None}
 use Rattle.std.specs.Fmt.{decimal}
 use Rattle.stack_text.specs.declared.name.Named.{Named}
 use Rattle.piton_words.specs.declared.word.Word.{Word}

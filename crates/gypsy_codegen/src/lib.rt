@@ -3,5 +3,7 @@
 
 mod law;
 
-pub use law::{generated_is_acceptable, variables_keep_names};
-pub use law::{meaning_runs, procedures_take_words, raise_follows, shown_states_read, states_are_shown, steps_follow};
+pub use law::{
+    generated_is_acceptable, meaning_runs, procedures_take_words, raise_follows, shown_states_read,
+    states_are_shown, steps_follow, variables_keep_names,
+};
