@@ -7,6 +7,7 @@ pub mod Standing
 pub mod Calling
 pub mod Applying
 pub mod Rows
+pub mod RowCases
 pub mod Runs
 pub mod Examples
 pub mod Sized

@@ -9,6 +9,7 @@ pub mod Text
 -- What the crate promises: what each step and each run of the system does, and its sizes.
 pub mod Showing
 pub mod Law
+pub mod Rows
 pub mod Whole
 pub mod Sizes
 pub mod Acceptable

@@ -2,6 +2,8 @@
 
 ghost use Rattle.gypsy_codegen.specs.Acceptable.{GeneratedIsAcceptable, VariablesKeepNames};
 ghost use Rattle.gypsy_codegen.specs.Law.{StepsFollow};
+ghost use Rattle.gypsy_codegen.specs.Rows.{NoOpRow, SignalRow, LoopRow, BackRow, ThenRow, ElseRow, JoinThenRow, JoinOneRow};
+ghost use Rattle.gypsy_codegen.specs.Rows.{GuardRow, CallRow, WriteRow, FaultRow, BeyondRow, ReturnRow, OutRow, EndRow, MainOutRow};
 ghost use Rattle.gypsy_codegen.specs.Sizes.{ProceduresTakeWords};
 ghost use Rattle.gypsy_codegen.specs.Whole.{StartShows, EachIsShown, MeaningRuns, LimitedRunHalts, RaiseFollows};
 ghost use Rattle.gypsy_codegen.specs.Whole.{PlaceIsMark, VariablesStand, WaitingVariablesStand, ActualsShare};
@@ -10,6 +12,30 @@ ghost use Rattle.gypsy_codegen.specs.Whole.{PlaceIsMark, VariablesStand, Waiting
 /// one of the step machine to one that shows the next, or that has halted where the program ends.
 pub fn steps_follow()
     ensures { StepsFollow }
+{
+    gypsy_predef::predefs_run();
+}
+
+/// The same row by row: each item of work on top, with the state that it leads to, its cost and its steps. The law of a
+/// call stands apart from those of what a procedure does by itself.
+pub fn rows_follow()
+    ensures no_op { NoOpRow }
+    ensures signal { SignalRow }
+    ensures loop_begins { LoopRow }
+    ensures loop_again { BackRow }
+    ensures then_branch { ThenRow }
+    ensures else_branch { ElseRow }
+    ensures join_then { JoinThenRow }
+    ensures join_one { JoinOneRow }
+    ensures guard { GuardRow }
+    ensures call { CallRow }
+    ensures write { WriteRow }
+    ensures fault { FaultRow }
+    ensures beyond { BeyondRow }
+    ensures returned { ReturnRow }
+    ensures out { OutRow }
+    ensures main_end { EndRow }
+    ensures main_out { MainOutRow }
 {
     gypsy_predef::predefs_run();
 }

@@ -1,0 +1,80 @@
+-- The rows of the step machine, one by one.
+use Rattle.std.proofs.Common.{◌≡◌, ℕ, List, [], ◌∷◌, Some, None, slice_set, sym, subst, ap}
+use Rattle.stack_text.specs.Values.{ValueOf}
+use Rattle.gypsy_syntax.specs.Programs.{body_of, NoOp, Signal, Loop, If, Call, Apply}
+use Rattle.gypsy_syntax.specs.Effects.{Normal, Fault, Beyond}
+use Rattle.gypsy_space.specs.Costs.{spend}
+use Rattle.gypsy_space.specs.Needs.{call_spend}
+use Rattle.gypsy_meaning.specs.Calls.{copied_in}
+use Rattle.gypsy_meaning.specs.Machine.{Item, Do, Back, JoinThen, JoinOne, Guard, Out, Frame, Held, State, At, Next, either_move, full_or, apply_step, end_step, out_step, open_on, gypsy_step}
+use Rattle.gypsy_codegen.specs.Generated.{generated_view}
+use Rattle.gypsy_codegen.specs.Law.{Follows}
+use Rattle.gypsy_codegen.specs.Rows.{Top, IsShown, at_work, NoOpRow, SignalRow, LoopRow, BackRow, ThenRow, ElseRow, JoinThenRow, JoinOneRow, GuardRow}
+use Rattle.gypsy_codegen.specs.Rows.{CallRow, WriteRow, FaultRow, BeyondRow, ReturnRow, OutRow, EndRow, MainOutRow}
+use Rattle.gypsy_codegen.proofs.Pushes.{PredefsRun}
+use Rattle.gypsy_codegen.proofs.Rows.{steps_follow}
+
+module _ (predefs : PredefsRun) where
+  follows : (s : Top) (w : List Item) → IsShown s (at_work s w) → Follows s.source (generated_view s.source s.sizes s.base) s.piton s.spent (gypsy_step s.source s.sizes (at_work s w))
+  follows s w h = steps_follow predefs s.source s.sizes s.base s.piton (at_work s w) h.fits h.small h.state_fits h.room h.shows
+
+  pub no_op_row : NoOpRow
+  no_op_row s place h = follows s (Do (NoOp place) ∷ s.work) h
+
+  pub signal_row : SignalRow
+  signal_row s place c h = follows s (Do (Signal place c) ∷ s.work) h
+
+  pub loop_row : LoopRow
+  loop_row s place b h = follows s (Do (Loop place b) ∷ s.work) h
+
+  pub back_row : BackRow
+  back_row s place b h = follows s (Back place b ∷ s.work) h
+
+  pub then_row : ThenRow
+  then_row s place test b c holds h =
+      subst (λ z. Follows s.source (generated_view s.source s.sizes s.base) s.piton s.spent (either_move z (Next (At s.proc s.vars (open_on b (JoinThen place c ∷ s.work)) s.waiting (spend 8 3 s.spent))) (Next (At s.proc s.vars (open_on c (JoinOne place ∷ s.work)) s.waiting (spend 9 4 s.spent))))) holds (follows s (Do (If place test b c) ∷ s.work) h)
+
+  pub else_row : ElseRow
+  else_row s place test b c fails h =
+      subst (λ z. Follows s.source (generated_view s.source s.sizes s.base) s.piton s.spent (either_move z (Next (At s.proc s.vars (open_on b (JoinThen place c ∷ s.work)) s.waiting (spend 8 3 s.spent))) (Next (At s.proc s.vars (open_on c (JoinOne place ∷ s.work)) s.waiting (spend 9 4 s.spent))))) fails (follows s (Do (If place test b c) ∷ s.work) h)
+
+  pub join_then_row : JoinThenRow
+  join_then_row s place c h = follows s (JoinThen place c ∷ s.work) h
+
+  pub join_one_row : JoinOneRow
+  join_one_row s place h = follows s (JoinOne place ∷ s.work) h
+
+  pub guard_row : GuardRow
+  guard_row s place cs b h = follows s (Guard place cs b ∷ s.work) h
+
+  pub call_row : CallRow
+  call_row s place c xs cs room h =
+      subst (λ z. Follows s.source (generated_view s.source s.sizes s.base) s.piton s.spent (full_or z (At c (copied_in s.source c xs s.vars) (open_on (body_of s.source c) []) (Held s.proc s.vars s.work xs cs ∷ s.waiting) (call_spend s.source c s.spent)))) room (follows s (Do (Call place c xs cs) ∷ s.work) h)
+
+  pub write_row : WriteRow
+  write_row s place r args v e h =
+      subst (λ z. Follows s.source (generated_view s.source s.sizes s.base) s.piton s.spent (apply_step r args z s.proc s.vars s.work s.waiting s.spent)) e (follows s (Do (Apply place r args) ∷ s.work) h)
+
+  pub fault_row : FaultRow
+  fault_row s place r args e h =
+      subst (λ z. Follows s.source (generated_view s.source s.sizes s.base) s.piton s.spent (apply_step r args z s.proc s.vars s.work s.waiting s.spent)) e (follows s (Do (Apply place r args) ∷ s.work) h)
+
+  pub beyond_row : BeyondRow
+  beyond_row s place r args e h =
+      subst (λ z. Follows s.source (generated_view s.source s.sizes s.base) s.piton s.spent (apply_step r args z s.proc s.vars s.work s.waiting s.spent)) e (follows s (Do (Apply place r args) ∷ s.work) h)
+
+  pub return_row : ReturnRow
+  return_row s c x w xs cs fs waits h =
+      subst (λ z. Follows s.source (generated_view s.source s.sizes s.base) s.piton s.spent (end_step s.source s.proc s.vars z s.spent)) waits (follows s [] h)
+
+  pub out_row : OutRow
+  out_row s d c x w xs cs fs waits h =
+      subst (λ z. Follows s.source (generated_view s.source s.sizes s.base) s.piton s.spent (out_step s.source d s.proc s.vars z s.spent)) waits (follows s (Out d ∷ []) h)
+
+  pub end_row : EndRow
+  end_row s none h =
+      subst (λ z. Follows s.source (generated_view s.source s.sizes s.base) s.piton s.spent (end_step s.source s.proc s.vars z s.spent)) none (follows s [] h)
+
+  pub main_out_row : MainOutRow
+  main_out_row s d none h =
+      subst (λ z. Follows s.source (generated_view s.source s.sizes s.base) s.piton s.spent (out_step s.source d s.proc s.vars z s.spent)) none (follows s (Out d ∷ []) h)
