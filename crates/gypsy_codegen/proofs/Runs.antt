@@ -19,6 +19,9 @@ use Rattle.gypsy_meaning.specs.Calls.{Way, main_start}
 use Rattle.gypsy_meaning.specs.Machine.{Item, Do, Back, JoinThen, JoinOne, Guard, Out, Frame, State, At, Move, Next, Ended, Full, Ending, Over, Going, Short, go_on, run, gypsy_step, start, open_on}
 use Rattle.gypsy_meaning.specs.Kept.{VarsFit, StateFits, MoveFits}
 use Rattle.gypsy_meaning.specs.Room.{StateRoom, MoveRoom}
+use Rattle.gypsy_meaning.specs.Meaning.{Done}
+use Rattle.gypsy_meaning.specs.Counted.{CountedOutcome, CountedDone, CountedUnfinished, CountedNoRoom, counted_meaning, uncounted}
+use Rattle.gypsy_meaning.proofs.CountLaws.{meaning-uncounted}
 use Rattle.gypsy_meaning.proofs.Runs.{agree}
 use Rattle.gypsy_meaning.proofs.Keeping.{step_keeps, start_fits}
 use Rattle.gypsy_meaning.proofs.Rooms.{step_room, start_room}
@@ -28,7 +31,7 @@ use Rattle.gypsy_codegen.specs.Memory.{stack_of, index_of}
 use Rattle.gypsy_codegen.proofs.Pushes.{PredefsRun}
 use Rattle.gypsy_codegen.specs.Showing.{Stands, Tops, Shows, rest_size, mark_of}
 use Rattle.gypsy_codegen.specs.Law.{Leads, Halts, Follows, tally_of}
-use Rattle.gypsy_codegen.specs.Whole.{opened, SizesFit, MeaningRuns, LimitedRunHalts, StartShows, Reached, same, later, EachIsShown, PlaceIsMark, VariablesStand, WaitingStand, WaitingVariablesStand, ActualsShare, RaiseFollows}
+use Rattle.gypsy_codegen.specs.Whole.{opened, SizesFit, CountedRuns, MeaningRuns, LimitedRunHalts, StartShows, Reached, same, later, EachIsShown, PlaceIsMark, VariablesStand, WaitingStand, WaitingVariablesStand, ActualsShare, RaiseFollows}
 use Rattle.std.proofs.Common.{◌<◌, drop}
 use Rattle.std.specs.Prelude.{slice_get, slice_index, nat_lt}
 use Rattle.std.proofs.lemmas.Bool.{lt-ltb}
@@ -133,8 +136,8 @@ counts cost steps t e =
     let s = ap (λ (z : Tally). z.steps) e in
     (omega (arith, s), omega (arith, c))
 
-pub meaning_runs : PredefsRun → MeaningRuns
-meaning_runs bodies q sizes base v n x c t fits sz vf d =
+pub counted_runs : PredefsRun → CountedRuns
+counted_runs bodies q sizes base v n x c t fits sz vf d =
     let S = generated_view q sizes base in
     let r = (agree q sizes v).done n x c t d in
     let h : Halts S (opened q sizes base v) start_tally x c t =
@@ -149,9 +152,22 @@ meaning_runs bodies q sizes base v n x c t fits sz vf d =
       stack = h.stack;
     }
 
+done_counted : (o : CountedOutcome) (x : List ValueOf) (c : Way) → uncounted o ≡ Done x c → (t : Tally) × (o ≡ CountedDone x c t)
+done_counted (CountedDone y d t) x c e =
+    let same_vars : y ≡ x = cc in
+    let same_way : d ≡ c = cc in
+    (t, ap (λ z. CountedDone z d t) same_vars ∙ ap (λ z. CountedDone x z t) same_way)
+done_counted CountedUnfinished x c e = absurd cc
+done_counted CountedNoRoom x c e = absurd cc
+
+pub meaning_runs : PredefsRun → MeaningRuns
+meaning_runs bodies q sizes base v n x c fits sz vf d =
+    let k = done_counted (counted_meaning q sizes v n) x c (meaning-uncounted q sizes v n ∙ d) in
+    (k.0, k.1, counted_runs bodies q sizes base v n x c k.0 fits sz vf k.1)
+
 pub limited_run_halts : PredefsRun → LimitedRunHalts
 limited_run_halts bodies q sizes base v n x c t k fits sz vf d =
-    let r = meaning_runs bodies q sizes base v n x c t fits sz vf d in
+    let r = counted_runs bodies q sizes base v n x c t fits sz vf d in
     let first = opening (generated_view q sizes base) (words_of_values (main_start q v)) in
     (r, halts (generated_view q sizes base) t.steps t.count k first r.to r.runs (omega arith) (omega arith) r.halted)
 

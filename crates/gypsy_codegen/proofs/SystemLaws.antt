@@ -45,7 +45,13 @@ use Rattle.gypsy_codegen.specs.Generated.{generated_program, count_from, opening
 use Rattle.gypsy_predef.specs.Texts.{named}
 use Rattle.gypsy_codegen.specs.Written.{Names, written_word}
 use Rattle.gypsy_codegen.specs.Text.{program_texts, area_texts, frame_texts, names_with, written_procedure, written_procedures, written_area, generated}
-use Rattle.gypsy_codegen.specs.Acceptable.{code_words_of, LimitsFit, IsAcceptable}
+use Rattle.piton_machine.specs.Seen.{started}
+use Rattle.gypsy_meaning.specs.Calls.{main_start}
+use Rattle.gypsy_codegen.specs.WordsOf.{words_of_values}
+use Rattle.gypsy_codegen.specs.Whole.{RunsTo}
+use Rattle.gypsy_codegen.proofs.Pushes.{PredefsRun}
+use Rattle.gypsy_codegen.proofs.Runs.{meaning_runs}
+use Rattle.gypsy_codegen.specs.Acceptable.{SourceRuns, code_words_of, LimitsFit, IsAcceptable}
 use Rattle.gypsy_codegen.proofs.SourceLaws.{ProcForm}
 use Rattle.gypsy_codegen.proofs.MeansLaws.{InRange, natural_is, word_clean, word_fits, word_resolves}
 use Rattle.gypsy_codegen.proofs.DeclareLaws.{declarations, found_at, names_apart, no_repeats, Apart}
@@ -392,3 +398,11 @@ module _ (texts : TextsResolve) (src : SourceOf) (sizes : Words) (base : ℕ) (a
   pub is_acceptable : IsAcceptable src sizes base
   is_acceptable =
       record { form = fits_keeps g does_keep nodes_few; rules = is_clean; view = is_seen; sound = subst IsSound is_seen (is_sound g does_keep nodes_few is_clean) }
+
+-- a run of the system by places is a run of what the text resolves to
+pub source_runs : PredefsRun → TextsResolve → SourceRuns
+source_runs predefs texts s sizes base v n x c accepted fit vf d =
+    let q = program_of s in
+    let good = is_acceptable texts s sizes base accepted fit in
+    let run = meaning_runs predefs q sizes base v n x c accepted.fits fit.sizes_fit vf d in
+    (run.0, run.1, subst (λ z. RunsTo z (started z (words_of_values (main_start q v))) x c run.0) (sym good.view) run.2)

@@ -1,5 +1,7 @@
 -- What is known of the generated system as a text.
 use Rattle.std.specs.Prelude.{◌≡◌, ◌<◌, get_or, ℕ, ◌+◌, ◌≤◌, ◌^◌, List, [], ◌∷◌, length}
+use Rattle.stack_text.specs.Values.{ValueOf}
+use Rattle.piton_machine.specs.Seen.{started}
 use Rattle.piton_syntax.specs.Answers.{KeepsForm}
 use Rattle.piton_check.specs.Violations.{violations}
 use Rattle.piton_check.specs.Resolved.{resolved}
@@ -9,10 +11,16 @@ use Rattle.gypsy_syntax.specs.Sources.{ProcOf, SourceOf}
 use Rattle.gypsy_syntax.specs.Programs.{Program, proc_at}
 use Rattle.gypsy_syntax.specs.Resolved.{variable_names, procedure_of, program_of}
 use Rattle.gypsy_check.specs.Accepted.{IsAccepted}
+use Rattle.gypsy_space.specs.Costs.{Tally}
 use Rattle.gypsy_space.specs.Needs.{Words, code_words}
+use Rattle.gypsy_meaning.specs.Calls.{Way, main_start}
+use Rattle.gypsy_meaning.specs.Meaning.{Done, meaning}
+use Rattle.gypsy_meaning.specs.Counted.{CountedDone, counted_meaning}
+use Rattle.gypsy_meaning.specs.Kept.{VarsFit}
 use Rattle.gypsy_codegen.specs.Generated.{generated_view, count_from, offset}
 use Rattle.gypsy_codegen.specs.Text.{frame_texts, generated}
-use Rattle.gypsy_codegen.specs.Whole.{SizesFit}
+use Rattle.gypsy_codegen.specs.WordsOf.{words_of_values}
+use Rattle.gypsy_codegen.specs.Whole.{SizesFit, RunsTo}
 
 -- the words of code of procedures together
 abbrev pub code_words_of : Program → List ℕ → ℕ
@@ -45,3 +53,14 @@ GeneratedIsAcceptable = (s : SourceOf) (sizes : Words) (base : ℕ) → IsAccept
 abbrev pub VariablesKeepNames : Type 0
 VariablesKeepNames = (s : SourceOf) (q : Program) (p : ℕ) (proc : ProcOf) (v : ℕ) → proc_at q p ≡ procedure_of s proc →
     v < length (variable_names proc) → get_or (frame_texts q p proc) (offset q p v) [] ≡ get_or (variable_names proc) v []
+
+-- Micro-Gypsy runs on Piton: where the meaning of an accepted source is done, the system that its text resolves to, with the
+-- values' words at the bottom of its first stack, first halts with the same, in the counted steps and at the counted cost.
+abbrev pub SourceRuns : Type 0
+SourceRuns = (s : SourceOf) (sizes : Words) (base : ℕ) (v : List ValueOf) (n : ℕ) (x : List ValueOf) (c : Way) →
+    IsAccepted s → LimitsFit (program_of s) sizes base →
+    let q = program_of s in
+    let system = system_view (resolved (generated s sizes base)) in
+    VarsFit (proc_at q q.main).formals v → meaning q sizes v n ≡ Done x c →
+    (t : Tally) × (counted_meaning q sizes v n ≡ CountedDone x c t) ×
+    RunsTo system (started system (words_of_values (main_start q v))) x c t

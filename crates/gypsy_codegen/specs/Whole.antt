@@ -16,6 +16,7 @@ use Rattle.gypsy_syntax.specs.Effects.{value_at}
 use Rattle.gypsy_space.specs.Costs.{Tally}
 use Rattle.gypsy_space.specs.Needs.{Words, main_need}
 use Rattle.gypsy_meaning.specs.Calls.{Way, main_start}
+use Rattle.gypsy_meaning.specs.Meaning.{Done, meaning}
 use Rattle.gypsy_meaning.specs.Counted.{CountedDone, counted_meaning}
 use Rattle.gypsy_meaning.specs.Machine.{Item, Frame, Held, State, At, Next, raise, gypsy_step, start}
 use Rattle.gypsy_meaning.specs.Kept.{VarsFit, StateFits}
@@ -48,12 +49,17 @@ pub record SizesFit (q : Program) (sizes : Words) : Type 0 where
   pub ctrl : (main_need q).ctrl ≤ sizes.ctrl
   pub small : sizes.temp ≤ 2 ^ 16
 
--- Where the meaning is done, the generated system halts with the same, in the steps of Piton and at the cost that are counted
--- along the meaning.
-abbrev pub MeaningRuns : Type 0
-MeaningRuns = (q : Program) (sizes : Words) (base : ℕ) (v : List ValueOf) (n : ℕ) (x : List ValueOf) (c : Way) (t : Tally) →
+-- Where the counted meaning is done, the generated system halts with the same, in those steps and at that cost.
+abbrev pub CountedRuns : Type 0
+CountedRuns = (q : Program) (sizes : Words) (base : ℕ) (v : List ValueOf) (n : ℕ) (x : List ValueOf) (c : Way) (t : Tally) →
     ProgramFits q → SizesFit q sizes → VarsFit (proc_at q q.main).formals v → counted_meaning q sizes v n ≡ CountedDone x c t →
     RunsTo (generated_view q sizes base) (opened q sizes base v) x c t
+
+-- The same of the meaning: what is counted along it are the steps of Piton and their cost.
+abbrev pub MeaningRuns : Type 0
+MeaningRuns = (q : Program) (sizes : Words) (base : ℕ) (v : List ValueOf) (n : ℕ) (x : List ValueOf) (c : Way) →
+    ProgramFits q → SizesFit q sizes → VarsFit (proc_at q q.main).formals v → meaning q sizes v n ≡ Done x c →
+    (t : Tally) × (counted_meaning q sizes v n ≡ CountedDone x c t) × RunsTo (generated_view q sizes base) (opened q sizes base v) x c t
 
 -- a run of at most so many steps halts there, with the steps and the count of the meaning
 abbrev pub LimitedRunHalts : Type 0

@@ -1,11 +1,11 @@
 //! Laws of the generated system. The functions do nothing: their clauses hold of all programs that fit, and of all sizes and states.
 
-ghost use Rattle.gypsy_codegen.specs.Acceptable.{GeneratedIsAcceptable, VariablesKeepNames};
+ghost use Rattle.gypsy_codegen.specs.Acceptable.{GeneratedIsAcceptable, VariablesKeepNames, SourceRuns};
 ghost use Rattle.gypsy_codegen.specs.Law.{StepsFollow};
 ghost use Rattle.gypsy_codegen.specs.Rows.{NoOpRow, SignalRow, LoopRow, BackRow, ThenRow, ElseRow, JoinThenRow, JoinOneRow};
 ghost use Rattle.gypsy_codegen.specs.Rows.{GuardRow, CallRow, WriteRow, FaultRow, BeyondRow, ReturnRow, OutRow, EndRow, MainOutRow};
 ghost use Rattle.gypsy_codegen.specs.Sizes.{ProceduresTakeWords};
-ghost use Rattle.gypsy_codegen.specs.Whole.{StartShows, EachIsShown, MeaningRuns, LimitedRunHalts, RaiseFollows};
+ghost use Rattle.gypsy_codegen.specs.Whole.{StartShows, EachIsShown, CountedRuns, MeaningRuns, LimitedRunHalts, RaiseFollows};
 ghost use Rattle.gypsy_codegen.specs.Whole.{PlaceIsMark, VariablesStand, WaitingVariablesStand, ActualsShare};
 
 /// Each step of the step machine is so many steps of the generated system, at its cost: from a state that shows the
@@ -69,7 +69,8 @@ pub fn shown_states_read()
 /// counted steps and at the counted cost, and no step before is an error. A run with a limit of so many steps or more
 /// halts there.
 pub fn meaning_runs()
-    ensures steps { MeaningRuns }
+    ensures meaning { MeaningRuns }
+    ensures counted { CountedRuns }
     ensures limited { LimitedRunHalts }
 {
     gypsy_predef::predefs_run();
@@ -92,3 +93,12 @@ pub fn generated_is_acceptable()
 pub fn variables_keep_names()
     ensures { VariablesKeepNames }
 {}
+
+/// Micro-Gypsy runs on Piton, of the text: where the meaning of an accepted source is done, the system that its generated
+/// text resolves to first halts with the same, after the counted steps and at the counted cost.
+pub fn source_runs()
+    ensures { SourceRuns }
+{
+    gypsy_predef::predefs_run();
+    gypsy_predef::bodies_resolve();
+}
