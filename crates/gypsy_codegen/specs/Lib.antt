@@ -13,3 +13,5 @@ pub mod Rows
 pub mod Whole
 pub mod Sizes
 pub mod Acceptable
+-- Closed programs.
+pub mod Examples

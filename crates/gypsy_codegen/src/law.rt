@@ -1,6 +1,7 @@
 //! Laws of the generated system. The functions do nothing: their clauses hold of all programs that fit, and of all sizes and states.
 
 ghost use Rattle.gypsy_codegen.specs.Acceptable.{GeneratedIsAcceptable, VariablesKeepNames, SourceRuns};
+ghost use Rattle.gypsy_codegen.specs.Examples.{ExamplesEnd};
 ghost use Rattle.gypsy_codegen.specs.Law.{StepsFollow};
 ghost use Rattle.gypsy_codegen.specs.Rows.{NoOpRow, SignalRow, LoopRow, BackRow, ThenRow, ElseRow, JoinThenRow, JoinOneRow};
 ghost use Rattle.gypsy_codegen.specs.Rows.{GuardRow, CallRow, WriteRow, FaultRow, BeyondRow, ReturnRow, OutRow, EndRow, MainOutRow};
@@ -102,3 +103,9 @@ pub fn source_runs()
     gypsy_predef::predefs_run();
     gypsy_predef::bodies_resolve();
 }
+
+/// Closed programs, for each kind of statement and end: their systems halt after these steps, at these costs, with these
+/// words. So no premise of the other laws is empty.
+pub fn examples_end()
+    ensures { ExamplesEnd }
+{}
