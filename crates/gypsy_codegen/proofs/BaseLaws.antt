@@ -10,7 +10,7 @@ use Rattle.gypsy_syntax.specs.Predefined.{predef_name}
 use Rattle.gypsy_syntax.specs.ProgramFits.{Each}
 use Rattle.gypsy_predef.specs.Texts.{named}
 use Rattle.gypsy_codegen.specs.Written.{Names}
-use Rattle.gypsy_codegen.proofs.MeansLaws.{World}
+use Rattle.gypsy_codegen.proofs.InstructionLaws.{World}
 use Rattle.gypsy_codegen.proofs.DeclareLaws.{declarations, Differ, found_at}
 use Rattle.gypsy_codegen.proofs.SourceLaws.{named_at}
 

@@ -12,14 +12,9 @@ use Rattle.gypsy_space.specs.Needs.{vars_of, args_words, statement_words, code_w
 use Rattle.gypsy_predef.specs.Bodies.{lengths_of}
 use Rattle.gypsy_codegen.specs.Generated.{size, test_size, count_from}
 use Rattle.gypsy_codegen.specs.Lines.{labels}
+use Rattle.gypsy_codegen.proofs.CopyLaws.{actuals_number}
 use Rattle.gypsy_codegen.proofs.FineLaws.{words_sized}
 use Rattle.gypsy_codegen.specs.Acceptable.{code_words_of, total_words}
-
-actuals_count : (shapes fs : List Shape) (xs : List ℕ) → ActualsFit shapes fs xs → length xs ≡ length fs
-actuals_count shapes [] [] h = refl
-actuals_count shapes [] (x ∷ xs) h = absurd h
-actuals_count shapes (f ∷ fs) [] h = absurd h
-actuals_count shapes (f ∷ fs) (x ∷ xs) h = ap suc (actuals_count shapes fs xs h.1)
 
 args_least : (args : List Arg) → length args ≤ args_words args
 args_least [] = omega arith
@@ -50,7 +45,7 @@ size_least q fits shapes n b (Seq s v) h = let x = size_least q fits shapes n b 
 size_least q fits shapes n b (Loop place s) h = let x = size_least q fits shapes n true s h in omega (arith, x)
 size_least q fits shapes n b (If place t s v) h = let x = size_least q fits shapes n b s h.1 in let y = size_least q fits shapes n b v h.2 in omega (arith, x, y)
 size_least q fits shapes n b (Begin place s cs v) h = let x = size_least q fits shapes n b s h.1 in let y = size_least q fits shapes n b v h.2 in omega (arith, x, y)
-size_least q fits shapes n b (Call place c xs cs) h = let x = actuals_count shapes (proc_at q c).formals xs h.actuals in omega (arith, x, words_sized q fits c)
+size_least q fits shapes n b (Call place c xs cs) h = let x = actuals_number shapes (proc_at q c).formals xs h.actuals in omega (arith, x, words_sized q fits c)
 size_least q fits shapes n b (Apply place r args) h = let x = args_least args in let y = row_least r in omega (arith, x, y)
 
 -- a label stands before an instruction of its own

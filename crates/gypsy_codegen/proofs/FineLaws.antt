@@ -38,16 +38,10 @@ use Rattle.gypsy_codegen.specs.Generated.{arg_length, offset}
 use Rattle.gypsy_codegen.specs.Written.{Line, Plain, Marked}
 use Rattle.gypsy_codegen.specs.Lines.{labels, label_to, unmarked, marked_raises, raise_labels}
 use Rattle.gypsy_codegen.specs.Lines.{before_code, after_lines, apply_code, lines, tail_lines, lines_of}
-use Rattle.gypsy_codegen.proofs.MeansLaws.{InRange, Known, Fine}
-
-pub each_both : {X : Type 0} (P : X → Type 0) (a b : List X) → Each P a → Each P b → Each P (a ++ b)
-each_both P [] b x y = y
-each_both P (c ∷ a) b x y = (x.0, each_both P a b x.1 y)
-
-pub get_below : {X : Type 0} (xs : List X) (b : ℕ) (x : X) → slice_get xs b ≡ Some x → b < length xs
-get_below [] b x e = absurd cc
-get_below (y ∷ xs) zero x e = omega arith
-get_below (y ∷ xs) (suc b) x e = let h = get_below xs b x e in omega (arith, h)
+use Rattle.gypsy_codegen.proofs.CopyLaws.{get_below, each_both, locals_fit}
+use Rattle.gypsy_codegen.proofs.StackLaws.{values_words}
+use Rattle.gypsy_codegen.proofs.PushLaws.{some_items}
+use Rattle.gypsy_codegen.proofs.InstructionLaws.{InRange, Known, Fine}
 
 -- ---- words
 
@@ -71,14 +65,12 @@ literal_in_range : (k : Kind) (zs : List ℤ) → length zs ≡ 1 → list_all (
 literal_in_range k [] n h = absurd (omega (arith, n))
 literal_in_range k (z ∷ zs) n h = item_in_range k z (and_parts (is_in_range k z) (list_all (is_in_range k) zs) h).0
 
-pub values_words : (x : List ValueOf) → Each ValueFits x → length (words_of_values x) ≡ words_of (map (λ v. v.shape) x)
-values_words [] h = refl
-values_words (v ∷ x) h =
-    omega (arith, length-append (words_of_value v) (words_of_values x), length-map v.items (word_of_item v.shape.kind), h.0.number, values_words x h.1)
+pub all_words : (x : List ValueOf) → Each ValueFits x → length (words_of_values x) ≡ words_of (map (λ v. v.shape) x)
+all_words x h = values_words (map (λ v. v.shape) x) x (locals_fit x h)
 
 -- the words of the locals are as many as their shapes have
 pub words_sized : (q : Program) → ProgramFits q → (c : ℕ) → length (words_of_values (proc_at q c).locals) ≡ local_words (proc_at q c)
-words_sized q fits c = values_words (proc_at q c).locals (fits.procs c).locals
+words_sized q fits c = all_words (proc_at q c).locals (fits.procs c).locals
 
 words_both : (a b : List Shape) → words_of (a ++ b) ≡ words_of a + words_of b
 words_both [] b = omega arith
@@ -124,11 +116,7 @@ number_below row.MgIndexArray = omega arith
 number_below row.MgArrayElementAssignment = omega arith
 
 count_some : (s : Shape) → 0 < item_count s
-count_some s = by_length s.length
-  where
-    by_length : (n : ℕ) → 0 < cond (n == 0) 1 n
-    by_length zero = omega arith
-    by_length (suc n) = let e : cond (suc n == 0) 1 (suc n) ≡ suc n = ap (λ b. cond b 1 (suc n)) (ne_eqb (suc n) 0 (λ e. omega (arith, e))) in omega (arith, e)
+count_some s = some_items s.length
 
 -- ---- labels
 

@@ -30,7 +30,8 @@ use Rattle.gypsy_codegen.specs.Lines.{labels, lines, tail_lines, lines_of}
 use Rattle.gypsy_codegen.specs.Text.{frame_texts, names_with, temporaries_of, written_procedure}
 use Rattle.gypsy_codegen.specs.Acceptable.{total_words}
 use Rattle.gypsy_codegen.proofs.SourceLaws.{ProcForm}
-use Rattle.gypsy_codegen.proofs.MeansLaws.{InRange, Known}
+use Rattle.gypsy_codegen.proofs.InstructionLaws.{InRange, Known}
+use Rattle.gypsy_codegen.proofs.StackLaws.{starts-length}
 use Rattle.gypsy_codegen.proofs.DeclareLaws.{declarations}
 use Rattle.gypsy_codegen.proofs.LinesLaws.{procedure_distinct, procedure_ranged}
 use Rattle.gypsy_codegen.proofs.ResolveLaws.{found, procedure_resolves, procedure_count}
@@ -40,10 +41,6 @@ use Rattle.gypsy_codegen.proofs.ProgramLaws.{Clean, Made, places, last_part, mad
 use Rattle.gypsy_codegen.proofs.BaseLaws.{Base, world_of}
 use Rattle.gypsy_codegen.proofs.SourceLaws.{frame_differs, frame_named, frame_count}
 use Rattle.gypsy_codegen.proofs.CountLaws.{labels_least, code_few}
-
-starts_count : (at : ℕ) (shapes : List Shape) → length (starts at shapes) ≡ length shapes
-starts_count at [] = refl
-starts_count at (s ∷ shapes) = ap suc (starts_count (at + item_count s) shapes)
 
 starts_in_range : (at : ℕ) (shapes : List Shape) → at + words_of shapes ≤ 65536 → Each InRange (map (λ k. Nat k) (starts at shapes))
 starts_in_range at [] le = tt
@@ -135,7 +132,7 @@ module _ (src : SourceOf) (fits : ProgramFits (program_of src)) (few : total_wor
       let d = proc_at q p in omega (arith, length-append d.formals (map (λ v. v.shape) d.locals), length-map d.locals (λ v. v.shape))
 
   same : length frame ≡ length ws
-  same = omega (arith, vars_are, shapes_count, length-map (starts 0 (shapes_of (proc_at q p))) (λ k. Nat k), starts_count 0 (shapes_of (proc_at q p)))
+  same = omega (arith, vars_are, shapes_count, length-map (starts 0 (shapes_of (proc_at q p))) (λ k. Nat k), starts-length 0 (shapes_of (proc_at q p)))
 
   in_range : Each InRange ws
   in_range = starts_in_range 0 (shapes_of (proc_at q p)) (let h = (fits.procs p).words in omega (arith, h))

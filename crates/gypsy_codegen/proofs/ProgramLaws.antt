@@ -19,7 +19,7 @@ use Rattle.gypsy_check.proofs.CleanLaws.{get_map}
 use Rattle.gypsy_predef.specs.Texts.{named}
 use Rattle.gypsy_codegen.specs.Written.{Names, Line, Plain, Marked, label_text, written_word, written, line_with_places}
 use Rattle.gypsy_codegen.specs.Text.{temporaries_of}
-use Rattle.gypsy_codegen.proofs.MeansLaws.{InRange, World, Known, says, word_clean, word_fits, word_resolves}
+use Rattle.gypsy_codegen.proofs.InstructionLaws.{InRange, World, Known, says, word_clean, word_fits, word_resolves}
 use Rattle.gypsy_codegen.proofs.LabelLaws.{Distinct, Ranged, Good, declared, good_all, label_named}
 use Rattle.gypsy_codegen.proofs.DeclareLaws.{Apart, no_repeats, labels_apart, declarations, Differ, names_apart}
 use Rattle.gypsy_codegen.proofs.ResolveLaws.{found}

@@ -28,28 +28,13 @@ use Rattle.gypsy_codegen.specs.Generated.{predef_position, offset, size, gen, co
 use Rattle.gypsy_codegen.specs.Written.{Line, Plain, Marked, line_with_places}
 use Rattle.gypsy_codegen.specs.Lines.{labels, label_to, unmarked, marked_raises, raise_labels}
 use Rattle.gypsy_codegen.specs.Lines.{before_code, after_lines, apply_code, lines, tail_lines, lines_of}
+use Rattle.gypsy_codegen.proofs.PushLaws.{size_words, size_indices, size_actuals, size_args}
+use Rattle.gypsy_codegen.proofs.StandLaws.{size_length, size_check}
 use Rattle.gypsy_codegen.proofs.LabelLaws.{Good}
 
 -- ---- how many lines
 
 module _ (q : Program) (p : ℕ) where
-  words_count : (ws : List Word) → length (push_words ws) ≡ length ws
-  words_count [] = refl
-  words_count (w ∷ ws) = ap suc (words_count ws)
-
-  indices_count : (l k o : ℕ) (shapes : List Shape) → length (push_indices l k o shapes) ≡ length shapes
-  indices_count l k o [] = refl
-  indices_count l k o (s ∷ shapes) = ap suc (indices_count l (k + 1) (o + item_count s) shapes)
-
-  actuals_count : (xs : List ℕ) → length (push_actuals q p xs) ≡ length xs
-  actuals_count [] = refl
-  actuals_count (x ∷ xs) = ap suc (actuals_count xs)
-
-  args_count : (args : List Arg) → length (push_args q p args) ≡ length args
-  args_count [] = refl
-  args_count (Var b ∷ args) = ap suc (args_count args)
-  args_count (Lit v ∷ args) = ap suc (args_count args)
-
   plain_count : (is : List Instruction) → length (unmarked is) ≡ length is
   plain_count [] = refl
   plain_count (c ∷ is) = ap suc (plain_count is)
@@ -68,30 +53,14 @@ module _ (q : Program) (p : ℕ) where
         length-append (push_words (words_of_values d.locals)) (indices ++ (push_actuals q p xs ++ last)),
         length-append indices (push_actuals q p xs ++ last),
         length-append (push_actuals q p xs) last,
-        words_count (words_of_values d.locals),
-        indices_count (local_words d) 0 0 (local_shapes d),
+        size_words (words_of_values d.locals),
+        size_indices (local_words d) 0 0 (local_shapes d),
         length-map d.locals (λ v. v.shape),
-        actuals_count xs,
+        size_actuals q p xs,
       )
 
   length_count : (shapes : List Shape) (r : Predef) (args : List Arg) (rest : List Instruction) → length (length_code shapes r args ++ rest) ≡ lengths_of r + length rest
-  length_count shapes row.MgSimpleVariableAssignment args rest = omega arith
-  length_count shapes row.MgSimpleConstantAssignment args rest = omega arith
-  length_count shapes row.MgSimpleVariableEq args rest = omega arith
-  length_count shapes row.MgSimpleConstantEq args rest = omega arith
-  length_count shapes row.MgIntegerLe args rest = omega arith
-  length_count shapes row.MgIntegerUnaryMinus args rest = omega arith
-  length_count shapes row.MgIntegerAdd args rest = omega arith
-  length_count shapes row.MgIntegerSubtract args rest = omega arith
-  length_count shapes row.MgBooleanOr args rest = omega arith
-  length_count shapes row.MgBooleanAnd args rest = omega arith
-  length_count shapes row.MgBooleanNot args rest = omega arith
-  length_count shapes row.MgIndexArray args rest = omega arith
-  length_count shapes row.MgArrayElementAssignment args rest = omega arith
-
-  check_count : (b : Bool) (to : ℕ) → length (cond b (i.PushGlobal 0 ∷ i.Apply op.Sub1Nat ∷ i.TestAndJump family.Nat test.Zero to ∷ []) []) ≡ cond b 3 0
-  check_count true to = refl
-  check_count false to = refl
+  length_count shapes r args rest = length-append (length_code shapes r args) rest ∙ ap (λ n. n + length rest) (size_length shapes r args)
 
   pub lines_count : (env : List Scope) (l : ℕ) (s : Stmt) → length (lines q p env l s) ≡ size q s
   lines_count env l Skip = refl
@@ -138,9 +107,9 @@ module _ (q : Program) (p : ℕ) where
         arith,
         plain_count (apply_code q p env (Apply place r args)),
         length-append (push_args q p args) (length_code (shapes_of (proc_at q p)) r args ++ rest),
-        args_count args,
+        size_args q p args,
         length_count (shapes_of (proc_at q p)) r args rest,
-        check_count (can_fail r) to,
+        size_check (can_fail r) (i.PushGlobal 0) (i.Apply op.Sub1Nat) (i.TestAndJump family.Nat test.Zero to),
       )
 
 -- ---- places

@@ -25,6 +25,7 @@ use Rattle.gypsy_check.specs.Rules.{variable_breaches, procedure_breaches, name_
 use Rattle.gypsy_check.proofs.CleanLaws.{two, three, four, fails}
 use Rattle.gypsy_check.proofs.NameLaws.{Found, procedure_found}
 use Rattle.gypsy_codegen.specs.Text.{program_texts, frame_texts}
+use Rattle.gypsy_codegen.proofs.CopyLaws.{each_both}
 use Rattle.gypsy_codegen.proofs.DeclareLaws.{Differ, Unlike, Cross, differ_both, differ_swap, differ_source}
 
 -- closed lists by computing
@@ -186,14 +187,10 @@ each_named : {X : Type 0} (P : X → Type 0) (name : X → List ℕ) → ((x : X
 each_named P name h [] a = tt
 each_named P name h (x ∷ xs) a = (h x (all_first P x xs a), each_named P name h xs (all_rest P x xs a))
 
-each_join : {X : Type 0} (P : X → Type 0) (a b : List X) → Each P a → Each P b → Each P (a ++ b)
-each_join P [] b h k = k
-each_join P (x ∷ a) b h k = (h.0, each_join P a b h.1 k)
-
 proc_form : (p : ProcOf) → FitsProcedure p → ProcForm p
 proc_form p f = record {
   name = f.name;
-  variables = each_join (λ name. IsTrue (is_name name)) (map (λ d. d.name.name) p.formals) (map (λ l. l.decl.name.name) p.locals)
+  variables = each_both (λ name. IsTrue (is_name name)) (map (λ d. d.name.name) p.formals) (map (λ l. l.decl.name.name) p.locals)
       (each_named FitsDecl (λ d. d.name.name) (λ d h. h.name) p.formals f.formals) (each_named FitsLocal (λ l. l.decl.name.name) (λ l h. h.decl.name) p.locals f.locals);
   few_variables = f.few_variables;
   few_conds = f.few_conds;

@@ -49,13 +49,14 @@ use Rattle.piton_machine.specs.Seen.{started}
 use Rattle.gypsy_meaning.specs.Calls.{main_start}
 use Rattle.gypsy_codegen.specs.WordsOf.{words_of_values}
 use Rattle.gypsy_codegen.specs.Whole.{RunsTo}
-use Rattle.gypsy_codegen.proofs.Pushes.{PredefsRun}
-use Rattle.gypsy_codegen.proofs.Runs.{meaning_runs}
+use Rattle.gypsy_codegen.proofs.PushLaws.{PredefsRun}
+use Rattle.gypsy_codegen.proofs.RunLaws.{meaning_runs}
 use Rattle.gypsy_codegen.specs.Acceptable.{SourceRuns, code_words_of, LimitsFit, IsAcceptable}
 use Rattle.gypsy_codegen.proofs.SourceLaws.{ProcForm}
-use Rattle.gypsy_codegen.proofs.MeansLaws.{InRange, natural_is, word_clean, word_fits, word_resolves}
+use Rattle.gypsy_codegen.proofs.InstructionLaws.{InRange, natural_is, word_clean, word_fits, word_resolves}
 use Rattle.gypsy_codegen.proofs.DeclareLaws.{declarations, found_at, names_apart, no_repeats, Apart}
-use Rattle.gypsy_codegen.proofs.FineLaws.{get_below, values_in_range, values_words}
+use Rattle.gypsy_codegen.proofs.CopyLaws.{get_below}
+use Rattle.gypsy_codegen.proofs.FineLaws.{values_in_range, all_words}
 use Rattle.gypsy_codegen.proofs.ProgramLaws.{Clean, two_none}
 use Rattle.stack_text.specs.Trees.{node_count}
 use Rattle.piton_syntax.specs.Printed.{tree_of}
@@ -317,7 +318,7 @@ module _ (texts : TextsResolve) (src : SourceOf) (sizes : Words) (base : ℕ) (a
   opening_count : length g.stack ≡ words_of (shapes_of (proc_at q q.main))
   opening_count =
       length-map (opening_words q) (written_word (names_with src []))
-      ∙ values_words (map zero_value (proc_at q q.main).formals ++ (proc_at q q.main).locals) opening_values
+      ∙ all_words (map zero_value (proc_at q q.main).formals ++ (proc_at q q.main).locals) opening_values
       ∙ ap words_of (opening_shapes (proc_at q q.main).formals (proc_at q q.main).locals)
 
   two_right : InRange (Nat 2)

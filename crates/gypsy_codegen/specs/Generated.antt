@@ -1,5 +1,5 @@
 -- The generated system. A label is the place that it stands for.
-use Rattle.std.specs.Prelude.{ℕ, zero, suc, ◌+◌, ◌*◌, ◌-◌, ◌==◌, pos, List, [], ◌∷◌, ◌++◌, map, length, get_or, nat_lt, if◌then◌else◌}
+use Rattle.std.specs.Prelude.{ℕ, zero, suc, ◌+◌, ◌*◌, ◌-◌, ◌==◌, pos, List, [], ◌∷◌, ◌++◌, map, length, get_or, nat_lt, if◌then◌else◌, None}
 use Rattle.stack_text.specs.declared.shape.Shape.{Shape}
 use Rattle.stack_text.specs.declared.shape.Kind.TheVariants.{Integer}
 use Rattle.stack_text.specs.Values.{item_count}
@@ -19,7 +19,7 @@ use Rattle.gypsy_meaning.specs.Calls.{has_cond, is_leave, is_formal}
 use Rattle.gypsy_predef.specs.Bodies.{bodies, predef_number, lengths_of}
 use Rattle.gypsy_predef.specs.Runs.{word_of_item, can_fail}
 use Rattle.gypsy_predef.specs.Calls.{test_code}
-use Rattle.gypsy_codegen.specs.WordsOf.{words_of_values, zero_value, starts, local_shapes, number_of}
+use Rattle.gypsy_codegen.specs.WordsOf.{words_of_values, zero_value, starts, local_shapes, number_of, number_of_way}
 
 -- what stands round a statement, the nearest first: a loop by the place of its b, a begin by its list and the place of its a
 pub data Scope : Type 0 where
@@ -41,7 +41,7 @@ raise_code q p n env c = i.PushConstant (Nat (number_of c)) ∷ i.PopGlobal 0 �
 
 -- the condition is normal again
 abbrev pub normal_code : List Instruction
-normal_code = i.PushConstant (Nat 2) ∷ i.PopGlobal 0 ∷ []
+normal_code = i.PushConstant (Nat (number_of_way None)) ∷ i.PopGlobal 0 ∷ []
 
 abbrev pub back_code : ℕ → List Instruction
 back_code a = i.Jump a ∷ normal_code
@@ -92,12 +92,12 @@ push_args q p [] = []
 push_args q p (Var b ∷ args) = i.PushLocal (offset q p b) ∷ push_args q p args
 push_args q p (Lit v ∷ args) = i.PushConstant (word_of_item v.shape.kind (item_of_value v)) ∷ push_args q p args
 
--- the length of the array among them
+-- the length of the array that an argument is
 abbrev pub arg_length : List Shape → Arg → ℕ
 arg_length shapes (Var b) = (get_or shapes b (simple Integer)).length
 arg_length shapes (Lit v) = 0
 
--- which the array rows push last
+-- the length that the array rows push last
 abbrev pub length_code : List Shape → Predef → List Arg → List Instruction
 length_code shapes row.MgIndexArray args = i.PushConstant (Int (pos (arg_length shapes (get_or args 1 (Var 0))))) ∷ []
 length_code shapes row.MgArrayElementAssignment args = i.PushConstant (Int (pos (arg_length shapes (get_or args 0 (Var 0))))) ∷ []
@@ -136,7 +136,7 @@ module _ (q : Program) (p n : ℕ) where
       (gen env (at + 3) s ++ i.Jump (at + 3 + size q s + 2 + size q v) ∷ i.NoOp ∷ (gen env (at + 3 + size q s + 2) v ++ i.NoOp ∷ []))
   gen env at (Begin place s cs v) =
       gen (InBegin cs (at + size q s + 1) ∷ env) at s ++
-      i.Jump (at + size q s + 3 + size q v) ∷ i.PushConstant (Nat 2) ∷ i.PopGlobal 0 ∷ (gen env (at + size q s + 3) v ++ i.NoOp ∷ [])
+      i.Jump (at + size q s + 3 + size q v) ∷ (normal_code ++ (gen env (at + size q s + 3) v ++ i.NoOp ∷ []))
   gen env at (Call place c xs cs) =
       let l = local_words (proc_at q c) in
       push_words (words_of_values (proc_at q c).locals) ++
@@ -147,7 +147,7 @@ module _ (q : Program) (p n : ℕ) where
       (length_code (shapes_of (proc_at q p)) r args ++ i.Call (predef_position q r) ∷ test_code r (target q p n env Routine))
 
 abbrev pub tail_code : ℕ → List Instruction
-tail_code n = i.Jump (n + 3) ∷ i.PushConstant (Nat 1) ∷ i.PopGlobal 0 ∷ i.Ret ∷ []
+tail_code n = i.Jump (n + 3) ∷ i.PushConstant (Nat (number_of Routine)) ∷ i.PopGlobal 0 ∷ i.Ret ∷ []
 
 -- the code of a procedure
 abbrev pub code_of : Program → ℕ → List Instruction
@@ -178,7 +178,7 @@ generated_view q sizes base = record {
   ctrl = sizes.ctrl;
   temp = sizes.temp;
   base = base;
-  areas = (Nat 2 ∷ []) ∷ [];
+  areas = (Nat (number_of_way None) ∷ []) ∷ [];
   stack = opening_words q;
   programs = map (generated_program q) (count_from 0 (length q.procs)) ++ bodies;
 }

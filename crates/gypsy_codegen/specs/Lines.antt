@@ -1,5 +1,5 @@
 -- The generated code with labels, numbered in each procedure from 0.
-use Rattle.std.specs.Prelude.{ℕ, ◌+◌, List, [], ◌∷◌, ◌++◌, map, length, if◌then◌else◌}
+use Rattle.std.specs.Prelude.{ℕ, ◌+◌, List, [], ◌∷◌, ◌++◌, map, length, if◌then◌else◌, None}
 use Rattle.piton_words.specs.declared.word.Word.TheVariants.{Nat}
 use Rattle.piton_syntax.specs.declared.test_kind.TestFamily.TheVariants as family
 use Rattle.piton_syntax.specs.declared.test_kind.TestKind.TheVariants as test
@@ -10,7 +10,7 @@ use Rattle.gypsy_syntax.specs.Programs.{Stmt, Skip, NoOp, Signal, Seq, Loop, If,
 use Rattle.gypsy_space.specs.Needs.{local_words}
 use Rattle.gypsy_meaning.specs.Calls.{has_cond, is_leave, is_formal}
 use Rattle.gypsy_predef.specs.Calls.{test_code}
-use Rattle.gypsy_codegen.specs.WordsOf.{words_of_values, local_shapes, number_of}
+use Rattle.gypsy_codegen.specs.WordsOf.{words_of_values, local_shapes, number_of, number_of_way}
 use Rattle.gypsy_codegen.specs.Generated.{Scope, InLoop, InBegin, push_words, push_indices, push_actuals, push_args}
 use Rattle.gypsy_codegen.specs.Generated.{length_code, offset, predef_position}
 use Rattle.gypsy_codegen.specs.Written.{Line, Plain, Marked}
@@ -81,21 +81,21 @@ module _ (q : Program) (p : ℕ) where
   lines env l (Loop place s) =
       Marked l i.NoOp ∷
       (lines (InLoop (l + 1) ∷ env) (l + 2) s ++
-      Plain (i.Jump l) ∷ Marked (l + 1) (i.PushConstant (Nat 2)) ∷ Plain (i.PopGlobal 0) ∷ [])
+      Plain (i.Jump l) ∷ Marked (l + 1) (i.PushConstant (Nat (number_of_way None))) ∷ Plain (i.PopGlobal 0) ∷ [])
   lines env l (If place b s v) =
       Plain (i.PushLocal (offset q p b)) ∷ Plain i.FetchTempStk ∷ Plain (i.TestAndJump family.Bool test.F l) ∷
       (lines env (l + 2) s ++
       Plain (i.Jump (l + 1)) ∷ Marked l i.NoOp ∷ (lines env (l + 2 + labels s) v ++ Marked (l + 1) i.NoOp ∷ []))
   lines env l (Begin place s cs v) =
       lines (InBegin cs l ∷ env) (l + 2) s ++
-      Plain (i.Jump (l + 1)) ∷ Marked l (i.PushConstant (Nat 2)) ∷ Plain (i.PopGlobal 0) ∷
+      Plain (i.Jump (l + 1)) ∷ Marked l (i.PushConstant (Nat (number_of_way None))) ∷ Plain (i.PopGlobal 0) ∷
       (lines env (l + 2 + labels s) v ++ Marked (l + 1) i.NoOp ∷ [])
   lines env l (Call place c xs cs) =
       unmarked (before_code q p c xs) ++ after_lines q p env l (local_words (proc_at q c)) cs
   lines env l (Apply place r args) = unmarked (apply_code q p env (Apply place r args))
 
 abbrev pub tail_lines : List Line
-tail_lines = Plain (i.Jump 1) ∷ Marked 0 (i.PushConstant (Nat 1)) ∷ Plain (i.PopGlobal 0) ∷ Marked 1 i.Ret ∷ []
+tail_lines = Plain (i.Jump 1) ∷ Marked 0 (i.PushConstant (Nat (number_of Routine))) ∷ Plain (i.PopGlobal 0) ∷ Marked 1 i.Ret ∷ []
 
 -- the lines of a procedure
 abbrev pub lines_of : Program → ℕ → List Line

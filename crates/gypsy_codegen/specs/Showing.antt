@@ -1,5 +1,5 @@
 -- The states of the generated system that read as states of the step machine.
-use Rattle.std.specs.Prelude.{◌≡◌, ℕ, ◌+◌, ◌-◌, List, [], ◌∷◌, ◌++◌, Some, slice_get}
+use Rattle.std.specs.Prelude.{◌≡◌, ℕ, ◌+◌, ◌-◌, List, [], ◌∷◌, ◌++◌, Some, None, slice_get}
 use Rattle.stack_text.specs.Values.{ValueOf}
 use Rattle.piton_words.specs.declared.word.Word.TheVariants.{Nat}
 use Rattle.piton_check.specs.Instruction as i
@@ -9,8 +9,8 @@ use Rattle.piton_machine.specs.State.{PitonState}
 use Rattle.gypsy_syntax.specs.Programs.{Program, proc_at, body_of, Stmt, Loop}
 use Rattle.gypsy_space.specs.Needs.{local_words}
 use Rattle.gypsy_meaning.specs.Machine.{Item, Do, Back, JoinThen, JoinOne, Guard, Out, Frame, Held, State, At}
-use Rattle.gypsy_codegen.specs.WordsOf.{number_of}
-use Rattle.gypsy_codegen.specs.Generated.{Scope, InLoop, InBegin, out_place, after_code, after_size, size, gen, code_of}
+use Rattle.gypsy_codegen.specs.WordsOf.{number_of, number_of_way}
+use Rattle.gypsy_codegen.specs.Generated.{Scope, InLoop, InBegin, out_place, normal_code, after_code, after_size, size, gen, code_of}
 use Rattle.gypsy_codegen.specs.Memory.{stack_of, frame_of, index_words}
 
 -- the instructions stand in the code at this place
@@ -53,8 +53,7 @@ Stands q p env at (JoinThen place v ∷ w) =
 Stands q p env at (JoinOne place ∷ w) = (slice_get (code_of q p) at ≡ Some i.NoOp) × Stands q p env (at + 1) w
 Stands q p env at (Guard place cs v ∷ w) =
     (outer : List Scope) × (env ≡ InBegin cs (at + 1) ∷ outer) ×
-    HasAt (code_of q p) at (i.Jump (at + 3 + size q v) ∷ i.PushConstant (Nat 2) ∷ i.PopGlobal 0 ∷
-    (gen_in q p outer (at + 3) v ++ i.NoOp ∷ [])) × Stands q p outer (at + 3 + size q v + 1) w
+    HasAt (code_of q p) at (i.Jump (at + 3 + size q v) ∷ (normal_code ++ (gen_in q p outer (at + 3) v ++ i.NoOp ∷ []))) × Stands q p outer (at + 3 + size q v + 1) w
 Stands q p env at (Out c ∷ w) = ⊥
 
 -- the same at the top of the list, where a condition may be on its way out
@@ -70,17 +69,17 @@ Tops q p at (Guard place cs v ∷ w) = (env : List Scope) × Stands q p env at (
 -- the number in c-c
 abbrev pub cc_of : List Item → ℕ
 cc_of (Out c ∷ w) = number_of c
-cc_of [] = 2
-cc_of (Do s ∷ w) = 2
-cc_of (Back place s ∷ w) = 2
-cc_of (JoinThen place v ∷ w) = 2
-cc_of (JoinOne place ∷ w) = 2
-cc_of (Guard place cs v ∷ w) = 2
+cc_of [] = number_of_way None
+cc_of (Do s ∷ w) = number_of_way None
+cc_of (Back place s ∷ w) = number_of_way None
+cc_of (JoinThen place v ∷ w) = number_of_way None
+cc_of (JoinOne place ∷ w) = number_of_way None
+cc_of (Guard place cs v ∷ w) = number_of_way None
 
 abbrev pub frame_with : Program → ℕ → List Frame → ℕ → ℕ → piton.Frame
 frame_with q p fs program place = record { locals = index_words (frame_of q p fs); program = program; place = place }
 
--- the frames: one for each activation, each above main's with the place behind the call that generated_view it
+-- the frames: one for each activation, each above main's with the place behind the call that made it
 abbrev pub Waits : Program → ℕ → List Frame → List piton.Frame → Type 0
 Waits q p [] fr = (rp : ℕ) × (ra : ℕ) × (fr ≡ frame_with q p [] rp ra ∷ [])
 Waits q p (Held c x w xs cs ∷ fs) fr =

@@ -1,5 +1,5 @@
 -- The generated system, as a text has it.
-use Rattle.std.specs.Prelude.{ℕ, suc, ◌==◌, pos, List, [], ◌∷◌, ◌++◌, map, if◌then◌else◌}
+use Rattle.std.specs.Prelude.{ℕ, suc, ◌==◌, pos, List, [], ◌∷◌, ◌++◌, map, if◌then◌else◌, None}
 use Rattle.stack_text.specs.declared.name.Named.{Named}
 use Rattle.piton_words.specs.declared.word.Word.{Word}
 use Rattle.piton_words.specs.declared.word.Word.TheVariants.{Nat}
@@ -11,7 +11,7 @@ use Rattle.gypsy_syntax.specs.Predefined.{predefs, predef_name}
 use Rattle.gypsy_syntax.specs.Resolved.{variable_names, procedure_names, program_of}
 use Rattle.gypsy_space.specs.Needs.{Words}
 use Rattle.gypsy_predef.specs.Texts.{named, condition_area, body_texts}
-use Rattle.gypsy_codegen.specs.WordsOf.{starts}
+use Rattle.gypsy_codegen.specs.WordsOf.{starts, number_of_way}
 use Rattle.gypsy_codegen.specs.Generated.{opening_words}
 use Rattle.gypsy_codegen.specs.Written.{Names, number, written_word, written}
 use Rattle.gypsy_codegen.specs.Lines.{lines_of}
@@ -54,7 +54,7 @@ written_procedures s p (proc ∷ procs) = written_procedure s p proc ∷ written
 
 -- the one area, of one word: the number of the normal condition
 abbrev pub written_area : SourceOf → AreaOf
-written_area s = new_area 0 (named condition_area) (written_word (names_with s []) (Nat 2) ∷ [])
+written_area s = new_area 0 (named condition_area) (written_word (names_with s []) (Nat (number_of_way None)) ∷ [])
 
 -- the system of a source, with these sizes of the stacks and this base
 abbrev pub generated : SourceOf → Words → ℕ → SystemOf

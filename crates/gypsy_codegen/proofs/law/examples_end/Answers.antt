@@ -1,4 +1,4 @@
-use Rattle.gypsy_codegen.proofs.Examples.{examples_end}
+use Rattle.gypsy_codegen.proofs.ExampleLaws.{examples_end}
 use Rattle.gypsy_codegen.proofs.law.examples_end.Goals as goal
 
 pub returns : goal.returns

@@ -1,4 +1,4 @@
-use Rattle.gypsy_codegen.proofs.Runs.{counted_runs, meaning_runs, limited_run_halts}
+use Rattle.gypsy_codegen.proofs.RunLaws.{counted_runs, meaning_runs, limited_run_halts}
 use Rattle.gypsy_codegen.proofs.law.meaning_runs.Goals as goal
 
 pub returns-clause-meaning : goal.returns-clause-meaning

@@ -1,4 +1,4 @@
-use Rattle.gypsy_codegen.proofs.Runs.{raise_follows}
+use Rattle.gypsy_codegen.proofs.RunLaws.{raise_follows}
 use Rattle.gypsy_codegen.proofs.law.raise_follows.Goals as goal
 
 pub returns : goal.returns

@@ -1,4 +1,4 @@
-use Rattle.gypsy_codegen.proofs.RowCases as law
+use Rattle.gypsy_codegen.proofs.RowCaseLaws as law
 use Rattle.gypsy_codegen.proofs.law.rows_follow.Goals as goal
 
 pub returns-clause-no_op : goal.returns-clause-no_op

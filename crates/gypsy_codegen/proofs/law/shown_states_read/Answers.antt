@@ -1,5 +1,5 @@
 use Rattle.gypsy_codegen.proofs.law.shown_states_read.Goals as goal
-use Rattle.gypsy_codegen.proofs.Runs.{place_is_mark, variables_stand, waiting_variables_stand, actuals_share}
+use Rattle.gypsy_codegen.proofs.RunLaws.{place_is_mark, variables_stand, waiting_variables_stand, actuals_share}
 
 pub returns-clause-place : goal.returns-clause-place
 returns-clause-place c = place_is_mark

@@ -1,4 +1,4 @@
-use Rattle.gypsy_codegen.proofs.Runs.{start_shows, each_is_shown}
+use Rattle.gypsy_codegen.proofs.RunLaws.{start_shows, each_is_shown}
 use Rattle.gypsy_codegen.proofs.law.states_are_shown.Goals as goal
 
 pub returns-clause-start : goal.returns-clause-start

@@ -1,4 +1,4 @@
-use Rattle.gypsy_codegen.proofs.Rows.{steps_follow}
+use Rattle.gypsy_codegen.proofs.RowLaws.{steps_follow}
 use Rattle.gypsy_codegen.proofs.law.steps_follow.Goals as goal
 
 pub returns : goal.returns

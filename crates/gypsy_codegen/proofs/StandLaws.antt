@@ -29,8 +29,8 @@ use Rattle.gypsy_codegen.specs.Generated.{Scope, InLoop, InBegin, target, raise_
 use Rattle.gypsy_codegen.specs.Memory.{stack_of}
 use Rattle.gypsy_codegen.specs.Showing.{HasAt, gen_in, Stands, Tops, cc_of, Shows}
 use Rattle.gypsy_codegen.specs.Law.{tally_of, Leads}
-use Rattle.gypsy_codegen.proofs.Going.{P, Pt, state, spent, Goes, steps_on, stay, spend_two}
-use Rattle.gypsy_codegen.proofs.Pushes.{has_front, has_back, has_all, size_words, size_indices, size_actuals, size_args, Live, free_temp, jumps, sets_cc}
+use Rattle.gypsy_codegen.proofs.StepLaws.{P, Pt, state, spent, Goes, steps_on, stay, spend_two}
+use Rattle.gypsy_codegen.proofs.PushLaws.{has_front, has_back, has_all, size_words, size_indices, size_actuals, size_args, Live, free_temp, jumps, sets_cc}
 
 pub size_raises : (q : Program) (p n : ℕ) (env : List Scope) (cs : List Cond) → length (raises q p n env cs) ≡ 3 * length cs
 size_raises q p n env [] = refl

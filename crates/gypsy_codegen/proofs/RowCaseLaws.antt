@@ -11,8 +11,8 @@ use Rattle.gypsy_codegen.specs.Generated.{generated_view}
 use Rattle.gypsy_codegen.specs.Law.{Follows}
 use Rattle.gypsy_codegen.specs.Rows.{Top, IsShown, at_work, NoOpRow, SignalRow, LoopRow, BackRow, ThenRow, ElseRow, JoinThenRow, JoinOneRow, GuardRow}
 use Rattle.gypsy_codegen.specs.Rows.{CallRow, WriteRow, FaultRow, BeyondRow, ReturnRow, OutRow, EndRow, MainOutRow}
-use Rattle.gypsy_codegen.proofs.Pushes.{PredefsRun}
-use Rattle.gypsy_codegen.proofs.Rows.{steps_follow}
+use Rattle.gypsy_codegen.proofs.PushLaws.{PredefsRun}
+use Rattle.gypsy_codegen.proofs.RowLaws.{steps_follow}
 
 module _ (predefs : PredefsRun) where
   follows : (s : Top) (w : List Item) → IsShown s (at_work s w) → Follows s.source (generated_view s.source s.sizes s.base) s.piton s.spent (gypsy_step s.source s.sizes (at_work s w))

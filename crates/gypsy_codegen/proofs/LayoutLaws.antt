@@ -19,23 +19,19 @@ use Rattle.gypsy_meaning.specs.Machine.{Frame, Held, used}
 use Rattle.gypsy_meaning.specs.Kept.{VarsFit, FramesFit}
 use Rattle.gypsy_meaning.proofs.EffectLaws.{value_fits}
 use Rattle.gypsy_predef.specs.Runs.{words_of_value, push_all, with_elements}
+use Rattle.gypsy_check.proofs.CleanLaws.{get_map}
 use Rattle.gypsy_codegen.specs.WordsOf.{words_of_values, words_before, starts, local_shapes}
 use Rattle.gypsy_codegen.specs.Generated.{offset}
 use Rattle.gypsy_codegen.specs.Memory.{stack_of, base_of, index_of, frame_of, index_words}
 use Rattle.gypsy_codegen.specs.Showing.{Waits, frame_with}
-use Rattle.gypsy_codegen.proofs.Copies.{copied-length, copied_at, copied_set, copied_past, below_at, get_below, actuals_below, actuals_number, actual_shape, vars_number, vars_behind, copies_fit}
-use Rattle.gypsy_codegen.proofs.Stacked.{push_all-length, below_pushed, element_of, words_below, words_from, get_front, get_behind, value_words, values_words, read_word, write_words, words_fit, starts_at, starts-length}
+use Rattle.gypsy_codegen.proofs.CopyLaws.{copied-length, copied_at, copied_set, copied_past, below_at, get_below, actuals_below, actuals_number, actual_shape, vars_number, vars_behind, copies_fit}
+use Rattle.gypsy_codegen.proofs.StackLaws.{push_all-length, below_pushed, element_of, words_below, words_from, get_front, get_behind, value_words, values_words, read_word, write_words, words_fit, starts_at, starts-length}
 
 pub if_yes : {A : Type 0} (b : Bool) (x y : A) → b ≡ true → (if b then x else y) ≡ x
 if_yes b x y e = ap (λ c. if c then x else y) e
 
 pub if_no : {A : Type 0} (b : Bool) (x y : A) → b ≡ false → (if b then x else y) ≡ y
 if_no b x y e = ap (λ c. if c then x else y) e
-
-pub get_map : {A B : Type 0} (f : A → B) (xs : List A) (i : ℕ) (x : A) → slice_get xs i ≡ Some x → slice_get (map f xs) i ≡ Some (f x)
-get_map f [] i x e = cc
-get_map f (y ∷ xs) zero x e = let same : y ≡ x = cc in ap (λ z. Some (f z)) same
-get_map f (y ∷ xs) (suc i) x e = get_map f xs i x e
 
 pub get_there : {A : Type 0} (xs : List A) (i : ℕ) (d : A) → i < length xs → slice_get xs i ≡ Some (Rattle.std.specs.Prelude.get_or xs i d)
 get_there xs i d h = slice_get-get_or xs i d h
@@ -114,7 +110,7 @@ module _ (q : Program) where
       let under : A + h < length st = omega (arith, index_fits c fs (slice_index xs b) s g.3 same, in_value, low) in
       let below = actuals_below (shapes_of (proc_at q c)) d.formals xs g.0.actuals in
       let many = actuals_number (shapes_of (proc_at q c)) d.formals xs g.0.actuals in
-      let value = copied_at xs y x b g.0.distinct (subst (λ n. Rattle.gypsy_codegen.proofs.Copies.Below n xs) (sym (vars_number (shapes_of (proc_at q c)) x g.1)) below) (omega (arith, many, lt)) (omega (arith, vars_number (shapes_of d) y v, in_shapes)) in
+      let value = copied_at xs y x b g.0.distinct (subst (λ n. Rattle.gypsy_codegen.proofs.CopyLaws.Below n xs) (sym (vars_number (shapes_of (proc_at q c)) x g.1)) below) (omega (arith, many, lt)) (omega (arith, vars_number (shapes_of d) y v, in_shapes)) in
       ap (λ i. element (push_all ws st) (i + h)) (if_yes (nat_lt b k) A B (lt-ltb b k lt))
       ∙ below_pushed ws st (A + h) under
       ∙ reads_at c x' fs (slice_index xs b) h s u vc g.3 same (ap (λ z. slice_get (words_of_value z) h) value ∙ r))

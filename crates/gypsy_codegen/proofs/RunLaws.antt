@@ -28,7 +28,7 @@ use Rattle.gypsy_meaning.proofs.Rooms.{step_room, start_room}
 use Rattle.gypsy_codegen.specs.WordsOf.{words_of_values, starts}
 use Rattle.gypsy_codegen.specs.Generated.{Scope, size, generated_view}
 use Rattle.gypsy_codegen.specs.Memory.{stack_of, index_of}
-use Rattle.gypsy_codegen.proofs.Pushes.{PredefsRun}
+use Rattle.gypsy_codegen.proofs.PushLaws.{PredefsRun}
 use Rattle.gypsy_codegen.specs.Showing.{Stands, Tops, Shows, rest_size, mark_of}
 use Rattle.gypsy_codegen.specs.Law.{Leads, Halts, Follows, tally_of}
 use Rattle.gypsy_codegen.specs.Whole.{opened, SizesFit, CountedRuns, MeaningRuns, LimitedRunHalts, StartShows, Reached, same, later, EachIsShown, PlaceIsMark, VariablesStand, WaitingStand, WaitingVariablesStand, ActualsShare, RaiseFollows}
@@ -46,14 +46,14 @@ use Rattle.gypsy_meaning.proofs.EffectLaws.{value_fits}
 use Rattle.gypsy_predef.specs.Runs.{words_of_value}
 use Rattle.gypsy_codegen.specs.WordsOf.{words_before, local_shapes}
 use Rattle.gypsy_codegen.specs.Memory.{base_of}
-use Rattle.gypsy_codegen.proofs.Copies.{copied_miss, get_below}
-use Rattle.gypsy_codegen.proofs.Stacked.{push_all-length, below_pushed, value_words}
-use Rattle.gypsy_codegen.proofs.Laid.{height, low_fits, index_fits}
-use Rattle.gypsy_codegen.proofs.Laid.{if_yes, reads_at}
-use Rattle.gypsy_codegen.proofs.Going.{steps_append, spend_two, spend_none, pushed_reverse, program_is}
-use Rattle.gypsy_codegen.proofs.Pushes.{Live}
-use Rattle.gypsy_codegen.proofs.Standing.{body_stands, tops, leads, raise_leads}
-use Rattle.gypsy_codegen.proofs.Rows.{steps_follow}
+use Rattle.gypsy_codegen.proofs.CopyLaws.{copied_miss, get_below}
+use Rattle.gypsy_codegen.proofs.StackLaws.{push_all-length, below_pushed, value_words}
+use Rattle.gypsy_codegen.proofs.LayoutLaws.{height, low_fits, index_fits}
+use Rattle.gypsy_codegen.proofs.LayoutLaws.{if_yes, reads_at}
+use Rattle.gypsy_codegen.proofs.StepLaws.{steps_append, spend_two, spend_none, pushed_reverse, program_is}
+use Rattle.gypsy_codegen.proofs.PushLaws.{Live}
+use Rattle.gypsy_codegen.proofs.StandLaws.{body_stands, tops, leads, raise_leads}
+use Rattle.gypsy_codegen.proofs.RowLaws.{steps_follow}
 
 -- The start.
 

@@ -24,11 +24,11 @@ use Rattle.gypsy_codegen.specs.WordsOf.{starts}
 use Rattle.gypsy_codegen.specs.Generated.{generated_view, code_of, offset, push_words, push_indices, push_actuals, push_args}
 use Rattle.gypsy_codegen.specs.Memory.{stack_of, index_of, index_words}
 use Rattle.gypsy_codegen.specs.Showing.{HasAt, Waits}
-use Rattle.gypsy_codegen.proofs.Copies.{Below}
-use Rattle.gypsy_codegen.proofs.Laid.{height, frame_at, proc_there, Newest, newest, if_no}
+use Rattle.gypsy_codegen.proofs.CopyLaws.{Below}
+use Rattle.gypsy_codegen.proofs.LayoutLaws.{height, frame_at, proc_there, Newest, newest, if_no}
 use Rattle.std.proofs.lemmas.Bool.{ne_eqb}
-use Rattle.gypsy_codegen.proofs.Going as go
-use Rattle.gypsy_codegen.proofs.Going.{P, Pt, Goes, steps_on, stay, lands_at, spend_two, spend_as, spend_none}
+use Rattle.gypsy_codegen.proofs.StepLaws as go
+use Rattle.gypsy_codegen.proofs.StepLaws.{P, Pt, Goes, steps_on, stay, lands_at, spend_two, spend_as, spend_none}
 
 pub has_front : (code : List Instruction) (at : ℕ) (a b : List Instruction) → HasAt code at (a ++ b) → HasAt code at a
 has_front code at [] b h = tt
@@ -66,7 +66,7 @@ size_args q p [] = refl
 size_args q p (Var b ∷ args) = ap suc (size_args q p args)
 size_args q p (Lit v ∷ args) = ap suc (size_args q p args)
 
-some_items : (n : ℕ) → 1 ≤ (if n == 0 then 1 else n)
+pub some_items : (n : ℕ) → 1 ≤ (if n == 0 then 1 else n)
 some_items zero = omega arith
 some_items (suc n) = omega (arith, if_no (suc n == 0) 1 (suc n) (ne_eqb (suc n) 0 (λ e. omega (arith, e))))
 
@@ -96,7 +96,7 @@ free_temp {q} {sizes} {base} {p} {fs} {fr} a x st es v =
 
 pub free_ctrl : {q : Program} {sizes : Words} {base p : ℕ} {fs : List Frame} {fr : List piton.Frame} (a : Live q sizes base p fs fr) → piton.ctrl_used fr + ctrl_need (proc_at q p) ≤ sizes.ctrl
 free_ctrl {q} {sizes} {base} {p} {fs} {fr} a =
-    omega (arith, Rattle.gypsy_codegen.proofs.Laid.ctrl_is q p fs fr a.frames_fit a.waits, (has_words q sizes p fs a.words).1)
+    omega (arith, Rattle.gypsy_codegen.proofs.LayoutLaws.ctrl_is q p fs fr a.frames_fit a.waits, (has_words q sizes p fs a.words).1)
 
 module _ {q : Program} {sizes : Words} {base p : ℕ} {fs : List Frame} {fr : List piton.Frame} (a : Live q sizes base p fs fr) where
   abbrev Here : P → P → Type 0

@@ -20,9 +20,9 @@ use Rattle.gypsy_codegen.specs.WordsOf.{words_of_values, starts, local_shapes}
 use Rattle.gypsy_codegen.specs.Generated.{Scope, InLoop, InBegin, target, raise_code, back_code, raises, raise_places, after_code, push_words, push_indices, push_actuals, push_args, before_size, length_code, predef_position, size, gen, tail_code}
 use Rattle.gypsy_predef.specs.Calls.{test_code}
 use Rattle.gypsy_codegen.specs.Sizes.{ProceduresTakeWords}
-use Rattle.gypsy_codegen.proofs.Copies.{actuals_number, locals_fit}
-use Rattle.gypsy_codegen.proofs.Stacked.{values_words, starts-length}
-use Rattle.gypsy_codegen.proofs.Going.{program_is}
+use Rattle.gypsy_codegen.proofs.CopyLaws.{actuals_number, locals_fit}
+use Rattle.gypsy_codegen.proofs.StackLaws.{values_words, starts-length}
+use Rattle.gypsy_codegen.proofs.StepLaws.{program_is}
 
 sum-append : (a b : List Instruction) → instructions_size (a ++ b) ≡ instructions_size a + instructions_size b
 sum-append [] b = omega arith

@@ -25,13 +25,13 @@ use Rattle.gypsy_codegen.specs.Generated.{Scope, out_place, raise_code, raises, 
 use Rattle.gypsy_codegen.specs.Memory.{stack_of, base_of, index_of, index_words}
 use Rattle.gypsy_codegen.specs.Showing.{HasAt, Stands, Waits, frame_with}
 use Rattle.gypsy_codegen.specs.Law.{Halts}
-use Rattle.gypsy_codegen.proofs.Copies.{copied_back, actuals_below, actuals_number, locals_fit}
-use Rattle.gypsy_codegen.proofs.Stacked.{push_all-length, push_all-append, values_words, starts-length}
-use Rattle.gypsy_codegen.proofs.Laid.{if_no, height, low_fits, ctrl_is, newest}
-use Rattle.gypsy_codegen.proofs.Going as go
-use Rattle.gypsy_codegen.proofs.Going.{P, Pt, state, spent, Goes, steps_on, stay, lands_at, spend_two, spend_as, three, pushed_dropped, pushed_reverse, program_there}
-use Rattle.gypsy_codegen.proofs.Pushes.{has_front, has_back, size_words, size_indices, size_actuals, Live, free_temp, here, top, passes, jumps, sets_cc, words_go, indices_go, actuals_go}
-use Rattle.gypsy_codegen.proofs.Standing.{size_raises, tail_at, ret_at, moved, settle_stands, body_stands, Comes, comes_on, lands, raises_leads}
+use Rattle.gypsy_codegen.proofs.CopyLaws.{copied_back, actuals_below, actuals_number, locals_fit}
+use Rattle.gypsy_codegen.proofs.StackLaws.{push_all-length, push_all-append, values_words, starts-length}
+use Rattle.gypsy_codegen.proofs.LayoutLaws.{if_no, height, low_fits, ctrl_is, newest}
+use Rattle.gypsy_codegen.proofs.StepLaws as go
+use Rattle.gypsy_codegen.proofs.StepLaws.{P, Pt, state, spent, Goes, steps_on, stay, lands_at, spend_two, spend_as, three, pushed_dropped, pushed_reverse, program_there}
+use Rattle.gypsy_codegen.proofs.PushLaws.{has_front, has_back, size_words, size_indices, size_actuals, Live, free_temp, here, top, passes, jumps, sets_cc, words_go, indices_go, actuals_go}
+use Rattle.gypsy_codegen.proofs.StandLaws.{size_raises, tail_at, ret_at, moved, settle_stands, body_stands, Comes, comes_on, lands, raises_leads}
 
 -- what a call's room says
 pub record Room (q : Program) (sizes : Words) (p : ℕ) (u : Words) : Type 0 where
@@ -199,7 +199,7 @@ module _ {q : Program} {sizes : Words} {base p c : ℕ} {x : List ValueOf} {w : 
       let frs = a.waits.1 in
       let h = a.waits.4 in
       let b = below in
-      let many : l ≡ length vs = sym (values_words (local_shapes d) (drop (length d.formals) y) (Rattle.gypsy_codegen.proofs.Copies.vars_behind d.formals (local_shapes d) y v)) in
+      let many : l ≡ length vs = sym (values_words (local_shapes d) (drop (length d.formals) y) (Rattle.gypsy_codegen.proofs.CopyLaws.vars_behind d.formals (local_shapes d) y v)) in
       let drops : drop l s ≡ lo = ap (drop l) es ∙ pushed_dropped vs lo l many in
       let enough : l ≤ length s = omega (arith, ap length es, push_all-length vs lo, many) in
       let free : length lo < sizes.temp = omega (arith, free_temp below (copied_out xs y x) lo refl vars_below) in

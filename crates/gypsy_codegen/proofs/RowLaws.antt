@@ -29,14 +29,15 @@ use Rattle.gypsy_codegen.specs.Generated.{Scope, InLoop, back_code, offset, size
 use Rattle.gypsy_codegen.specs.Memory.{stack_of, index_of}
 use Rattle.gypsy_codegen.specs.Showing.{HasAt, gen_in, Stands, Tops, cc_of}
 use Rattle.gypsy_codegen.specs.Law.{Follows, StepsFollow}
-use Rattle.gypsy_codegen.proofs.Copies.{get_below}
-use Rattle.gypsy_codegen.proofs.Laid.{get_map, get_there, reads_at}
-use Rattle.gypsy_codegen.proofs.Going as go
-use Rattle.gypsy_codegen.proofs.Going.{P, Pt, state, spent, Goes, steps_on, stay, lands_at, spend_two, three}
-use Rattle.gypsy_codegen.proofs.Pushes.{PredefsRun, Live, free_temp, here, top, passes, jumps, pushes_local}
-use Rattle.gypsy_codegen.proofs.Standing.{Opened, moved, after_gen, front_gen, settle_stands, open_stands, Comes, comes_on, leads, lands, raises_leads}
-use Rattle.gypsy_codegen.proofs.Calling.{call_leads, normal_leads, out_leads, end_halts, out_halts}
-use Rattle.gypsy_codegen.proofs.Applying.{apply_follows}
+use Rattle.gypsy_codegen.proofs.CopyLaws.{get_below}
+use Rattle.gypsy_check.proofs.CleanLaws.{get_map}
+use Rattle.gypsy_codegen.proofs.LayoutLaws.{get_there, reads_at}
+use Rattle.gypsy_codegen.proofs.StepLaws as go
+use Rattle.gypsy_codegen.proofs.StepLaws.{P, Pt, state, spent, Goes, steps_on, stay, lands_at, spend_two, three}
+use Rattle.gypsy_codegen.proofs.PushLaws.{PredefsRun, Live, free_temp, here, top, passes, jumps, pushes_local}
+use Rattle.gypsy_codegen.proofs.StandLaws.{Opened, moved, after_gen, front_gen, settle_stands, open_stands, Comes, comes_on, leads, lands, raises_leads}
+use Rattle.gypsy_codegen.proofs.CallLaws.{call_leads, normal_leads, out_leads, end_halts, out_halts}
+use Rattle.gypsy_codegen.proofs.ApplyLaws.{apply_follows}
 
 -- the word of a simple variable
 simple_word : (k : Kind) (v : ValueOf) → v.shape ≡ simple k → ValueFits v → slice_get (words_of_value v) 0 ≡ Some (word_of_item k (item_of_value v))

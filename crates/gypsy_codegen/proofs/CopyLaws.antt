@@ -124,3 +124,9 @@ copies_fit shapes (s ∷ formals) rest [] y x f g h = absurd f
 copies_fit shapes (s ∷ formals) rest (a ∷ xs) [] x f g h = absurd g
 copies_fit shapes (s ∷ formals) rest (a ∷ xs) (v ∷ y) x f g h =
     copies_fit shapes formals rest xs y (slice_set x a v) f.1 g.2 (set_fits shapes x a v h (f.0 ∙ ap Some (sym g.0)) g.1)
+
+-- Lists.
+
+pub each_both : {X : Type 0} (P : X → Type 0) (a b : List X) → Each P a → Each P b → Each P (a ++ b)
+each_both P [] b x y = y
+each_both P (c ∷ a) b x y = (x.0, each_both P a b x.1 y)

@@ -28,8 +28,9 @@ use Rattle.gypsy_predef.specs.Runs.{push_all}
 use Rattle.gypsy_predef.specs.Bodies as predefined
 use Rattle.gypsy_predef.specs.Bodies.{bodies, predef_number}
 use Rattle.gypsy_codegen.specs.Generated.{generated_view, generated_program, count_from, code_of}
-use Rattle.gypsy_codegen.proofs.Stacked.{get_front, get_behind}
-use Rattle.gypsy_codegen.proofs.Laid.{get_map}
+use Rattle.gypsy_codegen.proofs.StackLaws.{get_front, get_behind}
+use Rattle.gypsy_check.proofs.CleanLaws.{get_map}
+
 
 -- Tallies.
 
@@ -251,7 +252,7 @@ module _ (q : Program) (sizes : Words) (base : ℕ) where
         let s = generated_view q sizes base in
         let frame : List Word → piton.Frame = λ l. record { locals = l ++ callee.temporaries; program = p; place = at + 1 } in
         let n = callee.formals + length callee.temporaries in
-        let enough : callee.formals ≤ length (push_all ws st) = omega (arith, many, Rattle.gypsy_codegen.proofs.Stacked.push_all-length ws st) in
+        let enough : callee.formals ≤ length (push_all ws st) = omega (arith, many, Rattle.gypsy_codegen.proofs.StackLaws.push_all-length ws st) in
         let cost : 4 + n ≡ cost_of s (state_at p at cc (push_all ws st) fr) (i.Call c) = ap (λ (z : ProgramView). 4 + (z.formals + length z.temporaries)) (sym (get_or_from_slice_get s.programs c callee _ there')) in
         act
         at

@@ -39,11 +39,11 @@ use Rattle.gypsy_codegen.specs.Generated.{Scope, target, offset, push_args, leng
 use Rattle.gypsy_codegen.specs.Memory.{stack_of, index_of, frame_of, index_words}
 use Rattle.gypsy_codegen.specs.Showing.{HasAt, Stands}
 use Rattle.gypsy_codegen.specs.Law.{Follows}
-use Rattle.gypsy_codegen.proofs.Copies.{get_below}
-use Rattle.gypsy_codegen.proofs.Laid.{reads_at, writes_at, frame_at, if_no}
-use Rattle.gypsy_codegen.proofs.Going.{Pt, state, state_at, Goes, predef_there, program_is}
-use Rattle.gypsy_codegen.proofs.Pushes.{Live, free_temp, free_ctrl, here, top}
-use Rattle.gypsy_codegen.proofs.Standing.{settle_stands, Comes, comes_on, leads, lands, raise_leads, apply_size}
+use Rattle.gypsy_codegen.proofs.CopyLaws.{get_below}
+use Rattle.gypsy_codegen.proofs.LayoutLaws.{reads_at, writes_at, frame_at, if_no}
+use Rattle.gypsy_codegen.proofs.StepLaws.{Pt, state, state_at, Goes, predef_there, program_is}
+use Rattle.gypsy_codegen.proofs.PushLaws.{Live, free_temp, free_ctrl, here, top}
+use Rattle.gypsy_codegen.proofs.StandLaws.{settle_stands, Comes, comes_on, leads, lands, raise_leads, apply_size}
 
 -- Arguments.
 
@@ -219,7 +219,7 @@ module _ {q : Program} {sizes : Words} {base p : ℕ} {fs : List Frame} {fr : Li
       let v' = apply_fits shapes x k r args n v f eff in
       let first = first_of_row q p fs x shapes k r args f in
       let in_shapes : b < length shapes = get_below shapes b first.shape first.there in
-      let in_x : b < length x = omega (arith, Rattle.gypsy_codegen.proofs.Copies.vars_number shapes x v, in_shapes) in
+      let in_x : b < length x = omega (arith, Rattle.gypsy_codegen.proofs.CopyLaws.vars_number shapes x v, in_shapes) in
       let set : value_at x' b ≡ n = get_or-set_same x b n no_value in_x in
       let fit = value_fits shapes x' b first.shape v' first.there in
       let shape : slice_get shapes b ≡ Some n.shape = first.there ∙ ap Some (sym fit.0 ∙ ap (λ (z : ValueOf). z.shape) set) in
