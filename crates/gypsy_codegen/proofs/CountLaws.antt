@@ -1,12 +1,12 @@
 -- How many lines and labels the code of a source has at most.
-use Rattle.std.proofs.Common.{◌≡◌, ℕ, zero, suc, ◌+◌, ◌*◌, ◌<◌, ◌≤◌, ◌^◌, List, [], ◌∷◌, length, Bool, true, false, refl, ap, arith}
+use Rattle.std.proofs.Common.{◌≡◌, ℕ, zero, suc, ◌+◌, ◌*◌, ◌<◌, ◌≤◌, ◌^◌, List, [], ◌∷◌, length, Bool, true, false, ap, arith}
 use Rattle.std.specs.Prelude.{◌==◌, if◌then◌else◌}
 use Rattle.stack_text.specs.declared.shape.Shape.{Shape}
 use Rattle.gypsy_syntax.specs.declared.predef.Predef.{Predef}
 use Rattle.gypsy_syntax.specs.declared.predef.Predef.TheVariants as row
 use Rattle.gypsy_syntax.specs.Programs.{Arg, Var, Lit, Program, proc_at, body_of, shapes_of}
 use Rattle.gypsy_syntax.specs.Programs.{Stmt, Skip, NoOp, Signal, Seq, Loop, If, Begin, Call, Apply}
-use Rattle.gypsy_syntax.specs.ProgramFits.{ActualsFit, StmtFits, ProgramFits}
+use Rattle.gypsy_syntax.specs.ProgramFits.{StmtFits, ProgramFits}
 use Rattle.gypsy_syntax.specs.PredefinedCosts.{predef_words}
 use Rattle.gypsy_space.specs.Needs.{vars_of, args_words, statement_words, code_words}
 use Rattle.gypsy_predef.specs.Bodies.{lengths_of}

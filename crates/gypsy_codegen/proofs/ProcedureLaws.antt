@@ -1,5 +1,5 @@
 -- The program of a procedure.
-use Rattle.std.proofs.Common.{◌≡◌, ℕ, suc, ◌+◌, ◌<◌, ◌≤◌, ◌^◌, List, [], ◌∷◌, ◌++◌, map, length, slice_get, All}
+use Rattle.std.proofs.Common.{◌≡◌, ℕ, ◌+◌, ◌<◌, ◌≤◌, ◌^◌, List, [], ◌∷◌, ◌++◌, map, length, slice_get, All}
 use Rattle.std.proofs.Common.{Bool, true, false, cond, Some, refl, sym, ap, subst, ◌∙◌, arith, length-append, flat_map}
 use Rattle.std.specs.Prelude.{IsTrue, ◌==◌}
 use Rattle.std.proofs.lemmas.List.{length-map, append-nil}

@@ -1,12 +1,10 @@
 -- The rows of the step machine, one by one.
-use Rattle.std.proofs.Common.{◌≡◌, ℕ, List, [], ◌∷◌, Some, None, slice_set, sym, subst, ap}
-use Rattle.stack_text.specs.Values.{ValueOf}
+use Rattle.std.proofs.Common.{List, [], ◌∷◌, subst}
 use Rattle.gypsy_syntax.specs.Programs.{body_of, NoOp, Signal, Loop, If, Call, Apply}
-use Rattle.gypsy_syntax.specs.Effects.{Normal, Fault, Beyond}
 use Rattle.gypsy_space.specs.Costs.{spend}
 use Rattle.gypsy_space.specs.Needs.{call_spend}
 use Rattle.gypsy_meaning.specs.Calls.{copied_in}
-use Rattle.gypsy_meaning.specs.Machine.{Item, Do, Back, JoinThen, JoinOne, Guard, Out, Frame, Held, State, At, Next, either_move, full_or, apply_step, end_step, out_step, open_on, gypsy_step}
+use Rattle.gypsy_meaning.specs.Machine.{Item, Do, Back, JoinThen, JoinOne, Guard, Out, Held, At, Next, either_move, full_or, apply_step, end_step, out_step, open_on, gypsy_step}
 use Rattle.gypsy_codegen.specs.Generated.{generated_view}
 use Rattle.gypsy_codegen.specs.Law.{Follows}
 use Rattle.gypsy_codegen.specs.Rows.{Top, IsShown, at_work, NoOpRow, SignalRow, LoopRow, BackRow, ThenRow, ElseRow, JoinThenRow, JoinOneRow, GuardRow}

@@ -31,7 +31,6 @@ use Rattle.gypsy_codegen.specs.Generated.{generated_view, generated_program, cou
 use Rattle.gypsy_codegen.proofs.StackLaws.{get_front, get_behind}
 use Rattle.gypsy_check.proofs.CleanLaws.{get_map}
 
-
 -- Tallies.
 
 pub spend_two : (a b c d : ℕ) (t : Tally) → spend a b (spend c d t) ≡ spend (c + a) (d + b) t

@@ -69,6 +69,10 @@ indexing =
     one_procedure (procedure (simple Integer ∷ record { kind = Integer; length = 3 } ∷ simple Integer ∷ []) [] 0 0
     (Apply 0 row.MgIndexArray (Var 0 ∷ Var 1 ∷ Var 2 ∷ [])))
 
+-- the stack behind it, where the result and the index are these
+abbrev pub index_words_of : ℤ → ℤ → List Word
+index_words_of x i = Int i ∷ Int (pos 30) ∷ Int (pos 20) ∷ Int (pos 10) ∷ Int x ∷ []
+
 abbrev pub index_values : ℤ → List ValueOf
 index_values i = integer_value (pos 0) ∷ three_items ∷ integer_value i ∷ []
 
@@ -108,10 +112,11 @@ pub record ExamplesEnd : Type 0 where
   pub is_true : Ends branching (truth_value true ∷ []) 8 16 2 (Truth true ∷ [])
   pub is_false : Ends branching (truth_value false ∷ []) 8 16 2 (Truth false ∷ [])
   pub called : Ends calling [] 10 22 2 []
-  pub overflowed : Ends addition (integer_value (pos 2147483647) ∷ integer_value (pos 1) ∷ []) 21 61 1 (Int (pos 1) ∷ Int (pos 2147483647) ∷ [])
-  pub indexed : Ends indexing (index_values (pos 2)) 26 74 2 (Int (pos 2) ∷ Int (pos 30) ∷ Int (pos 20) ∷ Int (pos 10) ∷ Int (pos 30) ∷ [])
-  pub too_high : Ends indexing (index_values (pos 3)) 22 62 1 (Int (pos 3) ∷ Int (pos 30) ∷ Int (pos 20) ∷ Int (pos 10) ∷ Int (pos 0) ∷ [])
-  pub negative : Ends indexing (index_values (negsuc 0)) 18 49 1 (Int (negsuc 0) ∷ Int (pos 30) ∷ Int (pos 20) ∷ Int (pos 10) ∷ Int (pos 0) ∷ [])
+  pub overflowed : Ends addition (integer_value (pos 2147483647) ∷ integer_value (pos 1) ∷ []) 21 61 1
+      (Int (pos 1) ∷ Int (pos 2147483647) ∷ [])
+  pub indexed : Ends indexing (index_values (pos 2)) 26 74 2 (index_words_of (pos 30) (pos 2))
+  pub too_high : Ends indexing (index_values (pos 3)) 22 62 1 (index_words_of (pos 0) (pos 3))
+  pub negative : Ends indexing (index_values (negsuc 0)) 18 49 1 (index_words_of (pos 0) (negsuc 0))
   pub counted_down : Ends countdown (integer_value (pos 2) ∷ []) 125 357 2 (Int (pos 0) ∷ [])
   pub handled : Ends handling (integer_value (pos 1) ∷ []) 23 54 2 (Int (pos 5) ∷ [])
   pub formal_out : Ends (one_procedure (procedure [] [] 1 0 (Signal 0 (Declared 0)))) [] 5 8 3 []

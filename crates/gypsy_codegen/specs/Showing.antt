@@ -53,7 +53,9 @@ Stands q p env at (JoinThen place v ∷ w) =
 Stands q p env at (JoinOne place ∷ w) = (slice_get (code_of q p) at ≡ Some i.NoOp) × Stands q p env (at + 1) w
 Stands q p env at (Guard place cs v ∷ w) =
     (outer : List Scope) × (env ≡ InBegin cs (at + 1) ∷ outer) ×
-    HasAt (code_of q p) at (i.Jump (at + 3 + size q v) ∷ (normal_code ++ (gen_in q p outer (at + 3) v ++ i.NoOp ∷ []))) × Stands q p outer (at + 3 + size q v + 1) w
+    HasAt (code_of q p) at
+    (i.Jump (at + 3 + size q v) ∷ (normal_code ++ (gen_in q p outer (at + 3) v ++ i.NoOp ∷ []))) ×
+    Stands q p outer (at + 3 + size q v + 1) w
 Stands q p env at (Out c ∷ w) = ⊥
 
 -- the same at the top of the list, where a condition may be on its way out
