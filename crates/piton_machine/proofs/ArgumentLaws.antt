@@ -1,10 +1,9 @@
 -- An instruction is the one of its operation's arguments, or one on words.
-use Rattle.std.proofs.Common.{◌≡◌, ℕ, Some, None, List, [], ◌∷◌, map, refl, ap, ◌∙◌}
+use Rattle.std.proofs.Common.{◌≡◌, ℕ, Some, None, List, [], ◌∷◌, refl, ap, ◌∙◌}
 use Rattle.piton_words.specs.declared.word.Word.{Word}
 use Rattle.piton_words.specs.declared.op.WordOp.{WordOp}
 use Rattle.piton_syntax.specs.declared.op.PitonOp.{PitonOp}
 use Rattle.piton_syntax.specs.declared.op.PitonOp.TheVariants as op
-use Rattle.piton_syntax.specs.declared.test_kind.TestKind.{TestKind}
 use Rattle.piton_syntax.specs.declared.test_kind.TestFamily.{TestFamily}
 use Rattle.piton_syntax.specs.declared.test_kind.TestFamily.TheVariants as family
 use Rattle.piton_check.specs.declared.resolved.ResolvedArg.{ResolvedArg}

@@ -1,13 +1,13 @@
 -- The instruction at a place, as it was resolved, and its group.
-use Rattle.std.proofs.Common.{◌≡◌, ℕ, zero, suc, Bool, true, false, Some, None, List, [], ◌∷◌, map, refl, sym, ap, ◌∙◌, subst}
+use Rattle.std.proofs.Common.{◌≡◌, ℕ, zero, suc, Some, None, List, [], ◌∷◌, map, refl, sym, ap, ◌∙◌, subst}
 use Rattle.std.specs.Prelude.{Option, IfSome, option_map, slice_get, slice_index_or}
 use Rattle.piton_words.specs.declared.op.WordOp.{WordOp}
 use Rattle.piton_syntax.specs.declared.op.PitonOp.{PitonOp}
 use Rattle.piton_check.specs.declared.piece.Piece.{Piece}
-use Rattle.piton_check.specs.Answers.{CheckedOf, IsChecked}
+use Rattle.piton_check.specs.Answers.{CheckedOf}
 use Rattle.piton_check.specs.declared.resolved.ResolvedArg.{ResolvedArg}
 use Rattle.piton_check.specs.Words.{word_operation}
-use Rattle.piton_check.specs.Instruction.{Instruction, instruction_view, program_view, system_view}
+use Rattle.piton_check.specs.Instruction.{instruction_view, program_view, system_view}
 use Rattle.piton_check.specs.Resolved.{ResolvedInstrOf, ResolvedProgramOf, ResolvedOf}
 use Rattle.piton_check.specs.Sound.{local_count}
 use Rattle.piton_machine.specs.declared.group.Group.{Group}

@@ -1,6 +1,6 @@
 -- Each program's prelude and each instruction's code stand where the addresses say.
-use Rattle.std.proofs.Common.{◌≡◌, ℕ, zero, suc, ◌+◌, ◌<◌, ◌≤◌, Some, List, [], ◌∷◌, ◌++◌, length, refl, sym, ap, ◌∙◌, subst, arith}
-use Rattle.std.specs.Prelude.{take, get_or, slice_get, slice_index_or}
+use Rattle.std.proofs.Common.{◌≡◌, ℕ, zero, suc, ◌+◌, Some, List, [], ◌∷◌, length, sym, ap, ◌∙◌, subst, arith}
+use Rattle.std.specs.Prelude.{take, slice_get, slice_index_or}
 use Rattle.fm_code.specs.Execution.{Parts, CodeAt}
 use Rattle.fm_code.proofs.CodeLaws.{code_whole, code_front, code_after}
 use Rattle.piton_check.specs.Instruction.{Instruction, ProgramView, SystemView}

@@ -11,8 +11,8 @@ use Rattle.piton_check.specs.Instruction.{Instruction, ProgramView, SystemView}
 use Rattle.piton_check.specs.Answers.{CheckedOf, IsChecked}
 use Rattle.piton_check.specs.Resolved.{ResolvedOf}
 use Rattle.piton_check.specs.Instruction.{system_view}
-use Rattle.piton_check.specs.Sound.{Exists, IsPlaced, IsEnd, IsSoundProgram, IsMain, IsSound, all_words}
-use Rattle.piton_machine.specs.State.{program_of, instruction_at, variables_of}
+use Rattle.piton_check.specs.Sound.{Exists, IsPlaced, IsEnd, IsSoundProgram, IsSound}
+use Rattle.piton_machine.specs.State.{program_of, instruction_at}
 use Rattle.piton_machine.specs.Fits.{Each, IsPlace, IsWordOf, IsInstructionOf, IsWellFormed, IsInitialStack, system_in}
 
 -- ---- lists

@@ -1,4 +1,4 @@
-use Rattle.std.proofs.Common.{◌≡◌, ◌∙◌, Some, ap, sym, subst}
+use Rattle.std.proofs.Common.{◌≡◌, ◌∙◌, Some, ap, sym}
 use Rattle.std.specs.Prelude.{option_map}
 use Rattle.piton_check.specs.Instruction.{system_view}
 use Rattle.piton_check.specs.Resolved.{ResolvedOf}

@@ -1,4 +1,4 @@
-use Rattle.std.proofs.Common.{◌≡◌, ◌-◌, ◌++◌, length, drop}
+use Rattle.std.proofs.Common.{◌≡◌, ◌-◌, ◌++◌, drop}
 use Rattle.piton_machine.specs.Templates.{temporary_pieces}
 use Rattle.piton_code_jump.proofs.entry.push_temporaries.Given as goal
 
