@@ -11,8 +11,6 @@ mod memory;
 mod placement;
 mod sizes;
 mod table;
-#[cfg(test)]
-mod tests;
 mod words;
 
 pub use fault::LinkFault;

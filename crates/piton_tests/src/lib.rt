@@ -4,4 +4,6 @@
 #![tactic(auto)]
 
 #[cfg(test)]
+mod linked;
+#[cfg(test)]
 mod machine;

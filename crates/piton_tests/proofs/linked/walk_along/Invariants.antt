@@ -1,6 +1,6 @@
 use Rattle.piton_machine.specs.Fits.{system_in}
 use Rattle.piton_machine.specs.Seen.{IsSeen}
-use Rattle.piton_linker.proofs.tests.walk_along.Given as goal
+use Rattle.piton_tests.proofs.linked.walk_along.Given as goal
 
 -- the state is one of the system
 abbrev pub invariant-loop : goal.invariant-loop

@@ -2,10 +2,10 @@
 
 mod bodies;
 
-use crate::{Layout, Linked, layout, link};
 use bodies::BODIES;
 use fm_machine::Machine;
 use piton_check::{Checked, check};
+use piton_linker::{Layout, Linked, layout, link};
 use piton_machine::{State, Stepped};
 use piton_syntax::read_piton;
 use piton_words::Word;
