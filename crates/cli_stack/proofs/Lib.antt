@@ -1,6 +1,9 @@
 pub mod GatherLaws
 pub mod ImplementsLaws
+pub mod KnownLaws
 pub mod LinkedLaws
+pub mod LinksLaws
+pub mod LoadedLaws
 pub mod PerformLaws
 pub mod PitonTextLaws
 pub mod PrintLaws

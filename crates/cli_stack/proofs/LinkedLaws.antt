@@ -18,7 +18,7 @@ use Rattle.piton_linker.proofs.TrimLaws.{trimmed-rest}
 use Rattle.cli_stack.specs.Pbuild.{linked_image, is_large}
 
 -- the words up to the last that isn't zero are no more than all
-shorter : (ws : List ℕ) → length (trimmed ws) ≤ length ws
+pub shorter : (ws : List ℕ) → length (trimmed ws) ≤ length ws
 shorter ws = omega (arith, ap length (trimmed-rest ws), length-append (trimmed ws) (replicate (length ws - length (trimmed ws)) 0))
 
 -- the image keeps the limits of images

@@ -21,6 +21,7 @@ use Rattle.cli_stack.specs.Answer.{Answer, answer_with, early_answer, files_afte
 use Rattle.cli_stack.specs.World.{OutOf, World}
 use Rattle.cli_stack.specs.Promises.{HoldsMachine, Agrees, RoseAt, RoseAndPrinted, SizePrinted, HasSizes, HoldsPart, FaultRose, LeavesFiles, PrintsPrefix, PromisesOf}
 use Rattle.cli_stack.specs.Correct.{Implements, Tells}
+use Rattle.cli_stack.specs.Linked.{Links}
 use Rattle.cli_stack.specs.Driver.{HasReason, IsReplyTo, LeavesAs, Leaves, machine_kept, conclusion_of, Printed, Stopped, NotBegun, Concludes}
 use Rattle.cli_stack.proofs.PrintLaws.{nothing_printed}
 use Rattle.cli_stack.proofs.SizeLaws.{sizes_alone}
@@ -236,8 +237,9 @@ pub promises : (command : Option Command) (before after : World) (ran : Result R
     → Concludes (conclusion_of ran) status before.out after.out
     → IfSome before.shelf.files (λ files. Implements command files (answer_by command files).output)
     → IfSome before.shelf.files (λ files. Tells command files (answer_by command files))
+    → IfSome before.shelf.files (λ files. Links command files (answer_by command files).output)
     → PromisesOf command (answer_by command) before after status
-promises command before after ran status leaves reason to ends implements tells =
+promises command before after ran status leaves reason to ends implements tells links =
     let all : IfSome before.shelf.files (λ files. Known (answer_by command files) (file_names command) files before after status) =
     if_known before.shelf.files (λ files. Leaves command files before.shelf after.shelf ran) (λ files. Known (answer_by command files) (file_names command) files before after status)
     (λ files l. known command (answer_by command files) files before after ran status l reason ends) leaves in
@@ -246,6 +248,7 @@ promises command before after ran status leaves reason to ends implements tells 
       answers = if_known before.shelf.files (λ files. Known (answer_by command files) (file_names command) files before after status) _ (λ files k. k.answers) all;
       implements = implements;
       tells = tells;
+      links = links;
       missing = causes.missing;
       shelf_fault = causes.shelf_fault;
       sink_fault = causes.sink_fault;

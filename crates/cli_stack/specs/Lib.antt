@@ -1,6 +1,7 @@
 -- what the program promises, and what that speaks of
 pub mod Promises
 pub mod Correct
+pub mod Linked
 pub mod Answer
 pub mod World
 pub mod Status

@@ -17,6 +17,7 @@ use Rattle.cli_stack.specs.Replies.{verdict_line, end_line}
 use Rattle.cli_stack.specs.Answer.{Answer, files_after, input_names, file_names, answer}
 use Rattle.cli_stack.specs.World.{World}
 use Rattle.cli_stack.specs.Correct.{StoresFile, sizes_of, Implements, Tells}
+use Rattle.cli_stack.specs.Linked.{Links}
 
 -- 1. What no failure spoils.
 
@@ -88,6 +89,8 @@ pub record PromisesOf (command : Option Command) (answer : Files → Answer) (be
   -- who reads a source and stores an image stores what does as the source means, and who runs an image tells what its source means
   pub implements : IfSome before.shelf.files (λ files. Implements command files (answer files).output)
   pub tells : IfSome before.shelf.files (λ files. Tells command files (answer files))
+  -- who reads a Piton text and stores an image stores what does as the text's system
+  pub links : IfSome before.shelf.files (λ files. Links command files (answer files).output)
   -- why a device's failure is the status, and at which name
   pub missing : status ≡ Missing
       → RoseAndPrinted (λ c. c.absences) (λ name. end_line (end.Missing name)) (input_names command) before after

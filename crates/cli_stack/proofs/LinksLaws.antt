@@ -1,0 +1,138 @@
+-- What is stored of a Piton text does what its system does.
+use Rattle.std.proofs.Common.{◌≡◌, ◌≤◌, ℕ, zero, suc, Bool, true, false, List, [], ◌∷◌, ◌++◌, Option, Some, None, IfSome, Result, Ok, Err, length, refl, sym, ap, ◌∙◌, subst, append-nil, arith}
+use Rattle.std.specs.Prelude.{◌^◌, Contains, nat_lt, if◌then◌else◌, codes}
+use Rattle.std.specs.Fmt.{decimal}
+use Rattle.std.proofs.lemmas.Bool.{ltb-false}
+use Rattle.stack_text.specs.Results.{◌>>=◌}
+use Rattle.stack_shelf.specs.Files.{Files, file_at}
+use Rattle.stack_shelf.specs.Shelf.{TooLong, fetched, within}
+use Rattle.fm_machine.specs.Run.{Outcome, outcome}
+use Rattle.fm_machine.specs.declared.processor.Run.TheVariants.{Ended}
+use Rattle.fm_machine.proofs.Runs.{outcome_only}
+use Rattle.fm_image.specs.Spelling.{spelling}
+use Rattle.fm_loader.specs.Loaded as loader
+use Rattle.piton_check.specs.Answers.{CheckedOf, IsChecked}
+use Rattle.piton_check.specs.Instruction.{SystemView}
+use Rattle.piton_machine.specs.Fits.{IsInitialStack, system_in}
+use Rattle.piton_machine.specs.Placed.{placed}
+use Rattle.piton_linker.specs.Theorem.{ComesToStand}
+use Rattle.piton_linker.proofs.ProcessorLaws.{checked_runs}
+use Rattle.fm_machine.specs.State.{Fm}
+use Rattle.cli_stack.specs.declared.command.Command.{Command}
+use Rattle.cli_stack.specs.declared.command.Command.TheVariants as command
+use Rattle.cli_stack.specs.declared.driver.early_end.EarlyEnd.{EarlyEnd}
+use Rattle.cli_stack.specs.declared.reply.Verdict.{Verdict}
+use Rattle.cli_stack.specs.declared.role.Role.{Role}
+use Rattle.cli_stack.specs.declared.role.Role.TheVariants.{Source, Piton, Values, Image}
+use Rattle.cli_stack.specs.Roles.{limit_of}
+use Rattle.cli_stack.specs.Run.{outcome_reply, run_reply}
+use Rattle.cli_stack.specs.PitonText.{checked_in}
+use Rattle.cli_stack.specs.Pbuild.{linked_image, is_large, checked_stored}
+use Rattle.cli_stack.specs.Answer.{text_or_end, set_file, inputs_of, output_of, stored_by, answer_on, answer_to, answer_by}
+use Rattle.display_maps.specs.Report.{shaped}
+use Rattle.cli_stack.specs.Replies.{line}
+use Rattle.cli_stack.specs.Linked.{cost_of, RunsAs, TellsCosts, HoldsLinked, StoresLinked, Links}
+use Rattle.cli_stack.proofs.KnownLaws.{text_is_checked}
+use Rattle.cli_stack.proofs.LinkedLaws.{image_fits}
+use Rattle.cli_stack.proofs.LoadedLaws.{image_loaded}
+
+-- 1. The image of a checked system.
+
+module _ (c : CheckedOf) (is : IsChecked c) (small : (placed (system_in c)).size ≤ 2 ^ 20) where
+  image_runs : RunsAs (linked_image (system_in c)) (system_in c)
+  image_runs j state comes =
+      let initial : IsInitialStack (system_in c) (system_in c).stack = record { as_long = refl; words = is.sound.stack } in
+      subst (λ (m : Fm). ComesToStand (system_in c) m (cost_of (system_in c) j) state) (sym (image_loaded c is)) (checked_runs c is small (system_in c).stack j state initial comes)
+
+  image_tells : TellsCosts (linked_image (system_in c)) (system_in c)
+  unfolding run_reply shaped
+  image_tells j state budget comes halts enough =
+      let image = linked_image (system_in c) in
+      let end = image_runs j state comes in
+      let count : ℕ = cost_of (system_in c) j in
+      let ends : outcome budget image.final_pc (loader.loaded image []) ≡ record { run = Ended count; state = end.state } =
+      outcome_only (loader.loaded image []) image.final_pc budget (Ended count) end.state (enough, record { reached = end.runs; there = end.halted.0 halts; before = end.before }) in
+      record {
+        verdict = ap (λ (o : Outcome). (outcome_reply image budget o).verdict) ends;
+        said = ap (λ (o : Outcome). (outcome_reply image budget o).said) ends ∙ append-nil (line (codes "finished " ++ decimal count));
+      }
+
+-- 2. The text in a file.
+
+-- a file that was fetched is there, and within its limit
+was_short : (files : Files) (input : Role × List ℕ) (text : List ℕ) → text_or_end input (fetched files input.1 (limit_of input.0)) ≡ Ok text → (file_at files input.1 ≡ Some text) × (length text ≤ limit_of input.0)
+was_short files input text h = by_file (file_at files input.1) h
+  where
+    by_length : (bytes : List ℕ) (b : Bool) → nat_lt (limit_of input.0) (length bytes) ≡ b → text_or_end input (if b then Err TooLong else Ok bytes) ≡ Ok text → (Some bytes ≡ Some text) × (length text ≤ limit_of input.0)
+    by_length bytes true long h = absurd cc
+    by_length bytes false short h =
+        let same : bytes ≡ text = cc in
+        (ap (λ (b : List ℕ). Some b) same, subst (λ (b : List ℕ). length b ≤ limit_of input.0) same (ltb-false (limit_of input.0) (length bytes) short))
+
+    by_file : (o : Option (List ℕ)) → text_or_end input (within (limit_of input.0) o) ≡ Ok text → (o ≡ Some text) × (length text ≤ limit_of input.0)
+    by_file None h = absurd cc
+    by_file (Some bytes) h = by_length bytes (nat_lt (limit_of input.0) (length bytes)) refl h
+
+-- the bytes of a file that is set
+set_bytes : Option (List ℕ × List ℕ) → List ℕ
+set_bytes None = []
+set_bytes (Some output) = output.1
+
+module _ (files : Files) (piton text stored bytes : List ℕ) (there : file_at files piton ≡ Some text) (short : length text ≤ 2 ^ 31) where
+  linked_holds : (image : Role × List ℕ) (found : Result CheckedOf Verdict) → checked_in text ≡ found → set_file (Some image) (checked_stored found) ≡ Some (stored, bytes) → HoldsLinked files piton bytes
+  linked_holds image (Err verdict) is sets = absurd (let e : None ≡ Some (stored, bytes) = sets in cc)
+  linked_holds image (Ok c) is sets = by_size (is_large (system_in c)) refl sets
+    where
+      by_size : (large : Bool) → is_large (system_in c) ≡ large → set_file (Some image) (if large then None else Some (spelling (linked_image (system_in c)))) ≡ Some (stored, bytes) → HoldsLinked files piton bytes
+      by_size true large sets = absurd (let e : None ≡ Some (stored, bytes) = sets in cc)
+      by_size false fits sets =
+          let known = text_is_checked text short c is in
+          let small : (placed (system_in c)).size ≤ 2 ^ 20 = ltb-false (2 ^ 20) (placed (system_in c)).size fits in
+          let same : spelling (linked_image (system_in c)) ≡ bytes = unfold set_bytes in ap set_bytes sets in
+          record {
+            text = text;
+            there = there;
+            checked = c;
+            read = is;
+            image = linked_image (system_in c);
+            limits = image_fits c known small;
+            fields = sym same;
+            runs = image_runs c known small;
+            tells = image_tells c known small;
+          }
+
+pbuild_holds : (files : Files) (piton image : List ℕ) (first : Result (List ℕ) EarlyEnd) (stored bytes : List ℕ)
+    → text_or_end (Piton, piton) (fetched files piton (limit_of Piton)) ≡ first
+    → (answer_on (command.Pbuild piton image) (first >>= λ text. Ok ((Piton, text) ∷ []))).output ≡ Some (stored, bytes)
+    → HoldsLinked files piton bytes
+unfolding output_of stored_by
+pbuild_holds files piton image (Err early) stored bytes got sets = absurd cc
+pbuild_holds files piton image (Ok text) stored bytes got sets =
+    let file = was_short files (Piton, piton) text got in
+    linked_holds files piton text stored bytes file.0 (omega (arith, file.1)) (Image, image) (checked_in text) refl sets
+
+-- 3. All commands.
+
+-- the one file that is read
+only_file : (role : Role) (first name : List ℕ) → Contains {X = Role × List ℕ} ((role, first) ∷ []) (role, name) → first ≡ name
+only_file role first name (zero, lt, is) = ap (λ (f : Role × List ℕ). f.1) is
+only_file role first name (suc i, lt, is) = absurd (omega arith)
+
+-- a source and values are no Piton text
+no_piton : (source values name : List ℕ) → Contains {X = Role × List ℕ} ((Source, source) ∷ (Values, values) ∷ []) (Piton, name) → ⊥
+no_piton source values name (zero, lt, is) = let e : Source ≡ Piton = ap (λ (f : Role × List ℕ). f.0) is in cc
+no_piton source values name (suc zero, lt, is) = let e : Values ≡ Piton = ap (λ (f : Role × List ℕ). f.0) is in cc
+no_piton source values name (suc (suc i), lt, is) = omega arith
+
+links_by : (c : Command) (files : Files) → StoresLinked c files (answer_to c files).output
+unfolding inputs_of output_of
+links_by (command.Pbuild piton image) files = λ name own stored bytes reads writes sets.
+    subst (λ (n : List ℕ). HoldsLinked files n bytes) (only_file Piton piton name reads) (pbuild_holds files piton image _ stored bytes refl sets)
+links_by (command.Go source values control temporary budget image) files = λ name own stored bytes reads writes sets. absurd (no_piton source values name reads)
+links_by c files = λ name own stored bytes reads writes sets. absurd (let e : None ≡ Some (Image, own) = writes in cc)
+
+-- whatever the command and the files are
+pub links : (c : Option Command) (o : Option Files) → IfSome o (λ files. Links c files (answer_by c files).output)
+links c None = tt
+links None (Some files) = tt
+links (Some c) (Some files) = links_by c files

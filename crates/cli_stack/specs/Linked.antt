@@ -1,0 +1,66 @@
+-- That the image which is stored of a Piton text does on the processor what the system does on Piton's machine.
+use Rattle.std.specs.Prelude.{◌≡◌, ◌≤◌, ℕ, List, [], Option, Some, None, Ok, IsTrue, codes, ◌++◌}
+use Rattle.std.specs.Fmt.{decimal}
+use Rattle.stack_shelf.specs.Files.{Files, file_at}
+use Rattle.fm_image.specs.Image.{ImageOf, is_image}
+use Rattle.fm_image.specs.Spelling.{spelling}
+use Rattle.fm_loader.specs.Loaded.{loaded}
+use Rattle.piton_check.specs.Answers.{CheckedOf}
+use Rattle.piton_check.specs.Instruction.{SystemView}
+use Rattle.piton_machine.specs.Fits.{system_in}
+use Rattle.piton_machine.specs.Seen.{started}
+use Rattle.piton_machine.specs.State.{PitonState}
+use Rattle.piton_machine.specs.Step.{piton_run, run_cost}
+use Rattle.piton_linker.specs.Theorem.{ComesToStand}
+use Rattle.cli_stack.specs.declared.command.Command.{Command}
+use Rattle.cli_stack.specs.declared.reply.Verdict.TheVariants.{Done}
+use Rattle.cli_stack.specs.declared.role.Role.TheVariants.{Piton, Image}
+use Rattle.cli_stack.specs.Replies.{line}
+use Rattle.cli_stack.specs.Run.{run_reply}
+use Rattle.cli_stack.specs.PitonText.{checked_in}
+use Rattle.cli_stack.specs.Correct.{ReadsFile, StoresFile}
+
+-- the system comes to this state in so many steps from its opening state, none of which is an error
+abbrev pub ComesTo : SystemView → ℕ → PitonState → Type 0
+ComesTo system j state = piton_run system j (started system system.stack) ≡ Ok state
+
+-- what those steps cost
+abbrev pub cost_of : SystemView → ℕ → ℕ
+cost_of system j = run_cost system j (started system system.stack)
+
+-- wherever the system comes, the machine that is loaded with the image comes to stand for it, in the instructions that the steps
+-- cost: inside the window, and at the final program counter exactly where the system has halted, and never before
+abbrev pub RunsAs : ImageOf → SystemView → Type 0
+RunsAs image system = (j : ℕ) (state : PitonState) → ComesTo system j state → ComesToStand system (loaded image []) (cost_of system j) state
+
+-- what `run` replies, where the system halts and the budget is enough: that it finished, and the count
+pub record TellsCost (image : ImageOf) (budget count : ℕ) : Type 0 where
+  pub verdict : (run_reply image [] budget).verdict ≡ Done
+  pub said : (run_reply image [] budget).said ≡ line (codes "finished " ++ decimal count)
+
+abbrev pub TellsCosts : ImageOf → SystemView → Type 0
+TellsCosts image system =
+    (j : ℕ) (state : PitonState) (budget : ℕ) → ComesTo system j state → state.frames ≡ [] → cost_of system j ≤ budget
+    → TellsCost image budget (cost_of system j)
+
+-- the bytes are the fields of an image within the limits, which does what the system of the Piton text in a file does
+pub record HoldsLinked (files : Files) (name bytes : List ℕ) : Type 0 where
+  pub text : List ℕ
+  pub there : file_at files name ≡ Some text
+  pub checked : CheckedOf
+  pub read : checked_in text ≡ Ok checked
+  pub image : ImageOf
+  pub limits : IsTrue (is_image image)
+  pub fields : bytes ≡ spelling image
+  pub runs : RunsAs image (system_in checked)
+  pub tells : TellsCosts image (system_in checked)
+
+-- who reads a Piton text and stores an image stores one that does what the text's system does
+abbrev pub StoresLinked : Command → Files → Option (List ℕ × List ℕ) → Type 0
+StoresLinked command files output =
+    (piton image stored bytes : List ℕ) → ReadsFile command Piton piton → StoresFile command Image image
+    → output ≡ Some (stored, bytes) → HoldsLinked files piton bytes
+
+abbrev pub Links : Option Command → Files → Option (List ℕ × List ℕ) → Type 0
+Links None files output = Unit {0}
+Links (Some command) files output = StoresLinked command files output
