@@ -10,6 +10,7 @@ pub mod RowLaws
 pub mod RowCaseLaws
 pub mod RunLaws
 pub mod ExampleLaws
+pub mod TextExampleLaws
 pub mod SizeLaws
 pub mod InstructionLaws
 pub mod LabelLaws

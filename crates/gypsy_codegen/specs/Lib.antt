@@ -15,3 +15,4 @@ pub mod Sizes
 pub mod Acceptable
 -- Closed programs.
 pub mod Examples
+pub mod TextExamples

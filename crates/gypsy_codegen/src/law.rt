@@ -6,6 +6,7 @@ ghost use Rattle.gypsy_codegen.specs.Law.{StepsFollow};
 ghost use Rattle.gypsy_codegen.specs.Rows.{NoOpRow, SignalRow, LoopRow, BackRow, ThenRow, ElseRow, JoinThenRow, JoinOneRow};
 ghost use Rattle.gypsy_codegen.specs.Rows.{GuardRow, CallRow, WriteRow, FaultRow, BeyondRow, ReturnRow, OutRow, EndRow, MainOutRow};
 ghost use Rattle.gypsy_codegen.specs.Sizes.{ProceduresTakeWords};
+ghost use Rattle.gypsy_codegen.specs.TextExamples.{TextsAre};
 ghost use Rattle.gypsy_codegen.specs.Whole.{StartShows, EachIsShown, CountedRuns, MeaningRuns, LimitedRunHalts, RaiseFollows};
 ghost use Rattle.gypsy_codegen.specs.Whole.{PlaceIsMark, VariablesStand, WaitingVariablesStand, ActualsShare};
 
@@ -104,8 +105,9 @@ pub fn source_runs()
     gypsy_predef::bodies_resolve();
 }
 
-/// Closed programs, for each kind of statement and end: their systems halt after these steps, at these costs, with these
-/// words. So no premise of the other laws is empty.
-pub fn examples_end()
-    ensures { ExamplesEnd }
+/// Closed programs and sources, computed: their systems halt after these steps, at these costs, with these words; and the
+/// lines of their texts, with labels and names, are these.
+pub fn examples_compute()
+    ensures runs { ExamplesEnd }
+    ensures texts { TextsAre }
 {}
