@@ -47,6 +47,14 @@ const INTEGER_TEST: &str =
 
 const ITEM_OF_NO_OP: &str = "(program main\n(proc main ((x integer)) () () () (no-op 1)))\n";
 
+/// 200 lists, each in the one before.
+const NESTED_200: &str =
+    "(((((((((((((((((((((((((((((((((((((((((((((((((((((((((((((((((((((((((((((((((((((((((((((((((((((((((((((((((((((((((((((((((((((((((((((((((((((((((((((((((((((((((((((((((((((((((((((((((((((((())))))))))))))))))))))))))))))))))))))))))))))))))))))))))))))))))))))))))))))))))))))))))))))))))))))))))))))))))))))))))))))))))))))))))))))))))))))))))))))))))))))))))))))))))))))))))))))))))))))))";
+
+/// 201 lists that begin.
+const OPEN_201: &str =
+    "(((((((((((((((((((((((((((((((((((((((((((((((((((((((((((((((((((((((((((((((((((((((((((((((((((((((((((((((((((((((((((((((((((((((((((((((((((((((((((((((((((((((((((((((((((((((((((((((((((((((((";
+
 /// The words, the file `t`, how the command ends, and what it prints.
 fn rows() -> &'static [(&'static str, &'static str, u8, &'static str)] {
     &[
@@ -56,7 +64,8 @@ fn rows() -> &'static [(&'static str, &'static str, u8, &'static str)] {
         ("check t", INTEGER_TEST, 2, "refused S15 at 52\n"),
         ("check t", ITEM_OF_NO_OP, 2, "refused M10 at 48\n"),
         ("check t", "", 2, "refused G6 at 0\n"),
-        ("check t", "(())", 2, "refused M1 at 0\n"),
+        ("check t", NESTED_200, 2, "refused M1 at 0\n"),
+        ("check t", OPEN_201, 2, "refused G4 at 200\n"),
         ("pcheck t", RETURN, 0, "ok\n"),
         ("pcheck t", COMMENTED, 0, "ok\n"),
         ("pcheck t", JUMP_WITHOUT_LABEL, 2, "refused P7 at 36\n"),
