@@ -34,7 +34,7 @@ use Rattle.gypsy_meaning.proofs.EffectLaws.{value_fits, apply_fits}
 use Rattle.gypsy_predef.specs.Bodies.{lengths_of}
 use Rattle.gypsy_predef.specs.Runs as runs
 use Rattle.gypsy_predef.specs.Runs.{Argument, length_words, words_of_value, with_elements}
-use Rattle.gypsy_predef.specs.Calls.{argument_code, arguments_code, test_code, predef_code, argument_of, VariableHolds, IsAtCode, behind_code}
+use Rattle.gypsy_predef.specs.Calls.{argument_code, arguments_code, test_code, predef_code, argument_of, VariableHolds, IsAtCode, after_code}
 use Rattle.gypsy_codegen.specs.Generated.{Scope, target, offset, push_args, length_code, test_size, predef_position, size, code_of, generated_program, generated_view}
 use Rattle.gypsy_codegen.specs.Memory.{stack_of, index_of, frame_of, index_words}
 use Rattle.gypsy_codegen.specs.Showing.{HasAt, Stands}
@@ -172,7 +172,7 @@ module _ {q : Program} {sizes : Words} {base p : ℕ} {fs : List Frame} {fr : Li
         local_holds = frame_at q p fs b a.frames_fit (get_below (shapes_of (proc_at q p)) b t e);
       }
 
-  applies : (k : Kind) (at : ℕ) (r : Predef) (args : List Arg) (e : Effect) (to : ℕ) → ArgsFit (shapes_of (proc_at q p)) k (slots_of r) args → predef_effect r (values_of x args) ≡ e → predef_temp r ≤ temp_need (proc_at q p) → predef_ctrl r ≤ ctrl_need (proc_at q p) → HasAt (code_of q p) at (push_args q p args ++ (length_code (shapes_of (proc_at q p)) r args ++ i.Call (predef_position q r) ∷ test_code r to)) → Steps (generated_view q sizes base) (predef_cost r e).1 (predef_cost r e).0 (state_at p at 2 s fr) (behind_code (state_at p at 2 s fr) to (length args + (lengths_of r + (test_size r + 1))) (arguments q p fs x args) e)
+  applies : (k : Kind) (at : ℕ) (r : Predef) (args : List Arg) (e : Effect) (to : ℕ) → ArgsFit (shapes_of (proc_at q p)) k (slots_of r) args → predef_effect r (values_of x args) ≡ e → predef_temp r ≤ temp_need (proc_at q p) → predef_ctrl r ≤ ctrl_need (proc_at q p) → HasAt (code_of q p) at (push_args q p args ++ (length_code (shapes_of (proc_at q p)) r args ++ i.Call (predef_position q r) ∷ test_code r to)) → Steps (generated_view q sizes base) (predef_cost r e).1 (predef_cost r e).0 (state_at p at 2 s fr) (after_code (state_at p at 2 s fr) to (length args + (lengths_of r + (test_size r + 1))) (arguments q p fs x args) e)
   applies k at r args e to f eff ct cr h0 =
       let S = generated_view q sizes base in
       let shapes = shapes_of (proc_at q p) in
@@ -198,8 +198,8 @@ module _ {q : Program} {sizes : Words} {base p : ℕ} {fs : List Frame} {fr : Li
       let effect : predef_effect r (runs.values_of given) ≡ e =
       ap (predef_effect r) (a.bodies.values x (offset q p) (index_of q p fs) (value_of x) args (λ b. refl) (λ u. refl) ∙ values_as x args) ∙ eff in
       let size_is : length code ≡ length args + (lengths_of r + (test_size r + 1)) = ap length (sym same) ∙ apply_size q p r args to in
-      subst (λ n. Steps S (predef_cost r e).1 (predef_cost r e).0 (state_at p at 2 s fr) (behind_code (state_at p at 2 s fr) to n given e)) size_is
-      (subst (λ z. Steps S (predef_cost r z).1 (predef_cost r z).0 (state_at p at 2 s fr) (behind_code (state_at p at 2 s fr) to (length code) given z)) effect run)
+      subst (λ n. Steps S (predef_cost r e).1 (predef_cost r e).0 (state_at p at 2 s fr) (after_code (state_at p at 2 s fr) to n given e)) size_is
+      (subst (λ z. Steps S (predef_cost r z).1 (predef_cost r z).0 (state_at p at 2 s fr) (after_code (state_at p at 2 s fr) to (length code) given z)) effect run)
 
   goes_to : (r : Predef) (e : Effect) (at cc to : ℕ) (st : List Word) (u : Tally) → Steps (generated_view q sizes base) (predef_cost r e).1 (predef_cost r e).0 (state_at p at 2 s fr) (state_at p to cc st fr) → Goes (generated_view q sizes base) (Pt p at 2 s fr u) (Pt p to cc st fr (predef_spend r e u))
   goes_to r e at cc to st u h = record { steps = (predef_cost r e).1; cost = (predef_cost r e).0; runs = h; tally = sym (predef_spent r e u) }

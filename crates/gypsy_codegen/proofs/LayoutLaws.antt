@@ -25,7 +25,7 @@ use Rattle.gypsy_codegen.specs.Generated.{offset}
 use Rattle.gypsy_codegen.specs.Memory.{stack_of, base_of, index_of, frame_of, index_words}
 use Rattle.gypsy_codegen.specs.Showing.{Waits, frame_with}
 use Rattle.gypsy_codegen.proofs.CopyLaws.{copied-length, copied_at, copied_set, copied_past, below_at, get_below, actuals_below, actuals_number, actual_shape, vars_number, vars_behind, copies_fit}
-use Rattle.gypsy_codegen.proofs.StackLaws.{push_all-length, below_pushed, element_of, words_below, words_from, get_front, get_behind, value_words, values_words, read_word, write_words, words_fit, starts_at, starts-length}
+use Rattle.gypsy_codegen.proofs.StackLaws.{push_all-length, below_pushed, element_of, words_below, words_from, get_front, get_after, value_words, values_words, read_word, write_words, words_fit, starts_at, starts-length}
 
 pub if_yes : {A : Type 0} (b : Bool) (x y : A) → b ≡ true → (if b then x else y) ≡ x
 if_yes b x y e = ap (λ c. if c then x else y) e
@@ -43,7 +43,7 @@ local_number p = length-map p.locals (λ (v : ValueOf). v.shape)
 local_at : (p : Proc) (b : ℕ) → length p.formals ≤ b → slice_get (shapes_of p) b ≡ slice_get (local_shapes p) (b - length p.formals)
 local_at p b h =
     let e : b ≡ length p.formals + (b - length p.formals) = omega (arith, h) in
-    ap (slice_get (shapes_of p)) e ∙ get_behind p.formals (local_shapes p) (b - length p.formals)
+    ap (slice_get (shapes_of p)) e ∙ get_after p.formals (local_shapes p) (b - length p.formals)
 
 shapes_number : (p : Proc) → length (shapes_of p) ≡ length p.formals + length p.locals
 shapes_number p = length-append p.formals (local_shapes p) ∙ ap (λ n. length p.formals + n) (local_number p)
@@ -196,7 +196,7 @@ module _ (q : Program) where
       let is = lt-ltb b k lt in
       let n : m + b ≡ length (starts base sh) + b = omega (arith, starts-length base sh, local_number d) in
       ap (slice_get (index_words fr)) (off ∙ if_yes (nat_lt b k) (m + b) (b - k) is)
-      ∙ get_map (λ n. Nat n) fr (m + b) A (ap (slice_get fr) n ∙ get_behind (starts base sh) (map f xs) b ∙ get_map f xs b (slice_index xs b) (slice_get-get_or xs b 0 (omega (arith, many, lt))))
+      ∙ get_map (λ n. Nat n) fr (m + b) A (ap (slice_get fr) n ∙ get_after (starts base sh) (map f xs) b ∙ get_map f xs b (slice_index xs b) (slice_get-get_or xs b 0 (omega (arith, many, lt))))
       ∙ ap (λ n. Some (Nat n)) (sym (if_yes (nat_lt b k) A B is)))
       (λ le.
       let is = le-ltb b k le in

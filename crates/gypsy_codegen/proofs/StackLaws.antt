@@ -106,11 +106,11 @@ get_front [] b i v h = cc
 get_front (w ∷ a) b zero v h = h
 get_front (w ∷ a) b (suc i) v h = get_front a b i v h
 
-pub get_behind : {A : Type 0} (a b : List A) (i : ℕ) → slice_get (a ++ b) (length a + i) ≡ slice_get b i
-get_behind [] b i = let e : 0 + i ≡ i = omega arith in ap (slice_get b) e
-get_behind (w ∷ a) b i =
+pub get_after : {A : Type 0} (a b : List A) (i : ℕ) → slice_get (a ++ b) (length a + i) ≡ slice_get b i
+get_after [] b i = let e : 0 + i ≡ i = omega arith in ap (slice_get b) e
+get_after (w ∷ a) b i =
     let e : length (w ∷ a) + i ≡ suc (length a + i) = omega arith in
-    ap (slice_get (w ∷ (a ++ b))) e ∙ get_behind a b i
+    ap (slice_get (w ∷ (a ++ b))) e ∙ get_after a b i
 
 -- Values.
 
@@ -134,7 +134,7 @@ read_word (s ∷ shapes) (v ∷ y) zero h w f lt g =
 read_word (s ∷ shapes) (v ∷ y) (suc b) h w f lt g =
     let e : item_count s + words_before shapes b + h ≡ length (words_of_value v) + (words_before shapes b + h) = omega (arith, value_words v f.1, ap item_count f.0) in
     ap (slice_get (words_of_values (v ∷ y))) e
-    ∙ get_behind (words_of_value v) (words_of_values y) (words_before shapes b + h)
+    ∙ get_after (words_of_value v) (words_of_values y) (words_before shapes b + h)
     ∙ read_word shapes y b h w f.2 (omega (arith, lt)) g
 
 -- a variable written

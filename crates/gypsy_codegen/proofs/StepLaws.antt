@@ -28,7 +28,7 @@ use Rattle.gypsy_predef.specs.Runs.{push_all}
 use Rattle.gypsy_predef.specs.Bodies as predefined
 use Rattle.gypsy_predef.specs.Bodies.{bodies, predef_number}
 use Rattle.gypsy_codegen.specs.Generated.{generated_view, generated_program, count_from, code_of}
-use Rattle.gypsy_codegen.proofs.StackLaws.{get_front, get_behind}
+use Rattle.gypsy_codegen.proofs.StackLaws.{get_front, get_after}
 use Rattle.gypsy_check.proofs.CleanLaws.{get_map}
 
 -- Tallies.
@@ -170,7 +170,7 @@ module _ (q : Program) (sizes : Words) (base : ℕ) where
       let n = length q.procs in
       let l = map (generated_program q) (count_from 0 n) in
       let e : n + predef_number r ≡ length l + predef_number r = omega (arith, length-map (count_from 0 n) (generated_program q), counted-length 0 n) in
-      ap (slice_get (generated_view q sizes base).programs) e ∙ get_behind l bodies (predef_number r) ∙ predef_at r
+      ap (slice_get (generated_view q sizes base).programs) e ∙ get_after l bodies (predef_number r) ∙ predef_at r
 
   pub program_is : (p : ℕ) → p < length q.procs → program_of (generated_view q sizes base) p ≡ generated_program q p
   program_is p h = get_or_from_slice_get (generated_view q sizes base).programs p (generated_program q p) _ (program_there p h)

@@ -1,9 +1,10 @@
-//! Reads Piton texts at the limits of the form, prints what was read, checks it, and prints what became of each. The
-//! times are taken from outside: each step is linear in the text. A first word on the command line picks one text, from
-//! 1 on.
+//! Reads Piton texts at the limits of the form, prints what was read, checks it, links it, and prints what became of
+//! each. The times are taken from outside: each step is linear in the text. A first word on the command line picks one
+//! text, from 1 on.
 #![tactic(auto)]
 
-use piton_check::check;
+use piton_check::{Checked, check};
+use piton_linker::{LinkFault, link};
 use piton_syntax::{print_piton, read_piton};
 use std::alloc::{AllocError, Global};
 use std::rt::Env;
@@ -12,7 +13,16 @@ use std::{env, io};
 /// The longest text that `read_piton` takes.
 const MAX_LENGTH: usize = 2147483648;
 
-/// Reads the text, prints its system again and checks it, and prints what became of it.
+/// Links a checked system, and says what became of it: of how many words it is, or would be.
+fn linked(alloc: Global, checked: &Checked) -> Result<String, AllocError> {
+    match link(alloc, checked) {
+        Ok(linked) => format!(in alloc; "linked in {} words", linked.size),
+        Err(LinkFault::Large { words }) => format!(in alloc; "too large, {words} words"),
+        Err(LinkFault::Memory) => format!(in alloc; "out of memory"),
+    }
+}
+
+/// Reads the text, prints its system again, checks and links it, and prints what became of it.
 fn report(rt: &(impl Print + Alloc<A = Global>), name: &str, text: &[u8]) -> io::Result<()> {
     let length = text.len();
     if length > MAX_LENGTH {
@@ -28,7 +38,10 @@ fn report(rt: &(impl Print + Alloc<A = Global>), name: &str, text: &[u8]) -> io:
         Err(_) => return println!(rt; "{name}, {length} bytes: out of memory"),
     };
     match check(rt.alloc(), system) {
-        Ok(_) => println!(rt; "{name}, {length} bytes: {programs} programs, printed in {size}, ok"),
+        Ok(checked) => {
+            let end = linked(rt.alloc(), &checked)?;
+            println!(rt; "{name}, {length} bytes: {programs} programs, printed in {size}, {end}")
+        }
         Err(fault) => println!(rt;
             "{name}, {length} bytes: {programs} programs, printed in {size}, {fault}"
         ),
@@ -88,7 +101,7 @@ impl Sample {
 const ONE_PROGRAM: &str = "(piton main 2 1 0 () () (main () ()";
 
 /// The texts.
-const SAMPLES: [Sample; 11] = [
+const SAMPLES: [Sample; 14] = [
     Sample {
         name: "most instructions",
         head: ONE_PROGRAM,
@@ -165,6 +178,27 @@ const SAMPLES: [Sample; 11] = [
         piece: Piece::Numbered(" (p", " () () (call p", ") (ret))"),
         tail: ")",
         count: 1100,
+    },
+    Sample {
+        name: "a million instructions",
+        head: ONE_PROGRAM,
+        piece: Piece::Same(" (no-op)"),
+        tail: " (ret)))",
+        count: 1000000,
+    },
+    Sample {
+        name: "as many words as can be linked",
+        head: ONE_PROGRAM,
+        piece: Piece::Same(" (no-op)"),
+        tail: " (ret)))",
+        count: 1048565,
+    },
+    Sample {
+        name: "one word more",
+        head: ONE_PROGRAM,
+        piece: Piece::Same(" (no-op)"),
+        tail: " (ret)))",
+        count: 1048566,
     },
 ];
 
