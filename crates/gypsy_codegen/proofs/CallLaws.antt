@@ -110,14 +110,14 @@ module _ {q : Program} {sizes : Words} {base p : ℕ} {fs : List Frame} {fr : Li
       let u1 = spend (length ws) (length ws) u in
       let u2 = spend (3 * length sh) (length sh) u1 in
       let u3 = spend (3 * n) n u2 in
-      let W1 = index_words (starts low sh) in
-      let W2 = index_words ys in
+      let local_indices = index_words (starts low sh) in
+      let actual_indices = index_words ys in
       let s1 = push_all ws s in
-      let s2 = push_all W1 s1 in
+      let s2 = push_all local_indices s1 in
       let tall1 : length s1 ≡ length ws + length s = push_all-length ws s in
-      let w1 : length W1 ≡ length sh = length-map (starts low sh) (λ n. Nat n) ∙ starts-length low sh in
-      let w2 : length W2 ≡ n = length-map ys (λ n. Nat n) ∙ length-map xs f in
-      let tall2 : length s2 ≡ length W1 + length s1 = push_all-length W1 s1 in
+      let w1 : length local_indices ≡ length sh = length-map (starts low sh) (λ n. Nat n) ∙ starts-length low sh in
+      let w2 : length actual_indices ≡ n = length-map ys (λ n. Nat n) ∙ length-map xs f in
+      let tall2 : length s2 ≡ length local_indices + length s1 = push_all-length local_indices s1 in
       let go1 = words_go a ws at 2 s u (omega (arith, room.temp, wl, tall)) (has_front code at pw (pi ++ (pa ++ i.Call c ∷ after)) h) in
       let go2 = indices_go a sh l 0 0 low low at1 2 s1 u1 (omega (arith, tall1, wl, tall)) (omega arith) (omega arith) (omega (arith, room.temp, tall1, wl, tall, sm)) (has_front code at1 pi (pa ++ i.Call c ∷ after) hi) in
       let go3 = actuals_go a xs at2 2 s2 u2 (actuals_below (shapes_of (proc_at q p)) d.formals xs cf.actuals) (omega (arith, room.temp, tall2, w1, tall1, wl, tall, sm, many)) (has_front code at2 pa (i.Call c ∷ after) ha) in
@@ -125,19 +125,19 @@ module _ {q : Program} {sizes : Words} {base p : ℕ} {fs : List Frame} {fr : Li
       let is_other = ne_eqb c q.main cf.not_main in
       let form : prog.formals ≡ vars_of d = if_no (c == q.main) 0 (vars_of d) is_other in
       let temps : prog.temporaries ≡ [] = if_no (c == q.main) (map (λ n. Nat n) (starts 0 (shapes_of d))) [] is_other in
-      let many' : prog.formals ≡ length (W1 ++ W2) = omega (arith, form, length-append W1 W2, w1, w2, sm, many) in
+      let many' : prog.formals ≡ length (local_indices ++ actual_indices) = omega (arith, form, length-append local_indices actual_indices, w1, w2, sm, many) in
       let no_temps : length prog.temporaries ≡ 0 = ap length temps in
       let ctrl_fits : piton.ctrl_used fr + (2 + (prog.formals + length prog.temporaries)) ≤ sizes.ctrl = omega (arith, room.ctrl, form, no_temps, ctrl_is q p fs fr a.frames_fit a.waits) in
-      let go4 = go.calls q sizes base p (here a) fr _ _ (top a).is at3 2 c prog (W1 ++ W2) s1 u3 hc.0 (program_there q sizes base c cf.callee) many' ctrl_fits in
+      let go4 = go.calls q sizes base p (here a) fr _ _ (top a).is at3 2 c prog (local_indices ++ actual_indices) s1 u3 hc.0 (program_there q sizes base c cf.callee) many' ctrl_fits in
       let here_ra : at3 + 1 ≡ ra = omega (arith, sm) in
-      let locals_are : (W1 ++ W2) ++ prog.temporaries ≡ index_words (starts low sh ++ ys) = ap (λ z. (W1 ++ W2) ++ z) temps ∙ append-nil (W1 ++ W2) ∙ words-append (starts low sh) ys in
-      let frame_is : frame_from ((W1 ++ W2) ++ prog.temporaries) p (at3 + 1) ≡ frame_with q c (Held p x w xs cs ∷ fs) p ra =
+      let locals_are : (local_indices ++ actual_indices) ++ prog.temporaries ≡ index_words (starts low sh ++ ys) = ap (λ z. (local_indices ++ actual_indices) ++ z) temps ∙ append-nil (local_indices ++ actual_indices) ∙ words-append (starts low sh) ys in
+      let frame_is : frame_from ((local_indices ++ actual_indices) ++ prog.temporaries) p (at3 + 1) ≡ frame_with q c (Held p x w xs cs ∷ fs) p ra =
       ap (λ z. frame_from z p (at3 + 1)) locals_are ∙ ap (frame_from (index_words (starts low sh ++ ys)) p) here_ra in
       let last = 4 + (prog.formals + length prog.temporaries) in
       let u4 = spend last 1 u3 in
       let fr' = frame_with q c (Held p x w xs cs ∷ fs) p ra ∷ fr in
-      let go4' : Goes S (Pt p at3 2 (push_all W2 s2) fr u3) (Pt c 0 2 s1 fr' u4) =
-      subst (λ z. Goes S (Pt p at3 2 z fr u3) (Pt c 0 2 s1 fr' u4)) (push_all-append W1 W2 s1) (subst (λ z. Goes S (Pt p at3 2 (push_all (W1 ++ W2) s1) fr u3) (Pt c 0 2 s1 (z ∷ fr) u4)) frame_is go4) in
+      let go4' : Goes S (Pt p at3 2 (push_all actual_indices s2) fr u3) (Pt c 0 2 s1 fr' u4) =
+      subst (λ z. Goes S (Pt p at3 2 z fr u3) (Pt c 0 2 s1 fr' u4)) (push_all-append local_indices actual_indices s1) (subst (λ z. Goes S (Pt p at3 2 (push_all (local_indices ++ actual_indices) s1) fr u3) (Pt c 0 2 s1 (z ∷ fr) u4)) frame_is go4) in
       let at_ra = subst (λ r. HasAt code r after) here_ra hc.1 in
       let g : at + (before_size q c xs + after_size cs) ≡ ra + after_size cs = omega arith in
       let waits : Waits q c (Held p x w xs cs ∷ fs) fr' = (ra, fr, refl, env, at_ra, moved q p env _ _ w g st.1, a.waits) in
