@@ -4,8 +4,6 @@
 mod printing;
 mod reading;
 mod shown;
-#[cfg(test)]
-mod tests;
 
 pub use printing::{Variable, push_lines, report};
 pub use reading::{Reading, read_up};

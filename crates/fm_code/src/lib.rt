@@ -9,8 +9,6 @@
 
 mod law;
 pub mod template;
-#[cfg(test)]
-mod tests;
 pub mod word;
 
 pub use law::{jump_rows, move_rows, test_rows, word_rows};

@@ -10,8 +10,6 @@ mod law;
 mod limit;
 mod reading;
 mod slot;
-#[cfg(test)]
-mod tests;
 mod window;
 mod writing;
 

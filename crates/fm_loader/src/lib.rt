@@ -6,8 +6,6 @@ mod judging;
 mod loading;
 mod parsed;
 mod reading;
-#[cfg(test)]
-mod tests;
 mod values;
 
 pub use fault::ValuesFault;

@@ -12,6 +12,3 @@ mod window;
 
 pub use fault::{NewFault, Outside};
 pub use processor::{Machine, Run};
-
-#[cfg(test)]
-mod tests;

@@ -12,6 +12,3 @@ pub use digits::hex_digits;
 pub use disassembly::disassemble;
 pub use image::show_image;
 pub use listing::show_machine;
-
-#[cfg(test)]
-mod tests;

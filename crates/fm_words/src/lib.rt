@@ -15,6 +15,3 @@ pub use condition::{Cc, Flags, does_hold};
 pub use instruction::{Instr, Mode, OperandA, decode, encode};
 pub use operation::{AluOut, Op, alu};
 pub use word::{is_int, is_nat, signed_of, word_of_int, wrapped};
-
-#[cfg(test)]
-mod tests;

@@ -11,8 +11,6 @@ mod piece;
 mod program;
 mod resolved;
 mod system;
-#[cfg(test)]
-mod tests;
 mod word;
 mod word_names;
 

@@ -13,8 +13,6 @@ mod reading;
 mod system;
 mod tag;
 mod test_kind;
-#[cfg(test)]
-mod tests;
 mod word_text;
 
 pub use argument::{ArgKind, ArgText, Arguments};

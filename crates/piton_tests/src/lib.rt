@@ -7,3 +7,9 @@
 mod linked;
 #[cfg(test)]
 mod machine;
+#[cfg(test)]
+mod rules;
+#[cfg(test)]
+mod syntax;
+#[cfg(test)]
+mod words;

@@ -8,8 +8,6 @@ mod logic;
 mod op;
 mod outcome;
 mod row;
-#[cfg(test)]
-mod tests;
 mod view;
 mod word;
 

@@ -14,8 +14,6 @@ mod printer;
 mod reader;
 mod seq;
 mod shape;
-#[cfg(test)]
-mod tests;
 mod text_fault;
 mod tree;
 mod value;

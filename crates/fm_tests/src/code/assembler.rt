@@ -3,7 +3,7 @@
 ghost use Rattle.std.specs.Prelude.{◌<◌};
 ghost use Rattle.fm_words.specs.Code.{IsOperand};
 
-use crate::word::{
+use fm_code::word::{
     ALL_FLAGS, FLAG_C, FLAG_Z, FLAGS_CV, at, immediate, literal, literal_at, pop, push, reg,
     setting, when,
 };

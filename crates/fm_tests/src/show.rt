@@ -1,8 +1,8 @@
 //! Words with their texts as the tables of `docs/fm9001.md` give them, and the lines of machines and images.
 
-use super::*;
 use fm_image::{Image, read_image};
 use fm_machine::Machine;
+use fm_show::{disassemble, show_image, show_machine};
 use fm_words::Flags;
 use std::alloc::Global;
 use std::test::Fail;

@@ -1,6 +1,6 @@
 //! Each operation with a value, a wrong tag and the ends of its range.
 
-use crate::{Outcome, Word, WordError, WordOp, apply};
+use piton_words::{Outcome, Word, WordError, WordOp, apply};
 use std::test::Fail;
 
 /// A word that no operation but `Eq` takes.

@@ -2,7 +2,7 @@
 
 mod limits;
 
-use crate::{read_up, report};
+use display_maps::{read_up, report};
 use fm_image::{Image, read_image};
 use fm_machine::Machine;
 use std::alloc::Global;

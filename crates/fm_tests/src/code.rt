@@ -5,9 +5,9 @@
 mod assembler;
 mod cases;
 
-use crate::template::*;
 use assembler::assembled;
 use cases::{CASES, Case, STACK_CASES, View};
+use fm_code::template::*;
 use fm_machine::Machine;
 use fm_words::{Cc, Op};
 use std::alloc::Global;

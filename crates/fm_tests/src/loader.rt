@@ -1,7 +1,7 @@
 //! Values and machines of small images.
 
-use crate::{ValuesFault, load, read_values};
 use fm_image::{Image, read_image};
+use fm_loader::{ValuesFault, load, read_values};
 use fm_words::Flags;
 use std::alloc::Global;
 use std::process::Abort;

@@ -1,6 +1,6 @@
 //! Texts of systems that keep the rules, and of systems that break one or two.
 
-use crate::{CheckFault, Checked, ResolvedArg, ResolvedProgram, check};
+use piton_check::{CheckFault, Checked, ResolvedArg, ResolvedProgram, check};
 use piton_syntax::{PitonOp, TestKind, read_piton};
 use piton_words::Word;
 use std::alloc::Global;

@@ -1,6 +1,6 @@
 //! Image files by hand.
 
-use crate::{ImageFault, read_image, write_image};
+use fm_image::{ImageFault, read_image, write_image};
 use std::alloc::Global;
 use std::test::Fail;
 

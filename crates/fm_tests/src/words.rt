@@ -1,6 +1,6 @@
 //! Worked values from outside, and the conditions against Rust's own comparisons.
 
-use super::*;
+use fm_words::{AluOut, Cc, Flags, Instr, Mode, Op, OperandA, alu, decode, does_hold, encode};
 
 // A result with its carry and overflow.
 fn out(word: u32, c: bool, v: bool) -> AluOut {

@@ -1,6 +1,6 @@
 //! Worked programs, and sizes at their limits.
 
-use super::*;
+use fm_machine::{Machine, NewFault, Outside, Run};
 use fm_words::Flags;
 use std::test::Fail;
 

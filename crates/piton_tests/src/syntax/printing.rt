@@ -1,4 +1,4 @@
-use crate::{print_piton, read_piton};
+use piton_syntax::{print_piton, read_piton};
 use std::alloc::Global;
 use std::process::Abort;
 use std::test::Fail;

@@ -1,7 +1,7 @@
 //! The largest image: a window of 2^20 words that ends at the last address, all of its words, 200 conditions and 200
 //! slots under the longest names, and an array of 4096 items.
 
-use crate::{read_up, report};
+use display_maps::{read_up, report};
 use fm_image::{Image, read_image, write_image};
 use fm_loader::{load, read_values};
 use fm_show::show_image;

@@ -1,4 +1,6 @@
-use crate::{Kind, Shape, TextFault, TextRule, Tree, Value, print_tree, read_numeral, read_tree};
+use stack_text::{
+    Kind, Shape, TextFault, TextRule, Tree, Value, print_tree, read_numeral, read_tree,
+};
 use std::alloc::Global;
 use std::process::Abort;
 use std::test::Fail;
