@@ -1,7 +1,6 @@
 pub mod ResultLaws
 pub mod OptionLaws
 pub mod Loops
-pub mod OptionLoops
 pub mod ResultLoops
 pub mod TreeViewLaws
 pub mod TokenLaws
