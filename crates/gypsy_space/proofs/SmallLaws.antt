@@ -132,13 +132,17 @@ each_few : (b : Bool) (v : ℕ) → (if b then 2 else 1) * v ≤ 2 * v
 each_few true v = omega arith
 each_few false v = omega arith
 
-code_small : (s : SourceOf) → KeepsForm s → ((i : ℕ) → AreFew (proc_at (program_of s) i)) → (i : ℕ) → code_words (program_of s) i ≤ 2 ^ 60
+code_small : (s : SourceOf) → KeepsForm s → ((i : ℕ) → AreFew (proc_at (program_of s) i)) → (i : ℕ) → code_words (program_of s) i ≤ 2 ^ 50
 unfolding code_words
 code_small s form few i =
     let words = body_small s few s.procs (2 ^ 31) (omega (arith, form.well_formed.few)) i in
     let own = few i in
     let vars = each_few (i == (program_of s).main) (vars_of (proc_at (program_of s) i)) in
     omega (arith, words, own.vars, vars)
+
+-- no procedure of an accepted source has more words of code
+pub code_modest : (s : SourceOf) → KeepsForm s → ProgramFits (program_of s) → (i : ℕ) → code_words (program_of s) i ≤ 2 ^ 50
+code_modest s form fits = code_small s form (λ j. few_words (program_of s) (proc_at (program_of s) j) (fits.procs j))
 
 same_need : (n : Need) → n.locals_words ≤ 2 ^ 60 → n.vars ≤ 2 ^ 60 → n.code_words ≤ 2 ^ 60 → capped_need n ≡ n
 same_need n l v w =
@@ -151,7 +155,7 @@ need_exact : (s : SourceOf) → KeepsForm s → ProgramFits (program_of s) → (
 need_exact s form fits i =
     let few = λ (j : ℕ). few_words (program_of s) (proc_at (program_of s) j) (fits.procs j) in
     let own = few i in
-    same_need (need_of (program_of s) i) (omega (arith, own.words)) (omega (arith, own.vars)) (code_small s form few i)
+    same_need (need_of (program_of s) i) (omega (arith, own.words)) (omega (arith, own.vars)) (let code = code_small s form few i in omega (arith, code))
 
 -- what is counted for an accepted source is what it needs
 pub counted_needs : (s : SourceOf) → KeepsForm s → ProgramFits (program_of s) → (q : Program) → q ≡ program_of s → (ns : List Need) → AreCapped q ns → AreNeeds (program_of s) ns
