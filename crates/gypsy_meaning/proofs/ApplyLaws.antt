@@ -26,7 +26,7 @@ use Rattle.gypsy_space.specs.Nodes.{seen_arg}
 use Rattle.gypsy_meaning.specs.Calls.{value_of, values_of, target_of}
 use Rattle.gypsy_meaning.specs.Applying.{applied_effect, effect_by}
 
-value_listed : (x : List ValueOf) (args : List Arg) (i : ℕ) → value_of x (get_or args i (Lit no_value)) ≡ value_at (values_of x args) i
+pub value_listed : (x : List ValueOf) (args : List Arg) (i : ℕ) → value_of x (get_or args i (Lit no_value)) ≡ value_at (values_of x args) i
 unfolding values_of
 value_listed x [] i = refl
 value_listed x (a ∷ args) zero = refl

@@ -1,14 +1,15 @@
 -- The call of a procedure.
-use Rattle.std.proofs.Common.{◌≡◌, ℕ, ◌+◌, ◌^◌, ◌<◌, ◌≤◌, max, nat_le, List, [], ◌∷◌, length, map, Bool, true, false, refl, sym, ap, ap₂, ◌∙◌, subst, arith}
+use Rattle.std.proofs.Common.{◌≡◌, ℕ, ◌+◌, ◌^◌, ◌<◌, ◌≤◌, max, nat_le, List, [], ◌∷◌, length, map, Bool, true, false, refl, sym, ap, ap₂, ◌∙◌, subst, reverse, arith}
 use Rattle.std.specs.declared.alloc.Global.{Global}
 use Rattle.std.specs.declared.rc.Rc.{Rc}
 use Rattle.std.specs.Global.{Vec}
 use Rattle.std.proofs.lemmas.Bool.{and_parts, leb-true}
+use Rattle.std.proofs.lemmas.List.{reverse-append}
 use Rattle.stack_text.specs.Values.{ValueOf}
 use Rattle.stack_text.specs.declared.name.Name.{Name}
 use Rattle.stack_text.specs.declared.value.Value.{Value}
 use Rattle.gypsy_syntax.specs.Programs.{Program, body_of}
-use Rattle.gypsy_space.specs.Costs.{Tally}
+use Rattle.gypsy_space.specs.Costs.{Tally, start_tally}
 use Rattle.gypsy_space.specs.Needs.{call_spend, has_room, stack_words, with_call}
 use Rattle.gypsy_space.specs.Nodes.{seen_cond, seen_program}
 use Rattle.gypsy_space.specs.Events.{AreNeeds, event_count, has_room_by, need_at, need_of}
@@ -16,19 +17,23 @@ use Rattle.gypsy_space.specs.declared.event.CostEvent.TheVariants as event
 use Rattle.gypsy_space.specs.declared.need.Need.{Need}
 use Rattle.gypsy_space.specs.declared.program.CallSite.{CallSite}
 use Rattle.gypsy_space.proofs.EventLaws.{call_table, room_same}
-use Rattle.gypsy_meaning.specs.Calling.{Enters, IsFull, UsesWords, Waits, call_top, with_words}
+use Rattle.gypsy_meaning.specs.Calling.{IsFull, Waits, call_top, with_words}
 use Rattle.gypsy_meaning.specs.Calls.{copied_in}
+use Rattle.gypsy_meaning.specs.Held.{AreActivations, IsHeld, Moves}
 use Rattle.gypsy_meaning.specs.Machine.{Item, At, Next, State, full_or, gypsy_step, open_on, used}
 use Rattle.gypsy_meaning.specs.Machine as machine
-use Rattle.gypsy_meaning.specs.Returning.{paid}
-use Rattle.gypsy_meaning.specs.Running.{Goes, frames_of, sizes_of, state_of}
+use Rattle.gypsy_meaning.specs.Named.{variables_of}
+use Rattle.gypsy_meaning.specs.Running.{Goes, frames_of, sizes_of, state_of, paid}
+use Rattle.gypsy_meaning.specs.Seen.{added}
 use Rattle.gypsy_meaning.specs.Work.{work_of}
+use Rattle.gypsy_meaning.specs.declared.names.Names.{Names}
+use Rattle.gypsy_meaning.specs.declared.running.Frame.{Frame}
 use Rattle.gypsy_meaning.specs.declared.running.Meaning.{Meaning}
 use Rattle.gypsy_meaning.specs.declared.work.Work.{Work}
 use Rattle.gypsy_meaning.proofs.ReturningLaws.{frames_of-push, same_state}
 
 module _ (m : Meaning) (ns : List Need) (site : CallSite) (below : List Item) (needs : AreNeeds (seen_program m.program) ns) (there : site.callee < length (seen_program m.program).procs)
-    (turn : work_of m.work.value ≡ call_top site ∷ below) (counts : UsesWords m) where
+    (turn : work_of m.work.value ≡ call_top site ∷ below) (counts : used (seen_program m.program) m.procedure (frames_of m.waiting.items) ≡ stack_words m.used_temp m.used_ctrl) where
   abbrev q : Program
   q = seen_program m.program
 
@@ -36,10 +41,10 @@ module _ (m : Meaning) (ns : List Need) (site : CallSite) (below : List Item) (n
   x = map (λ v. v.1) m.variables.items
 
   -- the callee's activation
-  abbrev entered : Tally → State
-  entered t =
+  abbrev entered : State
+  entered =
       At site.callee (copied_in q site.callee site.actuals.items x) (open_on (body_of q site.callee) [])
-      (machine.Held m.procedure x below site.actuals.items (map seen_cond site.conds.items) ∷ frames_of m.waiting.items) (call_spend q site.callee t)
+      (machine.Held m.procedure x below site.actuals.items (map seen_cond site.conds.items) ∷ frames_of m.waiting.items) (call_spend q site.callee start_tally)
 
   pub room_is : has_room q (sizes_of m) site.callee (used q m.procedure (frames_of m.waiting.items)) ≡ has_room_by (need_at ns site.callee) (sizes_of m) (stack_words m.used_temp m.used_ctrl)
   room_is =
@@ -47,45 +52,53 @@ module _ (m : Meaning) (ns : List Need) (site : CallSite) (below : List Item) (n
       ∙ room_same q (sizes_of m) site.callee (stack_words m.used_temp m.used_ctrl)
       ∙ ap (λ (n : Need). has_room_by n (sizes_of m) (stack_words m.used_temp m.used_ctrl)) (sym (needs.each site.callee there))
 
-  pub call_step : (b : Bool) → has_room_by (need_at ns site.callee) (sizes_of m) (stack_words m.used_temp m.used_ctrl) ≡ b → (t : Tally) → gypsy_step q (sizes_of m) (state_of m t) ≡ full_or b (entered t)
-  call_step b h t =
-      ap (λ (w : List Item). gypsy_step q (sizes_of m) (At m.procedure x w (frames_of m.waiting.items) t)) turn
-      ∙ ap (λ (c : Bool). full_or c (entered t)) (room_is ∙ h)
+  pub call_step : (b : Bool) → has_room_by (need_at ns site.callee) (sizes_of m) (stack_words m.used_temp m.used_ctrl) ≡ b → gypsy_step q (sizes_of m) (state_of m) ≡ full_or b entered
+  call_step b h =
+      ap (λ (w : List Item). gypsy_step q (sizes_of m) (At m.procedure x w (frames_of m.waiting.items) start_tally)) turn
+      ∙ ap (λ (c : Bool). full_or c entered) (room_is ∙ h)
 
   pub is_full : has_room_by (need_at ns site.callee) (sizes_of m) (stack_words m.used_temp m.used_ctrl) ≡ false → IsFull m
-  is_full h t = call_step false h t
+  is_full h = call_step false h
 
 -- the state after the step, from the one in which the caller waits
 abbrev pub after_call : List Need → ℕ → Rc Work Global → Meaning → Meaning
 after_call ns callee w a = paid (event_count ns (event.Call callee)) (with_words (need_at ns callee) (record a { procedure = callee; work = w }))
 
 module _ (m a : Meaning) (ns : List Need) (site : Rc CallSite Global) (below w : Rc Work Global) (vars : Vec (Name × Value)) (needs : AreNeeds (seen_program m.program) ns) (there : site.value.callee < length (seen_program m.program).procs)
-    (turn : work_of m.work.value ≡ call_top site.value ∷ work_of below.value) (counts : UsesWords m) (room : has_room_by (need_at ns site.value.callee) (sizes_of m) (stack_words m.used_temp m.used_ctrl) ≡ true)
+    (turn : work_of m.work.value ≡ call_top site.value ∷ work_of below.value) (held : IsHeld m) (room : has_room_by (need_at ns site.value.callee) (sizes_of m) (stack_words m.used_temp m.used_ctrl) ≡ true)
     (values : map (λ v. v.1) vars.items ≡ copied_in (seen_program m.program) site.value.callee site.value.actuals.items (map (λ v. v.1) m.variables.items))
+    (named : map (λ v. v.0) vars.items ≡ variables_of m.names.items site.value.callee)
     (body : work_of w.value ≡ open_on (body_of (seen_program m.program) site.value.callee) []) (waits : Waits m vars below site a) where
   abbrev after : Meaning
   after = after_call ns site.value.callee w a
 
+  program_is : a.program ≡ m.program
+  program_is = ap (λ (k : Meaning). k.program) waits.others
+
+  names_are : a.names ≡ m.names
+  names_are = ap (λ (k : Meaning). k.names) waits.others
+
   frames_are : frames_of a.waiting.items ≡ machine.Held m.procedure (map (λ v. v.1) m.variables.items) (work_of below.value) site.value.actuals.items (map seen_cond site.value.conds.items) ∷ frames_of m.waiting.items
   frames_are = ap frames_of waits.waiting ∙ frames_of-push m.waiting.items _
 
-  pub enter_goes : Goes (seen_program m.program) (sizes_of m) m after
-  enter_goes t e =
+  enter_goes : Goes (seen_program m.program) (sizes_of m) m after
+  enter_goes =
       let r = seen_program m.program in
       let c = site.value.callee in
-      let u : Tally = call_spend r c t in
+      let u : Tally = call_spend r c start_tally in
       let shown : a.counted ≡ m.counted = ap (λ (k : Meaning). k.counted) waits.others in
-      let spent : u.count ≡ t.count + event_count ns (event.Call c) = call_table r ns needs c there t in
-      let held : map (λ v. v.1) a.variables.items ≡ map (λ v. v.1) vars.items = ap (λ (k : Meaning). map (λ v. v.1) k.variables.items) waits.others in (
+      let spent : u.count ≡ 0 + event_count ns (event.Call c) = call_table r ns needs c there start_tally in
+      let cost : event_count ns (event.Call c) ≡ u.count = omega (arith, spent) in
+      let held_values : map (λ v. v.1) a.variables.items ≡ map (λ v. v.1) vars.items = ap (λ (k : Meaning). map (λ v. v.1) k.variables.items) waits.others in (
         u,
-        call_step m ns site.value (work_of below.value) needs there turn counts true room t
+        call_step m ns site.value (work_of below.value) needs there turn held.top.used_words true room
             ∙ same_state c c (copied_in r c site.value.actuals.items (map (λ v. v.1) m.variables.items)) (map (λ v. v.1) a.variables.items) (open_on (body_of r c) []) (work_of w.value)
             (machine.Held m.procedure (map (λ v. v.1) m.variables.items) (work_of below.value) site.value.actuals.items (map seen_cond site.value.conds.items) ∷ frames_of m.waiting.items) (frames_of a.waiting.items) u
-            refl (sym values ∙ sym held) (sym body) (sym frames_are),
-        omega (arith, e, shown, spent),
+            refl (sym values ∙ sym held_values) (sym body) (sym frames_are),
+        record { counted = ap₂ added shown cost; last = cost },
       )
 
-  pub enter_uses : m.temp < 2 ^ 32 → m.ctrl < 2 ^ 32 → UsesWords after
+  enter_uses : m.temp < 2 ^ 32 → m.ctrl < 2 ^ 32 → used (seen_program a.program) site.value.callee (frames_of a.waiting.items) ≡ stack_words after.used_temp after.used_ctrl
   unfolding has_room_by with_call
   enter_uses lt_temp lt_ctrl =
       let n = need_at ns site.value.callee in
@@ -96,17 +109,54 @@ module _ (m a : Meaning) (ns : List Need) (site : Rc CallSite Global) (below w :
       let ctrl : m.used_ctrl + (2 + n.vars + n.ctrl) ≤ m.ctrl = leb-true _ _ parts.1 in
       let same_temp : a.used_temp ≡ m.used_temp = ap (λ (k : Meaning). k.used_temp) waits.others in
       let same_ctrl : a.used_ctrl ≡ m.used_ctrl = ap (λ (k : Meaning). k.used_ctrl) waits.others in
-      let program : a.program ≡ m.program = ap (λ (k : Meaning). k.program) waits.others in
       let exact : n ≡ need_of r c = needs.each c there in
       let new_temp : after.used_temp ≡ m.used_temp + n.locals_words = omega (arith, temp, lt_temp, same_temp) in
       let new_ctrl : after.used_ctrl ≡ m.used_ctrl + (2 + n.vars) = omega (arith, ctrl, lt_ctrl, same_ctrl) in
-      ap (λ (p : _). used (seen_program p) c (frames_of a.waiting.items)) program
+      ap (λ (p : _). used (seen_program p) c (frames_of a.waiting.items)) program_is
       ∙ ap (used r c) frames_are
-      ∙ ap (with_call r c) counts
+      ∙ ap (with_call r c) held.top.used_words
       ∙ ap₂ stack_words
       (ap (λ (k : Need). m.used_temp + k.locals_words) (sym exact) ∙ sym new_temp)
       (ap (λ (k : Need). m.used_ctrl + (2 + k.vars)) (sym exact) ∙ sym new_ctrl)
 
-  pub enters : (n : Meaning) → n ≡ after → m.temp < 2 ^ 32 → m.ctrl < 2 ^ 32 → Enters m n
+  enter_waiting : AreActivations (seen_program a.program) a.names.items (reverse a.waiting.items)
+  enter_waiting =
+      let r = seen_program m.program in
+      let names = m.names.items in
+      let f : Frame = record {
+        procedure = m.procedure;
+        variables = m.variables;
+        work = below;
+        call = site;
+        used_temp = m.used_temp;
+        used_ctrl = m.used_ctrl;
+      } in
+      let turned : reverse a.waiting.items ≡ f ∷ reverse m.waiting.items = ap reverse waits.waiting ∙ reverse-append m.waiting.items (f ∷ []) in
+      let P : List Frame → Type 0 = AreActivations r names in
+      let all : P (f ∷ reverse m.waiting.items) = (held.top, held.waiting) in
+      let R : Program → Type 0 = λ p. AreActivations p a.names.items (reverse a.waiting.items) in
+      let T : List Names → Type 0 = λ t. AreActivations r t (reverse a.waiting.items) in
+      subst R (sym (ap seen_program program_is)) (subst T (sym (ap (λ t. t.items) names_are)) (subst P (sym turned) all))
+
+  pub enters : (n : Meaning) → n ≡ after → m.temp < 2 ^ 32 → m.ctrl < 2 ^ 32 → Moves m n
   enters n is lt_temp lt_ctrl =
-      subst (Enters m) (sym is) (record { goes = enter_goes; used_words = enter_uses lt_temp lt_ctrl; program = ap (λ (k : Meaning). k.program) waits.others })
+      let vars_are : map (λ v. v.0) a.variables.items ≡ map (λ v. v.0) vars.items = ap (λ (k : Meaning). map (λ v. v.0) k.variables.items) waits.others in
+      let named_by = ap (λ t. variables_of t.items site.value.callee) names_are in
+      let all : Moves m after = record {
+        goes = enter_goes;
+        keeps = record {
+          program = program_is;
+          temp = ap (λ (k : Meaning). k.temp) waits.others;
+          ctrl = ap (λ (k : Meaning). k.ctrl) waits.others;
+          values = ap (λ (k : Meaning). k.values) waits.others;
+          names = names_are;
+          unnamed = ap (λ (k : Meaning). k.unnamed) waits.others;
+          steps = ap (λ (k : Meaning). added k.steps 1) waits.others;
+        };
+        ending = ap (λ (k : Meaning). k.ending) waits.others;
+        held = λ _. record {
+          top = record { named = vars_are ∙ named ∙ sym named_by; used_words = enter_uses lt_temp lt_ctrl };
+          waiting = enter_waiting;
+        };
+      } in
+      subst (Moves m) (sym is) all

@@ -102,7 +102,7 @@ get_holds test [] i h l = absurd (omega (arith, l))
 get_holds test (z ∷ items) zero h l = (and_parts (test z) (list_all test items) h).0
 get_holds test (z ∷ items) (suc i) h l = get_holds test items i (and_parts (test z) (list_all test items) h).1 (omega (arith, l))
 
-set_holds : (test : ℤ → Bool) (items : List ℤ) (i : ℕ) (z : ℤ) → list_all test items ≡ true → test z ≡ true → list_all test (slice_set items i z) ≡ true
+pub set_holds : (test : ℤ → Bool) (items : List ℤ) (i : ℕ) (z : ℤ) → list_all test items ≡ true → test z ≡ true → list_all test (slice_set items i z) ≡ true
 set_holds test [] i z h e = refl
 set_holds test (y ∷ items) zero z h e = and_from (test z) (list_all test items) e (and_parts (test y) (list_all test items) h).1
 set_holds test (y ∷ items) (suc i) z h e =
@@ -110,7 +110,7 @@ set_holds test (y ∷ items) (suc i) z h e =
     and_from (test y) (list_all test (slice_set items i z)) p.0 (set_holds test items i z p.1 e)
 
 -- the item of a simple value
-simple_item : (k : Kind) (v : ValueOf) → v.shape ≡ simple k → ValueFits v → is_in_range k (item_of_value v) ≡ true
+pub simple_item : (k : Kind) (v : ValueOf) → v.shape ≡ simple k → ValueFits v → is_in_range k (item_of_value v) ≡ true
 simple_item k v e f =
     let one : length v.items ≡ 1 = f.number ∙ ap item_count e in
     let all : list_all (is_in_range k) v.items ≡ true = ap (λ (s : Shape). list_all (is_in_range s.kind) v.items) (sym e) ∙ f.items in
@@ -150,6 +150,15 @@ stored_fits k n a (pos i) z e f g = pick (nat_lt i (length a.items))
       },
     )
     pick false = tt
+
+-- what is stored in an array is in the range of its kind
+pub stored_item : (shapes : List Shape) (x : List ValueOf) (k : Kind) (args : List Arg) → VarsFit shapes x → ArgsFit shapes k (slots_of row.MgArrayElementAssignment) args → is_in_range (value_at (map (value_of x) args) 0).shape.kind (item_of_value (value_at (map (value_of x) args) 2)) ≡ true
+stored_item shapes x k args h f =
+    let vs = map (value_of x) args in
+    let match : ValuesMatch k (slots_of row.MgArrayElementAssignment) vs = args_values shapes x k (slots_of row.MgArrayElementAssignment) args h f in
+    let a = value_0 k (shared Array) (integer_slot ∷ shared Simple ∷ []) vs match in
+    let z = value_2 k (shared Array) integer_slot (shared Simple) [] vs match in
+    ap (λ (s : Shape). is_in_range s.kind (item_of_value (value_at vs 2))) a.2 ∙ simple_item k (value_at vs 2) z.0 z.1
 
 truth_effect : (k : Kind) (s : Slot) (slots : List Slot) (vs : List ValueOf) (b : Bool) → ValuesMatch k (boolean_slot ∷ slots) vs → EffectFits (value_at vs 0).shape (Normal (truth_value b))
 truth_effect k s slots vs b h = (sym (value_0 k boolean_slot slots vs h).0, truth_fits b)

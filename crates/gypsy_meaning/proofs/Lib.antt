@@ -11,3 +11,15 @@ mod ApplyLaws
 mod CopyLaws
 mod ReturningLaws
 mod CallingLaws
+mod ValueLaws
+mod FinishingLaws
+mod ReadyLaws
+mod ApartLaws
+pub mod SeenLaws
+pub mod ReachLaws
+mod StepLaws
+mod NamedLaws
+pub mod RunLaws
+mod ShownLaws
+mod StartLaws
+mod FittingLaws

@@ -1,20 +1,25 @@
 -- The end of a procedure for which another waits.
-use Rattle.std.proofs.Common.{◌≡◌, ℕ, zero, suc, ◌+◌, ◌-◌, List, [], ◌∷◌, ◌++◌, length, map, take, Bool, true, false, Some, refl, sym, ap, ◌∙◌, arith}
+use Rattle.std.proofs.Common.{◌≡◌, ℕ, zero, suc, ◌+◌, ◌-◌, List, [], ◌∷◌, ◌++◌, length, map, take, reverse, Bool, true, false, Some, refl, sym, ap, ap₂, subst, ◌∙◌, arith}
 use Rattle.std.specs.Prelude.{slice_get}
 use Rattle.std.proofs.lemmas.List.{reverse-append}
 use Rattle.stack_text.specs.Values.{ValueOf}
 use Rattle.gypsy_syntax.specs.Programs.{Cond, Program}
-use Rattle.gypsy_space.specs.Costs.{Tally, spend, out_spend}
-use Rattle.gypsy_space.specs.Needs.{Words}
+use Rattle.gypsy_space.specs.Costs.{Tally, spend, out_spend, start_tally}
+use Rattle.gypsy_space.specs.Needs.{stack_words}
+use Rattle.gypsy_space.specs.Nodes.{seen_program}
 use Rattle.gypsy_space.specs.Events.{event_count}
 use Rattle.gypsy_space.specs.declared.event.CostEvent.TheVariants as event
 use Rattle.gypsy_space.specs.declared.need.Need.{Need}
 use Rattle.gypsy_meaning.specs.Calls.{copied_out, is_formal}
-use Rattle.gypsy_meaning.specs.Machine.{Item, Out, At, Next, Move, gypsy_step, settle, raise}
+use Rattle.gypsy_meaning.specs.Held.{AreActivations, IsActivation, IsHeld, Keeps, Moves}
+use Rattle.gypsy_meaning.specs.Machine.{Item, Out, At, Next, Move, gypsy_step, settle, raise, used}
 use Rattle.gypsy_meaning.specs.Machine as machine
-use Rattle.gypsy_meaning.specs.Returning.{HasResumed, IsLast, RaisesTo, out_price, paid}
-use Rattle.gypsy_meaning.specs.Running.{Goes, frame_of, frames_of, state_of}
+use Rattle.gypsy_meaning.specs.Named.{variables_of}
+use Rattle.gypsy_meaning.specs.Returning.{HasResumed, IsLast, RaisesTo, Resumes, out_price}
+use Rattle.gypsy_meaning.specs.Running.{frame_of, frames_of, sizes_of, state_of, paid}
+use Rattle.gypsy_meaning.specs.Seen.{added}
 use Rattle.gypsy_meaning.specs.Work.{caught_spend, work_of}
+use Rattle.gypsy_meaning.specs.declared.names.Names.{Names}
 use Rattle.gypsy_meaning.specs.declared.running.Frame.{Frame}
 use Rattle.gypsy_meaning.specs.declared.running.Meaning.{Meaning}
 use Rattle.gypsy_meaning.specs.declared.work.Work.{Work}
@@ -38,26 +43,72 @@ frames_of-push fs f = ap (map frame_of) (reverse-append fs (f ∷ []))
 pub same_state : (p p' : ℕ) (x x' : List ValueOf) (w w' : List Item) (fs fs' : List machine.Frame) (t : Tally) → p ≡ p' → x ≡ x' → w ≡ w' → fs ≡ fs' → Next (At p x w fs t) ≡ Next (At p' x' w' fs' t)
 same_state p p' x x' w w' fs fs' t a b c d = cc
 
-pub end_goes : (q : Program) (sizes : Words) (ns : List Need) (m n : Meaning) (w : Work) → work_of m.work.value ≡ [] → IsLast m.waiting.items (λ f. work_of w ≡ settle (work_of f.work.value)) → HasResumed w m n →
-    Goes q sizes m (paid (event_count ns event.EndProc) n)
+-- the activation below is active again
+pub resume_held : (w : Work) (cost : ℕ) (m n : Meaning) (gs : List Frame) (f : Frame) → m.waiting.items ≡ gs ++ f ∷ [] → n.waiting.items ≡ gs → Resumes w m n f → IsHeld m → IsHeld (paid cost n)
+resume_held w cost m n gs f e es r h =
+    let q = seen_program m.program in
+    let names = m.names.items in
+    let turned : reverse m.waiting.items ≡ f ∷ reverse gs = ap reverse e ∙ reverse-append gs (f ∷ []) in
+    let P : List Frame → Type 0 = AreActivations q names in
+    let both : AreActivations q names (f ∷ reverse gs) = subst P turned h.waiting in
+    let a : IsActivation q names f.procedure f.variables.items f.used_temp f.used_ctrl (frames_of gs) = both.0 in
+    let program : seen_program n.program ≡ q = ap seen_program r.program in
+    let table : n.names.items ≡ names = ap (λ t. t.items) r.names in
+    record {
+      top = record {
+        named = r.named ∙ a.named ∙ ap₂ variables_of (sym table) (sym r.procedure);
+        used_words =
+            ap (λ (p : Program). used p n.procedure (frames_of n.waiting.items)) program
+            ∙ ap (λ (p : ℕ). used q p (frames_of n.waiting.items)) r.procedure
+            ∙ ap (λ (fs : List Frame). used q f.procedure (frames_of fs)) es
+            ∙ a.used_words
+            ∙ ap₂ stack_words (sym r.used_temp) (sym r.used_ctrl);
+      };
+      waiting =
+          let R : Program → Type 0 = λ p. AreActivations p n.names.items (reverse n.waiting.items) in
+          let T : List Names → Type 0 = λ t. AreActivations q t (reverse n.waiting.items) in
+          let U : List Frame → Type 0 = λ fs. AreActivations q names (reverse fs) in
+          subst R (sym program) (subst T (sym table) (subst U (sym es) both.1));
+    }
+
+resume_keeps : (w : Work) (cost : ℕ) (m n : Meaning) (f : Frame) → Resumes w m n f → Keeps m (paid cost n)
+resume_keeps w cost m n f r = record {
+  program = r.program;
+  temp = r.temp;
+  ctrl = r.ctrl;
+  values = r.start_values;
+  names = r.names;
+  unnamed = r.unnamed;
+  steps = ap (λ (k : ℕ). added k 1) r.steps;
+}
+
+pub end_moves : (ns : List Need) (m n : Meaning) (w : Work) → work_of m.work.value ≡ [] → IsLast m.waiting.items (λ f. work_of w ≡ settle (work_of f.work.value)) → HasResumed w m n →
+    Moves m (paid (event_count ns event.EndProc) n)
 unfolding event_count spend
-end_goes q sizes ns m n w nothing last resumed t e =
+end_moves ns m n w nothing last resumed =
+    let q = seen_program m.program in
+    let sizes = sizes_of m in
     let gs = last.0 in
     let f = last.1 in
     let both = resumed gs f last.2 in
     let r = both.1 in
     let x = map (λ v. v.1) m.variables.items in
-    let u : Tally = spend 12 6 t in
+    let u : Tally = spend 12 6 start_tally in
     let y = copied_out f.call.value.actuals.items x (map (λ v. v.1) f.variables.items) in
-    let step : gypsy_step q sizes (state_of m t) ≡ Next (At f.procedure y (settle (work_of f.work.value)) (frames_of gs) u) =
-    ap (λ (v : List Item). gypsy_step q sizes (At m.procedure x v (frames_of m.waiting.items) t)) nothing
-    ∙ ap (λ (fs : List machine.Frame). gypsy_step q sizes (At m.procedure x [] fs t)) (ap frames_of last.2 ∙ frames_of-push gs f) in
-    let shown : n.counted ≡ m.counted = r.counted in (
-      u,
-      step ∙ same_state f.procedure n.procedure y (map (λ v. v.1) n.variables.items) (settle (work_of f.work.value)) (work_of n.work.value) (frames_of gs) (frames_of n.waiting.items) u
-          (sym r.procedure) (sym r.values) (sym last.3 ∙ sym r.work) (ap frames_of (sym both.0)),
-      omega (arith, e, shown),
-    )
+    let step : gypsy_step q sizes (state_of m) ≡ Next (At f.procedure y (settle (work_of f.work.value)) (frames_of gs) u) =
+    ap (λ (v : List Item). gypsy_step q sizes (At m.procedure x v (frames_of m.waiting.items) start_tally)) nothing
+    ∙ ap (λ (fs : List machine.Frame). gypsy_step q sizes (At m.procedure x [] fs start_tally)) (ap frames_of last.2 ∙ frames_of-push gs f) in
+    record {
+      goes = (
+        u,
+        step ∙ same_state f.procedure n.procedure y (map (λ v. v.1) n.variables.items) (settle (work_of f.work.value)) (work_of n.work.value) (frames_of gs) (frames_of n.waiting.items) u
+            (sym r.procedure) (sym r.values) (sym last.3 ∙ sym r.work) (ap frames_of (sym both.0)),
+        record { counted = ap (λ (k : ℕ). added k 12) r.counted; last = refl },
+      );
+      keeps = resume_keeps w (event_count ns event.EndProc) m n f r;
+      ending = r.ending;
+      held = resume_held w (event_count ns event.EndProc) m n gs f last.2 both.0 r;
+    }
 
 out_paid : (formal caught : Bool) (t : Tally) → (caught_spend caught (out_spend formal t)).count ≡ t.count + out_price formal caught
 unfolding spend out_spend
@@ -66,26 +117,34 @@ out_paid true false t = refl
 out_paid false true t = omega arith
 out_paid false false t = refl
 
-pub leave_goes : (q : Program) (sizes : Words) (m n : Meaning) (w : Work) (caught : Bool) (d : Cond) (below : List Item) → work_of m.work.value ≡ Out d ∷ below → IsLast m.waiting.items (RaisesTo q m.procedure d w caught) → HasResumed w m n →
-    Goes q sizes m (paid (out_price (is_formal q m.procedure d) caught) n)
-leave_goes q sizes m n w caught d below out last resumed t e =
+pub leave_moves : (m n : Meaning) (w : Work) (caught : Bool) (d : Cond) (below : List Item) → work_of m.work.value ≡ Out d ∷ below → IsLast m.waiting.items (RaisesTo (seen_program m.program) m.procedure d w caught) → HasResumed w m n →
+    Moves m (paid (out_price (is_formal (seen_program m.program) m.procedure d) caught) n)
+leave_moves m n w caught d below out last resumed =
+    let q = seen_program m.program in
+    let sizes = sizes_of m in
     let gs = last.0 in
     let f = last.1 in
     let both = resumed gs f last.2 in
     let r = both.1 in
     let x = map (λ v. v.1) m.variables.items in
     let formal = is_formal q m.procedure d in
-    let left : Tally = out_spend formal t in
+    let left : Tally = out_spend formal start_tally in
     let u : Tally = caught_spend caught left in
     let y = copied_out f.call.value.actuals.items x (map (λ v. v.1) f.variables.items) in
-    let step : gypsy_step q sizes (state_of m t) ≡ Next (At f.procedure y (work_of w) (frames_of gs) u) =
-    ap (λ (v : List Item). gypsy_step q sizes (At m.procedure x v (frames_of m.waiting.items) t)) out
-    ∙ ap (λ (fs : List machine.Frame). gypsy_step q sizes (At m.procedure x (Out d ∷ below) fs t)) (ap frames_of last.2 ∙ frames_of-push gs f)
+    let step : gypsy_step q sizes (state_of m) ≡ Next (At f.procedure y (work_of w) (frames_of gs) u) =
+    ap (λ (v : List Item). gypsy_step q sizes (At m.procedure x v (frames_of m.waiting.items) start_tally)) out
+    ∙ ap (λ (fs : List machine.Frame). gypsy_step q sizes (At m.procedure x (Out d ∷ below) fs start_tally)) (ap frames_of last.2 ∙ frames_of-push gs f)
     ∙ ap Next (last.3 f.procedure y (frames_of gs) left) in
-    let shown : n.counted ≡ m.counted = r.counted in
-    let spent : u.count ≡ t.count + out_price formal caught = out_paid formal caught t in (
-      u,
-      step ∙ same_state f.procedure n.procedure y (map (λ v. v.1) n.variables.items) (work_of w) (work_of n.work.value) (frames_of gs) (frames_of n.waiting.items) u
-          (sym r.procedure) (sym r.values) (sym r.work) (ap frames_of (sym both.0)),
-      omega (arith, e, shown, spent),
-    )
+    let spent : u.count ≡ 0 + out_price formal caught = out_paid formal caught start_tally in
+    let cost : out_price formal caught ≡ u.count = omega (arith, spent) in
+    record {
+      goes = (
+        u,
+        step ∙ same_state f.procedure n.procedure y (map (λ v. v.1) n.variables.items) (work_of w) (work_of n.work.value) (frames_of gs) (frames_of n.waiting.items) u
+            (sym r.procedure) (sym r.values) (sym r.work) (ap frames_of (sym both.0)),
+        record { counted = ap₂ added r.counted cost; last = cost },
+      );
+      keeps = resume_keeps w (out_price formal caught) m n f r;
+      ending = r.ending;
+      held = resume_held w (out_price formal caught) m n gs f last.2 both.0 r;
+    }

@@ -1,20 +1,26 @@
 -- What the code's counters show.
 use Rattle.std.proofs.Common.{◌≡◌, ℕ, ◌+◌, List, map, slice_set, Bool, true, false, refl, ap, sym, ◌∙◌, arith}
+use Rattle.std.specs.declared.alloc.Global.{Global}
+use Rattle.std.specs.declared.rc.Rc.{Rc}
 use Rattle.stack_text.specs.Values.{ValueOf}
 use Rattle.gypsy_syntax.specs.Programs.{Program}
-use Rattle.gypsy_space.specs.Costs.{Tally, spend, predef_spend}
+use Rattle.gypsy_space.specs.Costs.{Tally, spend, start_tally, predef_spend}
 use Rattle.gypsy_space.specs.Needs.{Words}
+use Rattle.gypsy_space.specs.Nodes.{seen_program}
 use Rattle.gypsy_space.specs.Events.{event_count, event_spend, predef_count}
 use Rattle.gypsy_space.specs.declared.event.CostEvent.{CostEvent}
 use Rattle.gypsy_space.specs.declared.event.CostEvent.TheVariants as event
 use Rattle.gypsy_space.specs.declared.need.Need.{Need}
 use Rattle.gypsy_meaning.specs.Machine.{At, Next}
 use Rattle.gypsy_meaning.specs.Work.{work_of, caught_spend}
-use Rattle.gypsy_meaning.specs.Turns.{IsPlain, GoesOn}
+use Rattle.gypsy_meaning.specs.Turns.{IsPlain, GoesOn, OpensTo}
 use Rattle.gypsy_meaning.specs.Applied.{WritesOn}
-use Rattle.gypsy_meaning.specs.Running.{price, advanced, Goes, frames_of}
+use Rattle.gypsy_meaning.specs.Seen.{added}
+use Rattle.gypsy_meaning.specs.Held.{Moves}
+use Rattle.gypsy_meaning.specs.Running.{price, advanced, Goes, frames_of, sizes_of, paid}
 use Rattle.gypsy_meaning.specs.declared.turn.Advance.{Advance}
 use Rattle.gypsy_meaning.specs.declared.running.Meaning.{Meaning}
+use Rattle.gypsy_meaning.specs.declared.work.Work.{Work}
 
 caught_is : (b : Bool) (ns : List Need) (e : CostEvent) (t : Tally) (u : Tally) → u.count ≡ t.count + event_count ns e → (caught_spend b u).count ≡ t.count + price ns e b
 unfolding price spend
@@ -42,19 +48,45 @@ plain_table q ns event.ReturnRaised p t = refl
 plain_table q ns (event.Predef which outcome) p t = refl
 
 -- a step that changes the work alone
-pub advance_goes : (q : Program) (sizes : Words) (ns : List Need) (a : Advance) (m : Meaning) → GoesOn (map (λ v. v.1) m.variables.items) (work_of m.work.value) a → Goes q sizes m (advanced ns a m)
-advance_goes q sizes ns a m goes t e =
-    let u = event_spend q a.event t in
-    let paid : (caught_spend a.caught u).count ≡ t.count + price ns a.event a.caught = caught_is a.caught ns a.event t u (plain_table q ns a.event goes.0 t) in
-    (caught_spend a.caught u, goes.1 q sizes m.procedure (frames_of m.waiting.items) t, omega (arith, e, paid))
+advance_goes : (q : Program) (sizes : Words) (ns : List Need) (a : Advance) (m : Meaning) → GoesOn (map (λ v. v.1) m.variables.items) (work_of m.work.value) a → Goes q sizes m (advanced ns a m)
+advance_goes q sizes ns a m goes =
+    let u = event_spend q a.event start_tally in
+    let paid : (caught_spend a.caught u).count ≡ 0 + price ns a.event a.caught = caught_is a.caught ns a.event start_tally u (plain_table q ns a.event goes.0 start_tally) in
+    let cost : price ns a.event a.caught ≡ (caught_spend a.caught u).count = omega (arith, paid) in
+    (caught_spend a.caught u, goes.1 q sizes m.procedure (frames_of m.waiting.items) start_tally, record { counted = ap (added m.counted) cost; last = cost })
 
--- a step that writes a variable, where the state in between is known by its values
-pub write_goes : (q : Program) (sizes : Words) (ns : List Need) (i : ℕ) (v : ValueOf) (a : Advance) (m n : Meaning) → WritesOn (map (λ w. w.1) m.variables.items) (work_of m.work.value) i v a → map (λ w. w.1) n.variables.items ≡ slice_set (map (λ w. w.1) m.variables.items) i v → Goes q sizes m (advanced ns a (record m { variables = n.variables }))
-write_goes q sizes ns i v a m n goes wrote t e =
-    let u = event_spend q a.event t in
-    let paid : (caught_spend a.caught u).count ≡ t.count + price ns a.event a.caught = caught_is a.caught ns a.event t u (plain_table q ns a.event goes.0 t) in (
-      caught_spend a.caught u,
-      goes.1 q sizes m.procedure (frames_of m.waiting.items) t ∙
-          ap (λ x. Next (At m.procedure x (work_of a.work.value) (frames_of m.waiting.items) (caught_spend a.caught u))) (sym wrote),
-      omega (arith, e, paid),
-    )
+pub advance_moves : (ns : List Need) (a : Advance) (m : Meaning) → GoesOn (map (λ v. v.1) m.variables.items) (work_of m.work.value) a → Moves m (advanced ns a m)
+advance_moves ns a m goes = record {
+  goes = advance_goes (seen_program m.program) (sizes_of m) ns a m goes;
+  keeps = record { program = refl; temp = refl; ctrl = refl; values = refl; names = refl; unnamed = refl; steps = refl };
+  ending = refl;
+  held = λ h. record { top = h.top; waiting = h.waiting };
+}
+
+-- a step that writes a variable, where the state in between is known by its values and names
+pub write_moves : (ns : List Need) (i : ℕ) (v : ValueOf) (a : Advance) (m n : Meaning) → WritesOn (map (λ w. w.1) m.variables.items) (work_of m.work.value) i v a → map (λ w. w.1) n.variables.items ≡ slice_set (map (λ w. w.1) m.variables.items) i v → map (λ w. w.0) n.variables.items ≡ map (λ w. w.0) m.variables.items → Moves m (advanced ns a (record m { variables = n.variables }))
+write_moves ns i v a m n goes wrote named =
+    let q = seen_program m.program in
+    let u = event_spend q a.event start_tally in
+    let paid : (caught_spend a.caught u).count ≡ 0 + price ns a.event a.caught = caught_is a.caught ns a.event start_tally u (plain_table q ns a.event goes.0 start_tally) in
+    let cost : price ns a.event a.caught ≡ (caught_spend a.caught u).count = omega (arith, paid) in
+    record {
+      goes = (
+        caught_spend a.caught u,
+        goes.1 q (sizes_of m) m.procedure (frames_of m.waiting.items) start_tally ∙
+            ap (λ x. Next (At m.procedure x (work_of a.work.value) (frames_of m.waiting.items) (caught_spend a.caught u))) (sym wrote),
+        record { counted = ap (added m.counted) cost; last = cost },
+      );
+      keeps = record { program = refl; temp = refl; ctrl = refl; values = refl; names = refl; unnamed = refl; steps = refl };
+      ending = refl;
+      held = λ h. record { top = record { named = named ∙ h.top.named; used_words = h.top.used_words }; waiting = h.waiting };
+    }
+
+-- a step that opens the work, at no cost
+pub open_moves : (w : Rc Work Global) (m : Meaning) → OpensTo (map (λ v. v.1) m.variables.items) (work_of m.work.value) (work_of w.value) → Moves m (paid 0 (record m { work = w }))
+open_moves w m opens = record {
+  goes = (start_tally, opens (seen_program m.program) (sizes_of m) m.procedure (frames_of m.waiting.items) start_tally, record { counted = refl; last = refl });
+  keeps = record { program = refl; temp = refl; ctrl = refl; values = refl; names = refl; unnamed = refl; steps = refl };
+  ending = refl;
+  held = λ h. record { top = h.top; waiting = h.waiting };
+}

@@ -14,7 +14,7 @@ use Rattle.gypsy_meaning.specs.Machine.{Item, Do, Back, JoinThen, JoinOne, Guard
 use Rattle.gypsy_meaning.specs.Agree.{Agree}
 
 -- a run that is over
-abbrev IsOver : Ending → Type 0
+abbrev pub IsOver : Ending → Type 0
 IsOver (Over x c t) = Unit {0}
 IsOver Going = ⊥
 IsOver Short = Unit {0}
@@ -140,13 +140,13 @@ module _ (q : Program) (sizes : Words) where
   evaluate_follows (suc n) (Apply place r args) p x t w fs = apply_runs (suc n) p r args fs _ (predef_effect r (values_of x args)) x w t refl
 
   -- more steps change nothing of a run that is over
-  longer : (m n : ℕ) → m ≤ n → (g : State) (o : Ending) → IsOver o → run q sizes m g ≡ o → run q sizes n g ≡ o
+  pub longer : (m n : ℕ) → m ≤ n → (g : State) (o : Ending) → IsOver o → run q sizes m g ≡ o → run q sizes n g ≡ o
   longer zero n le g o over e = absurd (subst IsOver (sym e) over)
   longer (suc m) zero le g o over e = absurd (omega arith)
   longer (suc m) (suc n) le g o over e = go_longer (run q sizes m) (run q sizes n) (longer m n (omega arith)) (gypsy_step q sizes g) o over e
 
   -- so two ends of one run are the same
-  one_end : (m n : ℕ) (g : State) (o p : Ending) → IsOver o → IsOver p → run q sizes m g ≡ o → run q sizes n g ≡ p → o ≡ p
+  pub one_end : (m n : ℕ) (g : State) (o p : Ending) → IsOver o → IsOver p → run q sizes m g ≡ o → run q sizes n g ≡ p → o ≡ p
   one_end m n g o p over_o over_p e f =
       ⊎_elim
       (λ lt. sym (longer m n (omega arith) g o over_o e) ∙ f)

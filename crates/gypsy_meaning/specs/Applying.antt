@@ -1,6 +1,6 @@
 -- Effects of predefined calls, as the code has them.
-use Rattle.std.specs.Prelude.{ℕ, List, map, get_or, ◌&&◌, ◌||◌, not, int_le, neg_ℤ, ◌+ℤ◌, ◌-ℤ◌}
-use Rattle.stack_text.specs.Values.{ValueOf}
+use Rattle.std.specs.Prelude.{ℕ, List, map, get_or, IsTrue, ◌&&◌, ◌||◌, not, int_le, neg_ℤ, ◌+ℤ◌, ◌-ℤ◌}
+use Rattle.stack_text.specs.Values.{ValueOf, is_item}
 use Rattle.gypsy_syntax.specs.Programs.{Lit}
 use Rattle.gypsy_syntax.specs.Effects.{Effect, no_value, truth_value, item_of_value, is_true_value, are_same}
 use Rattle.gypsy_syntax.specs.Effects.{number_effect, indexed, stored}
@@ -41,3 +41,9 @@ effect_by row.MgArrayElementAssignment v = stored (v 0) (item_of_value (v 1)) (i
 unfoldable pub applied_effect : Predef → List ValueOf → List Argument → Effect
 unfolding effect_by
 applied_effect r x args = effect_by r (argument_at x args)
+
+-- what is stored in an array is an item of its kind
+unfoldable pub Suits : Predef → List ValueOf → List Argument → Type 0
+Suits row.MgArrayElementAssignment x args =
+    IsTrue (is_item (argument_at x args 0).shape.kind (item_of_value (argument_at x args 2)))
+Suits _ x args = Unit {0}

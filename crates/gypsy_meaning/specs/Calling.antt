@@ -1,18 +1,17 @@
 -- The call of a procedure, as the code has it.
-use Rattle.std.specs.Prelude.{◌≡◌, [], ◌∷◌, ◌++◌, map}
+use Rattle.std.specs.Prelude.{◌≡◌, ◌∷◌, [], ◌++◌, map}
 use Rattle.std.specs.declared.alloc.Global.{Global}
 use Rattle.std.specs.declared.rc.Rc.{Rc}
 use Rattle.std.specs.Global.{Vec}
 use Rattle.stack_text.specs.declared.name.Name.{Name}
 use Rattle.stack_text.specs.declared.value.Value.{Value}
 use Rattle.gypsy_syntax.specs.Programs.{Call}
-use Rattle.gypsy_space.specs.Costs.{Tally}
-use Rattle.gypsy_space.specs.Needs.{stack_words}
 use Rattle.gypsy_space.specs.Nodes.{seen_cond, seen_program}
 use Rattle.gypsy_space.specs.declared.need.Need.{Need}
 use Rattle.gypsy_space.specs.declared.program.CallSite.{CallSite}
-use Rattle.gypsy_meaning.specs.Machine.{Item, Do, Full, gypsy_step, used}
-use Rattle.gypsy_meaning.specs.Running.{Goes, added, frames_of, sizes_of, state_of}
+use Rattle.gypsy_meaning.specs.Machine.{Item, Do, Full, gypsy_step}
+use Rattle.gypsy_meaning.specs.Seen.{added}
+use Rattle.gypsy_meaning.specs.Running.{sizes_of, state_of}
 use Rattle.gypsy_meaning.specs.declared.running.Meaning.{Meaning}
 use Rattle.gypsy_meaning.specs.declared.work.Work.{Work}
 
@@ -20,19 +19,9 @@ use Rattle.gypsy_meaning.specs.declared.work.Work.{Work}
 abbrev pub call_top : CallSite → Item
 call_top site = Do (Call site.place site.callee site.actuals.items (map seen_cond site.conds.items))
 
--- what the counters say of the words in use
-abbrev pub UsesWords : Meaning → Type 0
-UsesWords m = used (seen_program m.program) m.procedure (frames_of m.waiting.items) ≡ stack_words m.used_temp m.used_ctrl
-
--- a call was entered
-pub record Enters (m n : Meaning) : Type 0 where
-  pub goes : Goes (seen_program m.program) (sizes_of m) m n
-  pub used_words : UsesWords n
-  pub program : n.program ≡ m.program
-
 -- the step is a call without room
 abbrev pub IsFull : Meaning → Type 0
-IsFull m = (t : Tally) → gypsy_step (seen_program m.program) (sizes_of m) (state_of m t) ≡ Full
+IsFull m = gypsy_step (seen_program m.program) (sizes_of m) (state_of m) ≡ Full
 
 -- all that is seen is as it was
 pub record IsUnchanged (m n : Meaning) : Type 0 where

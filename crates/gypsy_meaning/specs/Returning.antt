@@ -7,7 +7,6 @@ use Rattle.gypsy_space.specs.Nodes.{seen_cond}
 use Rattle.gypsy_meaning.specs.Calls.{copied_out, matching}
 use Rattle.gypsy_meaning.specs.Machine.{Item, Out, At, raise}
 use Rattle.gypsy_meaning.specs.Machine as machine
-use Rattle.gypsy_meaning.specs.Running.{added}
 use Rattle.gypsy_meaning.specs.Work.{caught_spend, work_of}
 use Rattle.gypsy_meaning.specs.declared.running.Frame.{Frame}
 use Rattle.gypsy_meaning.specs.declared.running.Meaning.{Meaning}
@@ -16,10 +15,6 @@ use Rattle.gypsy_meaning.specs.declared.work.Work.{Work}
 -- a fact of the last of a list, which isn't empty
 abbrev pub IsLast : List Frame → (Frame → Type 0) → Type 0
 IsLast fs P = (gs : List Frame) × (f : Frame) × (fs ≡ gs ++ f ∷ []) × P f
-
--- a step of this cost is counted
-abbrev pub paid : ℕ → Meaning → Meaning
-paid cost m = record m { steps = added m.steps 1; counted = added m.counted cost }
 
 -- what a condition costs that leaves a procedure: a formal one or not, and where it was caught or not
 abbrev pub out_price : Bool → Bool → ℕ
@@ -43,11 +38,16 @@ RaisesTo q callee c w caught f =
 pub record Resumes (w : Work) (m n : Meaning) (f : Frame) : Type 0 where
   pub values : map (λ v. v.1) n.variables.items
       ≡ copied_out f.call.value.actuals.items (map (λ v. v.1) m.variables.items) (map (λ v. v.1) f.variables.items)
+  pub named : map (λ v. v.0) n.variables.items ≡ map (λ v. v.0) f.variables.items
   pub procedure : n.procedure ≡ f.procedure
   pub work : work_of n.work.value ≡ work_of w
   pub used_temp : n.used_temp ≡ f.used_temp
   pub used_ctrl : n.used_ctrl ≡ f.used_ctrl
   pub program : n.program ≡ m.program
+  pub names : n.names ≡ m.names
+  pub unnamed : n.unnamed ≡ m.unnamed
+  pub start_values : n.values ≡ m.values
+  pub ending : n.ending ≡ m.ending
   pub temp : n.temp ≡ m.temp
   pub ctrl : n.ctrl ≡ m.ctrl
   pub steps : n.steps ≡ m.steps

@@ -1,18 +1,20 @@
 -- The state of the step machine, as the code keeps it.
-use Rattle.std.specs.Prelude.{◌≡◌, ℕ, ◌+◌, ◌-◌, ◌^◌, List, map, min, reverse, Bool, true, false, Option, Some, None}
+use Rattle.std.specs.Prelude.{◌≡◌, ℕ, ◌+◌, List, map, reverse, Bool, true, false, Option, Some, None}
 use Rattle.gypsy_syntax.specs.Programs.{Program}
-use Rattle.gypsy_space.specs.Nodes.{seen_cond}
-use Rattle.gypsy_space.specs.Costs.{Tally}
-use Rattle.gypsy_space.specs.Needs.{Words}
+use Rattle.gypsy_space.specs.Nodes.{seen_cond, seen_program}
+use Rattle.gypsy_space.specs.Costs.{Tally, start_tally}
+use Rattle.gypsy_space.specs.Needs.{Words, stack_words}
 use Rattle.gypsy_space.specs.Events.{event_count}
 use Rattle.gypsy_space.specs.declared.event.CostEvent.{CostEvent}
 use Rattle.gypsy_space.specs.declared.need.Need.{Need}
-use Rattle.gypsy_meaning.specs.Machine.{State, At, Held, Next, gypsy_step, used}
+use Rattle.gypsy_meaning.specs.Calls.{Way}
+use Rattle.gypsy_meaning.specs.Machine.{State, At, Held, Next, gypsy_step}
 use Rattle.gypsy_meaning.specs.Machine as machine
+use Rattle.gypsy_meaning.specs.Seen.{Seen, Stage, Running, Finished, added}
 use Rattle.gypsy_meaning.specs.Work.{work_of}
-use Rattle.gypsy_meaning.specs.Turns.{IsTurn}
 use Rattle.gypsy_meaning.specs.declared.turn.Advance.{Advance}
-use Rattle.gypsy_meaning.specs.declared.turn.Turn.{Turn}
+use Rattle.gypsy_meaning.specs.declared.running.Ending.{Ending}
+use Rattle.gypsy_meaning.specs.declared.running.Ending.TheVariants as ending
 use Rattle.gypsy_meaning.specs.declared.running.Frame.{Frame}
 use Rattle.gypsy_meaning.specs.declared.running.Meaning.{Meaning}
 
@@ -25,19 +27,41 @@ frame_of f =
 abbrev pub frames_of : List Frame → List machine.Frame
 frames_of fs = map frame_of (reverse fs)
 
-abbrev pub state_of : Meaning → Tally → State
-state_of m t = At m.procedure (map (λ v. v.1) m.variables.items) (work_of m.work.value) (frames_of m.waiting.items) t
+-- with nothing spent
+abbrev pub state_of : Meaning → State
+state_of m = At m.procedure (map (λ v. v.1) m.variables.items) (work_of m.work.value) (frames_of m.waiting.items) start_tally
 
 abbrev pub sizes_of : Meaning → Words
-sizes_of m = record { temp = m.temp; ctrl = m.ctrl }
+sizes_of m = stack_words m.temp m.ctrl
 
--- a counter of 64 bits, which stays at its last value
-abbrev pub added : ℕ → ℕ → ℕ
-added a n = min (a + n) (2 ^ 64 - 1)
+abbrev pub way_of : Ending → Way
+way_of ending.Normal = None
+way_of (ending.Raised c) = Some (seen_cond c)
 
--- a counter shows a sum
-abbrev pub Shows : ℕ → ℕ → Type 0
-Shows shown n = shown ≡ min n (2 ^ 64 - 1)
+abbrev pub stage_by : Option Ending → Meaning → Stage
+stage_by None m = Running (state_of m)
+stage_by (Some e) m = Finished (map (λ v. v.1) m.variables.items) (way_of e)
+
+-- what a run shows
+unfoldable pub seen : Meaning → Seen
+seen m = record {
+  program = seen_program m.program;
+  sizes = sizes_of m;
+  values = m.values.items;
+  stage = stage_by m.ending m;
+  steps = m.steps;
+  counted = m.counted;
+  cost = m.cost;
+}
+
+-- a step of this cost is counted
+abbrev pub paid : ℕ → Meaning → Meaning
+paid cost m = record m { steps = added m.steps 1; counted = added m.counted cost; cost = cost }
+
+-- a step cost so much
+pub record Costs (cost : ℕ) (m n : Meaning) : Type 0 where
+  pub counted : n.counted ≡ added m.counted cost
+  pub last : n.cost ≡ cost
 
 -- of an event, and of a stop where there was one
 unfoldable pub price : List Need → CostEvent → Bool → ℕ
@@ -46,16 +70,10 @@ price ns e false = event_count ns e
 
 -- after a step that changes the work alone
 abbrev pub advanced : List Need → Advance → Meaning → Meaning
-advanced ns a m =
-    record m { work = a.work; steps = added m.steps 1; counted = added m.counted (price ns a.event a.caught) }
+advanced ns a m = paid (price ns a.event a.caught) (record m { work = a.work })
 
--- one step leads from a state to another, whatever was spent
+-- one step leads from a state to another, at the cost that is counted
 abbrev pub Goes : Program → Words → Meaning → Meaning → Type 0
 Goes q sizes m n =
-    (t : Tally) → Shows m.counted t.count →
-    (u : Tally) × (gypsy_step q sizes (state_of m t) ≡ Next (state_of n u)) × Shows n.counted u.count
-
--- a step was made, or the state is as it was and the top of the work is told
-abbrev pub IsWithin : Meaning → Meaning → Option Turn → Type 0
-IsWithin m n None = (q : Program) (sizes : Words) → Goes q sizes m n
-IsWithin m n (Some turn) = (n ≡ m) × IsTurn (map (λ v. v.1) m.variables.items) (work_of m.work.value) turn
+    (u : Tally) × (gypsy_step q sizes (state_of m) ≡ Next (At n.procedure (map (λ v. v.1) n.variables.items)
+    (work_of n.work.value) (frames_of n.waiting.items) u)) × Costs u.count m n

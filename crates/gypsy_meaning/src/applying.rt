@@ -9,6 +9,7 @@ ghost use Rattle.gypsy_meaning.specs.Machine.{settle};
 ghost use Rattle.gypsy_meaning.specs.Work.{work_of};
 ghost use Rattle.gypsy_meaning.specs.Turns.{RaisesOn};
 ghost use Rattle.gypsy_meaning.specs.Applied.{IsApplied};
+ghost use Rattle.gypsy_meaning.specs.Applying.{Suits};
 
 use crate::effects::{Effected, apply};
 use crate::turn::Advance;
@@ -63,6 +64,7 @@ pub fn application(
     call: &Application,
     below: &Rc<Work>,
 ) -> Result<Applied, AllocError>
+    requires { Suits call.now.which (map (λ v. v.1) variables.now) call.now.args.items }
     ensures { IfOk result (IsApplied (map (λ v. v.1) variables.now) call.now (work_of below.now.value)) }
 {
     match apply(alloc, call.which, variables, call.args.as_slice())? {

@@ -1,15 +1,18 @@
 //! What a step does where a procedure is called.
 
-ghost use Rattle.std.specs.Prelude.{◌≡◌, ◌<◌, [], ◌∷◌, IfErr, IfOk, MatchBool, length, map};
-ghost use Rattle.gypsy_syntax.specs.Programs.{body_of};
+ghost use Rattle.std.specs.Prelude.{◌≡◌, ◌<◌, ◌+◌, [], ◌∷◌, IfErr, IfOk, MatchBool, length, map};
+ghost use Rattle.gypsy_syntax.specs.Programs.{body_of, proc_at};
 ghost use Rattle.gypsy_space.specs.Events.{AreNeeds, AreSmall, need_at};
 ghost use Rattle.gypsy_space.specs.Nodes.{seen_program};
-ghost use Rattle.gypsy_meaning.specs.Calling.{Enters, IsFull, IsUnchanged, UsesWords, Waits, call_top, with_words};
+ghost use Rattle.gypsy_meaning.specs.Calling.{IsFull, IsUnchanged, Waits, call_top, with_words};
 ghost use Rattle.gypsy_meaning.specs.Calls.{copied_in};
+ghost use Rattle.gypsy_meaning.specs.Held.{IsHeld, Moves};
 ghost use Rattle.gypsy_meaning.specs.Machine.{open_on};
+ghost use Rattle.gypsy_meaning.specs.Named.{variables_of};
 ghost use Rattle.gypsy_meaning.specs.Work.{work_of};
 
 use crate::copying::copy_in;
+use crate::names::Names;
 use crate::running::{Frame, Meaning};
 use crate::work::{Work, opened};
 use gypsy_space::{CallSite, CostEvent, Needs, Program};
@@ -30,17 +33,29 @@ pub struct Start {
 pub fn callee_start(
     alloc: Global,
     program: &Program,
+    names: &[Names],
     variables: &[(Name, Value)],
     site: &CallSite,
 ) -> Result<Start, AllocError>
-    requires { site.now.callee < length program.now.procedures.items }
+    requires callee { site.now.callee < length program.now.procedures.items }
+    requires there { site.now.callee < length names.now }
+    requires sized { let callee = proc_at (seen_program program.now) site.now.callee in
+        length (variables_of names.now site.now.callee) ≡ length site.now.actuals.items + length callee.locals }
     ensures variables { IfOk result (λ start. map (λ v. v.1) start.variables.items
         ≡ copied_in (seen_program program.now) site.now.callee site.now.actuals.items (map (λ v. v.1) variables.now)) }
+    ensures names { IfOk result (λ start. map (λ v. v.0) start.variables.items
+        ≡ variables_of names.now site.now.callee) }
     ensures work { IfOk result (λ start. work_of start.work.value
         ≡ open_on (body_of (seen_program program.now) site.now.callee) []) }
 {
     let callee = &program.procedures[site.callee as usize];
-    let variables = copy_in(alloc, variables, site.actuals.as_slice(), callee)?;
+    let variables = copy_in(
+        alloc,
+        names[site.callee as usize].variables.as_slice(),
+        variables,
+        site.actuals.as_slice(),
+        callee.locals.as_slice(),
+    )?;
     let end = Rc::new(alloc, Work::End)?;
     let work = opened(alloc, &callee.body, &end)?;
     Ok(Start { variables, work })
@@ -103,10 +118,14 @@ impl Meaning {
         requires small { AreSmall needs.now.procedures.items }
         requires needs { AreNeeds (seen_program self.old.program) needs.now.procedures.items }
         requires callee { site.value.callee < length self.old.program.procedures.items }
+        requires there { site.value.callee < length self.old.names.items }
+        requires sized { let callee = proc_at (seen_program self.old.program) site.value.callee in
+            let number = length (variables_of self.old.names.items site.value.callee) in
+            number ≡ length site.value.actuals.items + length callee.locals }
         requires turn { work_of self.old.work.value ≡ call_top site.value ∷ work_of below.value }
-        requires used { UsesWords self.old }
+        requires held { IsHeld self.old }
         ensures done { IfOk result (λ entered. MatchBool entered
-            (Enters self.old self.new) ((self.new ≡ self.old) × IsFull self.old)) }
+            (Moves self.old self.new) ((self.new ≡ self.old) × IsFull self.old)) }
         ensures unchanged { IfErr result (λ e. IsUnchanged self.old self.new) }
     {
         let callee = site.callee;
@@ -116,6 +135,7 @@ impl Meaning {
         let Start { variables, work } = callee_start(
             alloc,
             &self.program,
+            self.names.as_slice(),
             self.variables.as_slice(),
             &site,
         )?;

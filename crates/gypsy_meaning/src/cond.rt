@@ -7,12 +7,14 @@ ghost use Rattle.gypsy_meaning.specs.Calls.{has_cond, same_cond, is_leave};
 
 use gypsy_space::Condition;
 
+/// Whether a condition is `leave`.
 pub fn is_leave(cond: Condition) -> bool
     ensures { result ≡ is_leave (seen_cond cond) }
 {
     matches!(cond, Condition::Leave)
 }
 
+/// Whether two conditions are one.
 pub fn is_same(left: Condition, right: Condition) -> bool
     ensures { result ≡ same_cond (seen_cond left) (seen_cond right) }
 {
@@ -24,12 +26,14 @@ pub fn is_same(left: Condition, right: Condition) -> bool
     }
 }
 
+/// Whether a condition is one of these.
 fn is_any(cond: Condition, conds: &[Condition]) -> bool
     ensures { result ≡ list_any (λ d. same_cond (seen_cond cond) (seen_cond d)) conds.now }
 {
     conds.iter().any(|other| is_same(cond, *other))
 }
 
+/// Whether a condition stands in a list.
 #[tactic(auto, using(crate::proofs::CondLaws::has_any))]
 pub fn is_among(cond: Condition, conds: &[Condition]) -> bool
     ensures { result ≡ has_cond (seen_cond cond) (map seen_cond conds.now) }

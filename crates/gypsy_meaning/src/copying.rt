@@ -1,50 +1,71 @@
 //! Variables that go into a call, and come back from it.
 
-ghost use Rattle.std.specs.Prelude.{◌≡◌, ◌++◌, IfOk, map};
+ghost use Rattle.std.specs.Prelude.{◌≡◌, ◌≤◌, ◌+◌, ◌++◌, IfOk, OnOk, length, map, take};
 ghost use Rattle.gypsy_syntax.specs.Effects.{value_at};
 ghost use Rattle.gypsy_meaning.specs.Calls.{copied_out};
 
 use crate::effects::value_in;
 use crate::writing::write;
-use gypsy_space::Procedure;
 use stack_text::{Name, Value};
 use std::alloc::{AllocError, Global};
 
-/// Copies of the actuals, under the names of the callee's formals.
+/// Copies of the actuals, under the first names.
 fn copies(
     alloc: Global,
+    names: &[Name],
     variables: &[(Name, Value)],
     actuals: &[u32],
-    callee: &Procedure,
 ) -> Result<Vec<(Name, Value)>, AllocError>
-    ensures { IfOk result (λ r. map (λ v. v.1) r.items ≡ map (value_at (map (λ v. v.1) variables.now)) actuals.now) }
+    requires { length actuals.now ≤ length names.now }
+    ensures values { IfOk result (λ r. map (λ v. v.1) r.items
+        ≡ map (value_at (map (λ v. v.1) variables.now)) actuals.now) }
+    ensures names { IfOk result (λ r. map (λ v. v.0) r.items ≡ take (length actuals.now) names.now) }
 {
     let mut copies = Vec::new(alloc);
     for (place, actual) in actuals.iter().enumerate() {
-        match callee.formals.get(place) {
-            Some((name, _)) => {
-                copies.push((name.clone()?, value_in(alloc, variables, *actual)?))?;
-            }
-            None => return Err(AllocError),
+        match names.get(place) {
+            Some(name) => copies.push((name.clone()?, value_in(alloc, variables, *actual)?))?,
+            None => unreachable!(),
         }
     }
     Ok(copies)
 }
 
-/// The callee's variables: copies of the actuals, and the locals with their initial values.
+/// Appends locals with their initial values, under these names.
+pub fn append_locals(
+    all: &mut Vec<(Name, Value)>,
+    names: &[Name],
+    locals: &[(Name, Value)],
+) -> Result<(), AllocError>
+    requires { length names.now ≡ length locals.now }
+    ensures values { OnOk result (map (λ v. v.1) all.new.items
+        ≡ map (λ v. v.1) all.old.items ++ map (λ v. v.1) locals.now) }
+    ensures names { OnOk result (map (λ v. v.0) all.new.items ≡ map (λ v. v.0) all.old.items ++ names.now) }
+{
+    for (place, name) in names.iter().enumerate() {
+        match locals.get(place) {
+            Some((_, value)) => all.push((name.clone()?, value.clone()?))?,
+            None => unreachable!(),
+        }
+    }
+    Ok(())
+}
+
+/// The callee's variables under these names: copies of the actuals, and the locals with their initial values.
 pub fn copy_in(
     alloc: Global,
+    names: &[Name],
     variables: &[(Name, Value)],
     actuals: &[u32],
-    callee: &Procedure,
+    locals: &[(Name, Value)],
 ) -> Result<Vec<(Name, Value)>, AllocError>
-    ensures { let copies = map (value_at (map (λ v. v.1) variables.now)) actuals.now in
-        IfOk result (λ r. map (λ v. v.1) r.items ≡ copies ++ map (λ v. v.1) callee.now.locals.items) }
+    requires { length names.now ≡ length actuals.now + length locals.now }
+    ensures values { let copies = map (value_at (map (λ v. v.1) variables.now)) actuals.now in
+        IfOk result (λ r. map (λ v. v.1) r.items ≡ copies ++ map (λ v. v.1) locals.now) }
+    ensures names { IfOk result (λ r. map (λ v. v.0) r.items ≡ names.now) }
 {
-    let mut all = copies(alloc, variables, actuals, callee)?;
-    for (name, value) in callee.locals.as_slice() {
-        all.push((name.clone()?, value.clone()?))?;
-    }
+    let mut all = copies(alloc, names, variables, actuals)?;
+    append_locals(&mut all, &names[actuals.len()..], locals)?;
     Ok(all)
 }
 

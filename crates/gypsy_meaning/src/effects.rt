@@ -1,12 +1,13 @@
 //! What predefined calls do.
 
-ghost use Rattle.std.specs.Prelude.{◌≡◌, ℕ, ◌∷◌, [], IfOk, map, pos};
+ghost use Rattle.std.specs.Prelude.{◌≡◌, ℕ, ◌<◌, ◌∷◌, [], IfOk, IsTrue, MatchOption, length, map, pos, slice_set};
+ghost use Rattle.stack_text.specs.Values.{is_item};
 ghost use Rattle.gypsy_syntax.specs.Programs.{simple};
 ghost use Rattle.gypsy_syntax.specs.Effects as effect;
-ghost use Rattle.gypsy_syntax.specs.Effects.{item_of_value, is_true_value, value_at, number_effect, truth_value, indexed, stored, predef_effect};
+ghost use Rattle.gypsy_syntax.specs.Effects.{item_of_value, is_true_value, value_at, number_effect, truth_value, indexed, stored, predef_effect, no_value};
 ghost use Rattle.gypsy_space.specs.Nodes.{seen_arg};
 ghost use Rattle.gypsy_meaning.specs.Calls.{values_of};
-ghost use Rattle.gypsy_meaning.specs.Applying.{effect_of, argument_at, applied_effect};
+ghost use Rattle.gypsy_meaning.specs.Applying.{Suits, effect_of, argument_at, applied_effect};
 
 use crate::turn::item_of;
 use gypsy_space::Argument;
@@ -52,12 +53,13 @@ fn truth_at(variables: &[(Name, Value)], args: &[Argument], index: usize) -> boo
 
 /// A value of a simple kind with this item, which is of the kind.
 fn simple_value(alloc: Global, kind: Kind, item: i32) -> Result<Value, AllocError>
+    requires { IsTrue (is_item kind item) }
     ensures { IfOk result (λ v. v ≡ record { shape = simple kind; items = item ∷ [] }) }
 {
     let items = vec![in alloc; item]?;
     match Value::new(Shape { kind, length: 0 }, items) {
         Some(value) => Ok(value),
-        None => Err(AllocError),
+        None => unreachable!(),
     }
 }
 
@@ -105,8 +107,11 @@ fn number(alloc: Global, number: i64) -> Result<Effected, AllocError>
 fn truth(alloc: Global, truth: bool) -> Result<Effected, AllocError>
     ensures { IfOk result (λ e. effect_of e ≡ effect.Normal (truth_value truth)) }
 {
-    let item = if truth { 1 } else { 0 };
-    Ok(Effected::Normal(simple_value(alloc, Kind::Boolean, item)?))
+    if truth {
+        Ok(Effected::Normal(simple_value(alloc, Kind::Boolean, 1)?))
+    } else {
+        Ok(Effected::Normal(simple_value(alloc, Kind::Boolean, 0)?))
+    }
 }
 
 /// The item at an index.
@@ -122,8 +127,31 @@ fn indexed(alloc: Global, array: &Value, index: i32) -> Result<Effected, AllocEr
     }
 }
 
+/// Writes an item.
+fn set_item(items: &mut Vec<i32>, place: usize, item: i32)
+    requires { place < length items.old.items }
+    ensures { items.new.items ≡ slice_set items.old.items place item }
+{
+    items[place] = item;
+}
+
+/// A copy of an array with another item at a place.
+fn with_item(alloc: Global, array: &Value, place: usize, item: i32) -> Result<Value, AllocError>
+    requires place { place < length array.now.items }
+    requires item { IsTrue (is_item array.now.shape.kind item) }
+    ensures { IfOk result (λ v. v ≡ record { shape = array.now.shape; items = slice_set array.now.items place item }) }
+{
+    let mut items = Vec::from_slice(alloc, array.items.as_slice())?;
+    set_item(&mut items, place, item);
+    match Value::new(array.shape, items) {
+        Some(value) => Ok(value),
+        None => unreachable!(),
+    }
+}
+
 /// The array with another item at an index.
 fn stored(alloc: Global, array: &Value, index: i32, item: i32) -> Result<Effected, AllocError>
+    requires { IsTrue (is_item array.now.shape.kind item) }
     ensures { IfOk result (λ e. effect_of e ≡ stored array.now index item) }
 {
     if index < 0 {
@@ -133,22 +161,68 @@ fn stored(alloc: Global, array: &Value, index: i32, item: i32) -> Result<Effecte
     if place >= array.items.len() {
         return Ok(Effected::Beyond);
     }
-    let mut items = Vec::from_slice(alloc, array.items.as_slice())?;
-    items[place] = item;
-    match Value::new(array.shape, items) {
-        Some(value) => Ok(Effected::Normal(value)),
-        None => Err(AllocError),
+    Ok(Effected::Normal(with_item(alloc, array, place, item)?))
+}
+
+/// The value of an argument, where there is one.
+fn lent<'a>(variables: &'a [(Name, Value)], args: &'a [Argument], index: usize) -> Option<&'a Value>
+    ensures { let value = argument_at (map (λ v. v.1) variables.now) args.now index in
+        MatchOption result (value ≡ no_value) (λ v. v.now ≡ value) }
+{
+    match args.get(index) {
+        Some(Argument::Variable(variable)) => match variables.get(*variable as usize) {
+            Some((_, value)) => Some(value),
+            None => None,
+        },
+        Some(Argument::Constant(value)) => Some(value),
+        None => None,
+    }
+}
+
+/// The item of an array argument.
+fn index_array(
+    alloc: Global,
+    variables: &[(Name, Value)],
+    args: &[Argument],
+) -> Result<Effected, AllocError>
+    ensures { let value = argument_at (map (λ v. v.1) variables.now) args.now in
+        IfOk result (λ e. effect_of e ≡ indexed (value 1) (item_of_value (value 2))) }
+{
+    let index = item_at(variables, args, 2);
+    match lent(variables, args, 1) {
+        Some(array) => indexed(alloc, array, index),
+        None => indexed(alloc, &simple_value(alloc, Kind::Integer, 0)?, index),
+    }
+}
+
+/// An array argument with another item.
+fn store_in_array(
+    alloc: Global,
+    variables: &[(Name, Value)],
+    args: &[Argument],
+) -> Result<Effected, AllocError>
+    requires { let value = argument_at (map (λ v. v.1) variables.now) args.now in
+        IsTrue (is_item (value 0).shape.kind (item_of_value (value 2))) }
+    ensures { let value = argument_at (map (λ v. v.1) variables.now) args.now in
+        IfOk result (λ e. effect_of e ≡ stored (value 0) (item_of_value (value 1)) (item_of_value (value 2))) }
+{
+    let index = item_at(variables, args, 1);
+    let item = item_at(variables, args, 2);
+    match lent(variables, args, 0) {
+        Some(array) => stored(alloc, array, index, item),
+        None => stored(alloc, &simple_value(alloc, Kind::Integer, 0)?, index, item),
     }
 }
 
 /// What a predefined call does.
-#[tactic(auto, unfolding(crate::specs::Applying::applied_effect, crate::specs::Applying::effect_by))]
+#[tactic(auto, unfolding(crate::specs::Applying::applied_effect, crate::specs::Applying::effect_by, crate::specs::Applying::Suits))]
 pub fn apply(
     alloc: Global,
     which: Predef,
     variables: &[(Name, Value)],
     args: &[Argument],
 ) -> Result<Effected, AllocError>
+    requires { Suits which (map (λ v. v.1) variables.now) args.now }
     ensures { IfOk result (λ e. effect_of e ≡ applied_effect which (map (λ v. v.1) variables.now) args.now) }
 {
     match which {
@@ -181,18 +255,7 @@ pub fn apply(
             truth_at(variables, args, 1) & truth_at(variables, args, 2),
         ),
         Predef::MgBooleanNot => truth(alloc, !truth_at(variables, args, 1)),
-        Predef::MgIndexArray => {
-            let array = argument(alloc, variables, args, 1)?;
-            indexed(alloc, &array, item_at(variables, args, 2))
-        }
-        Predef::MgArrayElementAssignment => {
-            let array = argument(alloc, variables, args, 0)?;
-            stored(
-                alloc,
-                &array,
-                item_at(variables, args, 1),
-                item_at(variables, args, 2),
-            )
-        }
+        Predef::MgIndexArray => index_array(alloc, variables, args),
+        Predef::MgArrayElementAssignment => store_in_array(alloc, variables, args),
     }
 }

@@ -5,7 +5,12 @@ ghost use Rattle.stack_text.specs.Values.{ValueOf};
 ghost use Rattle.gypsy_syntax.specs.Programs.{Program, proc_at};
 ghost use Rattle.gypsy_syntax.specs.ProgramFits.{ProgramFits};
 ghost use Rattle.gypsy_space.specs.Needs.{Words, main_need};
+ghost use Rattle.gypsy_syntax.specs.Sources.{SourceOf};
+ghost use Rattle.gypsy_space.specs.declared.need.Need.{Need};
 ghost use Rattle.gypsy_meaning.specs.Agree.{Agree};
+ghost use Rattle.gypsy_meaning.specs.Belongs.{BelongsTo, IsRunOf};
+ghost use Rattle.gypsy_meaning.specs.Seen.{IsOfRun, Seen, left_of, run_of};
+ghost use Rattle.gypsy_meaning.specs.declared.running.Meaning.{Meaning};
 ghost use Rattle.gypsy_meaning.specs.Counted.{counted_meaning, uncounted};
 ghost use Rattle.gypsy_meaning.specs.Machine.{State, start, gypsy_step};
 ghost use Rattle.gypsy_meaning.specs.Meaning.{meaning};
@@ -41,4 +46,12 @@ pub fn steps_keep_room()
         (main_need q).temp ≤ sizes.temp → (main_need q).ctrl ≤ sizes.ctrl → StateRoom q sizes (start q v) }
     ensures step { (q : Program) (sizes : Words) (g : State) → StateRoom q sizes g →
         MoveRoom q sizes (gypsy_step q sizes g) }
+{}
+
+/// No step and no run changes the program, the sizes or the values with which a run was started; and what belongs to a
+/// source is a run of its program, which fits it.
+pub fn runs_keep_their_source()
+    ensures step { (v : Seen) → IsOfRun v (left_of v) }
+    ensures run { (limit : ℕ) (v : Seen) → IsOfRun v (run_of limit v).seen }
+    ensures belongs { (s : SourceOf) (needs : List Need) (m : Meaning) → BelongsTo s needs m → IsRunOf s m }
 {}

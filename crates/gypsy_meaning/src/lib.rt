@@ -3,18 +3,34 @@
 //! `specs/` has the meaning (`Meaning`), the same with its costs (`Counted`), the machine (`Machine`) and what joins them.
 #![tactic(auto)]
 
-pub mod applying;
-pub mod calling;
+mod answers;
+mod applying;
+mod calling;
 mod cond;
-pub mod copying;
-pub mod effects;
+mod conditions;
+mod copying;
+mod effects;
+mod finishing;
+mod fitting;
 mod laws;
-pub mod returning;
-pub mod running;
-pub mod turn;
-pub mod work;
-pub mod writing;
+mod moving;
+mod names;
+mod returning;
+mod running;
+mod showing;
+mod starting;
+mod stepping;
+mod turn;
+mod work;
+mod writing;
 
+pub use answers::{MeanRun, Moved};
+pub use cond::{is_among, is_leave};
+pub use conditions::Current;
+pub use fitting::{control_need, temporary_need};
 pub use laws::{
-    counting_changes_nothing, meanings_agree, start_fits, steps_keep_fit, steps_keep_room,
+    counting_changes_nothing, meanings_agree, runs_keep_their_source, start_fits, steps_keep_fit,
+    steps_keep_room,
 };
+pub use returning::is_formal;
+pub use running::Meaning;

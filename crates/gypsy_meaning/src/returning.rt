@@ -1,15 +1,14 @@
 //! What a step does at the end of a procedure for which another waits.
 
 ghost use Rattle.std.specs.Prelude.{◌≡◌, ℕ, [], get_or, map, IfErr, IfOk, IfSome, IfNone, MatchBool};
-ghost use Rattle.gypsy_syntax.specs.Programs as programs;
 ghost use Rattle.gypsy_space.specs.Events.{AreSmall};
-ghost use Rattle.gypsy_space.specs.Needs.{Words};
 ghost use Rattle.gypsy_syntax.specs.Programs.{Routine};
 ghost use Rattle.gypsy_space.specs.Nodes.{seen_cond, seen_program};
 ghost use Rattle.gypsy_meaning.specs.Calls.{is_formal, matching};
 ghost use Rattle.gypsy_meaning.specs.Machine.{settle};
-ghost use Rattle.gypsy_meaning.specs.Returning.{HasResumed, IsLast, Leaves, RaisesTo, out_price, paid};
-ghost use Rattle.gypsy_meaning.specs.Running.{Goes};
+ghost use Rattle.gypsy_meaning.specs.Returning.{HasResumed, IsLast, Leaves, RaisesTo, out_price};
+ghost use Rattle.gypsy_meaning.specs.Held.{Moves};
+ghost use Rattle.gypsy_meaning.specs.Running.{paid};
 ghost use Rattle.gypsy_meaning.specs.Work.{work_of};
 
 use crate::copying::copy_out;
@@ -34,7 +33,7 @@ fn waiting_work(alloc: Global, waiting: &[Frame]) -> Result<Option<Rc<Work>>, Al
 
 /// Whether a condition is one of a procedure's formal ones.
 #[tactic(auto, unfolding(crate::specs::Calls::is_formal))]
-fn is_formal(program: &Program, procedure: u32, cond: Condition) -> bool
+pub fn is_formal(program: &Program, procedure: u32, cond: Condition) -> bool
     ensures { result ≡ is_formal (seen_program program.now) procedure (seen_cond cond) }
 {
     match (cond, program.procedures.get(procedure as usize)) {
@@ -142,6 +141,7 @@ impl Meaning {
         ensures { self.new ≡ paid cost self.old }
     {
         self.counted = self.counted.saturating_add(cost);
+        self.cost = cost;
         self.steps = self.steps.saturating_add(1);
     }
 
@@ -150,7 +150,7 @@ impl Meaning {
         requires small { AreSmall needs.now.procedures.items }
         requires turn { work_of self.old.work.value ≡ [] }
         ensures done { IfOk result (λ b. MatchBool b
-            ((q : programs.Program) (sizes : Words) → Goes q sizes self.old self.new)
+            (Moves self.old self.new)
             ((self.new ≡ self.old) × (self.old.waiting.items ≡ []))) }
         ensures unchanged { IfErr result (λ e. self.new ≡ self.old) }
     {
@@ -174,7 +174,7 @@ impl Meaning {
         requires small { AreSmall needs.now.procedures.items }
         requires turn { Leaves (seen_cond cond) (work_of self.old.work.value) }
         ensures done { IfOk result (λ b. MatchBool b
-            ((sizes : Words) → Goes (seen_program self.old.program) sizes self.old self.new)
+            (Moves self.old self.new)
             ((self.new ≡ self.old) × (self.old.waiting.items ≡ []))) }
         ensures unchanged { IfErr result (λ e. self.new ≡ self.old) }
     {

@@ -1,20 +1,21 @@
 //! The state of the step machine.
 
-ghost use Rattle.std.specs.Prelude.{◌≡◌, ℕ, ◌∷◌, map, IfOk, IfErr};
-ghost use Rattle.gypsy_space.specs.Events.{AreSmall, AreNeeds, event_count};
-ghost use Rattle.gypsy_syntax.specs.Programs as programs;
-ghost use Rattle.gypsy_space.specs.Needs.{Words};
-ghost use Rattle.gypsy_space.specs.Nodes.{seen_program};
-ghost use Rattle.gypsy_meaning.specs.Running.{price, advanced, Goes, IsWithin};
+ghost use Rattle.std.specs.Prelude.{◌≡◌, ◌∷◌, map, IfOk, IfErr};
+ghost use Rattle.gypsy_space.specs.Events.{AreSmall};
+ghost use Rattle.gypsy_meaning.specs.Held.{Moves};
+ghost use Rattle.gypsy_meaning.specs.Running.{price, advanced};
 ghost use Rattle.gypsy_meaning.specs.Turns.{GoesOn, OpensTo};
+ghost use Rattle.gypsy_meaning.specs.Within.{IsWithin, WorkSuits};
 ghost use Rattle.gypsy_meaning.specs.Work.{work_of};
 ghost use Rattle.gypsy_meaning.specs.Applied.{WritesOn, call_item};
+ghost use Rattle.gypsy_meaning.specs.Applying.{Suits};
 
 use crate::applying::{Applied, application};
+use crate::names::{Names, Unnamed};
 use crate::turn::{Advance, Turn, next_turn};
 use crate::work::Work;
 use crate::writing::write;
-use gypsy_space::{Application, CallSite, CostEvent, Needs, Program};
+use gypsy_space::{Application, CallSite, Condition, CostEvent, Needs, Program};
 use stack_text::{Name, Value};
 use std::alloc::{AllocError, Global};
 use std::rc::Rc;
@@ -31,21 +32,56 @@ pub struct Frame {
     pub used_ctrl: u64,
 }
 
-/// A run of a source, from step to step.
+/// How a run ended.
+#[derive(Clone, Copy, Debug)]
+pub enum Ending {
+    Normal,
+    /// With a formal condition of main, or routineerror.
+    Raised(Condition),
+}
+
+/// What leaves the active procedure: a call, its normal end, or a condition.
+#[derive(Drop)]
+pub enum Crossing {
+    /// With the work behind it.
+    Calls(Rc<CallSite>, Rc<Work>),
+    Ends,
+    Leaves(Condition),
+}
+
+/// A run of an accepted source by its meaning, step by step.
+///
+/// Contracts see it through `seen`: the program, the sizes of the two stacks and the values from which it started, the
+/// state or the end, and the counts of steps and of instructions, which stay at their last value, 2^64 - 1. The source
+/// and the needs that a call is handed are those with which the run was started, as `BelongsTo` says: `start` gives it,
+/// and each call keeps it.
+///
+/// A step's time doesn't grow with the work or with the activations that wait, and nothing calls itself by the nesting
+/// of calls. A list of work is no longer than twice the depth at which its procedure's statements nest, so it is dropped
+/// in as few nested calls; activations stand in a vector.
 #[derive(Drop)]
 pub struct Meaning {
-    pub program: Program,
-    pub temp: u32,
-    pub ctrl: u32,
-    pub procedure: u32,
-    pub variables: Vec<(Name, Value)>,
-    pub work: Rc<Work>,
-    pub waiting: Vec<Frame>,
-    pub used_temp: u64,
-    pub used_ctrl: u64,
-    pub steps: u64,
-    pub counted: u64,
-    pub ended: bool,
+    pub(crate) program: Program,
+    pub(crate) names: Vec<Names>,
+    pub(crate) unnamed: Unnamed,
+    /// The values from which it started.
+    pub(crate) values: Vec<Value>,
+    pub(crate) temp: u32,
+    pub(crate) ctrl: u32,
+    /// The active procedure, its variables and its work.
+    pub(crate) procedure: u32,
+    pub(crate) variables: Vec<(Name, Value)>,
+    pub(crate) work: Rc<Work>,
+    /// The words in use of both stacks.
+    pub(crate) used_temp: u64,
+    pub(crate) used_ctrl: u64,
+    /// The activations that wait, the last one for the active one.
+    pub(crate) waiting: Vec<Frame>,
+    pub(crate) steps: u64,
+    pub(crate) counted: u64,
+    /// What the last step cost.
+    pub(crate) cost: u64,
+    pub(crate) ending: Option<Ending>,
 }
 
 /// What an event costs, and a condition's stop where there was one.
@@ -64,10 +100,7 @@ impl Meaning {
         requires { AreSmall needs.now.procedures.items }
         ensures { self.new ≡ advanced needs.now.procedures.items advance self.old }
     {
-        self.counted = self
-            .counted
-            .saturating_add(price(needs, advance.event, advance.caught));
-        self.steps = self.steps.saturating_add(1);
+        self.pay(price(needs, advance.event, advance.caught));
         self.work = advance.work;
     }
 
@@ -75,7 +108,7 @@ impl Meaning {
     pub fn go(&mut self, needs: &Needs, advance: Advance)
         requires small { AreSmall needs.now.procedures.items }
         requires turn { GoesOn (map (λ v. v.1) self.old.variables.items) (work_of self.old.work.value) advance }
-        ensures { (q : programs.Program) (sizes : Words) → Goes q sizes self.old self.new }
+        ensures { Moves self.old self.new }
     {
         self.advance(needs, advance);
     }
@@ -85,7 +118,7 @@ impl Meaning {
         requires small { AreSmall needs.now.procedures.items }
         requires turn { WritesOn (map (λ v. v.1) self.old.variables.items) (work_of self.old.work.value)
             variable value advance }
-        ensures { (q : programs.Program) (sizes : Words) → Goes q sizes self.old self.new }
+        ensures { Moves self.old self.new }
     {
         write(&mut self.variables, variable, value);
         self.advance(needs, advance);
@@ -101,7 +134,8 @@ impl Meaning {
     ) -> Result<(), AllocError>
         requires small { AreSmall needs.now.procedures.items }
         requires turn { work_of self.old.work.value ≡ call_item call.now ∷ work_of below.now.value }
-        ensures done { IfOk result (λ u. (q : programs.Program) (sizes : Words) → Goes q sizes self.old self.new) }
+        requires suits { Suits call.now.which (map (λ v. v.1) self.old.variables.items) call.now.args.items }
+        ensures done { IfOk result (λ u. Moves self.old self.new) }
         ensures unchanged { IfErr result (λ e. self.new ≡ self.old) }
     {
         match application(alloc, self.variables.as_slice(), call, below)? {
@@ -113,9 +147,14 @@ impl Meaning {
         Ok(())
     }
 
-    /// Makes a step, or tells what it is to be where it is a call, an end or a condition that leaves a procedure.
-    pub fn step_within(&mut self, alloc: Global, needs: &Needs) -> Result<Option<Turn>, AllocError>
+    /// Makes a step within the active procedure, or tells what leaves it.
+    pub fn step_within(
+        &mut self,
+        alloc: Global,
+        needs: &Needs,
+    ) -> Result<Option<Crossing>, AllocError>
         requires small { AreSmall needs.now.procedures.items }
+        requires suits { WorkSuits (map (λ v. v.1) self.old.variables.items) (work_of self.old.work.value) }
         ensures done { IfOk result (IsWithin self.old self.new) }
         ensures unchanged { IfErr result (λ e. self.new ≡ self.old) }
     {
@@ -132,9 +171,9 @@ impl Meaning {
                 self.apply(alloc, needs, &call, &below)?;
                 Ok(None)
             }
-            Turn::Calls(site, below) => Ok(Some(Turn::Calls(site, below))),
-            Turn::Ends => Ok(Some(Turn::Ends)),
-            Turn::Leaves(cond, below) => Ok(Some(Turn::Leaves(cond, below))),
+            Turn::Calls(site, below) => Ok(Some(Crossing::Calls(site, below))),
+            Turn::Ends => Ok(Some(Crossing::Ends)),
+            Turn::Leaves(cond, _) => Ok(Some(Crossing::Leaves(cond))),
         }
     }
 
@@ -142,9 +181,9 @@ impl Meaning {
     fn open(&mut self, work: Rc<Work>)
         requires { OpensTo (map (λ v. v.1) self.old.variables.items)
             (work_of self.old.work.value) (work_of work.value) }
-        ensures { (q : programs.Program) (sizes : Words) → Goes q sizes self.old self.new }
+        ensures { Moves self.old self.new }
     {
         self.work = work;
-        self.steps = self.steps.saturating_add(1);
+        self.pay(0);
     }
 }

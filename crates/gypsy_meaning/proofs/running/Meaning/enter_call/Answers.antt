@@ -9,9 +9,11 @@ use Rattle.gypsy_space.specs.Events.{has_room_by, need_at}
 use Rattle.gypsy_space.specs.declared.program.CallSite.{CallSite}
 use Rattle.gypsy_meaning.specs.Calls.{copied_in}
 use Rattle.gypsy_meaning.specs.Machine.{open_on}
-use Rattle.gypsy_meaning.specs.Returning.{paid}
+use Rattle.gypsy_meaning.specs.Named.{variables_of}
+use Rattle.gypsy_meaning.specs.Running.{paid}
 use Rattle.gypsy_meaning.specs.Running.{sizes_of}
 use Rattle.gypsy_meaning.specs.Work.{work_of}
+use Rattle.gypsy_meaning.specs.declared.names.Names.{Names}
 use Rattle.gypsy_meaning.proofs.CallingLaws.{after_call, enters, is_full}
 use Rattle.gypsy_meaning.proofs.running.Meaning.enter_call.Goals as goal
 
@@ -24,7 +26,7 @@ returns-then-not-room-clause-done c =
     let callee : c.deref.result.now.callee ≡ site.callee = ap (λ (s : CallSite). s.callee) c.deref.ensures in
     let room : has_room_by (need_at ns site.callee) (sizes_of m) (stack_words m.used_temp m.used_ctrl) ≡ false =
     sym (c.room.ensures ∙ ap (λ (k : ℕ). has_room_by (need_at ns k) (sizes_of m) (stack_words m.used_temp m.used_ctrl)) callee) ∙ c.if-not-room.true in
-    (refl, is_full m ns site (work_of c.args.below.value) c.requires.needs there c.requires.turn c.requires.used room)
+    (refl, is_full m ns site (work_of c.args.below.value) c.requires.needs there c.requires.turn c.requires.held.top.used_words room)
 
 pub returns-clause-done : goal.returns-clause-done
 returns-clause-done c =
@@ -41,12 +43,16 @@ returns-clause-done c =
     let w = c.in_ok-variables.field-0.work in
     let values : map (λ v. v.1) vars.items ≡ copied_in q site.callee site.actuals.items (map (λ v. v.1) m.variables.items) =
     c.in_ok-variables.ensures.variables
-    ∙ ap (λ (s : CallSite). copied_in q s.callee s.actuals.items (map (λ v. v.1) c.as_slice.result.now)) c.deref-2.ensures
-    ∙ ap (λ (xs : List (Name × Value)). copied_in q site.callee site.actuals.items (map (λ v. v.1) xs)) c.as_slice.ensures.value in
+    ∙ ap (λ (s : CallSite). copied_in q s.callee s.actuals.items (map (λ v. v.1) c.as_slice-2.result.now)) c.deref-2.ensures
+    ∙ ap (λ (xs : List (Name × Value)). copied_in q site.callee site.actuals.items (map (λ v. v.1) xs)) c.as_slice-2.ensures.value in
+    let named : map (λ v. v.0) vars.items ≡ variables_of m.names.items site.callee =
+    c.in_ok-variables.ensures.names
+    ∙ ap (λ (s : CallSite). variables_of c.as_slice.result.now s.callee) c.deref-2.ensures
+    ∙ ap (λ (t : List Names). variables_of t site.callee) c.as_slice.ensures.value in
     let body : work_of w.value ≡ open_on (body_of q site.callee) [] =
     c.in_ok-variables.ensures.work ∙ ap (λ (s : CallSite). open_on (body_of q s.callee) []) c.deref-2.ensures in
     let waits = c.in_ok-wait.ensures.done in
     let final : c.pay.new.self ≡ after_call ns site.callee w a =
     c.pay.ensures ∙ ap₂ paid c.cost.ensures.count c.use_words.ensures
     ∙ ap (λ (k : ℕ). after_call ns k w a) callee in
-    enters m a ns c.args.site c.args.below w vars c.requires.needs there c.requires.turn c.requires.used room values body waits c.pay.new.self final (omega arith) (omega arith)
+    enters m a ns c.args.site c.args.below w vars c.requires.needs there c.requires.turn c.requires.held room values named body waits c.pay.new.self final (omega arith) (omega arith)

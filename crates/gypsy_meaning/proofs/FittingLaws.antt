@@ -1,0 +1,123 @@
+-- Whether values and sizes suit the start of a run.
+use Rattle.std.proofs.Common.{◌≡◌, ℕ, ◌+◌, ◌≤◌, List, [], ◌∷◌, ◌++◌, ◌==◌, ◌&&◌, map, length, nat_le, true, refl, sym, ap, ap₂, subst, ◌∙◌, arith, eqb-true, eq-eqb, le-leb}
+use Rattle.std.specs.List.{list_all}
+use Rattle.std.proofs.lemmas.Bool.{and_parts, and_from, leb-true}
+use Rattle.stack_text.specs.declared.shape.Kind.{Kind}
+use Rattle.stack_text.specs.declared.shape.Kind.TheVariants.{Integer, Boolean, Character}
+use Rattle.stack_text.specs.declared.shape.Shape.{Shape}
+use Rattle.stack_text.specs.Values.{ValueOf, item_count}
+use Rattle.gypsy_syntax.specs.ProgramFits.{ProgramFits, ValueFits, is_in_range}
+use Rattle.gypsy_syntax.specs.Programs.{Program, proc_at, words_of}
+use Rattle.gypsy_space.specs.Events.{AreNeeds, need_at, need_of}
+use Rattle.gypsy_space.specs.Needs.{Words, main_need, main_used}
+use Rattle.gypsy_space.specs.declared.need.Need.{Need}
+use Rattle.gypsy_meaning.specs.Fitting.{CanStart, are_as_many, are_values, can_start, is_value_of, same_kind, same_shape, suffice}
+use Rattle.gypsy_meaning.specs.Kept.{VarsFit}
+
+kinds_same : (a b : Kind) → same_kind a b ≡ true → a ≡ b
+kinds_same Integer Integer e = refl
+kinds_same Integer Boolean e = absurd cc
+kinds_same Integer Character e = absurd cc
+kinds_same Boolean Integer e = absurd cc
+kinds_same Boolean Boolean e = refl
+kinds_same Boolean Character e = absurd cc
+kinds_same Character Integer e = absurd cc
+kinds_same Character Boolean e = absurd cc
+kinds_same Character Character e = refl
+
+kind_itself : (a : Kind) → same_kind a a ≡ true
+kind_itself Integer = refl
+kind_itself Boolean = refl
+kind_itself Character = refl
+
+shapes_same : (a b : Shape) → same_shape a b ≡ true → a ≡ b
+shapes_same a b e =
+    let p = and_parts (same_kind a.kind b.kind) (a.length == b.length) e in
+    let k = kinds_same a.kind b.kind p.0 in
+    let n = eqb-true a.length b.length p.1 in
+    λ i. record { kind = k i; length = n i }
+
+shape_itself : (a : Shape) → same_shape a a ≡ true
+shape_itself a = and_from (same_kind a.kind a.kind) (a.length == a.length) (kind_itself a.kind) (eq-eqb a.length a.length refl)
+
+value_is : (s : Shape) (v : ValueOf) → is_value_of s v ≡ true → (v.shape ≡ s) × ValueFits v
+unfolding is_value_of
+value_is s v e =
+    let a = and_parts (same_shape v.shape s && are_as_many s v.items) (list_all (is_in_range s.kind) v.items) e in
+    let b = and_parts (same_shape v.shape s) (are_as_many s v.items) a.0 in
+    let d = and_parts (nat_le s.length 4096) (length v.items == item_count s) b.1 in
+    let same : v.shape ≡ s = shapes_same v.shape s b.0 in
+    let P : Shape → Type 0 = λ t. ValueFits record { shape = t; items = v.items } in
+    let fits : P s = record { few = leb-true s.length 4096 d.0; number = eqb-true (length v.items) (item_count s) d.1; items = a.1 } in
+    (same, subst P (sym same) fits)
+
+value_of_shape : (s : Shape) (v : ValueOf) → v.shape ≡ s → ValueFits v → is_value_of s v ≡ true
+unfolding is_value_of
+value_of_shape s v same fits =
+    let P : Shape → Type 0 = λ t. is_value_of t v ≡ true in
+    subst P same
+    (and_from (same_shape v.shape v.shape && are_as_many v.shape v.items) (list_all (is_in_range v.shape.kind) v.items)
+    (and_from (same_shape v.shape v.shape) (are_as_many v.shape v.items) (shape_itself v.shape)
+    (and_from (nat_le v.shape.length 4096) (length v.items == item_count v.shape) (le-leb v.shape.length 4096 fits.few) (eq-eqb (length v.items) (item_count v.shape) fits.number)))
+    fits.items)
+
+pub values_are : (shapes : List Shape) (x : List ValueOf) → are_values shapes x ≡ true → VarsFit shapes x
+values_are [] [] e = tt
+values_are [] (v ∷ x) e = absurd cc
+values_are (s ∷ shapes) [] e = absurd cc
+values_are (s ∷ shapes) (v ∷ x) e =
+    let p = and_parts (is_value_of s v) (are_values shapes x) e in
+    let h = value_is s v p.0 in
+    (h.0, h.1, values_are shapes x p.1)
+
+pub are_those : (shapes : List Shape) (x : List ValueOf) → VarsFit shapes x → are_values shapes x ≡ true
+are_those [] [] h = refl
+are_those [] (v ∷ x) h = absurd h
+are_those (s ∷ shapes) [] h = absurd h
+are_those (s ∷ shapes) (v ∷ x) h = and_from (is_value_of s v) (are_values shapes x) (value_of_shape s v h.0 h.1) (are_those shapes x h.2)
+
+-- Main's own need.
+
+pub words-append : (a b : List Shape) → words_of (a ++ b) ≡ words_of a + words_of b
+words-append [] b = omega arith
+words-append (s ∷ a) b = let e : words_of (a ++ b) ≡ words_of a + words_of b = words-append a b in omega (arith, e)
+
+pub formals_small : (q : Program) → ProgramFits q → words_of (proc_at q q.main).formals ≤ 65536
+formals_small q fits =
+    let p = proc_at q q.main in
+    let locals = map (λ (v : ValueOf). v.shape) p.locals in
+    let all : words_of (p.formals ++ locals) ≤ 65536 = (fits.procs q.main).words in
+    let both : words_of (p.formals ++ locals) ≡ words_of p.formals + words_of locals = words-append p.formals locals in
+    omega (arith, all, both)
+
+pub temporary_is : (q : Program) (ns : List Need) (words : ℕ) → AreNeeds q ns → ProgramFits q → words ≡ words_of (proc_at q q.main).formals →
+    words + (need_at ns q.main).locals_words + (need_at ns q.main).temp ≡ (main_need q).temp
+unfolding main_need main_used
+temporary_is q ns words needs fits is =
+    let p = proc_at q q.main in
+    let locals = map (λ (v : ValueOf). v.shape) p.locals in
+    let exact : need_at ns q.main ≡ need_of q q.main = needs.each q.main fits.main in
+    let both : words_of (p.formals ++ locals) ≡ words_of p.formals + words_of locals = words-append p.formals locals in
+    ap₂ (λ (n : ℕ) (k : Need). n + k.locals_words + k.temp) is exact ∙ ap (λ (n : ℕ). n + (need_of q q.main).temp) (sym both)
+
+pub control_is : (q : Program) (ns : List Need) → AreNeeds q ns → ProgramFits q → 2 + (need_at ns q.main).vars + (need_at ns q.main).ctrl ≡ (main_need q).ctrl
+unfolding main_need main_used
+control_is q ns needs fits =
+    let exact : need_at ns q.main ≡ need_of q q.main = needs.each q.main fits.main in
+    ap (λ (k : Need). 2 + k.vars + k.ctrl) exact
+
+pub is_start : (q : Program) (x : List ValueOf) (sizes : Words) → can_start q x sizes ≡ true → CanStart q x sizes
+is_start q x sizes e =
+    let need = main_need q in
+    let p = and_parts (are_values (proc_at q q.main).formals x) (suffice need sizes) e in
+    let r = and_parts (nat_le need.temp sizes.temp) (nat_le need.ctrl sizes.ctrl) p.1 in
+    record {
+      values_fit = values_are (proc_at q q.main).formals x p.0;
+      sizes_suffice = record { temp = leb-true need.temp sizes.temp r.0; ctrl = leb-true need.ctrl sizes.ctrl r.1 };
+    }
+
+pub start_is : (q : Program) (x : List ValueOf) (sizes : Words) → CanStart q x sizes → can_start q x sizes ≡ true
+start_is q x sizes h =
+    let need = main_need q in
+    and_from (are_values (proc_at q q.main).formals x) (suffice need sizes) (are_those (proc_at q q.main).formals x h.values_fit)
+    (and_from (nat_le need.temp sizes.temp) (nat_le need.ctrl sizes.ctrl) (le-leb need.temp sizes.temp h.sizes_suffice.temp) (le-leb need.ctrl sizes.ctrl h.sizes_suffice.ctrl))

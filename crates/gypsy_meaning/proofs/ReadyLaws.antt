@@ -1,0 +1,74 @@
+-- What a step of a state that fits has.
+use Rattle.std.proofs.Common.{◌≡◌, ℕ, ◌+◌, List, [], ◌∷◌, length, map, true, refl, ap₂, ◌∙◌, subst, arith}
+use Rattle.stack_text.specs.declared.shape.Kind.{Kind}
+use Rattle.stack_text.specs.declared.shape.Shape.{Shape}
+use Rattle.stack_text.specs.Values.{ValueOf, is_item}
+use Rattle.gypsy_syntax.specs.declared.predef.Predef.{Predef}
+use Rattle.gypsy_syntax.specs.declared.predef.Predef.TheVariants as row
+use Rattle.gypsy_syntax.specs.Effects.{item_of_value, value_at}
+use Rattle.gypsy_syntax.specs.Predefined.{slots_of}
+use Rattle.gypsy_syntax.specs.ProgramFits.{ActualsFit, ArgsFit}
+use Rattle.gypsy_syntax.specs.Programs.{proc_at, shapes_of}
+use Rattle.gypsy_space.specs.Nodes.{seen_arg, seen_program}
+use Rattle.gypsy_space.specs.declared.need.Need.{Need}
+use Rattle.gypsy_space.specs.declared.program.Argument.{Argument}
+use Rattle.gypsy_space.specs.declared.program.CallSite.{CallSite}
+use Rattle.gypsy_meaning.specs.Applying.{Suits}
+use Rattle.gypsy_meaning.specs.Calling.{call_top}
+use Rattle.gypsy_meaning.specs.Calls.{values_of}
+use Rattle.gypsy_meaning.specs.Kept.{VarsFit, WorkFits}
+use Rattle.gypsy_meaning.specs.Machine.{Item}
+use Rattle.gypsy_meaning.specs.Named.{variables_of}
+use Rattle.gypsy_meaning.specs.Stepping.{IsReady}
+use Rattle.gypsy_meaning.specs.Within.{WorkSuits}
+use Rattle.gypsy_meaning.specs.Work.{work_of}
+use Rattle.gypsy_meaning.specs.declared.running.Meaning.{Meaning}
+use Rattle.gypsy_meaning.proofs.ApplyLaws.{value_listed}
+use Rattle.gypsy_meaning.proofs.EffectLaws.{stored_item}
+use Rattle.gypsy_meaning.proofs.ValueLaws.{range_item}
+
+-- as many actuals as formals
+actuals_length : (shapes formals : List Shape) (xs : List ℕ) → ActualsFit shapes formals xs → length xs ≡ length formals
+actuals_length shapes [] [] f = refl
+actuals_length shapes [] (x ∷ xs) f = absurd f
+actuals_length shapes (s ∷ formals) [] f = absurd f
+actuals_length shapes (s ∷ formals) (x ∷ xs) f = let e : length xs ≡ length formals = actuals_length shapes formals xs f.1 in omega (arith, e)
+
+-- a call has the names of its callee's variables
+pub call_sized : (ns : List Need) (m : Meaning) (site : CallSite) (below : List Item) → IsReady ns m → work_of m.work.value ≡ call_top site ∷ below →
+    length (variables_of m.names.items site.callee) ≡ length site.actuals.items + length (proc_at (seen_program m.program) site.callee).locals
+call_sized ns m site below ready turn =
+    let q = seen_program m.program in
+    let P : List Item → Type 0 = WorkFits q (proc_at q m.procedure) in
+    let fits = subst P turn ready.state_fits.1 in
+    let sized : length (variables_of m.names.items site.callee) ≡ length (proc_at q site.callee).formals + length (proc_at q site.callee).locals = ready.sized site.callee in
+    let same : length site.actuals.items ≡ length (proc_at q site.callee).formals = actuals_length (shapes_of (proc_at q m.procedure)) (proc_at q site.callee).formals site.actuals.items fits.0.actuals in
+    omega (arith, sized, same)
+
+suits : (r : Predef) (shapes : List Shape) (k : Kind) (x : List ValueOf) (args : List Argument) → VarsFit shapes x → ArgsFit shapes k (slots_of r) (map seen_arg args) → Suits r x args
+unfolding Suits values_of
+suits row.MgSimpleVariableAssignment shapes k x args h f = tt
+suits row.MgSimpleConstantAssignment shapes k x args h f = tt
+suits row.MgSimpleVariableEq shapes k x args h f = tt
+suits row.MgSimpleConstantEq shapes k x args h f = tt
+suits row.MgIntegerLe shapes k x args h f = tt
+suits row.MgIntegerUnaryMinus shapes k x args h f = tt
+suits row.MgIntegerAdd shapes k x args h f = tt
+suits row.MgIntegerSubtract shapes k x args h f = tt
+suits row.MgBooleanOr shapes k x args h f = tt
+suits row.MgBooleanAnd shapes k x args h f = tt
+suits row.MgBooleanNot shapes k x args h f = tt
+suits row.MgIndexArray shapes k x args h f = tt
+suits row.MgArrayElementAssignment shapes k x args h f =
+    let vs = values_of x (map seen_arg args) in
+    let item : is_item (value_at vs 0).shape.kind (item_of_value (value_at vs 2)) ≡ true =
+    range_item (value_at vs 0).shape.kind (item_of_value (value_at vs 2)) (stored_item shapes x k (map seen_arg args) h f) in
+    ap₂ (λ (a b : ValueOf). is_item a.shape.kind (item_of_value b)) (value_listed x (map seen_arg args) 0) (value_listed x (map seen_arg args) 2) ∙ item
+
+-- the predefined call on top suits
+pub work_suits : (ns : List Need) (m : Meaning) → IsReady ns m → WorkSuits (map (λ v. v.1) m.variables.items) (work_of m.work.value)
+work_suits ns m ready call below turn =
+    let q = seen_program m.program in
+    let P : List Item → Type 0 = WorkFits q (proc_at q m.procedure) in
+    let fits = subst P turn ready.state_fits.1 in
+    suits call.which (shapes_of (proc_at q m.procedure)) fits.0.0 (map (λ v. v.1) m.variables.items) call.args.items ready.state_fits.0 fits.0.1

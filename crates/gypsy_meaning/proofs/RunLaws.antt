@@ -1,0 +1,71 @@
+-- Runs of several steps.
+use Rattle.std.proofs.Common.{◌≡◌, ℕ, zero, suc, ◌+◌, ◌-◌, ◌<◌, ◌≤◌, List, Bool, true, false, Result, Ok, Err, IfOk, refl, sym, ap, subst, ◌∙◌, arith}
+use Rattle.std.specs.Result.{IsErrAnd}
+use Rattle.stack_text.specs.Values.{ValueOf}
+use Rattle.gypsy_meaning.specs.Agreed.{EndAgrees, RunAgrees}
+use Rattle.gypsy_meaning.specs.Calls.{Way}
+use Rattle.gypsy_meaning.specs.Machine.{Ended, Full, Move, Next, State, gypsy_step, place_of}
+use Rattle.gypsy_meaning.specs.Seen.{Finished, IsEnd, Ran, Running, Seen, Stage, after_move, answer_by, answer_from, answer_of, end_by, is_over, left_from, left_of, ran_on, run_of}
+use Rattle.gypsy_meaning.specs.declared.answers.MeanRun.{MeanRun}
+use Rattle.gypsy_meaning.specs.declared.answers.MeanRun.TheVariants as ran
+use Rattle.gypsy_meaning.specs.declared.answers.Moved.{Moved}
+use Rattle.gypsy_meaning.proofs.ReachLaws.{IsAt, Reached, end_agrees, move_reached, no_room_agrees}
+
+abbrev pub over_answer : Bool → MeanRun
+over_answer true = ran.Ended
+over_answer false = ran.Spent
+
+-- what is left of a run, by the answer of a step
+next_by : (k : ℕ) (v : Seen) (a : Moved) → answer_of v ≡ a → run_of (suc k) v ≡ ran_on a (left_of v) (run_of k)
+unfolding run_of
+next_by k v a e = ap (λ b. ran_on b (left_of v) (run_of k)) e
+
+pub run_left : (limit made : ℕ) (v : Seen) (r : Ran) (a : Moved) → made < limit → run_of (limit - made) v ≡ r → answer_of v ≡ a → ran_on a (left_of v) (run_of (limit - (made + 1))) ≡ r
+run_left limit made v r a lt e is =
+    let one : limit - made ≡ suc (limit - (made + 1)) = omega (arith, lt) in
+    sym (next_by (limit - (made + 1)) v a is) ∙ sym (ap (λ n. run_of n v) one) ∙ e
+
+pub run_done : (limit made : ℕ) (v : Seen) (r : Ran) → limit ≤ made → run_of (limit - made) v ≡ r → r ≡ record { run = end_by v.stage; seen = v }
+unfolding run_of
+run_done limit made v r le e = let none : limit - made ≡ 0 = omega (arith, le) in sym e ∙ ap (λ n. run_of n v) none
+
+-- The answer of a run agrees with the meaning.
+
+module _ (k : ℕ) (rest : (w : Seen) → Reached w → RunAgrees (run_of k w).seen (run_of k w).run) where
+  move_agrees : (place : ℕ) (v : Seen) (g : State) (a : Move) → (r : Reached v) → v.stage ≡ Running g → IsAt v (Running g) r.made r.spent → gypsy_step v.program v.sizes g ≡ a →
+      let b = ran_on (answer_by place a) (after_move v a) (run_of k) in RunAgrees b.seen b.run
+  move_agrees place v g (Next h) r e at step = rest (after_move v (Next h)) (move_reached v g r.made r.spent (Next h) r r.steps r.counted at step)
+  move_agrees place v g (Ended x c u) r e at step =
+      end_agrees (after_move v (Ended x c u)) x c (move_reached v g r.made r.spent (Ended x c u) r r.steps r.counted at step) refl
+  move_agrees place v g Full r e at step = no_room_agrees v g r e step
+
+  from_agrees : (v : Seen) (s : Stage) → (r : Reached v) → v.stage ≡ s → let b = ran_on (answer_from v s) (left_from v s) (run_of k) in RunAgrees b.seen b.run
+  from_agrees v (Running g) r e =
+      let P : Stage → Type 0 = λ s. IsAt v s r.made r.spent in
+      move_agrees (place_of v.program g) v g (gypsy_step v.program v.sizes g) r e (subst P e r.at) refl
+  from_agrees v (Finished x c) r e = let P : Stage → Type 0 = EndAgrees v in subst P (sym e) (end_agrees v x c r e)
+
+here_agrees : (v : Seen) (s : Stage) → Reached v → v.stage ≡ s → RunAgrees v (end_by s)
+here_agrees v (Running g) r e = tt
+here_agrees v (Finished x c) r e = let P : Stage → Type 0 = EndAgrees v in subst P (sym e) (end_agrees v x c r e)
+
+pub run_agrees : (k : ℕ) (v : Seen) → Reached v → RunAgrees (run_of k v).seen (run_of k v).run
+unfolding run_of answer_of left_of
+run_agrees zero v r = here_agrees v v.stage r refl
+run_agrees (suc k) v r = from_agrees k (run_agrees k) v v.stage r refl
+
+-- with what a run gave
+pub answer_agrees : (k : ℕ) (v w : Seen) (run : MeanRun) → Reached v → run_of k v ≡ record { run = run; seen = w } → RunAgrees w run
+answer_agrees k v w run r e = let P : Ran → Type 0 = λ b. RunAgrees b.seen b.run in subst P e (run_agrees k v r)
+
+pub answer_ends : (k : ℕ) (v w : Seen) (run : MeanRun) (x : List ValueOf) (c : Way) → run_of k v ≡ record { run = run; seen = w } → IsEnd (run_of k v) x c → (run ≡ ran.Ended) × (w.stage ≡ Finished x c)
+answer_ends k v w run x c e h = let P : Ran → Type 0 = λ b. IsEnd b x c in let f = subst P e h in (f.run, f.stage)
+
+pub none_ok : {T E : Type 0} (r : Result T E) (Q : E → Type 0) (P : T → Type 0) → IsErrAnd r Q → IfOk r P
+none_ok (Ok x) Q P h = absurd h
+none_ok (Err e) Q P h = tt
+
+-- how a run ends whose steps are spent
+pub end_over : (s : Stage) (b : Bool) → is_over s ≡ b → end_by s ≡ over_answer b
+end_over (Running g) b e = ap over_answer e
+end_over (Finished x c) b e = ap over_answer e

@@ -1,0 +1,85 @@
+//! The step that ends a run.
+
+ghost use Rattle.std.specs.Prelude.{◌≡◌, [], length};
+ghost use Rattle.gypsy_syntax.specs.Programs.{proc_at};
+ghost use Rattle.gypsy_space.specs.Events.{AreSmall};
+ghost use Rattle.gypsy_space.specs.Nodes.{seen_cond, seen_program};
+ghost use Rattle.gypsy_meaning.specs.Calls.{is_formal, main_way};
+ghost use Rattle.gypsy_meaning.specs.Finishing.{IsFinished, end_price};
+ghost use Rattle.gypsy_meaning.specs.Held.{Finishes};
+ghost use Rattle.gypsy_meaning.specs.Returning.{Leaves};
+ghost use Rattle.gypsy_meaning.specs.Work.{work_of};
+
+use crate::returning::is_formal;
+use crate::running::{Ending, Meaning};
+use gypsy_space::{Condition, CostEvent, Needs, Program};
+
+/// How many formals main has.
+fn formal_count(program: &Program) -> usize
+    ensures { let q = seen_program program.now in result ≡ length (proc_at q q.main).formals }
+{
+    match program.procedures.get(program.main as usize) {
+        Some(main) => main.formals.len(),
+        None => 0,
+    }
+}
+
+/// With what main ends where this condition leaves it.
+#[tactic(auto, unfolding(crate::specs::Calls::main_way))]
+fn main_condition(program: &Program, cond: Condition) -> Condition
+    ensures { seen_cond result ≡ main_way (seen_program program.now) (seen_cond cond) }
+{
+    if is_formal(program, program.main, cond) {
+        cond
+    } else {
+        Condition::Routine
+    }
+}
+
+/// What a condition costs that leaves main: a formal one or not.
+#[tactic(auto, unfolding(gypsy_space::specs::Events::event_count))]
+fn end_price(needs: &Needs, formal: bool) -> u64
+    requires { AreSmall needs.now.procedures.items }
+    ensures { result ≡ end_price formal }
+{
+    if formal {
+        needs.cost(CostEvent::OutFormal)
+    } else {
+        needs.cost(CostEvent::OutOther)
+    }
+}
+
+impl Meaning {
+    /// Makes the step that ends the run in this way and at this cost. Of the variables main's formals are left.
+    #[tactic(auto, unfolding(crate::specs::Calls::main_formals))]
+    fn finish(&mut self, ending: Ending, cost: u64)
+        ensures { IsFinished ending cost self.old self.new }
+    {
+        let count = formal_count(&self.program);
+        self.variables.truncate(count);
+        self.ending = Some(ending);
+        self.pay(cost);
+    }
+
+    /// Makes the step in which main ends normally.
+    pub fn end_main(&mut self, needs: &Needs)
+        requires small { AreSmall needs.now.procedures.items }
+        requires turn { work_of self.old.work.value ≡ [] }
+        requires alone { self.old.waiting.items ≡ [] }
+        ensures { Finishes self.old self.new }
+    {
+        self.finish(Ending::Normal, needs.cost(CostEvent::EndMain));
+    }
+
+    /// Makes the step in which a condition leaves main.
+    pub fn leave_main(&mut self, needs: &Needs, cond: Condition)
+        requires small { AreSmall needs.now.procedures.items }
+        requires turn { Leaves (seen_cond cond) (work_of self.old.work.value) }
+        requires alone { self.old.waiting.items ≡ [] }
+        ensures { Finishes self.old self.new }
+    {
+        let formal = is_formal(&self.program, self.program.main, cond);
+        let cond = main_condition(&self.program, cond);
+        self.finish(Ending::Raised(cond), end_price(needs, formal));
+    }
+}

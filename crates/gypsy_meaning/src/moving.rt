@@ -1,0 +1,187 @@
+//! A run from its start, step by step.
+
+ghost use Rattle.std.specs.Prelude.{◌≡◌, ◌≤◌, ℕ, List, IfErr, IfNone, IfOk, IfSome};
+ghost use Rattle.stack_text.specs.Values.{ValueOf};
+ghost use Rattle.gypsy_syntax.specs.Programs.{proc_at};
+ghost use Rattle.gypsy_syntax.specs.Resolved.{program_of};
+ghost use Rattle.gypsy_syntax.specs.SourceView.{source_of};
+ghost use Rattle.gypsy_space.specs.Events.{AreNeeds, AreSmall};
+ghost use Rattle.gypsy_space.specs.Needs.{stack_words};
+ghost use Rattle.gypsy_meaning.specs.Agreed.{RunAgrees};
+ghost use Rattle.gypsy_meaning.specs.Belongs.{BelongsTo, Suffices};
+ghost use Rattle.gypsy_meaning.specs.Calls.{Way};
+ghost use Rattle.gypsy_meaning.specs.Fitting.{CanStart};
+ghost use Rattle.gypsy_meaning.specs.Kept.{VarsFit};
+ghost use Rattle.gypsy_meaning.specs.Meaning.{Done, meaning};
+ghost use Rattle.gypsy_meaning.specs.Running.{seen};
+ghost use Rattle.gypsy_meaning.specs.Seen.{Finished, after, answer_of, left_of, opening, run_of};
+
+use crate::answers::{MeanRun, Moved};
+use crate::calling::Start;
+use crate::fitting::can_start;
+use crate::names::{Unnamed, names_of};
+use crate::running::Meaning;
+use crate::starting::{copied, main_activation, words};
+use gypsy_check::Accepted;
+use gypsy_space::{Needs, resolve};
+use stack_text::{Memory, Value};
+use std::alloc::Global;
+
+impl Meaning {
+    /// A run of a source at its start, from these values of main's formals and with stacks of these sizes. It keeps a
+    /// copy of the values, and the sizes.
+    ///
+    /// # Errors
+    ///
+    /// Out of memory.
+    pub fn start(
+        alloc: Global,
+        accepted: &Accepted,
+        needs: &Needs,
+        values: &[Value],
+        ctrl: u32,
+        temp: u32,
+    ) -> Result<Meaning, Memory>
+        requires needs { AreNeeds (program_of (source_of accepted.now)) needs.now.procedures.items }
+        requires small { AreSmall needs.now.procedures.items }
+        requires values { let q = program_of (source_of accepted.now) in VarsFit (proc_at q q.main).formals values.now }
+        requires sizes { Suffices (program_of (source_of accepted.now)) (stack_words temp ctrl) }
+        ensures opening { let q = program_of (source_of accepted.now) in
+            IfOk result (λ m. seen m ≡ opening q (stack_words temp ctrl) values.now) }
+        ensures belongs { IfOk result (BelongsTo (source_of accepted.now) needs.now.procedures.items) }
+    {
+        let program = resolve(alloc, accepted)?;
+        let names = names_of(alloc, accepted.source())?;
+        let Start { variables, work } = main_activation(alloc, &program, names.as_slice(), values)?;
+        let used_temp = words(variables.as_slice());
+        let used_ctrl = variables.len() as u64 + 2;
+        let values = copied(alloc, values)?;
+        Ok(Meaning {
+            procedure: program.main,
+            program,
+            names,
+            unnamed: Unnamed::new(),
+            values,
+            temp,
+            ctrl,
+            variables,
+            work,
+            used_temp,
+            used_ctrl,
+            waiting: Vec::new(alloc),
+            steps: 0,
+            counted: 0,
+            cost: 0,
+            ending: None,
+        })
+    }
+
+    /// The same with values and sizes that may not suit: `None` exactly where the values don't fit main's formals, or the
+    /// sizes are below main's own need.
+    ///
+    /// # Errors
+    ///
+    /// Out of memory.
+    pub fn try_start(
+        alloc: Global,
+        accepted: &Accepted,
+        needs: &Needs,
+        values: &[Value],
+        ctrl: u32,
+        temp: u32,
+    ) -> Result<Option<Meaning>, Memory>
+        requires needs { AreNeeds (program_of (source_of accepted.now)) needs.now.procedures.items }
+        requires small { AreSmall needs.now.procedures.items }
+        ensures opening { let q = program_of (source_of accepted.now) in
+            IfOk result (λ o. IfSome o (λ m. seen m ≡ opening q (stack_words temp ctrl) values.now)) }
+        ensures belongs { IfOk result (λ o. IfSome o (BelongsTo (source_of accepted.now) needs.now.procedures.items)) }
+        ensures none { IfOk result (λ o. IfNone o
+            (CanStart (program_of (source_of accepted.now)) values.now (stack_words temp ctrl) → ⊥)) }
+    {
+        let program = resolve(alloc, accepted)?;
+        if !can_start(&program, needs, values, ctrl, temp) {
+            return Ok(None);
+        }
+        let meaning = Meaning::start(alloc, accepted, needs, values, ctrl, temp)?;
+        Ok(Some(meaning))
+    }
+
+    /// One step. What it answers and leaves is what the step machine does; a call without room changes nothing, and
+    /// neither does a step after the end.
+    ///
+    /// # Errors
+    ///
+    /// Out of memory; all that is shown is as before.
+    pub fn step(
+        &mut self,
+        alloc: Global,
+        accepted: &Accepted,
+        needs: &Needs,
+    ) -> Result<Moved, Memory>
+        requires { BelongsTo (source_of accepted.now) needs.now.procedures.items self.old }
+        ensures answer { IfOk result (λ moved. moved ≡ answer_of (seen self.old)) }
+        ensures left { IfOk result (λ moved. seen self.new ≡ left_of (seen self.old)) }
+        ensures unchanged { IfErr result (λ e. seen self.new ≡ seen self.old) }
+        ensures belongs { BelongsTo (source_of accepted.now) needs.now.procedures.items self.new }
+    {
+        if self.ended() {
+            return Ok(Moved::Ended);
+        }
+        let moved = self.move_on(alloc, needs)?;
+        Ok(moved)
+    }
+
+    /// At most `limit` steps, until the end is reached or a call has no room. What it answers agrees with the meaning
+    /// of the source.
+    ///
+    /// # Errors
+    ///
+    /// Out of memory; the steps that were made stand.
+    pub fn run(
+        &mut self,
+        alloc: Global,
+        accepted: &Accepted,
+        needs: &Needs,
+        limit: u64,
+    ) -> Result<MeanRun, Memory>
+        requires { BelongsTo (source_of accepted.now) needs.now.procedures.items self.old }
+        ensures ran { IfOk result (λ run. run_of limit (seen self.old) ≡ record { run = run; seen = seen self.new }) }
+        ensures made { IfErr result (λ e. (k : ℕ) × (k ≤ limit) × (seen self.new ≡ after k (seen self.old))) }
+        ensures agrees { IfOk result (RunAgrees (seen self.new)) }
+        ensures completes { let v = seen self.old in
+            (n : ℕ) (x : List ValueOf) (c : Way) → meaning v.program v.sizes v.values n ≡ Done x c →
+            (j : ℕ) × (j ≤ limit →
+            IfOk result (λ run. (run ≡ MeanRun.Ended) × ((seen self.new).stage ≡ Finished x c))) }
+        ensures belongs { BelongsTo (source_of accepted.now) needs.now.procedures.items self.new }
+    {
+        let run = self.make_steps(alloc, accepted, needs, limit)?;
+        Ok(run)
+    }
+
+    /// At most `limit` steps.
+    fn make_steps(
+        &mut self,
+        alloc: Global,
+        accepted: &Accepted,
+        needs: &Needs,
+        limit: u64,
+    ) -> Result<MeanRun, Memory>
+        requires { BelongsTo (source_of accepted.now) needs.now.procedures.items self.old }
+        ensures ran { IfOk result (λ run. run_of limit (seen self.old) ≡ record { run = run; seen = seen self.new }) }
+        ensures made { IfErr result (λ e. (k : ℕ) × (k ≤ limit) × (seen self.new ≡ after k (seen self.old))) }
+        ensures belongs { BelongsTo (source_of accepted.now) needs.now.procedures.items self.new }
+    {
+        for _made in 0..limit {
+            match self.step(alloc, accepted, needs)? {
+                Moved::Moved => {}
+                Moved::Ended => return Ok(MeanRun::Ended),
+                Moved::NoRoom { place } => return Ok(MeanRun::NoRoom { place }),
+            }
+        }
+        if self.ended() {
+            Ok(MeanRun::Ended)
+        } else {
+            Ok(MeanRun::Spent)
+        }
+    }
+}

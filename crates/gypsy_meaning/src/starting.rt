@@ -1,0 +1,108 @@
+//! The start of a run.
+
+ghost use Rattle.std.specs.Prelude.{◌≡◌, ◌+◌, ◌++◌, ◌<◌, ◌≤◌, [], IfOk, length, map, take};
+ghost use Rattle.gypsy_syntax.specs.Programs.{body_of, proc_at, words_of};
+ghost use Rattle.gypsy_space.specs.Nodes.{seen_program};
+ghost use Rattle.gypsy_meaning.specs.Calls.{main_start};
+ghost use Rattle.gypsy_meaning.specs.Machine.{open_on};
+ghost use Rattle.gypsy_meaning.specs.Named.{variables_of};
+ghost use Rattle.gypsy_meaning.specs.Work.{work_of};
+
+use crate::calling::Start;
+use crate::copying::append_locals;
+use crate::names::Names;
+use crate::work::{Work, opened};
+use gypsy_space::Program;
+use stack_text::{Name, Value};
+use std::alloc::{AllocError, Global};
+use std::rc::Rc;
+
+/// A copy of values.
+pub fn copied(alloc: Global, values: &[Value]) -> Result<Vec<Value>, AllocError>
+    ensures { IfOk result (λ r. r.items ≡ values.now) }
+{
+    let mut copies = Vec::new(alloc);
+    for value in values {
+        copies.push(value.clone()?)?;
+    }
+    Ok(copies)
+}
+
+/// Copies of values, under the first names.
+fn formals(
+    alloc: Global,
+    names: &[Name],
+    values: &[Value],
+) -> Result<Vec<(Name, Value)>, AllocError>
+    requires { length values.now ≤ length names.now }
+    ensures values { IfOk result (λ r. map (λ v. v.1) r.items ≡ values.now) }
+    ensures names { IfOk result (λ r. map (λ v. v.0) r.items ≡ take (length values.now) names.now) }
+{
+    let mut formals = Vec::new(alloc);
+    for (place, value) in values.iter().enumerate() {
+        match names.get(place) {
+            Some(name) => formals.push((name.clone()?, value.clone()?))?,
+            None => unreachable!(),
+        }
+    }
+    Ok(formals)
+}
+
+/// Main's variables at the start.
+fn variables(
+    alloc: Global,
+    names: &[Name],
+    values: &[Value],
+    locals: &[(Name, Value)],
+) -> Result<Vec<(Name, Value)>, AllocError>
+    requires { length names.now ≡ length values.now + length locals.now }
+    ensures values { IfOk result (λ r. map (λ v. v.1) r.items ≡ values.now ++ map (λ v. v.1) locals.now) }
+    ensures names { IfOk result (λ r. map (λ v. v.0) r.items ≡ names.now) }
+{
+    let mut all = formals(alloc, names, values)?;
+    append_locals(&mut all, &names[values.len()..], locals)?;
+    Ok(all)
+}
+
+/// Main at its start, with these values of its formals, and its body to be done.
+#[tactic(auto, unfolding(crate::specs::Calls::main_start))]
+pub fn main_activation(
+    alloc: Global,
+    program: &Program,
+    names: &[Names],
+    values: &[Value],
+) -> Result<Start, AllocError>
+    requires main { program.now.main < length program.now.procedures.items }
+    requires there { program.now.main < length names.now }
+    requires sized { let main = proc_at (seen_program program.now) program.now.main in
+        length (variables_of names.now program.now.main) ≡ length values.now + length main.locals }
+    ensures variables { IfOk result (λ start. map (λ v. v.1) start.variables.items
+        ≡ main_start (seen_program program.now) values.now) }
+    ensures names { IfOk result (λ start. map (λ v. v.0) start.variables.items
+        ≡ variables_of names.now program.now.main) }
+    ensures work { IfOk result (λ start. work_of start.work.value
+        ≡ open_on (body_of (seen_program program.now) program.now.main) []) }
+{
+    let main = &program.procedures[program.main as usize];
+    let variables = variables(
+        alloc,
+        names[program.main as usize].variables.as_slice(),
+        values,
+        main.locals.as_slice(),
+    )?;
+    let end = Rc::new(alloc, Work::End)?;
+    let work = opened(alloc, &main.body, &end)?;
+    Ok(Start { variables, work })
+}
+
+/// The words that variables take.
+pub fn words(variables: &[(Name, Value)]) -> u64
+    requires { words_of (map (λ v. v.shape) (map (λ v. v.1) variables.now)) ≤ 65536 }
+    ensures { result ≡ words_of (map (λ v. v.shape) (map (λ v. v.1) variables.now)) }
+{
+    let mut words = 0;
+    for (_, value) in variables {
+        words += value.shape.item_count() as u64;
+    }
+    words
+}
