@@ -276,7 +276,7 @@ module _ {q : Program} {sizes : Words} {base p c : ℕ} {x : List ValueOf} {w : 
 
 -- The end of main.
 
-values-split : (x y : List ValueOf) → words_of_values (x ++ y) ≡ words_of_values x ++ words_of_values y
+pub values-split : (x y : List ValueOf) → words_of_values (x ++ y) ≡ words_of_values x ++ words_of_values y
 values-split [] y = refl
 values-split (v ∷ x) y =
     ap (λ l. Rattle.gypsy_predef.specs.Runs.words_of_value v ++ l) (values-split x y) ∙ sym (Rattle.std.proofs.Common.append_assoc (Rattle.gypsy_predef.specs.Runs.words_of_value v) (words_of_values x) (words_of_values y))

@@ -72,7 +72,7 @@ all_words x h = values_words (map (λ v. v.shape) x) x (locals_fit x h)
 pub words_sized : (q : Program) → ProgramFits q → (c : ℕ) → length (words_of_values (proc_at q c).locals) ≡ local_words (proc_at q c)
 words_sized q fits c = all_words (proc_at q c).locals (fits.procs c).locals
 
-words_both : (a b : List Shape) → words_of (a ++ b) ≡ words_of a + words_of b
+pub words_both : (a b : List Shape) → words_of (a ++ b) ≡ words_of a + words_of b
 words_both [] b = omega arith
 words_both (s ∷ a) b = omega (arith, words_both a b)
 
@@ -117,6 +117,27 @@ number_below row.MgArrayElementAssignment = omega arith
 
 count_some : (s : Shape) → 0 < item_count s
 count_some s = some_items s.length
+
+-- ---- variables
+
+pub vars_count : (d : Proc) → length (shapes_of d) ≡ vars_of d
+vars_count d = omega (arith, length-append d.formals (map (λ v. v.shape) d.locals), length-map d.locals (λ v. v.shape))
+
+-- a variable has a word in the frame
+pub offset_below : (q : Program) (p b : ℕ) (s : Shape) → slice_get (shapes_of (proc_at q p)) b ≡ Some s → offset q p b < vars_of (proc_at q p)
+offset_below q p b s e =
+    let d = proc_at q p in
+    let below : b < length d.formals + length d.locals = let lt = get_below (shapes_of d) b s e in omega (arith, lt, vars_count d) in
+    by_main (p == q.main) below
+  where
+    by_front : (d : Proc) (t : Bool) → nat_lt b (length d.formals) ≡ t → b < length d.formals + length d.locals → cond t (length d.locals + b) (b - length d.formals) < length d.formals + length d.locals
+    by_front d true e lt = let h = ltb-true b (length d.formals) e in omega (arith, h)
+    by_front d false e lt = omega (arith, lt)
+
+    by_main : (t : Bool) → b < length (proc_at q p).formals + length (proc_at q p).locals →
+        cond t b (cond (nat_lt b (length (proc_at q p).formals)) (length (proc_at q p).locals + b) (b - length (proc_at q p).formals)) < length (proc_at q p).formals + length (proc_at q p).locals
+    by_main true lt = lt
+    by_main false lt = by_front (proc_at q p) (nat_lt b (length (proc_at q p).formals)) refl lt
 
 -- ---- labels
 
@@ -176,25 +197,6 @@ module _ (q : Program) (fits : ProgramFits q) (p : ℕ) (few : conds_of (proc_at
   number_small b Routine h = omega arith
   number_small b (Declared n) h = omega (arith, few, h)
 
-  vars_count : length (shapes_of (proc_at q p)) ≡ vars_of (proc_at q p)
-  vars_count =
-      let d = proc_at q p in omega (arith, length-append d.formals (map (λ v. v.shape) d.locals), length-map d.locals (λ v. v.shape))
-
-  offset_below : (b : ℕ) (s : Shape) → slice_get (shapes_of (proc_at q p)) b ≡ Some s → offset q p b < locals
-  offset_below b s e =
-      let d = proc_at q p in
-      let below : b < length d.formals + length d.locals = let lt = get_below (shapes_of d) b s e in omega (arith, lt, vars_count) in
-      by_main (p == q.main) below
-    where
-      by_front : (d : Proc) (t : Bool) → nat_lt b (length d.formals) ≡ t → b < length d.formals + length d.locals → cond t (length d.locals + b) (b - length d.formals) < length d.formals + length d.locals
-      by_front d true e lt = let h = ltb-true b (length d.formals) e in omega (arith, h)
-      by_front d false e lt = omega (arith, lt)
-
-      by_main : (t : Bool) → b < length (proc_at q p).formals + length (proc_at q p).locals →
-          cond t b (cond (nat_lt b (length (proc_at q p).formals)) (length (proc_at q p).locals + b) (b - length (proc_at q p).formals)) < length (proc_at q p).formals + length (proc_at q p).locals
-      by_main true lt = lt
-      by_main false lt = by_front (proc_at q p) (nat_lt b (length (proc_at q p).formals)) refl lt
-
   words_right : (ws : List Word) → Each InRange ws → Each Right (push_words ws)
   words_right [] h = tt
   words_right (w ∷ ws) h = (h.0, words_right ws h.1)
@@ -208,7 +210,7 @@ module _ (q : Program) (fits : ProgramFits q) (p : ℕ) (few : conds_of (proc_at
   actuals_right [] [] h = tt
   actuals_right [] (x ∷ xs) h = absurd h
   actuals_right (s ∷ formals) [] h = absurd h
-  actuals_right (s ∷ formals) (x ∷ xs) h = (offset_below x s h.0, actuals_right formals xs h.1)
+  actuals_right (s ∷ formals) (x ∷ xs) h = (offset_below q p x s h.0, actuals_right formals xs h.1)
 
   args_right : (k : Kind) (slots : List Slot) (args : List Arg) → ArgsFit (shapes_of (proc_at q p)) k slots args → Each Right (push_args q p args)
   args_right k [] [] h = tt
@@ -217,8 +219,8 @@ module _ (q : Program) (fits : ProgramFits q) (p : ℕ) (few : conds_of (proc_at
   args_right k (slot ∷ slots) (Var b ∷ args) h = (by_form slot.form h.0, args_right k slots args h.1)
     where
       by_form : (form : Form) → ArgFits (shapes_of (proc_at q p)) form (slot_kind k slot.kind) (Var b) → offset q p b < locals
-      by_form Simple e = offset_below b (simple (slot_kind k slot.kind)) e
-      by_form Array e = offset_below b (record { kind = slot_kind k slot.kind; length = e.0 }) e.3
+      by_form Simple e = offset_below q p b (simple (slot_kind k slot.kind)) e
+      by_form Array e = offset_below q p b (record { kind = slot_kind k slot.kind; length = e.0 }) e.3
       by_form Literal e = absurd e
   args_right k (slot ∷ slots) (Lit v ∷ args) h = (by_form slot.form h.0, args_right k slots args h.1)
     where
@@ -313,7 +315,7 @@ module _ (q : Program) (fits : ProgramFits q) (p : ℕ) (few : conds_of (proc_at
       let tv = lines q p env (l + 2 + labels s) v in
       let ms = marks_front K ts _ m in
       let mv = marks_front K tv _ ms.1.1 in (
-        offset_below x (simple Boolean) h.0,
+        offset_below q p x (simple Boolean) h.0,
         (
           tt,
           (

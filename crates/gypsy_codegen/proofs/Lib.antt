@@ -14,6 +14,11 @@ pub mod TextExampleLaws
 pub mod SizeLaws
 pub mod InstructionLaws
 pub mod LabelLaws
+pub mod LabelNameLaws
+pub mod WriteLaws
+pub mod CodeLaws
+pub mod WritableLaws
+pub mod AnswerLaws
 pub mod DeclareLaws
 pub mod LinesLaws
 pub mod ResolveLaws

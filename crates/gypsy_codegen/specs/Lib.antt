@@ -16,3 +16,6 @@ pub mod Acceptable
 -- Closed programs.
 pub mod Examples
 pub mod TextExamples
+-- What clauses see of the code, and what it returns.
+pub mod Views
+pub mod Answers

@@ -29,28 +29,38 @@ frame_texts q p proc =
     if p == q.main then variable_names proc
     else map (λ l. l.decl.name.name) proc.locals ++ map (λ d. d.name.name) proc.formals
 
+-- the names that code is written with, where the programs have the first ones, and the words of the frame the others
+abbrev pub names_by : List (List ℕ) → List (List ℕ) → Names
+names_by programs locals = record { areas = area_texts; programs = programs; locals = locals }
+
 -- the names of a procedure, whose words of a frame have these
 abbrev pub names_with : SourceOf → List (List ℕ) → Names
-names_with s locals = record { areas = area_texts; programs = program_texts s; locals = locals }
+names_with s locals = names_by (program_texts s) locals
 
 -- temporaries of these names that hold these words
 abbrev pub temporaries_of : Names → List (List ℕ) → List Word → List (Named × WordText)
 temporaries_of n (name ∷ names) (w ∷ ws) = (named name, written_word n w) ∷ temporaries_of n names ws
 temporaries_of n _ _ = []
 
--- the program of procedure p
-abbrev pub written_procedure : SourceOf → ℕ → ProcOf → ProgramOf
-written_procedure s p proc =
-    let q = program_of s in
+-- the program of procedure p, where the programs have these names
+abbrev pub procedure_with : Program → List (List ℕ) → ℕ → ProcOf → ProgramOf
+procedure_with q programs p proc =
     let frame = frame_texts q p proc in
-    let n = names_with s frame in
+    let n = names_by programs frame in
     new_program 0 0 (named proc.name.name) (if p == q.main then [] else map named frame)
     (if p == q.main then temporaries_of n frame (map (λ at. Nat at) (starts 0 (shapes_of (proc_at q p)))) else [])
     (map (written n) (lines_of q p))
 
+-- the programs of procedures, from procedure p on
+abbrev pub procedures_with : Program → List (List ℕ) → ℕ → List ProcOf → List ProgramOf
+procedures_with q programs p [] = []
+procedures_with q programs p (proc ∷ procs) = procedure_with q programs p proc ∷ procedures_with q programs (suc p) procs
+
+abbrev pub written_procedure : SourceOf → ℕ → ProcOf → ProgramOf
+written_procedure s p proc = procedure_with (program_of s) (program_texts s) p proc
+
 abbrev pub written_procedures : SourceOf → ℕ → List ProcOf → List ProgramOf
-written_procedures s p [] = []
-written_procedures s p (proc ∷ procs) = written_procedure s p proc ∷ written_procedures s (suc p) procs
+written_procedures s p procs = procedures_with (program_of s) (program_texts s) p procs
 
 -- the one area, of one word: the number of the normal condition
 abbrev pub written_area : SourceOf → AreaOf

@@ -1,11 +1,23 @@
 //! The Piton system that is generated from a program of Micro-Gypsy: its definition by places and as a text, and its laws.
 //!
 //! `specs/Generated` is the system by places, `specs/Text` the text with names and labels; the laws join the two, and say what
-//! each step and each run of the system does. The code that generates the text is to come.
+//! each step and each run of the system does. `generate` makes the text of an accepted source, checked, in one pass.
 #![tactic(auto)]
 
+mod apply;
+mod calls;
+mod context;
+mod fault;
+mod generating;
 mod law;
+mod lines;
+mod procedure;
+mod statement;
+mod system;
+mod words;
 
+pub use fault::GenFault;
+pub use generating::generate;
 pub use law::{
     examples_compute, generated_is_acceptable, meaning_runs, procedures_take_words, raise_follows,
     rows_follow, shown_states_read, source_runs, states_are_shown, steps_follow,

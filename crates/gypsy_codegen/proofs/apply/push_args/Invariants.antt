@@ -1,0 +1,16 @@
+use Rattle.std.proofs.Common.{◌≡◌, ◌++◌, map, drop}
+use Rattle.gypsy_syntax.specs.ProgramFits.{Each}
+use Rattle.gypsy_space.specs.Nodes.{seen_arg, seen_program}
+use Rattle.gypsy_codegen.specs.Generated.{push_args}
+use Rattle.gypsy_codegen.specs.Lines.{unmarked}
+use Rattle.gypsy_codegen.specs.Views.{ArgHasWord, names_of}
+use Rattle.gypsy_codegen.specs.Written.{written}
+use Rattle.gypsy_codegen.proofs.apply.push_args.Given as goal
+
+abbrev pub invariant-loop-arg : goal.invariant-loop-arg
+invariant-loop-arg l = record {
+  words : Each (ArgHasWord (seen_program l.context.program.now) l.context.procedure) (map seen_arg (drop l.arg-index l.args));
+  lines :
+      l.instrs.items ++ map (written (names_of l.context)) (unmarked (push_args (seen_program l.context.program.now) l.context.procedure (map seen_arg (drop l.arg-index l.args)))) ≡
+      l.fn.instrs.items ++ map (written (names_of l.context)) (unmarked (push_args (seen_program l.context.program.now) l.context.procedure (map seen_arg l.args)));
+}

@@ -1,0 +1,7 @@
+use Rattle.std.proofs.Common.{◌≡◌, ◌++◌, map}
+use Rattle.gypsy_codegen.specs.Views.{word_constant}
+use Rattle.gypsy_codegen.proofs.calls.constants.Given as goal
+
+abbrev pub invariant-loop-word : goal.invariant-loop-word
+invariant-loop-word l =
+    l.instrs.items ++ map word_constant l.word-iterator.rest.items ≡ l.fn.instrs.items ++ map word_constant l.fn.words.items

@@ -1,0 +1,16 @@
+use Rattle.std.proofs.Common.{◌≡◌, ◌++◌, map, drop}
+use Rattle.gypsy_syntax.specs.ProgramFits.{Each}
+use Rattle.gypsy_space.specs.Nodes.{seen_program}
+use Rattle.gypsy_codegen.specs.Generated.{push_actuals}
+use Rattle.gypsy_codegen.specs.Lines.{unmarked}
+use Rattle.gypsy_codegen.specs.Views.{HasWord, names_of}
+use Rattle.gypsy_codegen.specs.Written.{written}
+use Rattle.gypsy_codegen.proofs.calls.push_actuals.Given as goal
+
+abbrev pub invariant-loop-actual : goal.invariant-loop-actual
+invariant-loop-actual l = record {
+  words : Each (HasWord (seen_program l.context.program.now) l.context.procedure) (drop l.actual-index l.actuals);
+  lines :
+      l.instrs.items ++ map (written (names_of l.context)) (unmarked (push_actuals (seen_program l.context.program.now) l.context.procedure (drop l.actual-index l.actuals))) ≡
+      l.fn.instrs.items ++ map (written (names_of l.context)) (unmarked (push_actuals (seen_program l.context.program.now) l.context.procedure l.actuals));
+}

@@ -1,0 +1,53 @@
+use Rattle.std.proofs.Common.{rules, ◌≡◌, ◌+◌, ◌++◌, ◌∷◌, [], List, ap, sym, ◌∙◌}
+use Rattle.piton_syntax.specs.declared.test_kind.TestFamily.TheVariants as family
+use Rattle.piton_syntax.specs.declared.test_kind.TestKind.TheVariants as test
+use Rattle.piton_check.specs.Instruction as i
+use Rattle.gypsy_syntax.specs.Programs.{If}
+use Rattle.gypsy_codegen.specs.Generated.{offset}
+use Rattle.gypsy_codegen.proofs.CodeLaws.{both_are}
+use Rattle.gypsy_space.specs.Nodes.{seen_program, seen_statement, seen_statements}
+use Rattle.gypsy_space.specs.declared.program.Node.{the_lemmas}
+use Rattle.gypsy_space.proofs.NodeLaws.{seen_statement-seq}
+use Rattle.gypsy_codegen.specs.Lines.{labels, lines}
+use Rattle.gypsy_codegen.specs.Views.{env, names_of}
+use Rattle.gypsy_codegen.specs.Written.{Line, Plain, Marked}
+use Rattle.gypsy_codegen.proofs.statement.+statements.Goals as goal
+
+pub statement-parts-requires : goal.statement-parts-requires
+statement-parts-requires t c =
+    let k : seen_statement c.args.node.now.value ≡ seen_statements c.in-Seq.nodes.value.items = ap seen_statement (sym c.deref.ensures ∙ c.in-Seq.is) ∙ seen_statement-seq c.in-Seq.nodes in
+    (search (rules, the_lemmas), (c.requires.ready, (rw k at c.requires.names, rw k at c.requires.labels)))
+
+pub statement-returns-in_ok-next-in-Seq-clause-lines : goal.statement-returns-in_ok-next-in-Seq-clause-lines
+statement-returns-in_ok-next-in-Seq-clause-lines t c =
+    let k : seen_statement c.args.node.now.value ≡ seen_statements c.in-Seq.nodes.value.items = ap seen_statement (sym c.deref.ensures ∙ c.in-Seq.is) ∙ seen_statement-seq c.in-Seq.nodes in
+    rw k c.in_ok-next-in-Seq.ensures.lines
+
+pub statement-returns-in_ok-next-in-Seq-clause-next : goal.statement-returns-in_ok-next-in-Seq-clause-next
+statement-returns-in_ok-next-in-Seq-clause-next t c =
+    let k : seen_statement c.args.node.now.value ≡ seen_statements c.in-Seq.nodes.value.items = ap seen_statement (sym c.deref.ensures ∙ c.in-Seq.is) ∙ seen_statement-seq c.in-Seq.nodes in
+    rw k c.in_ok-next-in-Seq.ensures.next
+
+pub statement-returns-in_ok-plain-in-If-2-clause-lines : goal.statement-returns-in_ok-plain-in-If-2-clause-lines
+statement-returns-in_ok-plain-in-If-2-clause-lines t c =
+    let context = c.args.context.now in
+    let q = seen_program context.program.now in
+    let p = context.procedure in
+    let n = names_of context in
+    let scopes = env c.args.scopes.now in
+    let l = c.args.first in
+    let yes = seen_statement c.in-If.yes.value in
+    let no = seen_statement c.in-If.no.value in
+    let k : seen_statement c.args.node.now.value ≡ If c.in-If.field-0 c.in-If.variable yes no = ap seen_statement (sym c.deref.ensures ∙ c.in-If.is) in
+    let first_part = c.in_ok-behind-in-If.ensures.lines in
+    let second_part = rw c.in_ok-behind-in-If.ensures.next at c.in_ok-next-in-If.ensures.lines in
+    let end : List Line = Marked (l + 1) i.NoOp ∷ [] in
+    let otherwise : List Line = lines q p scopes (l + 2 + labels yes) no ++ end in
+    let between : List Line = Plain (i.Jump (l + 1)) ∷ Marked l i.NoOp ∷ otherwise in
+    rw k
+    (both_are n (Plain (i.PushLocal (offset q p c.in-If.variable)) ∷ Plain i.FetchTempStk ∷ Plain (i.TestAndJump family.Bool test.F l) ∷ [])
+    (lines q p scopes (l + 2) yes ++ between) _ _ _ c.in_ok-branch-in-If.ensures
+    (both_are n (lines q p scopes (l + 2) yes) between _ _ _ first_part
+    (both_are n (Plain (i.Jump (l + 1)) ∷ []) (Marked l i.NoOp ∷ otherwise) _ _ _ c.in_ok-jump-in-If.ensures
+    (both_are n (Marked l i.NoOp ∷ []) otherwise _ _ _ c.in_ok-plain-in-If.ensures
+    (both_are n (lines q p scopes (l + 2 + labels yes) no) end _ _ _ second_part c.in_ok-plain-in-If-2.ensures)))))

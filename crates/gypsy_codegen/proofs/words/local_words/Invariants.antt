@@ -1,0 +1,10 @@
+use Rattle.std.proofs.Common.{◌≡◌, ◌++◌, map, drop}
+use Rattle.gypsy_codegen.specs.Views.{nameless}
+use Rattle.gypsy_codegen.specs.WordsOf.{words_of_values}
+use Rattle.gypsy_codegen.specs.Written.{written_word}
+use Rattle.gypsy_codegen.proofs.words.local_words.Given as goal
+
+abbrev pub invariant-loop-value : goal.invariant-loop-value
+invariant-loop-value l =
+    l.words.items ++ map (written_word nameless) (words_of_values (map (λ v. v.1) (drop l.value-index l.locals))) ≡
+    l.initial.words.items ++ map (written_word nameless) (words_of_values (map (λ v. v.1) l.locals))

@@ -1,0 +1,69 @@
+-- What generating returns, and what is known of a generated system.
+use Rattle.std.specs.Prelude.{◌≡◌, ℕ, ◌^◌, List, Bool, not, ◌&&◌, nat_le, nat_lt, if◌then◌else◌, Option, Some, None, Result, Ok, Err}
+use Rattle.stack_text.specs.Gives as common
+use Rattle.stack_text.specs.Values.{ValueOf}
+use Rattle.piton_syntax.specs.Systems.{SystemOf}
+use Rattle.piton_check.specs.Answers.{CheckedOf}
+use Rattle.piton_machine.specs.Fits.{system_in}
+use Rattle.piton_machine.specs.Seen.{started}
+use Rattle.gypsy_syntax.specs.Sources.{SourceOf}
+use Rattle.gypsy_syntax.specs.Programs.{Program, proc_at}
+use Rattle.gypsy_syntax.specs.Resolved.{program_of}
+use Rattle.gypsy_space.specs.Costs.{Tally}
+use Rattle.gypsy_space.specs.Needs.{Words, main_need}
+use Rattle.gypsy_meaning.specs.Calls.{Way, main_start}
+use Rattle.gypsy_meaning.specs.Meaning.{Done, meaning}
+use Rattle.gypsy_meaning.specs.Counted.{CountedDone, counted_meaning}
+use Rattle.gypsy_meaning.specs.Kept.{VarsFit}
+use Rattle.gypsy_codegen.specs.declared.fault.GenFault.{GenFault}
+use Rattle.gypsy_codegen.specs.declared.fault.GenFault.TheVariants.{Control, Temporary, Size, Words as TooManyWords, Memory}
+use Rattle.gypsy_codegen.specs.WordsOf.{words_of_values}
+use Rattle.gypsy_codegen.specs.Generated.{generated_view}
+use Rattle.gypsy_codegen.specs.Text.{generated}
+use Rattle.gypsy_codegen.specs.Whole.{RunsTo}
+use Rattle.gypsy_codegen.specs.Acceptable.{total_words, LimitsFit}
+
+-- out of memory is no fault of a source
+abbrev pub fault_of : GenFault → Option GenFault
+fault_of Memory = None
+fault_of fault = Some fault
+
+-- the call returned exactly what the definition gives, seen through the view; out of memory alone is free
+abbrev pub Gives : {X Y : Type 0} → (X → Y) → Result X GenFault → Result Y GenFault → Type 0
+Gives view result value = common.Gives fault_of view result value
+
+-- each stack has 1 to 65,536 words
+abbrev pub are_sizes : Words → Bool
+are_sizes sizes = nat_le 1 sizes.ctrl && nat_le sizes.ctrl 65536 && nat_le 1 sizes.temp && nat_le sizes.temp 65536
+
+-- the first limit that sizes of the stacks or the words of the code are outside of
+unfoldable pub size_fault : Program → Words → Option GenFault
+size_fault q sizes =
+    if not (are_sizes sizes) then Some Size else
+    if nat_lt sizes.ctrl (main_need q).ctrl then Some (Control (main_need q).ctrl) else
+    if nat_lt sizes.temp (main_need q).temp then Some (Temporary (main_need q).temp) else
+    if nat_lt (2 ^ 20) (total_words q) then Some (TooManyWords (total_words q)) else None
+
+abbrev pub unless_fault : {X : Type 0} → Option GenFault → X → Result X GenFault
+unless_fault None value = Ok value
+unless_fault (Some fault) value = Err fault
+
+-- the system of a source, with these sizes of the stacks and this base, or why there is none
+abbrev pub generation : SourceOf → Words → ℕ → Result SystemOf GenFault
+generation s sizes base = unless_fault (size_fault (program_of s) sizes) (generated s sizes base)
+
+-- Micro-Gypsy runs on Piton: where the meaning of the source is done, the checked system, with the values' words at the bottom of
+-- its first stack, first halts with the same, in the counted steps and at the counted cost.
+abbrev pub RunsAs : SourceOf → Words → CheckedOf → Type 0
+RunsAs s sizes checked =
+    (v : List ValueOf) (n : ℕ) (x : List ValueOf) (c : Way) →
+    let q = program_of s in
+    VarsFit (proc_at q q.main).formals v → meaning q sizes v n ≡ Done x c →
+    (t : Tally) × (counted_meaning q sizes v n ≡ CountedDone x c t) ×
+    RunsTo (system_in checked) (started (system_in checked) (words_of_values (main_start q v))) x c t
+
+-- the checked system is the source's by places, it runs as the source means, and all sizes are within their limits
+pub record Implements (s : SourceOf) (sizes : Words) (base : ℕ) (checked : CheckedOf) : Type 0 where
+  pub view : system_in checked ≡ generated_view (program_of s) sizes base
+  pub runs : RunsAs s sizes checked
+  pub limits : LimitsFit (program_of s) sizes base

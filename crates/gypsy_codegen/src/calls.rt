@@ -1,0 +1,282 @@
+//! The code of calls of procedures.
+
+ghost use Rattle.std.specs.Prelude.{◌≡◌, ◌+◌, ◌^◌, ◌++◌, ◌∷◌, [], ◌<◌, ◌≤◌, length, map, None, OnOk};
+ghost use Rattle.piton_syntax.specs.declared.op.PitonOp.TheVariants as op;
+ghost use Rattle.piton_check.specs.Instruction as i;
+ghost use Rattle.gypsy_syntax.specs.Programs.{proc_at, words_of};
+ghost use Rattle.gypsy_syntax.specs.ProgramFits.{Each};
+ghost use Rattle.gypsy_space.specs.Nodes.{seen_cond, seen_proc};
+ghost use Rattle.gypsy_space.specs.Needs.{local_words};
+ghost use Rattle.gypsy_predef.specs.Texts.{instruction};
+ghost use Rattle.gypsy_codegen.specs.Generated.{offset, push_actuals, push_indices};
+ghost use Rattle.gypsy_codegen.specs.Lines.{after_lines, before_code, label_to, marked_raises, raise_labels};
+ghost use Rattle.gypsy_codegen.specs.Views.{code_in, env, HasWord, index_text, IsReady, local_constants, names_of};
+ghost use Rattle.gypsy_codegen.specs.Views.{program_in, raise_text, word_constant};
+ghost use Rattle.gypsy_codegen.specs.WordsOf.{local_shapes, number_of};
+ghost use Rattle.gypsy_codegen.specs.Written.{label_arg, written};
+
+use crate::context::{Context, Scopes, label_to, number_of, offset, procedure_at};
+use crate::lines::{
+    area, constant, jump, label_named, name_in, of_name, of_number, plain, put, unplaced,
+};
+use crate::words::{local_count, local_words};
+use gypsy_space::{CallSite, Condition, Procedure};
+use piton_syntax::{ArgText, InstrText, PitonOp, WordItem, WordText};
+use stack_text::{Memory, Name, Value};
+use std::alloc::Global;
+
+/// A condition is raised: its number is put into `c-c`, and its target is jumped to.
+pub(crate) fn raise(
+    alloc: Global,
+    instrs: &mut Vec<InstrText>,
+    context: &Context,
+    scopes: &Scopes,
+    label: Option<u32>,
+    cond: Condition,
+) -> Result<(), Memory>
+    ensures { let c = seen_cond cond in
+        let target = label_to (program_in context.now) context.now.procedure (env scopes.now) c in
+        OnOk result (instrs.new.items ≡ instrs.old.items ++ raise_text label (number_of c) target) }
+{
+    let number = unplaced(number_of(cond) as i128);
+    constant(alloc, instrs, label, WordItem::Nat(number))?;
+    area(alloc, instrs, PitonOp::PopGlobal)?;
+    jump(alloc, instrs, label_to(context, scopes, cond))
+}
+
+/// The index of a variable, pushed.
+pub(crate) fn push_local(
+    alloc: Global,
+    instrs: &mut Vec<InstrText>,
+    context: &Context,
+    variable: u32,
+) -> Result<(), Memory>
+    requires ready { IsReady context.now }
+    requires word { HasWord (program_in context.now) context.now.procedure variable }
+    ensures { let at = offset (program_in context.now) context.now.procedure variable in
+        OnOk result (instrs.new.items ≡ instrs.old.items ++ code_in context.now (i.PushLocal at ∷ [])) }
+{
+    let at = offset(context.program, context.procedure, variable);
+    let name = name_in(context.locals, at)?;
+    of_name(alloc, instrs, PitonOp::PushLocal, name)
+}
+
+/// A call of a program.
+pub(crate) fn call_program(
+    alloc: Global,
+    instrs: &mut Vec<InstrText>,
+    context: &Context,
+    program: usize,
+) -> Result<(), Memory>
+    requires { program < length context.now.programs.now }
+    ensures { OnOk result (instrs.new.items ≡ instrs.old.items ++ code_in context.now (i.Call program ∷ [])) }
+{
+    let name = name_in(context.programs, program)?;
+    of_name(alloc, instrs, PitonOp::Call, name)
+}
+
+/// Words, pushed.
+fn constants(alloc: Global, instrs: &mut Vec<InstrText>, words: Vec<WordText>) -> Result<(), Memory>
+    ensures { OnOk result (instrs.new.items ≡ instrs.old.items ++ map word_constant words.items) }
+{
+    for word in words {
+        let args = vec![in alloc; ArgText::Word(word)]?;
+        put(alloc, instrs, None, PitonOp::PushConstant, args)?;
+    }
+    Ok(())
+}
+
+/// The words of the locals of a callee, pushed.
+fn push_words(
+    alloc: Global,
+    instrs: &mut Vec<InstrText>,
+    locals: &[(Name, Value)],
+) -> Result<(), Memory>
+    ensures { OnOk result (instrs.new.items ≡ instrs.old.items ++ local_constants (map (λ l. l.1) locals.now)) }
+{
+    let mut words = Vec::new(alloc);
+    local_words(&mut words, locals)?;
+    constants(alloc, instrs, words)
+}
+
+/// The indices of the locals of a callee, pushed. The locals have so many words together.
+fn push_indices(
+    alloc: Global,
+    instrs: &mut Vec<InstrText>,
+    locals: &[(Name, Value)],
+    words: u64,
+) -> Result<(), Memory>
+    requires all { words_of (map (λ v. v.shape) (map (λ l. l.1) locals.now)) ≡ words }
+    requires few { words ≤ 65536 }
+    ensures { OnOk result (instrs.new.items ≡
+        instrs.old.items ++ index_text words 0 0 (map (λ v. v.shape) (map (λ l. l.1) locals.now))) }
+{
+    let mut first = 0;
+    for (number, (_, value)) in locals.iter().enumerate() {
+        let index = words + number as u64 - 1 - first;
+        of_number(alloc, instrs, PitonOp::PushTempStkIndex, index)?;
+        first += value.shape.item_count() as u64;
+    }
+    Ok(())
+}
+
+/// The indices of the actuals, pushed.
+fn push_actuals(
+    alloc: Global,
+    instrs: &mut Vec<InstrText>,
+    context: &Context,
+    actuals: &[u32],
+) -> Result<(), Memory>
+    requires ready { IsReady context.now }
+    requires words { Each (HasWord (program_in context.now) context.now.procedure) actuals.now }
+    ensures { let pushed = push_actuals (program_in context.now) context.now.procedure actuals.now in
+        OnOk result (instrs.new.items ≡ instrs.old.items ++ code_in context.now pushed) }
+{
+    for actual in actuals {
+        push_local(alloc, instrs, context, *actual)?;
+    }
+    Ok(())
+}
+
+/// The words of the locals of a callee.
+fn callee_words(context: &Context, callee: u32) -> u64
+    requires ready { IsReady context.now }
+    requires callee { callee < length (program_in context.now).procs }
+    ensures { result ≡ local_words (proc_at (program_in context.now) callee) }
+{
+    let callee = procedure_at(context.program, callee);
+    local_count(callee.locals.as_slice())
+}
+
+/// The words and the indices of the locals of a callee, pushed.
+fn push_locals(alloc: Global, instrs: &mut Vec<InstrText>, callee: &Procedure) -> Result<(), Memory>
+    requires { local_words (seen_proc callee.now) ≤ 65536 }
+    ensures { let c = seen_proc callee.now in
+        OnOk result (instrs.new.items ≡
+        instrs.old.items ++ (local_constants c.locals ++ index_text (local_words c) 0 0 (local_shapes c))) }
+{
+    let locals = callee.locals.as_slice();
+    let words = local_count(locals);
+    push_words(alloc, instrs, locals)?;
+    push_indices(alloc, instrs, locals, words)
+}
+
+/// What stands before a call, and the call itself.
+pub(crate) fn before_call(
+    alloc: Global,
+    instrs: &mut Vec<InstrText>,
+    context: &Context,
+    site: &CallSite,
+) -> Result<(), Memory>
+    requires ready { IsReady context.now }
+    requires callee { site.now.callee < length (program_in context.now).procs }
+    requires words { Each (HasWord (program_in context.now) context.now.procedure) site.now.actuals.items }
+    ensures { let code = before_code (program_in context.now) context.now.procedure site.now.callee
+        site.now.actuals.items in
+        OnOk result (instrs.new.items ≡ instrs.old.items ++ code_in context.now code) }
+{
+    push_locals(alloc, instrs, procedure_at(context.program, site.callee))?;
+    push_actuals(alloc, instrs, context, site.actuals.as_slice())?;
+    call_program(alloc, instrs, context, site.callee as usize)?;
+    Ok(())
+}
+
+/// The jump by the condition that a call left: to the first label for leave and for routineerror, to the second where it is
+/// normal, and to those that follow for the condition actuals.
+fn jump_by_condition(
+    alloc: Global,
+    instrs: &mut Vec<InstrText>,
+    first: u32,
+    conds: &[Condition],
+) -> Result<(), Memory>
+    requires { first + 2 + length conds.now < 2 ^ 32 }
+    ensures { let targets = first ∷ first ∷ (first + 1) ∷ raise_labels (first + 2) (map seen_cond conds.now) in
+        OnOk result (instrs.new.items ≡ instrs.old.items ++ instruction None op.JumpCase (map label_arg targets) ∷ []) }
+{
+    let mut args = Vec::new(alloc);
+    args.push(ArgText::Name(label_named(alloc, first)?))?;
+    args.push(ArgText::Name(label_named(alloc, first)?))?;
+    args.push(ArgText::Name(label_named(alloc, first + 1)?))?;
+    raise_labels(alloc, &mut args, first + 2, conds)?;
+    put(alloc, instrs, None, PitonOp::JumpCase, args)
+}
+
+/// The labels of the raises of condition actuals, from this one on.
+fn raise_labels(
+    alloc: Global,
+    args: &mut Vec<ArgText>,
+    first: u32,
+    conds: &[Condition],
+) -> Result<(), Memory>
+    requires { first + length conds.now < 2 ^ 32 }
+    ensures { let labels = raise_labels first (map seen_cond conds.now) in
+        OnOk result (args.new.items ≡ args.old.items ++ map label_arg labels) }
+{
+    for (number, _cond) in conds.iter().enumerate() {
+        let label = first + number as u32;
+        args.push(ArgText::Name(label_named(alloc, label)?))?;
+    }
+    Ok(())
+}
+
+/// The raises of condition actuals, with labels from this one on.
+fn raises(
+    alloc: Global,
+    instrs: &mut Vec<InstrText>,
+    context: &Context,
+    scopes: &Scopes,
+    first: u32,
+    conds: &[Condition],
+) -> Result<(), Memory>
+    requires { first + length conds.now < 2 ^ 32 }
+    ensures { let lines = marked_raises (program_in context.now) context.now.procedure (env scopes.now) first
+        (map seen_cond conds.now) in
+        OnOk result (instrs.new.items ≡ instrs.old.items ++ map (written (names_of context.now)) lines) }
+{
+    for (number, cond) in conds.iter().enumerate() {
+        let label = first + number as u32;
+        raise(alloc, instrs, context, scopes, Some(label), *cond)?;
+    }
+    Ok(())
+}
+
+/// What follows a call.
+pub(crate) fn after_call(
+    alloc: Global,
+    instrs: &mut Vec<InstrText>,
+    context: &Context,
+    site: &CallSite,
+    scopes: &Scopes,
+    first: u32,
+) -> Result<(), Memory>
+    requires ready { IsReady context.now }
+    requires callee { site.now.callee < length (program_in context.now).procs }
+    requires labels { first + 2 + length site.now.conds.items < 2 ^ 32 }
+    ensures { let q = program_in context.now in
+        let lines = after_lines q context.now.procedure (env scopes.now) first (local_words (proc_at q site.now.callee))
+        (map seen_cond site.now.conds.items) in
+        OnOk result (instrs.new.items ≡ instrs.old.items ++ map (written (names_of context.now)) lines) }
+{
+    let words = callee_words(context, site.callee);
+    of_number(alloc, instrs, PitonOp::PopStar, words)?;
+    area(alloc, instrs, PitonOp::PushGlobal)?;
+    jump_by_condition(alloc, instrs, first, site.conds.as_slice())?;
+    raise(
+        alloc,
+        instrs,
+        context,
+        scopes,
+        Some(first),
+        Condition::Routine,
+    )?;
+    raises(
+        alloc,
+        instrs,
+        context,
+        scopes,
+        first + 2,
+        site.conds.as_slice(),
+    )?;
+    plain(alloc, instrs, Some(first + 1), PitonOp::NoOp)?;
+    Ok(())
+}

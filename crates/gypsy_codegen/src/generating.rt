@@ -1,0 +1,129 @@
+//! The generator.
+
+ghost use Rattle.std.specs.Prelude.{◌≡◌, ◌≤◌, ◌<◌, ◌^◌, [], length, IfOk};
+ghost use Rattle.piton_syntax.specs.Answers.{KeepsForm};
+ghost use Rattle.piton_check.specs.Answers.{IsChecked};
+ghost use Rattle.piton_check.specs.Violations.{violations};
+ghost use Rattle.gypsy_syntax.specs.ProgramFits.{ProgramFits};
+ghost use Rattle.gypsy_syntax.specs.Resolved.{program_of};
+ghost use Rattle.gypsy_syntax.specs.SourceView.{source_of};
+ghost use Rattle.gypsy_space.specs.Events.{AreNeeds, AreSmall};
+ghost use Rattle.gypsy_space.specs.Needs.{stack_words};
+ghost use Rattle.gypsy_space.specs.Nodes.{seen_program};
+ghost use Rattle.gypsy_codegen.specs.Answers.{Gives, Implements, are_sizes, generation, size_fault};
+ghost use Rattle.gypsy_codegen.specs.Views.{AreModest, words_together};
+
+use crate::fault::GenFault;
+use crate::law::{generated_is_acceptable, source_runs};
+use crate::system::system;
+use gypsy_check::Accepted;
+use gypsy_meaning::{control_need, temporary_need};
+use gypsy_space::{Need, Needs, Program, resolve};
+use piton_check::{CheckFault, Checked, check};
+use piton_syntax::System;
+use stack_text::Memory;
+use std::alloc::Global;
+
+/// The most words of a stack.
+const MAX_SIZE: u32 = 65_536;
+
+/// The most words of code.
+const MAX_WORDS: u64 = 1_048_576;
+
+/// Whether both stacks have 1 to 65,536 words.
+fn are_sizes(ctrl: u32, temp: u32) -> bool
+    ensures { result ≡ are_sizes (stack_words temp ctrl) }
+{
+    1 <= ctrl && ctrl <= MAX_SIZE && 1 <= temp && temp <= MAX_SIZE
+}
+
+/// The words of the code of all procedures.
+fn words_together(needs: &[Need]) -> u64
+    requires few { length needs.now ≤ 1000 }
+    requires modest { AreModest needs.now }
+    ensures { result ≡ words_together needs.now }
+{
+    let mut words = 0;
+    for need in needs {
+        words += need.code_words;
+    }
+    words
+}
+
+/// The first limit that the sizes of the stacks or the words of the code are outside of.
+#[tactic(auto, unfolding(crate::specs::Answers::size_fault))]
+fn size_fault(program: &Program, needs: &Needs, ctrl: u32, temp: u32) -> Option<GenFault>
+    requires needs { AreNeeds (seen_program program.now) needs.now.procedures.items }
+    requires small { AreSmall needs.now.procedures.items }
+    requires fits { ProgramFits (seen_program program.now) }
+    requires few { length needs.now.procedures.items ≤ 1000 }
+    requires modest { AreModest needs.now.procedures.items }
+    ensures { result ≡ size_fault (seen_program program.now) (stack_words temp ctrl) }
+{
+    if !are_sizes(ctrl, temp) {
+        return Some(GenFault::Size);
+    }
+    let need = control_need(program, needs);
+    if (ctrl as u64) < need {
+        return Some(GenFault::Control { need });
+    }
+    let need = temporary_need(program, needs);
+    if (temp as u64) < need {
+        return Some(GenFault::Temporary { need });
+    }
+    let count = words_together(needs.procedures.as_slice());
+    if MAX_WORDS < count {
+        return Some(GenFault::Words { count });
+    }
+    None
+}
+
+/// A system that breaks no rule, checked.
+fn checked(alloc: Global, system: System) -> Result<Checked, Memory>
+    requires form { KeepsForm system }
+    requires rules { violations system ≡ [] }
+    ensures known { IfOk result IsChecked }
+    ensures kept { IfOk result (λ checked. checked.system ≡ system) }
+{
+    match check(alloc, system) {
+        Ok(checked) => Ok(checked),
+        Err(CheckFault::Memory) => Err(Memory),
+        Err(CheckFault::Violation { rule: _, place: _ }) => unreachable!(),
+    }
+}
+
+/// The system of Piton of an accepted source, for stacks of these sizes, from this base on.
+///
+/// The system runs as the source means: where the meaning is done, the system, with the values' words at the bottom of its
+/// first stack, first halts with the same, in the counted steps and at the counted cost. It takes time and memory in
+/// proportion to what is generated.
+///
+/// # Errors
+///
+/// The first of these: a size that is not 1 to 65,536, a control stack or a temporary stack below main's own need, and
+/// more than 1,048,576 words of code; or out of memory. No source of these sizes breaks a rule of Piton.
+pub fn generate(
+    alloc: Global,
+    accepted: &Accepted,
+    needs: &Needs,
+    ctrl: u32,
+    temp: u32,
+    base: u32,
+) -> Result<Checked, GenFault>
+    requires needs { AreNeeds (program_of (source_of accepted.now)) needs.now.procedures.items }
+    requires small { AreSmall needs.now.procedures.items }
+    requires base { base ≤ 2 ^ 31 }
+    ensures value { let s = source_of accepted.now in
+        Gives (λ checked. checked.system) result (generation s (stack_words temp ctrl) base) }
+    ensures runs { IfOk result (Implements (source_of accepted.now) (stack_words temp ctrl) base) }
+{
+    let program = resolve(alloc, accepted)?;
+    if let Some(fault) = size_fault(&program, needs, ctrl, temp) {
+        return Err(fault);
+    }
+    generated_is_acceptable();
+    source_runs();
+    let system = system(alloc, accepted.source(), &program, ctrl, temp, base)?;
+    let made = checked(alloc, system)?;
+    Ok(made)
+}

@@ -1,0 +1,169 @@
+//! Instructions, put one behind the other.
+
+ghost use Rattle.std.specs.Prelude.{◌≡◌, ◌++◌, [], ◌∷◌, ◌<◌, pos, length, None, OnOk, IfOk, option_map};
+ghost use Rattle.piton_syntax.specs.declared.argument.ArgText.TheVariants as arg;
+ghost use Rattle.piton_syntax.specs.declared.op.PitonOp.TheVariants as op;
+ghost use Rattle.piton_syntax.specs.declared.word_text.WordItem.TheVariants as item;
+ghost use Rattle.gypsy_predef.specs.Texts.{instruction, constant, of_name, condition_area, named};
+ghost use Rattle.gypsy_codegen.specs.Views.{labelled};
+ghost use Rattle.gypsy_codegen.specs.Written.{label_name, label_arg, name_in, number};
+
+use piton_syntax::{ArgText, InstrText, Number, PitonOp, TestKind, WordItem, WordText};
+use stack_text::{Memory, Name, Named, read_name};
+use std::alloc::Global;
+
+/// A number that stands nowhere.
+pub(crate) fn unplaced(value: i128) -> Number
+    ensures { result ≡ number value }
+{
+    Number {
+        place: 0,
+        number: value,
+    }
+}
+
+/// The name of a label.
+pub(crate) fn label_named(alloc: Global, label: u32) -> Result<Named, Memory>
+    ensures { IfOk result (λ name. name ≡ label_name label) }
+{
+    let text = format!(in alloc; "L{label}")?;
+    match read_name(alloc, text.as_bytes())? {
+        Some(name) => Ok(Named { place: 0, name }),
+        None => unreachable!(),
+    }
+}
+
+/// The name of the area that holds the condition.
+pub(crate) fn condition_area(alloc: Global) -> Result<Named, Memory>
+    ensures { IfOk result (λ name. name ≡ named condition_area) }
+{
+    match read_name(alloc, b"c-c".as_slice())? {
+        Some(name) => Ok(Named { place: 0, name }),
+        None => unreachable!(),
+    }
+}
+
+/// A name that stands nowhere.
+pub(crate) fn named(name: &Name) -> Result<Named, Memory>
+    ensures { IfOk result (λ made. made ≡ named name.now) }
+{
+    Ok(Named {
+        place: 0,
+        name: name.clone()?,
+    })
+}
+
+/// A name of a table.
+pub(crate) fn name_in(names: &[Name], at: usize) -> Result<Named, Memory>
+    requires { at < length names.now }
+    ensures { IfOk result (λ name. name ≡ name_in names.now at) }
+{
+    named(&names[at])
+}
+
+/// One more instruction.
+pub(crate) fn put(
+    alloc: Global,
+    instrs: &mut Vec<InstrText>,
+    label: Option<u32>,
+    op: PitonOp,
+    args: Vec<ArgText>,
+) -> Result<(), Memory>
+    ensures { OnOk result (instrs.new.items ≡ instrs.old.items ++ labelled label op args.items ∷ []) }
+{
+    let label = match label {
+        Some(label) => Some(label_named(alloc, label)?),
+        None => None,
+    };
+    instrs.push(InstrText {
+        place: 0,
+        label,
+        op,
+        args,
+    })?;
+    Ok(())
+}
+
+/// An instruction without arguments.
+pub(crate) fn plain(
+    alloc: Global,
+    instrs: &mut Vec<InstrText>,
+    label: Option<u32>,
+    op: PitonOp,
+) -> Result<(), Memory>
+    ensures { OnOk result (instrs.new.items ≡ instrs.old.items ++ labelled label op [] ∷ []) }
+{
+    put(alloc, instrs, label, op, Vec::new(alloc))
+}
+
+/// An instruction of a name.
+pub(crate) fn of_name(
+    alloc: Global,
+    instrs: &mut Vec<InstrText>,
+    op: PitonOp,
+    name: Named,
+) -> Result<(), Memory>
+    ensures { OnOk result (instrs.new.items ≡ instrs.old.items ++ instruction None op (arg.Name name ∷ []) ∷ []) }
+{
+    let args = vec![in alloc; ArgText::Name(name)]?;
+    put(alloc, instrs, None, op, args)
+}
+
+/// An instruction of a number of words.
+pub(crate) fn of_number(
+    alloc: Global,
+    instrs: &mut Vec<InstrText>,
+    op: PitonOp,
+    count: u64,
+) -> Result<(), Memory>
+    ensures { OnOk result (instrs.new.items ≡
+        instrs.old.items ++ instruction None op (arg.Number (number (pos count)) ∷ []) ∷ []) }
+{
+    let args = vec![in alloc; ArgText::Number(unplaced(count as i128))]?;
+    put(alloc, instrs, None, op, args)
+}
+
+/// A `push-constant`.
+pub(crate) fn constant(
+    alloc: Global,
+    instrs: &mut Vec<InstrText>,
+    label: Option<u32>,
+    item: WordItem,
+) -> Result<(), Memory>
+    ensures { OnOk result (instrs.new.items ≡ instrs.old.items ++ constant (option_map label_name label) item ∷ []) }
+{
+    let args = vec![in alloc; ArgText::Word(WordText { place: 0, item })]?;
+    put(alloc, instrs, label, PitonOp::PushConstant, args)
+}
+
+/// A jump.
+pub(crate) fn jump(alloc: Global, instrs: &mut Vec<InstrText>, to: u32) -> Result<(), Memory>
+    ensures { OnOk result (instrs.new.items ≡ instrs.old.items ++ instruction None op.Jump (label_arg to ∷ []) ∷ []) }
+{
+    of_name(alloc, instrs, PitonOp::Jump, label_named(alloc, to)?)
+}
+
+/// An instruction of the area that holds the condition.
+pub(crate) fn area(alloc: Global, instrs: &mut Vec<InstrText>, op: PitonOp) -> Result<(), Memory>
+    ensures { OnOk result (instrs.new.items ≡ instrs.old.items ++ of_name op condition_area ∷ []) }
+{
+    of_name(alloc, instrs, op, condition_area(alloc)?)
+}
+
+/// A test, and the jump to a label.
+pub(crate) fn test(
+    alloc: Global,
+    instrs: &mut Vec<InstrText>,
+    op: PitonOp,
+    kind: TestKind,
+    to: u32,
+) -> Result<(), Memory>
+    ensures { let args = arg.Test kind ∷ label_arg to ∷ [] in
+        OnOk result (instrs.new.items ≡ instrs.old.items ++ instruction None op args ∷ []) }
+{
+    let name = label_named(alloc, to)?;
+    let mut args = Vec::new(alloc);
+    args.push(ArgText::Test(kind))?;
+    args.push(ArgText::Name(name))?;
+    put(alloc, instrs, None, op, args)
+}

@@ -1,0 +1,227 @@
+//! The program of a procedure.
+
+ghost use Rattle.std.specs.Prelude.{◌≡◌, ◌+◌, ◌^◌, ◌++◌, ◌<◌, ◌≤◌, length, map, OnOk, IfOk, [], if◌then◌else◌};
+ghost use Rattle.piton_words.specs.declared.word.Word.TheVariants.{Nat};
+ghost use Rattle.gypsy_syntax.specs.Programs.{body_of, shapes_of, words_of};
+ghost use Rattle.gypsy_syntax.specs.SourceView.{local_of, proc_of};
+ghost use Rattle.gypsy_space.specs.Nodes.{seen_proc, seen_program};
+ghost use Rattle.gypsy_predef.specs.Texts.{named};
+ghost use Rattle.gypsy_codegen.specs.Lines.{labels, lines_of, tail_lines};
+ghost use Rattle.gypsy_codegen.specs.Text.{frame_texts, procedure_with, temporaries_of};
+ghost use Rattle.gypsy_codegen.specs.Views.{IsReady, IsWritable, NamesAreThere, names_of, nameless};
+ghost use Rattle.gypsy_codegen.specs.Views.{program_in};
+ghost use Rattle.gypsy_codegen.specs.WordsOf.{starts};
+ghost use Rattle.gypsy_codegen.specs.Written.{written};
+
+use crate::context::{Context, Scopes, procedure_at};
+use crate::lines::{area, constant, jump, name_in, named, plain, unplaced};
+use crate::statement::statement;
+use gypsy_space::{Procedure, Program};
+use gypsy_syntax::{Decl, Local, Proc};
+use piton_syntax::{InstrText, PitonOp, WordItem, WordText};
+use stack_text::{Memory, Name, Named, Shape, Value};
+use std::alloc::Global;
+
+/// The names of formals.
+fn formal_names(names: &mut Vec<Name>, formals: &[Decl]) -> Result<(), Memory>
+    ensures { OnOk result (names.new.items ≡ names.old.items ++ map (λ d. d.name.name) formals.now) }
+{
+    for formal in formals {
+        names.push(formal.name.name.clone()?)?;
+    }
+    Ok(())
+}
+
+/// The names of locals.
+fn local_names(names: &mut Vec<Name>, locals: &[Local]) -> Result<(), Memory>
+    ensures { OnOk result
+        (names.new.items ≡ names.old.items ++ map (λ l. l.decl.name.name) (map local_of locals.now)) }
+{
+    for local in locals {
+        names.push(local.decl.name.name.clone()?)?;
+    }
+    Ok(())
+}
+
+/// The words of a frame by name: main's variables in order, else the locals and behind them the formals.
+fn frame_names(
+    alloc: Global,
+    program: &Program,
+    procedure: u32,
+    proc: &Proc,
+) -> Result<Vec<Name>, Memory>
+    ensures { IfOk result (λ names. names.items ≡ frame_texts (seen_program program.now) procedure (proc_of proc.now)) }
+{
+    let mut names = Vec::new(alloc);
+    if procedure == program.main {
+        formal_names(&mut names, proc.formals.as_slice())?;
+        local_names(&mut names, proc.locals.as_slice())?;
+        Ok(names)
+    } else {
+        local_names(&mut names, proc.locals.as_slice())?;
+        formal_names(&mut names, proc.formals.as_slice())?;
+        Ok(names)
+    }
+}
+
+/// The shapes of formals.
+fn formal_shapes(shapes: &mut Vec<Shape>, formals: &[(Name, Shape)]) -> Result<(), Memory>
+    ensures { OnOk result (shapes.new.items ≡ shapes.old.items ++ map (λ f. f.1) formals.now) }
+{
+    for (_, shape) in formals {
+        shapes.push(*shape)?;
+    }
+    Ok(())
+}
+
+/// The shapes of locals.
+fn local_shapes(shapes: &mut Vec<Shape>, locals: &[(Name, Value)]) -> Result<(), Memory>
+    ensures { OnOk result (shapes.new.items ≡ shapes.old.items ++ map (λ v. v.shape) (map (λ l. l.1) locals.now)) }
+{
+    for (_, value) in locals {
+        shapes.push(value.shape)?;
+    }
+    Ok(())
+}
+
+/// The shapes of the variables of a procedure.
+fn shapes(alloc: Global, procedure: &Procedure) -> Result<Vec<Shape>, Memory>
+    ensures { IfOk result (λ shapes. shapes.items ≡ shapes_of (seen_proc procedure.now)) }
+{
+    let mut shapes = Vec::new(alloc);
+    formal_shapes(&mut shapes, procedure.formals.as_slice())?;
+    local_shapes(&mut shapes, procedure.locals.as_slice())?;
+    Ok(shapes)
+}
+
+/// Variables, each with the index of its first word.
+fn indexed(
+    alloc: Global,
+    names: &[Name],
+    shapes: &[Shape],
+) -> Result<Vec<(Named, WordText)>, Memory>
+    requires each { length names.now ≡ length shapes.now }
+    requires few { words_of shapes.now ≤ 65536 }
+    ensures { let indices = map (λ at. Nat at) (starts 0 shapes.now) in
+        IfOk result (λ made. made.items ≡ temporaries_of nameless names.now indices) }
+{
+    let mut temporaries = Vec::new(alloc);
+    let mut first: u64 = 0;
+    for (number, shape) in shapes.iter().enumerate() {
+        let item = WordItem::Nat(unplaced(first as i128));
+        let name = name_in(names, number)?;
+        temporaries.push((name, WordText { place: 0, item }))?;
+        first += shape.item_count() as u64;
+    }
+    Ok(temporaries)
+}
+
+/// The temporaries: main's variables, and none elsewhere.
+fn temporaries(
+    alloc: Global,
+    is_main: bool,
+    names: &[Name],
+    shapes: &[Shape],
+) -> Result<Vec<(Named, WordText)>, Memory>
+    requires each { length names.now ≡ length shapes.now }
+    requires few { words_of shapes.now ≤ 65536 }
+    ensures { let indices = map (λ at. Nat at) (starts 0 shapes.now) in
+        IfOk result (λ made. made.items ≡ (if is_main then temporaries_of nameless names.now indices else [])) }
+{
+    if is_main {
+        indexed(alloc, names, shapes)
+    } else {
+        Ok(Vec::new(alloc))
+    }
+}
+
+/// The names as they stand in a text.
+fn named_all(alloc: Global, names: &[Name]) -> Result<Vec<Named>, Memory>
+    ensures { IfOk result (λ made. made.items ≡ map named names.now) }
+{
+    let mut made = Vec::new(alloc);
+    for name in names {
+        made.push(named(name)?)?;
+    }
+    Ok(made)
+}
+
+/// The formals: none of main, and elsewhere each variable.
+fn formals(alloc: Global, is_main: bool, names: &[Name]) -> Result<Vec<Named>, Memory>
+    ensures { IfOk result (λ formals. formals.items ≡ (if is_main then [] else map named names.now)) }
+{
+    if is_main {
+        Ok(Vec::new(alloc))
+    } else {
+        named_all(alloc, names)
+    }
+}
+
+/// What follows the body of a procedure.
+fn tail(alloc: Global, instrs: &mut Vec<InstrText>) -> Result<(), Memory>
+    ensures { OnOk result (instrs.new.items ≡ instrs.old.items ++ map (written nameless) tail_lines) }
+{
+    jump(alloc, instrs, 1)?;
+    constant(alloc, instrs, Some(0), WordItem::Nat(unplaced(1)))?;
+    area(alloc, instrs, PitonOp::PopGlobal)?;
+    plain(alloc, instrs, Some(1), PitonOp::Ret)
+}
+
+/// The instructions of a procedure.
+fn instructions(alloc: Global, context: &Context) -> Result<Vec<InstrText>, Memory>
+    requires ready { IsReady context.now }
+    requires there { context.now.procedure < length (program_in context.now).procs }
+    requires names { let q = program_in context.now in
+        NamesAreThere q context.now.procedure (body_of q context.now.procedure) }
+    requires labels { 2 + labels (body_of (program_in context.now) context.now.procedure) < 2 ^ 32 }
+    ensures { let lines = lines_of (program_in context.now) context.now.procedure in
+        IfOk result (λ instrs. instrs.items ≡ map (written (names_of context.now)) lines) }
+{
+    let mut instrs = Vec::new(alloc);
+    let found = procedure_at(context.program, context.procedure);
+    statement(
+        alloc,
+        &mut instrs,
+        context,
+        &found.body,
+        &Scopes::Outside,
+        2,
+    )?;
+    tail(alloc, &mut instrs)?;
+    Ok(instrs)
+}
+
+/// The program of a procedure.
+pub(crate) fn procedure(
+    alloc: Global,
+    program: &Program,
+    programs: &[Name],
+    proc: &Proc,
+    number: u32,
+) -> Result<piton_syntax::Program, Memory>
+    requires { IsWritable (seen_program program.now) programs.now number (proc_of proc.now) }
+    ensures { let text = procedure_with (seen_program program.now) programs.now number (proc_of proc.now) in
+        IfOk result (λ made. made ≡ text) }
+{
+    let shapes = shapes(alloc, procedure_at(program, number))?;
+    let frame = frame_names(alloc, program, number, proc)?;
+    let context = Context {
+        program,
+        procedure: number,
+        shapes: shapes.as_slice(),
+        programs,
+        locals: frame.as_slice(),
+    };
+    let instrs = instructions(alloc, &context)?;
+    let is_main = number == program.main;
+    let formals = formals(alloc, is_main, frame.as_slice())?;
+    let temporaries = temporaries(alloc, is_main, frame.as_slice(), shapes.as_slice())?;
+    Ok(piton_syntax::Program {
+        place: 0,
+        name: named(&proc.name.name)?,
+        formals_place: 0,
+        formals,
+        temporaries,
+        instrs,
+    })
+}

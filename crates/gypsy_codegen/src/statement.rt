@@ -1,0 +1,164 @@
+//! The code of statements, in one pass.
+
+ghost use Rattle.std.specs.Prelude.{◌≡◌, ◌+◌, ◌^◌, ◌++◌, ◌∷◌, [], ◌<◌, length, map, OnOk, IfOk};
+ghost use Rattle.piton_syntax.specs.declared.test_kind.TestFamily.TheVariants as family;
+ghost use Rattle.piton_syntax.specs.declared.test_kind.TestKind.TheVariants as test;
+ghost use Rattle.piton_check.specs.Instruction as i;
+ghost use Rattle.gypsy_syntax.specs.Programs.{Call};
+ghost use Rattle.gypsy_syntax.specs.ProgramFits.{Each};
+ghost use Rattle.gypsy_space.specs.Nodes.{seen_cond, seen_statement, seen_statements};
+ghost use Rattle.gypsy_codegen.specs.Generated.{offset};
+ghost use Rattle.gypsy_codegen.specs.Lines.{labels};
+ghost use Rattle.gypsy_codegen.specs.Views.{code_in, HasWord, IsReady, NamesAreThere, normal_text};
+ghost use Rattle.gypsy_codegen.specs.Views.{program_in, statement_text};
+
+use crate::apply::apply;
+use crate::calls::{after_call, before_call, push_local, raise};
+use crate::context::{Context, Scopes};
+use crate::lines::{area, constant, jump, plain, test, unplaced};
+use gypsy_space::{CallSite, Node};
+use piton_syntax::{InstrText, PitonOp, TestKind, WordItem};
+use stack_text::Memory;
+use std::alloc::Global;
+use std::rc::Rc;
+
+/// The condition is normal again, from a label on.
+fn normal(alloc: Global, instrs: &mut Vec<InstrText>, label: u32) -> Result<(), Memory>
+    ensures { OnOk result (instrs.new.items ≡ instrs.old.items ++ normal_text label) }
+{
+    constant(alloc, instrs, Some(label), WordItem::Nat(unplaced(2)))?;
+    area(alloc, instrs, PitonOp::PopGlobal)
+}
+
+/// The test of an `if`, and the jump to a label where it is false.
+fn branch(
+    alloc: Global,
+    instrs: &mut Vec<InstrText>,
+    context: &Context,
+    variable: u32,
+    to: u32,
+) -> Result<(), Memory>
+    requires ready { IsReady context.now }
+    requires word { HasWord (program_in context.now) context.now.procedure variable }
+    ensures { let at = offset (program_in context.now) context.now.procedure variable in
+        let code = i.PushLocal at ∷ i.FetchTempStk ∷ i.TestAndJump family.Bool test.F to ∷ [] in
+        OnOk result (instrs.new.items ≡ instrs.old.items ++ code_in context.now code) }
+{
+    push_local(alloc, instrs, context, variable)?;
+    plain(alloc, instrs, None, PitonOp::FetchTempStk)?;
+    test(alloc, instrs, PitonOp::TestBoolAndJump, TestKind::F, to)
+}
+
+/// A call of a procedure.
+fn call(
+    alloc: Global,
+    instrs: &mut Vec<InstrText>,
+    context: &Context,
+    site: &CallSite,
+    scopes: &Scopes,
+    first: u32,
+) -> Result<(), Memory>
+    requires ready { IsReady context.now }
+    requires callee { site.now.callee < length (program_in context.now).procs }
+    requires words { Each (HasWord (program_in context.now) context.now.procedure) site.now.actuals.items }
+    requires labels { first + 2 + length site.now.conds.items < 2 ^ 32 }
+    ensures { let conds = map seen_cond site.now.conds.items in
+        let statement = Call site.now.place site.now.callee site.now.actuals.items conds in
+        OnOk result (instrs.new.items ≡ instrs.old.items ++ statement_text context.now scopes.now first statement) }
+{
+    before_call(alloc, instrs, context, site)?;
+    after_call(alloc, instrs, context, site, scopes, first)?;
+    Ok(())
+}
+
+/// A statement whose first label is this one, and the next label behind it.
+#[cycle(statements)]
+pub(crate) fn statement(
+    alloc: Global,
+    instrs: &mut Vec<InstrText>,
+    context: &Context,
+    node: &Rc<Node>,
+    scopes: &Scopes,
+    first: u32,
+) -> Result<u32, Memory>
+    requires ready { IsReady context.now }
+    requires names { NamesAreThere (program_in context.now) context.now.procedure (seen_statement node.now.value) }
+    requires labels { first + labels (seen_statement node.now.value) < 2 ^ 32 }
+    ensures lines { let text = statement_text context.now scopes.now first (seen_statement node.now.value) in
+        OnOk result (instrs.new.items ≡ instrs.old.items ++ text) }
+    ensures next { IfOk result (λ next. next ≡ first + labels (seen_statement node.now.value)) }
+{
+    match &**node {
+        Node::NoOp(_) => {
+            plain(alloc, instrs, None, PitonOp::NoOp)?;
+            Ok(first)
+        }
+        Node::Signal(_, cond) => {
+            raise(alloc, instrs, context, scopes, None, *cond)?;
+            Ok(first)
+        }
+        Node::Seq(nodes) => {
+            let next = parts(alloc, instrs, context, nodes, scopes, first)?;
+            Ok(next)
+        }
+        Node::Loop(_, body) => {
+            plain(alloc, instrs, Some(first), PitonOp::NoOp)?;
+            let inner = Scopes::InLoop(first + 1, &*scopes);
+            let next = statement(alloc, instrs, context, body, &inner, first + 2)?;
+            jump(alloc, instrs, first)?;
+            normal(alloc, instrs, first + 1)?;
+            Ok(next)
+        }
+        Node::If(_, variable, yes, no) => {
+            branch(alloc, instrs, context, *variable, first)?;
+            let behind = statement(alloc, instrs, context, yes, scopes, first + 2)?;
+            jump(alloc, instrs, first + 1)?;
+            plain(alloc, instrs, Some(first), PitonOp::NoOp)?;
+            let next = statement(alloc, instrs, context, no, scopes, behind)?;
+            plain(alloc, instrs, Some(first + 1), PitonOp::NoOp)?;
+            Ok(next)
+        }
+        Node::Begin(_, body, conds, arm) => {
+            let inner = Scopes::InBegin(conds.as_slice(), first, &*scopes);
+            let behind = statement(alloc, instrs, context, body, &inner, first + 2)?;
+            jump(alloc, instrs, first + 1)?;
+            normal(alloc, instrs, first)?;
+            let next = statement(alloc, instrs, context, arm, scopes, behind)?;
+            plain(alloc, instrs, Some(first + 1), PitonOp::NoOp)?;
+            Ok(next)
+        }
+        Node::Call(site) => {
+            call(alloc, instrs, context, site, scopes, first)?;
+            Ok(first + 2 + site.conds.len() as u32)
+        }
+        Node::Apply(site) => {
+            apply(alloc, instrs, context, scopes, site)?;
+            Ok(first)
+        }
+    }
+}
+
+/// The parts of a sequence.
+#[cycle(statements)]
+fn parts(
+    alloc: Global,
+    instrs: &mut Vec<InstrText>,
+    context: &Context,
+    parts: &Rc<Vec<Rc<Node>>>,
+    scopes: &Scopes,
+    first: u32,
+) -> Result<u32, Memory>
+    requires ready { IsReady context.now }
+    requires names { let parts = seen_statements parts.now.value.items in
+        NamesAreThere (program_in context.now) context.now.procedure parts }
+    requires labels { first + labels (seen_statements parts.now.value.items) < 2 ^ 32 }
+    ensures lines { let text = statement_text context.now scopes.now first (seen_statements parts.now.value.items) in
+        OnOk result (instrs.new.items ≡ instrs.old.items ++ text) }
+    ensures next { IfOk result (λ next. next ≡ first + labels (seen_statements parts.now.value.items)) }
+{
+    let mut next = first;
+    for index in 0..parts.len() {
+        next = statement(alloc, instrs, context, &parts[index], scopes, next)?;
+    }
+    Ok(next)
+}

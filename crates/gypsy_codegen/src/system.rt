@@ -1,0 +1,145 @@
+//! The system of a source.
+
+ghost use Rattle.std.specs.Prelude.{◌≡◌, ◌^◌, ◌++◌, ◌≤◌, length, map, OnOk, IfOk};
+ghost use Rattle.gypsy_check.specs.Accepted.{IsAccepted};
+ghost use Rattle.gypsy_syntax.specs.Resolved.{program_of};
+ghost use Rattle.gypsy_syntax.specs.SourceView.{proc_of, source_of};
+ghost use Rattle.gypsy_space.specs.Needs.{stack_words};
+ghost use Rattle.gypsy_space.specs.Nodes.{seen_proc, seen_program};
+ghost use Rattle.gypsy_predef.specs.Texts.{body_texts};
+ghost use Rattle.gypsy_codegen.specs.Acceptable.{total_words};
+ghost use Rattle.gypsy_codegen.specs.Text.{generated, procedures_with, program_texts};
+ghost use Rattle.gypsy_codegen.specs.Views.{AreWritable, area_text, opening_text};
+
+use crate::context::procedure_at;
+use crate::lines::{condition_area, named, unplaced};
+use crate::procedure::procedure;
+use crate::words::{formal_words, local_words};
+use gypsy_predef::bodies;
+use gypsy_space::{Procedure, Program};
+use gypsy_syntax::{Proc, Source};
+use piton_syntax::{Area, System, WordItem, WordText};
+use stack_text::{Memory, Name};
+use std::alloc::Global;
+
+/// The names of procedures.
+fn procedure_names(names: &mut Vec<Name>, procs: &[Proc]) -> Result<(), Memory>
+    ensures { OnOk result (names.new.items ≡ names.old.items ++ map (λ p. p.name.name) (map proc_of procs.now)) }
+{
+    for proc in procs {
+        names.push(proc.name.name.clone()?)?;
+    }
+    Ok(())
+}
+
+/// The names of programs.
+fn body_names(names: &mut Vec<Name>, bodies: &[piton_syntax::Program]) -> Result<(), Memory>
+    ensures { OnOk result (names.new.items ≡ names.old.items ++ map (λ b. b.name.name) bodies.now) }
+{
+    for body in bodies {
+        names.push(body.name.name.clone()?)?;
+    }
+    Ok(())
+}
+
+/// The names of all programs: the procedures, and then the predefined ones.
+fn program_names(
+    alloc: Global,
+    source: &Source,
+    bodies: &[piton_syntax::Program],
+) -> Result<Vec<Name>, Memory>
+    requires { bodies.now ≡ body_texts }
+    ensures { IfOk result (λ names. names.items ≡ program_texts (source_of source.now)) }
+{
+    let mut names = Vec::new(alloc);
+    procedure_names(&mut names, source.procs.as_slice())?;
+    body_names(&mut names, bodies)?;
+    Ok(names)
+}
+
+/// The programs of procedures.
+fn procedures(
+    alloc: Global,
+    program: &Program,
+    programs: &[Name],
+    procs: &[Proc],
+) -> Result<Vec<piton_syntax::Program>, Memory>
+    requires few { length procs.now ≤ 2 ^ 20 }
+    requires writable { AreWritable (seen_program program.now) programs.now 0 (map proc_of procs.now) }
+    ensures { let texts = procedures_with (seen_program program.now) programs.now 0 (map proc_of procs.now) in
+        IfOk result (λ made. made.items ≡ texts) }
+{
+    let mut made = Vec::new(alloc);
+    for (number, proc) in procs.iter().enumerate() {
+        made.push(procedure(alloc, program, programs, proc, number as u32)?)?;
+    }
+    Ok(made)
+}
+
+/// The stack at the start: main's formals, all 0 or false, and its locals.
+fn opening(alloc: Global, main: &Procedure) -> Result<Vec<WordText>, Memory>
+    ensures { IfOk result (λ stack. stack.items ≡ opening_text (seen_proc main.now)) }
+{
+    let mut stack = Vec::new(alloc);
+    formal_words(&mut stack, main.formals.as_slice())?;
+    local_words(&mut stack, main.locals.as_slice())?;
+    Ok(stack)
+}
+
+/// The area that holds the condition, which is normal at the start.
+fn area(alloc: Global) -> Result<Area, Memory>
+    ensures { IfOk result (λ area. area ≡ area_text) }
+{
+    let item = WordItem::Nat(unplaced(2));
+    Ok(Area {
+        place: 0,
+        name: condition_area(alloc)?,
+        words: vec![in alloc; WordText { place: 0, item }]?,
+    })
+}
+
+/// The programs of a source, and the predefined ones behind them.
+fn programs(
+    alloc: Global,
+    source: &Source,
+    program: &Program,
+) -> Result<Vec<piton_syntax::Program>, Memory>
+    requires few { length (source_of source.now).procs ≤ 2 ^ 20 }
+    requires writable { let s = source_of source.now in
+        AreWritable (seen_program program.now) (program_texts s) 0 s.procs }
+    ensures { let s = source_of source.now in
+        let texts = procedures_with (seen_program program.now) (program_texts s) 0 s.procs ++ body_texts in
+        IfOk result (λ made. made.items ≡ texts) }
+{
+    let mut bodies = bodies(alloc)?;
+    let names = program_names(alloc, source, bodies.as_slice())?;
+    let mut made = procedures(alloc, program, names.as_slice(), source.procs.as_slice())?;
+    made.append(&mut bodies)?;
+    Ok(made)
+}
+
+/// The system of a source, with these sizes of the stacks and this base.
+pub(crate) fn system(
+    alloc: Global,
+    source: &Source,
+    program: &Program,
+    ctrl: u32,
+    temp: u32,
+    base: u32,
+) -> Result<System, Memory>
+    requires program { seen_program program.now ≡ program_of (source_of source.now) }
+    requires accepted { IsAccepted (source_of source.now) }
+    requires few { total_words (program_of (source_of source.now)) ≤ 2 ^ 20 }
+    ensures { IfOk result (λ system. system ≡ generated (source_of source.now) (stack_words temp ctrl) base) }
+{
+    Ok(System {
+        place: 0,
+        main: named(&source.main.name)?,
+        ctrl: unplaced(ctrl as i128),
+        temp: unplaced(temp as i128),
+        base: unplaced(base as i128),
+        areas: vec![in alloc; area(alloc)?]?,
+        stack: opening(alloc, procedure_at(program, program.main))?,
+        programs: programs(alloc, source, program)?,
+    })
+}

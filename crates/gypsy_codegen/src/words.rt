@@ -1,0 +1,100 @@
+//! Words of values.
+
+ghost use Rattle.std.specs.Prelude.{◌≡◌, ◌++◌, ◌≤◌, map, OnOk};
+ghost use Rattle.gypsy_syntax.specs.Effects.{item_of_value};
+ghost use Rattle.gypsy_syntax.specs.Programs.{words_of};
+ghost use Rattle.gypsy_predef.specs.Runs.{word_of_item, words_of_value};
+ghost use Rattle.gypsy_codegen.specs.Views.{nameless, word_texts};
+ghost use Rattle.gypsy_codegen.specs.WordsOf.{words_of_values, zero_value};
+ghost use Rattle.gypsy_codegen.specs.Written.{item_text};
+
+use crate::lines::unplaced;
+use piton_syntax::{WordItem, WordText};
+use stack_text::{Kind, Memory, Name, Shape, Value};
+
+/// An item of a value as a word.
+pub(crate) fn word_item(kind: Kind, item: i32) -> WordItem
+    ensures { result ≡ item_text nameless (word_of_item kind item) }
+{
+    match kind {
+        Kind::Boolean => WordItem::Bool(item == 1),
+        Kind::Integer | Kind::Character => WordItem::Int(unplaced(item as i128)),
+    }
+}
+
+/// The word of a value of a simple type.
+pub(crate) fn simple_word(value: &Value) -> WordItem
+    ensures { let v = value.now in result ≡ item_text nameless (word_of_item v.shape.kind (item_of_value v)) }
+{
+    let item = match value.items.first() {
+        Some(item) => *item,
+        None => 0,
+    };
+    word_item(value.shape.kind, item)
+}
+
+/// The words of items.
+fn item_words(words: &mut Vec<WordText>, kind: Kind, items: &[i32]) -> Result<(), Memory>
+    ensures { OnOk result (words.new.items ≡ words.old.items ++ word_texts (map (word_of_item kind) items.now)) }
+{
+    for item in items {
+        let item = word_item(kind, *item);
+        words.push(WordText { place: 0, item })?;
+    }
+    Ok(())
+}
+
+/// The words of a value.
+fn value_words(words: &mut Vec<WordText>, value: &Value) -> Result<(), Memory>
+    ensures { OnOk result (words.new.items ≡ words.old.items ++ word_texts (words_of_value value.now)) }
+{
+    item_words(words, value.shape.kind, value.items.as_slice())
+}
+
+/// The words of locals.
+pub(crate) fn local_words(words: &mut Vec<WordText>, locals: &[(Name, Value)]) -> Result<(), Memory>
+    ensures { OnOk result
+        (words.new.items ≡ words.old.items ++ word_texts (words_of_values (map (λ l. l.1) locals.now))) }
+{
+    for (_, value) in locals {
+        value_words(words, value)?;
+    }
+    Ok(())
+}
+
+/// The words of a variable whose items are all 0, or false.
+fn zero_words(words: &mut Vec<WordText>, shape: Shape) -> Result<(), Memory>
+    ensures { OnOk result (words.new.items ≡ words.old.items ++ word_texts (words_of_value (zero_value shape))) }
+{
+    for _made in 0..shape.item_count() {
+        let item = word_item(shape.kind, 0);
+        words.push(WordText { place: 0, item })?;
+    }
+    Ok(())
+}
+
+/// The words of formals before they are given values.
+pub(crate) fn formal_words(
+    words: &mut Vec<WordText>,
+    formals: &[(Name, Shape)],
+) -> Result<(), Memory>
+    ensures { OnOk result (words.new.items ≡
+        words.old.items ++ word_texts (words_of_values (map zero_value (map (λ f. f.1) formals.now)))) }
+{
+    for (_, shape) in formals {
+        zero_words(words, *shape)?;
+    }
+    Ok(())
+}
+
+/// How many words locals have.
+pub(crate) fn local_count(locals: &[(Name, Value)]) -> u64
+    requires { words_of (map (λ v. v.shape) (map (λ l. l.1) locals.now)) ≤ 65536 }
+    ensures { result ≡ words_of (map (λ v. v.shape) (map (λ l. l.1) locals.now)) }
+{
+    let mut words = 0;
+    for (_, value) in locals {
+        words += value.shape.item_count() as u64;
+    }
+    words
+}
