@@ -1,0 +1,4 @@
+pub mod NameLaws
+pub mod MakingLaws
+pub mod FormLaws
+pub mod RuleLaws

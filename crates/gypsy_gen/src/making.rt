@@ -1,0 +1,100 @@
+//! A large source.
+
+ghost use Rattle.std.specs.Prelude.{◌≡◌, ◌≤◌, ◌*◌, ◌+◌, ◌-◌, ◌%◌, ◌^◌, IfOk, map, [], ◌∷◌};
+ghost use Rattle.stack_text.specs.Names.{is_name};
+ghost use Rattle.gypsy_syntax.specs.Answers.{KeepsForm};
+ghost use Rattle.gypsy_syntax.specs.SourceView.{parts_of_list, proc_of, source_of, stmt_of};
+ghost use Rattle.gypsy_syntax.specs.Made.{new_seq};
+ghost use Rattle.gypsy_check.specs.Rules.{violations};
+ghost use Rattle.gypsy_gen.specs.Large.{next_state, procedure, calls_from, main_procedure, procedures_from, large_of};
+
+use crate::body::{body_of, sequence, statement};
+use crate::parts::{call, formals, locals, named, procedure_name};
+use gypsy_syntax::{Proc, Source, Stmt, plain_form};
+use stack_text::Memory;
+use std::alloc::Global;
+
+/// The state of the generator after this one.
+#[tactic(auto, unfolding(crate::specs::Large::next_state))]
+fn next_state(state: u32) -> u32
+    ensures { result ≡ next_state state }
+{
+    ((1_664_525 * u64::from(state) + 1_013_904_223) % (1 << 32)) as u32
+}
+
+/// A procedure, by its number and the state of the generator.
+fn procedure(alloc: Global, index: u32, state: u32) -> Result<Proc, Memory>
+    ensures { IfOk result (λ made. proc_of made ≡ procedure index state) }
+{
+    Ok(Proc {
+        place: 0,
+        name: procedure_name(alloc, index)?,
+        formals: formals(alloc)?,
+        conds: Vec::new(alloc),
+        locals: locals(alloc, state % 1000)?,
+        local_conds: Vec::new(alloc),
+        body: statement(alloc, body_of(state))?,
+    })
+}
+
+/// The calls of procedures, in turn.
+fn calls(alloc: Global, size: u32) -> Result<Vec<Stmt>, Memory>
+    requires { size ≤ 900 }
+    ensures { IfOk result (λ parts. map stmt_of parts.items ≡ calls_from 1 size) }
+{
+    let mut parts = Vec::new(alloc);
+    for index in 1..size + 1 {
+        parts.push(call(alloc, index)?)?;
+    }
+    Ok(parts)
+}
+
+/// The main procedure.
+fn main_procedure(alloc: Global, size: u32) -> Result<Proc, Memory>
+    requires { size ≤ 900 }
+    ensures { IfOk result (λ made. proc_of made ≡ main_procedure size) }
+{
+    Ok(Proc {
+        place: 0,
+        name: named(alloc, b"main".as_slice())?,
+        formals: formals(alloc)?,
+        conds: Vec::new(alloc),
+        locals: Vec::new(alloc),
+        local_conds: Vec::new(alloc),
+        body: sequence(calls(alloc, size)?),
+    })
+}
+
+/// The main procedure and all others.
+fn procedures(alloc: Global, number: u32, size: u32) -> Result<Vec<Proc>, Memory>
+    requires { size ≤ 900 }
+    ensures { IfOk result (λ procs. map proc_of procs.items ≡ main_procedure size ∷ procedures_from 1 number size) }
+{
+    let mut procs = Vec::new(alloc);
+    procs.push(main_procedure(alloc, size)?)?;
+    let mut state = number;
+    for index in 1..size + 1 {
+        state = next_state(state);
+        procs.push(procedure(alloc, index, state)?)?;
+    }
+    Ok(procs)
+}
+
+/// A source with a main procedure that calls `size` procedures in turn, each with its variable. What each does with it
+/// depends on the number.
+///
+/// It keeps the form and breaks no static rule. The size is 1 to 900. The only error is out of memory.
+pub fn large(alloc: Global, number: u32, size: u32) -> Result<Source, Memory>
+    requires low { 1 ≤ size }
+    requires high { size ≤ 900 }
+    ensures source { IfOk result (λ source. source_of source ≡ large_of number size) }
+    ensures form { IfOk result (λ source. KeepsForm (source_of source)) }
+    ensures rules { IfOk result (λ source. violations (source_of source) ≡ []) }
+{
+    plain_form();
+    Ok(Source {
+        place: 0,
+        main: named(alloc, b"main".as_slice())?,
+        procs: procedures(alloc, number, size)?,
+    })
+}
