@@ -1,7 +1,9 @@
 //! Reads texts of Micro-Gypsy at the limits of the form, prints what was read, checks it, and prints what became of each.
 //! The times are taken from outside: each step is linear in the text. A first word on the command line picks one text,
-//! from 1 on.
+//! from 1 on. After the texts come runs of the step machine, with the numbers that follow.
 #![tactic(auto)]
+
+mod runs;
 
 use gypsy_check::check;
 use gypsy_syntax::{print_gypsy, read_gypsy};
@@ -206,6 +208,11 @@ fn main(rt: HostRuntime) -> io::Result<()> {
         if pick.is_none() || pick == Some(place + 1) {
             let text = sample.text(rt.alloc())?;
             report(&rt, sample.name, &text)?;
+        }
+    }
+    for (place, sample) in runs::SAMPLES.iter().enumerate() {
+        if pick.is_none() || pick == Some(SAMPLES.len() + place + 1) {
+            runs::report(&rt, sample)?;
         }
     }
     Ok(())

@@ -4,6 +4,10 @@
 #![tactic(auto)]
 
 #[cfg(test)]
+mod codegen;
+#[cfg(test)]
+mod meaning;
+#[cfg(test)]
 mod predef;
 #[cfg(test)]
 mod rules;
