@@ -2,5 +2,6 @@
 pub mod Reading
 pub mod Report
 pub mod ValueReading
+pub mod Running
 -- what private functions say
 pub mod Variable

@@ -64,6 +64,10 @@ shaped [] read = []
 shaped (slot ∷ slots) [] = []
 shaped (slot ∷ slots) (first ∷ others) = record { name = first.0; shape = slot.shape; items = first.1 } ∷ shaped slots others
 
+-- the lines of a reading of an image
+abbrev pub lines_of_reading : ImageOf → ReadingOf → List ℕ
+lines_of_reading image read = reading_lines read.condition (shaped image.slots read.items)
+
 -- the number of instructions, and the lines of a reading of the image
 abbrev pub report_text : ImageOf → ReadingOf → ℕ → List ℕ
-report_text image read count = line (codes "finished " ++ decimal count) ++ reading_lines read.condition (shaped image.slots read.items)
+report_text image read count = line (codes "finished " ++ decimal count) ++ lines_of_reading image read

@@ -3,8 +3,10 @@
 
 mod printing;
 mod reading;
+mod running;
 mod shown;
 
-pub use printing::{Variable, push_lines, report};
+pub use printing::{Variable, push_lines, push_reading, report};
 pub use reading::{Reading, read_up};
+pub use running::push_run;
 pub use shown::{Shown, condition_of, item_of};

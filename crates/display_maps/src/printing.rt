@@ -3,7 +3,7 @@
 ghost use Rattle.std.specs.Prelude.{◌≡◌, ◌++◌, map, IfOk, OnOk};
 ghost use Rattle.std.specs.List.{flat_map};
 ghost use Rattle.std.specs.Option.{option_copied};
-ghost use Rattle.display_maps.specs.Report.{shown_text, spaced, items_text, value_text, variable_line, condition_line, reading_lines, shaped, report_text};
+ghost use Rattle.display_maps.specs.Report.{shown_text, spaced, items_text, value_text, variable_line, condition_line, reading_lines, shaped, lines_of_reading, report_text};
 ghost use Rattle.display_maps.specs.Variable.{variable_of_line};
 
 use crate::reading::Reading;
@@ -135,11 +135,25 @@ fn shaped<'a>(
     Ok(variables)
 }
 
-/// The report of a run that finished after so many instructions: the count, the condition where the image has a
-/// condition word, and a line for each variable.
+/// Appends the lines of a reading of an image: `condition` with the condition, where the image has a condition word, and
+/// a line for each variable.
 ///
 /// The reading is one of the image: it has the image's slots in order, each with its number of items, and a condition
-/// exactly where the image has a condition word.
+/// exactly where the image has a condition word. The only error is out of memory.
+pub fn push_reading(
+    alloc: Global,
+    text: &mut Vec<u8>,
+    image: &Image,
+    reading: &Reading,
+) -> Result<(), Memory>
+    ensures { OnOk result (text.new.items ≡ text.old.items ++ lines_of_reading image.now reading.now) }
+{
+    let variables = shaped(alloc, &image.slots, &reading.items)?;
+    push_lines(alloc, text, reading.condition.as_ref(), &variables)
+}
+
+/// The report of a run that finished after so many instructions: the count, and the lines of a reading of its image, as
+/// `push_reading` has them.
 pub fn report(
     alloc: Global,
     image: &Image,
@@ -149,7 +163,6 @@ pub fn report(
     ensures { IfOk result (λ text. text.items ≡ report_text image.now reading.now count) }
 {
     let mut text = format!(in alloc; "finished {count}\n")?.into_bytes();
-    let variables = shaped(alloc, &image.slots, &reading.items)?;
-    push_lines(alloc, &mut text, reading.condition.as_ref(), &variables)?;
+    push_reading(alloc, &mut text, image, reading)?;
     Ok(text)
 }

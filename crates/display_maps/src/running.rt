@@ -1,0 +1,89 @@
+//! Conditions and variables of a run of a source as lines.
+
+ghost use Rattle.std.specs.Prelude.{◌≡◌, ◌++◌, IfOk, OnOk, map, None};
+ghost use Rattle.std.specs.List.{flat_map};
+ghost use Rattle.fm_words.specs.Word.{word_of_int};
+ghost use Rattle.display_maps.specs.Reading.{item_of};
+ghost use Rattle.display_maps.specs.Report.{variable_line};
+ghost use Rattle.display_maps.specs.Running.{condition_shown, variable_shown, variables_shown, run_lines};
+
+use crate::printing::{Variable, push_lines};
+use crate::shown::{Shown, item_of};
+use fm_words::word_of_int;
+use gypsy_meaning::Current;
+use stack_text::{Kind, Memory, Name, Value};
+use std::alloc::Global;
+
+/// A condition as it is printed.
+fn condition_shown(condition: &Current) -> Result<Shown, Memory>
+    ensures { IfOk result (λ shown. shown ≡ condition_shown condition.now) }
+{
+    match condition {
+        Current::Normal => Ok(Shown::Normal),
+        Current::Routine => Ok(Shown::Routine),
+        Current::Leave => Ok(Shown::Leave),
+        Current::Named(name) => Ok(Shown::Named(name.clone()?)),
+    }
+}
+
+/// Items of a kind as they are printed.
+fn items_shown(alloc: Global, kind: Kind, items: &[i32]) -> Result<Vec<Shown>, Memory>
+    ensures { IfOk result (λ shown. shown.items ≡ map (λ item. item_of kind (word_of_int item)) items.now) }
+{
+    let mut shown = Vec::new(alloc);
+    for item in items {
+        shown.push(item_of(kind, word_of_int(*item)))?;
+    }
+    Ok(shown)
+}
+
+/// Appends the line of a variable.
+fn push_variable(
+    alloc: Global,
+    text: &mut Vec<u8>,
+    name: &Name,
+    value: &Value,
+) -> Result<(), Memory>
+    ensures { OnOk result (text.new.items ≡ text.old.items ++ variable_line (variable_shown name.now value.now)) }
+{
+    let items = items_shown(alloc, value.shape.kind, value.items.as_slice())?;
+    let variable = Variable {
+        name,
+        shape: value.shape,
+        items: &items,
+    };
+    push_lines(alloc, text, None, &[variable])
+}
+
+/// Appends the line of each variable.
+#[tactic(auto, unfolding(crate::specs::Running::variables_shown))]
+fn push_variables(
+    alloc: Global,
+    text: &mut Vec<u8>,
+    variables: &[(Name, Value)],
+) -> Result<(), Memory>
+    ensures { OnOk result (text.new.items ≡ text.old.items ++ flat_map variable_line
+        (variables_shown (map (λ v. v.0) variables.now) (map (λ v. v.1) variables.now))) }
+{
+    for variable in variables {
+        push_variable(alloc, text, &variable.0, &variable.1)?;
+    }
+    Ok(())
+}
+
+/// Appends the lines of a run of a source: `condition` with its condition, and each variable as `NAME = VALUE`.
+///
+/// The only error is out of memory; the text is then a prefix of these lines after the text before.
+pub fn push_run(
+    alloc: Global,
+    text: &mut Vec<u8>,
+    condition: &Current,
+    variables: &[(Name, Value)],
+) -> Result<(), Memory>
+    ensures { OnOk result (text.new.items ≡ text.old.items
+        ++ run_lines condition.now (map (λ v. v.0) variables.now) (map (λ v. v.1) variables.now)) }
+{
+    let shown = condition_shown(condition)?;
+    push_lines(alloc, text, Some(&shown), &[])?;
+    push_variables(alloc, text, variables)
+}
