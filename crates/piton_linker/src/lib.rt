@@ -8,6 +8,7 @@ mod data;
 mod fault;
 mod linking;
 mod memory;
+mod numbering;
 mod placement;
 mod sizes;
 mod table;
@@ -15,5 +16,6 @@ mod words;
 
 pub use fault::LinkFault;
 pub use linking::{Linked, link};
+pub use numbering::word_numbers;
 pub use placement::Layout;
 pub use sizes::layout;

@@ -1,0 +1,125 @@
+//! Words as the text of Piton has them, with names in place of positions.
+ghost use Rattle.std.specs.Prelude.{◌≡◌, ◌++◌, pos, IfOk, OnOk, slice_get};
+ghost use Rattle.std.specs.Option.{option_map};
+ghost use Rattle.piton_show.specs.NamedWords.{area_name, program_name, number_item, name_item, named_item, named_word, word_text, words_line};
+
+use piton_syntax::{Area, Number, Program, System, WordItem, WordText};
+use piton_words::Word;
+use stack_text::grammar::Print;
+use stack_text::{Memory, Name, Named};
+
+/// The name of the area at a position, if there is one.
+fn name_of_area(areas: &[Area], area: u32) -> Option<&Name>
+    ensures { option_map (λ name. name.now) result ≡ option_map (λ a. a.name.name) (slice_get areas.now area) }
+{
+    Some(&areas.get(area as usize)?.name.name)
+}
+
+/// The name of the program at a position, if there is one.
+fn name_of_program(programs: &[Program], program: u32) -> Option<&Name>
+    ensures { option_map (λ name. name.now) result ≡ option_map (λ p. p.name.name) (slice_get programs.now program) }
+{
+    Some(&programs.get(program as usize)?.name.name)
+}
+
+/// The name of the area at a position; where there is none, that of the main program.
+fn area_name(system: &System, area: u32) -> &Name
+    ensures { result.now ≡ area_name system.now area }
+{
+    match name_of_area(&system.areas, area) {
+        Some(name) => name,
+        None => &system.main.name,
+    }
+}
+
+/// The name of the program at a position; where there is none, that of the main program.
+pub fn program_name(system: &System, program: u32) -> &Name
+    ensures { result.now ≡ program_name system.now program }
+{
+    match name_of_program(&system.programs, program) {
+        Some(name) => name,
+        None => &system.main.name,
+    }
+}
+
+/// A number of no place in a text.
+fn number_item(number: i128) -> Number
+    ensures { result ≡ number_item number }
+{
+    Number { place: 0, number }
+}
+
+/// A number without a sign, of no place in a text.
+fn natural_item(number: u32) -> Number
+    ensures { result ≡ number_item (pos number) }
+{
+    number_item(i128::from(number))
+}
+
+/// A name of no place in a text.
+fn name_item(name: &Name) -> Result<Named, Memory>
+    ensures { IfOk result (λ named. named ≡ name_item name.now) }
+{
+    Ok(Named {
+        place: 0,
+        name: name.clone()?,
+    })
+}
+
+/// What a word is, with names in place of positions.
+fn named_item(system: &System, word: Word) -> Result<WordItem, Memory>
+    ensures { IfOk result (λ item. item ≡ named_item system.now word) }
+{
+    match word {
+        Word::Int(number) => Ok(WordItem::Int(number_item(i128::from(number)))),
+        Word::Nat(number) => Ok(WordItem::Nat(natural_item(number))),
+        Word::Bitv(number) => Ok(WordItem::Bitv(natural_item(number))),
+        Word::Bool(truth) => Ok(WordItem::Bool(truth)),
+        Word::Addr { area, offset } => {
+            let area = name_item(area_name(system, area))?;
+            let offset = natural_item(offset);
+            Ok(WordItem::Addr { area, offset })
+        }
+        Word::Pc { program, place } => {
+            let program = name_item(program_name(system, program))?;
+            let at = natural_item(place);
+            Ok(WordItem::Pc { program, at })
+        }
+        Word::Subr { program } => Ok(WordItem::Subr(name_item(program_name(system, program))?)),
+    }
+}
+
+/// A word with names in place of positions.
+fn named_word(system: &System, word: Word) -> Result<WordText, Memory>
+    ensures { IfOk result (λ text. text ≡ named_word system.now word) }
+{
+    Ok(WordText {
+        place: 0,
+        item: named_item(system, word)?,
+    })
+}
+
+/// Appends a word as the text has it, as `(int -7)` or `(addr (a 2))`. The only error is out of memory.
+pub fn push_word(out: &mut Vec<u8>, system: &System, word: Word) -> Result<(), Memory>
+    ensures { OnOk result (out.new.items ≡ out.old.items ++ word_text system.now word) }
+{
+    named_word(system, word)?.print(out)
+}
+
+/// Appends a line of a name and words, with a space before each word. The only error is out of memory.
+pub fn words_line(
+    out: &mut Vec<u8>,
+    system: &System,
+    name: &[u8],
+    words: &[Word],
+) -> Result<(), Memory>
+    ensures { OnOk result (out.new.items ≡ out.old.items ++ words_line system.now name.now words.now) }
+{
+    out.extend_from_slice(name)?;
+    for word in words {
+        out.push(b' ')?;
+        push_word(out, system, *word)?;
+    }
+    out.push(b'\n')?;
+    Ok(())
+}
