@@ -1,0 +1,47 @@
+//! One line.
+
+ghost use Rattle.std.specs.Prelude.{◌≡◌, map, IfOk};
+ghost use Rattle.std.specs.List.{list_all, slice_split};
+ghost use Rattle.debug_script.specs.Commands.{words_of};
+ghost use Rattle.debug_script.specs.Lines.{is_plain_byte, is_plain_line, command_in};
+
+use crate::command::{Command, command_of};
+use crate::fault::BYTES;
+use stack_text::Memory;
+use std::alloc::{AllocError, Global};
+
+/// The most bytes of a line.
+const MOST_BYTES: usize = 256;
+
+/// Whether each byte is one from a space to a tilde.
+fn are_plain(line: &[u8]) -> bool
+    ensures { result ≡ list_all is_plain_byte line.now }
+{
+    line.iter().all(|byte| matches!(*byte, b' '..=b'~'))
+}
+
+/// Whether a line is short, and has no byte that is out of place.
+fn is_plain_line(line: &[u8]) -> bool
+    ensures { result ≡ is_plain_line line.now }
+{
+    line.len() <= MOST_BYTES && are_plain(line)
+}
+
+/// The words of a line: each space ends one.
+fn words_of<'a>(alloc: Global, line: &'a [u8]) -> Result<Vec<&'a [u8]>, AllocError>
+    ensures { IfOk result (λ words. map (λ word. word.now) words.items ≡ words_of line.now) }
+{
+    line.split(|byte| *byte == b' ').collect(alloc)
+}
+
+/// The command of a line that is not empty, or the rule that the line breaks.
+#[tactic(auto, unfolding(crate::specs::Lines::command_in))]
+pub fn command_in(alloc: Global, line: &[u8]) -> Result<Result<Command, u8>, Memory>
+    ensures { IfOk result (λ command. command ≡ command_in line.now) }
+{
+    if !is_plain_line(line) {
+        return Ok(Err(BYTES));
+    }
+    let words = words_of(alloc, line)?;
+    Ok(command_of(&words))
+}

@@ -1,0 +1,60 @@
+//! Scripts.
+
+ghost use Rattle.std.specs.Prelude.{◌≡◌, ◌≤◌, ◌^◌, length};
+ghost use Rattle.debug_script.specs.Scripts.{Gives, line_read, script_of};
+
+use crate::command::Command;
+use crate::fault::ScriptFault;
+use crate::line::command_in;
+use bstr::ByteSlice;
+use stack_text::Memory;
+use std::alloc::Global;
+
+/// A command, and the number of its line, from 1.
+#[derive(Clone, Copy, Debug, PartialEq, Eq)]
+pub struct Line {
+    pub line: u32,
+    pub command: Command,
+}
+
+/// What a line gives: nothing where it is empty, or else its command, with the line's number.
+#[tactic(auto, unfolding(crate::specs::Scripts::line_read))]
+fn read_line(alloc: Global, number: u32, line: &[u8]) -> Result<Option<Line>, ScriptFault>
+    ensures { Gives (λ read. read) result (line_read number line.now) }
+{
+    if line.is_empty() {
+        return Ok(None);
+    }
+    match command_in(alloc, line) {
+        Ok(Ok(command)) => Ok(Some(Line {
+            line: number,
+            command,
+        })),
+        Ok(Err(rule)) => Err(ScriptFault::Refused { rule, line: number }),
+        Err(Memory) => Err(ScriptFault::Memory),
+    }
+}
+
+/// The commands of a script, each with the number of its line.
+///
+/// A line ends at LF or at the text's end, and a CR right before the LF belongs to the line's end. An empty line has no
+/// command. The time is linear in the text.
+///
+/// # Errors
+///
+/// The fault of the first line that has one, by the first rule in the order 6, 1, 2, 3 that the line breaks; or out of
+/// memory.
+pub fn read_script(alloc: Global, text: &[u8]) -> Result<Vec<Line>, ScriptFault>
+    requires { length text.now ≤ 2 ^ 31 }
+    ensures { Gives (λ lines. lines.items) result (script_of text.now) }
+{
+    let mut lines = Vec::new(alloc);
+    let mut number = 0;
+    for line in text.lines() {
+        number += 1;
+        if let Some(read) = read_line(alloc, number, line)? {
+            lines.push(read)?;
+        }
+    }
+    Ok(lines)
+}
