@@ -1,0 +1,5 @@
+pub mod NotedLaws
+pub mod WalkLaws
+pub mod TakenLaws
+pub mod ElementLaws
+pub mod GypsyLaws

@@ -1,0 +1,43 @@
+-- Runs of the processor.
+use Rattle.std.specs.Prelude.{ℕ, List, ◌+◌, ◌-◌, Bool, ◌==◌, ◌&&◌, nat_le, if◌then◌else◌, slice_index, Result, Ok, Err}
+use Rattle.fm_machine.specs.declared.fault.Outside.{Outside}
+use Rattle.fm_machine.specs.State.{Fm}
+use Rattle.fm_machine.specs.Step.{fm_step}
+use Rattle.fm_machine.specs.Run.{pc_of}
+use Rattle.fm_image.specs.Image.{ImageOf}
+use Rattle.display_maps.specs.Reading.{reading}
+use Rattle.display_maps.specs.Report.{lines_of_reading}
+use Rattle.level_debuggers.specs.declared.watch.Event.{Event}
+use Rattle.level_debuggers.specs.declared.advance.Stop.TheVariants as stop
+use Rattle.level_debuggers.specs.Texts.{no_mark}
+use Rattle.level_debuggers.specs.Steps.{Next, Over, Stops, Makes}
+
+-- an image, and a machine that runs it
+pub record FmLevelOf : Type 0 where
+  pub image : ImageOf
+  pub state : Fm
+
+-- the end of the window less r2, where r2 is in the window or just past it
+abbrev pub fm_depth : FmLevelOf → ℕ
+fm_depth level =
+    let above = level.image.base + level.image.size in
+    let top = slice_index level.state.registers 2 in
+    if nat_le level.image.base top && nat_le top above then above - top else 0
+
+abbrev pub fm_event : FmLevelOf → Event
+fm_event level = record { place = pc_of level.state; depth = fm_depth level; cost = 1 }
+
+abbrev pub fm_over : FmLevelOf → Bool
+fm_over level = pc_of level.state == level.image.final_pc
+
+abbrev pub fm_after : FmLevelOf → Result Fm Outside → Next FmLevelOf
+fm_after level (Ok state) = Makes (fm_event level) (record level { state = state })
+fm_after level (Err outside) = Stops (stop.Outside outside.address)
+
+-- over where r15 is the final program counter; or else the instruction at r15
+abbrev pub fm_next : FmLevelOf → Next FmLevelOf
+fm_next level = if fm_over level then Over else fm_after level (fm_step level.state)
+
+-- at the end what the memory says
+abbrev pub fm_up : FmLevelOf → List ℕ
+fm_up level = if fm_over level then lines_of_reading level.image (reading level.image level.state) else no_mark

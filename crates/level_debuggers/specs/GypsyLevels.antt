@@ -1,0 +1,58 @@
+-- Runs of a source.
+use Rattle.std.specs.Prelude.{ℕ, List, ◌++◌, Bool, if◌then◌else◌, codes}
+use Rattle.std.specs.Fmt.{decimal}
+use Rattle.display_maps.specs.Report.{line}
+use Rattle.display_maps.specs.Running.{run_lines}
+use Rattle.gypsy_syntax.specs.Sources.{SourceOf}
+use Rattle.gypsy_meaning.specs.declared.answers.Moved.{Moved}
+use Rattle.gypsy_meaning.specs.declared.answers.Moved.TheVariants as moved
+use Rattle.gypsy_meaning.specs.Seen.{Seen, answer_of, left_of, is_over, place_at, depth_at, values_at}
+use Rattle.gypsy_meaning.specs.Shown.{condition_at, names_at}
+use Rattle.level_debuggers.specs.declared.watch.Event.{Event}
+use Rattle.level_debuggers.specs.declared.advance.Stop.TheVariants as stop
+use Rattle.level_debuggers.specs.Steps.{Next, Over, Stops, Makes}
+
+-- a source, and a run of it
+pub record GypsyLevelOf : Type 0 where
+  pub source : SourceOf
+  pub seen : Seen
+
+abbrev pub gypsy_event : Seen → Event
+gypsy_event v = record {
+  place = place_at v.program v.stage;
+  depth = depth_at v.stage;
+  cost = (left_of v).cost;
+}
+
+abbrev pub gypsy_made : GypsyLevelOf → Next GypsyLevelOf
+gypsy_made level = Makes (gypsy_event level.seen) (record level { seen = left_of level.seen })
+
+abbrev pub gypsy_by : GypsyLevelOf → Moved → Next GypsyLevelOf
+gypsy_by level moved.Moved = gypsy_made level
+gypsy_by level moved.Ended = gypsy_made level
+gypsy_by level (moved.NoRoom place) = Stops (stop.NoRoom place)
+
+abbrev pub gypsy_over : GypsyLevelOf → Bool
+gypsy_over level = is_over level.seen.stage
+
+-- over where main has ended; or else the item on top
+abbrev pub gypsy_next : GypsyLevelOf → Next GypsyLevelOf
+gypsy_next level = if gypsy_over level then Over else gypsy_by level (answer_of level.seen)
+
+-- ---- what is shown
+
+-- `at 48 depth 1`, or `ended`
+abbrev pub gypsy_place_line : GypsyLevelOf → List ℕ
+gypsy_place_line level =
+    if gypsy_over level then codes "ended\n"
+    else line (codes "at " ++ decimal (place_at level.seen.program level.seen.stage)
+    ++ codes " depth " ++ decimal (depth_at level.seen.stage))
+
+-- the place, the condition, and the variables of the active procedure
+abbrev pub gypsy_listing : GypsyLevelOf → List ℕ
+gypsy_listing level =
+    let stage = level.seen.stage in
+    gypsy_place_line level ++ run_lines (condition_at level.source stage) (names_at level.source stage) (values_at stage)
+
+abbrev pub gypsy_up : List ℕ
+gypsy_up = codes "top\n"

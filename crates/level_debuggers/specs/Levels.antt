@@ -1,0 +1,59 @@
+-- Runs at each level.
+use Rattle.std.specs.Prelude.{ℕ, ◌≤◌, ◌^◌, List}
+use Rattle.fm_show.specs.Listing.{machine_listing}
+use Rattle.gypsy_syntax.specs.SourceView.{source_of}
+use Rattle.gypsy_meaning.specs.Belongs.{BelongsTo}
+use Rattle.gypsy_meaning.specs.Running.{seen}
+use Rattle.piton_machine.specs.Fits.{system_in}
+use Rattle.piton_machine.specs.Placed.{placed}
+use Rattle.piton_machine.specs.Seen.{IsSeen}
+use Rattle.level_debuggers.specs.declared.runner.Runner.{Runner}
+use Rattle.level_debuggers.specs.declared.runner.Runner.TheVariants as runner
+use Rattle.level_debuggers.specs.Steps.{Next, Over, Stops, Makes}
+use Rattle.level_debuggers.specs.GypsyLevels.{GypsyLevelOf, gypsy_listing, gypsy_next, gypsy_up}
+use Rattle.level_debuggers.specs.PitonLevels.{PitonLevelOf, piton_listing, piton_next}
+use Rattle.level_debuggers.specs.PitonReadings.{piton_up}
+use Rattle.level_debuggers.specs.FmLevels.{FmLevelOf, fm_next, fm_up}
+
+-- a run at one of the levels
+pub data LevelOf : Type 0 where
+  Gypsy : (run : GypsyLevelOf) → LevelOf
+  Piton : (run : PitonLevelOf) → LevelOf
+  Fm : (run : FmLevelOf) → LevelOf
+
+-- The parts of a runner belong together: the needs are the source's, and the meaning is a run of it; the state is one of a run
+-- of the system, which has a place in memory.
+abbrev pub IsRunner : Runner → Type 0
+IsRunner (runner.Gypsy accepted needs meaning) = BelongsTo (source_of accepted) needs.procedures.items meaning
+IsRunner (runner.Piton checked image state) = IsSeen (system_in checked) state × ((placed (system_in checked)).size ≤ 2 ^ 20)
+IsRunner (runner.Fm image machine) = Unit {0}
+
+-- the run that a runner begins with
+abbrev pub level_of : Runner → LevelOf
+level_of (runner.Gypsy accepted needs meaning) = Gypsy record { source = source_of accepted; seen = seen meaning }
+level_of (runner.Piton checked image state) = Piton record { checked = checked; image = image; seen = state }
+level_of (runner.Fm image machine) = Fm record { image = image; state = machine.state }
+
+-- the same step, seen at another level
+abbrev pub lifted : {R S : Type 0} → (R → S) → Next R → Next S
+lifted up Over = Over
+lifted up (Stops stop) = Stops stop
+lifted up (Makes event after) = Makes event (up after)
+
+-- how a run goes on
+abbrev pub next_of : LevelOf → Next LevelOf
+next_of (Gypsy run) = lifted Gypsy (gypsy_next run)
+next_of (Piton run) = lifted Piton (piton_next run)
+next_of (Fm run) = lifted Fm (fm_next run)
+
+-- what is shown of a run, after so many steps of its session
+abbrev pub show_text : LevelOf → ℕ → List ℕ
+show_text (Gypsy run) steps = gypsy_listing run
+show_text (Piton run) steps = piton_listing run.checked.system run.seen.state
+show_text (Fm run) steps = machine_listing run.state steps
+
+-- what is known of the variables of the source
+abbrev pub up_text : LevelOf → List ℕ
+up_text (Gypsy run) = gypsy_up
+up_text (Piton run) = piton_up run
+up_text (Fm run) = fm_up run

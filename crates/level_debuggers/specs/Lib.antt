@@ -1,0 +1,12 @@
+pub mod Tallies
+pub mod Steps
+pub mod Texts
+pub mod FmLevels
+pub mod PitonLevels
+pub mod PitonReadings
+pub mod GypsyLevels
+pub mod Levels
+pub mod Belonging
+pub mod Walks
+pub mod Taken
+pub mod Sessions

@@ -1,0 +1,78 @@
+-- Runs of Piton's machine.
+use Rattle.std.specs.Prelude.{ℕ, ◌-◌, ◌==◌, Bool, List, [], ◌∷◌, ◌++◌, length, map, reverse, slice_get, Option, Some, None, Result, Ok, Err, codes, if◌then◌else◌}
+use Rattle.std.specs.Fmt.{decimal}
+use Rattle.fm_image.specs.Image.{ImageOf}
+use Rattle.display_maps.specs.Report.{line}
+use Rattle.piton_words.specs.declared.word.Word.{Word}
+use Rattle.piton_syntax.specs.Systems.{ProgramOf, SystemOf}
+use Rattle.piton_show.specs.NamedWords.{program_name, word_text, words_line}
+use Rattle.piton_check.specs.Answers.{CheckedOf}
+use Rattle.piton_machine.specs.declared.error_kind.ErrorKind.{ErrorKind}
+use Rattle.piton_machine.specs.State.{Frame, PitonState, locals_of}
+use Rattle.piton_machine.specs.Fits.{system_in}
+use Rattle.piton_machine.specs.Seen.{Seen, seen_step}
+use Rattle.level_debuggers.specs.declared.watch.Event.{Event}
+use Rattle.level_debuggers.specs.declared.advance.Stop.TheVariants as stop
+use Rattle.level_debuggers.specs.Steps.{Next, Over, Stops, Makes}
+
+-- a system, its image, and a state of a run of the system
+pub record PitonLevelOf : Type 0 where
+  pub checked : CheckedOf
+  pub image : ImageOf
+  pub seen : Seen
+
+abbrev pub piton_event : Seen → Seen → Event
+piton_event before after = record {
+  place = before.state.place;
+  depth = length before.state.frames;
+  cost = after.counted - before.counted;
+}
+
+abbrev pub piton_over : PitonLevelOf → Bool
+piton_over level = length level.seen.state.frames == 0
+
+abbrev pub piton_after : PitonLevelOf → Result Seen ErrorKind → Next PitonLevelOf
+piton_after level (Ok seen) = Makes (piton_event level.seen seen) (record level { seen = seen })
+piton_after level (Err kind) = Stops (stop.Error kind level.seen.state.program level.seen.state.place)
+
+-- over where no frame is left; or else the instruction at the state's place
+abbrev pub piton_from : PitonLevelOf → List Frame → Next PitonLevelOf
+piton_from level [] = Over
+piton_from level (f ∷ fs) = piton_after level (seen_step (system_in level.checked) level.seen)
+
+abbrev pub piton_next : PitonLevelOf → Next PitonLevelOf
+piton_next level = piton_from level level.seen.state.frames
+
+-- ---- what is shown
+
+-- the names of a program's formals and temporaries, in the order of the locals
+abbrev pub local_names : ProgramOf → List (List ℕ)
+local_names program = map (λ n. n.name) program.formals ++ map (λ t. t.0.name) program.temporaries
+
+abbrev pub names_of : Option ProgramOf → List (List ℕ)
+names_of None = []
+names_of (Some program) = local_names program
+
+-- `n = (int 7)`
+abbrev pub local_line : SystemOf → List ℕ → Word → List ℕ
+local_line system name word = line (name ++ codes " = " ++ word_text system word)
+
+-- the line of each local
+unfoldable pub local_lines : SystemOf → List (List ℕ) → List Word → List ℕ
+local_lines system [] words = []
+local_lines system (name ∷ names) [] = []
+local_lines system (name ∷ names) (word ∷ words) = local_line system name word ++ local_lines system names words
+
+-- `at main 3 frames 1`, or `halted`
+abbrev pub place_line : SystemOf → PitonState → List ℕ
+place_line system state =
+    if length state.frames == 0 then codes "halted\n"
+    else line (codes "at " ++ program_name system state.program ++ codes " " ++ decimal state.place
+    ++ codes " frames " ++ decimal (length state.frames))
+
+-- the place, the locals of the newest frame, and the stack from the bottom up
+abbrev pub piton_listing : SystemOf → PitonState → List ℕ
+piton_listing system state =
+    place_line system state
+    ++ local_lines system (names_of (slice_get system.programs state.program)) (locals_of state.frames)
+    ++ words_line system (codes "stack") (reverse state.stack)

@@ -1,0 +1,61 @@
+-- What the end of a run of Piton's machine says of the variables of its source.
+use Rattle.std.specs.Prelude.{ℕ, zero, suc, ◌+◌, ◌-◌, List, [], ◌∷◌, length, map, reverse, Bool, ◌&&◌, nat_lt, nat_le, if◌then◌else◌, slice_index, slice_index_or}
+use Rattle.std.specs.List.{list_all}
+use Rattle.std.specs.Option.{option_map}
+use Rattle.stack_text.specs.Values.{item_count}
+use Rattle.fm_image.specs.declared.slot.Slot.{Slot}
+use Rattle.fm_image.specs.Image.{ImageOf}
+use Rattle.display_maps.specs.declared.shown.Shown.{Shown}
+use Rattle.display_maps.specs.Reading.{ReadingOf, condition_of, item_of}
+use Rattle.display_maps.specs.Report.{lines_of_reading}
+use Rattle.piton_check.specs.Instruction.{SystemView}
+use Rattle.piton_machine.specs.State.{PitonState}
+use Rattle.piton_machine.specs.Fits.{system_in}
+use Rattle.piton_machine.specs.Addresses.{numbers}
+use Rattle.piton_machine.specs.Placed.{addresses_of, end_of}
+use Rattle.level_debuggers.specs.PitonLevels.{PitonLevelOf, piton_over}
+use Rattle.level_debuggers.specs.Texts.{no_mark}
+
+-- The elements of the stack stand below the end of memory, the bottom one at the highest address.
+abbrev pub element_at : ℕ → List ℕ → ℕ → ℕ
+element_at above elements address = slice_index elements (above - 1 - address)
+
+-- the stack has an element for each item of a slot
+abbrev pub covers : ℕ → List ℕ → Slot → Bool
+covers above elements slot =
+    nat_lt slot.address above && nat_le (above + item_count slot.shape) (slot.address + 1 + length elements)
+
+-- so many elements, from an address downwards
+abbrev pub elements_down : ℕ → List ℕ → ℕ → ℕ → List ℕ
+elements_down above elements address zero = []
+elements_down above elements address (suc n) = element_at above elements address ∷ elements_down above elements (address - 1) n
+
+abbrev pub variable_at : ℕ → List ℕ → Slot → List ℕ × List Shown
+variable_at above elements slot =
+    (slot.name, map (item_of slot.shape.kind) (elements_down above elements slot.address (item_count slot.shape)))
+
+-- the numbers of the stack's elements, from the bottom up
+abbrev pub element_numbers : SystemView → PitonState → List ℕ
+element_numbers s state = numbers (addresses_of s) (reverse state.stack)
+
+-- the number of the condition: the word of `c-c`, which is the first area
+abbrev pub condition_number : SystemView → PitonState → ℕ
+condition_number s state = slice_index (numbers (addresses_of s) (slice_index_or state.areas 0 [])) 0
+
+abbrev pub piton_reading_of : SystemView → ImageOf → PitonState → ReadingOf
+piton_reading_of s image state = record {
+  condition = option_map (λ (address : ℕ). condition_of image.conditions (condition_number s state)) image.condition_address;
+  items = map (variable_at (end_of s) (element_numbers s state)) image.slots;
+}
+
+-- whether there is something to read: the run is over, and the stack has an element for each item
+abbrev pub is_readable : PitonLevelOf → Bool
+is_readable level =
+    let s = system_in level.checked in
+    piton_over level && list_all (covers (end_of s) (element_numbers s level.seen.state)) level.image.slots
+
+unfoldable pub piton_up : PitonLevelOf → List ℕ
+piton_up level =
+    if is_readable level
+    then lines_of_reading level.image (piton_reading_of (system_in level.checked) level.image level.seen.state)
+    else no_mark

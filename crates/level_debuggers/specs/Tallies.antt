@@ -1,0 +1,34 @@
+-- What watches make of events.
+use Rattle.std.specs.Prelude.{ℕ, ◌+◌, ◌-◌, ◌^◌, min, max, List, [], ◌∷◌, ◌++◌, drop, fold, replicate}
+use Rattle.level_debuggers.specs.declared.watch.Event.{Event}
+use Rattle.level_debuggers.specs.declared.watch.Tally.{Tally}
+use Rattle.level_debuggers.specs.declared.watch.Rule.{Rule}
+use Rattle.level_debuggers.specs.declared.watch.Rule.TheVariants.{Count, Last, Peak}
+
+-- a count stays at the greatest number of 64 bits
+abbrev pub saturated : ℕ → ℕ
+saturated n = min n (2 ^ 64 - 1)
+
+abbrev pub no_events : Tally
+no_events = record { count = 0; peak = 0; last = replicate 8 0 }
+
+-- a tally after one event more
+abbrev pub tally_step : Rule → Tally → Event → Tally
+tally_step Count tally event = record tally { count = saturated (tally.count + 1) }
+tally_step Last tally event = record tally { count = saturated (tally.count + 1); last = drop 1 tally.last ++ event.place ∷ [] }
+tally_step Peak tally event = record tally { count = saturated (tally.count + 1); peak = max tally.peak event.depth }
+
+-- what clauses see of a watch
+pub record Watching : Type 0 where
+  pub rule : Rule
+  pub tally : Tally
+
+-- a watch that was told an event, or several
+abbrev pub noted : Event → Watching → Watching
+noted event watch = record watch { tally = tally_step watch.rule watch.tally event }
+
+abbrev pub told : List Event → Watching → Watching
+told events watch = record watch { tally = fold (tally_step watch.rule) watch.tally events }
+
+abbrev pub watching : Rule → Tally → Watching
+watching rule tally = record { rule = rule; tally = tally }

@@ -1,0 +1,106 @@
+//! A run of the processor.
+
+use crate::advance::{Advance, Stop};
+use crate::texts::no_mark;
+use crate::watch::Event;
+use display_maps::{push_reading, read_up};
+use fm_image::Image;
+use fm_machine::{Machine, Outside};
+use fm_show::show_machine;
+use stack_text::Memory;
+use std::alloc::Global;
+use std::marker::Model;
+
+/// A machine that runs an image.
+#[derive(Drop)]
+pub(crate) struct FmLevel {
+    image: Image,
+    machine: Machine,
+}
+
+impl Model for FmLevel {
+    ghost use Rattle.level_debuggers.specs.FmLevels.{FmLevelOf};
+
+    ghost Value = { FmLevelOf };
+
+    ghost view = { λ level. record { image = level.image; state = level.machine.state } };
+}
+
+impl FmLevel {
+    ghost use Rattle.std.specs.Prelude.{◌≡◌, IfOk};
+    ghost use Rattle.fm_show.specs.Listing.{machine_listing};
+    ghost use Rattle.level_debuggers.specs.Steps.{IsAdvance};
+    ghost use Rattle.level_debuggers.specs.FmLevels.{fm_depth, fm_event, fm_next, fm_over, fm_up};
+
+    pub(crate) fn new(image: Image, machine: Machine) -> FmLevel
+        ensures { result ≡ record { image = image; state = machine.state } }
+    {
+        FmLevel { image, machine }
+    }
+
+    /// Whether the end is reached.
+    pub(crate) fn is_over(&self) -> bool
+        ensures { result ≡ fm_over self.now }
+    {
+        self.machine.register(15) == self.image.final_pc
+    }
+
+    /// How many words the temporary stack has; 0 where its pointer is outside the window.
+    fn depth(&self) -> u32
+        ensures { result ≡ fm_depth self.now }
+    {
+        let base = u64::from(self.image.base);
+        let end = base + u64::from(self.image.size);
+        let top = u64::from(self.machine.register(2));
+        if base <= top && top <= end {
+            (end - top) as u32
+        } else {
+            0
+        }
+    }
+
+    /// The step that is next.
+    fn event(&self) -> Event
+        ensures { result ≡ fm_event self.now }
+    {
+        Event {
+            place: self.machine.register(15),
+            depth: self.depth(),
+            cost: 1,
+        }
+    }
+
+    /// Makes a step.
+    pub(crate) fn advance(&mut self) -> Advance
+        ensures { IsAdvance fm_next self.old self.new result }
+    {
+        if self.is_over() {
+            return Advance::Over;
+        }
+        let event = self.event();
+        match self.machine.step() {
+            Ok(()) => Advance::Makes(event),
+            Err(Outside { address }) => Advance::Stops(Stop::Outside { address }),
+        }
+    }
+
+    /// The number of steps, the registers and the flags, as lines.
+    pub(crate) fn show(&self, alloc: Global, steps: u64) -> Result<Vec<u8>, Memory>
+        ensures { IfOk result (λ text. text.items ≡ machine_listing self.now.state steps) }
+    {
+        show_machine(alloc, &self.machine, steps)
+    }
+
+    /// At the end what the memory says, as lines; before it `no mark`.
+    pub(crate) fn up(&self, alloc: Global) -> Result<Vec<u8>, Memory>
+        ensures { IfOk result (λ text. text.items ≡ fm_up self.now) }
+    {
+        if !self.is_over() {
+            return no_mark(alloc);
+        }
+        let reading = read_up(alloc, &self.machine, &self.image)?;
+        let mut text = Vec::new(alloc);
+        push_reading(alloc, &mut text, &self.image, &reading)?;
+        Ok(text)
+    }
+}

@@ -1,0 +1,114 @@
+//! A run of a source.
+
+use crate::advance::{Advance, Stop};
+use crate::watch::Event;
+use display_maps::push_run;
+use gypsy_check::Accepted;
+use gypsy_meaning::{Current, Meaning, Moved};
+use gypsy_space::Needs;
+use stack_text::{Memory, Name, Value};
+use std::alloc::Global;
+
+/// A run of an accepted source.
+#[derive(Drop)]
+pub(crate) struct GypsyLevel {
+    pub(crate) accepted: Accepted,
+    pub(crate) needs: Needs,
+    pub(crate) meaning: Meaning,
+}
+
+impl GypsyLevel {
+    ghost use Rattle.std.specs.Prelude.{◌≡◌, ◌++◌, map, IfOk, OnOk, OnErr};
+    ghost use Rattle.gypsy_meaning.specs.Seen.{depth_at, values_at};
+    ghost use Rattle.gypsy_meaning.specs.Shown.{condition_at, names_at};
+    ghost use Rattle.level_debuggers.specs.Steps.{IsAdvance};
+    ghost use Rattle.level_debuggers.specs.GypsyLevels.{gypsy_listing, gypsy_next, gypsy_over, gypsy_place_line, gypsy_up};
+    ghost use Rattle.level_debuggers.specs.Belonging.{Belongs, gypsy_of};
+
+    /// Whether the end is reached.
+    pub(crate) fn is_over(&self) -> bool
+        ensures { result ≡ gypsy_over (gypsy_of self.now) }
+    {
+        self.meaning.ended()
+    }
+
+    /// How many activations there are.
+    fn depth(&self) -> u32
+        requires { Belongs self.now }
+        ensures { result ≡ depth_at (gypsy_of self.now).seen.stage }
+    {
+        self.meaning.depth()
+    }
+
+    /// The condition.
+    fn condition(&self) -> &Current
+        requires { Belongs self.now }
+        ensures { let level = gypsy_of self.now in result.now ≡ condition_at level.source level.seen.stage }
+    {
+        self.meaning.condition()
+    }
+
+    /// The variables of the active procedure.
+    fn variables(&self) -> &[(Name, Value)]
+        requires { Belongs self.now }
+        ensures values { map (λ v. v.1) result.now ≡ values_at (gypsy_of self.now).seen.stage }
+        ensures names { let level = gypsy_of self.now in
+            map (λ v. v.0) result.now ≡ names_at level.source level.seen.stage }
+    {
+        self.meaning.variables()
+    }
+
+    /// Makes a step. Where memory runs out nothing has changed.
+    pub(crate) fn advance(&mut self, alloc: Global) -> Result<Advance, Memory>
+        requires { Belongs self.old }
+        ensures step { IfOk result (IsAdvance gypsy_next (gypsy_of self.old) (gypsy_of self.new)) }
+        ensures unchanged { OnErr result (gypsy_of self.new ≡ gypsy_of self.old) }
+        ensures belongs { Belongs self.new }
+    {
+        if self.is_over() {
+            return Ok(Advance::Over);
+        }
+        let place = self.meaning.place();
+        let depth = self.depth();
+        match self.meaning.step(alloc, &self.accepted, &self.needs)? {
+            Moved::NoRoom { place } => Ok(Advance::Stops(Stop::NoRoom { place })),
+            Moved::Moved | Moved::Ended => Ok(Advance::Makes(Event {
+                place,
+                depth,
+                cost: self.meaning.cost(),
+            })),
+        }
+    }
+
+    /// Appends the line of the place.
+    fn push_place(&self, alloc: Global, text: &mut Vec<u8>) -> Result<(), Memory>
+        requires { Belongs self.now }
+        ensures { OnOk result (text.new.items ≡ text.old.items ++ gypsy_place_line (gypsy_of self.now)) }
+    {
+        if self.is_over() {
+            return Ok(text.extend_from_slice(b"ended\n")?);
+        }
+        let place = self.meaning.place();
+        let depth = self.depth();
+        let line = format!(in alloc; "at {place} depth {depth}\n")?;
+        Ok(text.extend_from_slice(line.as_bytes())?)
+    }
+
+    /// The place, the condition, and the variables of the active procedure, as lines.
+    pub(crate) fn show(&self, alloc: Global) -> Result<Vec<u8>, Memory>
+        requires { Belongs self.now }
+        ensures { IfOk result (λ text. text.items ≡ gypsy_listing (gypsy_of self.now)) }
+    {
+        let mut text = Vec::new(alloc);
+        self.push_place(alloc, &mut text)?;
+        push_run(alloc, &mut text, self.condition(), self.variables())?;
+        Ok(text)
+    }
+
+    /// The line that says that the run is one of the source itself.
+    pub(crate) fn up(alloc: Global) -> Result<Vec<u8>, Memory>
+        ensures { IfOk result (λ text. text.items ≡ gypsy_up) }
+    {
+        Ok(b"top\n".to_vec(alloc)?)
+    }
+}

@@ -1,0 +1,96 @@
+//! A run at one of the levels.
+
+use crate::advance::Advance;
+use crate::fm_level::FmLevel;
+use crate::gypsy_level::GypsyLevel;
+use crate::piton_level::PitonLevel;
+use crate::runner::Runner;
+use stack_text::Memory;
+use std::alloc::Global;
+
+/// A run at one of the levels.
+#[derive(Drop)]
+pub(crate) enum Level {
+    Gypsy(GypsyLevel),
+    Piton(PitonLevel),
+    Fm(FmLevel),
+}
+
+impl Level {
+    ghost use Rattle.std.specs.Prelude.{◌≡◌, IfOk, OnErr};
+    ghost use Rattle.level_debuggers.specs.Levels.{IsRunner, level_of, next_of, show_text, up_text};
+    ghost use Rattle.level_debuggers.specs.Belonging.{IsLevel, level_seen};
+    ghost use Rattle.level_debuggers.specs.Steps.{IsAdvance, is_over};
+
+    pub(crate) fn new(runner: Runner) -> Level
+        requires { IsRunner runner }
+        ensures seen { level_seen result ≡ level_of runner }
+        ensures is { IsLevel result }
+    {
+        match runner {
+            Runner::Gypsy {
+                accepted,
+                needs,
+                meaning,
+            } => Level::Gypsy(GypsyLevel {
+                accepted,
+                needs,
+                meaning,
+            }),
+            Runner::Piton {
+                checked,
+                image,
+                state,
+            } => Level::Piton(PitonLevel::new(checked, image, state)),
+            Runner::Fm { image, machine } => Level::Fm(FmLevel::new(image, machine)),
+        }
+    }
+
+    /// Whether the end is reached.
+    pub(crate) fn is_over(&self) -> bool
+        ensures { result ≡ is_over (next_of (level_seen self.now)) }
+    {
+        match self {
+            Level::Gypsy(level) => level.is_over(),
+            Level::Piton(level) => level.is_over(),
+            Level::Fm(level) => level.is_over(),
+        }
+    }
+
+    /// Makes a step. Where memory runs out nothing has changed.
+    pub(crate) fn advance(&mut self, alloc: Global) -> Result<Advance, Memory>
+        requires { IsLevel self.old }
+        ensures step { IfOk result (IsAdvance next_of (level_seen self.old) (level_seen self.new)) }
+        ensures unchanged { OnErr result (level_seen self.new ≡ level_seen self.old) }
+        ensures is { IsLevel self.new }
+    {
+        match self {
+            Level::Gypsy(level) => level.advance(alloc),
+            Level::Piton(level) => Ok(level.advance()),
+            Level::Fm(level) => Ok(level.advance()),
+        }
+    }
+
+    /// What is shown of the run, after so many steps of its session.
+    pub(crate) fn show(&self, alloc: Global, steps: u64) -> Result<Vec<u8>, Memory>
+        requires { IsLevel self.now }
+        ensures { IfOk result (λ text. text.items ≡ show_text (level_seen self.now) steps) }
+    {
+        match self {
+            Level::Gypsy(level) => level.show(alloc),
+            Level::Piton(level) => level.show(alloc),
+            Level::Fm(level) => level.show(alloc, steps),
+        }
+    }
+
+    /// What is known of the variables of the source.
+    pub(crate) fn up(&self, alloc: Global) -> Result<Vec<u8>, Memory>
+        ensures { IfOk result (λ text. text.items ≡ up_text (level_seen self.now)) }
+    {
+        match self {
+            Level::Gypsy(_level) => GypsyLevel::up(alloc),
+            Level::Piton(level) => level.up(alloc),
+            Level::Fm(level) => level.up(alloc),
+        }
+    }
+}

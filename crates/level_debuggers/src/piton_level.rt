@@ -1,0 +1,153 @@
+//! A run of Piton's machine.
+
+use crate::advance::{Advance, Stop};
+use crate::piton_listing::piton_listing;
+use crate::piton_reading::{condition, covers_all, variables};
+use crate::texts::no_mark;
+use crate::watch::Event;
+use display_maps::{Reading, push_reading};
+use fm_image::Image;
+use piton_check::Checked;
+use piton_linker::{layout, word_numbers};
+use piton_machine::{State, Stepped};
+use stack_text::Memory;
+use std::alloc::Global;
+use std::marker::Model;
+
+/// A state of a run of a system, and the image of the system.
+#[derive(Drop)]
+pub(crate) struct PitonLevel {
+    checked: Checked,
+    image: Image,
+    state: State,
+}
+
+impl Model for PitonLevel {
+    ghost use Rattle.piton_machine.specs.Fits.{system_in};
+    ghost use Rattle.std.specs.Prelude.{◌≤◌, ◌^◌};
+    ghost use Rattle.piton_machine.specs.Seen.{IsSeen};
+    ghost use Rattle.piton_machine.specs.Placed.{placed};
+    ghost use Rattle.level_debuggers.specs.PitonLevels.{PitonLevelOf};
+
+    ghost Value = { PitonLevelOf };
+
+    ghost view = { λ level. record { checked = level.checked; image = level.image; seen = level.state } };
+
+    ghost invariant = { λ level. IsSeen (system_in level.checked) level.state
+        × ((placed (system_in level.checked)).size ≤ 2 ^ 20) };
+}
+
+impl PitonLevel {
+    ghost use Rattle.std.specs.Prelude.{◌≡◌, ◌≤◌, ◌^◌, IfOk, slice_index_or, []};
+    ghost use Rattle.piton_machine.specs.Addresses.{numbers};
+    ghost use Rattle.piton_machine.specs.Fits.{system_in};
+    ghost use Rattle.piton_machine.specs.Seen.{IsSeen};
+    ghost use Rattle.piton_machine.specs.Placed.{placed, addresses_of};
+    ghost use Rattle.level_debuggers.specs.Steps.{IsAdvance};
+    ghost use Rattle.level_debuggers.specs.PitonLevels.{piton_listing, piton_next, piton_over};
+    ghost use Rattle.level_debuggers.specs.PitonReadings.{element_numbers, is_readable, piton_reading_of, piton_up};
+
+    pub(crate) fn new(checked: Checked, image: Image, state: State) -> PitonLevel
+        requires seen { IsSeen (system_in checked) state }
+        requires small { (placed (system_in checked)).size ≤ 2 ^ 20 }
+        ensures { result ≡ record { checked = checked; image = image; seen = state } }
+    {
+        PitonLevel {
+            checked,
+            image,
+            state,
+        }
+    }
+
+    /// Whether the end is reached.
+    pub(crate) fn is_over(&self) -> bool
+        ensures { result ≡ piton_over self.now }
+    {
+        self.state.frames() == 0
+    }
+
+    /// Makes a step.
+    pub(crate) fn advance(&mut self) -> Advance
+        ensures { IsAdvance piton_next self.old self.new result }
+    {
+        let depth = self.state.frames();
+        if depth == 0 {
+            return Advance::Over;
+        }
+        let (program, place) = self.state.at();
+        let before = self.state.counted();
+        match self.state.step(&self.checked) {
+            Stepped::Error(kind) => Advance::Stops(Stop::Error {
+                kind,
+                program,
+                place,
+            }),
+            _ => Advance::Makes(Event {
+                place,
+                depth,
+                cost: self.state.counted().saturating_sub(before),
+            }),
+        }
+    }
+
+    /// The place, the locals of the newest frame, and the stack, as lines.
+    pub(crate) fn show(&self, alloc: Global) -> Result<Vec<u8>, Memory>
+        ensures { IfOk result (λ text. text.items ≡ piton_listing self.now.checked.system self.now.seen.state) }
+    {
+        piton_listing(alloc, self.checked.system(), &self.state)
+    }
+
+    /// The numbers of the stack's elements, from the bottom up.
+    fn elements(&self, alloc: Global) -> Result<Vec<u32>, Memory>
+        ensures { IfOk result (λ numbers. numbers.items
+            ≡ element_numbers (system_in self.now.checked) self.now.seen.state) }
+    {
+        word_numbers(alloc, &self.checked, self.state.stack())
+    }
+
+    /// The numbers of the words of the first area.
+    #[tactic(auto, using(crate::proofs::ElementLaws::area_words))]
+    fn first_area(&self, alloc: Global) -> Result<Vec<u32>, Memory>
+        ensures { IfOk result (λ made. made.items
+            ≡ numbers (addresses_of (system_in self.now.checked)) (slice_index_or self.now.seen.state.areas 0 [])) }
+    {
+        word_numbers(alloc, &self.checked, self.state.area(0))
+    }
+
+    /// Whether there is something to read.
+    fn is_readable(&self, elements: &[u32]) -> bool
+        requires { elements.now ≡ element_numbers (system_in self.now.checked) self.now.seen.state }
+        ensures { result ≡ is_readable self.now }
+    {
+        self.is_over() && covers_all(layout(&self.checked).end, elements, &self.image.slots)
+    }
+
+    /// What the state says of the variables.
+    fn reading(&self, alloc: Global, elements: &[u32]) -> Result<Reading, Memory>
+        requires { elements.now ≡ element_numbers (system_in self.now.checked) self.now.seen.state }
+        ensures { IfOk result (λ read.
+            read ≡ piton_reading_of (system_in self.now.checked) self.now.image self.now.seen.state) }
+    {
+        let end = layout(&self.checked).end;
+        let area = self.first_area(alloc)?;
+        Ok(Reading {
+            condition: condition(&self.image.conditions, self.image.condition_address, &area)?,
+            items: variables(alloc, end, elements, &self.image.slots)?,
+        })
+    }
+
+    /// At the end what the state says of the variables, as lines; where that cannot be read `no mark`.
+    #[tactic(auto, unfolding(crate::specs::PitonReadings::piton_up))]
+    pub(crate) fn up(&self, alloc: Global) -> Result<Vec<u8>, Memory>
+        ensures { IfOk result (λ text. text.items ≡ piton_up self.now) }
+    {
+        let elements = self.elements(alloc)?;
+        if !self.is_readable(&elements) {
+            return no_mark(alloc);
+        }
+        let reading = self.reading(alloc, &elements)?;
+        let mut text = Vec::new(alloc);
+        push_reading(alloc, &mut text, &self.image, &reading)?;
+        Ok(text)
+    }
+}

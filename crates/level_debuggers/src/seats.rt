@@ -1,0 +1,77 @@
+//! Watches in a list.
+
+ghost use Rattle.std.specs.Prelude.{◌≡◌, ◌+◌, map, IfSome, IfNone, MatchOption, Some, None, vec_len, vec_capacity};
+ghost use Rattle.std.specs.List.{position_from};
+ghost use Rattle.level_debuggers.specs.Tallies.{noted, watching};
+ghost use Rattle.level_debuggers.specs.Taken.{is_same, taken};
+
+use crate::watch::{Event, Rule, Watch};
+
+/// Tells a watch a step.
+fn note(watch: &mut Box<dyn Watch>, event: &Event)
+    ensures { watching (rule_of watch.new) (tally_of watch.new)
+        ≡ noted event.now (watching (rule_of watch.old) (tally_of watch.old)) }
+{
+    watch.note(event);
+}
+
+/// Tells each watch a step.
+pub(crate) fn note_all(watches: &mut [Box<dyn Watch>], event: &Event)
+    ensures { map (λ w. watching (rule_of w) (tally_of w)) watches.new
+        ≡ map (noted event.now) (map (λ w. watching (rule_of w) (tally_of w)) watches.old) }
+{
+    for watch in watches.iter_mut() {
+        note(watch, event);
+    }
+}
+
+/// Whether two rules are the same.
+fn is_same(rule: Rule, other: Rule) -> bool
+    ensures { result ≡ is_same rule other }
+{
+    match (rule, other) {
+        (Rule::Count, Rule::Count) => true,
+        (Rule::Last, Rule::Last) => true,
+        (Rule::Peak, Rule::Peak) => true,
+        _ => false,
+    }
+}
+
+/// Whether a watch has the rule.
+fn has_rule(watch: &Box<dyn Watch>, rule: Rule) -> bool
+    ensures { result ≡ is_same (watching (rule_of watch.now) (tally_of watch.now)).rule rule }
+{
+    is_same(watch.rule(), rule)
+}
+
+/// The position of the first watch of a rule.
+fn place_of(watches: &[Box<dyn Watch>], rule: Rule) -> Option<usize>
+    ensures { result ≡ position_from (λ w. is_same w.rule rule) 0
+        (map (λ w. watching (rule_of w) (tally_of w)) watches.now) }
+{
+    for (place, watch) in watches.iter().enumerate() {
+        if has_rule(watch, rule) {
+            return Some(place);
+        }
+    }
+    None
+}
+
+/// Takes the first watch of a rule out of a list.
+pub(crate) fn take_first(watches: &mut Vec<Box<dyn Watch>>, rule: Rule) -> Option<Box<dyn Watch>>
+    ensures none { IfNone result (taken rule (map (λ w. watching (rule_of w) (tally_of w)) watches.old.items) ≡ None) }
+    ensures unchanged { IfNone result (watches.new.items ≡ watches.old.items) }
+    ensures some { IfSome result (λ first. taken rule (map (λ w. watching (rule_of w) (tally_of w)) watches.old.items)
+        ≡ Some (
+          watching (rule_of first) (tally_of first),
+          map (λ w. watching (rule_of w) (tally_of w)) watches.new.items,
+        )) }
+    ensures len { MatchOption result (vec_len watches.new ≡ vec_len watches.old)
+        (λ first. vec_len watches.new + 1 ≡ vec_len watches.old) }
+    ensures capacity { vec_capacity watches.new ≡ vec_capacity watches.old }
+{
+    match place_of(watches, rule) {
+        Some(place) => Some(watches.remove(place)),
+        None => None,
+    }
+}

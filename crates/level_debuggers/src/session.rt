@@ -1,0 +1,202 @@
+//! Sessions.
+
+ghost use Rattle.std.specs.Prelude.{◌+◌, ◌^◌, ◌<◌, ◌≤◌, vec_len, vec_capacity};
+
+use crate::advance::Advance;
+use crate::level::Level;
+use crate::runner::Runner;
+use crate::seats::{note_all, take_first};
+use crate::watch::{Event, Rule, Tally, Watch};
+use piton_machine::ErrorKind;
+use stack_text::Memory;
+use std::alloc::Global;
+use thiserror::Error;
+
+/// How a call of `step` ended.
+#[derive(Clone, Copy, Debug, PartialEq, Eq)]
+pub enum SessionRun {
+    /// All steps that were asked for were made, and the end is not reached.
+    Moved {
+        count: u64,
+    },
+    /// The end is reached. The count is that of this call's steps.
+    Ended {
+        count: u64,
+    },
+    /// The next step is a call without room, at a place. `after` is the session's number of steps, here and below.
+    NoRoom {
+        place: u32,
+        after: u64,
+    },
+    /// The next step is an error of Piton's machine, in a program, by its position, at a place.
+    Error {
+        kind: ErrorKind,
+        program: u32,
+        place: u32,
+        after: u64,
+    },
+    /// The next step needs an address outside the window.
+    Outside {
+        address: u32,
+        after: u64,
+    },
+}
+
+/// No watch of the rule is there.
+#[derive(Clone, Copy, Debug, PartialEq, Eq, Error)]
+#[error("no watch of the rule is there")]
+pub struct Absent;
+
+/// A run with watches, of which some wait and some are attached. The attached ones are told each step.
+#[derive(Drop)]
+pub struct Session {
+    level: Level,
+    steps: u64,
+    waiting: Vec<Box<dyn Watch>>,
+    attached: Vec<Box<dyn Watch>>,
+    ghost in_range: { steps < 2 ^ 64 },
+    ghost room: { vec_len waiting + vec_len attached ≤ vec_capacity attached },
+}
+
+impl Session {
+    ghost use Rattle.std.specs.Prelude.{◌≡◌, [], map, IfOk, OnOk, OnErr, Some, None};
+    ghost use Rattle.level_debuggers.specs.Levels.{IsRunner, level_of, show_text, up_text};
+    ghost use Rattle.level_debuggers.specs.Tallies.{noted, watching};
+    ghost use Rattle.level_debuggers.specs.Walks.{after_event, stepped, HasMadeSome};
+    ghost use Rattle.level_debuggers.specs.Taken.{attached_by, detached_by};
+    ghost use Rattle.level_debuggers.specs.Sessions.{IsSession, session_of};
+
+    /// A session of a runner that has made no step, with these watches waiting. Room for all of them to be attached is
+    /// taken here.
+    pub fn new(
+        alloc: Global,
+        runner: Runner,
+        watches: Vec<Box<dyn Watch>>,
+    ) -> Result<Session, Memory>
+        requires { IsRunner runner }
+        ensures session { IfOk result (λ session. session_of (λ w. watching (rule_of w) (tally_of w)) session
+            ≡ record {
+              level = level_of runner;
+              steps = 0;
+              waiting = map (λ w. watching (rule_of w) (tally_of w)) watches.items;
+              attached = [];
+            }) }
+        ensures is { IfOk result IsSession }
+    {
+        let attached = Vec::with_capacity(alloc, watches.len())?;
+        Ok(Session {
+            level: Level::new(runner),
+            steps: 0,
+            waiting: watches,
+            attached,
+        })
+    }
+
+    /// Attaches the first waiting watch of a rule, behind those that are attached. It takes no memory.
+    ///
+    /// # Errors
+    ///
+    /// No watch of the rule waits; nothing has changed.
+    pub fn attach(&mut self, rule: Rule) -> Result<(), Absent>
+        ensures attached { OnOk result (attached_by rule (session_of (λ w. watching (rule_of w) (tally_of w)) self.old)
+            ≡ Some (session_of (λ w. watching (rule_of w) (tally_of w)) self.new)) }
+        ensures absent { OnErr result (attached_by rule (session_of (λ w. watching (rule_of w) (tally_of w)) self.old)
+            ≡ None) }
+        ensures unchanged { OnErr result (session_of (λ w. watching (rule_of w) (tally_of w)) self.new
+            ≡ session_of (λ w. watching (rule_of w) (tally_of w)) self.old) }
+        ensures is { IsSession self.old → IsSession self.new }
+    {
+        let Some(watch) = take_first(&mut self.waiting, rule) else {
+            return Err(Absent);
+        };
+        match self.attached.push(watch) {
+            Ok(()) => Ok(()),
+            Err(_) => unreachable!(),
+        }
+    }
+
+    /// Takes the first attached watch of a rule out of the session, and gives its tally. It takes no memory.
+    ///
+    /// # Errors
+    ///
+    /// No watch of the rule is attached; nothing has changed.
+    pub fn detach(&mut self, rule: Rule) -> Result<Tally, Absent>
+        ensures detached { IfOk result (λ tally.
+            detached_by rule (session_of (λ w. watching (rule_of w) (tally_of w)) self.old)
+            ≡ Some (tally, session_of (λ w. watching (rule_of w) (tally_of w)) self.new)) }
+        ensures absent { OnErr result (detached_by rule (session_of (λ w. watching (rule_of w) (tally_of w)) self.old)
+            ≡ None) }
+        ensures unchanged { OnErr result (session_of (λ w. watching (rule_of w) (tally_of w)) self.new
+            ≡ session_of (λ w. watching (rule_of w) (tally_of w)) self.old) }
+        ensures is { IsSession self.old → IsSession self.new }
+    {
+        match take_first(&mut self.attached, rule) {
+            Some(watch) => Ok(watch.tally()),
+            None => Err(Absent),
+        }
+    }
+
+    /// Notes a step that the run has made.
+    fn note(&mut self, event: &Event)
+        ensures noted { session_of (λ w. watching (rule_of w) (tally_of w)) self.new
+            ≡ after_event event.now (session_of (λ w. watching (rule_of w) (tally_of w)) self.old) }
+        ensures is { IsSession self.old → IsSession self.new }
+    {
+        self.steps = self.steps.saturating_add(1);
+        note_all(self.attached.as_mut_slice(), event);
+    }
+
+    /// Makes at most `n` steps: fewer only where the end is reached or the next step is refused. Each attached watch is told
+    /// each step, in the order of attaching.
+    ///
+    /// # Errors
+    ///
+    /// Out of memory: the steps that were made stand.
+    pub fn step(&mut self, alloc: Global, n: u64) -> Result<SessionRun, Memory>
+        requires { IsSession self.old }
+        ensures ran { IfOk result (λ run. stepped n (session_of (λ w. watching (rule_of w) (tally_of w)) self.old)
+            ≡ record { run = run; session = session_of (λ w. watching (rule_of w) (tally_of w)) self.new }) }
+        ensures memory { OnErr result (HasMadeSome n (session_of (λ w. watching (rule_of w) (tally_of w)) self.old)
+            (session_of (λ w. watching (rule_of w) (tally_of w)) self.new)) }
+        ensures is { IsSession self.new }
+    {
+        for made in 0..n {
+            match self.level.advance(alloc)? {
+                Advance::Over => return Ok(SessionRun::Ended { count: made }),
+                Advance::Stops(stop) => return Ok(stop.after(self.steps)),
+                Advance::Makes(event) => self.note(&event),
+            }
+        }
+        if self.level.is_over() {
+            Ok(SessionRun::Ended { count: n })
+        } else {
+            Ok(SessionRun::Moved { count: n })
+        }
+    }
+
+    /// What the run shows, as lines. At the level of Micro-Gypsy: the place and the number of activations, or `ended`; the
+    /// condition; and each variable of the active procedure. At the level of Piton: the place in its program and the number
+    /// of frames, or `halted`; each formal and temporary of the newest frame with its word; and the stack from the bottom
+    /// up. At the level of the FM9001: the session's number of steps, the registers and the flags.
+    ///
+    /// The only error is out of memory.
+    pub fn show(&self, alloc: Global) -> Result<Vec<u8>, Memory>
+        requires { IsSession self.now }
+        ensures { let session = session_of (λ w. watching (rule_of w) (tally_of w)) self.now in
+            IfOk result (λ text. text.items ≡ show_text session.level session.steps) }
+    {
+        self.level.show(alloc, self.steps)
+    }
+
+    /// What the run says of the variables of its source, as lines. At the level of Micro-Gypsy: `top`. At the end of a run
+    /// of the FM9001, and at that of a run of Piton whose stack has an element for each item of the image's slots: the
+    /// condition and the variables, as a report has them. Elsewhere: `no mark`.
+    ///
+    /// The only error is out of memory.
+    pub fn up(&self, alloc: Global) -> Result<Vec<u8>, Memory>
+        ensures { let session = session_of (λ w. watching (rule_of w) (tally_of w)) self.now in
+            IfOk result (λ text. text.items ≡ up_text session.level) }
+    {
+        self.level.up(alloc)
+    }
+}
