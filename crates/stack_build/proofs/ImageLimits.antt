@@ -1,83 +1,181 @@
--- The image of a placed system keeps the limits of images.
-use Rattle.std.proofs.Common.{◌≡◌, ◌<◌, ◌≤◌, ◌+◌, ◌-◌, ℕ, List, [], ◌∷◌, ◌++◌, Bool, true, false, not, ◌&&◌, ◌||◌, Some, map, refl, sym, ap, subst, ◌∙◌, arith}
-use Rattle.std.specs.Prelude.{IsTrue}
-use Rattle.std.specs.List.{list_any, list_all, AllByRecursion, IsDistinct}
+-- The image of an accepted source keeps the limits of images.
+use Rattle.std.proofs.Common.{◌≡◌, ◌<◌, ◌≤◌, ◌+◌, ◌-◌, ℕ, suc, List, [], ◌∷◌, ◌++◌, true, false, Option, length, map, flat_map, refl, sym, ap, subst, arith}
+use Rattle.std.specs.Prelude.{◌^◌, IsTrue, All}
+use Rattle.std.specs.List.{list_all, AllByRecursion, IsDistinct}
 use Rattle.std.specs.Str.{bytes_eq}
-use Rattle.std.proofs.lemmas.Bool.{and_parts, and_from, le-leb, lt-ltb, not-true}
-use Rattle.std.proofs.lemmas.Cmp.{nat_list_eq_equiv}
+use Rattle.std.proofs.lemmas.Bool.{and_parts, and_from, le-leb, lt-ltb}
+use Rattle.std.proofs.lemmas.List.{length-map, map-append}
 use Rattle.stack_text.specs.Names.{is_name}
+use Rattle.stack_text.specs.declared.name.Named.{Named}
+use Rattle.stack_text.specs.declared.shape.Shape.{Shape}
+use Rattle.stack_text.specs.Values.{ValueOf, item_count}
 use Rattle.fm_image.specs.declared.slot.Slot.{Slot}
 use Rattle.fm_image.specs.declared.window.Window.{Window}
-use Rattle.fm_image.specs.Image.{ImageOf, window_of, is_slot, is_slot_address, all_after, is_image}
+use Rattle.fm_image.specs.Image.{ImageOf, window_of, is_slot_address, all_after, is_image}
 use Rattle.fm_image.proofs.Limits.{from_limits}
-use Rattle.fm_image.proofs.NameLaws.{fits_window, slots_fit}
-use Rattle.fm_words.specs.Code.{no_flags}
-use Rattle.stack_build.specs.declared.piton.System.{System}
-use Rattle.stack_build.specs.declared.layout.Layout.{Layout}
-use Rattle.stack_build.specs.Placed.{layout_of, placed_words, start_registers, IsPlaceable}
-use Rattle.stack_build.specs.Source.{one_integer, are_distinct, AreVariables}
-use Rattle.stack_build.specs.Image.{slots_from, image_of}
-use Rattle.stack_build.proofs.Placing.{length-placed_words}
-use Rattle.stack_build.proofs.Slots.{length-slots_from}
+use Rattle.fm_image.proofs.NameLaws.{fits_window, slots_fit, conditions_fit}
+use Rattle.piton_check.specs.Instruction.{SystemView}
+use Rattle.piton_check.specs.Sound.{IsSound}
+use Rattle.piton_machine.specs.Placed.{placed, final_pc_of, areas_start, end_of}
+use Rattle.piton_machine.proofs.SizeLaws.{length-placed}
+use Rattle.piton_machine.proofs.SoundLaws.{known}
+use Rattle.gypsy_syntax.specs.declared.literal.Decl.{Decl}
+use Rattle.gypsy_syntax.specs.Sources.{ProcOf, LocalOf, SourceOf}
+use Rattle.gypsy_syntax.specs.Programs.{Proc, Program, proc_at, words_of}
+use Rattle.gypsy_syntax.specs.ProgramFits.{Each}
+use Rattle.gypsy_syntax.specs.Resolved.{shape_of, program_of}
+use Rattle.gypsy_check.specs.Accepted.{IsAccepted}
+use Rattle.gypsy_check.specs.Declarations.{variables_of, conditions_of, repeats}
+use Rattle.gypsy_check.specs.Rules.{type_breaches, local_breaches, condition_breaches, variable_breaches, condition_name_breaches, size_breaches, statement_breaches, procedure_breaches}
+use Rattle.gypsy_syntax.specs.Resolved.{variable_types}
+use Rattle.gypsy_check.proofs.CleanLaws.{two, three, four}
+use Rattle.gypsy_space.specs.Needs.{Words}
+use Rattle.gypsy_codegen.specs.WordsOf.{words_of_values, zero_value}
+use Rattle.gypsy_codegen.specs.Generated.{generated_view}
+use Rattle.gypsy_codegen.proofs.DeclareLaws.{Unlike, Differ, differ_source, like_sym}
+use Rattle.gypsy_codegen.proofs.CopyLaws.{vars_join, locals_fit}
+use Rattle.gypsy_syntax.specs.Fits.{IsNamed, FitsDecl}
+use Rattle.piton_syntax.proofs.FitsLaws.{all_first, all_rest}
+use Rattle.piton_linker.specs.Layouts.{trimmed}
+use Rattle.gypsy_codegen.proofs.StackLaws.{values_words}
+use Rattle.stack_build.specs.Formals.{formals_in, conditions_in, shown_formals, shown_conditions}
+use Rattle.stack_build.specs.Image.{slots_from, image_with}
+use Rattle.stack_build.specs.Showing.{AreShort, items_of, Shows}
+use Rattle.stack_build.proofs.Storing.{shapes_in}
+use Rattle.stack_build.proofs.Windows.{shorter}
+use Rattle.stack_build.proofs.MainLaws.{IsMain, main_is, zero_values}
 
--- names that pass the test of the source differ
-names_differ : (names : List (List ℕ)) → are_distinct names ≡ true → IsDistinct bytes_eq names
+-- ---- names
+
+distinct_names : (names : List (List ℕ)) → Differ names → IsDistinct bytes_eq names
 unfolding IsDistinct
-names_differ [] h = tt
-names_differ (name ∷ names) h =
-    let p = and_parts (not (list_any (λ other. bytes_eq other name) names)) (are_distinct names) h in
-    (others names (not-true (list_any (λ other. bytes_eq other name) names) p.0), names_differ names p.1)
+distinct_names [] h = tt
+distinct_names (name ∷ names) h = (others names h.0, distinct_names names h.1)
   where
-    neither : (a b : Bool) → (a || b) ≡ false → (a ≡ false) × (b ≡ false)
-    neither true b h = cc
-    neither false b h = (refl, h)
+    others : (names : List (List ℕ)) → Unlike name names → AllByRecursion (λ other. bytes_eq name other ≡ false) names
+    others [] u = tt
+    others (other ∷ names) u = (like_sym other name u.0, others names u.1)
 
-    others : (names : List (List ℕ)) → list_any (λ other. bytes_eq other name) names ≡ false → AllByRecursion (λ other. bytes_eq name other ≡ false) names
-    others [] none = tt
-    others (other ∷ names) none =
-        let q = neither (bytes_eq other name) (list_any (λ other. bytes_eq other name) names) none in
-        (nat_list_eq_equiv.symm name other ∙ q.0, others names q.1)
+unlike_front : (name : List ℕ) (xs ys : List (List ℕ)) → Unlike name (xs ++ ys) → Unlike name xs
+unlike_front name [] ys u = tt
+unlike_front name (x ∷ xs) ys u = (u.0, unlike_front name xs ys u.1)
 
-names-slots_from : (address : ℕ) (names : List (List ℕ)) → map (λ (slot : Slot). slot.name) (slots_from address names) ≡ names
-names-slots_from address [] = refl
-names-slots_from address (name ∷ names) = ap (λ (ns : List (List ℕ)). name ∷ ns) (names-slots_from (address - 1) names)
+differ_front : (xs ys : List (List ℕ)) → Differ (xs ++ ys) → Differ xs
+differ_front [] ys d = tt
+differ_front (x ∷ xs) ys d = (unlike_front x xs ys d.0, differ_front xs ys d.1)
 
--- slots one below the other, from an address of the window on, fit it
-each_fits : (window : Window) (address : ℕ) (names : List (List ℕ)) → window.base ≡ 0 → address < window.size → list_all is_name names ≡ true → list_all (fits_window window) (slots_from address names) ≡ true
-each_fits window address [] base below are_names = refl
-each_fits window address (name ∷ names) base below are_names =
-    let is = and_parts (is_name name) (list_all is_name names) are_names in
-    let inside : is_slot_address window one_integer address ≡ true =
-    and_from _ _ (le-leb (window.base + 1) (address + 1) (omega arith)) (lt-ltb address (window.base + window.size) (omega arith)) in
-    and_from _ _ (and_from _ _ is.0 (and_from _ _ refl inside)) (each_fits window (address - 1) names base (omega arith) is.1)
+mapped_front : {X : Type 0} (f : X → List ℕ) (g : X → Named) (xs : List X) (ys : List Named) → ((x : X) → (g x).name ≡ f x) → map (λ (n : Named). n.name) (map g xs ++ ys) ≡ map f xs ++ map (λ (n : Named). n.name) ys
+mapped_front f g [] ys same = refl
+mapped_front f g (x ∷ xs) ys same = λ i. same x i ∷ mapped_front f g xs ys same i
 
-pub image_fits : (names : List (List ℕ)) (system : System) → IsPlaceable system → (layout_of system).end ≤ 140000 → AreVariables names → IsTrue (is_image (image_of names system))
+-- of the formals, and of the formal conditions
+formals_differ : (s : SourceOf) (p : ProcOf) → procedure_breaches s p ≡ [] → IsDistinct bytes_eq (map (λ (d : Decl). d.name.name) p.formals)
+formals_differ s p e =
+    let h = four (variable_breaches p) (condition_name_breaches p) (size_breaches p) (statement_breaches s p false p.body) e in
+    let k = three (repeats 4 [] (variables_of p)) (flat_map type_breaches (variable_types p)) (flat_map local_breaches p.locals) h.0 in
+    let locals : List Named = map (λ (l : LocalOf). l.decl.name) p.locals in
+    let all = subst Differ (mapped_front (λ (d : Decl). d.name.name) (λ (d : Decl). d.name) p.formals locals (λ d. refl)) (differ_source 4 [] (variables_of p) k.0) in
+    distinct_names (map (λ (d : Decl). d.name.name) p.formals) (differ_front (map (λ (d : Decl). d.name.name) p.formals) (map (λ (n : Named). n.name) locals) all)
+
+conditions_differ : (s : SourceOf) (p : ProcOf) → procedure_breaches s p ≡ [] → IsDistinct bytes_eq (map (λ (n : Named). n.name) p.conds)
+conditions_differ s p e =
+    let h = four (variable_breaches p) (condition_name_breaches p) (size_breaches p) (statement_breaches s p false p.body) e in
+    let k = two (repeats 5 [] (conditions_of p)) (flat_map condition_breaches (conditions_of p)) h.1 in
+    let all = subst Differ (map-append (λ (n : Named). n.name) p.conds p.local_conds) (differ_source 5 [] (conditions_of p) k.0) in
+    distinct_names (map (λ (n : Named). n.name) p.conds) (differ_front (map (λ (n : Named). n.name) p.conds) (map (λ (n : Named). n.name) p.local_conds) all)
+
+all_named : {X : Type 0} (P : X → Type 0) (name : X → List ℕ) → ((x : X) → P x → is_name (name x) ≡ true) → (xs : List X) → All P xs → list_all is_name (map name xs) ≡ true
+all_named P name fits [] h = refl
+all_named P name fits (x ∷ xs) h = and_from _ _ (fits x (all_first P x xs h)) (all_named P name fits xs (all_rest P x xs h))
+
+-- ---- slots
+
+length-slots_from : (a : ℕ) (ds : List Decl) → length (slots_from a ds) ≡ length ds
+length-slots_from a [] = refl
+length-slots_from a (d ∷ ds) = ap suc (length-slots_from (a - item_count (shape_of d.shape)) ds)
+
+pub names-slots_from : (a : ℕ) (ds : List Decl) → map (λ (slot : Slot). slot.name) (slots_from a ds) ≡ map (λ (d : Decl). d.name.name) ds
+names-slots_from a [] = refl
+names-slots_from a (d ∷ ds) = ap (λ (names : List (List ℕ)). d.name.name ∷ names) (names-slots_from (a - item_count (shape_of d.shape)) ds)
+
+-- slots from an address down fit a window that has all their items
+each_fits : (window : Window) (a : ℕ) (ds : List Decl) → list_all is_name (map (λ (d : Decl). d.name.name) ds) ≡ true → AreShort ds →
+    window.base + items_of ds ≤ a + 1 → a < window.base + window.size → list_all (fits_window window) (slots_from a ds) ≡ true
+each_fits window a [] named few low high = refl
+each_fits window a (d ∷ ds) named few low high =
+    let p = and_parts (is_name d.name.name) (list_all is_name (map (λ (d : Decl). d.name.name) ds)) named in
+    let count : ℕ = item_count (shape_of d.shape) in
+    let inside : is_slot_address window (shape_of d.shape) a ≡ true =
+    and_from _ _ (le-leb (window.base + count) (a + 1) (omega arith)) (lt-ltb a (window.base + window.size) high) in
+    and_from _ _ (and_from _ _ p.0 (and_from _ _ (le-leb (shape_of d.shape).length 4096 few.0) inside)) (each_fits window (a - count) ds p.1 few.1 (omega arith) (omega arith))
+
+-- ---- the image of a placed system
+
+pub system_fits : (s : SystemView) (ds : List Decl) (conditions : List (List ℕ)) → IsSound s → (placed s).size ≤ 2 ^ 20 → Shows s ds conditions → IsTrue (is_image (image_with ds conditions s))
 unfolding all_after
-image_fits names system p few v =
-    let image : ImageOf = image_of names system in
-    let many = length-placed_words system p.frame in
-    let size : ℕ = (layout_of system).end in
+system_fits s ds conditions sound small shows =
+    let image : ImageOf = image_with ds conditions s in
+    let long = length-placed s (known s sound) in
+    let size : ℕ = (placed s).size in
+    let low = sound.low_base in
+    let some = sound.some_temp in
+    let fit = sound.stack_fits in
+    let stand = shows.formals_stand in
+    let area = shows.area in
     from_limits image record {
-      window = and_from _ _ (and_from _ _ (and_from _ _ (le-leb 1 size (omega arith)) (le-leb size 1048576 (omega arith))) (le-leb (0 + size) 4294967295 (omega arith))) (and_from _ _ (le-leb 0 (layout_of system).final_pc (omega arith)) (lt-ltb (layout_of system).final_pc (0 + size) (omega arith)));
+      window = and_from _ _ (and_from _ _ (and_from _ _ (le-leb 1 size (omega arith)) (le-leb size 1048576 (omega arith))) (le-leb (s.base + size) 4294967295 (omega arith))) (and_from _ _ (le-leb s.base (final_pc_of s) (omega arith)) (lt-ltb (final_pc_of s) (s.base + size) (omega arith)));
       registers = refl;
-      condition_address = and_from _ _ (le-leb 0 (layout_of system).condition (omega arith)) (lt-ltb (layout_of system).condition (0 + size) (omega arith));
-      condition_count = refl;
-      conditions = refl;
-      slot_count = le-leb _ 200 (let n = length-slots_from (size - 1) names in let k = v.few in omega arith);
-      slots = slots_fit (window_of image) image.slots (each_fits (window_of image) (size - 1) names refl (omega arith) v.are_names)
-          (subst (IsDistinct bytes_eq) (sym (names-slots_from (size - 1) names)) (names_differ names v.differ));
-      words = le-leb _ size (omega arith);
+      condition_address = and_from _ _ (le-leb s.base (areas_start s) (omega arith)) (lt-ltb (areas_start s) (s.base + size) (omega arith));
+      condition_count = le-leb _ 200 shows.conditions_few;
+      conditions = conditions_fit conditions shows.conditions_named shows.conditions_differ;
+      slot_count = le-leb _ 200 (let few = shows.formals_few in let count = length-slots_from (end_of s - 1) ds in omega arith);
+      slots = slots_fit (window_of image) image.slots (each_fits (window_of image) (end_of s - 1) ds shows.formals_named shows.formals_short (omega arith) (omega arith))
+          (subst (IsDistinct bytes_eq) (sym (names-slots_from (end_of s - 1) ds)) shows.formals_differ);
+      words = le-leb (length (trimmed (placed s).words)) size (omega (arith, shorter (placed s).words));
     }
 
--- the same for what is made of equal parts
-pub made_fits : (names : List (List ℕ)) (system : System) (L : Layout) (registers : List ℕ) (conditions : List (List ℕ)) (slots : List Slot) (words : List ℕ) → L ≡ layout_of system → L.end ≤ 140000
-    → registers ≡ start_registers system → conditions ≡ [] → slots ≡ slots_from (L.end - 1) names → words ≡ placed_words system → IsPlaceable system → AreVariables names
-    → IsTrue (is_image record { base = 0; size = L.end; final_pc = L.final_pc; registers = registers; flags = no_flags; condition_address = Some L.condition; conditions = conditions; slots = slots; words = words })
-made_fits names system L registers conditions slots words is few r c s w p v =
-    let l : layout_of system ≡ L = sym is in
-    let below : (layout_of system).end ≤ 140000 = subst (λ (M : Layout). M.end ≤ 140000) is few in
-    let at : slots_from ((layout_of system).end - 1) names ≡ slots = ap (λ (M : Layout). slots_from (M.end - 1) names) l ∙ sym s in
-    let r' = sym r in
-    let c' = sym c in
-    let w' = sym w in
-    subst (λ (image : ImageOf). IsTrue (is_image image)) (λ i. record { base = 0; size = (l i).end; final_pc = (l i).final_pc; registers = r' i; flags = no_flags; condition_address = Some (l i).condition; conditions = c' i; slots = at i; words = w' i }) (image_fits names system p below v)
+-- ---- the image of a source
+
+shorts : (ds : List Decl) → Each (λ (s : Shape). s.length ≤ 4096) (shapes_in ds) → AreShort ds
+shorts [] h = tt
+shorts (d ∷ ds) h = (h.0, shorts ds h.1)
+
+items_are : (ds : List Decl) → words_of (shapes_in ds) ≡ items_of ds
+items_are [] = refl
+items_are (d ∷ ds) = ap (λ (n : ℕ). item_count (shape_of d.shape) + n) (items_are ds)
+
+words_front : (a b : List Shape) → words_of a ≤ words_of (a ++ b)
+words_front [] b = omega arith
+words_front (s ∷ a) b = omega (arith, words_front a b)
+
+main_shows : (s : SourceOf) (sizes : Words) (base : ℕ) (p : ProcOf) → IsAccepted s → IsMain s p → Shows (generated_view (program_of s) sizes base) p.formals (map (λ (n : Named). n.name) p.conds)
+main_shows s sizes base p accepted main =
+    let q : Program = program_of s in
+    let c : Proc = proc_at q q.main in
+    let here = accepted.fits.procs q.main in
+    let formals : c.formals ≡ shapes_in p.formals = ap (λ (z : Proc). z.formals) main.at in
+    let few_variables = main.form.few_variables in
+    let few_conds = main.form.few_conds in
+    let locals : List Shape = map (λ (v : ValueOf). v.shape) c.locals in
+    let opening = values_words (c.formals ++ locals) (map zero_value c.formals ++ c.locals) (vars_join c.formals locals (map zero_value c.formals) c.locals (zero_values c.formals here.formals) (locals_fit c.locals here.locals)) in
+    let stand : words_of c.formals ≤ length (words_of_values (map zero_value c.formals ++ c.locals)) = omega (arith, opening, words_front c.formals locals) in
+    record {
+      formals_named = all_named FitsDecl (λ (d : Decl). d.name.name) (λ d h. h.name) p.formals main.form.formals;
+      formals_differ = formals_differ s p main.rules;
+      formals_few = omega arith;
+      formals_short = shorts p.formals (subst (Each (λ (s : Shape). s.length ≤ 4096)) formals here.formals);
+      formals_stand = subst (λ (n : ℕ). n ≤ length (words_of_values (map zero_value c.formals ++ c.locals))) (items_are p.formals)
+          (subst (λ (shapes : List Shape). words_of shapes ≤ length (words_of_values (map zero_value c.formals ++ c.locals))) formals stand);
+      conditions_named = all_named IsNamed (λ (n : Named). n.name) (λ n h. h) p.conds main.form.conds;
+      conditions_differ = conditions_differ s p main.rules;
+      conditions_few = omega (arith, few_conds, length-map p.conds (λ (n : Named). n.name));
+      area = omega arith;
+    }
+
+-- what is asked of the image holds of each accepted source
+pub generated_shows : (s : SourceOf) (sizes : Words) (base : ℕ) (system : SystemView) → IsAccepted s → system ≡ generated_view (program_of s) sizes base →
+    Shows system (shown_formals s) (shown_conditions s)
+generated_shows s sizes base system accepted is =
+    let main = main_is s accepted in
+    subst (λ (v : SystemView). Shows v (shown_formals s) (shown_conditions s)) (sym is)
+    (subst (λ (o : Option ProcOf). Shows (generated_view (program_of s) sizes base) (formals_in o) (conditions_in o)) (sym main.1.found) (main_shows s sizes base main.0 accepted main.1))

@@ -1,86 +1,129 @@
--- What is built from a source.
-use Rattle.std.specs.Prelude.{◌≡◌, ◌≤◌, ℕ, ◌+◌, List, length, Option, Some, None, Result, Ok, Err, Bool, ◌&&◌, nat_lt, nat_le, if◌then◌else◌}
+-- What is built from the text of a source.
+use Rattle.std.specs.Prelude.{◌≡◌, ◌≤◌, ℕ, ◌^◌, List, length, Option, Some, None, Result, Ok, Err, nat_lt, if◌then◌else◌}
+use Rattle.stack_text.specs.declared.breach.Breach.{Breach}
+use Rattle.stack_text.specs.Breaches.{least}
+use Rattle.stack_text.specs.Gives as common
+use Rattle.stack_text.specs.Results.{◌>>=◌}
 use Rattle.fm_image.specs.Image.{ImageOf}
 use Rattle.fm_image.specs.Spelling.{Spelled, spelling}
+use Rattle.piton_syntax.specs.Systems.{SystemOf}
+use Rattle.piton_check.specs.Answers.{CheckedOf}
+use Rattle.piton_check.specs.Resolved.{resolved}
+use Rattle.piton_machine.specs.Placed.{placed}
+use Rattle.piton_linker.specs.declared.fault.LinkFault.{LinkFault}
+use Rattle.piton_linker.specs.declared.fault.LinkFault.TheVariants as link
+use Rattle.gypsy_syntax.specs.declared.fault.GypsyFault.{GypsyFault}
+use Rattle.gypsy_syntax.specs.declared.fault.GypsyFault.TheVariants as gypsy
+use Rattle.gypsy_syntax.specs.Answers.{gypsy_in}
+use Rattle.gypsy_syntax.specs.Sources.{SourceOf}
+use Rattle.gypsy_syntax.specs.Resolved.{program_of}
+use Rattle.gypsy_check.specs.declared.fault.CheckFault.{CheckFault}
+use Rattle.gypsy_check.specs.declared.fault.CheckFault.TheVariants as check
+use Rattle.gypsy_check.specs.Rules.{violations}
+use Rattle.gypsy_space.specs.Needs.{Words, stack_words}
+use Rattle.gypsy_codegen.specs.Generated.{generated_view}
+use Rattle.gypsy_codegen.specs.Answers.{generation}
+use Rattle.gypsy_codegen.specs.declared.fault.GenFault.{GenFault}
+use Rattle.gypsy_codegen.specs.declared.fault.GenFault.TheVariants as gen
 use Rattle.stack_build.specs.declared.fault.BuildFault.{BuildFault}
-use Rattle.stack_build.specs.declared.fault.BuildFault.TheVariants.{NotBuilt, Size, Control, Temporary, Memory}
-use Rattle.stack_build.specs.declared.source.Statement.{Statement}
-use Rattle.stack_build.specs.declared.source.Statement.TheVariants as statement
-use Rattle.stack_build.specs.declared.source.OneStatement.{OneStatement}
-use Rattle.stack_build.specs.Source.{source_of}
-use Rattle.stack_build.specs.Placed.{generated}
+use Rattle.stack_build.specs.declared.fault.BuildFault.TheVariants.{Text, Form, Rule, Size, Control, Temporary}
+use Rattle.stack_build.specs.declared.fault.BuildFault.TheVariants.{Words as TooManyWords, Memory}
 use Rattle.stack_build.specs.Image.{image_of}
 use Rattle.stack_build.specs.Implements.{Implements}
 
--- an image, and the bytes of its file
+-- a checked Piton system, an image, and the bytes of its file
 pub record BuiltOf : Type 0 where
+  pub piton : CheckedOf
   pub image : ImageOf
   pub bytes : List ℕ
 
--- the words of the control stack for the frame of what the statement calls
-abbrev pub called_frame : Statement → ℕ
-called_frame statement.NoOp = 0
-called_frame (statement.Assign variable number) = 4
+-- ---- faults of the parts, as faults of the whole
 
--- the words that the statement pushes on the temporary stack
-abbrev pub pushed_words : Statement → ℕ
-pushed_words statement.NoOp = 1
-pushed_words (statement.Assign variable number) = 2
+abbrev pub reading_fault : GypsyFault → BuildFault
+reading_fault (gypsy.Text rule place) = Text rule place
+reading_fault (gypsy.Form rule place) = Form rule place
+reading_fault gypsy.Memory = Memory
 
--- what the main procedure needs of the control stack: its own frame and that of what it calls
-abbrev pub control_need : OneStatement → ℕ
-control_need source = 2 + length source.variables + called_frame source.statement
+abbrev pub checking_fault : CheckFault → BuildFault
+checking_fault (check.Violation rule place) = Rule rule place
+checking_fault check.Memory = Memory
 
--- what it needs of the temporary stack: its variables and what its statement pushes
-abbrev pub temporary_need : OneStatement → ℕ
-temporary_need source = length source.variables + pushed_words source.statement
+abbrev pub generating_fault : GenFault → BuildFault
+generating_fault gen.Size = Size
+generating_fault (gen.Control need) = Control need
+generating_fault (gen.Temporary need) = Temporary need
+generating_fault (gen.Words count) = TooManyWords count
+generating_fault gen.Memory = Memory
 
--- which of the two stacks is smaller than that, if one is
-abbrev pub shortage_of : OneStatement → ℕ → ℕ → Option BuildFault
-shortage_of source ctrl temp =
-    if nat_lt ctrl (control_need source) then Some (Control (control_need source))
-    else (if nat_lt temp (temporary_need source) then Some (Temporary (temporary_need source)) else None)
+abbrev pub linking_fault : LinkFault → BuildFault
+linking_fault (link.Large words) = TooManyWords words
+linking_fault link.Memory = Memory
 
--- a stack has 1 to 65,536 words
-abbrev pub is_stack_size : ℕ → Bool
-is_stack_size words = nat_le 1 words && nat_le words 65536
-
--- why the sizes of the two stacks are refused, if they are
-abbrev pub size_fault : OneStatement → ℕ → ℕ → Option BuildFault
-size_fault source ctrl temp = if is_stack_size ctrl && is_stack_size temp then shortage_of source ctrl temp else Some Size
-
--- the image of a source, one for all values
-unfoldable pub source_image : OneStatement → ℕ → ℕ → ImageOf
-source_image source ctrl temp = image_of source.variables (generated source ctrl temp)
-
--- the image and its file, unless there is a fault
-abbrev pub built_unless : Option BuildFault → ImageOf → Result BuiltOf BuildFault
-built_unless None image = Ok (record { image = image; bytes = spelling image })
-built_unless (Some fault) image = Err fault
-
--- what is built from a source
-abbrev pub source_built : OneStatement → ℕ → ℕ → Result BuiltOf BuildFault
-source_built source ctrl temp = built_unless (size_fault source ctrl temp) (source_image source ctrl temp)
-
--- the same, where there is a source
-abbrev pub built_from : Option OneStatement → ℕ → ℕ → Result BuiltOf BuildFault
-built_from None ctrl temp = Err NotBuilt
-built_from (Some source) ctrl temp = source_built source ctrl temp
-
--- what is built from a text, for stacks of these sizes
-abbrev pub built : List ℕ → ℕ → ℕ → Result BuiltOf BuildFault
-built text ctrl temp = built_from (source_of text) ctrl temp
-
--- which fault of a text and two sizes an error of a call is: none where it ran out of memory
+-- out of memory is no fault of a text
 abbrev pub fault_of : BuildFault → Option BuildFault
 fault_of Memory = None
 fault_of fault = Some fault
 
--- What was built from a text for stacks of these sizes: the image does what the source in the text means, and its file of
--- at most 8,388,608 bytes spells the image.
-pub record BuildsText (text : List ℕ) (ctrl temp : ℕ) (built : BuiltOf) : Type 0 where
-  pub source : OneStatement
-  pub read : source_of text ≡ Some source
+-- the call returned exactly what the definition gives, seen through the view; out of memory alone is free
+abbrev pub Gives : {X Y : Type 0} → (X → Y) → Result X BuildFault → Result Y BuildFault → Type 0
+Gives view result value = common.Gives fault_of view result value
+
+-- ---- the source in a text
+
+abbrev pub accepted_unless : SourceOf → Option Breach → Result SourceOf BuildFault
+accepted_unless source None = Ok source
+accepted_unless source (Some breach) = Err (Rule breach.rule breach.place)
+
+abbrev pub accepted_by : Result SourceOf GypsyFault → Result SourceOf BuildFault
+accepted_by (Ok source) = accepted_unless source (least (violations source))
+accepted_by (Err fault) = Err (reading_fault fault)
+
+-- the source that a text has, where it breaks no static rule, and else the first fault of the text, of its tree or of the source
+unfoldable pub source_in : List ℕ → Result SourceOf BuildFault
+source_in text = accepted_by (gypsy_in text)
+
+-- ---- its system and its image
+
+abbrev pub generated_by : Result SystemOf GenFault → Result SystemOf BuildFault
+generated_by (Ok system) = Ok system
+generated_by (Err fault) = Err (generating_fault fault)
+
+-- what is built of a source whose system is this
+abbrev pub built_with : SourceOf → Words → ℕ → SystemOf → BuiltOf
+built_with source sizes base system =
+    let image = image_of source sizes base in
+    record { piton = record { system = system; resolved = resolved system }; image = image; bytes = spelling image }
+
+-- the placed size, which is judged where the sum of the code's words is within the limit
+abbrev pub placed_size : SourceOf → Words → ℕ → ℕ
+placed_size source sizes base = (placed (generated_view (program_of source) sizes base)).size
+
+unfoldable pub linked_of : SourceOf → Words → ℕ → SystemOf → Result BuiltOf BuildFault
+linked_of source sizes base system =
+    if nat_lt (2 ^ 20) (placed_size source sizes base) then Err (TooManyWords (placed_size source sizes base))
+    else Ok (built_with source sizes base system)
+
+-- what is built of a source, for stacks of these sizes and from this address on
+unfoldable pub source_built : SourceOf → Words → ℕ → Result BuiltOf BuildFault
+source_built source sizes base = generated_by (generation source sizes base) >>= linked_of source sizes base
+
+-- the Piton system of a text
+unfoldable pub compiled : List ℕ → ℕ → ℕ → ℕ → Result SystemOf BuildFault
+compiled text ctrl temp base = source_in text >>= λ source. generated_by (generation source (stack_words temp ctrl) base)
+
+-- what is built of a text
+unfoldable pub built : List ℕ → ℕ → ℕ → ℕ → Result BuiltOf BuildFault
+built text ctrl temp base = source_in text >>= λ source. source_built source (stack_words temp ctrl) base
+
+-- What was built of a source, for stacks of these sizes: the image does what the source means, and its file of at most
+-- 8,388,608 bytes spells the image.
+pub record Builds (source : SourceOf) (sizes : Words) (built : BuiltOf) : Type 0 where
   pub short : length built.bytes ≤ 8388608
   pub spells : Spelled built.bytes built.image
-  pub implements : Implements built.image source ctrl temp
+  pub implements : Implements built.image source sizes
+
+-- the same of the source in a text
+pub record BuildsText (text : List ℕ) (ctrl temp : ℕ) (built : BuiltOf) : Type 0 where
+  pub source : SourceOf
+  pub read : source_in text ≡ Ok source
+  pub builds : Builds source (stack_words temp ctrl) built

@@ -1,9 +1,17 @@
-use Rattle.stack_text.specs.Gives.{Gives}
-use Rattle.stack_build.specs.Build.{built, fault_of}
-use Rattle.stack_build.proofs.BuiltLaws.{returned_implements}
+use Rattle.std.proofs.Common.{subst, sym, Result}
+use Rattle.std.proofs.lemmas.Result.{err_from_is_err_and}
+use Rattle.gypsy_syntax.specs.SourceView.{source_of}
+use Rattle.stack_build.specs.declared.fault.BuildFault.{BuildFault}
+use Rattle.stack_build.specs.Build.{Gives, BuiltOf}
+use Rattle.stack_build.proofs.BuildLaws.{text_fails, text_builds}
 use Rattle.stack_build.proofs.building.build.Goals as goal
 
-pub returns-in-Ok-clause-implements : goal.returns-in-Ok-clause-implements
-returns-in-Ok-clause-implements c =
-    let gives : Gives fault_of (λ b. b) c.build_source.result (built c.args.text.now c.args.ctrl c.args.temp) = rw c.in-Ok.ensures.value c.build_source.ensures in
-    returned_implements c.args.text.now c.args.ctrl c.args.temp c.build_source.result gives
+pub returns-in_err-accepted-clause-value : goal.returns-in_err-accepted-clause-value
+returns-in_err-accepted-clause-value c =
+    let p = err_from_is_err_and c.from_residual.result c.from_residual.ensures.1 in
+    rw (p.1, p.2) (text_fails c.in_err-accepted.field-0.0 c.args.text.now c.args.ctrl c.args.temp c.args.base c.in_err-accepted.ensures)
+
+pub returns-clause-value : goal.returns-clause-value
+returns-clause-value c =
+    subst (λ (r : Result BuiltOf BuildFault). Gives (λ built. built) c.build_accepted.result r)
+    (sym (text_builds c.args.text.now c.args.ctrl c.args.temp c.args.base (source_of c.in_ok-accepted.accepted) c.in_ok-accepted.ensures)) c.build_accepted.ensures.value

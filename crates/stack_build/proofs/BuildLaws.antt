@@ -1,0 +1,113 @@
+-- What is built of a source, and why nothing is.
+use Rattle.std.proofs.Common.{◌≡◌, ◌<◌, ◌≤◌, ℕ, List, [], Bool, cond, Option, Some, None, Result, Ok, Err, sym, ap, subst, ◌∙◌}
+use Rattle.std.specs.Prelude.{◌^◌}
+use Rattle.std.proofs.lemmas.Bool.{lt-ltb, le-ltb}
+use Rattle.stack_text.specs.declared.breach.Breach.{Breach}
+use Rattle.stack_text.specs.Breaches.{least}
+use Rattle.stack_text.specs.Gives.{Fails}
+use Rattle.stack_text.specs.Results.{◌>>=◌}
+use Rattle.fm_image.specs.Image.{ImageOf}
+use Rattle.fm_image.specs.Spelling.{spelling}
+use Rattle.piton_syntax.specs.Systems.{SystemOf}
+use Rattle.piton_check.specs.Answers.{CheckedOf, IsChecked}
+use Rattle.piton_check.specs.Instruction.{SystemView}
+use Rattle.piton_machine.specs.Fits.{system_in}
+use Rattle.piton_machine.specs.Placed.{placed}
+use Rattle.piton_linker.specs.declared.fault.LinkFault.{LinkFault}
+use Rattle.piton_linker.specs.declared.fault.LinkFault.TheVariants as link
+use Rattle.piton_linker.specs.Layouts.{IsFault}
+use Rattle.gypsy_syntax.specs.declared.fault.GypsyFault.{GypsyFault}
+use Rattle.gypsy_syntax.specs.declared.fault.GypsyFault.TheVariants as gypsy
+use Rattle.gypsy_syntax.specs.Answers as syntax
+use Rattle.gypsy_syntax.specs.Answers.{gypsy_in}
+use Rattle.gypsy_syntax.specs.Sources.{SourceOf}
+use Rattle.gypsy_syntax.specs.Resolved.{program_of}
+use Rattle.gypsy_check.specs.declared.fault.CheckFault.{CheckFault}
+use Rattle.gypsy_check.specs.declared.fault.CheckFault.TheVariants as check
+use Rattle.gypsy_check.specs.Answers.{IsLeast}
+use Rattle.gypsy_check.specs.Rules.{violations}
+use Rattle.gypsy_space.specs.Needs.{Words, stack_words}
+use Rattle.gypsy_codegen.specs.Generated.{generated_view}
+use Rattle.gypsy_codegen.specs.Answers as generating
+use Rattle.gypsy_codegen.specs.Answers.{generation}
+use Rattle.gypsy_codegen.specs.declared.fault.GenFault.{GenFault}
+use Rattle.gypsy_codegen.specs.declared.fault.GenFault.TheVariants as gen
+use Rattle.stack_build.specs.declared.fault.BuildFault.{BuildFault}
+use Rattle.stack_build.specs.declared.fault.BuildFault.TheVariants as fault
+use Rattle.stack_build.specs.Formals.{shown_formals, shown_conditions}
+use Rattle.stack_build.specs.Image.{image_with, image_of}
+use Rattle.stack_build.specs.Build.{reading_fault, checking_fault, generating_fault, linking_fault, fault_of, accepted_unless, accepted_by, source_in, generated_by, built_with, placed_size, linked_of, source_built, built}
+
+-- ---- reading and checking
+
+pub reading_fails : (e : GypsyFault) (text : List ℕ) → Fails (syntax.fault_of e) (gypsy_in text) → Fails (fault_of (reading_fault e)) (source_in text)
+unfolding source_in
+reading_fails (gypsy.Text rule place) text h = ap accepted_by h
+reading_fails (gypsy.Form rule place) text h = ap accepted_by h
+reading_fails gypsy.Memory text h = tt
+
+pub checking_fails : (e : CheckFault) (text : List ℕ) (source : SourceOf) → gypsy_in text ≡ Ok source → IsLeast source e → Fails (fault_of (checking_fault e)) (source_in text)
+unfolding source_in
+checking_fails (check.Violation rule place) text source h e = ap accepted_by h ∙ ap (accepted_unless source) e
+checking_fails check.Memory text source h e = tt
+
+pub accepted_found : (text : List ℕ) (source : SourceOf) → gypsy_in text ≡ Ok source → violations source ≡ [] → source_in text ≡ Ok source
+unfolding source_in
+accepted_found text source h e = ap accepted_by h ∙ ap (λ (breaches : List Breach). accepted_unless source (least breaches)) e
+
+-- ---- generating and linking
+
+pub generating_fails : (e : GenFault) (s : SourceOf) (sizes : Words) (base : ℕ) → Fails (generating.fault_of e) (generation s sizes base) → Fails (fault_of (generating_fault e)) (source_built s sizes base)
+unfolding source_built
+generating_fails gen.Size s sizes base h = ap (λ (r : Result SystemOf GenFault). generated_by r >>= linked_of s sizes base) h
+generating_fails (gen.Control need) s sizes base h = ap (λ (r : Result SystemOf GenFault). generated_by r >>= linked_of s sizes base) h
+generating_fails (gen.Temporary need) s sizes base h = ap (λ (r : Result SystemOf GenFault). generated_by r >>= linked_of s sizes base) h
+generating_fails (gen.Words count) s sizes base h = ap (λ (r : Result SystemOf GenFault). generated_by r >>= linked_of s sizes base) h
+generating_fails gen.Memory s sizes base h = tt
+
+module _ (s : SourceOf) (sizes : Words) (base : ℕ) (out : SystemOf) (made : generation s sizes base ≡ Ok out) where
+  built_large : 2 ^ 20 < placed_size s sizes base → source_built s sizes base ≡ Err (fault.Words (placed_size s sizes base))
+  unfolding source_built linked_of
+  built_large large =
+      ap (λ (r : Result SystemOf GenFault). generated_by r >>= linked_of s sizes base) made
+      ∙ ap (λ (b : Bool). cond b (Err (fault.Words (placed_size s sizes base))) (Ok (built_with s sizes base out))) (lt-ltb (2 ^ 20) (placed_size s sizes base) large)
+
+  pub built_small : placed_size s sizes base ≤ 2 ^ 20 → source_built s sizes base ≡ Ok (built_with s sizes base out)
+  unfolding source_built linked_of
+  built_small small =
+      ap (λ (r : Result SystemOf GenFault). generated_by r >>= linked_of s sizes base) made
+      ∙ ap (λ (b : Bool). cond b (Err (fault.Words (placed_size s sizes base))) (Ok (built_with s sizes base out))) (le-ltb (2 ^ 20) (placed_size s sizes base) small)
+
+  pub linking_fails : (e : LinkFault) (system : SystemView) → system ≡ generated_view (program_of s) sizes base → IsFault system e → Fails (fault_of (linking_fault e)) (source_built s sizes base)
+  linking_fails (link.Large words) system is h =
+      let count : words ≡ placed_size s sizes base = h.0 ∙ ap (λ (v : SystemView). (placed v).size) is in
+      let large : 2 ^ 20 < placed_size s sizes base = subst (λ (v : SystemView). 2 ^ 20 < (placed v).size) is h.1 in
+      built_large large ∙ ap (λ (n : ℕ). Err (fault.Words n)) (sym count)
+  linking_fails link.Memory system is h = tt
+
+-- what was made is what is to be built
+pub built_is : (s : SourceOf) (sizes : Words) (base : ℕ) (piton : CheckedOf) (image : ImageOf) (bytes : List ℕ) → generation s sizes base ≡ Ok piton.system → IsChecked piton →
+    system_in piton ≡ generated_view (program_of s) sizes base → (placed (system_in piton)).size ≤ 2 ^ 20 → image ≡ image_with (shown_formals s) (shown_conditions s) (system_in piton) → bytes ≡ spelling image →
+    source_built s sizes base ≡ Ok record { piton = piton; image = image; bytes = bytes }
+unfolding image_of
+built_is s sizes base piton image bytes made is view small image_is bytes_are =
+    let names = sym is.names in
+    let same : image_of s sizes base ≡ image = ap (image_with (shown_formals s) (shown_conditions s)) (sym view) ∙ sym image_is in
+    let file : spelling (image_of s sizes base) ≡ bytes = ap spelling same ∙ sym bytes_are in
+    built_small s sizes base piton.system made (subst (λ (v : SystemView). (placed v).size ≤ 2 ^ 20) view small)
+    ∙ (λ i. Ok record { piton = record { system = piton.system; resolved = names i }; image = same i; bytes = file i })
+
+-- ---- the whole
+
+-- what follows a fault is that fault
+stays : {X Y : Type 0} (o : Option BuildFault) (r : Result X BuildFault) (go : X → Result Y BuildFault) → Fails o r → Fails o (r >>= go)
+stays None r go h = tt
+stays (Some f) r go h = ap (λ (z : Result _ BuildFault). z >>= go) h
+
+pub text_fails : (e : BuildFault) (text : List ℕ) (ctrl temp base : ℕ) → Fails (fault_of e) (source_in text) → Fails (fault_of e) (built text ctrl temp base)
+unfolding built
+text_fails e text ctrl temp base h = stays (fault_of e) (source_in text) (λ source. source_built source (stack_words temp ctrl) base) h
+
+pub text_builds : (text : List ℕ) (ctrl temp base : ℕ) (source : SourceOf) → source_in text ≡ Ok source → built text ctrl temp base ≡ source_built source (stack_words temp ctrl) base
+unfolding built
+text_builds text ctrl temp base source h = ap (λ (r : Result SourceOf BuildFault). r >>= λ source. source_built source (stack_words temp ctrl) base) h

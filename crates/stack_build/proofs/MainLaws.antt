@@ -1,0 +1,88 @@
+-- What is known of the main procedure of an accepted source.
+use Rattle.std.proofs.Common.{◌≡◌, ◌<◌, ◌≤◌, ◌∙◌, ℕ, zero, suc, pos, true, false, List, [], ◌∷◌, length, map, flat_map, get_or, slice_get, Option, Some, None, refl, ap, subst, arith}
+use Rattle.std.specs.Prelude.{is_none, replicate, All}
+use Rattle.std.specs.List.{list_all}
+use Rattle.std.specs.Option.{unwrap_or}
+use Rattle.std.proofs.lemmas.List.{length-map, length-replicate}
+use Rattle.stack_text.specs.declared.shape.Kind.{Kind}
+use Rattle.stack_text.specs.declared.shape.Kind.TheVariants.{Integer, Boolean, Character}
+use Rattle.stack_text.specs.declared.shape.Shape.{Shape}
+use Rattle.stack_text.specs.Values.{item_count}
+use Rattle.gypsy_syntax.specs.Sources.{ProcOf, SourceOf}
+use Rattle.gypsy_syntax.specs.Programs.{no_proc, proc_at}
+use Rattle.gypsy_syntax.specs.Resolved.{place_among, procedure_names, procedure_of, program_of}
+use Rattle.gypsy_syntax.specs.ProgramFits.{Each, is_in_range}
+use Rattle.gypsy_syntax.specs.Fits.{FitsProcedure}
+use Rattle.gypsy_syntax.proofs.FitsLaws.{keeps_fits}
+use Rattle.piton_syntax.proofs.FitsLaws.{all_first, all_rest}
+use Rattle.gypsy_check.specs.Accepted.{IsAccepted}
+use Rattle.gypsy_check.specs.Declarations.{procedure_at}
+use Rattle.gypsy_check.specs.Rules.{procedure_breaches}
+use Rattle.gypsy_check.proofs.CleanLaws.{two}
+use Rattle.gypsy_meaning.specs.Kept.{VarsFit}
+use Rattle.gypsy_codegen.specs.WordsOf.{zero_value}
+use Rattle.gypsy_codegen.proofs.SourceLaws.{kept}
+use Rattle.stack_build.specs.Formals.{main_of}
+
+-- it is there, and keeps the form and the rules
+pub record IsMain (s : SourceOf) (p : ProcOf) : Type 0 where
+  pub found : main_of s ≡ Some p
+  pub at : proc_at (program_of s) (program_of s).main ≡ procedure_of s p
+  pub form : FitsProcedure p
+  pub rules : procedure_breaches s p ≡ []
+
+proc_is : (s : SourceOf) (procs : List ProcOf) (i : ℕ) → i < length procs → (p : ProcOf) × (slice_get procs i ≡ Some p) × (get_or (map (procedure_of s) procs) i no_proc ≡ procedure_of s p)
+proc_is s [] i lt = absurd (omega (arith, lt))
+proc_is s (p ∷ procs) zero lt = (p, refl, refl)
+proc_is s (p ∷ procs) (suc i) lt = proc_is s procs i (omega (arith, lt))
+
+form_is : (procs : List ProcOf) (i : ℕ) (p : ProcOf) → All FitsProcedure procs → slice_get procs i ≡ Some p → FitsProcedure p
+form_is [] i p h e = absurd cc
+form_is (q ∷ procs) zero p h e = let same : q ≡ p = cc in subst FitsProcedure same (all_first FitsProcedure q procs h)
+form_is (q ∷ procs) (suc i) p h e = form_is procs i p (all_rest FitsProcedure q procs h) e
+
+rules_are : (s : SourceOf) (procs : List ProcOf) (i : ℕ) (p : ProcOf) → flat_map (procedure_breaches s) procs ≡ [] → slice_get procs i ≡ Some p → procedure_breaches s p ≡ []
+rules_are s [] i p h e = absurd cc
+rules_are s (q ∷ procs) zero p h e =
+    let same : q ≡ p = cc in
+    subst (λ (r : ProcOf). procedure_breaches s r ≡ []) same (two (procedure_breaches s q) (flat_map (procedure_breaches s) procs) h).0
+rules_are s (q ∷ procs) (suc i) p h e = rules_are s procs i p (two (procedure_breaches s q) (flat_map (procedure_breaches s) procs) h).1 e
+
+pub main_is : (s : SourceOf) → IsAccepted s → (p : ProcOf) × IsMain s p
+unfolding main_of
+main_is s accepted =
+    let k = kept s accepted.rules in
+    by_place (place_among s.main.name (procedure_names s)) refl k.main
+  where
+    by_place : (o : Option ℕ) → place_among s.main.name (procedure_names s) ≡ o → is_none o ≡ false → (p : ProcOf) × IsMain s p
+    by_place None e h = absurd cc
+    by_place (Some i) e h =
+        let here : (program_of s).main ≡ i = ap (λ (o : Option ℕ). unwrap_or o 0) e in
+        let main = accepted.fits.main in
+        let count : length (program_of s).procs ≡ length s.procs = length-map s.procs (procedure_of s) in
+        let f = proc_is s s.procs i (omega (arith, main, here, count)) in
+        let form = keeps_fits s accepted.form in
+        let k = kept s accepted.rules in (
+          f.0,
+          record {
+            found = ap (procedure_at s.procs) e ∙ f.1;
+            at = ap (λ (j : ℕ). get_or (program_of s).procs j no_proc) here ∙ f.2;
+            form = form_is s.procs i f.0 form.procs f.1;
+            rules = rules_are s s.procs i f.0 k.procs f.1;
+          },
+        )
+
+-- values of zeros fit
+zero_fits : (k : Kind) → is_in_range k (pos 0) ≡ true
+zero_fits Integer = refl
+zero_fits Boolean = refl
+zero_fits Character = refl
+
+zeros_fit : (k : Kind) (n : ℕ) → list_all (is_in_range k) (replicate n (pos 0)) ≡ true
+zeros_fit k zero = refl
+zeros_fit k (suc n) = rw (zero_fits k) (zeros_fit k n)
+
+pub zero_values : (shapes : List Shape) → Each (λ s. s.length ≤ 4096) shapes → VarsFit shapes (map zero_value shapes)
+zero_values [] h = tt
+zero_values (s ∷ shapes) h =
+    (refl, record { few = h.0; number = length-replicate (item_count s) (pos 0); items = zeros_fit s.kind (item_count s) }, zero_values shapes h.1)

@@ -1,0 +1,50 @@
+-- An image that is made of the parts of a linked system.
+use Rattle.std.proofs.Common.{◌≡◌, ◌<◌, ◌≤◌, ◌-◌, ℕ, List, Some, sym, ap, subst, ◌∙◌, arith}
+use Rattle.std.specs.Prelude.{◌^◌, IsTrue}
+use Rattle.fm_words.specs.Code.{no_flags}
+use Rattle.fm_image.specs.declared.slot.Slot.{Slot}
+use Rattle.fm_image.specs.Image.{ImageOf, is_image}
+use Rattle.piton_check.specs.Answers.{CheckedOf, IsChecked}
+use Rattle.piton_machine.specs.Fits.{system_in}
+use Rattle.piton_machine.specs.Placed.{placed, areas_start, end_of}
+use Rattle.piton_linker.specs.declared.placement.Layout.{Layout}
+use Rattle.piton_linker.specs.Layouts.{layout_of, trimmed}
+use Rattle.piton_linker.proofs.ProcessorLaws.{checked_end}
+use Rattle.gypsy_syntax.specs.declared.literal.Decl.{Decl}
+use Rattle.stack_build.specs.Image.{slots_from, image_with}
+use Rattle.stack_build.specs.Showing.{Shows}
+use Rattle.stack_build.proofs.ImageLimits.{system_fits}
+
+-- its addresses are numbers of 32 bits
+pub areas_below : (c : CheckedOf) (layout : Layout) → IsChecked c → (placed (system_in c)).size ≤ 2 ^ 20 → layout ≡ layout_of (system_in c) → layout.areas_start < 2 ^ 32
+areas_below c layout is small e =
+    let fits = checked_end c is small in
+    let at : layout.areas_start ≡ areas_start (system_in c) = ap (λ (l : Layout). l.areas_start) e in
+    let within : areas_start (system_in c) ≤ end_of (system_in c) = omega arith in
+    omega (arith, at, within, fits)
+
+pub end_below : (c : CheckedOf) (layout : Layout) → IsChecked c → (placed (system_in c)).size ≤ 2 ^ 20 → layout ≡ layout_of (system_in c) → layout.end - 1 < 2 ^ 32
+end_below c layout is small e =
+    let fits = checked_end c is small in
+    let at : layout.end ≡ end_of (system_in c) = ap (λ (l : Layout). l.end) e in
+    omega (arith, at, fits)
+
+-- it keeps the limits
+pub parts_fit : (c : CheckedOf) (ds : List Decl) (conditions : List (List ℕ)) → IsChecked c → (placed (system_in c)).size ≤ 2 ^ 20 → Shows (system_in c) ds conditions →
+    (layout : Layout) (base size final_pc : ℕ) (registers words : List ℕ) (names : List (List ℕ)) (slots : List Slot) → layout ≡ layout_of (system_in c) →
+    base ≡ (system_in c).base → size ≡ (placed (system_in c)).size → final_pc ≡ (placed (system_in c)).final_pc → registers ≡ (placed (system_in c)).registers →
+    words ≡ trimmed (placed (system_in c)).words → names ≡ conditions → slots ≡ slots_from (layout.end - 1) ds →
+    IsTrue (is_image record { base = base; size = size; final_pc = final_pc; registers = registers; flags = no_flags; condition_address = Some layout.areas_start; conditions = names; slots = slots; words = words })
+parts_fit c ds conditions is small shows layout base size final_pc registers words names slots l b n f r w m s =
+    let l' = sym l in
+    let b' = sym b in
+    let n' = sym n in
+    let f' = sym f in
+    let r' = sym r in
+    let w' = sym w in
+    let m' = sym m in
+    let s' : slots_from (end_of (system_in c) - 1) ds ≡ slots = ap (λ (p : Layout). slots_from (p.end - 1) ds) l' ∙ sym s in
+    let image : ImageOf = record { base = base; size = size; final_pc = final_pc; registers = registers; flags = no_flags; condition_address = Some layout.areas_start; conditions = names; slots = slots; words = words } in
+    let whole : image_with ds conditions (system_in c) ≡ image =
+    λ i. record { base = b' i; size = n' i; final_pc = f' i; registers = r' i; flags = no_flags; condition_address = Some (l' i).areas_start; conditions = m' i; slots = s' i; words = w' i } in
+    subst (λ (z : ImageOf). IsTrue (is_image z)) whole (system_fits (system_in c) ds conditions is.sound small shows)

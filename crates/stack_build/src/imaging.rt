@@ -1,0 +1,110 @@
+//! The image of a source whose system was generated.
+ghost use Rattle.std.specs.Prelude.{◌≡◌, ◌≤◌, ◌^◌, IfOk, IfErr, map};
+ghost use Rattle.stack_text.specs.Values.{item_count};
+ghost use Rattle.piton_check.specs.Answers.{IsChecked};
+ghost use Rattle.piton_machine.specs.Fits.{system_in};
+ghost use Rattle.piton_machine.specs.Placed.{placed};
+ghost use Rattle.piton_linker.specs.Layouts.{IsFault};
+ghost use Rattle.piton_linker.specs.Theorem.{RunsOnProcessor};
+ghost use Rattle.gypsy_syntax.specs.Resolved.{shape_of};
+ghost use Rattle.gypsy_syntax.specs.SourceView.{source_of};
+ghost use Rattle.stack_build.specs.Formals.{shown_formals, shown_conditions};
+ghost use Rattle.stack_build.specs.Image.{slots_from, image_with};
+ghost use Rattle.stack_build.specs.Showing.{AreShort, Shows};
+
+use crate::shown::{shown_conditions, shown_formals};
+use fm_image::{Image, Slot};
+use fm_words::Flags;
+use gypsy_syntax::{Decl, Source, TypeText};
+use piton_check::Checked;
+use piton_linker::{LinkFault, Linked, layout, link};
+use stack_text::{Memory, Name, Named, Shape};
+use std::alloc::Global;
+
+/// The shape of a type that keeps the rules.
+fn shape_of(text: TypeText) -> Shape
+    requires { (shape_of text).length ≤ 4096 }
+    ensures { result ≡ shape_of text }
+{
+    let length = match text.length {
+        Some(length) if 0 <= length && length <= 4096 => length as u32,
+        _ => 0,
+    };
+    Shape {
+        kind: text.kind,
+        length,
+    }
+}
+
+/// How many items a value of a shape has.
+fn item_count(shape: Shape) -> u32
+    ensures { result ≡ item_count shape }
+{
+    if shape.length == 0 { 1 } else { shape.length }
+}
+
+/// The formals, each with the address of its first item: the first at `address`, each further one below the items
+/// before it.
+pub fn slots_from(alloc: Global, address: u32, formals: &[Decl]) -> Result<Vec<Slot>, Memory>
+    requires { AreShort formals.now }
+    ensures { IfOk result (λ slots. slots.items ≡ slots_from address formals.now) }
+{
+    let mut slots = Vec::new(alloc);
+    let mut next = address;
+    for formal in formals {
+        let shape = shape_of(formal.shape);
+        let name = formal.name.name.clone()?;
+        slots.push(Slot {
+            name,
+            shape,
+            address: next,
+        })?;
+        next = next.saturating_sub(item_count(shape));
+    }
+    Ok(slots)
+}
+
+/// The names.
+fn names(alloc: Global, conditions: &[Named]) -> Result<Vec<Name>, Memory>
+    ensures { IfOk result (λ names. names.items ≡ map (λ n. n.name) conditions.now) }
+{
+    let mut names = Vec::new(alloc);
+    for condition in conditions {
+        names.push(condition.name.clone()?)?;
+    }
+    Ok(names)
+}
+
+/// The image of a source from its system.
+pub fn image(alloc: Global, source: &Source, piton: &Checked) -> Result<Image, LinkFault>
+    requires checked { IsChecked piton.now }
+    requires shows { let s = source_of source.now in
+        Shows (system_in piton.now) (shown_formals s) (shown_conditions s) }
+    ensures image { let s = source_of source.now in
+        IfOk result (λ image. image ≡ image_with (shown_formals s) (shown_conditions s) (system_in piton.now)) }
+    ensures small { IfOk result (λ image. (placed (system_in piton.now)).size ≤ 2 ^ 20) }
+    ensures fault { IfErr result (IsFault (system_in piton.now)) }
+    ensures runs { IfOk result (λ image. RunsOnProcessor (system_in piton.now)) }
+{
+    let Linked {
+        base,
+        size,
+        final_pc,
+        registers,
+        words,
+        places: _,
+    } = link(alloc, piton)?;
+    let parts = layout(piton);
+    let bottom = parts.end - 1;
+    Ok(Image {
+        base,
+        size,
+        final_pc,
+        registers,
+        flags: Flags::NONE,
+        condition_address: Some(parts.areas_start as u32),
+        conditions: names(alloc, shown_conditions(source))?,
+        slots: slots_from(alloc, bottom as u32, shown_formals(source))?,
+        words,
+    })
+}

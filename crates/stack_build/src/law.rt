@@ -1,0 +1,22 @@
+//! Laws. The functions do nothing: their clauses hold of all sources, sizes and texts.
+
+ghost use Rattle.stack_build.specs.Joined.{GeneratedImageImplements, BuiltImplements, BuiltTakesValues};
+
+/// The image of each accepted source, at sizes and a base within the limits, does what the source means: loaded with
+/// any values that fit main's formals, where the meaning is done, the machine first comes to the final program counter
+/// after exactly the counted instructions, and memory is read there as the meaning's values and condition.
+pub fn images_implement()
+    ensures { GeneratedImageImplements }
+{
+    gypsy_codegen::meaning_runs();
+    gypsy_codegen::generated_is_acceptable();
+}
+
+/// The same of what is built of a text; and values that are read for its image fit main's formals.
+pub fn builds_implement()
+    ensures implements { BuiltImplements }
+    ensures values { BuiltTakesValues }
+{
+    gypsy_codegen::meaning_runs();
+    gypsy_codegen::generated_is_acceptable();
+}
