@@ -1,12 +1,14 @@
 -- What a command stores does as its source means.
 use Rattle.std.proofs.Common.{◌≡◌, ◌≤◌, ℕ, zero, suc, Bool, true, false, List, [], ◌∷◌, Option, Some, None, IfSome, Result, Ok, Err, IfOk, length, refl, sym, ap, ◌∙◌, subst, arith}
-use Rattle.std.specs.Prelude.{Contains, nat_lt, if◌then◌else◌}
+use Rattle.std.specs.Prelude.{◌^◌, Contains}
 use Rattle.stack_text.specs.Results.{◌>>=◌}
 use Rattle.stack_shelf.specs.Files.{Files, file_at}
 use Rattle.stack_shelf.specs.Shelf.{Refusal, Missing, TooLong, fetched, within}
+use Rattle.gypsy_space.specs.Needs.{stack_words}
 use Rattle.stack_build.specs.declared.fault.BuildFault.{BuildFault}
 use Rattle.stack_build.specs.Build.{BuiltOf, built, BuildsText}
-use Rattle.stack_build.proofs.BuiltLaws.{built_implements}
+use Rattle.stack_build.specs.Joined.{BuiltImplements}
+use Rattle.cli_stack.proofs.FileLaws.{was_short, set_bytes}
 use Rattle.cli_stack.specs.declared.command.Command.{Command}
 use Rattle.cli_stack.specs.declared.command.Command.TheVariants as command
 use Rattle.cli_stack.specs.declared.driver.early_end.EarlyEnd.{EarlyEnd}
@@ -14,54 +16,57 @@ use Rattle.cli_stack.specs.declared.role.Role.{Role}
 use Rattle.cli_stack.specs.declared.role.Role.TheVariants.{Source, Piton, Values, Image}
 use Rattle.cli_stack.specs.Roles.{limit_of}
 use Rattle.cli_stack.specs.Answer.{Texts, text_of, Answer, early_answer, text_or_end, gathered, set_file, inputs_of, output_of, stored_by, reply_by, answer_on, answer_to, answer_by}
-use Rattle.cli_stack.specs.Go.{go_stored}
+use Rattle.cli_stack.specs.Build.{image_stored}
 use Rattle.cli_stack.specs.Correct.{ReadsFile, StoresFile, HoldsImplementation, StoresImplementation, Implements}
 
--- the text of a file that was fetched
-was_there : (files : Files) (input : Role × List ℕ) (text : List ℕ) → text_or_end input (fetched files input.1 (limit_of input.0)) ≡ Ok text → file_at files input.1 ≡ Some text
-was_there files input text h = by_file (file_at files input.1) h
-  where
-    by_length : (bytes : List ℕ) (b : Bool) → text_or_end input (if b then Err TooLong else Ok bytes) ≡ Ok text → Some bytes ≡ Some text
-    by_length bytes true h = cc
-    by_length bytes false h = cc
+-- a source's text is short enough to be read
+is_readable : (text : List ℕ) → length text ≤ 1048576 → length text ≤ 2 ^ 31
+is_readable text short = omega (arith, short)
 
-    by_file : (o : Option (List ℕ)) → text_or_end input (within (limit_of input.0) o) ≡ Ok text → o ≡ Some text
-    by_file None h = cc
-    by_file (Some bytes) h = by_length bytes (nat_lt (limit_of input.0) (length bytes)) h
-
--- the bytes of a file that is set
-set_bytes : Option (List ℕ × List ℕ) → List ℕ
-set_bytes None = []
-set_bytes (Some output) = output.1
-
--- what `go` stores
+-- what is stored of what was built
 module _ (files : Files) (source text : List ℕ) (control temporary : ℕ) (stored bytes : List ℕ) (there : file_at files source ≡ Some text) where
-  built_holds : (found : Result BuiltOf BuildFault) → IfOk found (BuildsText text control temporary) → (image : Role × List ℕ) → set_file (Some image) (go_stored found) ≡ Some (stored, bytes) → HoldsImplementation files source control temporary bytes
+  built_holds : (found : Result BuiltOf BuildFault) → IfOk found (BuildsText text control temporary) → (image : Role × List ℕ) → set_file (Some image) (image_stored found) ≡ Some (stored, bytes) → HoldsImplementation files source (stack_words temporary control) bytes
   built_holds (Err fault) builds image sets = absurd (let e : None ≡ Some (stored, bytes) = sets in cc)
   built_holds (Ok found) builds image sets =
-      let same : found.bytes ≡ bytes = unfold set_bytes in ap set_bytes sets in
-      subst (HoldsImplementation files source control temporary) same (record {
+      let same : found.bytes ≡ bytes = ap set_bytes sets in
+      subst (HoldsImplementation files source (stack_words temporary control)) same (record {
         text = text;
         there = there;
         source = builds.source;
         read = builds.read;
         image = found.image;
-        short = builds.short;
-        spells = builds.spells;
-        implements = builds.implements;
+        short = builds.builds.short;
+        spells = builds.builds.spells;
+        implements = builds.builds.implements;
       })
 
-go_holds : (files : Files) (source values image : List ℕ) (control temporary budget : ℕ) (first second : Result (List ℕ) EarlyEnd) (stored bytes : List ℕ)
+go_holds : BuiltImplements → (files : Files) (source values image : List ℕ) (control temporary budget : ℕ) (first second : Result (List ℕ) EarlyEnd) (stored bytes : List ℕ)
     → text_or_end (Source, source) (fetched files source (limit_of Source)) ≡ first
     → (answer_on (command.Go source values control temporary budget image) (first >>= λ text. (second >>= λ other. Ok ((Values, other) ∷ [])) >>= λ texts. Ok ((Source, text) ∷ texts))).output ≡ Some (stored, bytes)
-    → HoldsImplementation files source control temporary bytes
+    → HoldsImplementation files source (stack_words temporary control) bytes
 unfolding output_of stored_by
-go_holds files source values image control temporary budget (Err early) second stored bytes got sets = cc
-go_holds files source values image control temporary budget (Ok text) (Err early) stored bytes got sets = cc
-go_holds files source values image control temporary budget (Ok text) (Ok other) stored bytes got sets =
-    built_holds files source text control temporary stored bytes (was_there files (Source, source) text got) (built text control temporary) (built_implements text control temporary) (Image, image) sets
+go_holds laws files source values image control temporary budget (Err early) second stored bytes got sets = cc
+go_holds laws files source values image control temporary budget (Ok text) (Err early) stored bytes got sets = cc
+go_holds laws files source values image control temporary budget (Ok text) (Ok other) stored bytes got sets =
+    let file = was_short files (Source, source) text got in
+    built_holds files source text control temporary stored bytes file.0 (built text control temporary 0) (laws text control temporary 0 (is_readable text file.1) (omega arith)) (Image, image) sets
 
--- a name that `go` reads as a source is its source
+build_holds : BuiltImplements → (files : Files) (source image : List ℕ) (control temporary : ℕ) (first : Result (List ℕ) EarlyEnd) (stored bytes : List ℕ)
+    → text_or_end (Source, source) (fetched files source (limit_of Source)) ≡ first
+    → (answer_on (command.Build source control temporary image) (first >>= λ text. Ok ((Source, text) ∷ []))).output ≡ Some (stored, bytes)
+    → HoldsImplementation files source (stack_words temporary control) bytes
+unfolding output_of stored_by
+build_holds laws files source image control temporary (Err early) stored bytes got sets = cc
+build_holds laws files source image control temporary (Ok text) stored bytes got sets =
+    let file = was_short files (Source, source) text got in
+    built_holds files source text control temporary stored bytes file.0 (built text control temporary 0) (laws text control temporary 0 (is_readable text file.1) (omega arith)) (Image, image) sets
+
+-- a name that `build` reads as a source is its source
+build_source : (source name : List ℕ) → Contains {X = Role × List ℕ} ((Source, source) ∷ []) (Source, name) → source ≡ name
+build_source source name (zero, lt, is) = ap (λ (f : Role × List ℕ). f.1) is
+build_source source name (suc i, lt, is) = absurd (omega arith)
+
+-- so is one that `go` reads
 go_source : (source values name : List ℕ) → Contains {X = Role × List ℕ} ((Source, source) ∷ (Values, values) ∷ []) (Source, name) → source ≡ name
 go_source source values name (zero, lt, is) = ap (λ (f : Role × List ℕ). f.1) is
 go_source source values name (suc zero, lt, is) = absurd (let e : Values ≡ Source = ap (λ (f : Role × List ℕ). f.0) is in cc)
@@ -72,16 +77,26 @@ no_source : (piton name : List ℕ) → Contains {X = Role × List ℕ} ((Piton,
 no_source piton name (zero, lt, is) = let e : Piton ≡ Source = ap (λ (f : Role × List ℕ). f.0) is in cc
 no_source piton name (suc i, lt, is) = omega arith
 
-stores : (c : Command) (files : Files) → StoresImplementation c files (answer_to c files).output
+-- the role of a file that is written
+abbrev written_role : Option (Role × List ℕ) → Role
+written_role None = Source
+written_role (Some file) = file.0
+
+stores : BuiltImplements → (c : Command) (files : Files) → StoresImplementation c files (answer_to c files).output
 unfolding inputs_of output_of
-stores (command.Go source values control temporary budget image) files = λ name own stored bytes reads writes sets.
-    subst (λ (n : List ℕ). HoldsImplementation files n control temporary bytes) (go_source source values name reads)
-    (go_holds files source values image control temporary budget _ _ stored bytes refl sets)
-stores (command.Pbuild piton image) files = λ name own stored bytes reads writes sets. absurd (no_source piton name reads)
-stores c files = λ name own stored bytes reads writes sets. absurd (let e : None ≡ Some (Image, own) = writes in cc)
+stores laws (command.Go source values control temporary budget image) files = λ name own stored bytes reads writes sets.
+    subst (λ (n : List ℕ). HoldsImplementation files n (stack_words temporary control) bytes) (go_source source values name reads)
+    (go_holds laws files source values image control temporary budget _ _ stored bytes refl sets)
+stores laws (command.Build source control temporary image) files = λ name own stored bytes reads writes sets.
+    subst (λ (n : List ℕ). HoldsImplementation files n (stack_words temporary control) bytes) (build_source source name reads)
+    (build_holds laws files source image control temporary _ stored bytes refl sets)
+stores laws (command.Pit source control temporary piton) files = λ name own stored bytes reads writes sets.
+    absurd (let e : Piton ≡ Image = ap written_role writes in cc)
+stores laws (command.Pbuild piton image) files = λ name own stored bytes reads writes sets. absurd (no_source piton name reads)
+stores laws c files = λ name own stored bytes reads writes sets. absurd (let e : None ≡ Some (Image, own) = writes in cc)
 
 -- whatever the command and the files are
-pub implements : (c : Option Command) (o : Option Files) → IfSome o (λ files. Implements c files (answer_by c files).output)
-implements c None = tt
-implements None (Some files) = tt
-implements (Some c) (Some files) = stores c files
+pub implements : BuiltImplements → (c : Option Command) (o : Option Files) → IfSome o (λ files. Implements c files (answer_by c files).output)
+implements laws c None = tt
+implements laws None (Some files) = tt
+implements laws (Some c) (Some files) = stores laws c files

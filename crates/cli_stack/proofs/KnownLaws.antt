@@ -22,20 +22,8 @@ use Rattle.piton_check.specs.Answers.{CheckedOf, IsChecked}
 use Rattle.piton_check.specs.Resolved.{resolved}
 use Rattle.piton_check.specs.Violations.{violations}
 use Rattle.piton_check.proofs.CheckedLaws.{checked_from}
+use Rattle.stack_build.proofs.KnownLaws.{tree_is_well_formed}
 use Rattle.cli_stack.specs.PitonText.{checked_unless, checked_by, checked_in}
-
--- the tree of a text is well formed
-tree_is_well_formed : (text : List ℕ) → length text ≤ 2 ^ 31 → (t : Node) → tree_in text ≡ Ok t → IsWellFormed t
-unfolding tree_in
-tree_is_well_formed text short t is = by_fault (text_fault text) refl is
-  where
-    by_fault : (fault : Option (TextRule × ℕ)) → text_fault text ≡ fault → unless_fault fault (first_item (items_of (tokens between 0 text))) ≡ Ok t → IsWellFormed t
-    by_fault (Some fault) none h = absurd cc
-    by_fault None none h =
-        let found = no_fault_has_tree text none in
-        let both : Ok found.0 ≡ Ok t = sym (tree_in-TreeOf text found.0 found.1) ∙ is in
-        let same : found.0 ≡ t = cc in
-        subst IsWellFormed same (text_is_well_formed text short found.0 found.1)
 
 -- a system that is read keeps the form
 text_keeps_form : (text : List ℕ) → length text ≤ 2 ^ 31 → (system : SystemOf) → piton_in text ≡ Ok system → KeepsForm system

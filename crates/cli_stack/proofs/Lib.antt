@@ -1,14 +1,16 @@
+pub mod FileLaws
 pub mod GatherLaws
 pub mod ImplementsLaws
 pub mod KnownLaws
 pub mod LinkedLaws
 pub mod LinksLaws
 pub mod LoadedLaws
+pub mod MeanLaws
+pub mod MeansLaws
 pub mod PerformLaws
 pub mod PitonTextLaws
 pub mod PrintLaws
 pub mod PromisesLaws
 pub mod SizeLaws
-pub mod SourceTextLaws
 pub mod TellsLaws
 pub mod TextsLaws

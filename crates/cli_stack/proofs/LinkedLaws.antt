@@ -15,11 +15,8 @@ use Rattle.piton_machine.proofs.SizeLaws.{length-placed}
 use Rattle.piton_machine.proofs.SoundLaws.{known}
 use Rattle.piton_linker.specs.Layouts.{trimmed}
 use Rattle.piton_linker.proofs.TrimLaws.{trimmed-rest}
+use Rattle.stack_build.proofs.Windows.{shorter}
 use Rattle.cli_stack.specs.Pbuild.{linked_image, is_large}
-
--- the words up to the last that isn't zero are no more than all
-pub shorter : (ws : List ℕ) → length (trimmed ws) ≤ length ws
-shorter ws = omega (arith, ap length (trimmed-rest ws), length-append (trimmed ws) (replicate (length ws - length (trimmed ws)) 0))
 
 -- the image keeps the limits of images
 pub image_fits : (c : CheckedOf) → IsChecked c → (placed (system_in c)).size ≤ 2 ^ 20 → IsTrue (is_image (linked_image (system_in c)))

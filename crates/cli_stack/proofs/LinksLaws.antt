@@ -32,6 +32,7 @@ use Rattle.cli_stack.specs.Answer.{text_or_end, set_file, inputs_of, output_of, 
 use Rattle.display_maps.specs.Report.{shaped}
 use Rattle.cli_stack.specs.Replies.{line}
 use Rattle.cli_stack.specs.Linked.{cost_of, RunsAs, TellsCosts, HoldsLinked, StoresLinked, Links}
+use Rattle.cli_stack.proofs.FileLaws.{was_short, set_bytes}
 use Rattle.cli_stack.proofs.KnownLaws.{text_is_checked}
 use Rattle.cli_stack.proofs.LinkedLaws.{image_fits}
 use Rattle.cli_stack.proofs.LoadedLaws.{image_loaded}
@@ -59,25 +60,6 @@ module _ (c : CheckedOf) (is : IsChecked c) (small : (placed (system_in c)).size
 
 -- 2. The text in a file.
 
--- a file that was fetched is there, and within its limit
-was_short : (files : Files) (input : Role × List ℕ) (text : List ℕ) → text_or_end input (fetched files input.1 (limit_of input.0)) ≡ Ok text → (file_at files input.1 ≡ Some text) × (length text ≤ limit_of input.0)
-was_short files input text h = by_file (file_at files input.1) h
-  where
-    by_length : (bytes : List ℕ) (b : Bool) → nat_lt (limit_of input.0) (length bytes) ≡ b → text_or_end input (if b then Err TooLong else Ok bytes) ≡ Ok text → (Some bytes ≡ Some text) × (length text ≤ limit_of input.0)
-    by_length bytes true long h = absurd cc
-    by_length bytes false short h =
-        let same : bytes ≡ text = cc in
-        (ap (λ (b : List ℕ). Some b) same, subst (λ (b : List ℕ). length b ≤ limit_of input.0) same (ltb-false (limit_of input.0) (length bytes) short))
-
-    by_file : (o : Option (List ℕ)) → text_or_end input (within (limit_of input.0) o) ≡ Ok text → (o ≡ Some text) × (length text ≤ limit_of input.0)
-    by_file None h = absurd cc
-    by_file (Some bytes) h = by_length bytes (nat_lt (limit_of input.0) (length bytes)) refl h
-
--- the bytes of a file that is set
-set_bytes : Option (List ℕ × List ℕ) → List ℕ
-set_bytes None = []
-set_bytes (Some output) = output.1
-
 module _ (files : Files) (piton text stored bytes : List ℕ) (there : file_at files piton ≡ Some text) (short : length text ≤ 2 ^ 31) where
   linked_holds : (image : Role × List ℕ) (found : Result CheckedOf Verdict) → checked_in text ≡ found → set_file (Some image) (checked_stored found) ≡ Some (stored, bytes) → HoldsLinked files piton bytes
   linked_holds image (Err verdict) is sets = absurd (let e : None ≡ Some (stored, bytes) = sets in cc)
@@ -88,7 +70,7 @@ module _ (files : Files) (piton text stored bytes : List ℕ) (there : file_at f
       by_size false fits sets =
           let known = text_is_checked text short c is in
           let small : (placed (system_in c)).size ≤ 2 ^ 20 = ltb-false (2 ^ 20) (placed (system_in c)).size fits in
-          let same : spelling (linked_image (system_in c)) ≡ bytes = unfold set_bytes in ap set_bytes sets in
+          let same : spelling (linked_image (system_in c)) ≡ bytes = ap set_bytes sets in
           record {
             text = text;
             there = there;
@@ -118,7 +100,12 @@ only_file : (role : Role) (first name : List ℕ) → Contains {X = Role × List
 only_file role first name (zero, lt, is) = ap (λ (f : Role × List ℕ). f.1) is
 only_file role first name (suc i, lt, is) = absurd (omega arith)
 
--- a source and values are no Piton text
+-- a source is no Piton text
+one_source : (source name : List ℕ) → Contains {X = Role × List ℕ} ((Source, source) ∷ []) (Piton, name) → ⊥
+one_source source name (zero, lt, is) = let e : Source ≡ Piton = ap (λ (f : Role × List ℕ). f.0) is in cc
+one_source source name (suc i, lt, is) = omega arith
+
+-- nor are a source and values
 no_piton : (source values name : List ℕ) → Contains {X = Role × List ℕ} ((Source, source) ∷ (Values, values) ∷ []) (Piton, name) → ⊥
 no_piton source values name (zero, lt, is) = let e : Source ≡ Piton = ap (λ (f : Role × List ℕ). f.0) is in cc
 no_piton source values name (suc zero, lt, is) = let e : Values ≡ Piton = ap (λ (f : Role × List ℕ). f.0) is in cc
@@ -128,6 +115,8 @@ links_by : (c : Command) (files : Files) → StoresLinked c files (answer_to c f
 unfolding inputs_of output_of
 links_by (command.Pbuild piton image) files = λ name own stored bytes reads writes sets.
     subst (λ (n : List ℕ). HoldsLinked files n bytes) (only_file Piton piton name reads) (pbuild_holds files piton image _ stored bytes refl sets)
+links_by (command.Build source control temporary image) files = λ name own stored bytes reads writes sets. absurd (one_source source name reads)
+links_by (command.Pit source control temporary piton) files = λ name own stored bytes reads writes sets. absurd (one_source source name reads)
 links_by (command.Go source values control temporary budget image) files = λ name own stored bytes reads writes sets. absurd (no_piton source values name reads)
 links_by c files = λ name own stored bytes reads writes sets. absurd (let e : None ≡ Some (Image, own) = writes in cc)
 

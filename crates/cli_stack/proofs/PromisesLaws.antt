@@ -19,8 +19,9 @@ use Rattle.cli_stack.specs.declared.status.Status.TheVariants.{Missing, ShelfFau
 use Rattle.cli_stack.specs.Replies.{ReplyOf, status_of, verdict_line, reply_of, reply_text, end_status, end_line}
 use Rattle.cli_stack.specs.Answer.{Answer, answer_with, early_answer, files_after, input_names, file_names, answer_by}
 use Rattle.cli_stack.specs.World.{OutOf, World}
-use Rattle.cli_stack.specs.Promises.{HoldsMachine, Agrees, RoseAt, RoseAndPrinted, SizePrinted, HasSizes, HoldsPart, FaultRose, LeavesFiles, PrintsPrefix, PromisesOf}
+use Rattle.cli_stack.specs.Promises.{HoldsMachine, Agrees, RoseAt, RoseAndPrinted, opening_by, SizePrinted, HasSizes, HoldsPart, FaultRose, LeavesFiles, PrintsPrefix, PromisesOf}
 use Rattle.cli_stack.specs.Correct.{Implements, Tells}
+use Rattle.cli_stack.specs.Means.{Means}
 use Rattle.cli_stack.specs.Linked.{Links}
 use Rattle.cli_stack.specs.Driver.{HasReason, IsReplyTo, LeavesAs, Leaves, machine_kept, conclusion_of, Printed, Stopped, NotBegun, Concludes}
 use Rattle.cli_stack.proofs.PrintLaws.{nothing_printed}
@@ -179,7 +180,7 @@ size_printed : (command : Option Command) (before after : World) (reply : Reply)
     → after.out.taken ≡ appended before.out.taken (reply.said ++ verdict_line reply.verdict) → SizePrinted command before after
 size_printed command before after reply (verdict.Size of need) is size to printed =
     let alone = sizes_alone command reply of need to is in
-    (alone.0, of, need, printed ∙ ap (λ (said : List ℕ). appended before.out.taken (said ++ verdict_line reply.verdict)) alone.1 ∙ ap (λ (v : Verdict). appended before.out.taken (verdict_line v)) is)
+    (alone.0, of, need, printed ∙ ap (λ (said : List ℕ). appended before.out.taken (said ++ verdict_line reply.verdict)) alone.1 ∙ ap (λ (v : Verdict). appended before.out.taken (opening_by command ++ verdict_line v)) is)
 size_printed command before after reply verdict.Done is size to printed = absurd cc
 size_printed command before after reply v is size to printed = absurd cc
 
@@ -237,9 +238,10 @@ pub promises : (command : Option Command) (before after : World) (ran : Result R
     → Concludes (conclusion_of ran) status before.out after.out
     → IfSome before.shelf.files (λ files. Implements command files (answer_by command files).output)
     → IfSome before.shelf.files (λ files. Tells command files (answer_by command files))
+    → IfSome before.shelf.files (λ files. Means command files (answer_by command files))
     → IfSome before.shelf.files (λ files. Links command files (answer_by command files).output)
     → PromisesOf command (answer_by command) before after status
-promises command before after ran status leaves reason to ends implements tells links =
+promises command before after ran status leaves reason to ends implements tells means links =
     let all : IfSome before.shelf.files (λ files. Known (answer_by command files) (file_names command) files before after status) =
     if_known before.shelf.files (λ files. Leaves command files before.shelf after.shelf ran) (λ files. Known (answer_by command files) (file_names command) files before after status)
     (λ files l. known command (answer_by command files) files before after ran status l reason ends) leaves in
@@ -248,6 +250,7 @@ promises command before after ran status leaves reason to ends implements tells 
       answers = if_known before.shelf.files (λ files. Known (answer_by command files) (file_names command) files before after status) _ (λ files k. k.answers) all;
       implements = implements;
       tells = tells;
+      means = means;
       links = links;
       missing = causes.missing;
       shelf_fault = causes.shelf_fault;

@@ -1,6 +1,6 @@
 -- Refused sizes are those of commands that take sizes, and they say nothing else.
-use Rattle.std.proofs.Common.{◌≡◌, inl, inr, ℕ, List, [], Bool, true, false, Option, Some, None, Result, Ok, Err, IfErr, refl, sym, ap, ◌∙◌}
-use Rattle.std.specs.Prelude.{if◌then◌else◌}
+use Rattle.std.proofs.Common.{◌≡◌, inl, inr, ℕ, List, [], ◌++◌, append-nil, Bool, true, false, Option, Some, None, Result, Ok, Err, IfErr, refl, sym, ap, ◌∙◌}
+use Rattle.std.specs.Prelude.{◌^◌, codes, if◌then◌else◌}
 use Rattle.fm_machine.specs.Run.{Outcome, outcome}
 use Rattle.fm_machine.specs.State.{Fm}
 use Rattle.fm_machine.specs.declared.processor.Run.{Run}
@@ -31,7 +31,14 @@ use Rattle.piton_machine.specs.Placed.{placed}
 use Rattle.piton_machine.specs.Seen.{Ran, run_of, opening}
 use Rattle.piton_machine.specs.Seen.{Seen as PitonSeen}
 use Rattle.stack_build.specs.declared.fault.BuildFault.{BuildFault}
-use Rattle.stack_build.specs.Build.{BuiltOf, built}
+use Rattle.gypsy_space.specs.Needs.{Words as StackWords, stack_words, main_need}
+use Rattle.gypsy_syntax.specs.Resolved.{program_of}
+use Rattle.gypsy_meaning.specs.declared.answers.MeanRun.{MeanRun}
+use Rattle.gypsy_meaning.specs.declared.answers.MeanRun.TheVariants as mean_run
+use Rattle.gypsy_meaning.specs.Seen.{Seen as MeanSeen, Ran as MeanRan, run_of as mean_run_of, opening as mean_opening}
+use Rattle.stack_build.specs.Image.{formal_slots}
+use Rattle.gypsy_gen.specs.Large.{large_of}
+use Rattle.stack_build.specs.Build.{BuiltOf, built, source_built, compiled, source_in, reading_fault, accepted_unless, accepted_by}
 use Rattle.cli_stack.specs.declared.command.Command.{Command}
 use Rattle.cli_stack.specs.declared.command.Command.TheVariants as command
 use Rattle.cli_stack.specs.declared.reply.Reply.{Reply}
@@ -47,9 +54,13 @@ use Rattle.cli_stack.specs.Run.{end_reply, outcome_reply, run_reply, values_repl
 use Rattle.cli_stack.specs.Show.{listing_reply}
 use Rattle.cli_stack.specs.Prun.{run_end_reply, checked_run_reply, system_run_reply}
 use Rattle.cli_stack.specs.Pbuild.{linked_image, is_large, built_reply, linked_reply, checked_reply}
-use Rattle.cli_stack.specs.SourceText.{gypsy_verdict, accepted_unless, accepted_by, accepted_in}
+use Rattle.cli_stack.specs.SourceText.{build_verdict, unless_refused, accepted_in}
+use Rattle.cli_stack.specs.Mean.{shortage_of, mean_end_reply, mean_run_reply, mean_values_reply, mean_sized_reply, mean_source_reply, mean_accepted_reply}
+use Rattle.cli_stack.specs.Pit.{pit_reply}
+use Rattle.cli_stack.specs.Build.{build_reply}
+use Rattle.cli_stack.specs.Big.{source_line, go_on_source, big_reply}
 use Rattle.cli_stack.specs.PitonText.{piton_verdict, checked_unless, checked_by, checked_in}
-use Rattle.cli_stack.specs.Promises.{HasSizes}
+use Rattle.cli_stack.specs.Promises.{HasSizes, opening_by}
 use Rattle.cli_stack.specs.Driver.{IsReplyTo}
 
 abbrev is_size : Verdict → Bool
@@ -98,23 +109,23 @@ refused_no_size text = by_reading (piton_in text)
     by_reading (Ok system) = by_breach system (least (violations system))
     by_reading (Err fault) = piton_no_size fault
 
-gypsy_no_size : (fault : GypsyFault) → is_size (gypsy_verdict fault) ≡ false
-gypsy_no_size (gypsy.Text rule place) = refl
-gypsy_no_size (gypsy.Form rule place) = refl
-gypsy_no_size gypsy.Memory = refl
+reading_no_size : (fault : GypsyFault) → is_size (build_verdict (reading_fault fault)) ≡ false
+reading_no_size (gypsy.Text rule place) = refl
+reading_no_size (gypsy.Form rule place) = refl
+reading_no_size gypsy.Memory = refl
 
 -- so is a refused source
 source_no_size : (text : List ℕ) → IfErr (accepted_in text) (λ v. is_size v ≡ false)
-unfolding accepted_in
+unfolding accepted_in source_in
 source_no_size text = by_reading (gypsy_in text)
   where
-    by_breach : (source : SourceOf) (breach : Option Breach) → IfErr (accepted_unless source breach) (λ v. is_size v ≡ false)
+    by_breach : (source : SourceOf) (breach : Option Breach) → IfErr (unless_refused (accepted_unless source breach)) (λ v. is_size v ≡ false)
     by_breach source None = tt
     by_breach source (Some breach) = refl
 
-    by_reading : (found : Result SourceOf GypsyFault) → IfErr (accepted_by found) (λ v. is_size v ≡ false)
+    by_reading : (found : Result SourceOf GypsyFault) → IfErr (unless_refused (accepted_by found)) (λ v. is_size v ≡ false)
     by_reading (Ok source) = by_breach source (least (gypsy_violations source))
-    by_reading (Err fault) = gypsy_no_size fault
+    by_reading (Err fault) = reading_no_size fault
 
 judgement_no_size : {X : Type 0} (found : Result X Verdict) → IfErr found (λ v. is_size v ≡ false) → is_size (judgement_reply found).verdict ≡ false
 judgement_no_size (Ok checked) none = refl
@@ -137,15 +148,49 @@ checked_run_no_size (Err verdict) limit none = none
 abbrev SizeAlone : ReplyOf → Type 0
 SizeAlone reply = is_size reply.verdict ≡ true → reply.said ≡ []
 
+build_alone : (found : Result BuiltOf BuildFault) → SizeAlone (build_reply found)
+build_alone (Err fault) size = refl
+build_alone (Ok built) size = absurd cc
+
+mean_end_alone : (source : SourceOf) (limit : ℕ) (r : MeanRun) (seen : MeanSeen) → SizeAlone (mean_end_reply source limit r seen)
+mean_end_alone source limit mean_run.Ended seen size = absurd cc
+mean_end_alone source limit mean_run.Spent seen size = absurd cc
+mean_end_alone source limit (mean_run.NoRoom place) seen size = absurd cc
+
+mean_values_alone : (source : SourceOf) (sizes : StackWords) (limit : ℕ) (found : Result (List ValueOf) (ℕ × ℕ)) → SizeAlone (mean_values_reply source sizes limit found)
+unfolding mean_run_reply
+mean_values_alone source sizes limit (Err fault) size = absurd cc
+mean_values_alone source sizes limit (Ok values) size =
+    let ran : MeanRan = mean_run_of limit (mean_opening (program_of source) sizes values) in mean_end_alone source limit ran.run ran.seen size
+
+mean_sized_alone : (shortage : Option Verdict) (source : SourceOf) (sizes : StackWords) (values : List ℕ) (limit : ℕ) → SizeAlone (mean_sized_reply shortage source sizes values limit)
+mean_sized_alone (Some shortage) source sizes values limit size = refl
+mean_sized_alone None source sizes values limit size = mean_values_alone source sizes limit (values_in (formal_slots source) values) size
+
+mean_alone : (found : Result SourceOf Verdict) (sizes : StackWords) (values : List ℕ) (limit : ℕ) → SizeAlone (mean_accepted_reply found sizes values limit)
+unfolding mean_source_reply
+mean_alone (Err verdict) sizes values limit size = refl
+mean_alone (Ok source) sizes values limit size = mean_sized_alone (shortage_of (main_need (program_of source)) sizes) source sizes values limit size
+
+pit_alone : (name : List ℕ) (found : Result SystemOf BuildFault) → SizeAlone (pit_reply name found)
+pit_alone name (Err fault) size = refl
+pit_alone name (Ok system) size = absurd cc
+
 go_alone : (found : Result BuiltOf BuildFault) (values : List ℕ) (budget : ℕ) → SizeAlone (go_reply found values budget)
 go_alone (Err fault) values budget size = refl
 go_alone (Ok built) values budget size = let none = values_no_size built.image budget (values_in built.image.slots values) in cc
+
+big_alone : (number procedures : ℕ) → is_size (big_reply number procedures).verdict ≡ true → (big_reply number procedures).said ≡ source_line number procedures
+unfolding big_reply go_on_source
+big_alone number procedures size =
+    ap (λ (said : List ℕ). source_line number procedures ++ said) (go_alone (source_built (large_of number procedures) (stack_words 64 64) 0) (codes "((x 0))") (2 ^ 40) size)
+    ∙ append-nil (source_line number procedures)
 
 -- a linked system says nothing before its size, and a refused text is refused by a rule
 linked_alone : (system : SystemView) → SizeAlone (linked_reply system)
 linked_alone system = by_size (is_large system)
   where
-    by_size : (large : Bool) → SizeAlone (if large then verdict_alone (verdict.Size Words (placed system).size) else built_reply (linked_image system))
+    by_size : (large : Bool) → SizeAlone (if large then verdict_alone (verdict.Size Words (placed system).size) else built_reply (linked_image system).size)
     by_size true size = refl
     by_size false size = absurd cc
 
@@ -156,14 +201,18 @@ checked_alone (Err verdict) = λ size. refl
 -- 3. All commands.
 
 abbrev Sizes : Command → ReplyOf → Type 0
-Sizes c reply = is_size reply.verdict ≡ true → HasSizes (Some c) × (reply.said ≡ [])
+Sizes c reply = is_size reply.verdict ≡ true → HasSizes (Some c) × (reply.said ≡ opening_by (Some c))
 
 no_sizes : (c : Command) (reply : ReplyOf) → is_size reply.verdict ≡ false → Sizes c reply
 no_sizes c reply none size = absurd (let e : false ≡ true = sym none ∙ size in cc)
 
 sizes_by : (c : Command) (texts : Texts) → Sizes c (reply_by c texts)
 unfolding reply_by output_of
-sizes_by (command.Go source values control temporary budget image) texts = λ size. (inl refl, go_alone (built (text_of role.Source texts) control temporary) (text_of role.Values texts) budget size)
+sizes_by (command.Go source values control temporary budget image) texts = λ size. (inl refl, go_alone (built (text_of role.Source texts) control temporary 0) (text_of role.Values texts) budget size)
+sizes_by (command.Mean source values control temporary limit) texts = λ size. (inl refl, mean_alone (accepted_in (text_of role.Source texts)) (stack_words temporary control) (text_of role.Values texts) limit size)
+sizes_by (command.Build source control temporary image) texts = λ size. (inl refl, build_alone (built (text_of role.Source texts) control temporary 0) size)
+sizes_by (command.Pit source control temporary piton) texts = λ size. (inl refl, pit_alone piton (compiled (text_of role.Source texts) control temporary 0) size)
+sizes_by (command.Big number procedures) texts = λ size. (inl refl, big_alone number procedures size)
 sizes_by (command.Run image values budget) texts =
     no_sizes (command.Run image values budget) (reply_by (command.Run image values budget) texts) (image_no_size (text_of role.Values texts) budget (read_of (text_of role.Image texts)))
 sizes_by (command.Show image) texts = no_sizes (command.Show image) (reply_by (command.Show image) texts) (listing_no_size (read_of (text_of role.Image texts)))
@@ -173,11 +222,11 @@ sizes_by (command.Prun piton limit) texts = no_sizes (command.Prun piton limit) 
 sizes_by (command.Pbuild piton image) texts = λ size. (inr (image, refl), checked_alone (checked_in (text_of role.Piton texts)) size)
 sizes_by c texts = no_sizes c (reply_by c texts) refl
 
-of_command : (c : Option Command) (reply : Reply) → IsReplyTo c reply → is_size reply.verdict ≡ true → HasSizes c × (reply.said ≡ [])
+of_command : (c : Option Command) (reply : Reply) → IsReplyTo c reply → is_size reply.verdict ≡ true → HasSizes c × (reply.said ≡ opening_by c)
 of_command None reply is size = let e : is_size reply.verdict ≡ false = ap (λ (r : ReplyOf). is_size r.verdict) is in absurd (let f : false ≡ true = sym e ∙ size in cc)
 of_command (Some c) reply (texts, is) size =
     let found = sizes_by c texts (ap (λ (r : ReplyOf). is_size r.verdict) (sym is) ∙ size) in
     (found.0, ap (λ (r : ReplyOf). r.said) is ∙ found.1)
 
-pub sizes_alone : (c : Option Command) (reply : Reply) (of : SizeOf) (need : ℕ) → IsReplyTo c reply → reply.verdict ≡ verdict.Size of need → HasSizes c × (reply.said ≡ [])
+pub sizes_alone : (c : Option Command) (reply : Reply) (of : SizeOf) (need : ℕ) → IsReplyTo c reply → reply.verdict ≡ verdict.Size of need → HasSizes c × (reply.said ≡ opening_by c)
 sizes_alone c reply of need is size = of_command c reply is (ap is_size size)

@@ -1,6 +1,6 @@
 -- What a command prints is what its source means.
 use Rattle.std.proofs.Common.{◌≡◌, ◌≤◌, ◌⊎◌, inl, inr, ⊎_elim, ℕ, zero, suc, List, [], ◌∷◌, ◌++◌, append-nil, false, Option, Some, None, IfSome, Result, Ok, Err, length, refl, sym, ap, ◌∙◌, subst, arith}
-use Rattle.std.specs.Prelude.{Contains, nat_lt, IsSomeAnd}
+use Rattle.std.specs.Prelude.{◌^◌, Contains, nat_lt, IsSomeAnd}
 use Rattle.std.proofs.lemmas.Bool.{le-ltb}
 use Rattle.stack_text.specs.Results.{◌>>=◌}
 use Rattle.stack_shelf.specs.Files.{Files, file_at}
@@ -15,13 +15,14 @@ use Rattle.fm_loader.specs.Loaded.{loaded}
 use Rattle.fm_loader.specs.Values.{values_in}
 use Rattle.stack_text.specs.Values.{ValueOf}
 use Rattle.display_maps.specs.Report.{report_text}
+use Rattle.gypsy_syntax.specs.Sources.{SourceOf}
+use Rattle.gypsy_space.specs.Needs.{Words, stack_words}
+use Rattle.gypsy_meaning.specs.Calls.{Way}
 use Rattle.stack_build.specs.declared.fault.BuildFault.{BuildFault}
-use Rattle.stack_build.specs.declared.source.OneStatement.{OneStatement}
-use Rattle.stack_build.specs.Build.{BuiltOf, built, BuildsText}
-use Rattle.stack_build.specs.Meaning.{Condition, FitsVariables}
-use Rattle.stack_build.specs.Implements.{meaning_shown, Finishes}
+use Rattle.stack_build.specs.Build.{BuiltOf, built, source_in, BuildsText}
+use Rattle.stack_build.specs.Implements.{meaning_shown, FitsFormals, Finishes}
 use Rattle.stack_build.specs.Implements as meant
-use Rattle.stack_build.proofs.BuiltLaws.{built_implements, built_fits}
+use Rattle.stack_build.specs.Joined.{BuiltImplements, BuiltTakesValues}
 use Rattle.cli_stack.specs.declared.command.Command.{Command}
 use Rattle.cli_stack.specs.declared.command.Command.TheVariants as command
 use Rattle.cli_stack.specs.declared.driver.early_end.EarlyEnd.{EarlyEnd}
@@ -38,24 +39,24 @@ use Rattle.cli_stack.specs.Correct.{ReadsFile, IsReadable, IsBuilt, IsRead, RunO
 
 -- 1. A run that is long enough tells the meaning.
 
-run_tells : (image : ImageOf) (source : OneStatement) (control temporary : ℕ) (values finals : List ValueOf) (condition : Condition) (count budget : ℕ) → meant.Implements image source control temporary → FitsVariables source values
-    → Finishes source control temporary values finals condition count → count ≤ budget
-    → ((run_reply image values budget).verdict ≡ Done) × ((run_reply image values budget).said ≡ report_text image (meaning_shown source finals condition) count)
+run_tells : (image : ImageOf) (source : SourceOf) (sizes : Words) (values finals : List ValueOf) (way : Way) (count budget : ℕ) → meant.Implements image source sizes → FitsFormals source values
+    → Finishes source sizes values finals way count → count ≤ budget
+    → ((run_reply image values budget).verdict ≡ Done) × ((run_reply image values budget).said ≡ report_text image (meaning_shown source finals way) count)
 unfolding run_reply
-run_tells image source control temporary values finals condition count budget does fits done enough =
-    let end = does values finals condition count fits done in
+run_tells image source sizes values finals way count budget does fits done enough =
+    let end = does values finals way count fits done in
     let is : outcome budget image.final_pc (loaded image values) ≡ record { run = Ended count; state = end.state } =
     outcome_only (loaded image values) image.final_pc budget (Ended count) end.state (enough, end.first) in
     (ap (λ (o : Outcome). (outcome_reply image budget o).verdict) is, ap (λ (o : Outcome). (outcome_reply image budget o).said) is ∙ ap (λ r. report_text image r count) end.reads)
 
 -- so does the answer that has its reply
-reply_tells : (image : ImageOf) (source : OneStatement) (control temporary : ℕ) (values finals : List ValueOf) (condition : Condition) (count budget : ℕ) (output : Option (List ℕ × List ℕ)) (reply : ReplyOf) → meant.Implements image source control temporary → FitsVariables source values
-    → Finishes source control temporary values finals condition count → count ≤ budget → reply ≡ run_reply image values budget
-    → TellsMeaning source image finals condition count (answer_with output reply)
-reply_tells image source control temporary values finals condition count budget output reply does fits done enough is =
-    let ends = run_tells image source control temporary values finals condition count budget does fits done enough in
+reply_tells : (image : ImageOf) (source : SourceOf) (sizes : Words) (values finals : List ValueOf) (way : Way) (count budget : ℕ) (output : Option (List ℕ × List ℕ)) (reply : ReplyOf) → meant.Implements image source sizes → FitsFormals source values
+    → Finishes source sizes values finals way count → count ≤ budget → reply ≡ run_reply image values budget
+    → TellsMeaning source image finals way count (answer_with output reply)
+reply_tells image source sizes values finals way count budget output reply does fits done enough is =
+    let ends = run_tells image source sizes values finals way count budget does fits done enough in
     let verdict : reply.verdict ≡ Done = ap (λ (r : ReplyOf). r.verdict) is ∙ ends.0 in
-    let said : reply.said ≡ report_text image (meaning_shown source finals condition) count = ap (λ (r : ReplyOf). r.said) is ∙ ends.1 in
+    let said : reply.said ≡ report_text image (meaning_shown source finals way) count = ap (λ (r : ReplyOf). r.said) is ∙ ends.1 in
     record {
       status = ap status_of verdict;
       text = ap (λ (v : Verdict). reply.said ++ verdict_line v) verdict ∙ append-nil reply.said ∙ said;
@@ -69,44 +70,43 @@ is_there files input text readable =
     ap (λ (o : Option (List ℕ)). text_or_end input (within (limit_of input.0) o)) readable.there ∙ rw long refl
 
 -- two files are there
-both_there : (files : Files) (first second : Role × List ℕ) (text other : List ℕ) → IsReadable files first.0 first.1 text → IsReadable files second.0 second.1 other
+pub both_there : (files : Files) (first second : Role × List ℕ) (text other : List ℕ) → IsReadable files first.0 first.1 text → IsReadable files second.0 second.1 other
     → gathered files (first ∷ second ∷ []) ≡ Ok ((first.0, text) ∷ (second.0, other) ∷ [])
 both_there files first second text other there there' = rw (is_there files first text there, is_there files second other there') refl
 
-module _ (files : Files) (control temporary : ℕ) (source : OneStatement) (image : ImageOf) (values_text : List ℕ) (values finals : List ValueOf) (condition : Condition) (count budget : ℕ)
-    (gives : values_in image.slots values_text ≡ Ok values) (done : Finishes source control temporary values finals condition count) (enough : count ≤ budget) where
-  go_tells : (source_name values_name image_name : List ℕ) → IsBuilt files source_name control temporary source image → IsReadable files Values values_name values_text
-      → TellsMeaning source image finals condition count (answer_to (command.Go source_name values_name control temporary budget image_name) files)
+module _ (files : Files) (sizes : Words) (source : SourceOf) (image : ImageOf) (values_text : List ℕ) (values finals : List ValueOf) (way : Way) (count budget : ℕ)
+    (gives : values_in image.slots values_text ≡ Ok values) (done : Finishes source sizes values finals way count) (enough : count ≤ budget) where
+  go_tells : BuiltImplements → BuiltTakesValues → (source_name values_name image_name : List ℕ) (control temporary : ℕ) → stack_words temporary control ≡ sizes
+      → IsBuilt files source_name sizes source image → IsReadable files Values values_name values_text
+      → TellsMeaning source image finals way count (answer_to (command.Go source_name values_name control temporary budget image_name) files)
   unfolding inputs_of reply_by
-  go_tells source_name values_name image_name made there =
-      let found : BuiltOf = record { image = image; bytes = made.bytes } in
-      let builds : BuildsText made.text control temporary found = rw made.made at (built_implements made.text control temporary) in
-      let read : Some builds.source ≡ Some source = sym builds.read ∙ made.read in
+  go_tells implement take source_name values_name image_name control temporary own made there =
+      let here : IsBuilt files source_name (stack_words temporary control) source image = subst (λ (s : Words). IsBuilt files source_name s source image) (sym own) made in
+      let short : length here.text ≤ 2 ^ 31 = omega (arith, here.readable.short) in
+      let is : built here.text control temporary 0 ≡ Ok here.found = here.made in
+      let builds : BuildsText here.text control temporary here.found = rw is at (implement here.text control temporary 0 short (omega arith)) in
+      let read : Ok builds.source ≡ Ok source = sym builds.read ∙ here.read in
       let same : builds.source ≡ source = cc in
-      let does : meant.Implements image source control temporary = subst (λ (s : OneStatement). meant.Implements image s control temporary) same builds.implements in
-      let fits = built_fits made.text control temporary source found values_text values made.read made.made gives in
-      let replies : go_reply (built made.text control temporary) values_text budget ≡ run_reply image values budget = rw (made.made, gives) refl in
-      subst (λ (r : Result Texts EarlyEnd). TellsMeaning source image finals condition count (answer_on (command.Go source_name values_name control temporary budget image_name) r))
-      (sym (both_there files (Source, source_name) (Values, values_name) made.text values_text made.readable there))
-      (reply_tells image source control temporary values finals condition count budget _ (go_reply (built made.text control temporary) values_text budget) does fits done enough replies)
+      let does : meant.Implements image source (stack_words temporary control) =
+      subst (λ (i : ImageOf). meant.Implements i source (stack_words temporary control)) here.same
+      (subst (λ (s : SourceOf). meant.Implements here.found.image s (stack_words temporary control)) same builds.builds.implements) in
+      let found : values_in here.found.image.slots values_text ≡ Ok values = ap (λ (i : ImageOf). values_in i.slots values_text) here.same ∙ gives in
+      let fits = take here.text control temporary 0 source here.found values_text values short (omega arith) here.read is found in
+      let done_here : Finishes source (stack_words temporary control) values finals way count = subst (λ (s : Words). Finishes source s values finals way count) (sym own) done in
+      let replies : go_reply (built here.text control temporary 0) values_text budget ≡ run_reply image values budget =
+      rw (is, found) (ap (λ (i : ImageOf). run_reply i values budget) here.same) in
+      subst (λ (r : Result Texts EarlyEnd). TellsMeaning source image finals way count (answer_on (command.Go source_name values_name control temporary budget image_name) r))
+      (sym (both_there files (Source, source_name) (Values, values_name) here.text values_text here.readable there))
+      (reply_tells image source (stack_words temporary control) values finals way count budget _ (go_reply (built here.text control temporary 0) values_text budget) does fits done_here enough replies)
 
-  -- the same, where the sizes of the command are these
-  sized_tells : (source_name values_name image_name : List ℕ) (given_control given_temporary : ℕ) → given_control ≡ control → given_temporary ≡ temporary
-      → IsBuilt files source_name control temporary source image → IsReadable files Values values_name values_text
-      → TellsMeaning source image finals condition count (answer_to (command.Go source_name values_name given_control given_temporary budget image_name) files)
-  sized_tells source_name values_name image_name given_control given_temporary c t made there =
-      subst (λ (k : ℕ). TellsMeaning source image finals condition count (answer_to (command.Go source_name values_name k given_temporary budget image_name) files)) (sym c)
-      (subst (λ (k : ℕ). TellsMeaning source image finals condition count (answer_to (command.Go source_name values_name control k budget image_name) files)) (sym t)
-      (go_tells source_name values_name image_name made there))
-
-  read_tells : (image_name values_name : List ℕ) → IsRead files image_name control temporary source image values → IsReadable files Values values_name values_text
-      → TellsMeaning source image finals condition count (answer_to (command.Run image_name values_name budget) files)
+  read_tells : (image_name values_name : List ℕ) → IsRead files image_name sizes source image values → IsReadable files Values values_name values_text
+      → TellsMeaning source image finals way count (answer_to (command.Run image_name values_name budget) files)
   unfolding inputs_of reply_by
   read_tells image_name values_name found there =
       let replies : image_file_reply found.bytes values_text budget ≡ run_reply image values budget = rw (spelled_reads found.bytes image found.spells, gives) refl in
-      subst (λ (r : Result Texts EarlyEnd). TellsMeaning source image finals condition count (answer_on (command.Run image_name values_name budget) r))
+      subst (λ (r : Result Texts EarlyEnd). TellsMeaning source image finals way count (answer_on (command.Run image_name values_name budget) r))
       (sym (both_there files (Image, image_name) (Values, values_name) found.bytes values_text found.readable there))
-      (reply_tells image source control temporary values finals condition count budget _ (image_file_reply found.bytes values_text budget) found.implements found.fit done enough replies)
+      (reply_tells image source sizes values finals way count budget _ (image_file_reply found.bytes values_text budget) found.implements found.fit done enough replies)
 
 -- 3. All commands.
 
@@ -121,30 +121,41 @@ no_values : (role : Role) (first name : List ℕ) → (role ≡ Values → ⊥) 
 no_values role first name other (zero, lt, is) = other (ap (λ (f : Role × List ℕ). f.0) is)
 no_values role first name other (suc i, lt, is) = omega arith
 
-tells_by : (c : Command) (files : Files) → TellsMeanings c files (answer_to c files)
+-- `mean` has no image
+mean_has_none : (source_name values_file : List ℕ) (control temporary limit : ℕ) → HasImage (command.Mean source_name values_file control temporary limit) → ⊥
+unfolding inputs_of output_of
+mean_has_none source_name values_file control temporary limit (inl (name, (zero, lt, is))) = let e : Source ≡ Image = ap (λ (f : Role × List ℕ). f.0) is in cc
+mean_has_none source_name values_file control temporary limit (inl (name, (suc zero, lt, is))) = let e : Values ≡ Image = ap (λ (f : Role × List ℕ). f.0) is in cc
+mean_has_none source_name values_file control temporary limit (inl (name, (suc (suc i), lt, is))) = omega (arith, lt)
+mean_has_none source_name values_file control temporary limit (inr (name, is)) = let e : None ≡ Some (Image, name) = is in cc
+
+tells_by : BuiltImplements → BuiltTakesValues → (c : Command) (files : Files) → TellsMeanings c files (answer_to c files)
 unfolding inputs_of
-tells_by (command.Go source_name values_file control temporary budget image_name) files = λ name reads has. (
+tells_by implement take (command.Go source_name values_file control temporary budget image_name) files = λ name reads has. (
   values_name Source source_name values_file name (λ e. cc) reads,
-  λ own_control own_temporary source image values_text values finals condition count program there gives done enough.
-      sized_tells files own_control own_temporary source image values_text values finals condition count budget gives done enough source_name values_file image_name control temporary program.0 program.1 program.2 there,
+  λ sizes source image values_text values finals way count program there gives done enough.
+      go_tells files sizes source image values_text values finals way count budget gives done enough implement take source_name values_file image_name control temporary program.0 program.1 there,
 )
-tells_by (command.Run image_name values_file budget) files = λ name reads has. (
+tells_by implement take (command.Run image_name values_file budget) files = λ name reads has. (
   values_name Image image_name values_file name (λ e. cc) reads,
-  λ control temporary source image values_text values finals condition count found there gives done enough.
-      read_tells files control temporary source image values_text values finals condition count budget gives done enough image_name values_file found there,
+  λ sizes source image values_text values finals way count found there gives done enough.
+      read_tells files sizes source image values_text values finals way count budget gives done enough image_name values_file found there,
 )
-tells_by (command.Show image_name) files = λ name reads has. absurd (no_values Image image_name name (λ e. cc) reads)
-tells_by (command.Check source_name) files = λ name reads has. absurd (no_values Source source_name name (λ e. cc) reads)
-tells_by (command.Pcheck piton_name) files = λ name reads has. absurd (no_values Piton piton_name name (λ e. cc) reads)
-tells_by (command.Pbuild piton_name image_name) files = λ name reads has. absurd (no_values Piton piton_name name (λ e. cc) reads)
-tells_by (command.Prun piton_name limit) files = λ name reads has. absurd (no_values Piton piton_name name (λ e. cc) reads)
-tells_by c files = λ name reads has. absurd (nothing name reads)
+tells_by implement take (command.Mean source_name values_file control temporary limit) files = λ name reads has. absurd (mean_has_none source_name values_file control temporary limit has)
+tells_by implement take (command.Show image_name) files = λ name reads has. absurd (no_values Image image_name name (λ e. cc) reads)
+tells_by implement take (command.Pit source_name control temporary piton_name) files = λ name reads has. absurd (no_values Source source_name name (λ e. cc) reads)
+tells_by implement take (command.Build source_name control temporary image_name) files = λ name reads has. absurd (no_values Source source_name name (λ e. cc) reads)
+tells_by implement take (command.Check source_name) files = λ name reads has. absurd (no_values Source source_name name (λ e. cc) reads)
+tells_by implement take (command.Pcheck piton_name) files = λ name reads has. absurd (no_values Piton piton_name name (λ e. cc) reads)
+tells_by implement take (command.Pbuild piton_name image_name) files = λ name reads has. absurd (no_values Piton piton_name name (λ e. cc) reads)
+tells_by implement take (command.Prun piton_name limit) files = λ name reads has. absurd (no_values Piton piton_name name (λ e. cc) reads)
+tells_by implement take c files = λ name reads has. absurd (nothing name reads)
   where
     nothing : (name : List ℕ) → Contains {X = Role × List ℕ} [] (Values, name) → ⊥
     nothing name (i, lt, is) = omega arith
 
 -- whatever the command and the files are
-pub tells : (c : Option Command) (o : Option Files) → IfSome o (λ files. Tells c files (answer_by c files))
-tells c None = tt
-tells None (Some files) = tt
-tells (Some c) (Some files) = tells_by c files
+pub tells : BuiltImplements → BuiltTakesValues → (c : Option Command) (o : Option Files) → IfSome o (λ files. Tells c files (answer_by c files))
+tells implement take c None = tt
+tells implement take None (Some files) = tt
+tells implement take (Some c) (Some files) = tells_by implement take c files

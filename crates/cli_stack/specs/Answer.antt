@@ -5,9 +5,9 @@ use Rattle.stack_text.specs.Results.{◌>>=◌}
 use Rattle.fm_machine.specs.State.{Fm}
 use Rattle.stack_shelf.specs.Files.{Files, put_file}
 use Rattle.stack_shelf.specs.Shelf.{Refusal, Missing, TooLong, fetched}
-use Rattle.stack_build.specs.Build.{built}
+use Rattle.stack_build.specs.Build.{built, compiled}
 use Rattle.cli_stack.specs.declared.command.Command.{Command}
-use Rattle.cli_stack.specs.declared.command.Command.TheVariants.{Check, Pcheck, Prun, Pbuild, Run, Go, Show}
+use Rattle.cli_stack.specs.declared.command.Command.TheVariants.{Check, Mean, Pit, Build, Pcheck, Prun, Pbuild, Run, Go, Show, Big}
 use Rattle.cli_stack.specs.declared.driver.early_end.EarlyEnd.{EarlyEnd}
 use Rattle.cli_stack.specs.declared.driver.early_end.EarlyEnd.TheVariants as end
 use Rattle.cli_stack.specs.declared.reply.Verdict.TheVariants.{Usage, NotBuilt}
@@ -17,7 +17,11 @@ use Rattle.cli_stack.specs.declared.status.Status.{Status}
 use Rattle.cli_stack.specs.Roles.{limit_of, is_role}
 use Rattle.cli_stack.specs.Rows.{command_of}
 use Rattle.cli_stack.specs.Replies.{ReplyOf, verdict_alone, reply_text, status_of, end_status, end_line}
-use Rattle.cli_stack.specs.Go.{go_stored, go_reply}
+use Rattle.cli_stack.specs.Mean.{mean_reply}
+use Rattle.cli_stack.specs.Pit.{pit_stored, pit_reply}
+use Rattle.cli_stack.specs.Build.{image_stored, build_reply}
+use Rattle.cli_stack.specs.Go.{go_reply}
+use Rattle.cli_stack.specs.Big.{big_reply}
 use Rattle.cli_stack.specs.Run.{image_file_reply}
 use Rattle.cli_stack.specs.Show.{show_reply}
 use Rattle.cli_stack.specs.Check.{check_reply}
@@ -30,9 +34,12 @@ use Rattle.cli_stack.specs.Pbuild.{pbuild_stored, pbuild_reply}
 
 unfoldable pub inputs_of : Command → List (Role × List ℕ)
 inputs_of (Go source values control temporary budget image) = (role.Source, source) ∷ (role.Values, values) ∷ []
+inputs_of (Mean source values control temporary limit) = (role.Source, source) ∷ (role.Values, values) ∷ []
 inputs_of (Run image values budget) = (role.Image, image) ∷ (role.Values, values) ∷ []
 inputs_of (Show image) = (role.Image, image) ∷ []
 inputs_of (Check source) = (role.Source, source) ∷ []
+inputs_of (Pit source control temporary piton) = (role.Source, source) ∷ []
+inputs_of (Build source control temporary image) = (role.Source, source) ∷ []
 inputs_of (Pcheck piton) = (role.Piton, piton) ∷ []
 inputs_of (Prun piton limit) = (role.Piton, piton) ∷ []
 inputs_of (Pbuild piton image) = (role.Piton, piton) ∷ []
@@ -40,7 +47,9 @@ inputs_of _ = []
 
 unfoldable pub output_of : Command → Option (Role × List ℕ)
 output_of (Go source values control temporary budget image) = Some (role.Image, image)
+output_of (Build source control temporary image) = Some (role.Image, image)
 output_of (Pbuild piton image) = Some (role.Image, image)
+output_of (Pit source control temporary piton) = Some (role.Piton, piton)
 output_of _ = None
 
 -- 2. What it makes of their texts: what it stores, and what it replies.
@@ -54,13 +63,21 @@ text_of role [] = []
 text_of role (text ∷ texts) = if is_role text.0 role then text.1 else text_of role texts
 
 unfoldable pub stored_by : Command → Texts → Option (List ℕ)
-stored_by (Go source values control temporary budget image) texts = go_stored (built (text_of role.Source texts) control temporary)
+stored_by (Go source values control temporary budget image) texts =
+    image_stored (built (text_of role.Source texts) control temporary 0)
+stored_by (Build source control temporary image) texts = image_stored (built (text_of role.Source texts) control temporary 0)
+stored_by (Pit source control temporary piton) texts = pit_stored (compiled (text_of role.Source texts) control temporary 0)
 stored_by (Pbuild piton image) texts = pbuild_stored (text_of role.Piton texts)
 stored_by _ texts = None
 
 unfoldable pub reply_by : Command → Texts → ReplyOf
 reply_by (Go source values control temporary budget image) texts =
-    go_reply (built (text_of role.Source texts) control temporary) (text_of role.Values texts) budget
+    go_reply (built (text_of role.Source texts) control temporary 0) (text_of role.Values texts) budget
+reply_by (Build source control temporary image) texts = build_reply (built (text_of role.Source texts) control temporary 0)
+reply_by (Pit source control temporary piton) texts = pit_reply piton (compiled (text_of role.Source texts) control temporary 0)
+reply_by (Big number procedures) texts = big_reply number procedures
+reply_by (Mean source values control temporary limit) texts =
+    mean_reply (text_of role.Source texts) (text_of role.Values texts) control temporary limit
 reply_by (Run image values budget) texts = image_file_reply (text_of role.Image texts) (text_of role.Values texts) budget
 reply_by (Show image) texts = show_reply (text_of role.Image texts)
 reply_by (Check source) texts = check_reply (text_of role.Source texts)

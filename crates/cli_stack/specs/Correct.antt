@@ -6,14 +6,14 @@ use Rattle.fm_image.specs.Spelling.{Spelled}
 use Rattle.fm_loader.specs.Values.{values_in}
 use Rattle.display_maps.specs.Report.{report_text}
 use Rattle.stack_shelf.specs.Files.{Files, file_at}
-use Rattle.stack_build.specs.declared.source.OneStatement.{OneStatement}
-use Rattle.stack_build.specs.Source.{source_of}
-use Rattle.stack_build.specs.Build.{built}
-use Rattle.stack_build.specs.Meaning.{Condition, FitsVariables}
-use Rattle.stack_build.specs.Implements.{meaning_shown, Finishes}
+use Rattle.gypsy_syntax.specs.Sources.{SourceOf}
+use Rattle.gypsy_space.specs.Needs.{Words, stack_words}
+use Rattle.gypsy_meaning.specs.Calls.{Way}
+use Rattle.stack_build.specs.Build.{BuiltOf, built, source_in}
+use Rattle.stack_build.specs.Implements.{meaning_shown, FitsFormals, Finishes}
 use Rattle.stack_build.specs.Implements as meant
 use Rattle.cli_stack.specs.declared.command.Command.{Command}
-use Rattle.cli_stack.specs.declared.command.Command.TheVariants.{Mean, Pit, Build, Run, Go, Debug}
+use Rattle.cli_stack.specs.declared.command.Command.TheVariants.{Mean, Pit, Build, Run, Go, Debug, Big}
 use Rattle.cli_stack.specs.declared.role.Role.{Role}
 use Rattle.cli_stack.specs.declared.role.Role.TheVariants.{Source, Image, Values}
 use Rattle.cli_stack.specs.declared.status.Status.TheVariants.{Done}
@@ -28,34 +28,35 @@ ReadsFile command role name = Contains (inputs_of command) (role, name)
 abbrev pub StoresFile : Command → Role → List ℕ → Type 0
 StoresFile command role name = output_of command ≡ Some (role, name)
 
--- the sizes of the stacks, of a command that takes them
-abbrev pub sizes_of : Command → Option (ℕ × ℕ)
-sizes_of (Mean source values control temporary limit) = Some (control, temporary)
-sizes_of (Pit source control temporary piton) = Some (control, temporary)
-sizes_of (Build source control temporary image) = Some (control, temporary)
-sizes_of (Go source values control temporary budget image) = Some (control, temporary)
-sizes_of (Debug level source values control temporary script) = Some (control, temporary)
+-- the sizes of the stacks of a source's program, of a command that has such a program
+abbrev pub sizes_of : Command → Option Words
+sizes_of (Mean source values control temporary limit) = Some (stack_words temporary control)
+sizes_of (Pit source control temporary piton) = Some (stack_words temporary control)
+sizes_of (Build source control temporary image) = Some (stack_words temporary control)
+sizes_of (Go source values control temporary budget image) = Some (stack_words temporary control)
+sizes_of (Debug level source values control temporary script) = Some (stack_words temporary control)
+sizes_of (Big number procedures) = Some (stack_words 64 64)
 sizes_of _ = None
 
 -- 1. What is stored.
 
 -- the bytes are an image file that can be read again, and its image implements the source in a file, for stacks of these sizes
-pub record HoldsImplementation (files : Files) (name : List ℕ) (control temporary : ℕ) (bytes : List ℕ) : Type 0 where
+pub record HoldsImplementation (files : Files) (name : List ℕ) (sizes : Words) (bytes : List ℕ) : Type 0 where
   pub text : List ℕ
   pub there : file_at files name ≡ Some text
-  pub source : OneStatement
-  pub read : source_of text ≡ Some source
+  pub source : SourceOf
+  pub read : source_in text ≡ Ok source
   pub image : ImageOf
   pub short : length bytes ≤ limit_of Image
   pub spells : Spelled bytes image
-  pub implements : meant.Implements image source control temporary
+  pub implements : meant.Implements image source sizes
 
 -- who reads a source and stores an image has sizes of stacks, and stores an implementation of the source for them
 abbrev pub StoresImplementation : Command → Files → Option (List ℕ × List ℕ) → Type 0
 StoresImplementation command files output =
     (source image stored bytes : List ℕ) → ReadsFile command Source source → StoresFile command Image image
     → output ≡ Some (stored, bytes)
-    → IsSomeAnd (sizes_of command) (λ sizes. HoldsImplementation files source sizes.0 sizes.1 bytes)
+    → IsSomeAnd (sizes_of command) (λ sizes. HoldsImplementation files source sizes bytes)
 
 abbrev pub Implements : Option Command → Files → Option (List ℕ × List ℕ) → Type 0
 Implements None files output = Unit {0}
@@ -65,7 +66,7 @@ Implements (Some command) files output = StoresImplementation command files outp
 
 -- an image that is built from the source in a file, with these sizes of the stacks, or one that is read
 pub data Program : Type 0 where
-  BuiltFrom : (source : List ℕ) (control temporary : ℕ) → Program
+  BuiltFrom : (source : List ℕ) (sizes : Words) → Program
   ReadFrom : (image : List ℕ) → Program
 
 -- a program, the file of its values, and the most instructions
@@ -77,7 +78,7 @@ pub record RunOf : Type 0 where
 -- what a command runs
 abbrev pub run_of : Command → Option RunOf
 run_of (Go source values control temporary budget image) =
-    Some (record { program = BuiltFrom source control temporary; values = values; budget = budget })
+    Some (record { program = BuiltFrom source (stack_words temporary control); values = values; budget = budget })
 run_of (Run image values budget) = Some (record { program = ReadFrom image; values = values; budget = budget })
 run_of _ = None
 
@@ -87,42 +88,42 @@ pub record IsReadable (files : Files) (role : Role) (name text : List ℕ) : Typ
   pub short : length text ≤ limit_of role
 
 -- the image is built from the source in a file, for stacks of these sizes
-pub record IsBuilt (files : Files) (name : List ℕ) (control temporary : ℕ) (source : OneStatement) (image : ImageOf) : Type 0 where
+pub record IsBuilt (files : Files) (name : List ℕ) (sizes : Words) (source : SourceOf) (image : ImageOf) : Type 0 where
   pub text : List ℕ
   pub readable : IsReadable files Source name text
-  pub read : source_of text ≡ Some source
-  pub bytes : List ℕ
-  pub made : built text control temporary ≡ Ok (record { image = image; bytes = bytes })
+  pub read : source_in text ≡ Ok source
+  pub found : BuiltOf
+  pub made : built text sizes.ctrl sizes.temp 0 ≡ Ok found
+  pub same : found.image ≡ image
 
 -- a file spells the image, which implements the source for stacks of these sizes, and the values are for the source's variables
-pub record IsRead (files : Files) (name : List ℕ) (control temporary : ℕ)
-    (source : OneStatement) (image : ImageOf) (values : List ValueOf) : Type 0 where
+pub record IsRead (files : Files) (name : List ℕ) (sizes : Words) (source : SourceOf) (image : ImageOf)
+    (values : List ValueOf) : Type 0 where
   pub bytes : List ℕ
   pub readable : IsReadable files Image name bytes
   pub spells : Spelled bytes image
-  pub implements : meant.Implements image source control temporary
-  pub fit : FitsVariables source values
+  pub implements : meant.Implements image source sizes
+  pub fit : FitsFormals source values
 
 -- the program is this image of this source, for stacks of these sizes
-abbrev pub IsProgram : Files → Program → ℕ → ℕ → OneStatement → ImageOf → List ValueOf → Type 0
-IsProgram files (BuiltFrom name given_control given_temporary) control temporary source image values =
-    (given_control ≡ control) × (given_temporary ≡ temporary) × IsBuilt files name control temporary source image
-IsProgram files (ReadFrom name) control temporary source image values = IsRead files name control temporary source image values
+abbrev pub IsProgram : Files → Program → Words → SourceOf → ImageOf → List ValueOf → Type 0
+IsProgram files (BuiltFrom name given) sizes source image values = (given ≡ sizes) × IsBuilt files name sizes source image
+IsProgram files (ReadFrom name) sizes source image values = IsRead files name sizes source image values
 
 -- the answer is that all went well, and the report of these variables and this condition after so many instructions
-pub record TellsMeaning (source : OneStatement) (image : ImageOf) (finals : List ValueOf) (condition : Condition)
-    (count : ℕ) (answer : Answer) : Type 0 where
+pub record TellsMeaning (source : SourceOf) (image : ImageOf) (finals : List ValueOf) (way : Way) (count : ℕ)
+    (answer : Answer) : Type 0 where
   pub status : answer.status ≡ Done
-  pub text : answer.text ≡ report_text image (meaning_shown source finals condition) count
+  pub text : answer.text ≡ report_text image (meaning_shown source finals way) count
 
 -- where the files are there, the values fit, and the meaning is done within the budget, its variables and its condition are told
 abbrev pub TellsRun : RunOf → Files → Answer → Type 0
 TellsRun run files answer =
-    (control temporary : ℕ) (source : OneStatement) (image : ImageOf) (values_text : List ℕ) (values finals : List ValueOf)
-    (condition : Condition) (count : ℕ)
-    → IsProgram files run.program control temporary source image values → IsReadable files Values run.values values_text
-    → values_in image.slots values_text ≡ Ok values → Finishes source control temporary values finals condition count
-    → count ≤ run.budget → TellsMeaning source image finals condition count answer
+    (sizes : Words) (source : SourceOf) (image : ImageOf) (values_text : List ℕ) (values finals : List ValueOf)
+    (way : Way) (count : ℕ)
+    → IsProgram files run.program sizes source image values → IsReadable files Values run.values values_text
+    → values_in image.slots values_text ≡ Ok values → Finishes source sizes values finals way count
+    → count ≤ run.budget → TellsMeaning source image finals way count answer
 
 -- the command has an image: it reads one, or stores one
 abbrev pub HasImage : Command → Type 0

@@ -1,6 +1,7 @@
 -- what the program promises, and what that speaks of
 pub mod Promises
 pub mod Correct
+pub mod Means
 pub mod Linked
 pub mod Answer
 pub mod World
@@ -11,14 +12,17 @@ pub mod Roles
 pub mod Words
 pub mod Rows
 -- a page for each command
-pub mod Go
-pub mod Run
-pub mod Show
 pub mod SourceText
 pub mod Check
+pub mod Mean
+pub mod Pit
+pub mod Build
+pub mod Go
+pub mod Big
+pub mod Run
+pub mod Show
 pub mod PitonText
 pub mod Pcheck
-pub mod NamedWords
 pub mod Prun
 pub mod Pbuild
 -- what private functions say

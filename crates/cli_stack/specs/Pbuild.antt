@@ -37,12 +37,12 @@ abbrev pub linked_stored : SystemView → Option (List ℕ)
 linked_stored system = if is_large system then None else Some (spelling (linked_image system))
 
 -- how many words an image's window has
-abbrev pub built_reply : ImageOf → ReplyOf
-built_reply image = all_said (line (codes "built " ++ decimal image.size))
+abbrev pub built_reply : ℕ → ReplyOf
+built_reply size = all_said (line (codes "built " ++ decimal size))
 
 abbrev pub linked_reply : SystemView → ReplyOf
 linked_reply system =
-    if is_large system then verdict_alone (Size Words (placed system).size) else built_reply (linked_image system)
+    if is_large system then verdict_alone (Size Words (placed system).size) else built_reply (linked_image system).size
 
 abbrev pub checked_stored : Result CheckedOf Verdict → Option (List ℕ)
 checked_stored (Ok checked) = linked_stored (system_in checked)

@@ -1,10 +1,11 @@
 -- What the program promises.
-use Rattle.std.specs.Prelude.{◌≡◌, ◌≢◌, ◌⊎◌, ℕ, List, Option, Some, None, Contains, IfSome, IsSome, IsSomeAnd}
+use Rattle.std.specs.Prelude.{◌≡◌, ◌≢◌, ◌⊎◌, ℕ, List, [], ◌++◌, Option, Some, None, Contains, IfSome, IsSome, IsSomeAnd}
 use Rattle.fm_machine.specs.State.{Fm, Seen}
 use Rattle.stack_shelf.specs.Files.{Files}
 use Rattle.stack_shelf.specs.Causes.{Counts, Rose}
 use Rattle.stack_shelf.specs.Shelf.{PartlyStored, appended, PrefixAppended}
 use Rattle.cli_stack.specs.declared.command.Command.{Command}
+use Rattle.cli_stack.specs.declared.command.Command.TheVariants.{Big}
 use Rattle.cli_stack.specs.declared.driver.early_end.EarlyEnd.TheVariants as end
 use Rattle.cli_stack.specs.declared.reply.SizeOf.{SizeOf}
 use Rattle.cli_stack.specs.declared.reply.Verdict.TheVariants as verdict
@@ -17,7 +18,9 @@ use Rattle.cli_stack.specs.Replies.{verdict_line, end_line}
 use Rattle.cli_stack.specs.Answer.{Answer, files_after, input_names, file_names, answer}
 use Rattle.cli_stack.specs.World.{World}
 use Rattle.cli_stack.specs.Correct.{StoresFile, sizes_of, Implements, Tells}
+use Rattle.cli_stack.specs.Means.{Means}
 use Rattle.cli_stack.specs.Linked.{Links}
+use Rattle.cli_stack.specs.Big.{source_line}
 
 -- 1. What no failure spoils.
 
@@ -51,10 +54,16 @@ abbrev pub HasSizes : Option Command → Type 0
 HasSizes None = ⊥
 HasSizes (Some command) = IsSome (sizes_of command) ⊎ ((image : List ℕ) × StoresFile command Image image)
 
+-- what a command says before its sizes are judged: `big` the length of its source
+abbrev pub opening_by : Option Command → List ℕ
+opening_by (Some (Big number procedures)) = source_line number procedures
+opening_by _ = []
+
 -- a size of such a command was refused, and its line is what was printed
 abbrev pub SizePrinted : Option Command → World → World → Type 0
 SizePrinted command before after =
-    HasSizes command × (of : SizeOf) × (need : ℕ) × (after.out.taken ≡ appended before.out.taken (verdict_line (verdict.Size of need)))
+    HasSizes command × (of : SizeOf) × (need : ℕ)
+    × (after.out.taken ≡ appended before.out.taken (opening_by command ++ verdict_line (verdict.Size of need)))
 
 -- 3. What a failure leaves.
 
@@ -89,6 +98,8 @@ pub record PromisesOf (command : Option Command) (answer : Files → Answer) (be
   -- who reads a source and stores an image stores what does as the source means, and who runs an image tells what its source means
   pub implements : IfSome before.shelf.files (λ files. Implements command files (answer files).output)
   pub tells : IfSome before.shelf.files (λ files. Tells command files (answer files))
+  -- who reads a source and values alone, and writes no file, tells what the source means
+  pub means : IfSome before.shelf.files (λ files. Means command files (answer files))
   -- who reads a Piton text and stores an image stores what does as the text's system
   pub links : IfSome before.shelf.files (λ files. Links command files (answer files).output)
   -- why a device's failure is the status, and at which name

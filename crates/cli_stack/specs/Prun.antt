@@ -12,7 +12,7 @@ use Rattle.piton_machine.specs.Seen.{Seen, Ran, run_of, opening}
 use Rattle.cli_stack.specs.declared.reply.Verdict.{Verdict}
 use Rattle.cli_stack.specs.declared.reply.Verdict.TheVariants as verdict
 use Rattle.cli_stack.specs.Replies.{ReplyOf, verdict_alone, all_said, line}
-use Rattle.cli_stack.specs.NamedWords.{program_name, words_line}
+use Rattle.piton_show.specs.NamedWords.{program_name, words_line}
 use Rattle.cli_stack.specs.PitonText.{checked_in}
 
 -- an area's name and its words

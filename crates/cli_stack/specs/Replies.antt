@@ -15,7 +15,7 @@ use Rattle.cli_stack.specs.declared.reply.RuleLetter.TheVariants.{G, M, S, P, Q}
 use Rattle.cli_stack.specs.declared.reply.SizeOf.{SizeOf}
 use Rattle.cli_stack.specs.declared.reply.SizeOf.TheVariants.{Control, Temporary, Words}
 use Rattle.cli_stack.specs.declared.reply.Verdict.{Verdict}
-use Rattle.cli_stack.specs.declared.reply.Verdict.TheVariants.{Done, Usage, Refused, Values, Image, Unfinished, Outside, Error, Size, NotBuilt}
+use Rattle.cli_stack.specs.declared.reply.Verdict.TheVariants.{Done, Usage, Refused, Values, Image, Unfinished, Outside, Error, NoRoom, Script, Size, NotBuilt}
 use Rattle.cli_stack.specs.declared.reply.Reply.{Reply}
 use Rattle.cli_stack.specs.declared.driver.early_end.EarlyEnd.{EarlyEnd}
 use Rattle.cli_stack.specs.declared.driver.early_end.EarlyEnd.TheVariants.{Missing, TooLong, ShelfFault, OutOfMemory}
@@ -66,6 +66,8 @@ status_of (Image rule place) = status.Image
 status_of (Unfinished limit) = status.Unfinished
 status_of (Outside address count) = status.Outside
 status_of (Error kind program place count) = status.Error
+status_of (NoRoom place count) = status.NoRoom
+status_of (Script rule number) = status.Script
 status_of (Size of need) = status.Size
 status_of NotBuilt = status.NotBuilt
 
@@ -81,6 +83,8 @@ verdict_line (Unfinished limit) = line (codes "unfinished " ++ decimal limit)
 verdict_line (Outside address count) = line (codes "outside " ++ hex_digits address ++ codes " after " ++ decimal count)
 verdict_line (Error kind program place count) =
     line (codes "error " ++ kind_text kind ++ codes " at " ++ program ++ codes " " ++ decimal place ++ codes " after " ++ decimal count)
+verdict_line (NoRoom place count) = line (codes "noroom at " ++ decimal place ++ codes " after " ++ decimal count)
+verdict_line (Script rule number) = line (codes "script D" ++ decimal rule ++ codes " at line " ++ decimal number)
 verdict_line (Size of need) = line (codes "size " ++ size_of_text of ++ codes " " ++ decimal need)
 verdict_line NotBuilt = line (codes "not built")
 

@@ -72,11 +72,15 @@ seed words = do
   number ← number_within 0 (2 ^ 32 - 1) word.0
   Some (number, word.1)
 
+-- a large source calls 1 to 900 procedures
+abbrev pub count_of_procedures : List ℕ → Option ℕ
+count_of_procedures word = number_within 1 900 word
+
 -- how many procedures a large source calls
 unfoldable pub procedures : Reader ℕ
 procedures words = do
   word ← first words
-  number ← number_within 1 900 word.0
+  number ← count_of_procedures word.0
   Some (number, word.1)
 
 unfoldable pub level_named : List ℕ → Option Level

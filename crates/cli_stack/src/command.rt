@@ -4,7 +4,7 @@ ghost use Rattle.std.specs.Option.{option_map};
 ghost use Rattle.cli_stack.specs.Answer.{inputs_of, output_of};
 
 use crate::role::{Role, RoleFile};
-use crate::words::{FileName, Level, StackSize};
+use crate::words::{FileName, Level, ProcedureCount, StackSize};
 use stack_text::Memory;
 use std::alloc::Global;
 
@@ -15,7 +15,7 @@ pub enum Command {
     Check {
         source: FileName,
     },
-    /// Follows the meaning of a source. To come.
+    /// Follows the meaning of a source.
     Mean {
         source: FileName,
         values: FileName,
@@ -23,14 +23,14 @@ pub enum Command {
         temporary: StackSize,
         limit: u64,
     },
-    /// Compiles a source to a Piton text, and stores that. To come.
+    /// Compiles a source to a Piton text, and stores that.
     Pit {
         source: FileName,
         control: StackSize,
         temporary: StackSize,
         piton: FileName,
     },
-    /// Compiles a source to an image, and stores that. To come.
+    /// Compiles a source to an image, and stores that.
     Build {
         source: FileName,
         control: StackSize,
@@ -79,10 +79,10 @@ pub enum Command {
         temporary: StackSize,
         script: FileName,
     },
-    /// Builds and runs a large source that is made from a number. To come.
+    /// Builds and runs a large source that is made from a number.
     Big {
         number: u32,
-        procedures: u32,
+        procedures: ProcedureCount,
     },
 }
 
@@ -98,16 +98,18 @@ impl Command {
             map (λ input. (input.role, input.name.now)) inputs.items ≡ inputs_of self.now) }
     {
         match self {
-            Command::Go { source, values, .. } => Ok(vec![in alloc;
-                RoleFile {
-                    role: Role::Source,
-                    name: source
-                },
-                RoleFile {
-                    role: Role::Values,
-                    name: values
-                },
-            ]?),
+            Command::Go { source, values, .. } | Command::Mean { source, values, .. } => Ok(
+                vec![in alloc;
+                    RoleFile {
+                        role: Role::Source,
+                        name: source
+                    },
+                    RoleFile {
+                        role: Role::Values,
+                        name: values
+                    },
+                ]?,
+            ),
             Command::Run { image, values, .. } => Ok(vec![in alloc;
                 RoleFile {
                     role: Role::Image,
@@ -124,7 +126,9 @@ impl Command {
                     name: image
                 },
             ]?),
-            Command::Check { source } => Ok(vec![in alloc;
+            Command::Check { source }
+            | Command::Pit { source, .. }
+            | Command::Build { source, .. } => Ok(vec![in alloc;
                 RoleFile {
                     role: Role::Source,
                     name: source
@@ -148,9 +152,15 @@ impl Command {
         ensures { option_map (λ output. (output.role, output.name.now)) result ≡ output_of self.now }
     {
         match self {
-            Command::Go { image, .. } | Command::Pbuild { image, .. } => Some(RoleFile {
+            Command::Go { image, .. }
+            | Command::Build { image, .. }
+            | Command::Pbuild { image, .. } => Some(RoleFile {
                 role: Role::Image,
                 name: image,
+            }),
+            Command::Pit { piton, .. } => Some(RoleFile {
+                role: Role::Piton,
+                name: piton,
             }),
             _ => None,
         }

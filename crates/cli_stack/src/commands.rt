@@ -4,12 +4,15 @@ ghost use Rattle.cli_stack.specs.Answer.{stored_by, reply_by};
 ghost use Rattle.cli_stack.specs.Replies.{reply_of};
 ghost use Rattle.cli_stack.specs.Plans.{pending_reply};
 
+mod big;
+mod build;
 mod check;
 mod go;
 mod image_run;
-mod named_words;
+mod mean;
 mod pbuild;
 mod pcheck;
+mod pit;
 mod piton_text;
 mod plan;
 mod prun;
@@ -51,6 +54,27 @@ pub fn prepare(alloc: Global, command: &Command, texts: &Texts) -> Result<Plan, 
         }
         Command::Show { .. } => show::prepare(alloc, texts.of(Role::Image)),
         Command::Check { .. } => check::prepare(alloc, texts.of(Role::Source)),
+        Command::Pit {
+            control,
+            temporary,
+            piton,
+            ..
+        } => pit::prepare(alloc, texts.of(Role::Source), control, temporary, piton),
+        Command::Mean {
+            control,
+            temporary,
+            limit,
+            ..
+        } => {
+            let (source, values) = (texts.of(Role::Source), texts.of(Role::Values));
+            mean::prepare(alloc, source, values, control, temporary, *limit)
+        }
+        Command::Build {
+            control,
+            temporary,
+            ..
+        } => build::prepare(alloc, texts.of(Role::Source), control, temporary),
+        Command::Big { number, procedures } => big::prepare(alloc, *number, procedures),
         Command::Pcheck { .. } => pcheck::prepare(alloc, texts.of(Role::Piton)),
         Command::Pbuild { .. } => pbuild::prepare(alloc, texts.of(Role::Piton)),
         Command::Prun { limit, .. } => prun::prepare(alloc, texts.of(Role::Piton), *limit),

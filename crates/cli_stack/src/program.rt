@@ -5,6 +5,7 @@ ghost use Rattle.cli_stack.specs.Promises.{Promises};
 
 use crate::driver::{conclude, run_words};
 use fm_machine::Machine;
+use stack_build::builds_implement;
 use stack_shelf::{Shelf, Sink};
 use std::alloc::Global;
 
@@ -29,6 +30,7 @@ pub fn cli<S: Shelf, K: Sink>(
         (world (S.files shelf.new) (S.counts shelf.new) (K.taken out.new) (K.faults out.new) kept.new)
         result }
 {
+    builds_implement();
     let ran = run_words(alloc, words, shelf);
     conclude(alloc, ran, out, kept).code()
 }

@@ -66,6 +66,16 @@ pub enum Verdict {
         place: u32,
         count: u64,
     },
+    /// After so many steps of a source's meaning the stacks have no room for a call, at a place of the source.
+    NoRoom {
+        place: u32,
+        count: u64,
+    },
+    /// A line of the script breaks a rule of scripts, D1 to D6. Lines are counted from 1.
+    Script {
+        rule: u8,
+        line: u32,
+    },
     /// A size is refused: a stack needs at least so many words, or a program has so many.
     Size {
         of: SizeOf,
@@ -155,6 +165,20 @@ fn outside_line(alloc: Global, address: u32, count: u64) -> Result<Vec<u8>, Memo
     Ok(format!(in alloc; "outside {address} after {count}\n")?.into_bytes())
 }
 
+/// The line of a call without room.
+fn no_room_line(alloc: Global, place: u32, count: u64) -> Result<Vec<u8>, Memory>
+    ensures { IfOk result (λ line. line.items ≡ verdict_line (Verdict.NoRoom place count)) }
+{
+    Ok(format!(in alloc; "noroom at {place} after {count}\n")?.into_bytes())
+}
+
+/// The line of a script that breaks a rule.
+fn script_line(alloc: Global, rule: u8, line: u32) -> Result<Vec<u8>, Memory>
+    ensures { IfOk result (λ text. text.items ≡ verdict_line (Verdict.Script rule line)) }
+{
+    Ok(format!(in alloc; "script D{rule} at line {line}\n")?.into_bytes())
+}
+
 /// The line of a size that is refused.
 fn size_line(alloc: Global, of: SizeOf, need: u64) -> Result<Vec<u8>, Memory>
     ensures { IfOk result (λ line. line.items ≡ verdict_line (Verdict.Size of need)) }
@@ -210,6 +234,8 @@ impl Verdict {
             Verdict::Unfinished { .. } => Status::Unfinished,
             Verdict::Outside { .. } => Status::Outside,
             Verdict::Error { .. } => Status::Error,
+            Verdict::NoRoom { .. } => Status::NoRoom,
+            Verdict::Script { .. } => Status::Script,
             Verdict::Size { .. } => Status::Size,
             Verdict::NotBuilt => Status::NotBuilt,
         }
@@ -237,6 +263,8 @@ impl Verdict {
                 place,
                 count,
             } => error_line(alloc, *kind, program, *place, *count),
+            Verdict::NoRoom { place, count } => no_room_line(alloc, *place, *count),
+            Verdict::Script { rule, line } => script_line(alloc, *rule, *line),
             Verdict::Size { of, need } => size_line(alloc, *of, *need),
             Verdict::NotBuilt => Ok(b"not built\n".to_vec(alloc)?),
         }

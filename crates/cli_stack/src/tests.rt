@@ -4,6 +4,7 @@ mod devices;
 mod go;
 mod images;
 mod limits;
+mod sources;
 mod texts;
 mod words;
 
@@ -12,11 +13,9 @@ use fm_machine::Machine;
 use stack_shelf::{MemoryShelf, MemorySink};
 use std::alloc::{AllocError, Global};
 
-const SEVEN: &str =
-    "(program main\n(proc main ((x integer)) () () () (mg-simple-constant-assignment x 7)))\n";
-
-/// The image of `SEVEN` with a control stack of 7 words and a temporary stack of 3: the fields up to the condition word, the
-/// variable, main's code, that of the procedure that it calls, and the end with the condition word and the control stack.
+/// An image with a variable x, whose program assigns 7 to it, with a control stack of 7 words and a temporary stack of 3: the
+/// fields up to the condition word, the variable, main's code, that of the procedure that it calls, and the end with the
+/// condition word and the control stack. No other procedure is in it.
 const IMAGE_OF_SEVEN: &str = concat!(
     "464d393100000001000000000000003b0000002f00000035000000350000003a00000000000000000000000000000000",
     "0000000000000000000000000000000000000000000000000000000000000000000000040000000000000030",
@@ -94,13 +93,14 @@ fn plainly(alloc: Global, line: &str, files: &[(&str, &[u8])]) -> Result<Outcome
     ask(alloc, line, files, NEVER, NEVER, None)
 }
 
-/// The registers at the end of `SEVEN`, and the three words of its temporary stack.
+/// The registers at the end of `SEVEN`, its condition word, and the three words of its temporary stack, with a control stack of
+/// 7 words: the window ends at 629.
 fn is_end_of_seven(machine: &Machine) -> bool {
-    let registers = [(0, 0), (1, 56), (2, 58), (3, 58), (4, 0), (14, 0), (15, 47)];
-    let words = [(48, 2), (55, 47), (56, 0), (57, 7), (58, 7)];
+    let registers = [(0, 0), (1, 626), (2, 628), (3, 628), (15, 617)];
+    let words = [(618, 2), (625, 617), (626, 0), (627, 7), (628, 7)];
     registers
         .iter()
         .all(|r| r.0 < 16 && machine.register(r.0) == r.1)
         && words.iter().all(|w| machine.peek(w.0) == Some(w.1))
-        && machine.peek(59).is_none()
+        && machine.peek(629).is_none()
 }

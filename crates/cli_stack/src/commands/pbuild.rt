@@ -9,8 +9,8 @@ ghost use Rattle.cli_stack.specs.Pbuild.{linked_image, linked_stored, linked_rep
 ghost use Rattle.cli_stack.specs.Plans.{pending_reply};
 
 use crate::commands::piton_text::read_checked;
-use crate::commands::plan::{Pending, Plan};
-use crate::reply::{Reply, SizeOf, Verdict};
+use crate::commands::plan::Plan;
+use crate::reply::{SizeOf, Verdict};
 use fm_image::{Image, write_image};
 use fm_words::Flags;
 use piton_check::Checked;
@@ -77,16 +77,8 @@ fn linked_image(alloc: Global, checked: &Checked) -> Result<Image, LinkFault>
 /// Stores an image, and says how many words its window has.
 fn store(alloc: Global, image: &Image) -> Result<Plan, Memory>
     ensures stored { IfOk result (λ plan. plan.stored ≡ Some (spelling image.now)) }
-    ensures reply { IfOk result (λ plan. pending_reply plan.pending ≡ built_reply image.now) }
+    ensures reply { IfOk result (λ plan. pending_reply plan.pending ≡ built_reply image.now.size) }
 {
-    let size = image.size;
-    let said = format!(in alloc; "built {size}\n")?;
-    Ok(Plan {
-        stored: Some(Seq::from_vec(write_image(alloc, image)?)),
-        pending: Pending::Reply(Reply {
-            said: Seq::from_vec(said.into_bytes()),
-            verdict: Verdict::Done,
-            machine: None,
-        }),
-    })
+    let file = Seq::from_vec(write_image(alloc, image)?);
+    Plan::stores_image(alloc, image.size, file)
 }

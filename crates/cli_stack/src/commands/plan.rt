@@ -1,11 +1,12 @@
 //! What a command makes of its texts: first what it stores, then its reply.
-ghost use Rattle.std.specs.Prelude.{◌≡◌, None};
+ghost use Rattle.std.specs.Prelude.{◌≡◌, Some, None, IfOk};
+ghost use Rattle.cli_stack.specs.Pbuild.{built_reply};
 ghost use Rattle.cli_stack.specs.Replies.{verdict_alone, all_said};
 ghost use Rattle.cli_stack.specs.Plans.{pending_reply};
 
 use crate::commands::image_run::ImageRun;
 use crate::reply::{Reply, Verdict};
-use stack_text::Seq;
+use stack_text::{Memory, Seq};
 use std::alloc::Global;
 
 /// What is left to do once the file is stored.
@@ -23,7 +24,8 @@ pub struct Plan {
 }
 
 impl Plan {
-    ghost use Rattle.std.specs.Prelude.{◌≡◌, None};
+    ghost use Rattle.std.specs.Prelude.{◌≡◌, Some, None, IfOk};
+    ghost use Rattle.cli_stack.specs.Pbuild.{built_reply};
     ghost use Rattle.cli_stack.specs.Replies.{verdict_alone, all_said};
     ghost use Rattle.cli_stack.specs.Plans.{pending_reply};
 
@@ -36,6 +38,22 @@ impl Plan {
             stored: None,
             pending: Pending::Reply(Reply::verdict_alone(alloc, verdict)),
         }
+    }
+
+    /// Stores an image's file, and says how many words its window has.
+    pub fn stores_image(alloc: Global, size: u32, file: Seq<u8>) -> Result<Plan, Memory>
+        ensures stored { IfOk result (λ plan. plan.stored ≡ Some file) }
+        ensures reply { IfOk result (λ plan. pending_reply plan.pending ≡ built_reply size) }
+    {
+        let said = format!(in alloc; "built {size}\n")?;
+        Ok(Plan {
+            stored: Some(file),
+            pending: Pending::Reply(Reply {
+                said: Seq::from_vec(said.into_bytes()),
+                verdict: Verdict::Done,
+                machine: None,
+            }),
+        })
     }
 
     /// Stores nothing, and replies a text after which the command came to its defined end.

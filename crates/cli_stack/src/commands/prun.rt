@@ -4,12 +4,12 @@ ghost use Rattle.std.specs.List.{flat_map, enumerate_from};
 ghost use Rattle.cli_stack.specs.Prun.{area_line, halted_text, run_end_reply, system_run_reply, prun_reply};
 ghost use Rattle.cli_stack.specs.Plans.{pending_reply};
 
-use crate::commands::named_words::{program_name, words_line};
 use crate::commands::piton_text::read_checked;
 use crate::commands::plan::Plan;
 use crate::reply::Verdict;
 use piton_check::Checked;
 use piton_machine::{PitonRun, State};
+use piton_show::{program_name, words_line};
 use piton_syntax::System;
 use stack_text::{Memory, Seq};
 use std::alloc::Global;

@@ -1,12 +1,57 @@
 //! Texts of sources, read and judged.
-ghost use Rattle.std.specs.Prelude.{◌≡◌, ◌≤◌, ◌^◌, IfOk, length};
-ghost use Rattle.cli_stack.specs.SourceText.{accepted_in, found_source};
+ghost use Rattle.std.specs.Prelude.{◌≡◌, ◌≤◌, ◌^◌, Some, IfOk, length};
+ghost use Rattle.stack_build.specs.Build.{fault_of};
+ghost use Rattle.cli_stack.specs.SourceText.{build_verdict, accepted_in, found_source};
 
-use crate::reply::{RuleLetter, Verdict, text_rule_number};
-use gypsy_check::{Accepted, CheckFault, check};
-use gypsy_syntax::{GypsyFault, read_gypsy};
+use crate::reply::{RuleLetter, SizeOf, Verdict, text_rule_number};
+use gypsy_check::Accepted;
+use stack_build::{BuildFault, accept};
 use stack_text::Memory;
 use std::alloc::Global;
+
+/// How a command ends where nothing was built.
+pub fn verdict_of(fault: BuildFault) -> Result<Verdict, Memory>
+    ensures known { IfOk result (λ verdict. fault_of fault ≡ Some fault) }
+    ensures verdict { IfOk result (λ verdict. verdict ≡ build_verdict fault) }
+{
+    match fault {
+        BuildFault::Text { rule, place } => Ok(Verdict::Refused {
+            letter: RuleLetter::G,
+            number: text_rule_number(rule),
+            place,
+        }),
+        BuildFault::Form {
+            rule: number,
+            place,
+        } => Ok(Verdict::Refused {
+            letter: RuleLetter::M,
+            number,
+            place,
+        }),
+        BuildFault::Rule {
+            rule: number,
+            place,
+        } => Ok(Verdict::Refused {
+            letter: RuleLetter::S,
+            number,
+            place,
+        }),
+        BuildFault::Size => Ok(Verdict::Usage),
+        BuildFault::Control { need } => Ok(Verdict::Size {
+            of: SizeOf::Control,
+            need,
+        }),
+        BuildFault::Temporary { need } => Ok(Verdict::Size {
+            of: SizeOf::Temporary,
+            need,
+        }),
+        BuildFault::Words { count: need } => Ok(Verdict::Size {
+            of: SizeOf::Words,
+            need,
+        }),
+        BuildFault::Memory => Err(Memory),
+    }
+}
 
 /// The accepted source of a text, or the verdict by which the text is refused.
 #[tactic(auto, unfolding(crate::specs::SourceText::accepted_in))]
@@ -14,46 +59,8 @@ pub fn read_accepted(alloc: Global, text: &[u8]) -> Result<Result<Accepted, Verd
     requires { length text.now ≤ 2 ^ 31 }
     ensures { IfOk result (λ found. found_source found ≡ accepted_in text.now) }
 {
-    let source = match read_gypsy(alloc, text) {
-        Ok(source) => source,
-        Err(GypsyFault::Text { rule, place }) => {
-            let (letter, number) = (RuleLetter::G, text_rule_number(rule));
-            return Ok(Err(Verdict::Refused {
-                letter,
-                number,
-                place,
-            }));
-        }
-        Err(
-            GypsyFault::Form {
-                rule: number,
-                place,
-            },
-        ) => {
-            let letter = RuleLetter::M;
-            return Ok(Err(Verdict::Refused {
-                letter,
-                number,
-                place,
-            }));
-        }
-        Err(GypsyFault::Memory) => return Err(Memory),
-    };
-    match check(alloc, source) {
+    match accept(alloc, text) {
         Ok(accepted) => Ok(Ok(accepted)),
-        Err(
-            CheckFault::Violation {
-                rule: number,
-                place,
-            },
-        ) => {
-            let letter = RuleLetter::S;
-            Ok(Err(Verdict::Refused {
-                letter,
-                number,
-                place,
-            }))
-        }
-        Err(CheckFault::Memory) => Err(Memory),
+        Err(fault) => Ok(Err(verdict_of(fault)?)),
     }
 }

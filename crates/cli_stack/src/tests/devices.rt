@@ -1,5 +1,6 @@
 //! Devices that fail, and the place for the machine.
-use crate::tests::{IMAGE_OF_RETURN, IMAGE_OF_SEVEN, NEVER, SEVEN, ask, plainly};
+use crate::tests::sources::SEVEN;
+use crate::tests::{IMAGE_OF_RETURN, NEVER, ask, plainly};
 use fm_machine::Machine;
 use std::test::Fail;
 
@@ -12,6 +13,9 @@ struct Row {
     printed: &'static str,
     stored: usize,
 }
+
+/// How many bytes the whole image has.
+const WHOLE: usize = 2625;
 
 fn rows() -> &'static [Row] {
     &[
@@ -37,46 +41,46 @@ fn rows() -> &'static [Row] {
             stored: 5,
         },
         Row {
-            shelf_call: (2, 999),
+            shelf_call: (2, 99_999),
             sink_call: NEVER,
             status: 10,
             printed: "shelf fault i\n",
-            stored: 345,
+            stored: WHOLE,
         },
         Row {
             shelf_call: (3, 5),
             sink_call: NEVER,
             status: 0,
             printed: "finished 28\ncondition normal\nx = 7\n",
-            stored: 345,
+            stored: WHOLE,
         },
         Row {
             shelf_call: NEVER,
             sink_call: (0, 0),
             status: 11,
             printed: "",
-            stored: 345,
+            stored: WHOLE,
         },
         Row {
             shelf_call: NEVER,
             sink_call: (0, 4),
             status: 11,
             printed: "fini",
-            stored: 345,
+            stored: WHOLE,
         },
         Row {
             shelf_call: NEVER,
             sink_call: (1, 4),
             status: 11,
             printed: "finished 28\ncond",
-            stored: 345,
+            stored: WHOLE,
         },
         Row {
             shelf_call: NEVER,
             sink_call: (2, 99),
             status: 11,
             printed: "finished 28\ncondition normal\nx = 7\n",
-            stored: 345,
+            stored: WHOLE,
         },
         Row {
             shelf_call: (2, 0),
@@ -91,9 +95,11 @@ fn rows() -> &'static [Row] {
 #[test]
 fn failing_devices(rt: HostRuntime) -> Result<(), Fail> {
     let alloc = rt.alloc();
-    let whole = hex::decode(alloc, IMAGE_OF_SEVEN.as_bytes())?;
+    let files: [(&str, &[u8]); 2] = [("s", SEVEN.as_bytes()), ("v", b"((x 0))")];
+    let whole = plainly(alloc, "build s 7 3 i", &files)?
+        .image
+        .ok_or("no image")?;
     for row in rows() {
-        let files: [(&str, &[u8]); 2] = [("s", SEVEN.as_bytes()), ("v", b"((x 0))")];
         let outcome = ask(
             alloc,
             "go s v 7 3 28 i",

@@ -1,5 +1,6 @@
 //! Files at their limits and one byte over.
-use crate::tests::{IMAGE_OF_SEVEN, RETURN, SEVEN, plainly};
+use crate::tests::sources::SEVEN;
+use crate::tests::{IMAGE_OF_SEVEN, RETURN, plainly};
 use std::alloc::{AllocError, Global};
 use std::test::Fail;
 

@@ -1,5 +1,6 @@
 //! Sources that are judged, and Piton texts that are judged, run and linked.
-use crate::tests::{IMAGE_OF_RETURN, NEVER, RETURN, SEVEN, ask, plainly};
+use crate::tests::sources::{REPEATED, SEVEN};
+use crate::tests::{IMAGE_OF_RETURN, NEVER, RETURN, ask, plainly};
 use std::test::Fail;
 
 const JUMP_WITHOUT_LABEL: &str = "(piton main 2 1 0 () () (main () () (jump)))";
@@ -35,9 +36,6 @@ const CALLS_ITSELF: &str = "(piton main 3 1 0 () () (main () () (call main) (ret
 
 const WRONG_TAG: &str =
     "(piton main 2 1 0 () () (main () () (push-constant (int 0)) (fetch) (ret)))";
-
-const REPEATED: &str =
-    "(program main\n(proc main ((x integer)) () () () (call p (x x) ()))\n(proc p ((a integer) (b integer)) () () () (no-op)))";
 
 const LONG_ARRAY: &str =
     "(program main\n(proc main ((a (array integer 4097))) () () () (no-op)))\n";

@@ -1,6 +1,6 @@
 //! Numbers of the command line.
 ghost use Rattle.std.specs.Prelude.{◌≡◌, ◌≤◌, IfSome};
-ghost use Rattle.cli_stack.specs.Words.{number_within, size_of_stack};
+ghost use Rattle.cli_stack.specs.Words.{number_within, size_of_stack, count_of_procedures};
 
 use stack_text::{is_digits, read_numeral};
 use std::marker::Model;
@@ -65,5 +65,47 @@ impl StackSize {
         ensures high { result ≤ 65536 }
     {
         self.words
+    }
+}
+
+/// How many procedures a large source calls: 1 to 900.
+#[derive(Debug, Drop)]
+pub struct ProcedureCount {
+    procedures: u32,
+}
+
+impl Model for ProcedureCount {
+    ghost use Rattle.std.specs.Prelude.{ℕ, ◌≤◌};
+
+    ghost Value = { ℕ };
+
+    ghost view = { λ count. count.procedures };
+
+    ghost invariant = { λ count. (1 ≤ count.procedures) × (count.procedures ≤ 900) };
+}
+
+impl ProcedureCount {
+    ghost use Rattle.std.specs.Prelude.{◌≡◌, ◌≤◌};
+    ghost use Rattle.cli_stack.specs.Words.{count_of_procedures};
+
+    /// The number that a word spells.
+    pub fn read(word: &str) -> Option<ProcedureCount>
+        ensures { result ≡ count_of_procedures word.now }
+    {
+        match number_within(1, 900, word) {
+            Some(procedures) => Some(ProcedureCount {
+                procedures: procedures as u32,
+            }),
+            None => None,
+        }
+    }
+
+    /// How many they are.
+    pub fn procedures(&self) -> u32
+        ensures value { result ≡ self.now }
+        ensures low { 1 ≤ result }
+        ensures high { result ≤ 900 }
+    {
+        self.procedures
     }
 }

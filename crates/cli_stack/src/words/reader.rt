@@ -3,7 +3,7 @@ ghost use Rattle.std.specs.Prelude.{◌≡◌};
 ghost use Rattle.cli_stack.specs.Words.{Reads, spelled, first, file, size, limit, seed, procedures, debug_level, level_named, end};
 
 use crate::words::name::FileName;
-use crate::words::number::{StackSize, number_within};
+use crate::words::number::{ProcedureCount, StackSize, number_within};
 use stack_text::Memory;
 use std::alloc::Global;
 
@@ -93,12 +93,12 @@ pub fn seed(words: &[String]) -> Result<(u32, &[String]), WordsFault>
 
 /// How many procedures a large source calls: 1 to 900.
 #[tactic(auto, unfolding(crate::specs::Words::procedures))]
-pub fn procedures(words: &[String]) -> Result<(u32, &[String]), WordsFault>
+pub fn procedures(words: &[String]) -> Result<(ProcedureCount, &[String]), WordsFault>
     ensures { Reads (λ found. (found.0, spelled found.1.now)) result (procedures (spelled words.now)) }
 {
     let (word, rest) = first(words)?;
-    match number_within(1, 900, word) {
-        Some(procedures) => Ok((procedures as u32, rest)),
+    match ProcedureCount::read(word) {
+        Some(procedures) => Ok((procedures, rest)),
         None => Err(WordsFault::Usage),
     }
 }

@@ -1,0 +1,213 @@
+-- What `mean` tells is what its source means.
+use Rattle.std.proofs.Common.{◌≡◌, ◌≤◌, ℕ, suc, false, List, [], ◌∷◌, ◌++◌, append-nil, Option, Some, None, IfSome, Result, Ok, Err, refl, sym, ap, ◌∙◌, subst, arith}
+use Rattle.std.specs.Prelude.{Contains, nat_lt, IsSomeAnd}
+use Rattle.std.proofs.lemmas.Bool.{le-ltb}
+use Rattle.stack_text.specs.Values.{ValueOf}
+use Rattle.stack_text.specs.Results.{◌>>=◌}
+use Rattle.stack_shelf.specs.Files.{Files}
+use Rattle.fm_loader.specs.Values.{values_in}
+use Rattle.gypsy_syntax.specs.Sources.{SourceOf}
+use Rattle.gypsy_syntax.specs.Programs.{Program}
+use Rattle.gypsy_syntax.specs.Resolved.{program_of}
+use Rattle.gypsy_space.specs.Needs.{Words, stack_words, main_need}
+use Rattle.gypsy_meaning.specs.declared.answers.MeanRun.{MeanRun}
+use Rattle.gypsy_meaning.specs.declared.answers.MeanRun.TheVariants as run
+use Rattle.gypsy_meaning.specs.Agreed.{MeansEnd, EndAgrees, RunAgrees}
+use Rattle.gypsy_meaning.specs.Belongs.{Suffices}
+use Rattle.gypsy_meaning.specs.Calls.{Way}
+use Rattle.gypsy_meaning.specs.Counted.{instruction_count}
+use Rattle.gypsy_meaning.specs.Meaning.{Done as MeaningDone, meaning}
+use Rattle.gypsy_meaning.specs.Seen.{Seen, Ran, Stage, Running, Finished, IsOfRun, IsEnd, opening, run_of, values_at}
+use Rattle.gypsy_meaning.specs.Shown.{condition_at, names_at}
+use Rattle.gypsy_meaning.proofs.ReachLaws.{opening_reached, completes}
+use Rattle.gypsy_meaning.proofs.RunLaws.{run_agrees}
+use Rattle.gypsy_meaning.proofs.SeenLaws.{run_same}
+use Rattle.stack_build.specs.Build.{source_in}
+use Rattle.stack_build.specs.Image.{formal_slots}
+use Rattle.cli_stack.specs.declared.command.Command.{Command}
+use Rattle.cli_stack.specs.declared.command.Command.TheVariants as command
+use Rattle.cli_stack.specs.declared.driver.early_end.EarlyEnd.{EarlyEnd}
+use Rattle.cli_stack.specs.declared.reply.Verdict.{Verdict}
+use Rattle.cli_stack.specs.declared.reply.Verdict.TheVariants as verdict
+use Rattle.cli_stack.specs.declared.role.Role.{Role}
+use Rattle.cli_stack.specs.declared.role.Role.TheVariants.{Source, Piton, Image, Values}
+use Rattle.cli_stack.specs.declared.status.Status.TheVariants.{Done}
+use Rattle.cli_stack.specs.Replies.{ReplyOf, status_of, verdict_line, reply_text}
+use Rattle.cli_stack.specs.SourceText.{unless_refused, accepted_in}
+use Rattle.cli_stack.specs.Mean.{shortage_of, said_text, mean_end_reply, mean_ran_reply, mean_run_reply, mean_values_reply, mean_sized_reply, mean_source_reply, mean_accepted_reply, mean_reply}
+use Rattle.cli_stack.specs.Answer.{Texts, Answer, inputs_of, output_of, reply_by, answer_with, answer_on, answer_to, answer_by}
+use Rattle.cli_stack.specs.Correct.{IsReadable}
+use Rattle.cli_stack.specs.Means.{FollowOf, follow_of, meaning_text, IsMeant, TellsSteps, Follows, FollowsFiles, FollowsMeanings, Means}
+use Rattle.cli_stack.proofs.TellsLaws.{both_there}
+
+-- 1. A reply.
+
+-- a verdict is that all went well where its status is
+done_only : (v : Verdict) → status_of v ≡ Done → v ≡ verdict.Done
+done_only verdict.Done e = refl
+done_only v e = absurd cc
+
+-- what a reply tells
+record Told (source : SourceOf) (sizes : Words) (values finals : List ValueOf) (way : Way) (reply : ReplyOf) : Type 0 where
+  pub steps : ℕ
+  pub count : ℕ
+  pub meant : IsMeant source sizes values finals way steps count
+  pub verdict : reply.verdict ≡ verdict.Done
+  pub said : reply.said ≡ meaning_text source (Finished finals way) steps count
+
+-- so does the answer that has the reply
+answer_tells : (source : SourceOf) (sizes : Words) (values finals : List ValueOf) (way : Way) (output : Option (List ℕ × List ℕ)) (reply : ReplyOf) → Told source sizes values finals way reply → TellsSteps source sizes values finals way (answer_with output reply)
+answer_tells source sizes values finals way output reply told = record {
+  steps = told.steps;
+  count = told.count;
+  meant = told.meant;
+  status = ap status_of told.verdict;
+  text = ap (λ (v : Verdict). reply.said ++ verdict_line v) told.verdict ∙ append-nil reply.said ∙ told.said;
+}
+
+-- a run of which the end agrees with the meaning
+end_told : (source : SourceOf) (sizes : Words) (values finals : List ValueOf) (way : Way) (limit : ℕ) (a : MeanRun) (w : Seen) → a ≡ run.Ended → w.stage ≡ Finished finals way → MeansEnd w finals way
+    → IsOfRun (opening (program_of source) sizes values) w → Told source sizes values finals way (mean_end_reply source limit a w)
+end_told source sizes values finals way limit a w ended stage means same =
+    let program = same.program in
+    let own = same.sizes in
+    let from = same.values in
+    record {
+      steps = means.made;
+      count = means.count;
+      meant = record {
+        meaning_is = ap (λ (q : Program). meaning q sizes values (suc means.made)) (sym program)
+            ∙ ap (λ (z : Words). meaning w.program z values (suc means.made)) (sym own)
+            ∙ ap (λ (v : List ValueOf). meaning w.program w.sizes v (suc means.made)) (sym from)
+            ∙ means.meaning_is;
+        counted = ap (λ (q : Program). instruction_count q sizes values (suc means.made)) (sym program)
+            ∙ ap (λ (z : Words). instruction_count w.program z values (suc means.made)) (sym own)
+            ∙ ap (λ (v : List ValueOf). instruction_count w.program w.sizes v (suc means.made)) (sym from)
+            ∙ means.count_is;
+      };
+      verdict = ap (λ (b : MeanRun). (mean_end_reply source limit b w).verdict) ended;
+      said = ap (λ (b : MeanRun). (mean_end_reply source limit b w).said) ended
+          ∙ (let steps = means.steps in
+          let counted = means.counted in
+          λ i. said_text (steps i) (counted i) (condition_at source (stage i)) (names_at source (stage i)) (values_at (stage i)));
+    }
+
+module _ (source : SourceOf) (sizes : Words) (values : List ValueOf) (limit : ℕ) where
+  start : Seen
+  start = opening (program_of source) sizes values
+
+  by_stage : (a : MeanRun) (w : Seen) (s : Stage) → a ≡ run.Ended → w.stage ≡ s → EndAgrees w s → IsOfRun (opening (program_of source) sizes values) w
+      → (finals : List ValueOf) × (way : Way) × Told source sizes values finals way (mean_end_reply source limit a w)
+  by_stage a w (Running g) ended stage agrees same = absurd agrees
+  by_stage a w (Finished x c) ended stage agrees same = (x, c, end_told source sizes values x c limit a w ended stage agrees same)
+
+  by_run : (a : MeanRun) (w : Seen) → RunAgrees w a → IsOfRun (opening (program_of source) sizes values) w → (mean_end_reply source limit a w).verdict ≡ verdict.Done
+      → (finals : List ValueOf) × (way : Way) × Told source sizes values finals way (mean_end_reply source limit a w)
+  by_run run.Ended w agrees same e = by_stage run.Ended w w.stage refl refl agrees same
+  by_run run.Spent w agrees same e = absurd cc
+  by_run (run.NoRoom place) w agrees same e = absurd cc
+
+  -- what is told is a meaning
+  run_told : (mean_run_reply source sizes values limit).verdict ≡ verdict.Done
+      → (finals : List ValueOf) × (way : Way) × Told source sizes values finals way (mean_run_reply source sizes values limit)
+  unfolding mean_run_reply
+  run_told e =
+      let from : Seen = opening (program_of source) sizes values in
+      let r : Ran = run_of limit from in
+      by_run r.run r.seen (run_agrees limit from (opening_reached (program_of source) sizes values)) (run_same limit from) e
+
+  -- a meaning that is done is told
+  ended_told : (a : MeanRun) (w : Seen) (x : List ValueOf) (c : Way) → a ≡ run.Ended → w.stage ≡ Finished x c → RunAgrees w a → IsOfRun (opening (program_of source) sizes values) w
+      → Told source sizes values x c (mean_end_reply source limit a w)
+  ended_told a w x c ended stage agrees same =
+      let at_end : RunAgrees w run.Ended = subst (λ (b : MeanRun). RunAgrees w b) ended agrees in
+      let means : EndAgrees w (Finished x c) = subst (λ (s : Stage). EndAgrees w s) stage at_end in
+      end_told source sizes values x c limit a w ended stage means same
+
+  run_whole : (bound : ℕ) (x : List ValueOf) (c : Way) → meaning (program_of source) sizes values bound ≡ MeaningDone x c
+      → (enough : ℕ) × (enough ≤ limit → Told source sizes values x c (mean_run_reply source sizes values limit))
+  unfolding mean_run_reply
+  run_whole bound x c done =
+      let from : Seen = opening (program_of source) sizes values in
+      let reached = opening_reached (program_of source) sizes values in
+      let found = completes x c from bound reached done in (
+        found.0,
+        λ le.
+            let r : Ran = run_of limit from in
+            let end : IsEnd r x c = found.1 limit le in
+            ended_told r.run r.seen x c end.run end.stage (run_agrees limit from reached) (run_same limit from),
+      )
+
+  reply_follows : (output : Option (List ℕ × List ℕ)) (reply : ReplyOf) → reply ≡ mean_run_reply source sizes values limit → Follows source sizes values limit (answer_with output reply)
+  reply_follows output reply is =
+      subst (λ (r : ReplyOf). Follows source sizes values limit (answer_with output r)) (sym is) record {
+        told = λ status.
+            let found = run_told (done_only _ status) in
+            (found.0, found.1, answer_tells source sizes values found.0 found.1 output _ found.2);
+        whole = λ bound x c done.
+            let found = run_whole bound x c done in
+            (found.0, λ le. answer_tells source sizes values x c output _ (found.1 le));
+      }
+
+-- 2. The files lead to it.
+
+module _ (files : Files) (text values_text : List ℕ) (source : SourceOf) (values : List ValueOf) where
+  mean_is : (control temporary limit : ℕ) → source_in text ≡ Ok source → Suffices (program_of source) (stack_words temporary control) → values_in (formal_slots source) values_text ≡ Ok values
+      → mean_reply text values_text control temporary limit ≡ mean_run_reply source (stack_words temporary control) values limit
+  unfolding accepted_in mean_source_reply
+  mean_is control temporary limit read enough found =
+      let need : Words = main_need (program_of source) in
+      let sizes : Words = stack_words temporary control in
+      let c : nat_lt control need.ctrl ≡ false = le-ltb control need.ctrl enough.ctrl in
+      let t : nat_lt temporary need.temp ≡ false = le-ltb temporary need.temp enough.temp in
+      let none : shortage_of need sizes ≡ None = rw (c, t) refl in
+      ap (λ (r : Result SourceOf _). mean_accepted_reply (unless_refused r) sizes values_text limit) read
+      ∙ ap (λ (o : Option Verdict). mean_sized_reply o source sizes values_text limit) none
+      ∙ ap (λ (v : Result (List ValueOf) (ℕ × ℕ)). mean_values_reply source sizes limit v) found
+
+  mean_follows : (source_name values_name : List ℕ) (control temporary limit : ℕ) → IsReadable files Source source_name text → source_in text ≡ Ok source
+      → Suffices (program_of source) (stack_words temporary control) → IsReadable files Values values_name values_text → values_in (formal_slots source) values_text ≡ Ok values
+      → Follows source (stack_words temporary control) values limit (answer_to (command.Mean source_name values_name control temporary limit) files)
+  unfolding inputs_of reply_by
+  mean_follows source_name values_name control temporary limit there read enough there' found =
+      subst (λ (r : Result Texts EarlyEnd). Follows source (stack_words temporary control) values limit (answer_on (command.Mean source_name values_name control temporary limit) r))
+      (sym (both_there files (Source, source_name) (Values, values_name) text values_text there there'))
+      (reply_follows source (stack_words temporary control) values limit _ (mean_reply text values_text control temporary limit) (mean_is control temporary limit read enough found))
+
+-- 3. All commands.
+
+abbrev first_role : List (Role × List ℕ) → Role
+first_role [] = Piton
+first_role (f ∷ fs) = f.0
+
+abbrev first_name : List (Role × List ℕ) → List ℕ
+first_name [] = []
+first_name (f ∷ fs) = f.1
+
+abbrev others : List (Role × List ℕ) → List (Role × List ℕ)
+others [] = []
+others (f ∷ fs) = fs
+
+follows : (c : Command) (files : Files) → FollowsMeanings c files (answer_to c files)
+unfolding inputs_of output_of
+follows (command.Mean source_name values_name control temporary limit) files = λ source values reads writes. (
+  ap first_name reads,
+  ap (λ (fs : List (Role × List ℕ)). first_name (others fs)) reads,
+  λ text s values_text v there read enough there' found. mean_follows files text values_text s v source_name values_name control temporary limit there read enough there' found,
+)
+follows (command.Go source_name values_name control temporary budget image) files = λ source values reads writes. absurd (let e : Some (Image, image) ≡ None = writes in cc)
+follows (command.Run image values_name budget) files = λ source values reads writes. absurd (let e : Image ≡ Source = ap first_role reads in cc)
+follows (command.Show image) files = λ source values reads writes. absurd (let e : Image ≡ Source = ap first_role reads in cc)
+follows (command.Check source_name) files = λ source values reads writes. absurd (let e : [] ≡ (Values, values) ∷ [] = ap others reads in cc)
+follows (command.Pit source_name control temporary piton) files = λ source values reads writes. absurd (let e : Some (Piton, piton) ≡ None = writes in cc)
+follows (command.Build source_name control temporary image) files = λ source values reads writes. absurd (let e : Some (Image, image) ≡ None = writes in cc)
+follows (command.Pcheck piton) files = λ source values reads writes. absurd (let e : Piton ≡ Source = ap first_role reads in cc)
+follows (command.Prun piton limit) files = λ source values reads writes. absurd (let e : Piton ≡ Source = ap first_role reads in cc)
+follows (command.Pbuild piton image) files = λ source values reads writes. absurd (let e : Some (Image, image) ≡ None = writes in cc)
+follows c files = λ source values reads writes. absurd (let e : Piton ≡ Source = ap first_role reads in cc)
+
+-- whatever the command and the files are
+pub means : (c : Option Command) (o : Option Files) → IfSome o (λ files. Means c files (answer_by c files))
+means c None = tt
+means None (Some files) = tt
+means (Some c) (Some files) = follows c files

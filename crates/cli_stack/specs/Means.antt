@@ -1,0 +1,84 @@
+-- That what is told of a source's steps is what the source means.
+use Rattle.std.specs.Prelude.{◌≡◌, ◌≤◌, ◌-◌, ◌^◌, ℕ, suc, min, List, [], ◌∷◌, Option, Some, None, Ok, IsSomeAnd}
+use Rattle.stack_text.specs.Values.{ValueOf}
+use Rattle.stack_shelf.specs.Files.{Files}
+use Rattle.fm_loader.specs.Values.{values_in}
+use Rattle.gypsy_syntax.specs.Sources.{SourceOf}
+use Rattle.gypsy_syntax.specs.Resolved.{program_of}
+use Rattle.gypsy_space.specs.Needs.{Words, stack_words}
+use Rattle.gypsy_meaning.specs.Belongs.{Suffices}
+use Rattle.gypsy_meaning.specs.Calls.{Way}
+use Rattle.gypsy_meaning.specs.Counted.{instruction_count}
+use Rattle.gypsy_meaning.specs.Meaning.{Done as MeaningDone, meaning}
+use Rattle.gypsy_meaning.specs.Seen.{Stage, Finished, values_at}
+use Rattle.gypsy_meaning.specs.Shown.{condition_at, names_at}
+use Rattle.stack_build.specs.Build.{source_in}
+use Rattle.stack_build.specs.Image.{formal_slots}
+use Rattle.cli_stack.specs.declared.command.Command.{Command}
+use Rattle.cli_stack.specs.declared.command.Command.TheVariants.{Mean}
+use Rattle.cli_stack.specs.declared.role.Role.{Role}
+use Rattle.cli_stack.specs.declared.role.Role.TheVariants.{Source, Values}
+use Rattle.cli_stack.specs.declared.status.Status.TheVariants.{Done}
+use Rattle.cli_stack.specs.Answer.{Answer, inputs_of, output_of}
+use Rattle.cli_stack.specs.Correct.{IsReadable}
+use Rattle.cli_stack.specs.Mean.{said_text}
+
+-- a run of a source's steps: the files of the source and of its values, the sizes of the stacks, and the most steps
+pub record FollowOf : Type 0 where
+  pub source : List ℕ
+  pub values : List ℕ
+  pub sizes : Words
+  pub limit : ℕ
+
+-- what a command follows
+abbrev pub follow_of : Command → Option FollowOf
+follow_of (Mean source values control temporary limit) =
+    Some (record { source = source; values = values; sizes = stack_words temporary control; limit = limit })
+follow_of _ = None
+
+-- a count of 64 bits, which stays at its last value
+abbrev pub shown_count : ℕ → ℕ
+shown_count n = min n (2 ^ 64 - 1)
+
+-- so many steps, the instructions that are counted for them, the condition, and main's formals with these values
+abbrev pub meaning_text : SourceOf → Stage → ℕ → ℕ → List ℕ
+meaning_text source stage steps count =
+    said_text (shown_count steps) (shown_count count) (condition_at source stage) (names_at source stage) (values_at stage)
+
+-- the meaning of the source is done, with these values and this condition, and so many instructions counted, within a bound of
+-- one more than the steps
+pub record IsMeant (source : SourceOf) (sizes : Words) (values finals : List ValueOf) (way : Way) (steps count : ℕ) : Type 0 where
+  pub meaning_is : meaning (program_of source) sizes values (suc steps) ≡ MeaningDone finals way
+  pub counted : instruction_count (program_of source) sizes values (suc steps) ≡ Some count
+
+-- the answer is that all went well, and tells such a meaning
+pub record TellsSteps (source : SourceOf) (sizes : Words) (values finals : List ValueOf) (way : Way) (answer : Answer) : Type 0 where
+  pub steps : ℕ
+  pub count : ℕ
+  pub meant : IsMeant source sizes values finals way steps count
+  pub status : answer.status ≡ Done
+  pub text : answer.text ≡ meaning_text source (Finished finals way) steps count
+
+-- what is told is a meaning; and where the meaning is done and the limit is large enough, it is told
+pub record Follows (source : SourceOf) (sizes : Words) (values : List ValueOf) (limit : ℕ) (answer : Answer) : Type 0 where
+  pub told : answer.status ≡ Done → (finals : List ValueOf) × (way : Way) × TellsSteps source sizes values finals way answer
+  pub whole : (bound : ℕ) (finals : List ValueOf) (way : Way) → meaning (program_of source) sizes values bound ≡ MeaningDone finals way
+      → (enough : ℕ) × (enough ≤ limit → TellsSteps source sizes values finals way answer)
+
+-- where the files are there, the source is accepted, the stacks are large enough for main itself, and the values fit
+abbrev pub FollowsFiles : FollowOf → Files → Answer → Type 0
+FollowsFiles follow files answer =
+    (text : List ℕ) (source : SourceOf) (values_text : List ℕ) (values : List ValueOf)
+    → IsReadable files Source follow.source text → source_in text ≡ Ok source → Suffices (program_of source) follow.sizes
+    → IsReadable files Values follow.values values_text → values_in (formal_slots source) values_text ≡ Ok values
+    → Follows source follow.sizes values follow.limit answer
+
+-- who reads a source and values alone, and writes no file, follows the source's steps and tells what it means
+abbrev pub FollowsMeanings : Command → Files → Answer → Type 0
+FollowsMeanings command files answer =
+    (source values : List ℕ) → inputs_of command ≡ (Source, source) ∷ (Values, values) ∷ [] → output_of command ≡ None
+    → IsSomeAnd (follow_of command) (λ follow. (follow.source ≡ source) × (follow.values ≡ values) × FollowsFiles follow files answer)
+
+abbrev pub Means : Option Command → Files → Answer → Type 0
+Means None files answer = Unit {0}
+Means (Some command) files answer = FollowsMeanings command files answer

@@ -1,0 +1,110 @@
+//! The command `big`.
+ghost use Rattle.std.specs.Prelude.{◌≡◌, [], None, IfOk};
+ghost use Rattle.gypsy_syntax.specs.Answers.{KeepsForm};
+ghost use Rattle.gypsy_syntax.specs.SourceView.{source_of};
+ghost use Rattle.gypsy_check.specs.Rules.{violations};
+ghost use Rattle.gypsy_gen.specs.Large.{large_of};
+ghost use Rattle.cli_stack.specs.Big.{after_text, source_line, go_on_source, big_reply};
+ghost use Rattle.cli_stack.specs.Plans.{pending_reply};
+ghost use Rattle.cli_stack.specs.Replies.{reply_of};
+
+use crate::commands::finish;
+use crate::commands::plan::{Pending, Plan};
+use crate::commands::run::begin;
+use crate::commands::source_text::verdict_of;
+use crate::reply::Reply;
+use crate::words::ProcedureCount;
+use gypsy_check::{Accepted, CheckFault, check};
+use gypsy_gen::large;
+use gypsy_syntax::{Source, print_gypsy};
+use stack_build::{Built, build_accepted};
+use stack_text::{Memory, Seq};
+use std::alloc::Global;
+
+/// The value of the source's variable.
+const VALUES: &[u8] = b"((x 0))";
+
+/// The words of each stack.
+const WORDS: u32 = 64;
+
+/// The most instructions.
+const BUDGET: u64 = 1 << 40;
+
+/// A source that breaks no rule, accepted.
+fn accepted(alloc: Global, source: Source) -> Result<Accepted, Memory>
+    requires form { KeepsForm (source_of source) }
+    requires rules { violations (source_of source) ≡ [] }
+    ensures kept { IfOk result (λ accepted. accepted ≡ source) }
+{
+    match check(alloc, source) {
+        Ok(accepted) => Ok(accepted),
+        Err(CheckFault::Memory) => Err(Memory),
+        Err(CheckFault::Violation { rule: _, place: _ }) => unreachable!(),
+    }
+}
+
+/// Builds a source, and runs it on the value 0.
+#[tactic(auto, unfolding(crate::specs::Big::go_on_source))]
+fn run_accepted(alloc: Global, accepted: &Accepted) -> Result<Reply, Memory>
+    ensures { IfOk result (λ reply. reply_of reply ≡ go_on_source (source_of accepted.now)) }
+{
+    match build_accepted(alloc, accepted, WORDS, WORDS, 0) {
+        Ok(
+            Built {
+                image,
+                bytes: _,
+                piton: _,
+            },
+        ) => {
+            let pending = begin(alloc, image, VALUES, BUDGET)?;
+            finish(alloc, pending)
+        }
+        Err(fault) => Ok(Reply::verdict_alone(alloc, verdict_of(fault)?)),
+    }
+}
+
+/// A reply with a text before all that it says.
+fn after_text(text: Vec<u8>, reply: Reply) -> Result<Reply, Memory>
+    ensures { IfOk result (λ after. reply_of after ≡ after_text text.items (reply_of reply)) }
+{
+    let mut said = text;
+    said.extend_from_slice(reply.said.as_slice())?;
+    Ok(Reply {
+        said: Seq::from_vec(said),
+        verdict: reply.verdict,
+        machine: reply.machine,
+    })
+}
+
+/// The line of how many bytes the printed source has.
+#[tactic(auto, unfolding(crate::specs::Big::source_line))]
+fn source_line(
+    alloc: Global,
+    source: &Source,
+    number: u32,
+    procedures: u32,
+) -> Result<Vec<u8>, Memory>
+    requires form { KeepsForm (source_of source.now) }
+    requires large { source_of source.now ≡ large_of number procedures }
+    ensures { IfOk result (λ line. line.items ≡ source_line number procedures) }
+{
+    let bytes = print_gypsy(alloc, source)?.len();
+    Ok(format!(in alloc; "source {bytes}\n")?.into_bytes())
+}
+
+/// What is left of `big`: nothing is read and nothing stored.
+#[tactic(auto, unfolding(crate::specs::Big::big_reply))]
+pub fn prepare(alloc: Global, number: u32, procedures: &ProcedureCount) -> Result<Plan, Memory>
+    ensures stored { IfOk result (λ plan. plan.stored ≡ None) }
+    ensures reply { IfOk result (λ plan. pending_reply plan.pending ≡ big_reply number procedures.now) }
+{
+    let procedures = procedures.procedures();
+    let source = large(alloc, number, procedures)?;
+    let first = source_line(alloc, &source, number, procedures)?;
+    let accepted = accepted(alloc, source)?;
+    let reply = after_text(first, run_accepted(alloc, &accepted)?)?;
+    Ok(Plan {
+        stored: None,
+        pending: Pending::Reply(reply),
+    })
+}

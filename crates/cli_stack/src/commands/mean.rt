@@ -1,0 +1,203 @@
+//! The command `mean`.
+ghost use Rattle.std.specs.Prelude.{◌≡◌, ◌≤◌, ◌^◌, None, IfOk, length, map};
+ghost use Rattle.gypsy_syntax.specs.Resolved.{program_of};
+ghost use Rattle.gypsy_syntax.specs.ProgramFits.{ProgramFits};
+ghost use Rattle.gypsy_syntax.specs.SourceView.{source_of};
+ghost use Rattle.gypsy_check.specs.Accepted.{IsAccepted};
+ghost use Rattle.gypsy_space.specs.Events.{AreNeeds, AreSmall};
+ghost use Rattle.gypsy_space.specs.Needs.{stack_words, main_need};
+ghost use Rattle.gypsy_space.specs.Nodes.{seen_program};
+ghost use Rattle.gypsy_meaning.specs.Belongs.{BelongsTo, Suffices};
+ghost use Rattle.gypsy_meaning.specs.Running.{seen};
+ghost use Rattle.stack_build.specs.Implements.{FitsFormals};
+ghost use Rattle.cli_stack.specs.Mean.{shortage_of, said_text, ended_text, mean_end_reply, mean_run_reply, mean_source_reply, mean_reply};
+ghost use Rattle.cli_stack.specs.Plans.{pending_reply};
+
+use crate::commands::plan::Plan;
+use crate::commands::source_text::read_accepted;
+use crate::reply::{SizeOf, Verdict};
+use crate::words::StackSize;
+use display_maps::push_run;
+use fm_loader::ValuesFault;
+use gypsy_check::Accepted;
+use gypsy_meaning::{Current, MeanRun, Meaning, control_need, temporary_need};
+use gypsy_space::{Needs, needs, resolve};
+use stack_build::read_formals;
+use stack_text::{Memory, Name, Seq, Value};
+use std::alloc::Global;
+
+/// What is left of `mean` once its texts are there.
+pub fn prepare(
+    alloc: Global,
+    source: &[u8],
+    values: &[u8],
+    control: &StackSize,
+    temporary: &StackSize,
+    limit: u64,
+) -> Result<Plan, Memory>
+    requires source { length source.now ≤ 2 ^ 31 }
+    requires values { length values.now ≤ 2 ^ 31 }
+    ensures stored { IfOk result (λ plan. plan.stored ≡ None) }
+    ensures reply { IfOk result (λ plan.
+        pending_reply plan.pending ≡ mean_reply source.now values.now control.now temporary.now limit) }
+{
+    match read_accepted(alloc, source)? {
+        Ok(accepted) => run_source(
+            alloc,
+            &accepted,
+            values,
+            control.words(),
+            temporary.words(),
+            limit,
+        ),
+        Err(verdict) => Ok(Plan::verdict_alone(alloc, verdict)),
+    }
+}
+
+/// Which of the stacks is smaller than main itself needs.
+fn shortage_of(
+    alloc: Global,
+    accepted: &Accepted,
+    needs: &Needs,
+    control: u32,
+    temporary: u32,
+) -> Result<Option<Verdict>, Memory>
+    requires needs { AreNeeds (program_of (source_of accepted.now)) needs.now.procedures.items }
+    requires small { AreSmall needs.now.procedures.items }
+    ensures { IfOk result (λ shortage. shortage
+        ≡ shortage_of (main_need (program_of (source_of accepted.now))) (stack_words temporary control)) }
+{
+    let program = resolve(alloc, accepted)?;
+    let need = control_need(&program, needs);
+    if u64::from(control) < need {
+        let of = SizeOf::Control;
+        return Ok(Some(Verdict::Size { of, need }));
+    }
+    let need = temporary_need(&program, needs);
+    if u64::from(temporary) < need {
+        let of = SizeOf::Temporary;
+        return Ok(Some(Verdict::Size { of, need }));
+    }
+    Ok(None)
+}
+
+/// The run of an accepted source, with stacks of these sizes.
+#[tactic(auto, unfolding(crate::specs::Mean::mean_source_reply))]
+fn run_source(
+    alloc: Global,
+    accepted: &Accepted,
+    values: &[u8],
+    control: u32,
+    temporary: u32,
+    limit: u64,
+) -> Result<Plan, Memory>
+    requires { length values.now ≤ 2 ^ 31 }
+    ensures stored { IfOk result (λ plan. plan.stored ≡ None) }
+    ensures reply { IfOk result (λ plan. pending_reply plan.pending
+        ≡ mean_source_reply (source_of accepted.now) (stack_words temporary control) values.now limit) }
+{
+    let needs = needs(alloc, accepted)?;
+    if let Some(shortage) = shortage_of(alloc, accepted, &needs, control, temporary)? {
+        return Ok(Plan::verdict_alone(alloc, shortage));
+    }
+    match read_formals(alloc, accepted, values) {
+        Ok(values) => run_values(
+            alloc,
+            accepted,
+            &needs,
+            values.as_slice(),
+            control,
+            temporary,
+            limit,
+        ),
+        Err(ValuesFault::Refused { rule, place }) => {
+            Ok(Plan::verdict_alone(alloc, Verdict::Values { rule, place }))
+        }
+        Err(ValuesFault::Memory) => Err(Memory),
+    }
+}
+
+/// The run from these values.
+#[tactic(auto, unfolding(crate::specs::Mean::mean_run_reply))]
+fn run_values(
+    alloc: Global,
+    accepted: &Accepted,
+    needs: &Needs,
+    values: &[Value],
+    control: u32,
+    temporary: u32,
+    limit: u64,
+) -> Result<Plan, Memory>
+    requires needs { AreNeeds (program_of (source_of accepted.now)) needs.now.procedures.items }
+    requires small { AreSmall needs.now.procedures.items }
+    requires values { FitsFormals (source_of accepted.now) values.now }
+    requires sizes { Suffices (program_of (source_of accepted.now)) (stack_words temporary control) }
+    ensures stored { IfOk result (λ plan. plan.stored ≡ None) }
+    ensures reply { IfOk result (λ plan. pending_reply plan.pending
+        ≡ mean_run_reply (source_of accepted.now) (stack_words temporary control) values.now limit) }
+{
+    let mut meaning = Meaning::start(alloc, accepted, needs, values, control, temporary)?;
+    let run = meaning.run(alloc, accepted, needs, limit)?;
+    plan_of(alloc, accepted, needs, limit, run, &meaning)
+}
+
+/// The reply to a run that ended in this way.
+fn plan_of(
+    alloc: Global,
+    accepted: &Accepted,
+    needs: &Needs,
+    limit: u64,
+    run: MeanRun,
+    meaning: &Meaning,
+) -> Result<Plan, Memory>
+    requires { BelongsTo (source_of accepted.now) needs.now.procedures.items meaning.now }
+    ensures stored { IfOk result (λ plan. plan.stored ≡ None) }
+    ensures reply { IfOk result (λ plan. pending_reply plan.pending
+        ≡ mean_end_reply (source_of accepted.now) limit run (seen meaning.now)) }
+{
+    match run {
+        MeanRun::Ended => Ok(Plan::all_said(ended_text(alloc, accepted, needs, meaning)?)),
+        MeanRun::Spent => Ok(Plan::verdict_alone(alloc, Verdict::Unfinished { limit })),
+        MeanRun::NoRoom { place } => {
+            let count = meaning.steps();
+            Ok(Plan::verdict_alone(alloc, Verdict::NoRoom { place, count }))
+        }
+    }
+}
+
+/// The lines of how many steps a run made and at which cost, its condition and its variables.
+fn run_text(
+    alloc: Global,
+    steps: u64,
+    counted: u64,
+    condition: &Current,
+    variables: &[(Name, Value)],
+) -> Result<Vec<u8>, Memory>
+    ensures { IfOk result (λ text. text.items
+        ≡ said_text steps counted condition.now (map (λ v. v.0) variables.now) (map (λ v. v.1) variables.now)) }
+{
+    let mut text = format!(in alloc; "steps {steps}\ncounted {counted}\n")?.into_bytes();
+    push_run(alloc, &mut text, condition, variables)?;
+    Ok(text)
+}
+
+/// What is said of a run that ended.
+fn ended_text(
+    alloc: Global,
+    accepted: &Accepted,
+    needs: &Needs,
+    meaning: &Meaning,
+) -> Result<Seq<u8>, Memory>
+    requires { BelongsTo (source_of accepted.now) needs.now.procedures.items meaning.now }
+    ensures { IfOk result (λ text. text ≡ ended_text (source_of accepted.now) (seen meaning.now)) }
+{
+    let (steps, counted) = (meaning.steps(), meaning.counted());
+    let text = run_text(
+        alloc,
+        steps,
+        counted,
+        meaning.condition(),
+        meaning.variables(),
+    )?;
+    Ok(Seq::from_vec(text))
+}
