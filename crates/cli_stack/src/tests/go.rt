@@ -284,6 +284,20 @@ fn rows() -> &'static [(&'static str, &'static str, &'static str, u8, &'static s
             0,
             "source 144\nfinished 90\ncondition normal\nx = 748\n",
         ),
+        (
+            "big 1 2",
+            "",
+            "",
+            0,
+            "source 232\nfinished 175\ncondition normal\nx = 1215\n",
+        ),
+        (
+            "big 7 900",
+            "",
+            "",
+            0,
+            "source 90455\nfinished 67266\ncondition normal\nx = -443\n",
+        ),
     ]
 }
 
