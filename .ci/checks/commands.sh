@@ -1,5 +1,6 @@
 #!/usr/bin/env bash
-# The commands that README.md and docs/WALK.md show, run in a folder of their own: what they print, their statuses, and the images' sizes.
+# The commands that README.md, docs/WALK.md and docs/cli.md show, run in a folder of their own: what they print, their statuses, and
+# the images' sizes.
 set -u
 top=$(cd "$(dirname "${BASH_SOURCE[0]}")/../.." && pwd)
 folder=$(mktemp -d)
@@ -28,14 +29,39 @@ holds() {
     [ "$bytes" = "$2" ] || { echo "$1 has $bytes bytes, wanted $2"; failed=1; }
 }
 
+# misses FILE: there is no such file.
+misses() {
+    [ ! -e "$1" ] || { echo "$1 was stored"; failed=1; }
+}
+
+# One assignment: docs/WALK.md, the first walk.
 seven=$'finished 28\ncondition normal\nx = 7'
 wants 0 "$seven" go examples/assign.gypsy examples/assign.values 100 100 1000000 assign.image
-holds assign.image 717
+holds assign.image 2997
 wants 0 "$seven" go examples/seven.gypsy examples/nine.values 7 3 28 seven.image
-holds seven.image 345
+holds seven.image 2625
 wants 5 "unfinished 27" run seven.image examples/nine.values 27
+wants 0 $'steps 2\ncounted 28\ncondition normal\nx = 7' mean examples/seven.gypsy examples/nine.values 7 3 2
 wants 0 $'finished 28\ncondition normal\nx = 5\ny = -3' go examples/two.gypsy examples/two.values 100 100 1000000 two.image
-wants 0 "ok" check examples/two.gypsy
+
+# A loop, a call and a handled condition: the second walk.
+counted=$'condition normal\nx = 2000000000'
+wants 0 "ok" check examples/count.gypsy
+wants 0 $'finished 182\n'"$counted" go examples/count.gypsy examples/count.values 13 5 182 count.image
+holds count.image 2969
+wants 5 "unfinished 181" run count.image examples/count.values 181
+wants 0 $'steps 12\ncounted 182\n'"$counted" mean examples/count.gypsy examples/count.values 13 5 12
+wants 5 "unfinished 11" mean examples/count.gypsy examples/count.values 13 5 11
+wants 7 "noroom at 61 after 1" mean examples/count.gypsy examples/count.values 12 5 12
+wants 12 "size control 3" mean examples/count.gypsy examples/count.values 2 5 12
+wants 0 "built 717" build examples/count.gypsy 13 5 built.image
+cmp -s count.image built.image || { echo "go and build store different images"; failed=1; }
+wants 0 "written count.piton" pit examples/count.gypsy 13 5 count.piton
+wants 0 $'halted 69\ncounted 182\nc-c (nat 2)\nstack (int 2000000000)' prun count.piton 69
+wants 0 "built 717" pbuild count.piton linked.image
+wants 0 $'source 144\nfinished 90\ncondition normal\nx = 748' big 1 1
+
+# Piton by hand: docs/cli.md.
 printf '(piton main 2 3 0 () () (main () () (push-constant (nat 7)) (push-constant (nat 5)) (sub-nat) (ret)))' >less.piton
 printf '()' >none.values
 wants 0 "ok" pcheck less.piton
@@ -44,8 +70,14 @@ wants 5 "unfinished 3" prun less.piton 3
 wants 0 "built 18" pbuild less.piton less.image
 holds less.image 164
 wants 0 "finished 7" run less.image none.values 7
-wants 9 "missing nowhere.gypsy" go nowhere.gypsy examples/nine.values 7 3 28 nowhere.image
-wants 12 "size control 7" go examples/seven.gypsy examples/nine.values 6 3 28 small.image
+
+# Refusals, which store nothing.
+printf '(program main (proc main ((x integer)) () () () (mg-simple-constant-assignment y 7)))' >unknown.gypsy
+wants 2 "refused S14 at 79" go unknown.gypsy none.values 7 3 28 none.image
+wants 9 "missing nowhere.gypsy" go nowhere.gypsy examples/nine.values 7 3 28 none.image
+wants 12 "size control 7" go examples/seven.gypsy examples/nine.values 6 3 28 none.image
+wants 15 "not built" debug gypsy examples/seven.gypsy examples/nine.values 7 3 script
 wants 1 "usage" go
+misses none.image
 [ "$failed" = 0 ] && echo "commands: ok"
 exit "$failed"

@@ -1,5 +1,5 @@
 -- What `mean` tells is what its source means.
-use Rattle.std.proofs.Common.{◌≡◌, ◌≤◌, ℕ, suc, false, List, [], ◌∷◌, ◌++◌, append-nil, Option, Some, None, IfSome, Result, Ok, Err, refl, sym, ap, ◌∙◌, subst, arith}
+use Rattle.std.proofs.Common.{◌≡◌, ◌≤◌, ℕ, zero, suc, false, List, [], ◌∷◌, ◌++◌, append-nil, Option, Some, None, IfSome, Result, Ok, Err, refl, sym, ap, ◌∙◌, subst, arith}
 use Rattle.std.specs.Prelude.{Contains, nat_lt, IsSomeAnd}
 use Rattle.std.proofs.lemmas.Bool.{le-ltb}
 use Rattle.stack_text.specs.Values.{ValueOf}
@@ -12,12 +12,14 @@ use Rattle.gypsy_syntax.specs.Resolved.{program_of}
 use Rattle.gypsy_space.specs.Needs.{Words, stack_words, main_need}
 use Rattle.gypsy_meaning.specs.declared.answers.MeanRun.{MeanRun}
 use Rattle.gypsy_meaning.specs.declared.answers.MeanRun.TheVariants as run
+use Rattle.gypsy_meaning.specs.declared.answers.Moved.{Moved}
+use Rattle.gypsy_meaning.specs.declared.answers.Moved.TheVariants as moved
 use Rattle.gypsy_meaning.specs.Agreed.{MeansEnd, EndAgrees, RunAgrees}
 use Rattle.gypsy_meaning.specs.Belongs.{Suffices}
 use Rattle.gypsy_meaning.specs.Calls.{Way}
 use Rattle.gypsy_meaning.specs.Counted.{instruction_count}
 use Rattle.gypsy_meaning.specs.Meaning.{Done as MeaningDone, meaning}
-use Rattle.gypsy_meaning.specs.Seen.{Seen, Ran, Stage, Running, Finished, IsOfRun, IsEnd, opening, run_of, values_at}
+use Rattle.gypsy_meaning.specs.Seen.{Seen, Ran, Stage, Running, Finished, IsOfRun, IsEnd, answer_from, answer_of, end_by, left_from, left_of, opening, ran_on, run_of, values_at}
 use Rattle.gypsy_meaning.specs.Shown.{condition_at, names_at}
 use Rattle.gypsy_meaning.proofs.ReachLaws.{opening_reached, completes}
 use Rattle.gypsy_meaning.proofs.RunLaws.{run_agrees}
@@ -92,6 +94,25 @@ end_told source sizes values finals way limit a w ended stage means same =
           λ i. said_text (steps i) (counted i) (condition_at source (stage i)) (names_at source (stage i)) (values_at (stage i)));
     }
 
+-- a run that ends within so many steps ends so within more
+module _ (x : List ValueOf) (c : Way) where
+  go_further : (m : Moved) (v : Seen) (k limit : ℕ) → ((w : Seen) → IsEnd (run_of k w) x c → IsEnd (run_of limit w) x c) → IsEnd (ran_on m v (run_of k)) x c
+      → IsEnd (ran_on m v (run_of limit)) x c
+  go_further moved.Moved v k limit rest ends = rest v ends
+  go_further moved.Ended v k limit rest ends = ends
+  go_further (moved.NoRoom place) v k limit rest ends = ends
+
+  over_already : (limit : ℕ) (v : Seen) (s : Stage) → IsEnd (record { run = end_by s; seen = v }) x c → IsEnd (ran_on (answer_from v s) (left_from v s) (run_of limit)) x c
+  over_already limit v (Running g) ends = absurd (let never : run.Spent ≡ run.Ended = ends.run in cc)
+  over_already limit v (Finished y d) ends = ends
+
+  longer : (k limit : ℕ) (v : Seen) → k ≤ limit → IsEnd (run_of k v) x c → IsEnd (run_of limit v) x c
+  unfolding run_of answer_of left_of
+  longer zero zero v le ends = ends
+  longer zero (suc limit) v le ends = over_already limit v v.stage ends
+  longer (suc k) zero v le ends = absurd (omega (arith, le))
+  longer (suc k) (suc limit) v le ends = go_further (answer_of v) (left_of v) k limit (λ w. longer k limit w (omega (arith, le))) ends
+
 module _ (source : SourceOf) (sizes : Words) (values : List ValueOf) (limit : ℕ) where
   start : Seen
   start = opening (program_of source) sizes values
@@ -124,19 +145,24 @@ module _ (source : SourceOf) (sizes : Words) (values : List ValueOf) (limit : �
       let means : EndAgrees w (Finished x c) = subst (λ (s : Stage). EndAgrees w s) stage at_end in
       end_told source sizes values x c limit a w ended stage means same
 
-  run_whole : (bound : ℕ) (x : List ValueOf) (c : Way) → meaning (program_of source) sizes values bound ≡ MeaningDone x c
-      → (enough : ℕ) × (enough ≤ limit → Told source sizes values x c (mean_run_reply source sizes values limit))
+  -- a run that ends within the limit is told
+  run_within : (k : ℕ) (x : List ValueOf) (c : Way) → k ≤ limit → IsEnd (run_of k (opening (program_of source) sizes values)) x c
+      → Told source sizes values x c (mean_run_reply source sizes values limit)
   unfolding mean_run_reply
-  run_whole bound x c done =
+  run_within k x c le ends =
       let from : Seen = opening (program_of source) sizes values in
-      let reached = opening_reached (program_of source) sizes values in
-      let found = completes x c from bound reached done in (
-        found.0,
-        λ le.
-            let r : Ran = run_of limit from in
-            let end : IsEnd r x c = found.1 limit le in
-            ended_told r.run r.seen x c end.run end.stage (run_agrees limit from reached) (run_same limit from),
-      )
+      let r : Ran = run_of limit from in
+      let end : IsEnd r x c = longer x c k limit from le ends in
+      ended_told r.run r.seen x c end.run end.stage (run_agrees limit from (opening_reached (program_of source) sizes values)) (run_same limit from)
+
+  -- a meaning that is done is that of a run that ends
+  run_ends : (bound : ℕ) (x : List ValueOf) (c : Way) → meaning (program_of source) sizes values bound ≡ MeaningDone x c
+      → (k : ℕ) × IsEnd (run_of k (opening (program_of source) sizes values)) x c
+  run_ends bound x c done =
+      let from : Seen = opening (program_of source) sizes values in
+      let found = completes x c from bound (opening_reached (program_of source) sizes values) done in
+      let same : found.0 ≤ found.0 = omega arith in
+      (found.0, found.1 found.0 same)
 
   reply_follows : (output : Option (List ℕ × List ℕ)) (reply : ReplyOf) → reply ≡ mean_run_reply source sizes values limit → Follows source sizes values limit (answer_with output reply)
   reply_follows output reply is =
@@ -144,9 +170,8 @@ module _ (source : SourceOf) (sizes : Words) (values : List ValueOf) (limit : �
         told = λ status.
             let found = run_told (done_only _ status) in
             (found.0, found.1, answer_tells source sizes values found.0 found.1 output _ found.2);
-        whole = λ bound x c done.
-            let found = run_whole bound x c done in
-            (found.0, λ le. answer_tells source sizes values x c output _ (found.1 le));
+        within = λ k x c le ends. answer_tells source sizes values x c output _ (run_within k x c le ends);
+        ends = run_ends;
       }
 
 -- 2. The files lead to it.

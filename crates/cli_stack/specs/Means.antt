@@ -10,7 +10,7 @@ use Rattle.gypsy_meaning.specs.Belongs.{Suffices}
 use Rattle.gypsy_meaning.specs.Calls.{Way}
 use Rattle.gypsy_meaning.specs.Counted.{instruction_count}
 use Rattle.gypsy_meaning.specs.Meaning.{Done as MeaningDone, meaning}
-use Rattle.gypsy_meaning.specs.Seen.{Stage, Finished, values_at}
+use Rattle.gypsy_meaning.specs.Seen.{Stage, Finished, IsEnd, opening, run_of, values_at}
 use Rattle.gypsy_meaning.specs.Shown.{condition_at, names_at}
 use Rattle.stack_build.specs.Build.{source_in}
 use Rattle.stack_build.specs.Image.{formal_slots}
@@ -59,11 +59,14 @@ pub record TellsSteps (source : SourceOf) (sizes : Words) (values finals : List 
   pub status : answer.status ≡ Done
   pub text : answer.text ≡ meaning_text source (Finished finals way) steps count
 
--- what is told is a meaning; and where the meaning is done and the limit is large enough, it is told
+-- what is told is a meaning; a run of the source's steps that ends within the limit is told; and where the meaning is done, some run
+-- ends so
 pub record Follows (source : SourceOf) (sizes : Words) (values : List ValueOf) (limit : ℕ) (answer : Answer) : Type 0 where
   pub told : answer.status ≡ Done → (finals : List ValueOf) × (way : Way) × TellsSteps source sizes values finals way answer
-  pub whole : (bound : ℕ) (finals : List ValueOf) (way : Way) → meaning (program_of source) sizes values bound ≡ MeaningDone finals way
-      → (enough : ℕ) × (enough ≤ limit → TellsSteps source sizes values finals way answer)
+  pub within : (k : ℕ) (finals : List ValueOf) (way : Way) → k ≤ limit
+      → IsEnd (run_of k (opening (program_of source) sizes values)) finals way → TellsSteps source sizes values finals way answer
+  pub ends : (bound : ℕ) (finals : List ValueOf) (way : Way) → meaning (program_of source) sizes values bound ≡ MeaningDone finals way
+      → (k : ℕ) × IsEnd (run_of k (opening (program_of source) sizes values)) finals way
 
 -- where the files are there, the source is accepted, the stacks are large enough for main itself, and the values fit
 abbrev pub FollowsFiles : FollowOf → Files → Answer → Type 0

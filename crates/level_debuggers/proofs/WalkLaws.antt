@@ -1,6 +1,5 @@
 -- Steps that a session makes one after the other are one walk.
-use Rattle.std.proofs.Common.{◌≡◌, ◌+◌, ◌^◌, ◌<◌, ◌≤◌, ◌==◌, ℕ, zero, suc, Bool, true, false, cond, List, [], ◌∷◌, ◌++◌, length, map, refl, sym, ap, ◌∙◌, add-one, arith, length-append, inl, inr}
-use Rattle.std.proofs.lemmas.Bool.{eq-eqb}
+use Rattle.std.proofs.Common.{◌≡◌, ◌+◌, ◌^◌, ◌<◌, ◌≤◌, ◌==◌, ℕ, zero, suc, Bool, false, cond, List, [], ◌∷◌, ◌++◌, length, map, refl, sym, ap, ◌∙◌, add-one, arith, length-append, inl, inr}
 use Rattle.std.proofs.lemmas.Bool.Decides.{eqb_tells}
 use Rattle.std.proofs.lemmas.List.Sums.{fold-append}
 use Rattle.level_debuggers.specs.declared.watch.Event.{Event}
@@ -10,7 +9,7 @@ use Rattle.level_debuggers.specs.declared.advance.Advance.TheVariants as advance
 use Rattle.level_debuggers.specs.declared.session.SessionRun.{SessionRun}
 use Rattle.level_debuggers.specs.declared.session.SessionRun.TheVariants as run
 use Rattle.level_debuggers.specs.Levels.{LevelOf, next_of}
-use Rattle.level_debuggers.specs.Steps.{Next, Over, Stops, Makes, IsAdvance, is_over}
+use Rattle.level_debuggers.specs.Steps.{Next, Over, Stops, Makes, IsAdvance}
 use Rattle.level_debuggers.specs.Tallies.{Watching, tally_step, noted, told, saturated}
 use Rattle.level_debuggers.specs.Walks.{Walk, with_event, walk_on, walk, SessionOf, after_event, after_walk, refused_after, ends_by, stepped_by, stepped, HasMadeSome}
 
@@ -144,24 +143,6 @@ unfolding IsStop
 refused m n old new stop made lt is =
     answer_at m n old new (Stops stop) made (omega arith) is tt
     ∙ ap (λ (b : Bool). record { run = cond b (run.Moved n) (refused_after new.steps stop); session = new }) (not_same m n (omega arith))
-
--- all steps were made, and the end is not reached
-moved_by : (n : ℕ) (steps : ℕ) (next : Next LevelOf) → is_over next ≡ false → ends_by n n steps next ≡ run.Moved n
-moved_by n steps Over going = absurd cc
-moved_by n steps (Stops stop) going = ap (λ (b : Bool). cond b (run.Moved n) (refused_after steps stop)) (eq-eqb n n refl)
-moved_by n steps (Makes event after) going = refl
-
-pub moved : (n : ℕ) (old new : SessionOf) → Made n old new → is_over (next_of new.level) ≡ false
-    → stepped n old ≡ record { run = run.Moved n; session = new }
-moved n old new made going =
-    ap (λ (k : ℕ). record { run = ends_by n k (after_walk old (walk n old.level)).steps (next_of (walk n old.level).level); session = after_walk old (walk n old.level) }) made.whole
-    ∙ ap (λ (s : SessionOf). record { run = ends_by n n s.steps (next_of s.level); session = s }) (sym made.comes)
-    ∙ ap (λ (r : SessionRun). record { run = r; session = new }) (moved_by n new.steps (next_of new.level) going)
-
-pub over_is : (next : Next LevelOf) → is_over next ≡ true → next ≡ Over
-over_is Over is = refl
-over_is (Stops stop) is = absurd cc
-over_is (Makes event after) is = absurd cc
 
 -- Of what a session's run has done in a call: the run has come from the session's level to another.
 module _ (m n : ℕ) (old middle : SessionOf) (after : LevelOf) (done : Advance) (made : Made m old middle)
