@@ -1,7 +1,7 @@
 //! Sessions at each level, by the scripts that they are given.
 
 use crate::runners::{Picture, of_image, of_source, of_system};
-use crate::transcript::transcript;
+use crate::transcript::{Lines, transcript};
 use std::process::Abort;
 use std::test::Fail;
 
@@ -24,9 +24,9 @@ const RECURSIVE: &[u8] = b"(program main
 const SOURCES: [(&[u8], &str); 6] = [
     (
         b"attach last\nstep 5\ndetach last",
-        "attached Last\nstepped 2 ended\nlast 48 14\n",
+        "attached last\nstepped 2 ended\nlast 48 14\n",
     ),
-    (b"attach peak\nattach peak", "attached Peak\nnone waits\n"),
+    (b"attach peak\nattach peak", "attached peak\nnone waits 2\n"),
     (
         b"show\nup\nstep 1\nshow",
         "at 48 depth 1\ncondition normal\nx = 0\ntop\nstepped 1\nat 14 depth 1\ncondition normal\nx = 7\n",
@@ -37,9 +37,9 @@ const SOURCES: [(&[u8], &str); 6] = [
     ),
     (
         b"attach count\nattach last\nattach peak\nstep 1\ndetach peak\ndetach count\nstep 1\ndetach last\ndetach last",
-        "attached Count\nattached Last\nattached Peak\nstepped 1\npeak 1\ncount 1\nstepped 1 ended\nlast 48 14\nnone attached\n",
+        "attached count\nattached last\nattached peak\nstepped 1\npeak 1\ncount 1\nstepped 1 ended\nlast 48 14\nnone attached 9\n",
     ),
-    (b"detach count\nup", "none attached\ntop\n"),
+    (b"detach count\nup", "none attached 1\ntop\n"),
 ];
 
 fn sources() -> &'static [(&'static [u8], &'static str)] {
@@ -50,7 +50,7 @@ fn sources() -> &'static [(&'static [u8], &'static str)] {
 fn runs_of_a_source(rt: HostRuntime) -> Result<(), Fail> {
     for (script, wanted) in sources() {
         let runner = of_source(rt.alloc(), ASSIGNS, 0, 100, 100)?;
-        let said = transcript(rt.alloc(), runner, script)?;
+        let said = transcript(rt.alloc(), runner, script, Lines::Each)?;
         assert!(rt; said.as_str() == *wanted, "{said}");
     }
     Ok(())
@@ -60,10 +60,41 @@ fn runs_of_a_source(rt: HostRuntime) -> Result<(), Fail> {
 fn a_call_without_room(rt: HostRuntime) -> Result<(), Fail> {
     let runner = of_source(rt.alloc(), RECURSIVE, 2, 23, 10)?;
     let script = b"attach peak\nattach last\nstep 100\nstep 1\ndetach peak\ndetach last";
-    let said = transcript(rt.alloc(), runner, script)?;
+    let said = transcript(rt.alloc(), runner, script, Lines::Each)?;
     let wanted =
-        "attached Peak\nattached Last\nnoroom 213 8\nnoroom 213 8\npeak 3\nlast 48 134 164 183 213 134 164 183\n";
+        "attached peak\nattached last\nnoroom 213 8\nnoroom 213 8\npeak 3\nlast 48 134 164 183 213 134 164 183\n";
     assert!(rt; said.as_str() == wanted, "{said}");
+    Ok(())
+}
+
+/// Scripts that don't come to their ends, and what is said.
+const REFUSED: [(&[u8], &str); 4] = [
+    (
+        b"attach count\n\nstep 3\nattach count\nshow",
+        "attached count\nstepped 3\nnone waits 4\n",
+    ),
+    (b"step 8\ndetach last\nup", "stepped 8\nnone attached 2\n"),
+    (
+        b"attach last\nstep 9\ndetach last",
+        "attached last\nnoroom 213 8\n",
+    ),
+    (
+        b"attach last\nstep 8\ndetach last\nup\nstep 1\nup",
+        "attached last\nstepped 8\nlast 48 134 164 183 213 134 164 183\ntop\nnoroom 213 8\n",
+    ),
+];
+
+fn refused() -> &'static [(&'static [u8], &'static str)] {
+    &REFUSED
+}
+
+#[test]
+fn a_refusal_ends_a_script(rt: HostRuntime) -> Result<(), Fail> {
+    for (script, wanted) in refused() {
+        let runner = of_source(rt.alloc(), RECURSIVE, 2, 23, 10)?;
+        let said = transcript(rt.alloc(), runner, script, Lines::Whole)?;
+        assert!(rt; said.as_str() == *wanted, "{said}");
+    }
     Ok(())
 }
 
@@ -144,13 +175,13 @@ const SYSTEMS: [(&[u8], Pictured, &[u8], &str); 7] = [
         b"(piton main 2 1 0 () () (main () () (ret)))",
         Pictured::Returns,
         b"show\nup\nattach count\nstep 5\ndetach count\nshow\nup\nstep 1",
-        "at main 0 frames 1\nstack\nno mark\nattached Count\nstepped 1 ended\ncount 1\nhalted\nstack\nstepped 0 ended\n",
+        "at main 0 frames 1\nstack\nno mark\nattached count\nstepped 1 ended\ncount 1\nhalted\nstack\nstepped 0 ended\n",
     ),
     (
         b"(piton main 2 2 0 () () (main () () (push-constant (nat 0)) (sub1-nat) (ret)))",
         Pictured::Returns,
         b"attach last\nstep 5\nshow\ndetach last",
-        "attached Last\nerror range 0 1 1\nat main 1 frames 1\nstack (nat 0)\nlast 0\n",
+        "attached last\nerror range 0 1 1\nat main 1 frames 1\nstack (nat 0)\nlast 0\n",
     ),
     (
         b"(piton main 2 2 0 () () (main () () (push-constant (nat 0)) (add-int) (ret)))",
@@ -168,7 +199,7 @@ const SYSTEMS: [(&[u8], Pictured, &[u8], &str); 7] = [
         b"(piton main 9 2 0 () () (main () () (call p) (ret)) (p () () (no-op) (ret)))",
         Pictured::Returns,
         b"attach peak\nstep 2\nshow\nstep 9\ndetach peak",
-        "attached Peak\nstepped 2\nat p 1 frames 2\nstack\nstepped 2 ended\npeak 2\n",
+        "attached peak\nstepped 2\nat p 1 frames 2\nstack\nstepped 2 ended\npeak 2\n",
     ),
     (
         b"(piton main 2 3 0 ((c-c (nat 2))) ((int -7)) (main () () (ret)))",
@@ -192,7 +223,7 @@ fn systems() -> &'static [(&'static [u8], Pictured, &'static [u8], &'static str)
 fn runs_of_a_system(rt: HostRuntime) -> Result<(), Fail> {
     for (text, picture, script, wanted) in systems() {
         let runner = of_system(rt.alloc(), text, &picture_of(*picture))?;
-        let said = transcript(rt.alloc(), runner, script)?;
+        let said = transcript(rt.alloc(), runner, script, Lines::Each)?;
         assert!(rt; said.as_str() == *wanted, "{said}");
     }
     Ok(())
@@ -203,7 +234,7 @@ const IMAGES: [(Pictured, &[u8], &str); 4] = [
     (
         Pictured::Returns,
         b"attach count\nattach last\nattach peak\nup\nstep 3\nstep 9\ndetach count\ndetach count\ndetach last\ndetach peak\nup",
-        "attached Count\nattached Last\nattached Peak\nno mark\nstepped 3\nstepped 1 ended\ncount 4\nnone attached\nlast 2 3 5 6\npeak 0\n",
+        "attached count\nattached last\nattached peak\nno mark\nstepped 3\nstepped 1 ended\ncount 4\nnone attached 8\nlast 2 3 5 6\npeak 0\n",
     ),
     (
         Pictured::Returns,
@@ -230,7 +261,7 @@ fn images() -> &'static [(Pictured, &'static [u8], &'static str)] {
 fn runs_of_an_image(rt: HostRuntime) -> Result<(), Fail> {
     for (picture, script, wanted) in images() {
         let runner = of_image(rt.alloc(), &picture_of(*picture))?;
-        let said = transcript(rt.alloc(), runner, script)?;
+        let said = transcript(rt.alloc(), runner, script, Lines::Each)?;
         assert!(rt; said.as_str() == *wanted, "{said}");
     }
     Ok(())

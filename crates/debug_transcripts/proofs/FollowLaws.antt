@@ -1,0 +1,45 @@
+-- Scripts that are followed, line by line.
+use Rattle.std.proofs.Common.{◌≡◌, ◌+◌, ◌<◌, ◌≤◌, ℕ, suc, List, [], ◌∷◌, ◌++◌, length, drop, get_or, Option, Some, None, refl, sym, ap, ◌∙◌, arith}
+use Rattle.std.proofs.Math.Seq.{drop-cons}
+use Rattle.std.proofs.lemmas.List.{drop_all}
+use Rattle.debug_script.specs.declared.reading.Line.{Line}
+use Rattle.level_debuggers.specs.Walks.{SessionOf}
+use Rattle.debug_transcripts.specs.declared.end.ScriptEnd.{ScriptEnd}
+use Rattle.debug_transcripts.specs.declared.end.ScriptEnd.TheVariants as end
+use Rattle.debug_transcripts.specs.Transcripts.{Followed, IsSaid, Said, follow_on, followed, said_to}
+
+-- a line after which the script goes on
+went_on : (text new : List ℕ) (line : Line) (lines : List Line) (s t : SessionOf) → IsSaid (said_to line s) text new None t → followed text (line ∷ lines) s ≡ followed new lines t
+unfolding followed
+went_on text new line lines s t h =
+    ap (λ (e : Option ScriptEnd). follow_on text (said_to line s) e (λ text s. followed text lines s)) (sym h.1)
+    ∙ ap (λ (n : List ℕ). followed n lines (said_to line s).session) (sym h.0)
+    ∙ ap (λ (z : SessionOf). followed new lines z) (sym h.2)
+
+-- a line that ends it
+ended : (text new : List ℕ) (line : Line) (lines : List Line) (s t : SessionOf) (e : ScriptEnd) → IsSaid (said_to line s) text new (Some e) t
+    → followed text (line ∷ lines) s ≡ record { text = new; end = e; session = t }
+unfolding followed
+ended text new line lines s t e h =
+    ap (λ (o : Option ScriptEnd). follow_on text (said_to line s) o (λ text s. followed text lines s)) (sym h.1)
+    ∙ (let n = h.0 in let z = h.2 in λ i. record { text = (sym n) i; end = e; session = (sym z) i })
+
+one_dropped : (lines : List Line) (k : ℕ) (d : Line) → k < length lines → drop k lines ≡ get_or lines k d ∷ drop (k + 1) lines
+one_dropped lines k d lt =
+    let next : suc k ≡ k + 1 = omega arith in
+    drop-cons lines k d lt ∙ ap (λ (n : ℕ). get_or lines k d ∷ drop n lines) next
+
+module _ (lines : List Line) (k : ℕ) (text : List ℕ) (s : SessionOf) (all : Followed) where
+  pub next_line : (new : List ℕ) (t : SessionOf) (d : Line) → k < length lines → IsSaid (said_to (get_or lines k d) s) text new None t → followed text (drop k lines) s ≡ all
+      → followed new (drop (k + 1) lines) t ≡ all
+  next_line new t d lt said is =
+      sym (went_on text new (get_or lines k d) (drop (k + 1) lines) s t said) ∙ ap (λ (ls : List Line). followed text ls s) (sym (one_dropped lines k d lt)) ∙ is
+
+  pub last_line : (new : List ℕ) (t : SessionOf) (e : ScriptEnd) (d : Line) → k < length lines → IsSaid (said_to (get_or lines k d) s) text new (Some e) t
+      → followed text (drop k lines) s ≡ all → all ≡ record { text = new; end = e; session = t }
+  last_line new t e d lt said is =
+      sym is ∙ ap (λ (ls : List Line). followed text ls s) (one_dropped lines k d lt) ∙ ended text new (get_or lines k d) (drop (k + 1) lines) s t e said
+
+  pub no_line : length lines ≤ k → followed text (drop k lines) s ≡ all → all ≡ record { text = text; end = end.Done; session = s }
+  unfolding followed
+  no_line le is = sym is ∙ ap (λ (ls : List Line). followed text ls s) (drop_all k lines le)

@@ -1,0 +1,8 @@
+use Rattle.std.proofs.Common.{◌≡◌, ◌++◌, drop}
+use Rattle.debug_transcripts.specs.Transcripts.{places_said}
+use Rattle.debug_transcripts.proofs.tallies.push_places.Given as goal
+
+abbrev pub invariant-loop-place : goal.invariant-loop-place
+invariant-loop-place l =
+    l.text.items ++ places_said (drop l.place-index l.places)
+    ≡ l.initial.text.items ++ places_said l.places

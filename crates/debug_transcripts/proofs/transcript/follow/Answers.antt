@@ -1,0 +1,24 @@
+use Rattle.std.proofs.Common.{arith, sym, ◌∙◌, ap}
+use Rattle.level_debuggers.specs.Sessions.{session_of}
+use Rattle.level_debuggers.specs.Tallies.{watching}
+use Rattle.debug_transcripts.proofs.FollowLaws.{last_line, next_line, no_line}
+use Rattle.debug_transcripts.proofs.transcript.follow.Goals as goal
+
+pub returns-in-Some-clause-followed : goal.returns-in-Some-clause-followed
+returns-in-Some-clause-followed g c =
+    let said = c.in_ok-end.ensures.said in
+    last_line c.args.lines.now c.loop-line.line-index c.loop-line.text.items (session_of (λ w. watching ((goal.Watch-dyn g (w.vtable, w.value)).rule_of w.value) ((goal.Watch-dyn g (w.vtable, w.value)).tally_of w.value)) c.loop-line.session) _ c.push_answer.new.text.items
+    (session_of (λ w. watching ((goal.Watch-dyn g (w.vtable, w.value)).rule_of w.value) ((goal.Watch-dyn g (w.vtable, w.value)).tally_of w.value)) c.push_answer.new.session) c.in-Some.end _ c.loop-line-test.true (said.0, sym c.in-Some.is ∙ said.1, said.2) c.loop-line.invariant.followed
+
+pub loop-line-preserved : goal.loop-line-preserved
+loop-line-preserved g c = record {
+  followed =
+      let said = c.in_ok-end.ensures.said in
+      next_line c.args.lines.now c.loop-line.line-index c.loop-line.text.items (session_of (λ w. watching ((goal.Watch-dyn g (w.vtable, w.value)).rule_of w.value) ((goal.Watch-dyn g (w.vtable, w.value)).tally_of w.value)) c.loop-line.session) _ c.push_answer.new.text.items
+      (session_of (λ w. watching ((goal.Watch-dyn g (w.vtable, w.value)).rule_of w.value) ((goal.Watch-dyn g (w.vtable, w.value)).tally_of w.value)) c.push_answer.new.session) _ c.loop-line-test.true (said.0, sym c.in_default.is ∙ said.1, said.2) c.loop-line.invariant.followed;
+  is = c.push_answer.ensures.is;
+}
+
+pub returns-clause-followed : goal.returns-clause-followed
+returns-clause-followed g c =
+    no_line c.args.lines.now c.loop-line.line-index c.loop-line.text.items (session_of (λ w. watching ((goal.Watch-dyn g (w.vtable, w.value)).rule_of w.value) ((goal.Watch-dyn g (w.vtable, w.value)).tally_of w.value)) c.loop-line.session) _ (omega arith) c.loop-line.invariant.followed

@@ -1,0 +1,15 @@
+use Rattle.std.proofs.Common.{◌≡◌, drop}
+use Rattle.level_debuggers.specs.Sessions.{IsSession, session_of}
+use Rattle.level_debuggers.specs.Tallies.{watching}
+use Rattle.debug_transcripts.specs.Transcripts.{followed}
+use Rattle.debug_transcripts.proofs.transcript.follow.Given as goal
+
+abbrev pub invariant-loop-line : goal.invariant-loop-line
+invariant-loop-line g l = record {
+  followed :
+      followed l.text.items (drop l.line-index l.lines)
+      (session_of (λ w. watching ((goal.Watch-dyn g (w.vtable, w.value)).rule_of w.value) ((goal.Watch-dyn g (w.vtable, w.value)).tally_of w.value)) l.session)
+      ≡ followed l.initial.text.items l.lines
+      (session_of (λ w. watching ((goal.Watch-dyn g (w.vtable, w.value)).rule_of w.value) ((goal.Watch-dyn g (w.vtable, w.value)).tally_of w.value)) l.initial.session);
+  is : IsSession l.session;
+}

@@ -1,0 +1,170 @@
+//! Scripts, line by line.
+
+ghost use Rattle.std.specs.Prelude.{◌≡◌, ◌++◌, IfOk};
+ghost use Rattle.level_debuggers.specs.Sessions.{IsSession, session_of};
+ghost use Rattle.level_debuggers.specs.Tallies.{watching};
+ghost use Rattle.debug_transcripts.specs.Transcripts.{IsSaid, attach_said, attached_word, detach_said, followed, rule_of_word, run_end, run_text, said_to};
+
+use crate::end::ScriptEnd;
+use crate::tallies::push_tally;
+use debug_script::{Command, Line, WatchWord};
+use level_debuggers::{Rule, Session, SessionRun};
+use stack_text::Memory;
+use std::alloc::Global;
+
+/// The rule of a watch that a script names.
+fn rule_of_word(watch: WatchWord) -> Rule
+    ensures { result ≡ rule_of_word watch }
+{
+    match watch {
+        WatchWord::Count => Rule::Count,
+        WatchWord::Last => Rule::Last,
+        WatchWord::Peak => Rule::Peak,
+    }
+}
+
+/// Appends what the end of a call of `step` says; and how the script ends where a step was refused.
+fn push_run(alloc: Global, text: &mut Vec<u8>, run: SessionRun) -> Result<Option<ScriptEnd>, Memory>
+    ensures text { IfOk result (λ end. text.new.items ≡ text.old.items ++ run_text run) }
+    ensures end { IfOk result (λ end. end ≡ run_end run) }
+{
+    let line = match run {
+        SessionRun::Moved { count } => format!(in alloc; "stepped {count}\n")?,
+        SessionRun::Ended { count } => format!(in alloc; "stepped {count} ended\n")?,
+        SessionRun::NoRoom { place, after } => return Ok(Some(ScriptEnd::NoRoom { place, after })),
+        SessionRun::Error {
+            kind,
+            program,
+            place,
+            after,
+        } => {
+            return Ok(Some(ScriptEnd::Error {
+                kind,
+                program,
+                place,
+                after,
+            }));
+        }
+        SessionRun::Outside { address, after } => {
+            return Ok(Some(ScriptEnd::Outside { address, after }));
+        }
+    };
+    text.extend_from_slice(line.as_bytes())?;
+    Ok(None)
+}
+
+/// The line that says that a watch was attached.
+fn attached_line(watch: WatchWord) -> &'static [u8]
+    ensures { result.now ≡ attached_word watch }
+{
+    match watch {
+        WatchWord::Count => b"attached count\n",
+        WatchWord::Last => b"attached last\n",
+        WatchWord::Peak => b"attached peak\n",
+    }
+}
+
+/// Attaches a watch, by the command of a line.
+fn push_attach(
+    session: &mut Session,
+    line: u32,
+    watch: WatchWord,
+    text: &mut Vec<u8>,
+) -> Result<Option<ScriptEnd>, Memory>
+    requires { IsSession session.old }
+    ensures said { IfOk result (λ end.
+        IsSaid (attach_said line watch (session_of (λ w. watching (rule_of (w.vtable, w.value)) (tally_of (w.vtable, w.value))) session.old))
+        text.old.items text.new.items end (session_of (λ w. watching (rule_of (w.vtable, w.value)) (tally_of (w.vtable, w.value))) session.new)) }
+    ensures is { IsSession session.new }
+{
+    match session.attach(rule_of_word(watch)) {
+        Ok(()) => {
+            text.extend_from_slice(attached_line(watch))?;
+            Ok(None)
+        }
+        Err(_absent) => Ok(Some(ScriptEnd::NoneWaits { line })),
+    }
+}
+
+/// Detaches a watch, by the command of a line.
+fn push_detach(
+    alloc: Global,
+    session: &mut Session,
+    line: u32,
+    watch: WatchWord,
+    text: &mut Vec<u8>,
+) -> Result<Option<ScriptEnd>, Memory>
+    requires { IsSession session.old }
+    ensures said { IfOk result (λ end.
+        IsSaid (detach_said line watch (session_of (λ w. watching (rule_of (w.vtable, w.value)) (tally_of (w.vtable, w.value))) session.old))
+        text.old.items text.new.items end (session_of (λ w. watching (rule_of (w.vtable, w.value)) (tally_of (w.vtable, w.value))) session.new)) }
+    ensures is { IsSession session.new }
+{
+    let rule = rule_of_word(watch);
+    match session.detach(rule) {
+        Ok(tally) => {
+            push_tally(alloc, text, rule, &tally)?;
+            Ok(None)
+        }
+        Err(_absent) => Ok(Some(ScriptEnd::NoneAttached { line })),
+    }
+}
+
+/// Carries out the command of a line, and appends what the session says; and how the script ends, where it ends here.
+fn push_answer(
+    alloc: Global,
+    session: &mut Session,
+    line: Line,
+    text: &mut Vec<u8>,
+) -> Result<Option<ScriptEnd>, Memory>
+    requires { IsSession session.old }
+    ensures said { IfOk result (λ end.
+        IsSaid (said_to line (session_of (λ w. watching (rule_of (w.vtable, w.value)) (tally_of (w.vtable, w.value))) session.old))
+        text.old.items text.new.items end (session_of (λ w. watching (rule_of (w.vtable, w.value)) (tally_of (w.vtable, w.value))) session.new)) }
+    ensures is { IsSession session.new }
+{
+    match line.command {
+        Command::Step { count } => {
+            let run = session.step(alloc, count)?;
+            push_run(alloc, text, run)
+        }
+        Command::Show => {
+            text.extend_from_slice(session.show(alloc)?.as_slice())?;
+            Ok(None)
+        }
+        Command::Up => {
+            text.extend_from_slice(session.up(alloc)?.as_slice())?;
+            Ok(None)
+        }
+        Command::Attach { watch } => push_attach(session, line.line, watch, text),
+        Command::Detach { watch } => push_detach(alloc, session, line.line, watch, text),
+    }
+}
+
+/// Carries out a script in a session, line by line, and appends what the session says. A step that is refused ends the
+/// script, and so does a watch that isn't there.
+///
+/// The only error is out of memory.
+pub fn follow(
+    alloc: Global,
+    session: &mut Session,
+    lines: &[Line],
+    text: &mut Vec<u8>,
+) -> Result<ScriptEnd, Memory>
+    requires { IsSession session.old }
+    ensures followed { IfOk result (λ end.
+        followed text.old.items lines.now (session_of (λ w. watching (rule_of (w.vtable, w.value)) (tally_of (w.vtable, w.value))) session.old)
+        ≡ record {
+          text = text.new.items;
+          end = end;
+          session = session_of (λ w. watching (rule_of (w.vtable, w.value)) (tally_of (w.vtable, w.value))) session.new;
+        }) }
+    ensures is { IsSession session.new }
+{
+    for line in lines {
+        if let Some(end) = push_answer(alloc, session, *line, text)? {
+            return Ok(end);
+        }
+    }
+    Ok(ScriptEnd::Done)
+}
