@@ -35,12 +35,7 @@ fn end_text(alloc: Global, end: ScriptEnd) -> Result<String, Fail> {
 }
 
 /// Appends what a session says to lines, and how they end.
-fn say(
-    alloc: Global,
-    session: &mut Session,
-    lines: &[Line],
-    text: &mut Vec<u8>,
-) -> Result<(), Fail>
+fn say(alloc: Global, session: &mut Session, lines: &[Line], text: &mut Vec<u8>) -> Result<(), Fail>
     requires { IsSession session.old }
     ensures { IsSession session.new }
 {

@@ -8,7 +8,10 @@ pub enum ScriptEnd {
     /// All its commands were carried out.
     Done,
     /// The next step is a call without room.
-    NoRoom { place: u32, after: u64 },
+    NoRoom {
+        place: u32,
+        after: u64,
+    },
     /// The next step is an error of Piton's machine.
     Error {
         kind: ErrorKind,
@@ -17,9 +20,16 @@ pub enum ScriptEnd {
         after: u64,
     },
     /// The next step needs an address outside the window.
-    Outside { address: u32, after: u64 },
+    Outside {
+        address: u32,
+        after: u64,
+    },
     /// This line attaches a watch, and none of its rule waits.
-    NoneWaits { line: u32 },
+    NoneWaits {
+        line: u32,
+    },
     /// This line detaches a watch, and none of its rule is attached.
-    NoneAttached { line: u32 },
+    NoneAttached {
+        line: u32,
+    },
 }

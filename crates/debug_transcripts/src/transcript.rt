@@ -73,8 +73,10 @@ fn push_attach(
 ) -> Result<Option<ScriptEnd>, Memory>
     requires { IsSession session.old }
     ensures said { IfOk result (λ end.
-        IsSaid (attach_said line watch (session_of (λ w. watching (rule_of (w.vtable, w.value)) (tally_of (w.vtable, w.value))) session.old))
-        text.old.items text.new.items end (session_of (λ w. watching (rule_of (w.vtable, w.value)) (tally_of (w.vtable, w.value))) session.new)) }
+        IsSaid (attach_said line watch
+        (session_of (λ w. watching (rule_of (w.vtable, w.value)) (tally_of (w.vtable, w.value))) session.old))
+        text.old.items text.new.items end
+        (session_of (λ w. watching (rule_of (w.vtable, w.value)) (tally_of (w.vtable, w.value))) session.new)) }
     ensures is { IsSession session.new }
 {
     match session.attach(rule_of_word(watch)) {
@@ -96,8 +98,10 @@ fn push_detach(
 ) -> Result<Option<ScriptEnd>, Memory>
     requires { IsSession session.old }
     ensures said { IfOk result (λ end.
-        IsSaid (detach_said line watch (session_of (λ w. watching (rule_of (w.vtable, w.value)) (tally_of (w.vtable, w.value))) session.old))
-        text.old.items text.new.items end (session_of (λ w. watching (rule_of (w.vtable, w.value)) (tally_of (w.vtable, w.value))) session.new)) }
+        IsSaid (detach_said line watch
+        (session_of (λ w. watching (rule_of (w.vtable, w.value)) (tally_of (w.vtable, w.value))) session.old))
+        text.old.items text.new.items end
+        (session_of (λ w. watching (rule_of (w.vtable, w.value)) (tally_of (w.vtable, w.value))) session.new)) }
     ensures is { IsSession session.new }
 {
     let rule = rule_of_word(watch);
@@ -119,8 +123,10 @@ fn push_answer(
 ) -> Result<Option<ScriptEnd>, Memory>
     requires { IsSession session.old }
     ensures said { IfOk result (λ end.
-        IsSaid (said_to line (session_of (λ w. watching (rule_of (w.vtable, w.value)) (tally_of (w.vtable, w.value))) session.old))
-        text.old.items text.new.items end (session_of (λ w. watching (rule_of (w.vtable, w.value)) (tally_of (w.vtable, w.value))) session.new)) }
+        IsSaid (said_to line
+        (session_of (λ w. watching (rule_of (w.vtable, w.value)) (tally_of (w.vtable, w.value))) session.old))
+        text.old.items text.new.items end
+        (session_of (λ w. watching (rule_of (w.vtable, w.value)) (tally_of (w.vtable, w.value))) session.new)) }
     ensures is { IsSession session.new }
 {
     match line.command {
@@ -153,11 +159,13 @@ pub fn follow(
 ) -> Result<ScriptEnd, Memory>
     requires { IsSession session.old }
     ensures followed { IfOk result (λ end.
-        followed text.old.items lines.now (session_of (λ w. watching (rule_of (w.vtable, w.value)) (tally_of (w.vtable, w.value))) session.old)
+        followed text.old.items lines.now
+        (session_of (λ w. watching (rule_of (w.vtable, w.value)) (tally_of (w.vtable, w.value))) session.old)
         ≡ record {
           text = text.new.items;
           end = end;
-          session = session_of (λ w. watching (rule_of (w.vtable, w.value)) (tally_of (w.vtable, w.value))) session.new;
+          session =
+              session_of (λ w. watching (rule_of (w.vtable, w.value)) (tally_of (w.vtable, w.value))) session.new;
         }) }
     ensures is { IsSession session.new }
 {
