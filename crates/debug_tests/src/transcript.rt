@@ -4,8 +4,9 @@ ghost use Rattle.level_debuggers.specs.Levels.{IsRunner};
 ghost use Rattle.level_debuggers.specs.Sessions.{IsSession};
 
 use debug_script::{Line, read_script};
-use debug_transcripts::{ScriptEnd, follow};
-use level_debuggers::{CountWatch, LastWatch, PeakWatch, Runner, Session, Watch};
+use level_debuggers::{
+    CountWatch, LastWatch, PeakWatch, Runner, ScriptEnd, Session, Watch, follow,
+};
 use std::alloc::Global;
 use std::test::Fail;
 

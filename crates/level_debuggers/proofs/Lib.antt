@@ -3,3 +3,4 @@ pub mod WalkLaws
 pub mod TakenLaws
 pub mod ElementLaws
 pub mod GypsyLaws
+pub mod FollowLaws

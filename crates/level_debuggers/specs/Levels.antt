@@ -1,5 +1,5 @@
 -- Runs at each level.
-use Rattle.std.specs.Prelude.{ℕ, ◌≤◌, ◌^◌, List}
+use Rattle.std.specs.Prelude.{ℕ, ◌≤◌, ◌^◌, List, Option, Some, None}
 use Rattle.fm_show.specs.Listing.{machine_listing}
 use Rattle.gypsy_syntax.specs.SourceView.{source_of}
 use Rattle.gypsy_meaning.specs.Belongs.{BelongsTo}
@@ -7,6 +7,7 @@ use Rattle.gypsy_meaning.specs.Running.{seen}
 use Rattle.piton_machine.specs.Fits.{system_in}
 use Rattle.piton_machine.specs.Placed.{placed}
 use Rattle.piton_machine.specs.Seen.{IsSeen}
+use Rattle.piton_show.specs.NamedWords.{program_name}
 use Rattle.level_debuggers.specs.declared.runner.Runner.{Runner}
 use Rattle.level_debuggers.specs.declared.runner.Runner.TheVariants as runner
 use Rattle.level_debuggers.specs.Steps.{Next, Over, Stops, Makes}
@@ -45,6 +46,11 @@ abbrev pub next_of : LevelOf → Next LevelOf
 next_of (Gypsy run) = lifted Gypsy (gypsy_next run)
 next_of (Piton run) = lifted Piton (piton_next run)
 next_of (Fm run) = lifted Fm (fm_next run)
+
+-- the name of the program at a position, of a run that has programs
+abbrev pub program_named : LevelOf → ℕ → Option (List ℕ)
+program_named (Piton run) program = Some (program_name run.checked.system program)
+program_named level program = None
 
 -- what is shown of a run, after so many steps of its session
 abbrev pub show_text : LevelOf → ℕ → List ℕ

@@ -10,3 +10,4 @@ pub mod Belonging
 pub mod Walks
 pub mod Taken
 pub mod Sessions
+pub mod Transcripts

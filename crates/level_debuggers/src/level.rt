@@ -5,7 +5,7 @@ use crate::fm_level::FmLevel;
 use crate::gypsy_level::GypsyLevel;
 use crate::piton_level::PitonLevel;
 use crate::runner::Runner;
-use stack_text::Memory;
+use stack_text::{Memory, Name};
 use std::alloc::Global;
 
 /// A run at one of the levels.
@@ -18,7 +18,8 @@ pub(crate) enum Level {
 
 impl Level {
     ghost use Rattle.std.specs.Prelude.{◌≡◌, IfOk, OnErr};
-    ghost use Rattle.level_debuggers.specs.Levels.{IsRunner, level_of, next_of, show_text, up_text};
+    ghost use Rattle.std.specs.Option.{option_map};
+    ghost use Rattle.level_debuggers.specs.Levels.{IsRunner, level_of, next_of, program_named, show_text, up_text};
     ghost use Rattle.level_debuggers.specs.Belonging.{IsLevel, level_seen};
     ghost use Rattle.level_debuggers.specs.Steps.{IsAdvance, is_over};
 
@@ -68,6 +69,16 @@ impl Level {
             Level::Gypsy(level) => level.advance(alloc),
             Level::Piton(level) => Ok(level.advance()),
             Level::Fm(level) => Ok(level.advance()),
+        }
+    }
+
+    /// The name of the program at a position, in a run of Piton's machine.
+    pub(crate) fn program_name(&self, program: u32) -> Option<&Name>
+        ensures { option_map (λ name. name.now) result ≡ program_named (level_seen self.now) program }
+    {
+        match self {
+            Level::Piton(level) => Some(level.program_name(program)),
+            Level::Gypsy(_) | Level::Fm(_) => None,
         }
     }
 

@@ -1,4 +1,4 @@
-//! Debuggers: sessions of runs at the three levels, with watches that are told each step.
+//! Debuggers: sessions of runs at the three levels, with watches that are told each step, and what a session says to a script.
 #![tactic(auto)]
 
 mod advance;
@@ -9,13 +9,18 @@ mod piton_level;
 mod piton_listing;
 mod piton_reading;
 mod runner;
+mod script_end;
 mod seats;
 mod session;
+mod tally_lines;
 mod texts;
+mod transcript;
 mod watch;
 mod watches;
 
 pub use runner::Runner;
+pub use script_end::ScriptEnd;
 pub use session::{Absent, Session, SessionRun};
+pub use transcript::follow;
 pub use watch::{Event, Rule, Tally, Watch};
 pub use watches::{CountWatch, LastWatch, PeakWatch};

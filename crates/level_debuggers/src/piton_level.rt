@@ -10,7 +10,8 @@ use fm_image::Image;
 use piton_check::Checked;
 use piton_linker::{layout, word_numbers};
 use piton_machine::{State, Stepped};
-use stack_text::Memory;
+use piton_show::program_name;
+use stack_text::{Memory, Name};
 use std::alloc::Global;
 use std::marker::Model;
 
@@ -43,6 +44,7 @@ impl PitonLevel {
     ghost use Rattle.piton_machine.specs.Fits.{system_in};
     ghost use Rattle.piton_machine.specs.Seen.{IsSeen};
     ghost use Rattle.piton_machine.specs.Placed.{placed, addresses_of};
+    ghost use Rattle.piton_show.specs.NamedWords.{program_name};
     ghost use Rattle.level_debuggers.specs.Steps.{IsAdvance};
     ghost use Rattle.level_debuggers.specs.PitonLevels.{piton_listing, piton_next, piton_over};
     ghost use Rattle.level_debuggers.specs.PitonReadings.{element_numbers, is_readable, piton_reading_of, piton_up};
@@ -88,6 +90,13 @@ impl PitonLevel {
                 cost: self.state.counted().saturating_sub(before),
             }),
         }
+    }
+
+    /// The name of the program at a position.
+    pub(crate) fn program_name(&self, program: u32) -> &Name
+        ensures { result.now ≡ program_name self.now.checked.system program }
+    {
+        program_name(self.checked.system(), program)
     }
 
     /// The place, the locals of the newest frame, and the stack, as lines.

@@ -8,7 +8,7 @@ use crate::runner::Runner;
 use crate::seats::{note_all, take_first};
 use crate::watch::{Event, Rule, Tally, Watch};
 use piton_machine::ErrorKind;
-use stack_text::Memory;
+use stack_text::{Memory, Name};
 use std::alloc::Global;
 use thiserror::Error;
 
@@ -60,7 +60,8 @@ pub struct Session {
 
 impl Session {
     ghost use Rattle.std.specs.Prelude.{◌≡◌, [], map, IfOk, OnOk, OnErr, Some, None};
-    ghost use Rattle.level_debuggers.specs.Levels.{IsRunner, level_of, show_text, up_text};
+    ghost use Rattle.std.specs.Option.{option_map};
+    ghost use Rattle.level_debuggers.specs.Levels.{IsRunner, level_of, program_named, show_text, up_text};
     ghost use Rattle.level_debuggers.specs.Tallies.{noted, watching};
     ghost use Rattle.level_debuggers.specs.Walks.{after_event, stepped, HasMadeSome};
     ghost use Rattle.level_debuggers.specs.Taken.{attached_by, detached_by};
@@ -172,6 +173,15 @@ impl Session {
         } else {
             Ok(SessionRun::Moved { count: n })
         }
+    }
+
+    /// The name of the program at a position, in a run of Piton's machine; where there is none there, that of the main program.
+    /// `None` exactly at the other levels, where runs have no programs.
+    pub fn program_name(&self, program: u32) -> Option<&Name>
+        ensures { let session = session_of (λ w. watching (rule_of w) (tally_of w)) self.now in
+            option_map (λ name. name.now) result ≡ program_named session.level program }
+    {
+        self.level.program_name(program)
     }
 
     /// What the run shows, as lines. At the level of Micro-Gypsy: the place and the number of activations, or `ended`; the

@@ -1,8 +1,8 @@
 use Rattle.std.proofs.Common.{◌≡◌, drop}
 use Rattle.level_debuggers.specs.Sessions.{IsSession, session_of}
 use Rattle.level_debuggers.specs.Tallies.{watching}
-use Rattle.debug_transcripts.specs.Transcripts.{followed}
-use Rattle.debug_transcripts.proofs.transcript.follow.Given as goal
+use Rattle.level_debuggers.specs.Transcripts.{followed}
+use Rattle.level_debuggers.proofs.transcript.follow.Given as goal
 
 abbrev pub invariant-loop-line : goal.invariant-loop-line
 invariant-loop-line g l = record {

@@ -1,8 +1,8 @@
-use Rattle.std.proofs.Common.{arith, sym, ◌∙◌, ap}
+use Rattle.std.proofs.Common.{arith, sym, ◌∙◌}
 use Rattle.level_debuggers.specs.Sessions.{session_of}
 use Rattle.level_debuggers.specs.Tallies.{watching}
-use Rattle.debug_transcripts.proofs.FollowLaws.{last_line, next_line, no_line}
-use Rattle.debug_transcripts.proofs.transcript.follow.Goals as goal
+use Rattle.level_debuggers.proofs.FollowLaws.{last_line, next_line, no_line}
+use Rattle.level_debuggers.proofs.transcript.follow.Goals as goal
 
 pub returns-in-Some-clause-followed : goal.returns-in-Some-clause-followed
 returns-in-Some-clause-followed g c =

@@ -1,6 +1,6 @@
 use Rattle.std.proofs.Common.{◌≡◌, ◌++◌, drop}
-use Rattle.debug_transcripts.specs.Transcripts.{places_said}
-use Rattle.debug_transcripts.proofs.tallies.push_places.Given as goal
+use Rattle.level_debuggers.specs.Transcripts.{places_said}
+use Rattle.level_debuggers.proofs.tally_lines.push_places.Given as goal
 
 abbrev pub invariant-loop-place : goal.invariant-loop-place
 invariant-loop-place l =

@@ -1,12 +1,12 @@
 -- Scripts that are followed, line by line.
-use Rattle.std.proofs.Common.{◌≡◌, ◌+◌, ◌<◌, ◌≤◌, ℕ, suc, List, [], ◌∷◌, ◌++◌, length, drop, get_or, Option, Some, None, refl, sym, ap, ◌∙◌, arith}
+use Rattle.std.proofs.Common.{◌≡◌, ◌+◌, ◌<◌, ◌≤◌, ℕ, suc, List, ◌∷◌, length, drop, get_or, Option, Some, None, sym, ap, ◌∙◌, arith}
 use Rattle.std.proofs.Math.Seq.{drop-cons}
 use Rattle.std.proofs.lemmas.List.{drop_all}
 use Rattle.debug_script.specs.declared.reading.Line.{Line}
 use Rattle.level_debuggers.specs.Walks.{SessionOf}
-use Rattle.debug_transcripts.specs.declared.end.ScriptEnd.{ScriptEnd}
-use Rattle.debug_transcripts.specs.declared.end.ScriptEnd.TheVariants as end
-use Rattle.debug_transcripts.specs.Transcripts.{Followed, IsSaid, Said, follow_on, followed, said_to}
+use Rattle.level_debuggers.specs.declared.script_end.ScriptEnd.{ScriptEnd}
+use Rattle.level_debuggers.specs.declared.script_end.ScriptEnd.TheVariants as end
+use Rattle.level_debuggers.specs.Transcripts.{Followed, IsSaid, follow_on, followed, said_to}
 
 -- a line after which the script goes on
 went_on : (text new : List ℕ) (line : Line) (lines : List Line) (s t : SessionOf) → IsSaid (said_to line s) text new None t → followed text (line ∷ lines) s ≡ followed new lines t

@@ -1,9 +1,9 @@
 //! Tallies as lines.
 
 ghost use Rattle.std.specs.Prelude.{◌≡◌, ◌++◌, OnOk};
-ghost use Rattle.debug_transcripts.specs.Transcripts.{last_said, places_said, tally_said};
+ghost use Rattle.level_debuggers.specs.Transcripts.{last_said, places_said, tally_said};
 
-use level_debuggers::{Rule, Tally};
+use crate::watch::{Rule, Tally};
 use stack_text::Memory;
 use std::alloc::Global;
 

@@ -15,8 +15,8 @@ use Rattle.level_debuggers.specs.declared.watch.Tally.{Tally}
 use Rattle.level_debuggers.specs.Levels.{show_text, up_text}
 use Rattle.level_debuggers.specs.Taken.{attached_by, detached_by}
 use Rattle.level_debuggers.specs.Walks.{SessionOf, Stepped, stepped}
-use Rattle.debug_transcripts.specs.declared.end.ScriptEnd.{ScriptEnd}
-use Rattle.debug_transcripts.specs.declared.end.ScriptEnd.TheVariants as end
+use Rattle.level_debuggers.specs.declared.script_end.ScriptEnd.{ScriptEnd}
+use Rattle.level_debuggers.specs.declared.script_end.ScriptEnd.TheVariants as end
 
 -- what is said, how the script ends where it ends here, and the session that is left
 pub record Said : Type 0 where

@@ -3,12 +3,13 @@
 ghost use Rattle.std.specs.Prelude.{◌≡◌, ◌++◌, IfOk};
 ghost use Rattle.level_debuggers.specs.Sessions.{IsSession, session_of};
 ghost use Rattle.level_debuggers.specs.Tallies.{watching};
-ghost use Rattle.debug_transcripts.specs.Transcripts.{IsSaid, attach_said, attached_word, detach_said, followed, rule_of_word, run_end, run_text, said_to};
+ghost use Rattle.level_debuggers.specs.Transcripts.{IsSaid, attach_said, attached_word, detach_said, followed, rule_of_word, run_end, run_text, said_to};
 
-use crate::end::ScriptEnd;
-use crate::tallies::push_tally;
+use crate::script_end::ScriptEnd;
+use crate::session::{Session, SessionRun};
+use crate::tally_lines::push_tally;
+use crate::watch::Rule;
 use debug_script::{Command, Line, WatchWord};
-use level_debuggers::{Rule, Session, SessionRun};
 use stack_text::Memory;
 use std::alloc::Global;
 
@@ -74,9 +75,9 @@ fn push_attach(
     requires { IsSession session.old }
     ensures said { IfOk result (λ end.
         IsSaid (attach_said line watch
-        (session_of (λ w. watching (rule_of (w.vtable, w.value)) (tally_of (w.vtable, w.value))) session.old))
+        (session_of (λ w. watching (rule_of w) (tally_of w)) session.old))
         text.old.items text.new.items end
-        (session_of (λ w. watching (rule_of (w.vtable, w.value)) (tally_of (w.vtable, w.value))) session.new)) }
+        (session_of (λ w. watching (rule_of w) (tally_of w)) session.new)) }
     ensures is { IsSession session.new }
 {
     match session.attach(rule_of_word(watch)) {
@@ -99,9 +100,9 @@ fn push_detach(
     requires { IsSession session.old }
     ensures said { IfOk result (λ end.
         IsSaid (detach_said line watch
-        (session_of (λ w. watching (rule_of (w.vtable, w.value)) (tally_of (w.vtable, w.value))) session.old))
+        (session_of (λ w. watching (rule_of w) (tally_of w)) session.old))
         text.old.items text.new.items end
-        (session_of (λ w. watching (rule_of (w.vtable, w.value)) (tally_of (w.vtable, w.value))) session.new)) }
+        (session_of (λ w. watching (rule_of w) (tally_of w)) session.new)) }
     ensures is { IsSession session.new }
 {
     let rule = rule_of_word(watch);
@@ -124,9 +125,9 @@ fn push_answer(
     requires { IsSession session.old }
     ensures said { IfOk result (λ end.
         IsSaid (said_to line
-        (session_of (λ w. watching (rule_of (w.vtable, w.value)) (tally_of (w.vtable, w.value))) session.old))
+        (session_of (λ w. watching (rule_of w) (tally_of w)) session.old))
         text.old.items text.new.items end
-        (session_of (λ w. watching (rule_of (w.vtable, w.value)) (tally_of (w.vtable, w.value))) session.new)) }
+        (session_of (λ w. watching (rule_of w) (tally_of w)) session.new)) }
     ensures is { IsSession session.new }
 {
     match line.command {
@@ -160,12 +161,12 @@ pub fn follow(
     requires { IsSession session.old }
     ensures followed { IfOk result (λ end.
         followed text.old.items lines.now
-        (session_of (λ w. watching (rule_of (w.vtable, w.value)) (tally_of (w.vtable, w.value))) session.old)
+        (session_of (λ w. watching (rule_of w) (tally_of w)) session.old)
         ≡ record {
           text = text.new.items;
           end = end;
           session =
-              session_of (λ w. watching (rule_of (w.vtable, w.value)) (tally_of (w.vtable, w.value))) session.new;
+              session_of (λ w. watching (rule_of w) (tally_of w)) session.new;
         }) }
     ensures is { IsSession session.new }
 {
