@@ -19,3 +19,4 @@ pub mod BuildLaws
 pub mod KnownLaws
 pub mod TakesLaws
 pub mod BuildsLaws
+pub mod StartLaws

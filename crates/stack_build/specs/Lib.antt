@@ -4,5 +4,6 @@ pub mod Implements
 pub mod Image
 pub mod Build
 pub mod Joined
+pub mod Starts
 -- what private functions say
 pub mod Showing

@@ -66,6 +66,7 @@ pub fn build_accepted(
     requires { base ≤ 2 ^ 31 }
     ensures value { Gives (λ built. built) result (source_built (source_of accepted.now) (stack_words temp ctrl) base) }
     ensures implements { IfOk result (Builds (source_of accepted.now) (stack_words temp ctrl)) }
+    ensures accepted { IfOk result (λ _. IsAccepted (source_of accepted.now)) }
 {
     let source = accepted.source();
     let needs = needs(alloc, accepted)?;

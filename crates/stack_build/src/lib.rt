@@ -1,17 +1,25 @@
 //! From the source of a program to its image.
 //!
 //! `build` reads and checks a source, generates its Piton system, links that, and writes the image file. Its contract
-//! says that the image does what the source means: on all values, with the exact number of instructions.
+//! says that the image does what the source means: on all values, with the exact number of instructions. `start_meaning`,
+//! `start_system` and `start_image` say where runs of a source on values begin.
 #![tactic(auto)]
 
 mod building;
+mod built_starts;
 mod fault;
 mod formals;
 mod imaging;
 mod law;
+mod meaning_starts;
 mod shown;
+mod start_fault;
+mod value_words;
 
 pub use building::{Built, accept, build, build_accepted, compile};
+pub use built_starts::{ImageStart, SystemStart, start_image, start_system};
 pub use fault::BuildFault;
 pub use formals::read_formals;
 pub use law::{builds_implement, images_implement};
+pub use meaning_starts::start_meaning;
+pub use start_fault::StartFault;

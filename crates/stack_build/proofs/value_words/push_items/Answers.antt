@@ -1,0 +1,15 @@
+use Rattle.std.proofs.Common.{◌≡◌, ◌++◌, [], ◌∷◌, List, get_or, map, refl, rules}
+use Rattle.std.specs.Prelude.{ℤ, pos}
+use Rattle.gypsy_predef.specs.Runs.{word_of_item}
+use Rattle.gypsy_codegen.proofs.WriteLaws.{more_next, item_is}
+use Rattle.stack_build.proofs.value_words.push_items.Goals as goal
+
+pub loop-item-preserved : goal.loop-item-preserved
+loop-item-preserved c =
+    let items = c.args.items.now in
+    let k = c.loop-item.item-index in
+    let z : ℤ = get_or items k (pos 0) in
+    let word = word_of_item c.args.kind z in
+    let pushed : c.push.new.self.items ≡ c.loop-item.words.items ++ word ∷ [] = search rules in
+    more_next (λ (zs : List ℤ). map (word_of_item c.args.kind) zs) items k z (word ∷ []) c.loop-item.words.items c.push.new.self.items _
+    c.loop-item-test.true (item_is items k (pos 0) z c.loop-item-test.true) refl pushed c.loop-item.invariant
