@@ -1,5 +1,5 @@
 #!/usr/bin/env bash
-# The commands that README.md, docs/WALK.md and docs/cli.md show, run in a folder of their own: what they print, their statuses, and
+# The commands that README.md, docs/WALK.md, docs/cli.md and docs/debug.md show, run in a folder of their own: what they print, their statuses, and
 # the images' sizes.
 set -u
 top=$(cd "$(dirname "${BASH_SOURCE[0]}")/../.." && pwd)
@@ -71,12 +71,23 @@ wants 0 "built 18" pbuild less.piton less.image
 holds less.image 164
 wants 0 "finished 7" run less.image none.values 7
 
+# A session at each level: docs/debug.md.
+session() { echo "debug $1 examples/seven.gypsy examples/nine.values 7 3 examples/steps.script"; }
+attached=$'attached last\nattached peak'
+read_up=$'condition normal\nx = 7'
+zeros=$(for r in 4 5 6 7 8 9 10 11 12 13 14; do echo "r$r 00000000"; done)
+wants 0 "$attached"$'\nstepped 2 ended\nended\n'"$read_up"$'\nstepped 0 ended\ntop\nlast 48 14\npeak 1' $(session gypsy)
+wants 0 "$attached"$'\nstepped 5\nat mg-simple-constant-assignment 2 frames 2\nd = (nat 0)\nv = (int 7)\nstack (int 9) (int 7) (nat 0)\nstepped 4 ended\n'"$read_up"$'\nlast 1 2 0 1 2 3 3 6\npeak 2' $(session piton)
+wants 0 "$attached"$'\nstepped 5\ncount 5\nr0 0000026f\nr1 0000026e\nr2 00000272\nr3 0000026f\n'"$zeros"$'\nr15 0000000c\nflags ----\nstepped 23 ended\n'"$read_up"$'\nlast 68 70 71 14 21 22 24 25\npeak 3' $(session fm9001)
+printf 'attach count\nstep 28\ndetach count\ndetach count' >twice.script
+wants 13 $'attached count\nstepped 28 ended\ncount 28\nscript D5 at line 4' debug fm9001 examples/seven.gypsy examples/nine.values 7 3 twice.script
+
 # Refusals, which store nothing.
 printf '(program main (proc main ((x integer)) () () () (mg-simple-constant-assignment y 7)))' >unknown.gypsy
 wants 2 "refused S14 at 79" go unknown.gypsy none.values 7 3 28 none.image
 wants 9 "missing nowhere.gypsy" go nowhere.gypsy examples/nine.values 7 3 28 none.image
 wants 12 "size control 7" go examples/seven.gypsy examples/nine.values 6 3 28 none.image
-wants 15 "not built" debug gypsy examples/seven.gypsy examples/nine.values 7 3 script
+wants 9 "missing nowhere.script" debug gypsy examples/seven.gypsy examples/nine.values 7 3 nowhere.script
 wants 1 "usage" go
 misses none.image
 [ "$failed" = 0 ] && echo "commands: ok"

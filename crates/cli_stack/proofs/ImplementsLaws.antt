@@ -1,10 +1,11 @@
 -- What a command stores does as its source means.
-use Rattle.std.proofs.Common.{◌≡◌, ◌≤◌, ℕ, zero, suc, Bool, true, false, List, [], ◌∷◌, Option, Some, None, IfSome, Result, Ok, Err, IfOk, length, refl, sym, ap, ◌∙◌, subst, arith}
+use Rattle.std.proofs.Common.{◌≡◌, ◌≤◌, ℕ, zero, suc, List, [], ◌∷◌, Option, Some, None, IfSome, Result, Ok, Err, IfOk, length, refl, ap, subst, arith}
 use Rattle.std.specs.Prelude.{◌^◌, Contains}
 use Rattle.stack_text.specs.Results.{◌>>=◌}
 use Rattle.stack_shelf.specs.Files.{Files, file_at}
-use Rattle.stack_shelf.specs.Shelf.{Refusal, Missing, TooLong, fetched, within}
+use Rattle.stack_shelf.specs.Shelf.{fetched}
 use Rattle.gypsy_space.specs.Needs.{stack_words}
+use Rattle.level_debuggers.specs.Tallies.{Watching}
 use Rattle.stack_build.specs.declared.fault.BuildFault.{BuildFault}
 use Rattle.stack_build.specs.Build.{BuiltOf, built, BuildsText}
 use Rattle.stack_build.specs.Joined.{BuiltImplements}
@@ -15,9 +16,9 @@ use Rattle.cli_stack.specs.declared.driver.early_end.EarlyEnd.{EarlyEnd}
 use Rattle.cli_stack.specs.declared.role.Role.{Role}
 use Rattle.cli_stack.specs.declared.role.Role.TheVariants.{Source, Piton, Values, Image}
 use Rattle.cli_stack.specs.Roles.{limit_of}
-use Rattle.cli_stack.specs.Answer.{Texts, text_of, Answer, early_answer, text_or_end, gathered, set_file, inputs_of, output_of, stored_by, reply_by, answer_on, answer_to, answer_by}
+use Rattle.cli_stack.specs.Answer.{text_or_end, set_file, inputs_of, output_of, stored_by, answer_on, answer_to, answer_by}
 use Rattle.cli_stack.specs.Build.{image_stored}
-use Rattle.cli_stack.specs.Correct.{ReadsFile, StoresFile, HoldsImplementation, StoresImplementation, Implements}
+use Rattle.cli_stack.specs.Correct.{HoldsImplementation, StoresImplementation, Implements}
 
 -- a source's text is short enough to be read
 is_readable : (text : List ℕ) → length text ≤ 1048576 → length text ≤ 2 ^ 31
@@ -40,24 +41,24 @@ module _ (files : Files) (source text : List ℕ) (control temporary : ℕ) (sto
         implements = builds.builds.implements;
       })
 
-go_holds : BuiltImplements → (files : Files) (source values image : List ℕ) (control temporary budget : ℕ) (first second : Result (List ℕ) EarlyEnd) (stored bytes : List ℕ)
+go_holds : BuiltImplements → (watches : List Watching) (files : Files) (source values image : List ℕ) (control temporary budget : ℕ) (first second : Result (List ℕ) EarlyEnd) (stored bytes : List ℕ)
     → text_or_end (Source, source) (fetched files source (limit_of Source)) ≡ first
-    → (answer_on (command.Go source values control temporary budget image) (first >>= λ text. (second >>= λ other. Ok ((Values, other) ∷ [])) >>= λ texts. Ok ((Source, text) ∷ texts))).output ≡ Some (stored, bytes)
+    → (answer_on (command.Go source values control temporary budget image) watches (first >>= λ text. (second >>= λ other. Ok ((Values, other) ∷ [])) >>= λ texts. Ok ((Source, text) ∷ texts))).output ≡ Some (stored, bytes)
     → HoldsImplementation files source (stack_words temporary control) bytes
 unfolding output_of stored_by
-go_holds laws files source values image control temporary budget (Err early) second stored bytes got sets = cc
-go_holds laws files source values image control temporary budget (Ok text) (Err early) stored bytes got sets = cc
-go_holds laws files source values image control temporary budget (Ok text) (Ok other) stored bytes got sets =
+go_holds laws watches files source values image control temporary budget (Err early) second stored bytes got sets = cc
+go_holds laws watches files source values image control temporary budget (Ok text) (Err early) stored bytes got sets = cc
+go_holds laws watches files source values image control temporary budget (Ok text) (Ok other) stored bytes got sets =
     let file = was_short files (Source, source) text got in
     built_holds files source text control temporary stored bytes file.0 (built text control temporary 0) (laws text control temporary 0 (is_readable text file.1) (omega arith)) (Image, image) sets
 
-build_holds : BuiltImplements → (files : Files) (source image : List ℕ) (control temporary : ℕ) (first : Result (List ℕ) EarlyEnd) (stored bytes : List ℕ)
+build_holds : BuiltImplements → (watches : List Watching) (files : Files) (source image : List ℕ) (control temporary : ℕ) (first : Result (List ℕ) EarlyEnd) (stored bytes : List ℕ)
     → text_or_end (Source, source) (fetched files source (limit_of Source)) ≡ first
-    → (answer_on (command.Build source control temporary image) (first >>= λ text. Ok ((Source, text) ∷ []))).output ≡ Some (stored, bytes)
+    → (answer_on (command.Build source control temporary image) watches (first >>= λ text. Ok ((Source, text) ∷ []))).output ≡ Some (stored, bytes)
     → HoldsImplementation files source (stack_words temporary control) bytes
 unfolding output_of stored_by
-build_holds laws files source image control temporary (Err early) stored bytes got sets = cc
-build_holds laws files source image control temporary (Ok text) stored bytes got sets =
+build_holds laws watches files source image control temporary (Err early) stored bytes got sets = cc
+build_holds laws watches files source image control temporary (Ok text) stored bytes got sets =
     let file = was_short files (Source, source) text got in
     built_holds files source text control temporary stored bytes file.0 (built text control temporary 0) (laws text control temporary 0 (is_readable text file.1) (omega arith)) (Image, image) sets
 
@@ -82,21 +83,21 @@ abbrev written_role : Option (Role × List ℕ) → Role
 written_role None = Source
 written_role (Some file) = file.0
 
-stores : BuiltImplements → (c : Command) (files : Files) → StoresImplementation c files (answer_to c files).output
+stores : BuiltImplements → (c : Command) (watches : List Watching) (files : Files) → StoresImplementation c files (answer_to c watches files).output
 unfolding inputs_of output_of
-stores laws (command.Go source values control temporary budget image) files = λ name own stored bytes reads writes sets.
+stores laws (command.Go source values control temporary budget image) watches files = λ name own stored bytes reads writes sets.
     subst (λ (n : List ℕ). HoldsImplementation files n (stack_words temporary control) bytes) (go_source source values name reads)
-    (go_holds laws files source values image control temporary budget _ _ stored bytes refl sets)
-stores laws (command.Build source control temporary image) files = λ name own stored bytes reads writes sets.
+    (go_holds laws watches files source values image control temporary budget _ _ stored bytes refl sets)
+stores laws (command.Build source control temporary image) watches files = λ name own stored bytes reads writes sets.
     subst (λ (n : List ℕ). HoldsImplementation files n (stack_words temporary control) bytes) (build_source source name reads)
-    (build_holds laws files source image control temporary _ stored bytes refl sets)
-stores laws (command.Pit source control temporary piton) files = λ name own stored bytes reads writes sets.
+    (build_holds laws watches files source image control temporary _ stored bytes refl sets)
+stores laws (command.Pit source control temporary piton) watches files = λ name own stored bytes reads writes sets.
     absurd (let e : Piton ≡ Image = ap written_role writes in cc)
-stores laws (command.Pbuild piton image) files = λ name own stored bytes reads writes sets. absurd (no_source piton name reads)
-stores laws c files = λ name own stored bytes reads writes sets. absurd (let e : None ≡ Some (Image, own) = writes in cc)
+stores laws (command.Pbuild piton image) watches files = λ name own stored bytes reads writes sets. absurd (no_source piton name reads)
+stores laws c watches files = λ name own stored bytes reads writes sets. absurd (let e : None ≡ Some (Image, own) = writes in cc)
 
 -- whatever the command and the files are
-pub implements : BuiltImplements → (c : Option Command) (o : Option Files) → IfSome o (λ files. Implements c files (answer_by c files).output)
-implements laws c None = tt
-implements laws None (Some files) = tt
-implements laws (Some c) (Some files) = stores laws c files
+pub implements : BuiltImplements → (c : Option Command) (watches : List Watching) (o : Option Files) → IfSome o (λ files. Implements c files (answer_by c watches files).output)
+implements laws c watches None = tt
+implements laws None watches (Some files) = tt
+implements laws (Some c) watches (Some files) = stores laws c watches files

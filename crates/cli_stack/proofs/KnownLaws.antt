@@ -1,17 +1,12 @@
 -- The checked system of a text is one, by its definition alone.
-use Rattle.std.proofs.Common.{◌≡◌, ◌≤◌, ℕ, List, [], Option, Some, None, Result, Ok, Err, length, refl, sym, ap, ◌∙◌, subst}
+use Rattle.std.proofs.Common.{◌≡◌, ◌≤◌, ℕ, List, Option, Some, None, Result, Ok, Err, length, refl, ap, ◌∙◌, subst}
 use Rattle.std.specs.Prelude.{◌^◌}
 use Rattle.stack_text.specs.declared.breach.Breach.{Breach}
 use Rattle.stack_text.specs.declared.text_fault.TextRule.{TextRule}
 use Rattle.stack_text.specs.Breaches.{least}
-use Rattle.stack_text.specs.TextFaults.{text_fault}
-use Rattle.stack_text.specs.TreeIn.{unless_fault, first_item, items_of, tree_in}
-use Rattle.stack_text.specs.Tokens.{between, tokens}
+use Rattle.stack_text.specs.TreeIn.{tree_in}
 use Rattle.stack_text.specs.Trees.{Node, IsWellFormed}
 use Rattle.stack_text.specs.Grammar.Judged.{Judged}
-use Rattle.stack_text.proofs.FaultLaws.{no_fault_has_tree}
-use Rattle.stack_text.proofs.TreeInLaws.{tree_in-TreeOf}
-use Rattle.stack_text.proofs.ReadLaws.{text_is_well_formed}
 use Rattle.stack_text.proofs.BreachLaws.{none_least}
 use Rattle.piton_syntax.specs.declared.fault.PitonFault.{PitonFault}
 use Rattle.piton_syntax.specs.Answers.{KeepsForm, judgement, piton_by, piton_in}

@@ -1,8 +1,7 @@
 -- The image of a linked system keeps the limits of images; what is stored and replied where it has too many words, and where not.
-use Rattle.std.proofs.Common.{◌≡◌, ◌≤◌, ◌<◌, ◌+◌, ◌-◌, ℕ, List, [], true, false, length, None, refl, sym, ap, subst, arith}
-use Rattle.std.specs.Prelude.{◌^◌, IsTrue, replicate}
+use Rattle.std.proofs.Common.{◌≡◌, ◌≤◌, ◌<◌, ◌+◌, ℕ, List, [], true, false, length, None, refl, sym, subst, arith}
+use Rattle.std.specs.Prelude.{◌^◌, IsTrue}
 use Rattle.std.proofs.lemmas.Bool.{and_from, le-leb, le-ltb, lt-ltb}
-use Rattle.std.proofs.lemmas.List.{length-append}
 use Rattle.fm_words.specs.Code.{no_flags}
 use Rattle.fm_image.specs.declared.slot.Slot.{Slot}
 use Rattle.fm_image.specs.Image.{ImageOf, all_after, is_image}
@@ -14,7 +13,6 @@ use Rattle.piton_machine.specs.Placed.{placed, final_pc_of}
 use Rattle.piton_machine.proofs.SizeLaws.{length-placed}
 use Rattle.piton_machine.proofs.SoundLaws.{known}
 use Rattle.piton_linker.specs.Layouts.{trimmed}
-use Rattle.piton_linker.proofs.TrimLaws.{trimmed-rest}
 use Rattle.stack_build.proofs.Windows.{shorter}
 use Rattle.cli_stack.specs.Pbuild.{linked_image, is_large}
 

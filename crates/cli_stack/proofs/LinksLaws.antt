@@ -1,18 +1,18 @@
 -- What is stored of a Piton text does what its system does.
 use Rattle.std.proofs.Common.{◌≡◌, ◌≤◌, ℕ, zero, suc, Bool, true, false, List, [], ◌∷◌, ◌++◌, Option, Some, None, IfSome, Result, Ok, Err, length, refl, sym, ap, ◌∙◌, subst, append-nil, arith}
-use Rattle.std.specs.Prelude.{◌^◌, Contains, nat_lt, if◌then◌else◌, codes}
+use Rattle.std.specs.Prelude.{◌^◌, Contains, if◌then◌else◌, codes}
 use Rattle.std.specs.Fmt.{decimal}
 use Rattle.std.proofs.lemmas.Bool.{ltb-false}
 use Rattle.stack_text.specs.Results.{◌>>=◌}
+use Rattle.level_debuggers.specs.Tallies.{Watching}
 use Rattle.stack_shelf.specs.Files.{Files, file_at}
-use Rattle.stack_shelf.specs.Shelf.{TooLong, fetched, within}
+use Rattle.stack_shelf.specs.Shelf.{fetched}
 use Rattle.fm_machine.specs.Run.{Outcome, outcome}
 use Rattle.fm_machine.specs.declared.processor.Run.TheVariants.{Ended}
 use Rattle.fm_machine.proofs.Runs.{outcome_only}
 use Rattle.fm_image.specs.Spelling.{spelling}
 use Rattle.fm_loader.specs.Loaded as loader
 use Rattle.piton_check.specs.Answers.{CheckedOf, IsChecked}
-use Rattle.piton_check.specs.Instruction.{SystemView}
 use Rattle.piton_machine.specs.Fits.{IsInitialStack, system_in}
 use Rattle.piton_machine.specs.Placed.{placed}
 use Rattle.piton_linker.specs.Theorem.{ComesToStand}
@@ -83,13 +83,13 @@ module _ (files : Files) (piton text stored bytes : List ℕ) (there : file_at f
             tells = image_tells c known small;
           }
 
-pbuild_holds : (files : Files) (piton image : List ℕ) (first : Result (List ℕ) EarlyEnd) (stored bytes : List ℕ)
+pbuild_holds : (watches : List Watching) (files : Files) (piton image : List ℕ) (first : Result (List ℕ) EarlyEnd) (stored bytes : List ℕ)
     → text_or_end (Piton, piton) (fetched files piton (limit_of Piton)) ≡ first
-    → (answer_on (command.Pbuild piton image) (first >>= λ text. Ok ((Piton, text) ∷ []))).output ≡ Some (stored, bytes)
+    → (answer_on (command.Pbuild piton image) watches (first >>= λ text. Ok ((Piton, text) ∷ []))).output ≡ Some (stored, bytes)
     → HoldsLinked files piton bytes
 unfolding output_of stored_by
-pbuild_holds files piton image (Err early) stored bytes got sets = absurd cc
-pbuild_holds files piton image (Ok text) stored bytes got sets =
+pbuild_holds watches files piton image (Err early) stored bytes got sets = absurd cc
+pbuild_holds watches files piton image (Ok text) stored bytes got sets =
     let file = was_short files (Piton, piton) text got in
     linked_holds files piton text stored bytes file.0 (omega (arith, file.1)) (Image, image) (checked_in text) refl sets
 
@@ -111,17 +111,17 @@ no_piton source values name (zero, lt, is) = let e : Source ≡ Piton = ap (λ (
 no_piton source values name (suc zero, lt, is) = let e : Values ≡ Piton = ap (λ (f : Role × List ℕ). f.0) is in cc
 no_piton source values name (suc (suc i), lt, is) = omega arith
 
-links_by : (c : Command) (files : Files) → StoresLinked c files (answer_to c files).output
+links_by : (c : Command) (watches : List Watching) (files : Files) → StoresLinked c files (answer_to c watches files).output
 unfolding inputs_of output_of
-links_by (command.Pbuild piton image) files = λ name own stored bytes reads writes sets.
-    subst (λ (n : List ℕ). HoldsLinked files n bytes) (only_file Piton piton name reads) (pbuild_holds files piton image _ stored bytes refl sets)
-links_by (command.Build source control temporary image) files = λ name own stored bytes reads writes sets. absurd (one_source source name reads)
-links_by (command.Pit source control temporary piton) files = λ name own stored bytes reads writes sets. absurd (one_source source name reads)
-links_by (command.Go source values control temporary budget image) files = λ name own stored bytes reads writes sets. absurd (no_piton source values name reads)
-links_by c files = λ name own stored bytes reads writes sets. absurd (let e : None ≡ Some (Image, own) = writes in cc)
+links_by (command.Pbuild piton image) watches files = λ name own stored bytes reads writes sets.
+    subst (λ (n : List ℕ). HoldsLinked files n bytes) (only_file Piton piton name reads) (pbuild_holds watches files piton image _ stored bytes refl sets)
+links_by (command.Build source control temporary image) watches files = λ name own stored bytes reads writes sets. absurd (one_source source name reads)
+links_by (command.Pit source control temporary piton) watches files = λ name own stored bytes reads writes sets. absurd (one_source source name reads)
+links_by (command.Go source values control temporary budget image) watches files = λ name own stored bytes reads writes sets. absurd (no_piton source values name reads)
+links_by c watches files = λ name own stored bytes reads writes sets. absurd (let e : None ≡ Some (Image, own) = writes in cc)
 
 -- whatever the command and the files are
-pub links : (c : Option Command) (o : Option Files) → IfSome o (λ files. Links c files (answer_by c files).output)
-links c None = tt
-links None (Some files) = tt
-links (Some c) (Some files) = links_by c files
+pub links : (c : Option Command) (watches : List Watching) (o : Option Files) → IfSome o (λ files. Links c files (answer_by c watches files).output)
+links c watches None = tt
+links None watches (Some files) = tt
+links (Some c) watches (Some files) = links_by c watches files

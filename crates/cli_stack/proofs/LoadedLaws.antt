@@ -1,9 +1,5 @@
 -- A machine that is loaded with the image of a linked system is the placed machine.
-use Rattle.std.proofs.Common.{◌≡◌, ◌≤◌, ◌<◌, ◌+◌, ◌-◌, ℕ, zero, suc, List, [], ◌∷◌, ◌++◌, length, drop, refl, sym, ap, ◌∙◌, append_assoc, arith}
-use Rattle.std.specs.Prelude.{replicate, slice_set}
-use Rattle.std.proofs.Math.Seq.{set-append_seam}
-use Rattle.std.proofs.lemmas.List.{length-append, length-replicate}
-use Rattle.fm_machine.specs.State.{with_word}
+use Rattle.std.proofs.Common.{◌≡◌, ℕ, List, [], ap}
 use Rattle.fm_words.specs.Code.{no_flags}
 use Rattle.fm_loader.specs.Loaded.{with_words}
 use Rattle.fm_loader.specs.Loaded as loader
@@ -13,8 +9,6 @@ use Rattle.piton_machine.specs.Fits.{system_in}
 use Rattle.piton_machine.specs.Placed.{placed, loaded}
 use Rattle.piton_machine.proofs.SizeLaws.{length-placed}
 use Rattle.piton_machine.proofs.SoundLaws.{known}
-use Rattle.piton_linker.specs.Layouts.{trimmed}
-use Rattle.piton_linker.proofs.TrimLaws.{trimmed-rest}
 use Rattle.cli_stack.specs.Pbuild.{linked_image}
 use Rattle.stack_build.proofs.Windows.{all_stand}
 

@@ -1,6 +1,6 @@
 -- What `mean` tells is what its source means.
-use Rattle.std.proofs.Common.{◌≡◌, ◌≤◌, ℕ, zero, suc, false, List, [], ◌∷◌, ◌++◌, append-nil, Option, Some, None, IfSome, Result, Ok, Err, refl, sym, ap, ◌∙◌, subst, arith}
-use Rattle.std.specs.Prelude.{Contains, nat_lt, IsSomeAnd}
+use Rattle.std.proofs.Common.{◌≡◌, ◌≤◌, ℕ, zero, suc, false, List, [], ◌∷◌, ◌++◌, append-nil, Option, Some, None, IfSome, Result, Ok, refl, sym, ap, ◌∙◌, subst, arith}
+use Rattle.std.specs.Prelude.{nat_lt}
 use Rattle.std.proofs.lemmas.Bool.{le-ltb}
 use Rattle.stack_text.specs.Values.{ValueOf}
 use Rattle.stack_text.specs.Results.{◌>>=◌}
@@ -24,6 +24,10 @@ use Rattle.gypsy_meaning.specs.Shown.{condition_at, names_at}
 use Rattle.gypsy_meaning.proofs.ReachLaws.{opening_reached, completes}
 use Rattle.gypsy_meaning.proofs.RunLaws.{run_agrees}
 use Rattle.gypsy_meaning.proofs.SeenLaws.{run_same}
+use Rattle.level_debuggers.specs.Tallies.{Watching}
+use Rattle.stack_build.specs.declared.start_fault.StartFault.{StartFault}
+use Rattle.stack_build.specs.Starts.{or_values, shortage_of, unless_short, gypsy_start}
+use Rattle.stack_build.specs.declared.fault.BuildFault.{BuildFault}
 use Rattle.stack_build.specs.Build.{source_in}
 use Rattle.stack_build.specs.Image.{formal_slots}
 use Rattle.cli_stack.specs.declared.command.Command.{Command}
@@ -32,14 +36,14 @@ use Rattle.cli_stack.specs.declared.driver.early_end.EarlyEnd.{EarlyEnd}
 use Rattle.cli_stack.specs.declared.reply.Verdict.{Verdict}
 use Rattle.cli_stack.specs.declared.reply.Verdict.TheVariants as verdict
 use Rattle.cli_stack.specs.declared.role.Role.{Role}
-use Rattle.cli_stack.specs.declared.role.Role.TheVariants.{Source, Piton, Image, Values}
+use Rattle.cli_stack.specs.declared.role.Role.TheVariants.{Source, Piton, Image, Values, Script}
 use Rattle.cli_stack.specs.declared.status.Status.TheVariants.{Done}
-use Rattle.cli_stack.specs.Replies.{ReplyOf, status_of, verdict_line, reply_text}
+use Rattle.cli_stack.specs.Replies.{ReplyOf, status_of, verdict_line}
 use Rattle.cli_stack.specs.SourceText.{unless_refused, accepted_in}
-use Rattle.cli_stack.specs.Mean.{shortage_of, said_text, mean_end_reply, mean_ran_reply, mean_run_reply, mean_values_reply, mean_sized_reply, mean_source_reply, mean_accepted_reply, mean_reply}
-use Rattle.cli_stack.specs.Answer.{Texts, Answer, inputs_of, output_of, reply_by, answer_with, answer_on, answer_to, answer_by}
+use Rattle.cli_stack.specs.Mean.{said_text, mean_end_reply, mean_run_reply, mean_started_reply, mean_accepted_reply, mean_reply}
+use Rattle.cli_stack.specs.Answer.{Texts, inputs_of, output_of, reply_by, answer_with, answer_on, answer_to, answer_by}
 use Rattle.cli_stack.specs.Correct.{IsReadable}
-use Rattle.cli_stack.specs.Means.{FollowOf, follow_of, meaning_text, IsMeant, TellsSteps, Follows, FollowsFiles, FollowsMeanings, Means}
+use Rattle.cli_stack.specs.Means.{meaning_text, IsMeant, TellsSteps, Follows, FollowsMeanings, Means}
 use Rattle.cli_stack.proofs.TellsLaws.{both_there}
 
 -- 1. A reply.
@@ -114,9 +118,6 @@ module _ (x : List ValueOf) (c : Way) where
   longer (suc k) (suc limit) v le ends = go_further (answer_of v) (left_of v) k limit (λ w. longer k limit w (omega (arith, le))) ends
 
 module _ (source : SourceOf) (sizes : Words) (values : List ValueOf) (limit : ℕ) where
-  start : Seen
-  start = opening (program_of source) sizes values
-
   by_stage : (a : MeanRun) (w : Seen) (s : Stage) → a ≡ run.Ended → w.stage ≡ s → EndAgrees w s → IsOfRun (opening (program_of source) sizes values) w
       → (finals : List ValueOf) × (way : Way) × Told source sizes values finals way (mean_end_reply source limit a w)
   by_stage a w (Running g) ended stage agrees same = absurd agrees
@@ -129,8 +130,8 @@ module _ (source : SourceOf) (sizes : Words) (values : List ValueOf) (limit : �
   by_run (run.NoRoom place) w agrees same e = absurd cc
 
   -- what is told is a meaning
-  run_told : (mean_run_reply source sizes values limit).verdict ≡ verdict.Done
-      → (finals : List ValueOf) × (way : Way) × Told source sizes values finals way (mean_run_reply source sizes values limit)
+  run_told : (mean_run_reply source (opening (program_of source) sizes values) limit).verdict ≡ verdict.Done
+      → (finals : List ValueOf) × (way : Way) × Told source sizes values finals way (mean_run_reply source (opening (program_of source) sizes values) limit)
   unfolding mean_run_reply
   run_told e =
       let from : Seen = opening (program_of source) sizes values in
@@ -147,7 +148,7 @@ module _ (source : SourceOf) (sizes : Words) (values : List ValueOf) (limit : �
 
   -- a run that ends within the limit is told
   run_within : (k : ℕ) (x : List ValueOf) (c : Way) → k ≤ limit → IsEnd (run_of k (opening (program_of source) sizes values)) x c
-      → Told source sizes values x c (mean_run_reply source sizes values limit)
+      → Told source sizes values x c (mean_run_reply source (opening (program_of source) sizes values) limit)
   unfolding mean_run_reply
   run_within k x c le ends =
       let from : Seen = opening (program_of source) sizes values in
@@ -164,7 +165,7 @@ module _ (source : SourceOf) (sizes : Words) (values : List ValueOf) (limit : �
       let same : found.0 ≤ found.0 = omega arith in
       (found.0, found.1 found.0 same)
 
-  reply_follows : (output : Option (List ℕ × List ℕ)) (reply : ReplyOf) → reply ≡ mean_run_reply source sizes values limit → Follows source sizes values limit (answer_with output reply)
+  reply_follows : (output : Option (List ℕ × List ℕ)) (reply : ReplyOf) → reply ≡ mean_run_reply source (opening (program_of source) sizes values) limit → Follows source sizes values limit (answer_with output reply)
   reply_follows output reply is =
       subst (λ (r : ReplyOf). Follows source sizes values limit (answer_with output r)) (sym is) record {
         told = λ status.
@@ -176,26 +177,27 @@ module _ (source : SourceOf) (sizes : Words) (values : List ValueOf) (limit : �
 
 -- 2. The files lead to it.
 
-module _ (files : Files) (text values_text : List ℕ) (source : SourceOf) (values : List ValueOf) where
+module _ (watches : List Watching) (files : Files) (text values_text : List ℕ) (source : SourceOf) (values : List ValueOf) where
   mean_is : (control temporary limit : ℕ) → source_in text ≡ Ok source → Suffices (program_of source) (stack_words temporary control) → values_in (formal_slots source) values_text ≡ Ok values
-      → mean_reply text values_text control temporary limit ≡ mean_run_reply source (stack_words temporary control) values limit
-  unfolding accepted_in mean_source_reply
+      → mean_reply text values_text control temporary limit ≡ mean_run_reply source (opening (program_of source) (stack_words temporary control) values) limit
+  unfolding accepted_in gypsy_start
   mean_is control temporary limit read enough found =
       let need : Words = main_need (program_of source) in
       let sizes : Words = stack_words temporary control in
       let c : nat_lt control need.ctrl ≡ false = le-ltb control need.ctrl enough.ctrl in
       let t : nat_lt temporary need.temp ≡ false = le-ltb temporary need.temp enough.temp in
       let none : shortage_of need sizes ≡ None = rw (c, t) refl in
+      let begins : Result (List ValueOf) (ℕ × ℕ) → Result Seen StartFault = λ v. or_values v >>= λ values. Ok (opening (program_of source) sizes values) in
       ap (λ (r : Result SourceOf _). mean_accepted_reply (unless_refused r) sizes values_text limit) read
-      ∙ ap (λ (o : Option Verdict). mean_sized_reply o source sizes values_text limit) none
-      ∙ ap (λ (v : Result (List ValueOf) (ℕ × ℕ)). mean_values_reply source sizes limit v) found
+      ∙ ap (λ (o : Option BuildFault). mean_started_reply source limit (unless_short o (begins (values_in (formal_slots source) values_text)))) none
+      ∙ ap (λ (v : Result (List ValueOf) (ℕ × ℕ)). mean_started_reply source limit (begins v)) found
 
   mean_follows : (source_name values_name : List ℕ) (control temporary limit : ℕ) → IsReadable files Source source_name text → source_in text ≡ Ok source
       → Suffices (program_of source) (stack_words temporary control) → IsReadable files Values values_name values_text → values_in (formal_slots source) values_text ≡ Ok values
-      → Follows source (stack_words temporary control) values limit (answer_to (command.Mean source_name values_name control temporary limit) files)
+      → Follows source (stack_words temporary control) values limit (answer_to (command.Mean source_name values_name control temporary limit) watches files)
   unfolding inputs_of reply_by
   mean_follows source_name values_name control temporary limit there read enough there' found =
-      subst (λ (r : Result Texts EarlyEnd). Follows source (stack_words temporary control) values limit (answer_on (command.Mean source_name values_name control temporary limit) r))
+      subst (λ (r : Result Texts EarlyEnd). Follows source (stack_words temporary control) values limit (answer_on (command.Mean source_name values_name control temporary limit) watches r))
       (sym (both_there files (Source, source_name) (Values, values_name) text values_text there there'))
       (reply_follows source (stack_words temporary control) values limit _ (mean_reply text values_text control temporary limit) (mean_is control temporary limit read enough found))
 
@@ -213,26 +215,27 @@ abbrev others : List (Role × List ℕ) → List (Role × List ℕ)
 others [] = []
 others (f ∷ fs) = fs
 
-follows : (c : Command) (files : Files) → FollowsMeanings c files (answer_to c files)
+follows : (c : Command) (watches : List Watching) (files : Files) → FollowsMeanings c files (answer_to c watches files)
 unfolding inputs_of output_of
-follows (command.Mean source_name values_name control temporary limit) files = λ source values reads writes. (
+follows (command.Mean source_name values_name control temporary limit) watches files = λ source values reads writes. (
   ap first_name reads,
   ap (λ (fs : List (Role × List ℕ)). first_name (others fs)) reads,
-  λ text s values_text v there read enough there' found. mean_follows files text values_text s v source_name values_name control temporary limit there read enough there' found,
+  λ text s values_text v there read enough there' found. mean_follows watches files text values_text s v source_name values_name control temporary limit there read enough there' found,
 )
-follows (command.Go source_name values_name control temporary budget image) files = λ source values reads writes. absurd (let e : Some (Image, image) ≡ None = writes in cc)
-follows (command.Run image values_name budget) files = λ source values reads writes. absurd (let e : Image ≡ Source = ap first_role reads in cc)
-follows (command.Show image) files = λ source values reads writes. absurd (let e : Image ≡ Source = ap first_role reads in cc)
-follows (command.Check source_name) files = λ source values reads writes. absurd (let e : [] ≡ (Values, values) ∷ [] = ap others reads in cc)
-follows (command.Pit source_name control temporary piton) files = λ source values reads writes. absurd (let e : Some (Piton, piton) ≡ None = writes in cc)
-follows (command.Build source_name control temporary image) files = λ source values reads writes. absurd (let e : Some (Image, image) ≡ None = writes in cc)
-follows (command.Pcheck piton) files = λ source values reads writes. absurd (let e : Piton ≡ Source = ap first_role reads in cc)
-follows (command.Prun piton limit) files = λ source values reads writes. absurd (let e : Piton ≡ Source = ap first_role reads in cc)
-follows (command.Pbuild piton image) files = λ source values reads writes. absurd (let e : Some (Image, image) ≡ None = writes in cc)
-follows c files = λ source values reads writes. absurd (let e : Piton ≡ Source = ap first_role reads in cc)
+follows (command.Go source_name values_name control temporary budget image) watches files = λ source values reads writes. absurd (let e : Some (Image, image) ≡ None = writes in cc)
+follows (command.Run image values_name budget) watches files = λ source values reads writes. absurd (let e : Image ≡ Source = ap first_role reads in cc)
+follows (command.Show image) watches files = λ source values reads writes. absurd (let e : Image ≡ Source = ap first_role reads in cc)
+follows (command.Check source_name) watches files = λ source values reads writes. absurd (let e : [] ≡ (Values, values) ∷ [] = ap others reads in cc)
+follows (command.Pit source_name control temporary piton) watches files = λ source values reads writes. absurd (let e : Some (Piton, piton) ≡ None = writes in cc)
+follows (command.Build source_name control temporary image) watches files = λ source values reads writes. absurd (let e : Some (Image, image) ≡ None = writes in cc)
+follows (command.Pcheck piton) watches files = λ source values reads writes. absurd (let e : Piton ≡ Source = ap first_role reads in cc)
+follows (command.Prun piton limit) watches files = λ source values reads writes. absurd (let e : Piton ≡ Source = ap first_role reads in cc)
+follows (command.Pbuild piton image) watches files = λ source values reads writes. absurd (let e : Some (Image, image) ≡ None = writes in cc)
+follows (command.Debug level source_name values_name control temporary script) watches files = λ source values reads writes. absurd (let e : (Script, script) ∷ [] ≡ [] = ap (λ (fs : List (Role × List ℕ)). others (others fs)) reads in cc)
+follows c watches files = λ source values reads writes. absurd (let e : Piton ≡ Source = ap first_role reads in cc)
 
 -- whatever the command and the files are
-pub means : (c : Option Command) (o : Option Files) → IfSome o (λ files. Means c files (answer_by c files))
-means c None = tt
-means None (Some files) = tt
-means (Some c) (Some files) = follows c files
+pub means : (c : Option Command) (watches : List Watching) (o : Option Files) → IfSome o (λ files. Means c files (answer_by c watches files))
+means c watches None = tt
+means None watches (Some files) = tt
+means (Some c) watches (Some files) = follows c watches files

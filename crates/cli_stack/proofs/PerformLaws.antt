@@ -1,8 +1,9 @@
 -- What a store that failed leaves of a command, and why a command ended early.
-use Rattle.std.proofs.Common.{◌≡◌, inl, inr, ⊎_elim, ℕ, suc, ◌∷◌, ◌++◌, List, Option, Some, None, IfSome, Result, Ok, Err, refl, arith, ◌∙◌, ap, subst}
+use Rattle.std.proofs.Common.{◌≡◌, inl, inr, ⊎_elim, ℕ, suc, ◌++◌, List, Option, Some, None, IfSome, Result, Ok, Err, refl, arith, ◌∙◌, ap, subst}
 use Rattle.std.specs.Prelude.{Contains}
 use Rattle.std.specs.Option.{option_to_list}
 use Rattle.stack_shelf.specs.Files.{Files}
+use Rattle.level_debuggers.specs.Tallies.{Watching}
 use Rattle.stack_shelf.specs.Causes.{Counts, NoneFell}
 use Rattle.stack_shelf.specs.Shelf.{PartlyStored}
 use Rattle.cli_stack.specs.declared.command.Command.{Command}
@@ -26,10 +27,10 @@ fault_reason before mid after command output (ShelfFault name) fell is fault = (
 fault_reason before mid after command output OutOfMemory fell is fault = tt
 
 -- the file that is set has what the command stores
-sets : (files : Files) (command : Command) (texts : Texts) (output : Role × List ℕ) (bytes : List ℕ) → gathered files (inputs_of command) ≡ Ok texts → output_of command ≡ Some output → stored_by command texts ≡ Some bytes
-    → (answer_to command files).output ≡ Some (output.1, bytes)
-sets files command texts output bytes got is stores =
-    ap (λ (r : Result Texts EarlyEnd). (answer_on command r).output) got ∙ ap (λ (o : Option (Role × List ℕ)). set_file o (stored_by command texts)) is ∙ ap (set_file (Some output)) stores
+sets : (watches : List Watching) (files : Files) (command : Command) (texts : Texts) (output : Role × List ℕ) (bytes : List ℕ) → gathered files (inputs_of command) ≡ Ok texts → output_of command ≡ Some output → stored_by command texts ≡ Some bytes
+    → (answer_to command watches files).output ≡ Some (output.1, bytes)
+sets watches files command texts output bytes got is stores =
+    ap (λ (r : Result Texts EarlyEnd). (answer_on command watches r).output) got ∙ ap (λ (o : Option (Role × List ℕ)). set_file o (stored_by command texts)) is ∙ ap (set_file (Some output)) stores
 
 part : (files : Files) (mid : Option Files) (before after : ShelfOf) (between : Counts) (command : Command) (output : Role × List ℕ) (bytes : List ℕ) (o : Option (List ℕ × List ℕ)) (end : EarlyEnd)
     → mid ≡ Some files → output_of command ≡ Some output → o ≡ Some (output.1, bytes) → NoneFell before.counts between
@@ -48,13 +49,13 @@ part files mid before after between command output bytes o OutOfMemory was is sa
     moved : PartlyStored mid after.files output.1 bytes → PartlyStored (Some files) after.files output.1 bytes
     moved half = subst (λ (m : Option Files). PartlyStored m after.files output.1 bytes) was half
 
-pub save_leaves : (old mid : Option Files) (new : Option Files) (before between after : Counts) (command : Command) (inputs : List (Role × List ℕ)) (texts : Texts) (output : Role × List ℕ) (bytes : List ℕ) (end : EarlyEnd)
+pub save_leaves : (watches : List Watching) (old mid : Option Files) (new : Option Files) (before between after : Counts) (command : Command) (inputs : List (Role × List ℕ)) (texts : Texts) (output : Role × List ℕ) (bytes : List ℕ) (end : EarlyEnd)
     → mid ≡ old → inputs ≡ inputs_of command → IfSome old (λ files. gathered files inputs ≡ Ok texts) → stored_by command texts ≡ Some bytes → output_of command ≡ Some output → NoneFell before between
     → LeavesPart mid new between after output.1 bytes → IsFaultAt between after output.1 end
-    → IfSome old (λ files. Leaves (Some command) files (shelf_of old before) (shelf_of new after) (Err end))
-save_leaves None mid new before between after command inputs texts output bytes end was reads got stores is fell left fault = tt
-save_leaves (Some files) mid new before between after command inputs texts output bytes end was reads got stores is fell left fault =
-    part files mid (shelf_of (Some files) before) (shelf_of new after) between command output bytes _ end was is (sets files command texts output bytes (rw (← reads) got) is stores) fell left fault (answer_to command files) refl
+    → IfSome old (λ files. Leaves (Some command) watches files (shelf_of old before) (shelf_of new after) (Err end))
+save_leaves watches None mid new before between after command inputs texts output bytes end was reads got stores is fell left fault = tt
+save_leaves watches (Some files) mid new before between after command inputs texts output bytes end was reads got stores is fell left fault =
+    part files mid (shelf_of (Some files) before) (shelf_of new after) between command output bytes _ end was is (sets watches files command texts output bytes (rw (← reads) got) is stores) fell left fault (answer_to command watches files) refl
 
 -- the names of its inputs are among those of its files
 further : (o : Option (Role × List ℕ)) (files : List (Role × List ℕ)) (name : List ℕ) → Contains (names_of files) name → Contains (names_of (option_to_list o ++ files)) name

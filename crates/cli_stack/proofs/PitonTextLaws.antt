@@ -1,9 +1,8 @@
 -- A system that was checked: it is the one of its text, and keeps the limits.
-use Rattle.std.proofs.Common.{◌≡◌, ◌≤◌, ℕ, List, [], Option, Result, Ok, length, sym, ap, ◌∙◌, subst}
+use Rattle.std.proofs.Common.{◌≡◌, ◌≤◌, ℕ, List, [], Ok, length, sym, ap, ◌∙◌, subst}
 use Rattle.std.proofs.lemmas.List.{length-map}
 use Rattle.stack_text.specs.declared.breach.Breach.{Breach}
 use Rattle.stack_text.specs.Breaches.{least}
-use Rattle.piton_syntax.specs.declared.fault.PitonFault.{PitonFault}
 use Rattle.piton_syntax.specs.Answers.{piton_in}
 use Rattle.piton_syntax.specs.Systems.{SystemOf}
 use Rattle.piton_check.specs.Answers.{CheckedOf, IsChecked}

@@ -1,29 +1,29 @@
 -- The promises of the program, from what its two halves say: how the command was performed, and how it was concluded.
-use Rattle.std.proofs.Common.{◌≡◌, ◌⊎◌, inl, inr, ⊎_elim, ℕ, List, [], ◌++◌, Bool, true, false, Option, Some, None, IfSome, IfErr, IfOk, Result, Ok, Err, refl, sym, ap, ◌∙◌, subst}
-use Rattle.std.specs.Prelude.{◌≢◌, Contains, IsSomeAnd}
+use Rattle.std.proofs.Common.{◌≡◌, ◌⊎◌, inl, inr, ⊎_elim, ℕ, List, ◌++◌, Bool, true, false, Option, Some, None, IfSome, IfErr, IfOk, Result, Ok, Err, refl, sym, ap, ◌∙◌, subst}
+use Rattle.std.specs.Prelude.{◌≢◌}
 use Rattle.std.specs.Option.{option_map}
 use Rattle.fm_machine.specs.State.{Fm, Seen}
 use Rattle.stack_shelf.specs.Files.{Files}
-use Rattle.stack_shelf.specs.Causes.{Counts, Rose}
+use Rattle.level_debuggers.specs.Tallies.{Watching}
+use Rattle.stack_shelf.specs.Causes.{Rose}
 use Rattle.stack_shelf.specs.Shelf.{appended, PrefixAppended}
 use Rattle.cli_stack.specs.declared.command.Command.{Command}
 use Rattle.cli_stack.specs.declared.driver.conclude.Conclusion.{Conclusion}
 use Rattle.cli_stack.specs.declared.driver.early_end.EarlyEnd.{EarlyEnd}
 use Rattle.cli_stack.specs.declared.driver.early_end.EarlyEnd.TheVariants as early
 use Rattle.cli_stack.specs.declared.reply.Reply.{Reply}
-use Rattle.cli_stack.specs.declared.reply.SizeOf.{SizeOf}
 use Rattle.cli_stack.specs.declared.reply.Verdict.{Verdict}
 use Rattle.cli_stack.specs.declared.reply.Verdict.TheVariants as verdict
 use Rattle.cli_stack.specs.declared.status.Status.{Status}
 use Rattle.cli_stack.specs.declared.status.Status.TheVariants.{Missing, ShelfFault, SinkFault, Size, OutOfMemory}
-use Rattle.cli_stack.specs.Replies.{ReplyOf, status_of, verdict_line, reply_of, reply_text, end_status, end_line}
-use Rattle.cli_stack.specs.Answer.{Answer, answer_with, early_answer, files_after, input_names, file_names, answer_by}
-use Rattle.cli_stack.specs.World.{OutOf, World}
-use Rattle.cli_stack.specs.Promises.{HoldsMachine, Agrees, RoseAt, RoseAndPrinted, opening_by, SizePrinted, HasSizes, HoldsPart, FaultRose, LeavesFiles, PrintsPrefix, PromisesOf}
+use Rattle.cli_stack.specs.Replies.{status_of, verdict_line, end_line}
+use Rattle.cli_stack.specs.Answer.{Answer, early_answer, files_after, input_names, file_names, answer_by}
+use Rattle.cli_stack.specs.World.{World}
+use Rattle.cli_stack.specs.Promises.{HoldsMachine, Agrees, RoseAt, RoseAndPrinted, opening_by, SizePrinted, HoldsPart, LeavesFiles, PrintsPrefix, PromisesOf}
 use Rattle.cli_stack.specs.Correct.{Implements, Tells}
 use Rattle.cli_stack.specs.Means.{Means}
 use Rattle.cli_stack.specs.Linked.{Links}
-use Rattle.cli_stack.specs.Driver.{HasReason, IsReplyTo, LeavesAs, Leaves, machine_kept, conclusion_of, Printed, Stopped, NotBegun, Concludes}
+use Rattle.cli_stack.specs.Driver.{HasReason, IsReplyTo, LeavesAs, Leaves, machine_kept, conclusion_of, Stopped, NotBegun, Concludes}
 use Rattle.cli_stack.proofs.PrintLaws.{nothing_printed}
 use Rattle.cli_stack.proofs.SizeLaws.{sizes_alone}
 
@@ -176,54 +176,54 @@ stopped command before after c status s = record {
     other t plain h = ⊎_elim (λ (failed : (status ≡ SinkFault) × Rose before.out.faults after.out.faults). apart is_plain t SinkFault plain refl (sym h ∙ failed.0)) (λ memory. apart is_plain t OutOfMemory plain refl (sym h ∙ memory)) s.cause
 
 -- a reply was printed whose verdict is a size
-size_printed : (command : Option Command) (before after : World) (reply : Reply) (v : Verdict) → reply.verdict ≡ v → status_of v ≡ Size → IsReplyTo command reply
+size_printed : (command : Option Command) (watches : List Watching) (before after : World) (reply : Reply) (v : Verdict) → reply.verdict ≡ v → status_of v ≡ Size → IsReplyTo command watches reply
     → after.out.taken ≡ appended before.out.taken (reply.said ++ verdict_line reply.verdict) → SizePrinted command before after
-size_printed command before after reply (verdict.Size of need) is size to printed =
-    let alone = sizes_alone command reply of need to is in
+size_printed command watches before after reply (verdict.Size of need) is size to printed =
+    let alone = sizes_alone command watches reply of need to is in
     (alone.0, of, need, printed ∙ ap (λ (said : List ℕ). appended before.out.taken (said ++ verdict_line reply.verdict)) alone.1 ∙ ap (λ (v : Verdict). appended before.out.taken (opening_by command ++ verdict_line v)) is)
-size_printed command before after reply verdict.Done is size to printed = absurd cc
-size_printed command before after reply v is size to printed = absurd cc
+size_printed command watches before after reply verdict.Done is size to printed = absurd cc
+size_printed command watches before after reply v is size to printed = absurd cc
 
-caused : (command : Option Command) (before after : World) (ran : Result Reply EarlyEnd) (status : Status)
-    → IfErr ran (HasReason before.shelf.counts after.shelf.counts command) → IfOk ran (IsReplyTo command)
+caused : (command : Option Command) (watches : List Watching) (before after : World) (ran : Result Reply EarlyEnd) (status : Status)
+    → IfErr ran (HasReason before.shelf.counts after.shelf.counts command) → IfOk ran (IsReplyTo command watches)
     → Concludes (conclusion_of ran) status before.out after.out → Caused command before after status
-caused command before after ran status reason to (inl n) = not_begun command before after status n
-caused command before after (Ok reply) status reason to (inr (inr s)) = stopped command before after _ status s
-caused command before after (Ok reply) status reason to (inr (inl p)) = record {
+caused command watches before after ran status reason to (inl n) = not_begun command before after status n
+caused command watches before after (Ok reply) status reason to (inr (inr s)) = stopped command before after _ status s
+caused command watches before after (Ok reply) status reason to (inr (inl p)) = record {
   missing = λ h. absurd (apart is_own (status_of reply.verdict) Missing (own_verdict reply.verdict) refl (sym p.ends ∙ h));
   shelf_fault = λ h. absurd (apart is_own (status_of reply.verdict) ShelfFault (own_verdict reply.verdict) refl (sym p.ends ∙ h));
   sink_fault = λ h. absurd (apart is_own (status_of reply.verdict) SinkFault (own_verdict reply.verdict) refl (sym p.ends ∙ h));
-  too_long = λ h. inr (size_printed command before after reply reply.verdict refl (sym p.ends ∙ h) to p.text);
+  too_long = λ h. inr (size_printed command watches before after reply reply.verdict refl (sym p.ends ∙ h) to p.text);
   kept = λ h. absurd (⊎_elim (λ (e : status ≡ ShelfFault). not_a ShelfFault refl e) (λ failed. ⊎_elim (λ (e : status ≡ SinkFault). not_a SinkFault refl e) (λ e. not_a OutOfMemory refl e) failed) h);
 }
   where
     not_a : (t : Status) → is_own t ≡ false → status ≡ t → ⊥
     not_a t other e = apart is_own (status_of reply.verdict) t (own_verdict reply.verdict) other (sym p.ends ∙ e)
-caused command before after (Err (early.Missing name)) status reason to (inr (inr s)) = stopped command before after _ status s
-caused command before after (Err (early.Missing name)) status reason to (inr (inl p)) = record {
+caused command watches before after (Err (early.Missing name)) status reason to (inr (inr s)) = stopped command before after _ status s
+caused command watches before after (Err (early.Missing name)) status reason to (inr (inl p)) = record {
   missing = λ h. (reason.0, reason.1, reason.2.1, p.text ∙ ap (λ (n : List ℕ). appended before.out.taken (end_line (early.Missing n))) reason.2.0);
   shelf_fault = λ h. absurd (let e : ShelfFault ≡ Missing = sym h ∙ p.ends in cc);
   sink_fault = λ h. absurd (let e : SinkFault ≡ Missing = sym h ∙ p.ends in cc);
   too_long = λ h. absurd (let e : Size ≡ Missing = sym h ∙ p.ends in cc);
   kept = λ h. p.machine;
 }
-caused command before after (Err (early.TooLong limit)) status reason to (inr (inr s)) = stopped command before after _ status s
-caused command before after (Err (early.TooLong limit)) status reason to (inr (inl p)) = record {
+caused command watches before after (Err (early.TooLong limit)) status reason to (inr (inr s)) = stopped command before after _ status s
+caused command watches before after (Err (early.TooLong limit)) status reason to (inr (inl p)) = record {
   missing = λ h. absurd (let e : Missing ≡ Size = sym h ∙ p.ends in cc);
   shelf_fault = λ h. absurd (let e : ShelfFault ≡ Size = sym h ∙ p.ends in cc);
   sink_fault = λ h. absurd (let e : SinkFault ≡ Size = sym h ∙ p.ends in cc);
   too_long = λ h. inl reason;
   kept = λ h. p.machine;
 }
-caused command before after (Err (early.ShelfFault name)) status reason to (inr (inr s)) = stopped command before after _ status s
-caused command before after (Err (early.ShelfFault name)) status reason to (inr (inl p)) = record {
+caused command watches before after (Err (early.ShelfFault name)) status reason to (inr (inr s)) = stopped command before after _ status s
+caused command watches before after (Err (early.ShelfFault name)) status reason to (inr (inl p)) = record {
   missing = λ h. absurd (let e : Missing ≡ ShelfFault = sym h ∙ p.ends in cc);
   shelf_fault = λ h. (reason.0, reason.1, reason.2.1, p.text ∙ ap (λ (n : List ℕ). appended before.out.taken (end_line (early.ShelfFault n))) reason.2.0);
   sink_fault = λ h. absurd (let e : SinkFault ≡ ShelfFault = sym h ∙ p.ends in cc);
   too_long = λ h. absurd (let e : Size ≡ ShelfFault = sym h ∙ p.ends in cc);
   kept = λ h. p.machine;
 }
-caused command before after (Err early.OutOfMemory) status reason to (inr none) = absurd none
+caused command watches before after (Err early.OutOfMemory) status reason to (inr none) = absurd none
 
 -- 4. Together.
 
@@ -232,22 +232,22 @@ if_known : (o : Option Files) (P Q : Files → Type 0) → ((files : Files) → 
 if_known None P Q go p = tt
 if_known (Some files) P Q go p = go files p
 
-pub promises : (command : Option Command) (before after : World) (ran : Result Reply EarlyEnd) (status : Status)
-    → IfSome before.shelf.files (λ files. Leaves command files before.shelf after.shelf ran)
-    → IfErr ran (HasReason before.shelf.counts after.shelf.counts command) → IfOk ran (IsReplyTo command)
+pub promises : (command : Option Command) (watches : List Watching) (before after : World) (ran : Result Reply EarlyEnd) (status : Status)
+    → IfSome before.shelf.files (λ files. Leaves command watches files before.shelf after.shelf ran)
+    → IfErr ran (HasReason before.shelf.counts after.shelf.counts command) → IfOk ran (IsReplyTo command watches)
     → Concludes (conclusion_of ran) status before.out after.out
-    → IfSome before.shelf.files (λ files. Implements command files (answer_by command files).output)
-    → IfSome before.shelf.files (λ files. Tells command files (answer_by command files))
-    → IfSome before.shelf.files (λ files. Means command files (answer_by command files))
-    → IfSome before.shelf.files (λ files. Links command files (answer_by command files).output)
-    → PromisesOf command (answer_by command) before after status
-promises command before after ran status leaves reason to ends implements tells means links =
-    let all : IfSome before.shelf.files (λ files. Known (answer_by command files) (file_names command) files before after status) =
-    if_known before.shelf.files (λ files. Leaves command files before.shelf after.shelf ran) (λ files. Known (answer_by command files) (file_names command) files before after status)
-    (λ files l. known command (answer_by command files) files before after ran status l reason ends) leaves in
-    let causes = caused command before after ran status reason to ends in
+    → IfSome before.shelf.files (λ files. Implements command files (answer_by command watches files).output)
+    → IfSome before.shelf.files (λ files. Tells command files (answer_by command watches files))
+    → IfSome before.shelf.files (λ files. Means command files (answer_by command watches files))
+    → IfSome before.shelf.files (λ files. Links command files (answer_by command watches files).output)
+    → PromisesOf command (answer_by command watches) before after status
+promises command watches before after ran status leaves reason to ends implements tells means links =
+    let all : IfSome before.shelf.files (λ files. Known (answer_by command watches files) (file_names command) files before after status) =
+    if_known before.shelf.files (λ files. Leaves command watches files before.shelf after.shelf ran) (λ files. Known (answer_by command watches files) (file_names command) files before after status)
+    (λ files l. known command (answer_by command watches files) files before after ran status l reason ends) leaves in
+    let causes = caused command watches before after ran status reason to ends in
     record {
-      answers = if_known before.shelf.files (λ files. Known (answer_by command files) (file_names command) files before after status) _ (λ files k. k.answers) all;
+      answers = if_known before.shelf.files (λ files. Known (answer_by command watches files) (file_names command) files before after status) _ (λ files k. k.answers) all;
       implements = implements;
       tells = tells;
       means = means;
@@ -256,9 +256,9 @@ promises command before after ran status leaves reason to ends implements tells 
       shelf_fault = causes.shelf_fault;
       sink_fault = causes.sink_fault;
       too_long = causes.too_long;
-      files_at_10 = if_known before.shelf.files (λ files. Known (answer_by command files) (file_names command) files before after status) _ (λ files k. k.files_at_10) all;
-      files_at_11 = if_known before.shelf.files (λ files. Known (answer_by command files) (file_names command) files before after status) _ (λ files k. k.files_at_11) all;
-      files_at_14 = if_known before.shelf.files (λ files. Known (answer_by command files) (file_names command) files before after status) _ (λ files k. k.files_at_14) all;
-      text = if_known before.shelf.files (λ files. Known (answer_by command files) (file_names command) files before after status) _ (λ files k. k.text) all;
+      files_at_10 = if_known before.shelf.files (λ files. Known (answer_by command watches files) (file_names command) files before after status) _ (λ files k. k.files_at_10) all;
+      files_at_11 = if_known before.shelf.files (λ files. Known (answer_by command watches files) (file_names command) files before after status) _ (λ files k. k.files_at_11) all;
+      files_at_14 = if_known before.shelf.files (λ files. Known (answer_by command watches files) (file_names command) files before after status) _ (λ files k. k.files_at_14) all;
+      text = if_known before.shelf.files (λ files. Known (answer_by command watches files) (file_names command) files before after status) _ (λ files k. k.text) all;
       kept = causes.kept;
     }

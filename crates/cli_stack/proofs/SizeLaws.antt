@@ -31,13 +31,22 @@ use Rattle.piton_machine.specs.Placed.{placed}
 use Rattle.piton_machine.specs.Seen.{Ran, run_of, opening}
 use Rattle.piton_machine.specs.Seen.{Seen as PitonSeen}
 use Rattle.stack_build.specs.declared.fault.BuildFault.{BuildFault}
-use Rattle.gypsy_space.specs.Needs.{Words as StackWords, stack_words, main_need}
-use Rattle.gypsy_syntax.specs.Resolved.{program_of}
+use Rattle.gypsy_space.specs.Needs.{Words as StackWords, stack_words}
 use Rattle.gypsy_meaning.specs.declared.answers.MeanRun.{MeanRun}
 use Rattle.gypsy_meaning.specs.declared.answers.MeanRun.TheVariants as mean_run
-use Rattle.gypsy_meaning.specs.Seen.{Seen as MeanSeen, Ran as MeanRan, run_of as mean_run_of, opening as mean_opening}
-use Rattle.stack_build.specs.Image.{formal_slots}
+use Rattle.gypsy_meaning.specs.Seen.{Seen as MeanSeen, Ran as MeanRan, run_of as mean_run_of}
 use Rattle.gypsy_gen.specs.Large.{large_of}
+use Rattle.debug_script.specs.declared.fault.ScriptFault.{ScriptFault}
+use Rattle.debug_script.specs.declared.fault.ScriptFault.TheVariants as script
+use Rattle.debug_script.specs.declared.reading.Line.{Line}
+use Rattle.debug_script.specs.Scripts.{script_of}
+use Rattle.level_debuggers.specs.declared.script_end.ScriptEnd.{ScriptEnd}
+use Rattle.level_debuggers.specs.declared.script_end.ScriptEnd.TheVariants as end
+use Rattle.level_debuggers.specs.Transcripts.{Followed, followed}
+use Rattle.level_debuggers.specs.Levels.{LevelOf, program_named}
+use Rattle.level_debuggers.specs.Tallies.{Watching}
+use Rattle.stack_build.specs.declared.start_fault.StartFault.{StartFault}
+use Rattle.stack_build.specs.Starts.{gypsy_start}
 use Rattle.stack_build.specs.Build.{BuiltOf, built, source_built, compiled, source_in, reading_fault, accepted_unless, accepted_by}
 use Rattle.cli_stack.specs.declared.command.Command.{Command}
 use Rattle.cli_stack.specs.declared.command.Command.TheVariants as command
@@ -47,15 +56,16 @@ use Rattle.cli_stack.specs.declared.reply.SizeOf.TheVariants.{Words}
 use Rattle.cli_stack.specs.declared.reply.Verdict.{Verdict}
 use Rattle.cli_stack.specs.declared.reply.Verdict.TheVariants as verdict
 use Rattle.cli_stack.specs.declared.role.Role.TheVariants as role
-use Rattle.cli_stack.specs.Replies.{ReplyOf, reply_of, verdict_alone, judgement_reply}
+use Rattle.cli_stack.specs.Replies.{ReplyOf, verdict_alone, judgement_reply}
 use Rattle.cli_stack.specs.Answer.{Texts, text_of, output_of, reply_by}
 use Rattle.cli_stack.specs.Go.{go_reply}
-use Rattle.cli_stack.specs.Run.{end_reply, outcome_reply, run_reply, values_reply, image_reply}
+use Rattle.cli_stack.specs.Run.{end_reply, run_reply, values_reply, image_reply}
 use Rattle.cli_stack.specs.Show.{listing_reply}
 use Rattle.cli_stack.specs.Prun.{run_end_reply, checked_run_reply, system_run_reply}
 use Rattle.cli_stack.specs.Pbuild.{linked_image, is_large, built_reply, linked_reply, checked_reply}
 use Rattle.cli_stack.specs.SourceText.{build_verdict, unless_refused, accepted_in}
-use Rattle.cli_stack.specs.Mean.{shortage_of, mean_end_reply, mean_run_reply, mean_values_reply, mean_sized_reply, mean_source_reply, mean_accepted_reply}
+use Rattle.cli_stack.specs.Debug.{run_in, session_on, error_verdict, end_verdict, lines_reply, script_verdict, script_reply, run_reply as debug_run_reply}
+use Rattle.cli_stack.specs.Mean.{mean_end_reply, mean_run_reply, mean_started_reply, mean_accepted_reply}
 use Rattle.cli_stack.specs.Pit.{pit_reply}
 use Rattle.cli_stack.specs.Build.{build_reply}
 use Rattle.cli_stack.specs.Big.{source_line, go_on_source, big_reply}
@@ -157,20 +167,41 @@ mean_end_alone source limit mean_run.Ended seen size = absurd cc
 mean_end_alone source limit mean_run.Spent seen size = absurd cc
 mean_end_alone source limit (mean_run.NoRoom place) seen size = absurd cc
 
-mean_values_alone : (source : SourceOf) (sizes : StackWords) (limit : ℕ) (found : Result (List ValueOf) (ℕ × ℕ)) → SizeAlone (mean_values_reply source sizes limit found)
+mean_started_alone : (source : SourceOf) (limit : ℕ) (found : Result MeanSeen StartFault) → SizeAlone (mean_started_reply source limit found)
 unfolding mean_run_reply
-mean_values_alone source sizes limit (Err fault) size = absurd cc
-mean_values_alone source sizes limit (Ok values) size =
-    let ran : MeanRan = mean_run_of limit (mean_opening (program_of source) sizes values) in mean_end_alone source limit ran.run ran.seen size
-
-mean_sized_alone : (shortage : Option Verdict) (source : SourceOf) (sizes : StackWords) (values : List ℕ) (limit : ℕ) → SizeAlone (mean_sized_reply shortage source sizes values limit)
-mean_sized_alone (Some shortage) source sizes values limit size = refl
-mean_sized_alone None source sizes values limit size = mean_values_alone source sizes limit (values_in (formal_slots source) values) size
+mean_started_alone source limit (Err fault) size = refl
+mean_started_alone source limit (Ok from) size = let ran : MeanRan = mean_run_of limit from in mean_end_alone source limit ran.run ran.seen size
 
 mean_alone : (found : Result SourceOf Verdict) (sizes : StackWords) (values : List ℕ) (limit : ℕ) → SizeAlone (mean_accepted_reply found sizes values limit)
-unfolding mean_source_reply
 mean_alone (Err verdict) sizes values limit size = refl
-mean_alone (Ok source) sizes values limit size = mean_sized_alone (shortage_of (main_need (program_of source)) sizes) source sizes values limit size
+mean_alone (Ok source) sizes values limit size = mean_started_alone source limit (gypsy_start source sizes values) size
+
+-- a script ends with no size
+script_end_no_size : (run : LevelOf) (e : ScriptEnd) → is_size (end_verdict run e) ≡ false
+script_end_no_size run end.Done = refl
+script_end_no_size run (end.NoRoom place after) = refl
+script_end_no_size run (end.Error kind program place after) = by_name (program_named run program)
+  where
+    by_name : (name : Option (List ℕ)) → is_size (error_verdict kind name place after) ≡ false
+    by_name None = refl
+    by_name (Some name) = refl
+script_end_no_size run (end.Outside address after) = refl
+script_end_no_size run (end.NoneWaits number) = refl
+script_end_no_size run (end.NoneAttached number) = refl
+
+script_fault_no_size : (fault : ScriptFault) → is_size (script_verdict fault) ≡ false
+script_fault_no_size (script.Refused rule number) = refl
+script_fault_no_size script.Memory = refl
+
+script_no_size : (run : LevelOf) (watches : List Watching) (found : Result (List Line) ScriptFault) → is_size (script_reply run watches found).verdict ≡ false
+unfolding lines_reply
+script_no_size run watches (Err fault) = script_fault_no_size fault
+script_no_size run watches (Ok lines) =
+    let made : Followed = followed [] lines (session_on run watches) in script_end_no_size made.session.level made.end
+
+debug_alone : (found : Result LevelOf Verdict) (watches : List Watching) (text : List ℕ) → SizeAlone (debug_run_reply found watches text)
+debug_alone (Err verdict) watches text size = refl
+debug_alone (Ok run) watches text size = let none = script_no_size run watches (script_of text) in cc
 
 pit_alone : (name : List ℕ) (found : Result SystemOf BuildFault) → SizeAlone (pit_reply name found)
 pit_alone name (Err fault) size = refl
@@ -206,27 +237,28 @@ Sizes c reply = is_size reply.verdict ≡ true → HasSizes (Some c) × (reply.s
 no_sizes : (c : Command) (reply : ReplyOf) → is_size reply.verdict ≡ false → Sizes c reply
 no_sizes c reply none size = absurd (let e : false ≡ true = sym none ∙ size in cc)
 
-sizes_by : (c : Command) (texts : Texts) → Sizes c (reply_by c texts)
+sizes_by : (c : Command) (watches : List Watching) (texts : Texts) → Sizes c (reply_by c watches texts)
 unfolding reply_by output_of
-sizes_by (command.Go source values control temporary budget image) texts = λ size. (inl refl, go_alone (built (text_of role.Source texts) control temporary 0) (text_of role.Values texts) budget size)
-sizes_by (command.Mean source values control temporary limit) texts = λ size. (inl refl, mean_alone (accepted_in (text_of role.Source texts)) (stack_words temporary control) (text_of role.Values texts) limit size)
-sizes_by (command.Build source control temporary image) texts = λ size. (inl refl, build_alone (built (text_of role.Source texts) control temporary 0) size)
-sizes_by (command.Pit source control temporary piton) texts = λ size. (inl refl, pit_alone piton (compiled (text_of role.Source texts) control temporary 0) size)
-sizes_by (command.Big number procedures) texts = λ size. (inl refl, big_alone number procedures size)
-sizes_by (command.Run image values budget) texts =
-    no_sizes (command.Run image values budget) (reply_by (command.Run image values budget) texts) (image_no_size (text_of role.Values texts) budget (read_of (text_of role.Image texts)))
-sizes_by (command.Show image) texts = no_sizes (command.Show image) (reply_by (command.Show image) texts) (listing_no_size (read_of (text_of role.Image texts)))
-sizes_by (command.Check source) texts = no_sizes (command.Check source) (reply_by (command.Check source) texts) (judgement_no_size (accepted_in (text_of role.Source texts)) (source_no_size (text_of role.Source texts)))
-sizes_by (command.Pcheck piton) texts = no_sizes (command.Pcheck piton) (reply_by (command.Pcheck piton) texts) (judgement_no_size (checked_in (text_of role.Piton texts)) (refused_no_size (text_of role.Piton texts)))
-sizes_by (command.Prun piton limit) texts = no_sizes (command.Prun piton limit) (reply_by (command.Prun piton limit) texts) (checked_run_no_size (checked_in (text_of role.Piton texts)) limit (refused_no_size (text_of role.Piton texts)))
-sizes_by (command.Pbuild piton image) texts = λ size. (inr (image, refl), checked_alone (checked_in (text_of role.Piton texts)) size)
-sizes_by c texts = no_sizes c (reply_by c texts) refl
+sizes_by (command.Go source values control temporary budget image) watches texts = λ size. (inl refl, go_alone (built (text_of role.Source texts) control temporary 0) (text_of role.Values texts) budget size)
+sizes_by (command.Mean source values control temporary limit) watches texts = λ size. (inl refl, mean_alone (accepted_in (text_of role.Source texts)) (stack_words temporary control) (text_of role.Values texts) limit size)
+sizes_by (command.Build source control temporary image) watches texts = λ size. (inl refl, build_alone (built (text_of role.Source texts) control temporary 0) size)
+sizes_by (command.Pit source control temporary piton) watches texts = λ size. (inl refl, pit_alone piton (compiled (text_of role.Source texts) control temporary 0) size)
+sizes_by (command.Big number procedures) watches texts = λ size. (inl refl, big_alone number procedures size)
+sizes_by (command.Run image values budget) watches texts =
+    no_sizes (command.Run image values budget) (reply_by (command.Run image values budget) watches texts) (image_no_size (text_of role.Values texts) budget (read_of (text_of role.Image texts)))
+sizes_by (command.Show image) watches texts = no_sizes (command.Show image) (reply_by (command.Show image) watches texts) (listing_no_size (read_of (text_of role.Image texts)))
+sizes_by (command.Check source) watches texts = no_sizes (command.Check source) (reply_by (command.Check source) watches texts) (judgement_no_size (accepted_in (text_of role.Source texts)) (source_no_size (text_of role.Source texts)))
+sizes_by (command.Pcheck piton) watches texts = no_sizes (command.Pcheck piton) (reply_by (command.Pcheck piton) watches texts) (judgement_no_size (checked_in (text_of role.Piton texts)) (refused_no_size (text_of role.Piton texts)))
+sizes_by (command.Prun piton limit) watches texts = no_sizes (command.Prun piton limit) (reply_by (command.Prun piton limit) watches texts) (checked_run_no_size (checked_in (text_of role.Piton texts)) limit (refused_no_size (text_of role.Piton texts)))
+sizes_by (command.Pbuild piton image) watches texts = λ size. (inr (image, refl), checked_alone (checked_in (text_of role.Piton texts)) size)
+sizes_by (command.Debug level source values control temporary script) watches texts = λ size.
+    (inl refl, debug_alone (run_in level (text_of role.Source texts) (stack_words temporary control) (text_of role.Values texts)) watches (text_of role.Script texts) size)
 
-of_command : (c : Option Command) (reply : Reply) → IsReplyTo c reply → is_size reply.verdict ≡ true → HasSizes c × (reply.said ≡ opening_by c)
-of_command None reply is size = let e : is_size reply.verdict ≡ false = ap (λ (r : ReplyOf). is_size r.verdict) is in absurd (let f : false ≡ true = sym e ∙ size in cc)
-of_command (Some c) reply (texts, is) size =
-    let found = sizes_by c texts (ap (λ (r : ReplyOf). is_size r.verdict) (sym is) ∙ size) in
+of_command : (c : Option Command) (watches : List Watching) (reply : Reply) → IsReplyTo c watches reply → is_size reply.verdict ≡ true → HasSizes c × (reply.said ≡ opening_by c)
+of_command None watches reply is size = let e : is_size reply.verdict ≡ false = ap (λ (r : ReplyOf). is_size r.verdict) is in absurd (let f : false ≡ true = sym e ∙ size in cc)
+of_command (Some c) watches reply (texts, is) size =
+    let found = sizes_by c watches texts (ap (λ (r : ReplyOf). is_size r.verdict) (sym is) ∙ size) in
     (found.0, ap (λ (r : ReplyOf). r.said) is ∙ found.1)
 
-pub sizes_alone : (c : Option Command) (reply : Reply) (of : SizeOf) (need : ℕ) → IsReplyTo c reply → reply.verdict ≡ verdict.Size of need → HasSizes c × (reply.said ≡ opening_by c)
-sizes_alone c reply of need is size = of_command c reply is (ap is_size size)
+pub sizes_alone : (c : Option Command) (watches : List Watching) (reply : Reply) (of : SizeOf) (need : ℕ) → IsReplyTo c watches reply → reply.verdict ≡ verdict.Size of need → HasSizes c × (reply.said ≡ opening_by c)
+sizes_alone c watches reply of need is size = of_command c watches reply is (ap is_size size)

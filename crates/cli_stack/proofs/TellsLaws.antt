@@ -1,25 +1,23 @@
 -- What a command prints is what its source means.
-use Rattle.std.proofs.Common.{◌≡◌, ◌≤◌, ◌⊎◌, inl, inr, ⊎_elim, ℕ, zero, suc, List, [], ◌∷◌, ◌++◌, append-nil, false, Option, Some, None, IfSome, Result, Ok, Err, length, refl, sym, ap, ◌∙◌, subst, arith}
-use Rattle.std.specs.Prelude.{◌^◌, Contains, nat_lt, IsSomeAnd}
+use Rattle.std.proofs.Common.{◌≡◌, ◌≤◌, inl, inr, ℕ, zero, suc, List, [], ◌∷◌, ◌++◌, append-nil, false, Option, Some, None, IfSome, Result, Ok, length, refl, sym, ap, ◌∙◌, subst, arith}
+use Rattle.std.specs.Prelude.{◌^◌, Contains, nat_lt}
 use Rattle.std.proofs.lemmas.Bool.{le-ltb}
-use Rattle.stack_text.specs.Results.{◌>>=◌}
-use Rattle.stack_shelf.specs.Files.{Files, file_at}
+use Rattle.stack_shelf.specs.Files.{Files}
 use Rattle.stack_shelf.specs.Shelf.{fetched, within}
 use Rattle.fm_machine.specs.Run.{Outcome, outcome}
 use Rattle.fm_machine.specs.declared.processor.Run.TheVariants.{Ended}
 use Rattle.fm_machine.proofs.Runs.{outcome_only}
 use Rattle.fm_image.specs.Image.{ImageOf}
-use Rattle.fm_image.specs.Spelling.{Spelled}
 use Rattle.fm_image.proofs.Whole.{spelled_reads}
 use Rattle.fm_loader.specs.Loaded.{loaded}
 use Rattle.fm_loader.specs.Values.{values_in}
 use Rattle.stack_text.specs.Values.{ValueOf}
 use Rattle.display_maps.specs.Report.{report_text}
+use Rattle.level_debuggers.specs.Tallies.{Watching}
 use Rattle.gypsy_syntax.specs.Sources.{SourceOf}
 use Rattle.gypsy_space.specs.Needs.{Words, stack_words}
 use Rattle.gypsy_meaning.specs.Calls.{Way}
-use Rattle.stack_build.specs.declared.fault.BuildFault.{BuildFault}
-use Rattle.stack_build.specs.Build.{BuiltOf, built, source_in, BuildsText}
+use Rattle.stack_build.specs.Build.{built, BuildsText}
 use Rattle.stack_build.specs.Implements.{meaning_shown, FitsFormals, Finishes}
 use Rattle.stack_build.specs.Implements as meant
 use Rattle.stack_build.specs.Joined.{BuiltImplements, BuiltTakesValues}
@@ -29,13 +27,14 @@ use Rattle.cli_stack.specs.declared.driver.early_end.EarlyEnd.{EarlyEnd}
 use Rattle.cli_stack.specs.declared.reply.Verdict.{Verdict}
 use Rattle.cli_stack.specs.declared.reply.Verdict.TheVariants.{Done}
 use Rattle.cli_stack.specs.declared.role.Role.{Role}
-use Rattle.cli_stack.specs.declared.role.Role.TheVariants.{Source, Piton, Image, Values}
+use Rattle.cli_stack.specs.declared.role.Role.TheVariants.{Source, Piton, Image, Values, Script}
+use Rattle.cli_stack.specs.declared.words.reader.Level.{Level}
 use Rattle.cli_stack.specs.Roles.{limit_of}
-use Rattle.cli_stack.specs.Replies.{ReplyOf, status_of, verdict_line, reply_text}
+use Rattle.cli_stack.specs.Replies.{ReplyOf, status_of, verdict_line}
 use Rattle.cli_stack.specs.Go.{go_reply}
 use Rattle.cli_stack.specs.Run.{outcome_reply, run_reply, image_file_reply}
-use Rattle.cli_stack.specs.Answer.{Texts, Answer, text_or_end, gathered, inputs_of, output_of, reply_by, answer_with, answer_on, answer_to, answer_by}
-use Rattle.cli_stack.specs.Correct.{ReadsFile, IsReadable, IsBuilt, IsRead, RunOf, BuiltFrom, ReadFrom, IsProgram, TellsMeaning, TellsRun, HasImage, run_of, TellsMeanings, Tells}
+use Rattle.cli_stack.specs.Answer.{Texts, text_or_end, gathered, inputs_of, output_of, reply_by, answer_with, answer_on, answer_to, answer_by}
+use Rattle.cli_stack.specs.Correct.{IsReadable, IsBuilt, IsRead, TellsMeaning, HasImage, TellsMeanings, Tells}
 
 -- 1. A run that is long enough tells the meaning.
 
@@ -75,10 +74,10 @@ pub both_there : (files : Files) (first second : Role × List ℕ) (text other :
 both_there files first second text other there there' = rw (is_there files first text there, is_there files second other there') refl
 
 module _ (files : Files) (sizes : Words) (source : SourceOf) (image : ImageOf) (values_text : List ℕ) (values finals : List ValueOf) (way : Way) (count budget : ℕ)
-    (gives : values_in image.slots values_text ≡ Ok values) (done : Finishes source sizes values finals way count) (enough : count ≤ budget) where
+    (watches : List Watching) (gives : values_in image.slots values_text ≡ Ok values) (done : Finishes source sizes values finals way count) (enough : count ≤ budget) where
   go_tells : BuiltImplements → BuiltTakesValues → (source_name values_name image_name : List ℕ) (control temporary : ℕ) → stack_words temporary control ≡ sizes
       → IsBuilt files source_name sizes source image → IsReadable files Values values_name values_text
-      → TellsMeaning source image finals way count (answer_to (command.Go source_name values_name control temporary budget image_name) files)
+      → TellsMeaning source image finals way count (answer_to (command.Go source_name values_name control temporary budget image_name) watches files)
   unfolding inputs_of reply_by
   go_tells implement take source_name values_name image_name control temporary own made there =
       let here : IsBuilt files source_name (stack_words temporary control) source image = subst (λ (s : Words). IsBuilt files source_name s source image) (sym own) made in
@@ -95,16 +94,16 @@ module _ (files : Files) (sizes : Words) (source : SourceOf) (image : ImageOf) (
       let done_here : Finishes source (stack_words temporary control) values finals way count = subst (λ (s : Words). Finishes source s values finals way count) (sym own) done in
       let replies : go_reply (built here.text control temporary 0) values_text budget ≡ run_reply image values budget =
       rw (is, found) (ap (λ (i : ImageOf). run_reply i values budget) here.same) in
-      subst (λ (r : Result Texts EarlyEnd). TellsMeaning source image finals way count (answer_on (command.Go source_name values_name control temporary budget image_name) r))
+      subst (λ (r : Result Texts EarlyEnd). TellsMeaning source image finals way count (answer_on (command.Go source_name values_name control temporary budget image_name) watches r))
       (sym (both_there files (Source, source_name) (Values, values_name) here.text values_text here.readable there))
       (reply_tells image source (stack_words temporary control) values finals way count budget _ (go_reply (built here.text control temporary 0) values_text budget) does fits done_here enough replies)
 
   read_tells : (image_name values_name : List ℕ) → IsRead files image_name sizes source image values → IsReadable files Values values_name values_text
-      → TellsMeaning source image finals way count (answer_to (command.Run image_name values_name budget) files)
+      → TellsMeaning source image finals way count (answer_to (command.Run image_name values_name budget) watches files)
   unfolding inputs_of reply_by
   read_tells image_name values_name found there =
       let replies : image_file_reply found.bytes values_text budget ≡ run_reply image values budget = rw (spelled_reads found.bytes image found.spells, gives) refl in
-      subst (λ (r : Result Texts EarlyEnd). TellsMeaning source image finals way count (answer_on (command.Run image_name values_name budget) r))
+      subst (λ (r : Result Texts EarlyEnd). TellsMeaning source image finals way count (answer_on (command.Run image_name values_name budget) watches r))
       (sym (both_there files (Image, image_name) (Values, values_name) found.bytes values_text found.readable there))
       (reply_tells image source sizes values finals way count budget _ (image_file_reply found.bytes values_text budget) found.implements found.fit done enough replies)
 
@@ -129,33 +128,43 @@ mean_has_none source_name values_file control temporary limit (inl (name, (suc z
 mean_has_none source_name values_file control temporary limit (inl (name, (suc (suc i), lt, is))) = omega (arith, lt)
 mean_has_none source_name values_file control temporary limit (inr (name, is)) = let e : None ≡ Some (Image, name) = is in cc
 
-tells_by : BuiltImplements → BuiltTakesValues → (c : Command) (files : Files) → TellsMeanings c files (answer_to c files)
+-- nor has `debug`
+debug_has_none : (level : Level) (source_name values_file : List ℕ) (control temporary : ℕ) (script : List ℕ) → HasImage (command.Debug level source_name values_file control temporary script) → ⊥
+unfolding inputs_of output_of
+debug_has_none level source_name values_file control temporary script (inl (name, (zero, lt, is))) = let e : Source ≡ Image = ap (λ (f : Role × List ℕ). f.0) is in cc
+debug_has_none level source_name values_file control temporary script (inl (name, (suc zero, lt, is))) = let e : Values ≡ Image = ap (λ (f : Role × List ℕ). f.0) is in cc
+debug_has_none level source_name values_file control temporary script (inl (name, (suc (suc zero), lt, is))) = let e : Script ≡ Image = ap (λ (f : Role × List ℕ). f.0) is in cc
+debug_has_none level source_name values_file control temporary script (inl (name, (suc (suc (suc i)), lt, is))) = omega (arith, lt)
+debug_has_none level source_name values_file control temporary script (inr (name, is)) = let e : None ≡ Some (Image, name) = is in cc
+
+tells_by : BuiltImplements → BuiltTakesValues → (c : Command) (watches : List Watching) (files : Files) → TellsMeanings c files (answer_to c watches files)
 unfolding inputs_of
-tells_by implement take (command.Go source_name values_file control temporary budget image_name) files = λ name reads has. (
+tells_by implement take (command.Go source_name values_file control temporary budget image_name) watches files = λ name reads has. (
   values_name Source source_name values_file name (λ e. cc) reads,
   λ sizes source image values_text values finals way count program there gives done enough.
-      go_tells files sizes source image values_text values finals way count budget gives done enough implement take source_name values_file image_name control temporary program.0 program.1 there,
+      go_tells files sizes source image values_text values finals way count budget watches gives done enough implement take source_name values_file image_name control temporary program.0 program.1 there,
 )
-tells_by implement take (command.Run image_name values_file budget) files = λ name reads has. (
+tells_by implement take (command.Run image_name values_file budget) watches files = λ name reads has. (
   values_name Image image_name values_file name (λ e. cc) reads,
   λ sizes source image values_text values finals way count found there gives done enough.
-      read_tells files sizes source image values_text values finals way count budget gives done enough image_name values_file found there,
+      read_tells files sizes source image values_text values finals way count budget watches gives done enough image_name values_file found there,
 )
-tells_by implement take (command.Mean source_name values_file control temporary limit) files = λ name reads has. absurd (mean_has_none source_name values_file control temporary limit has)
-tells_by implement take (command.Show image_name) files = λ name reads has. absurd (no_values Image image_name name (λ e. cc) reads)
-tells_by implement take (command.Pit source_name control temporary piton_name) files = λ name reads has. absurd (no_values Source source_name name (λ e. cc) reads)
-tells_by implement take (command.Build source_name control temporary image_name) files = λ name reads has. absurd (no_values Source source_name name (λ e. cc) reads)
-tells_by implement take (command.Check source_name) files = λ name reads has. absurd (no_values Source source_name name (λ e. cc) reads)
-tells_by implement take (command.Pcheck piton_name) files = λ name reads has. absurd (no_values Piton piton_name name (λ e. cc) reads)
-tells_by implement take (command.Pbuild piton_name image_name) files = λ name reads has. absurd (no_values Piton piton_name name (λ e. cc) reads)
-tells_by implement take (command.Prun piton_name limit) files = λ name reads has. absurd (no_values Piton piton_name name (λ e. cc) reads)
-tells_by implement take c files = λ name reads has. absurd (nothing name reads)
+tells_by implement take (command.Mean source_name values_file control temporary limit) watches files = λ name reads has. absurd (mean_has_none source_name values_file control temporary limit has)
+tells_by implement take (command.Debug level source_name values_file control temporary script) watches files = λ name reads has. absurd (debug_has_none level source_name values_file control temporary script has)
+tells_by implement take (command.Show image_name) watches files = λ name reads has. absurd (no_values Image image_name name (λ e. cc) reads)
+tells_by implement take (command.Pit source_name control temporary piton_name) watches files = λ name reads has. absurd (no_values Source source_name name (λ e. cc) reads)
+tells_by implement take (command.Build source_name control temporary image_name) watches files = λ name reads has. absurd (no_values Source source_name name (λ e. cc) reads)
+tells_by implement take (command.Check source_name) watches files = λ name reads has. absurd (no_values Source source_name name (λ e. cc) reads)
+tells_by implement take (command.Pcheck piton_name) watches files = λ name reads has. absurd (no_values Piton piton_name name (λ e. cc) reads)
+tells_by implement take (command.Pbuild piton_name image_name) watches files = λ name reads has. absurd (no_values Piton piton_name name (λ e. cc) reads)
+tells_by implement take (command.Prun piton_name limit) watches files = λ name reads has. absurd (no_values Piton piton_name name (λ e. cc) reads)
+tells_by implement take c watches files = λ name reads has. absurd (nothing name reads)
   where
     nothing : (name : List ℕ) → Contains {X = Role × List ℕ} [] (Values, name) → ⊥
     nothing name (i, lt, is) = omega arith
 
 -- whatever the command and the files are
-pub tells : BuiltImplements → BuiltTakesValues → (c : Option Command) (o : Option Files) → IfSome o (λ files. Tells c files (answer_by c files))
-tells implement take c None = tt
-tells implement take None (Some files) = tt
-tells implement take (Some c) (Some files) = tells_by implement take c files
+pub tells : BuiltImplements → BuiltTakesValues → (c : Option Command) (watches : List Watching) (o : Option Files) → IfSome o (λ files. Tells c files (answer_by c watches files))
+tells implement take c watches None = tt
+tells implement take None watches (Some files) = tt
+tells implement take (Some c) watches (Some files) = tells_by implement take c watches files

@@ -1,5 +1,5 @@
 -- Texts that are gathered one after the other.
-use Rattle.std.proofs.Common.{◌≡◌, ℕ, List, ◌++◌, Result, Ok, Err}
+use Rattle.std.proofs.Common.{◌++◌, Result, Ok, Err}
 use Rattle.cli_stack.specs.declared.driver.early_end.EarlyEnd.{EarlyEnd}
 use Rattle.cli_stack.specs.Answer.{Texts}
 

@@ -1,16 +1,17 @@
 -- What the program does with the words and the files, where all files are known and no device fails.
-use Rattle.std.specs.Prelude.{ℕ, List, [], ◌∷◌, ◌++◌, Option, Some, None, Result, Ok, Err, Bool, map, if◌then◌else◌}
+use Rattle.std.specs.Prelude.{ℕ, List, [], ◌∷◌, ◌++◌, Option, Some, None, Result, Ok, Err, map, if◌then◌else◌}
 use Rattle.std.specs.Option.{option_to_list}
 use Rattle.stack_text.specs.Results.{◌>>=◌}
 use Rattle.fm_machine.specs.State.{Fm}
 use Rattle.stack_shelf.specs.Files.{Files, put_file}
 use Rattle.stack_shelf.specs.Shelf.{Refusal, Missing, TooLong, fetched}
 use Rattle.stack_build.specs.Build.{built, compiled}
+use Rattle.level_debuggers.specs.Tallies.{Watching}
 use Rattle.cli_stack.specs.declared.command.Command.{Command}
-use Rattle.cli_stack.specs.declared.command.Command.TheVariants.{Check, Mean, Pit, Build, Pcheck, Prun, Pbuild, Run, Go, Show, Big}
+use Rattle.cli_stack.specs.declared.command.Command.TheVariants.{Check, Mean, Pit, Build, Pcheck, Prun, Pbuild, Run, Go, Show, Debug, Big}
 use Rattle.cli_stack.specs.declared.driver.early_end.EarlyEnd.{EarlyEnd}
 use Rattle.cli_stack.specs.declared.driver.early_end.EarlyEnd.TheVariants as end
-use Rattle.cli_stack.specs.declared.reply.Verdict.TheVariants.{Usage, NotBuilt}
+use Rattle.cli_stack.specs.declared.reply.Verdict.TheVariants.{Usage}
 use Rattle.cli_stack.specs.declared.role.Role.{Role}
 use Rattle.cli_stack.specs.declared.role.Role.TheVariants as role
 use Rattle.cli_stack.specs.declared.status.Status.{Status}
@@ -24,13 +25,13 @@ use Rattle.cli_stack.specs.Go.{go_reply}
 use Rattle.cli_stack.specs.Big.{big_reply}
 use Rattle.cli_stack.specs.Run.{image_file_reply}
 use Rattle.cli_stack.specs.Show.{show_reply}
+use Rattle.cli_stack.specs.Debug.{debug_reply}
 use Rattle.cli_stack.specs.Check.{check_reply}
 use Rattle.cli_stack.specs.Pcheck.{pcheck_reply}
 use Rattle.cli_stack.specs.Prun.{prun_reply}
 use Rattle.cli_stack.specs.Pbuild.{pbuild_stored, pbuild_reply}
 
--- 1. The files that a command reads, in order, and the one that it writes: each with its role and its name. A command that is
--- yet to be built touches none.
+-- 1. The files that a command reads, in order, and the one that it writes: each with its role and its name.
 
 unfoldable pub inputs_of : Command → List (Role × List ℕ)
 inputs_of (Go source values control temporary budget image) = (role.Source, source) ∷ (role.Values, values) ∷ []
@@ -43,7 +44,9 @@ inputs_of (Build source control temporary image) = (role.Source, source) ∷ []
 inputs_of (Pcheck piton) = (role.Piton, piton) ∷ []
 inputs_of (Prun piton limit) = (role.Piton, piton) ∷ []
 inputs_of (Pbuild piton image) = (role.Piton, piton) ∷ []
-inputs_of _ = []
+inputs_of (Debug level source values control temporary script) =
+    (role.Source, source) ∷ (role.Values, values) ∷ (role.Script, script) ∷ []
+inputs_of (Big number procedures) = []
 
 unfoldable pub output_of : Command → Option (Role × List ℕ)
 output_of (Go source values control temporary budget image) = Some (role.Image, image)
@@ -52,7 +55,7 @@ output_of (Pbuild piton image) = Some (role.Image, image)
 output_of (Pit source control temporary piton) = Some (role.Piton, piton)
 output_of _ = None
 
--- 2. What it makes of their texts: what it stores, and what it replies.
+-- 2. What it makes of their texts: what it stores, and what it replies. Watches are handed in, for `debug`.
 
 abbrev pub Texts : Type 0
 Texts = List (Role × List ℕ)
@@ -70,21 +73,22 @@ stored_by (Pit source control temporary piton) texts = pit_stored (compiled (tex
 stored_by (Pbuild piton image) texts = pbuild_stored (text_of role.Piton texts)
 stored_by _ texts = None
 
-unfoldable pub reply_by : Command → Texts → ReplyOf
-reply_by (Go source values control temporary budget image) texts =
+unfoldable pub reply_by : Command → List Watching → Texts → ReplyOf
+reply_by (Go source values control temporary budget image) watches texts =
     go_reply (built (text_of role.Source texts) control temporary 0) (text_of role.Values texts) budget
-reply_by (Build source control temporary image) texts = build_reply (built (text_of role.Source texts) control temporary 0)
-reply_by (Pit source control temporary piton) texts = pit_reply piton (compiled (text_of role.Source texts) control temporary 0)
-reply_by (Big number procedures) texts = big_reply number procedures
-reply_by (Mean source values control temporary limit) texts =
+reply_by (Build source control temporary image) watches texts = build_reply (built (text_of role.Source texts) control temporary 0)
+reply_by (Pit source control temporary piton) watches texts = pit_reply piton (compiled (text_of role.Source texts) control temporary 0)
+reply_by (Big number procedures) watches texts = big_reply number procedures
+reply_by (Mean source values control temporary limit) watches texts =
     mean_reply (text_of role.Source texts) (text_of role.Values texts) control temporary limit
-reply_by (Run image values budget) texts = image_file_reply (text_of role.Image texts) (text_of role.Values texts) budget
-reply_by (Show image) texts = show_reply (text_of role.Image texts)
-reply_by (Check source) texts = check_reply (text_of role.Source texts)
-reply_by (Pcheck piton) texts = pcheck_reply (text_of role.Piton texts)
-reply_by (Prun piton limit) texts = prun_reply (text_of role.Piton texts) limit
-reply_by (Pbuild piton image) texts = pbuild_reply (text_of role.Piton texts)
-reply_by _ texts = verdict_alone NotBuilt
+reply_by (Run image values budget) watches texts = image_file_reply (text_of role.Image texts) (text_of role.Values texts) budget
+reply_by (Show image) watches texts = show_reply (text_of role.Image texts)
+reply_by (Check source) watches texts = check_reply (text_of role.Source texts)
+reply_by (Pcheck piton) watches texts = pcheck_reply (text_of role.Piton texts)
+reply_by (Prun piton limit) watches texts = prun_reply (text_of role.Piton texts) limit
+reply_by (Pbuild piton image) watches texts = pbuild_reply (text_of role.Piton texts)
+reply_by (Debug level source values control temporary script) watches texts =
+    debug_reply level (text_of role.Source texts) (text_of role.Values texts) control temporary (text_of role.Script texts) watches
 
 -- 3. All together: the first file that is missing or too long ends the command.
 
@@ -124,22 +128,23 @@ abbrev pub answer_with : Option (List ℕ × List ℕ) → ReplyOf → Answer
 answer_with output reply =
     record { status = status_of reply.verdict; text = reply_text reply; output = output; machine = reply.state }
 
-abbrev pub answer_on : Command → Result Texts EarlyEnd → Answer
-answer_on command (Err early) = early_answer early
-answer_on command (Ok texts) = answer_with (set_file (output_of command) (stored_by command texts)) (reply_by command texts)
+abbrev pub answer_on : Command → List Watching → Result Texts EarlyEnd → Answer
+answer_on command watches (Err early) = early_answer early
+answer_on command watches (Ok texts) =
+    answer_with (set_file (output_of command) (stored_by command texts)) (reply_by command watches texts)
 
--- the end of a command, over these files
-abbrev pub answer_to : Command → Files → Answer
-answer_to command files = answer_on command (gathered files (inputs_of command))
+-- the end of a command with these watches, over these files
+abbrev pub answer_to : Command → List Watching → Files → Answer
+answer_to command watches files = answer_on command watches (gathered files (inputs_of command))
 
 -- words that are no command end with `usage`
-abbrev pub answer_by : Option Command → Files → Answer
-answer_by None files = answer_with None (verdict_alone Usage)
-answer_by (Some command) files = answer_to command files
+abbrev pub answer_by : Option Command → List Watching → Files → Answer
+answer_by None watches files = answer_with None (verdict_alone Usage)
+answer_by (Some command) watches files = answer_to command watches files
 
--- the end of the program, by the words of its command line and the files
-abbrev pub answer : List (List ℕ) → Files → Answer
-answer words files = answer_by (command_of words) files
+-- the end of the program, by the words of its command line, the watches that are handed in, and the files
+abbrev pub answer : List (List ℕ) → List Watching → Files → Answer
+answer words watches files = answer_by (command_of words) watches files
 
 -- the files afterwards
 abbrev pub files_after : Option (List ℕ × List ℕ) → Files → Files

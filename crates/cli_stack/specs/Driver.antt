@@ -2,6 +2,7 @@
 use Rattle.std.specs.Prelude.{◌≡◌, ◌≢◌, ◌⊎◌, ℕ, ◌∷◌, [], ◌++◌, List, Option, Some, None, Result, Ok, Err, Contains, All, IsSomeAnd}
 use Rattle.fm_machine.specs.State.{Seen}
 use Rattle.stack_shelf.specs.Files.{Files}
+use Rattle.level_debuggers.specs.Tallies.{Watching}
 use Rattle.stack_shelf.specs.Causes.{Counts, Rose}
 use Rattle.stack_shelf.specs.Shelf.{PartlyStored, appended, PrefixAppended}
 use Rattle.cli_stack.specs.declared.command.Command.{Command}
@@ -59,9 +60,9 @@ HasReason before after command (TooLong limit) = EndsAtOne before after (input_n
 HasReason before after command end = EndsAtOne before after (file_names command) end
 
 -- the reply is the command's to some texts
-abbrev pub IsReplyTo : Option Command → Reply → Type 0
-IsReplyTo None reply = reply_of reply ≡ verdict_alone Usage
-IsReplyTo (Some command) reply = (texts : Texts) × (reply_of reply ≡ reply_by command texts)
+abbrev pub IsReplyTo : Option Command → List Watching → Reply → Type 0
+IsReplyTo None watches reply = reply_of reply ≡ verdict_alone Usage
+IsReplyTo (Some command) watches reply = (texts : Texts) × (reply_of reply ≡ reply_by command watches texts)
 
 -- the files and the end of a command with these file names and this answer over known files
 abbrev pub LeavesAs : Answer → List (List ℕ) → Files → ShelfOf → ShelfOf → Result Reply EarlyEnd → Type 0
@@ -76,8 +77,8 @@ LeavesAs answer names files before after (Err OutOfMemory) =
     (after.files ≡ Some files) ⊎ ((after.files ≡ Some (files_after answer.output files))
     ⊎ (HoldsPart (Some files) after.files answer.output × FaultRose names before.counts after.counts))
 
-abbrev pub Leaves : Option Command → Files → ShelfOf → ShelfOf → Result Reply EarlyEnd → Type 0
-Leaves command files before after ran = LeavesAs (answer_by command files) (file_names command) files before after ran
+abbrev pub Leaves : Option Command → List Watching → Files → ShelfOf → ShelfOf → Result Reply EarlyEnd → Type 0
+Leaves command watches files before after ran = LeavesAs (answer_by command watches files) (file_names command) files before after ran
 
 -- 3. Printing.
 

@@ -21,6 +21,7 @@ pub mod Go
 pub mod Big
 pub mod Run
 pub mod Show
+pub mod Debug
 pub mod PitonText
 pub mod Pcheck
 pub mod Prun

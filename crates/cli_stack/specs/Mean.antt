@@ -1,29 +1,21 @@
 -- The command `mean`.
-use Rattle.std.specs.Prelude.{ℕ, List, ◌++◌, Bool, Option, Some, None, Result, Ok, Err, nat_lt, if◌then◌else◌, codes}
+use Rattle.std.specs.Prelude.{ℕ, List, ◌++◌, Result, Ok, Err, codes}
 use Rattle.std.specs.Fmt.{decimal}
 use Rattle.stack_text.specs.Values.{ValueOf}
-use Rattle.fm_loader.specs.Values.{values_in}
 use Rattle.gypsy_syntax.specs.Sources.{SourceOf}
-use Rattle.gypsy_syntax.specs.Resolved.{program_of}
-use Rattle.gypsy_space.specs.Needs.{Words, stack_words, main_need}
+use Rattle.gypsy_space.specs.Needs.{Words, stack_words}
 use Rattle.gypsy_meaning.specs.declared.conditions.Current.{Current}
 use Rattle.gypsy_meaning.specs.declared.answers.MeanRun.{MeanRun}
 use Rattle.gypsy_meaning.specs.declared.answers.MeanRun.TheVariants as run
-use Rattle.gypsy_meaning.specs.Seen.{Seen, Ran, opening, run_of, values_at}
+use Rattle.gypsy_meaning.specs.Seen.{Seen, Ran, run_of, values_at}
 use Rattle.gypsy_meaning.specs.Shown.{condition_at, names_at}
 use Rattle.display_maps.specs.Running.{run_lines}
-use Rattle.stack_build.specs.Image.{formal_slots}
-use Rattle.cli_stack.specs.declared.reply.SizeOf.TheVariants.{Control, Temporary}
+use Rattle.stack_build.specs.declared.start_fault.StartFault.{StartFault}
+use Rattle.stack_build.specs.Starts.{gypsy_start}
 use Rattle.cli_stack.specs.declared.reply.Verdict.{Verdict}
-use Rattle.cli_stack.specs.declared.reply.Verdict.TheVariants.{Values, Unfinished, NoRoom, Size}
+use Rattle.cli_stack.specs.declared.reply.Verdict.TheVariants.{Unfinished, NoRoom}
 use Rattle.cli_stack.specs.Replies.{ReplyOf, verdict_alone, all_said, line}
-use Rattle.cli_stack.specs.SourceText.{accepted_in}
-
--- which of the stacks is smaller than main itself needs, and what it needs
-abbrev pub shortage_of : Words → Words → Option Verdict
-shortage_of need sizes =
-    if nat_lt sizes.ctrl need.ctrl then Some (Size Control need.ctrl)
-    else (if nat_lt sizes.temp need.temp then Some (Size Temporary need.temp) else None)
+use Rattle.cli_stack.specs.SourceText.{accepted_in, start_verdict}
 
 -- so many steps at this cost, a condition, and variables by their names and values
 abbrev pub said_text : ℕ → ℕ → Current → List (List ℕ) → List ValueOf → List ℕ
@@ -44,24 +36,18 @@ mean_end_reply source limit (run.NoRoom place) seen = verdict_alone (NoRoom plac
 abbrev pub mean_ran_reply : SourceOf → ℕ → Ran → ReplyOf
 mean_ran_reply source limit ran = mean_end_reply source limit ran.run ran.seen
 
--- the run of a source from these values
-unfoldable pub mean_run_reply : SourceOf → Words → List ValueOf → ℕ → ReplyOf
-mean_run_reply source sizes values limit =
-    mean_ran_reply source limit (run_of limit (opening (program_of source) sizes values))
+-- the run of a source's steps from a state on
+unfoldable pub mean_run_reply : SourceOf → Seen → ℕ → ReplyOf
+mean_run_reply source from limit = mean_ran_reply source limit (run_of limit from)
 
--- the same, or the rule that the values break, and where
-abbrev pub mean_values_reply : SourceOf → Words → ℕ → Result (List ValueOf) (ℕ × ℕ) → ReplyOf
-mean_values_reply source sizes limit (Err fault) = verdict_alone (Values fault.0 fault.1)
-mean_values_reply source sizes limit (Ok values) = mean_run_reply source sizes values limit
+-- the same from the start, or why there is none
+abbrev pub mean_started_reply : SourceOf → ℕ → Result Seen StartFault → ReplyOf
+mean_started_reply source limit (Err fault) = verdict_alone (start_verdict fault)
+mean_started_reply source limit (Ok from) = mean_run_reply source from limit
 
--- the same, where the stacks are large enough for main itself
-abbrev pub mean_sized_reply : Option Verdict → SourceOf → Words → List ℕ → ℕ → ReplyOf
-mean_sized_reply (Some shortage) source sizes values limit = verdict_alone shortage
-mean_sized_reply None source sizes values limit = mean_values_reply source sizes limit (values_in (formal_slots source) values)
-
-unfoldable pub mean_source_reply : SourceOf → Words → List ℕ → ℕ → ReplyOf
-mean_source_reply source sizes values limit =
-    mean_sized_reply (shortage_of (main_need (program_of source)) sizes) source sizes values limit
+-- the run of a source with stacks of these sizes, on the values of a text
+abbrev pub mean_source_reply : SourceOf → Words → List ℕ → ℕ → ReplyOf
+mean_source_reply source sizes values limit = mean_started_reply source limit (gypsy_start source sizes values)
 
 abbrev pub mean_accepted_reply : Result SourceOf Verdict → Words → List ℕ → ℕ → ReplyOf
 mean_accepted_reply (Err verdict) sizes values limit = verdict_alone verdict

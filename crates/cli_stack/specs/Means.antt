@@ -16,7 +16,6 @@ use Rattle.stack_build.specs.Build.{source_in}
 use Rattle.stack_build.specs.Image.{formal_slots}
 use Rattle.cli_stack.specs.declared.command.Command.{Command}
 use Rattle.cli_stack.specs.declared.command.Command.TheVariants.{Mean}
-use Rattle.cli_stack.specs.declared.role.Role.{Role}
 use Rattle.cli_stack.specs.declared.role.Role.TheVariants.{Source, Values}
 use Rattle.cli_stack.specs.declared.status.Status.TheVariants.{Done}
 use Rattle.cli_stack.specs.Answer.{Answer, inputs_of, output_of}

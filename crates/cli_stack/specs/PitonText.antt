@@ -11,14 +11,14 @@ use Rattle.piton_check.specs.Resolved.{resolved}
 use Rattle.piton_check.specs.Violations.{violations}
 use Rattle.cli_stack.specs.declared.reply.RuleLetter.TheVariants.{G, P, Q}
 use Rattle.cli_stack.specs.declared.reply.Verdict.{Verdict}
-use Rattle.cli_stack.specs.declared.reply.Verdict.TheVariants.{Refused, NotBuilt}
+use Rattle.cli_stack.specs.declared.reply.Verdict.TheVariants.{Usage, Refused}
 use Rattle.cli_stack.specs.Replies.{text_rule_number}
 
 -- why a text is no system: a rule of the form of texts, or of that of systems; `piton_in` never runs out of memory
 abbrev pub piton_verdict : PitonFault → Verdict
 piton_verdict (Text rule place) = Refused G (text_rule_number rule) place
 piton_verdict (Form rule place) = Refused P rule place
-piton_verdict Memory = NotBuilt
+piton_verdict Memory = Usage
 
 -- a system that breaks no static rule, with its names resolved, or the least breach
 abbrev pub checked_unless : SystemOf → Option Breach → Result CheckedOf Verdict

@@ -2,6 +2,7 @@
 use Rattle.std.specs.Prelude.{◌≡◌, ◌≢◌, ◌⊎◌, ℕ, List, [], ◌++◌, Option, Some, None, Contains, IfSome, IsSome, IsSomeAnd}
 use Rattle.fm_machine.specs.State.{Fm, Seen}
 use Rattle.stack_shelf.specs.Files.{Files}
+use Rattle.level_debuggers.specs.Tallies.{Watching}
 use Rattle.stack_shelf.specs.Causes.{Counts, Rose}
 use Rattle.stack_shelf.specs.Shelf.{PartlyStored, appended, PrefixAppended}
 use Rattle.cli_stack.specs.declared.command.Command.{Command}
@@ -121,7 +122,8 @@ pub record PromisesOf (command : Option Command) (answer : Files → Answer) (be
       → PrintsPrefix (answer files).text (file_names command) before after)
   pub kept : (status ≡ ShelfFault) ⊎ ((status ≡ SinkFault) ⊎ (status ≡ OutOfMemory)) → after.out.kept ≡ before.out.kept
 
--- the promises of the program on the words of a command line: its result is the number of a status that keeps them
-abbrev pub Promises : List (List ℕ) → World → World → ℕ → Type 0
-Promises words before after result =
-    (status : Status) × (result ≡ status_code status) × PromisesOf (command_of words) (answer words) before after status
+-- the promises of the program on the words of a command line and the watches that are handed in: its result is the number of a
+-- status that keeps them
+abbrev pub Promises : List (List ℕ) → List Watching → World → World → ℕ → Type 0
+Promises words watches before after result =
+    (status : Status) × (result ≡ status_code status) × PromisesOf (command_of words) (answer words watches) before after status

@@ -15,7 +15,7 @@ use Rattle.cli_stack.specs.declared.reply.RuleLetter.TheVariants.{G, M, S, P, Q}
 use Rattle.cli_stack.specs.declared.reply.SizeOf.{SizeOf}
 use Rattle.cli_stack.specs.declared.reply.SizeOf.TheVariants.{Control, Temporary, Words}
 use Rattle.cli_stack.specs.declared.reply.Verdict.{Verdict}
-use Rattle.cli_stack.specs.declared.reply.Verdict.TheVariants.{Done, Usage, Refused, Values, Image, Unfinished, Outside, Error, NoRoom, Script, Size, NotBuilt}
+use Rattle.cli_stack.specs.declared.reply.Verdict.TheVariants.{Done, Usage, Refused, Values, Image, Unfinished, Outside, Error, NoRoom, Script, Size}
 use Rattle.cli_stack.specs.declared.reply.Reply.{Reply}
 use Rattle.cli_stack.specs.declared.driver.early_end.EarlyEnd.{EarlyEnd}
 use Rattle.cli_stack.specs.declared.driver.early_end.EarlyEnd.TheVariants.{Missing, TooLong, ShelfFault, OutOfMemory}
@@ -69,7 +69,6 @@ status_of (Error kind program place count) = status.Error
 status_of (NoRoom place count) = status.NoRoom
 status_of (Script rule number) = status.Script
 status_of (Size of need) = status.Size
-status_of NotBuilt = status.NotBuilt
 
 -- the last line; a command that came to its defined end has said all
 abbrev pub verdict_line : Verdict → List ℕ
@@ -86,7 +85,6 @@ verdict_line (Error kind program place count) =
 verdict_line (NoRoom place count) = line (codes "noroom at " ++ decimal place ++ codes " after " ++ decimal count)
 verdict_line (Script rule number) = line (codes "script D" ++ decimal rule ++ codes " at line " ++ decimal number)
 verdict_line (Size of need) = line (codes "size " ++ size_of_text of ++ codes " " ++ decimal need)
-verdict_line NotBuilt = line (codes "not built")
 
 -- what a command replies: what it says before its last line, how it ended, and the state of the machine that was run
 pub record ReplyOf : Type 0 where

@@ -6,6 +6,8 @@ use Rattle.gypsy_syntax.specs.SourceView.{source_of}
 use Rattle.stack_build.specs.declared.fault.BuildFault.{BuildFault}
 use Rattle.stack_build.specs.declared.fault.BuildFault.TheVariants.{Text, Form, Rule, Size, Control, Temporary, Words, Memory}
 use Rattle.stack_build.specs.Build.{source_in}
+use Rattle.stack_build.specs.declared.start_fault.StartFault.{StartFault}
+use Rattle.stack_build.specs.declared.start_fault.StartFault.TheVariants.{Build, Values}
 use Rattle.cli_stack.specs.declared.reply.RuleLetter.TheVariants.{G, M, S}
 use Rattle.cli_stack.specs.declared.reply.SizeOf.TheVariants as size
 use Rattle.cli_stack.specs.declared.reply.Verdict.{Verdict}
@@ -22,6 +24,11 @@ build_verdict (Control need) = verdict.Size size.Control need
 build_verdict (Temporary need) = verdict.Size size.Temporary need
 build_verdict (Words count) = verdict.Size size.Words count
 build_verdict Memory = verdict.Usage
+
+-- how a command ends where a run of a source doesn't begin
+abbrev pub start_verdict : StartFault → Verdict
+start_verdict (Build fault) = build_verdict fault
+start_verdict (Values rule place) = verdict.Values rule place
 
 -- what was made, or how the command ends
 abbrev pub unless_refused : {X : Type 0} → Result X BuildFault → Result X Verdict

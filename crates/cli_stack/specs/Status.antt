@@ -5,7 +5,7 @@ use Rattle.std.specs.declared.io.Error.{Error as IoError}
 use Rattle.std.specs.declared.io.ErrorKind.{ErrorKind}
 use Rattle.std.specs.declared.io.ErrorKind.TheVariants as kind
 use Rattle.cli_stack.specs.declared.status.Status.{Status}
-use Rattle.cli_stack.specs.declared.status.Status.TheVariants.{Done, Usage, Refused, Values, Image, Unfinished, Outside, NoRoom, Error, Missing, ShelfFault, SinkFault, Size, Script, OutOfMemory, NotBuilt, NoWords}
+use Rattle.cli_stack.specs.declared.status.Status.TheVariants.{Done, Usage, Refused, Values, Image, Unfinished, Outside, NoRoom, Error, Missing, ShelfFault, SinkFault, Size, Script, OutOfMemory, NoWords}
 
 abbrev pub status_code : Status → ℕ
 status_code Done = 0
@@ -23,7 +23,6 @@ status_code SinkFault = 11
 status_code Size = 12
 status_code Script = 13
 status_code OutOfMemory = 14
-status_code NotBuilt = 15
 status_code NoWords = 19
 
 -- the status where the words can't be read, by the kind of the error

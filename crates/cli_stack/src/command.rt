@@ -70,7 +70,7 @@ pub enum Command {
     Show {
         image: FileName,
     },
-    /// Plays a script of a debugger on the program of a source. To come.
+    /// Follows a script of a debugger in a session of a source's program, at a level.
     Debug {
         level: Level,
         source: FileName,
@@ -91,7 +91,7 @@ impl Command {
     ghost use Rattle.std.specs.Option.{option_map};
     ghost use Rattle.cli_stack.specs.Answer.{inputs_of, output_of};
 
-    /// The files that it reads, in order. A command that is to come reads none yet.
+    /// The files that it reads, in order.
     #[tactic(auto, unfolding(crate::specs::Answer::inputs_of))]
     pub fn inputs(&self, alloc: Global) -> Result<Vec<RoleFile<'_>>, Memory>
         ensures { IfOk result (λ inputs.
@@ -142,11 +142,30 @@ impl Command {
                     name: piton
                 },
             ]?),
-            _ => Ok(Vec::new(alloc)),
+            Command::Debug {
+                source,
+                values,
+                script,
+                ..
+            } => Ok(vec![in alloc;
+                RoleFile {
+                    role: Role::Source,
+                    name: source
+                },
+                RoleFile {
+                    role: Role::Values,
+                    name: values
+                },
+                RoleFile {
+                    role: Role::Script,
+                    name: script
+                },
+            ]?),
+            Command::Big { .. } => Ok(Vec::new(alloc)),
         }
     }
 
-    /// The file that it writes. A command that is to come writes none yet.
+    /// The file that it writes.
     #[tactic(auto, unfolding(crate::specs::Answer::output_of))]
     pub fn output(&self) -> Option<RoleFile<'_>>
         ensures { option_map (λ output. (output.role, output.name.now)) result ≡ output_of self.now }

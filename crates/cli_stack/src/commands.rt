@@ -1,5 +1,6 @@
 //! The commands: what each makes of its texts.
-ghost use Rattle.std.specs.Prelude.{◌≡◌, IfOk};
+ghost use Rattle.std.specs.Prelude.{◌≡◌, IfOk, map};
+ghost use Rattle.level_debuggers.specs.Tallies.{watching};
 ghost use Rattle.cli_stack.specs.Answer.{stored_by, reply_by};
 ghost use Rattle.cli_stack.specs.Replies.{reply_of};
 ghost use Rattle.cli_stack.specs.Plans.{pending_reply};
@@ -7,6 +8,7 @@ ghost use Rattle.cli_stack.specs.Plans.{pending_reply};
 mod big;
 mod build;
 mod check;
+mod debug;
 mod go;
 mod image_run;
 mod mean;
@@ -21,18 +23,25 @@ mod show;
 mod source_text;
 
 use crate::command::Command;
-use crate::reply::{Reply, Verdict};
+use crate::reply::Reply;
 use crate::role::Role;
 use crate::texts::Texts;
+use level_debuggers::Watch;
 pub use plan::{Pending, Plan};
 use stack_text::Memory;
 use std::alloc::Global;
 
 /// What a command stores, and what is left to do.
 #[tactic(auto, unfolding(crate::specs::Answer::stored_by, crate::specs::Answer::reply_by))]
-pub fn prepare(alloc: Global, command: &Command, texts: &Texts) -> Result<Plan, Memory>
+pub fn prepare(
+    alloc: Global,
+    command: &Command,
+    texts: &Texts,
+    watches: Vec<Box<dyn Watch>>,
+) -> Result<Plan, Memory>
     ensures stored { IfOk result (λ plan. plan.stored ≡ stored_by command.now texts.now) }
-    ensures reply { IfOk result (λ plan. pending_reply plan.pending ≡ reply_by command.now texts.now) }
+    ensures reply { IfOk result (λ plan. pending_reply plan.pending
+        ≡ reply_by command.now (map (λ w. watching (rule_of w) (tally_of w)) watches.items) texts.now) }
 {
     match command {
         Command::Go {
@@ -78,7 +87,12 @@ pub fn prepare(alloc: Global, command: &Command, texts: &Texts) -> Result<Plan, 
         Command::Pcheck { .. } => pcheck::prepare(alloc, texts.of(Role::Piton)),
         Command::Pbuild { .. } => pbuild::prepare(alloc, texts.of(Role::Piton)),
         Command::Prun { limit, .. } => prun::prepare(alloc, texts.of(Role::Piton), *limit),
-        _ => Ok(Plan::verdict_alone(alloc, Verdict::NotBuilt)),
+        Command::Debug {
+            level,
+            control,
+            temporary,
+            ..
+        } => debug::prepare(alloc, *level, texts, control, temporary, watches),
     }
 }
 

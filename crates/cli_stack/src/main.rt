@@ -16,6 +16,7 @@ mod tests;
 mod texts;
 mod words;
 
+use level_debuggers::{CountWatch, LastWatch, PeakWatch, Watch};
 use program::cli;
 use stack_shelf::{FolderShelf, StdoutSink};
 use status::Status;
@@ -34,14 +35,18 @@ fn arguments(alloc: Global, rt: &(impl Env + AllocGlobal)) -> io::Result<Vec<Str
     Ok(words)
 }
 
-/// Runs the words of the command line over the current folder and standard output.
+/// Runs the words of the command line over the current folder and standard output, with a watch of each rule.
 fn run(rt: HostRuntime) -> io::Result<u8> {
     let alloc = rt.alloc();
     let words = arguments(alloc, &rt)?;
+    let mut watches: Vec<Box<dyn Watch>> = Vec::new(alloc);
+    watches.push(Box::new(alloc, CountWatch::new())?)?;
+    watches.push(Box::new(alloc, LastWatch::new())?)?;
+    watches.push(Box::new(alloc, PeakWatch::new())?)?;
     let mut shelf = FolderShelf::new(alloc, rt, PathBuf::new(alloc));
     let mut out = StdoutSink::new(rt);
     let mut kept = None;
-    Ok(cli(alloc, &words, &mut shelf, &mut out, &mut kept))
+    Ok(cli(alloc, &words, &mut shelf, &mut out, &mut kept, watches))
 }
 
 /// The exit status: that of the program, or why its words can't be read.

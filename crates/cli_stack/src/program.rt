@@ -1,10 +1,13 @@
 //! The whole program over a shelf and a sink.
+ghost use Rattle.std.specs.Prelude.{map};
+ghost use Rattle.level_debuggers.specs.Tallies.{watching};
 ghost use Rattle.cli_stack.specs.Words.{spelled};
 ghost use Rattle.cli_stack.specs.World.{world};
 ghost use Rattle.cli_stack.specs.Promises.{Promises};
 
 use crate::driver::{conclude, run_words};
 use fm_machine::Machine;
+use level_debuggers::Watch;
 use stack_build::builds_implement;
 use stack_shelf::{Shelf, Sink};
 use std::alloc::Global;
@@ -14,7 +17,8 @@ use std::alloc::Global;
 ///
 /// `words` are those after the program's name, as `go SRC VALS CTRL TEMP BUDGET IMG`. `kept` is a place for the machine
 /// that was run: it holds that machine as it is after the run where the status is 0, 5 or 6 and the command runs one,
-/// and is as it was in every other case.
+/// and is as it was in every other case. `watches` are those that a debug session may attach; no other command looks at
+/// them.
 ///
 /// `Status` lists the exit statuses, and `docs/cli.md` when each of them occurs. `specs/Promises.antt` has the promises
 /// one by one, under the names of its fields.
@@ -24,13 +28,14 @@ pub fn cli<S: Shelf, K: Sink>(
     shelf: &mut S,
     out: &mut K,
     kept: &mut Option<Machine>,
+    watches: Vec<Box<dyn Watch>>,
 ) -> u8
-    ensures { Promises (spelled words.now)
+    ensures { Promises (spelled words.now) (map (λ w. watching (rule_of w) (tally_of w)) watches.items)
         (world (S.files shelf.old) (S.counts shelf.old) (K.taken out.old) (K.faults out.old) kept.old)
         (world (S.files shelf.new) (S.counts shelf.new) (K.taken out.new) (K.faults out.new) kept.new)
         result }
 {
     builds_implement();
-    let ran = run_words(alloc, words, shelf);
+    let ran = run_words(alloc, words, shelf, watches);
     conclude(alloc, ran, out, kept).code()
 }

@@ -81,8 +81,6 @@ pub enum Verdict {
         of: SizeOf,
         need: u64,
     },
-    /// The command or the source is of a form that is yet to be built.
-    NotBuilt,
 }
 
 /// The letter of a rule.
@@ -237,7 +235,6 @@ impl Verdict {
             Verdict::NoRoom { .. } => Status::NoRoom,
             Verdict::Script { .. } => Status::Script,
             Verdict::Size { .. } => Status::Size,
-            Verdict::NotBuilt => Status::NotBuilt,
         }
     }
 
@@ -266,7 +263,6 @@ impl Verdict {
             Verdict::NoRoom { place, count } => no_room_line(alloc, *place, *count),
             Verdict::Script { rule, line } => script_line(alloc, *rule, *line),
             Verdict::Size { of, need } => size_line(alloc, *of, *need),
-            Verdict::NotBuilt => Ok(b"not built\n".to_vec(alloc)?),
         }
     }
 }

@@ -35,8 +35,6 @@ pub enum Status {
     Script,
     /// There was no memory.
     OutOfMemory,
-    /// The command or the source is of a form that is yet to be built.
-    NotBuilt,
     /// The words of the command line can't be read. `cli` never ends so.
     NoWords,
 }
@@ -65,7 +63,6 @@ impl Status {
             Status::Size => 12,
             Status::Script => 13,
             Status::OutOfMemory => 14,
-            Status::NotBuilt => 15,
             Status::NoWords => 19,
         }
     }

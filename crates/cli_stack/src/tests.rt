@@ -1,5 +1,6 @@
 //! Worked rows of the commands over devices in memory. Images, machines and listings were worked out by hand from the tables
 //! of the processor, of Piton's code and of the image file.
+mod debug;
 mod devices;
 mod go;
 mod images;
@@ -10,6 +11,7 @@ mod words;
 
 use crate::program::cli;
 use fm_machine::Machine;
+use level_debuggers::{CountWatch, LastWatch, PeakWatch, Watch};
 use stack_shelf::{MemoryShelf, MemorySink};
 use std::alloc::{AllocError, Global};
 
@@ -72,7 +74,11 @@ fn ask(
     let mut shelf = MemoryShelf::new(alloc, there, vec![in alloc; shelf_call]?);
     let mut out = MemorySink::new(alloc, vec![in alloc; sink_call]?);
     let mut kept = kept;
-    let status = cli(alloc, &words, &mut shelf, &mut out, &mut kept);
+    let mut watches: Vec<Box<dyn Watch>> = Vec::new(alloc);
+    watches.push(Box::new(alloc, CountWatch::new())?)?;
+    watches.push(Box::new(alloc, LastWatch::new())?)?;
+    watches.push(Box::new(alloc, PeakWatch::new())?)?;
+    let status = cli(alloc, &words, &mut shelf, &mut out, &mut kept, watches);
     let mut image = None;
     for file in shelf.files() {
         if file.0.as_str() == "i" {

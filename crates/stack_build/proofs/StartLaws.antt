@@ -40,7 +40,7 @@ use Rattle.stack_build.specs.Implements.{FitsFormals}
 use Rattle.stack_build.proofs.Initial.{is_initial}
 use Rattle.stack_build.proofs.MainLaws.{zero_values}
 use Rattle.stack_build.proofs.TakesLaws.{takes_values}
-use Rattle.stack_build.specs.Starts.{values_fault, fault_of, or_build, or_values, with_text, built_start, with_values, main_words, CanRun}
+use Rattle.stack_build.specs.Starts.{values_fault, start_fault_of, or_build, or_values, with_text, built_start, with_values, main_words, CanRun}
 
 -- 1. What is built.
 
@@ -117,7 +117,7 @@ can_run acceptable s sizes b text values accepted is image read =
 
 -- values that break a rule
 pub values_failed : (s : SourceOf) (sizes : Words) (b : BuiltOf) (text : List ℕ) (error : ValuesFault) → source_built s sizes 0 ≡ Ok b → common.Fails (values_rule error) (values_in b.image.slots text)
-    → common.Fails (fault_of (values_fault error)) (built_start s sizes text)
+    → common.Fails (start_fault_of (values_fault error)) (built_start s sizes text)
 unfolding built_start
 values_failed s sizes b text (Refused rule place) is fails =
     ap (λ (r : Result BuiltOf BuildFault). or_build r >>= with_text text) is

@@ -36,13 +36,13 @@ values_fault (values.Refused rule place) = Values rule place
 values_fault values.Memory = Build build.Memory
 
 -- out of memory is no fault of a source
-abbrev pub fault_of : StartFault → Option StartFault
-fault_of (Build build.Memory) = None
-fault_of fault = Some fault
+abbrev pub start_fault_of : StartFault → Option StartFault
+start_fault_of (Build build.Memory) = None
+start_fault_of fault = Some fault
 
 -- the call returned exactly what the definition gives, seen through the view; out of memory alone is free
-abbrev pub Gives : {X Y : Type 0} → (X → Y) → Result X StartFault → Result Y StartFault → Type 0
-Gives view result value = common.Gives fault_of view result value
+abbrev pub GivesStart : {X Y : Type 0} → (X → Y) → Result X StartFault → Result Y StartFault → Type 0
+GivesStart view result value = common.Gives start_fault_of view result value
 
 -- what is built, or why nothing is
 abbrev pub or_build : {X : Type 0} → Result X BuildFault → Result X StartFault

@@ -7,7 +7,7 @@ ghost use Rattle.fm_loader.specs.Loaded.{Fits};
 ghost use Rattle.piton_machine.specs.Fits.{system_in};
 ghost use Rattle.piton_machine.specs.Placed.{placed};
 ghost use Rattle.piton_machine.specs.Seen.{IsSeen};
-ghost use Rattle.stack_build.specs.Starts.{Gives, CanRun, built_start, system_start, image_start};
+ghost use Rattle.stack_build.specs.Starts.{GivesStart, CanRun, built_start, system_start, image_start};
 
 use crate::building::{Built, build_accepted};
 use crate::start_fault::StartFault;
@@ -32,7 +32,7 @@ fn built_start(
     text: &[u8],
 ) -> Result<(Checked, Image, Vec<Value>), StartFault>
     requires { length text.now ≤ 2 ^ 31 }
-    ensures start { Gives (λ start. record { checked = start.0; image = start.1; values = start.2.items }) result
+    ensures start { GivesStart (λ start. record { checked = start.0; image = start.1; values = start.2.items }) result
         (built_start (source_of accepted.now) (stack_words temporary control) text.now) }
     ensures runs { IfOk result (λ start.
         CanRun (source_of accepted.now) record { checked = start.0; image = start.1; values = start.2.items }) }
@@ -83,7 +83,7 @@ pub fn start_system(
     values: &[u8],
 ) -> Result<SystemStart, StartFault>
     requires { length values.now ≤ 2 ^ 31 }
-    ensures start { Gives (λ start. start) result
+    ensures start { GivesStart (λ start. start) result
         (system_start (source_of accepted.now) (stack_words temporary control) values.now) }
     ensures seen { IfOk result (λ start. IsSeen (system_in start.checked) start.state) }
     ensures small { IfOk result (λ start. (placed (system_in start.checked)).size ≤ 2 ^ 20) }
@@ -113,7 +113,7 @@ pub fn start_image(
     values: &[u8],
 ) -> Result<ImageStart, StartFault>
     requires { length values.now ≤ 2 ^ 31 }
-    ensures start { Gives (λ start. (start.image, start.machine.state)) result
+    ensures start { GivesStart (λ start. (start.image, start.machine.state)) result
         (image_start (source_of accepted.now) (stack_words temporary control) values.now) }
 {
     let (_, image, values) = built_start(alloc, accepted, control, temporary, values)?;

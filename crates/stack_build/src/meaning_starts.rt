@@ -8,7 +8,7 @@ ghost use Rattle.gypsy_space.specs.Events.{AreNeeds, AreSmall};
 ghost use Rattle.gypsy_space.specs.Needs.{stack_words, main_need};
 ghost use Rattle.gypsy_syntax.specs.Resolved.{program_of};
 ghost use Rattle.gypsy_syntax.specs.SourceView.{source_of};
-ghost use Rattle.stack_build.specs.Starts.{Gives, shortage_of, gypsy_start};
+ghost use Rattle.stack_build.specs.Starts.{GivesStart, shortage_of, gypsy_start};
 
 use crate::fault::BuildFault;
 use crate::formals::read_formals;
@@ -62,7 +62,7 @@ pub fn start_meaning(
     requires needs { AreNeeds (program_of (source_of accepted.now)) needs.now.procedures.items }
     requires small { AreSmall needs.now.procedures.items }
     requires values { length values.now ≤ 2 ^ 31 }
-    ensures start { Gives seen result
+    ensures start { GivesStart seen result
         (gypsy_start (source_of accepted.now) (stack_words temporary control) values.now) }
     ensures belongs { IfOk result (BelongsTo (source_of accepted.now) needs.now.procedures.items) }
 {

@@ -1,28 +1,21 @@
 //! The command `mean`.
 ghost use Rattle.std.specs.Prelude.{◌≡◌, ◌≤◌, ◌^◌, None, IfOk, length, map};
-ghost use Rattle.gypsy_syntax.specs.Resolved.{program_of};
-ghost use Rattle.gypsy_syntax.specs.ProgramFits.{ProgramFits};
 ghost use Rattle.gypsy_syntax.specs.SourceView.{source_of};
-ghost use Rattle.gypsy_check.specs.Accepted.{IsAccepted};
-ghost use Rattle.gypsy_space.specs.Events.{AreNeeds, AreSmall};
-ghost use Rattle.gypsy_space.specs.Needs.{stack_words, main_need};
-ghost use Rattle.gypsy_space.specs.Nodes.{seen_program};
-ghost use Rattle.gypsy_meaning.specs.Belongs.{BelongsTo, Suffices};
+ghost use Rattle.gypsy_space.specs.Needs.{stack_words};
+ghost use Rattle.gypsy_meaning.specs.Belongs.{BelongsTo};
 ghost use Rattle.gypsy_meaning.specs.Running.{seen};
-ghost use Rattle.stack_build.specs.Implements.{FitsFormals};
-ghost use Rattle.cli_stack.specs.Mean.{shortage_of, said_text, ended_text, mean_end_reply, mean_run_reply, mean_source_reply, mean_reply};
+ghost use Rattle.cli_stack.specs.Mean.{said_text, ended_text, mean_end_reply, mean_run_reply, mean_source_reply, mean_reply};
 ghost use Rattle.cli_stack.specs.Plans.{pending_reply};
 
 use crate::commands::plan::Plan;
-use crate::commands::source_text::read_accepted;
-use crate::reply::{SizeOf, Verdict};
+use crate::commands::source_text::{read_accepted, start_verdict};
+use crate::reply::Verdict;
 use crate::words::StackSize;
 use display_maps::push_run;
-use fm_loader::ValuesFault;
 use gypsy_check::Accepted;
-use gypsy_meaning::{Current, MeanRun, Meaning, control_need, temporary_need};
-use gypsy_space::{Needs, needs, resolve};
-use stack_build::read_formals;
+use gypsy_meaning::{Current, MeanRun, Meaning};
+use gypsy_space::{Needs, needs};
+use stack_build::start_meaning;
 use stack_text::{Memory, Name, Seq, Value};
 use std::alloc::Global;
 
@@ -54,35 +47,7 @@ pub fn prepare(
     }
 }
 
-/// Which of the stacks is smaller than main itself needs.
-fn shortage_of(
-    alloc: Global,
-    accepted: &Accepted,
-    needs: &Needs,
-    control: u32,
-    temporary: u32,
-) -> Result<Option<Verdict>, Memory>
-    requires needs { AreNeeds (program_of (source_of accepted.now)) needs.now.procedures.items }
-    requires small { AreSmall needs.now.procedures.items }
-    ensures { IfOk result (λ shortage. shortage
-        ≡ shortage_of (main_need (program_of (source_of accepted.now))) (stack_words temporary control)) }
-{
-    let program = resolve(alloc, accepted)?;
-    let need = control_need(&program, needs);
-    if u64::from(control) < need {
-        let of = SizeOf::Control;
-        return Ok(Some(Verdict::Size { of, need }));
-    }
-    let need = temporary_need(&program, needs);
-    if u64::from(temporary) < need {
-        let of = SizeOf::Temporary;
-        return Ok(Some(Verdict::Size { of, need }));
-    }
-    Ok(None)
-}
-
 /// The run of an accepted source, with stacks of these sizes.
-#[tactic(auto, unfolding(crate::specs::Mean::mean_source_reply))]
 fn run_source(
     alloc: Global,
     accepted: &Accepted,
@@ -97,46 +62,27 @@ fn run_source(
         ≡ mean_source_reply (source_of accepted.now) (stack_words temporary control) values.now limit) }
 {
     let needs = needs(alloc, accepted)?;
-    if let Some(shortage) = shortage_of(alloc, accepted, &needs, control, temporary)? {
-        return Ok(Plan::verdict_alone(alloc, shortage));
-    }
-    match read_formals(alloc, accepted, values) {
-        Ok(values) => run_values(
-            alloc,
-            accepted,
-            &needs,
-            values.as_slice(),
-            control,
-            temporary,
-            limit,
-        ),
-        Err(ValuesFault::Refused { rule, place }) => {
-            Ok(Plan::verdict_alone(alloc, Verdict::Values { rule, place }))
-        }
-        Err(ValuesFault::Memory) => Err(Memory),
+    match start_meaning(alloc, accepted, &needs, control, temporary, values) {
+        Ok(meaning) => run_meaning(alloc, accepted, &needs, meaning, limit),
+        Err(fault) => Ok(Plan::verdict_alone(alloc, start_verdict(fault)?)),
     }
 }
 
-/// The run from these values.
+/// The run of a source's steps from a state on.
 #[tactic(auto, unfolding(crate::specs::Mean::mean_run_reply))]
-fn run_values(
+fn run_meaning(
     alloc: Global,
     accepted: &Accepted,
     needs: &Needs,
-    values: &[Value],
-    control: u32,
-    temporary: u32,
+    meaning: Meaning,
     limit: u64,
 ) -> Result<Plan, Memory>
-    requires needs { AreNeeds (program_of (source_of accepted.now)) needs.now.procedures.items }
-    requires small { AreSmall needs.now.procedures.items }
-    requires values { FitsFormals (source_of accepted.now) values.now }
-    requires sizes { Suffices (program_of (source_of accepted.now)) (stack_words temporary control) }
+    requires { BelongsTo (source_of accepted.now) needs.now.procedures.items meaning }
     ensures stored { IfOk result (λ plan. plan.stored ≡ None) }
     ensures reply { IfOk result (λ plan. pending_reply plan.pending
-        ≡ mean_run_reply (source_of accepted.now) (stack_words temporary control) values.now limit) }
+        ≡ mean_run_reply (source_of accepted.now) (seen meaning) limit) }
 {
-    let mut meaning = Meaning::start(alloc, accepted, needs, values, control, temporary)?;
+    let mut meaning = meaning;
     let run = meaning.run(alloc, accepted, needs, limit)?;
     plan_of(alloc, accepted, needs, limit, run, &meaning)
 }

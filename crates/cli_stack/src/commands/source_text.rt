@@ -1,11 +1,12 @@
 //! Texts of sources, read and judged.
 ghost use Rattle.std.specs.Prelude.{◌≡◌, ◌≤◌, ◌^◌, Some, IfOk, length};
 ghost use Rattle.stack_build.specs.Build.{fault_of};
-ghost use Rattle.cli_stack.specs.SourceText.{build_verdict, accepted_in, found_source};
+ghost use Rattle.stack_build.specs.Starts.{start_fault_of};
+ghost use Rattle.cli_stack.specs.SourceText.{build_verdict, start_verdict, accepted_in, found_source};
 
 use crate::reply::{RuleLetter, SizeOf, Verdict, text_rule_number};
 use gypsy_check::Accepted;
-use stack_build::{BuildFault, accept};
+use stack_build::{BuildFault, StartFault, accept};
 use stack_text::Memory;
 use std::alloc::Global;
 
@@ -50,6 +51,17 @@ pub fn verdict_of(fault: BuildFault) -> Result<Verdict, Memory>
             need,
         }),
         BuildFault::Memory => Err(Memory),
+    }
+}
+
+/// How a command ends where a run of a source does not begin.
+pub fn start_verdict(fault: StartFault) -> Result<Verdict, Memory>
+    ensures known { IfOk result (λ verdict. start_fault_of fault ≡ Some fault) }
+    ensures verdict { IfOk result (λ verdict. verdict ≡ start_verdict fault) }
+{
+    match fault {
+        StartFault::Build(fault) => verdict_of(fault),
+        StartFault::Values { rule, place } => Ok(Verdict::Values { rule, place }),
     }
 }
 

@@ -1,5 +1,6 @@
 //! Performs a command over a shelf.
-ghost use Rattle.std.specs.Prelude.{◌≡◌, IfOk, IfErr, IfSome, Some};
+ghost use Rattle.std.specs.Prelude.{◌≡◌, IfOk, IfErr, IfSome, Some, map};
+ghost use Rattle.level_debuggers.specs.Tallies.{watching};
 ghost use Rattle.stack_shelf.specs.Causes.{NoneFell};
 ghost use Rattle.cli_stack.specs.Words.{spelled};
 ghost use Rattle.cli_stack.specs.Rows.{command_of};
@@ -14,21 +15,29 @@ use crate::driver::gather::gather;
 use crate::driver::save::save;
 use crate::reply::{Reply, Verdict};
 use crate::words::{WordsFault, command_of};
+use level_debuggers::Watch;
 use stack_shelf::Shelf;
 use std::alloc::Global;
 
 /// Performs a command: fetches what it reads, stores what it writes, and replies.
-fn perform<S: Shelf>(alloc: Global, command: &Command, shelf: &mut S) -> Result<Reply, EarlyEnd>
-    ensures leaves { IfSome (S.files shelf.old) (λ files. Leaves (Some command.now) files
+fn perform<S: Shelf>(
+    alloc: Global,
+    command: &Command,
+    shelf: &mut S,
+    watches: Vec<Box<dyn Watch>>,
+) -> Result<Reply, EarlyEnd>
+    ensures leaves { IfSome (S.files shelf.old) (λ files. Leaves (Some command.now)
+        (map (λ w. watching (rule_of w) (tally_of w)) watches.items) files
         (shelf_of (S.files shelf.old) (S.counts shelf.old))
         (shelf_of (S.files shelf.new) (S.counts shelf.new)) result) }
     ensures reason { IfErr result (HasReason (S.counts shelf.old) (S.counts shelf.new) (Some command.now)) }
-    ensures reply { IfOk result (IsReplyTo (Some command.now)) }
+    ensures reply { IfOk result (IsReplyTo (Some command.now)
+        (map (λ w. watching (rule_of w) (tally_of w)) watches.items)) }
     ensures counts { NoneFell (S.counts shelf.old) (S.counts shelf.new) }
 {
     let inputs = command.inputs(alloc)?;
     let texts = gather(alloc, shelf, &inputs)?;
-    let Plan { stored, pending } = prepare(alloc, command, &texts)?;
+    let Plan { stored, pending } = prepare(alloc, command, &texts, watches)?;
     if let (Some(output), Some(bytes)) = (command.output(), stored) {
         save(alloc, shelf, output.name.as_str(), bytes.as_slice())?;
     }
@@ -40,17 +49,20 @@ pub fn run_words<S: Shelf>(
     alloc: Global,
     words: &[String],
     shelf: &mut S,
+    watches: Vec<Box<dyn Watch>>,
 ) -> Result<Reply, EarlyEnd>
-    ensures leaves { IfSome (S.files shelf.old) (λ files. Leaves (command_of (spelled words.now)) files
+    ensures leaves { IfSome (S.files shelf.old) (λ files. Leaves (command_of (spelled words.now))
+        (map (λ w. watching (rule_of w) (tally_of w)) watches.items) files
         (shelf_of (S.files shelf.old) (S.counts shelf.old))
         (shelf_of (S.files shelf.new) (S.counts shelf.new)) result) }
     ensures reason { IfErr result
         (HasReason (S.counts shelf.old) (S.counts shelf.new) (command_of (spelled words.now))) }
-    ensures reply { IfOk result (IsReplyTo (command_of (spelled words.now))) }
+    ensures reply { IfOk result (IsReplyTo (command_of (spelled words.now))
+        (map (λ w. watching (rule_of w) (tally_of w)) watches.items)) }
     ensures counts { NoneFell (S.counts shelf.old) (S.counts shelf.new) }
 {
     match command_of(alloc, words) {
-        Ok(command) => perform(alloc, &command, shelf),
+        Ok(command) => perform(alloc, &command, shelf, watches),
         Err(WordsFault::Usage) => Ok(Reply::verdict_alone(alloc, Verdict::Usage)),
         Err(WordsFault::Memory) => Err(EarlyEnd::OutOfMemory),
     }

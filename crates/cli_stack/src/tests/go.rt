@@ -201,6 +201,13 @@ fn rows() -> &'static [(&'static str, &'static str, &'static str, u8, &'static s
         ("build s 3 4096 i", LONGEST, "", 12, "size temporary 4097\n"),
         ("go s v 100 100 100 i", FOREVER, "()", 5, "unfinished 100\n"),
         (
+            "go s v 17 10 1000 i",
+            RECURSIVE,
+            "((n 2))",
+            6,
+            "outside 00e00c3f after 325\n",
+        ),
+        (
             "go s v 24 10 1000000 i",
             RECURSIVE,
             "((n 2))",
@@ -307,7 +314,7 @@ fn sources_that_are_built_run_or_followed(rt: HostRuntime) -> Result<(), Fail> {
     for (words, source, values, status, printed) in rows() {
         let files: [(&str, &[u8]); 2] = [("s", source.as_bytes()), ("v", values.as_bytes())];
         let outcome = plainly(alloc, words, &files)?;
-        let has_image = words.ends_with(" i") && (*status == 0 || *status == 3 || *status == 5);
+        let has_image = words.ends_with(" i") && [0, 3, 5, 6].contains(status);
         let has_run = words.starts_with("go") || words.starts_with("big");
         assert_eq!(rt; outcome.status, *status, "{words} of {source}");
         assert_eq!(rt;
@@ -318,7 +325,7 @@ fn sources_that_are_built_run_or_followed(rt: HostRuntime) -> Result<(), Fail> {
         assert_eq!(rt; outcome.image.is_some(), has_image, "{words} of {source}");
         assert_eq!(rt;
             outcome.kept.is_some(),
-            has_run && (*status == 0 || *status == 5),
+            has_run && [0, 5, 6].contains(status),
             "{words} of {source}"
         );
     }

@@ -12,13 +12,14 @@ fn padded(alloc: Global, text: &[u8], byte: u8, length: usize) -> Result<Vec<u8>
     Ok(bytes)
 }
 
-/// How long the source, the values, the image and the Piton text are, and how a command on them ends.
+/// How long the source, the values, the image, the Piton text and the script are, and how a command on them ends.
 struct Row {
     words: &'static str,
     source: usize,
     values: usize,
     image: usize,
     piton: usize,
+    script: usize,
     status: u8,
     printed: &'static str,
 }
@@ -31,6 +32,7 @@ fn rows() -> &'static [Row] {
             values: 1_048_576,
             image: 0,
             piton: 0,
+            script: 0,
             status: 0,
             printed: "finished 28\ncondition normal\nx = 7\n",
         },
@@ -40,6 +42,7 @@ fn rows() -> &'static [Row] {
             values: 0,
             image: 0,
             piton: 0,
+            script: 0,
             status: 12,
             printed: "size file 1048576\n",
         },
@@ -49,6 +52,7 @@ fn rows() -> &'static [Row] {
             values: 1_048_577,
             image: 0,
             piton: 0,
+            script: 0,
             status: 12,
             printed: "size file 1048576\n",
         },
@@ -58,6 +62,7 @@ fn rows() -> &'static [Row] {
             values: 0,
             image: 8_388_608,
             piton: 0,
+            script: 0,
             status: 4,
             printed: "image I4 at 345\n",
         },
@@ -67,6 +72,7 @@ fn rows() -> &'static [Row] {
             values: 0,
             image: 8_388_609,
             piton: 0,
+            script: 0,
             status: 12,
             printed: "size file 8388608\n",
         },
@@ -76,6 +82,7 @@ fn rows() -> &'static [Row] {
             values: 1_048_577,
             image: 0,
             piton: 0,
+            script: 0,
             status: 12,
             printed: "size file 1048576\n",
         },
@@ -85,6 +92,7 @@ fn rows() -> &'static [Row] {
             values: 0,
             image: 0,
             piton: 0,
+            script: 0,
             status: 0,
             printed: "ok\n",
         },
@@ -94,6 +102,7 @@ fn rows() -> &'static [Row] {
             values: 0,
             image: 0,
             piton: 0,
+            script: 0,
             status: 12,
             printed: "size file 1048576\n",
         },
@@ -103,6 +112,7 @@ fn rows() -> &'static [Row] {
             values: 0,
             image: 0,
             piton: 16_777_216,
+            script: 0,
             status: 2,
             printed: "refused G5 at 43\n",
         },
@@ -112,8 +122,29 @@ fn rows() -> &'static [Row] {
             values: 0,
             image: 0,
             piton: 16_777_217,
+            script: 0,
             status: 12,
             printed: "size file 16777216\n",
+        },
+        Row {
+            words: "debug gypsy s v 7 3 d",
+            source: 0,
+            values: 0,
+            image: 0,
+            piton: 0,
+            script: 1_048_576,
+            status: 0,
+            printed: "top\n",
+        },
+        Row {
+            words: "debug gypsy s v 7 3 d",
+            source: 0,
+            values: 0,
+            image: 0,
+            piton: 0,
+            script: 1_048_577,
+            status: 12,
+            printed: "size file 1048576\n",
         },
     ]
 }
@@ -127,11 +158,13 @@ fn files_at_their_limits(rt: HostRuntime) -> Result<(), Fail> {
         let values = padded(alloc, b"((x 0))", b' ', row.values)?;
         let image = padded(alloc, &image, 0, row.image)?;
         let piton = padded(alloc, RETURN.as_bytes(), b')', row.piton)?;
-        let files: [(&str, &[u8]); 4] = [
+        let script = padded(alloc, b"up", b'\n', row.script)?;
+        let files: [(&str, &[u8]); 5] = [
             ("s", &source),
             ("v", &values),
             ("i", &image),
             ("p", &piton),
+            ("d", &script),
         ];
         let outcome = plainly(alloc, row.words, &files)?;
         assert_eq!(rt; outcome.status, row.status, "{}", row.printed);

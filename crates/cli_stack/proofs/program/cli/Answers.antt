@@ -1,3 +1,5 @@
+use Rattle.std.proofs.Common.{List, map}
+use Rattle.level_debuggers.specs.Tallies.{Watching, watching}
 use Rattle.cli_stack.specs.Words.{spelled}
 use Rattle.cli_stack.specs.Rows.{command_of}
 use Rattle.cli_stack.proofs.ImplementsLaws.{implements}
@@ -8,9 +10,13 @@ use Rattle.cli_stack.proofs.PromisesLaws.{promises}
 use Rattle.cli_stack.proofs.program.cli.Goals as goal
 
 pub returns : goal.returns
-returns g c = (
-  c.conclude.result,
-  c.code.ensures,
-  promises (command_of (spelled c.args.words.now)) _ _ c.run_words-ran.result c.conclude.result c.run_words-ran.ensures.leaves c.run_words-ran.ensures.reason c.run_words-ran.ensures.reply c.conclude.ensures
-      (implements c.builds_implement.ensures.implements (command_of (spelled c.args.words.now)) (g.S.Shelf.files c.args.shelf.now)) (tells c.builds_implement.ensures.implements c.builds_implement.ensures.values (command_of (spelled c.args.words.now)) (g.S.Shelf.files c.args.shelf.now)) (means (command_of (spelled c.args.words.now)) (g.S.Shelf.files c.args.shelf.now)) (links (command_of (spelled c.args.words.now)) (g.S.Shelf.files c.args.shelf.now)),
-)
+returns g c =
+    let command = command_of (spelled c.args.words.now) in
+    let watches : List Watching = map (λ w. watching ((goal.Watch-dyn g (w.vtable, w.value)).rule_of w.value) ((goal.Watch-dyn g (w.vtable, w.value)).tally_of w.value)) c.args.watches.items in
+    let files = g.S.Shelf.files c.args.shelf.now in
+    let built = c.builds_implement.ensures in (
+      c.conclude.result,
+      c.code.ensures,
+      promises command watches _ _ c.run_words-ran.result c.conclude.result c.run_words-ran.ensures.leaves c.run_words-ran.ensures.reason c.run_words-ran.ensures.reply c.conclude.ensures
+          (implements built.implements command watches files) (tells built.implements built.values command watches files) (means command watches files) (links command watches files),
+    )

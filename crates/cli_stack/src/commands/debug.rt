@@ -1,0 +1,223 @@
+//! The command `debug`.
+ghost use Rattle.std.specs.Prelude.{◌≡◌, ◌≤◌, ◌^◌, None, IfOk, length, map};
+ghost use Rattle.gypsy_space.specs.Needs.{stack_words};
+ghost use Rattle.gypsy_syntax.specs.SourceView.{source_of};
+ghost use Rattle.level_debuggers.specs.Levels.{IsRunner, level_of};
+ghost use Rattle.level_debuggers.specs.Sessions.{session_of};
+ghost use Rattle.level_debuggers.specs.Tallies.{watching};
+ghost use Rattle.stack_build.specs.Starts.{GivesStart};
+ghost use Rattle.debug_script.specs.Scripts.{script_of};
+ghost use Rattle.cli_stack.specs.declared.role.Role.TheVariants as Role;
+ghost use Rattle.cli_stack.specs.declared.words.reader.Level.TheVariants as Level;
+ghost use Rattle.cli_stack.specs.Answer.{text_of};
+ghost use Rattle.cli_stack.specs.Debug.{run_at, run_in, found_run, end_verdict, lines_reply, script_reply, debug_reply};
+ghost use Rattle.cli_stack.specs.Plans.{pending_reply};
+
+use crate::commands::plan::{Pending, Plan};
+use crate::commands::source_text::{read_accepted, start_verdict};
+use crate::reply::{Reply, Verdict};
+use crate::role::Role;
+use crate::texts::Texts;
+use crate::words::{Level, StackSize};
+use debug_script::{Line, ScriptFault, read_script};
+use gypsy_check::Accepted;
+use gypsy_space::needs;
+use level_debuggers::{Runner, ScriptEnd, Session, Watch, follow};
+use stack_build::{StartFault, start_image, start_meaning, start_system};
+use stack_text::{Memory, Seq};
+use std::alloc::Global;
+
+/// What is left of `debug` once its texts are there.
+pub fn prepare(
+    alloc: Global,
+    level: Level,
+    texts: &Texts,
+    control: &StackSize,
+    temporary: &StackSize,
+    watches: Vec<Box<dyn Watch>>,
+) -> Result<Plan, Memory>
+    ensures stored { IfOk result (λ plan. plan.stored ≡ None) }
+    ensures reply { IfOk result (λ plan. pending_reply plan.pending
+        ≡ debug_reply level (text_of Role.Source texts.now) (text_of Role.Values texts.now) control.now temporary.now
+        (text_of Role.Script texts.now) (map (λ w. watching (rule_of w) (tally_of w)) watches.items)) }
+{
+    let (source, values) = (texts.of(Role::Source), texts.of(Role::Values));
+    match run_in(
+        alloc,
+        level,
+        source,
+        values,
+        control.words(),
+        temporary.words(),
+    )? {
+        Ok(runner) => play(alloc, runner, texts.of(Role::Script), watches),
+        Err(verdict) => Ok(Plan::verdict_alone(alloc, verdict)),
+    }
+}
+
+/// A runner of an accepted source's own steps.
+fn gypsy_runner(
+    alloc: Global,
+    accepted: Accepted,
+    values: &[u8],
+    control: u32,
+    temporary: u32,
+) -> Result<Runner, StartFault>
+    requires { length values.now ≤ 2 ^ 31 }
+    ensures run { GivesStart level_of result
+        (run_at Level.Gypsy (source_of accepted) (stack_words temporary control) values.now) }
+    ensures is { IfOk result IsRunner }
+{
+    let needs = needs(alloc, &accepted)?;
+    let meaning = start_meaning(alloc, &accepted, &needs, control, temporary, values)?;
+    Ok(Runner::Gypsy {
+        accepted,
+        needs,
+        meaning,
+    })
+}
+
+/// The runner of an accepted source, at a level.
+fn run_at(
+    alloc: Global,
+    level: Level,
+    accepted: Accepted,
+    values: &[u8],
+    control: u32,
+    temporary: u32,
+) -> Result<Runner, StartFault>
+    requires { length values.now ≤ 2 ^ 31 }
+    ensures run { GivesStart level_of result
+        (run_at level (source_of accepted) (stack_words temporary control) values.now) }
+    ensures is { IfOk result IsRunner }
+{
+    match level {
+        Level::Gypsy => gypsy_runner(alloc, accepted, values, control, temporary),
+        Level::Piton => {
+            let start = start_system(alloc, &accepted, control, temporary, values)?;
+            Ok(Runner::Piton {
+                checked: start.checked,
+                image: start.image,
+                state: start.state,
+            })
+        }
+        Level::Fm9001 => {
+            let start = start_image(alloc, &accepted, control, temporary, values)?;
+            Ok(Runner::Fm {
+                image: start.image,
+                machine: start.machine,
+            })
+        }
+    }
+}
+
+/// The runner of the source in a text, or the verdict where there is none.
+#[tactic(auto, unfolding(crate::specs::Debug::run_in))]
+fn run_in(
+    alloc: Global,
+    level: Level,
+    source: &[u8],
+    values: &[u8],
+    control: u32,
+    temporary: u32,
+) -> Result<Result<Runner, Verdict>, Memory>
+    requires source { length source.now ≤ 2 ^ 31 }
+    requires values { length values.now ≤ 2 ^ 31 }
+    ensures run { IfOk result (λ found.
+        found_run found ≡ run_in level source.now (stack_words temporary control) values.now) }
+    ensures is { IfOk result (λ found. IfOk found IsRunner) }
+{
+    let accepted = match read_accepted(alloc, source)? {
+        Ok(accepted) => accepted,
+        Err(verdict) => return Ok(Err(verdict)),
+    };
+    match run_at(alloc, level, accepted, values, control, temporary) {
+        Ok(runner) => Ok(Ok(runner)),
+        Err(fault) => Ok(Err(start_verdict(fault)?)),
+    }
+}
+
+/// Reads a script, and follows it in a session of a runner.
+fn play(
+    alloc: Global,
+    runner: Runner,
+    script: &[u8],
+    watches: Vec<Box<dyn Watch>>,
+) -> Result<Plan, Memory>
+    requires script { length script.now ≤ 2 ^ 31 }
+    requires runner { IsRunner runner }
+    ensures stored { IfOk result (λ plan. plan.stored ≡ None) }
+    ensures reply { IfOk result (λ plan. pending_reply plan.pending
+        ≡ script_reply (level_of runner) (map (λ w. watching (rule_of w) (tally_of w)) watches.items)
+        (script_of script.now)) }
+{
+    match read_script(alloc, script) {
+        Ok(lines) => follow_lines(alloc, runner, &lines, watches),
+        Err(ScriptFault::Refused { rule, line }) => {
+            Ok(Plan::verdict_alone(alloc, Verdict::Script { rule, line }))
+        }
+        Err(ScriptFault::Memory) => Err(Memory),
+    }
+}
+
+/// How the command ends with its script.
+fn end_verdict(session: &Session, end: ScriptEnd) -> Result<Verdict, Memory>
+    ensures { let session = session_of
+        (λ w. watching (rule_of (w.vtable, w.value)) (tally_of (w.vtable, w.value))) session.now in
+        IfOk result (λ verdict. verdict ≡ end_verdict session.level end) }
+{
+    match end {
+        ScriptEnd::Done => Ok(Verdict::Done),
+        ScriptEnd::NoRoom {
+            place,
+            after: count,
+        } => Ok(Verdict::NoRoom { place, count }),
+        ScriptEnd::Error {
+            kind,
+            program,
+            place,
+            after: count,
+        } => match session.program_name(program) {
+            Some(program) => Ok(Verdict::Error {
+                kind,
+                program: program.clone()?,
+                place,
+                count,
+            }),
+            None => Ok(Verdict::Usage),
+        },
+        ScriptEnd::Outside {
+            address,
+            after: count,
+        } => Ok(Verdict::Outside { address, count }),
+        ScriptEnd::NoneWaits { line } => Ok(Verdict::Script { rule: 4, line }),
+        ScriptEnd::NoneAttached { line } => Ok(Verdict::Script { rule: 5, line }),
+    }
+}
+
+/// Follows the lines of a script in a session of a runner.
+#[tactic(auto, unfolding(crate::specs::Debug::lines_reply))]
+fn follow_lines(
+    alloc: Global,
+    runner: Runner,
+    lines: &[Line],
+    watches: Vec<Box<dyn Watch>>,
+) -> Result<Plan, Memory>
+    requires { IsRunner runner }
+    ensures stored { IfOk result (λ plan. plan.stored ≡ None) }
+    ensures reply { IfOk result (λ plan. pending_reply plan.pending
+        ≡ lines_reply (level_of runner) (map (λ w. watching (rule_of w) (tally_of w)) watches.items) lines.now) }
+{
+    let mut session = Session::new(alloc, runner, watches)?;
+    let mut said = Vec::new(alloc);
+    let end = follow(alloc, &mut session, lines, &mut said)?;
+    let verdict = end_verdict(&session, end)?;
+    Ok(Plan {
+        stored: None,
+        pending: Pending::Reply(Reply {
+            said: Seq::from_vec(said),
+            verdict,
+            machine: None,
+        }),
+    })
+}
