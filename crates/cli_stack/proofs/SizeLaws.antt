@@ -64,7 +64,7 @@ use Rattle.cli_stack.specs.Show.{listing_reply}
 use Rattle.cli_stack.specs.Prun.{run_end_reply, checked_run_reply, system_run_reply}
 use Rattle.cli_stack.specs.Pbuild.{linked_image, is_large, built_reply, linked_reply, checked_reply}
 use Rattle.cli_stack.specs.SourceText.{build_verdict, unless_refused, accepted_in}
-use Rattle.cli_stack.specs.Debug.{run_in, session_on, error_verdict, end_verdict, lines_reply, script_verdict, script_reply, run_reply as debug_run_reply}
+use Rattle.cli_stack.specs.Debug.{run_in, session_on, error_verdict, end_verdict, lines_reply, script_verdict, script_reply, session_reply}
 use Rattle.cli_stack.specs.Mean.{mean_end_reply, mean_run_reply, mean_started_reply, mean_accepted_reply}
 use Rattle.cli_stack.specs.Pit.{pit_reply}
 use Rattle.cli_stack.specs.Build.{build_reply}
@@ -199,7 +199,7 @@ script_no_size run watches (Err fault) = script_fault_no_size fault
 script_no_size run watches (Ok lines) =
     let made : Followed = followed [] lines (session_on run watches) in script_end_no_size made.session.level made.end
 
-debug_alone : (found : Result LevelOf Verdict) (watches : List Watching) (text : List ℕ) → SizeAlone (debug_run_reply found watches text)
+debug_alone : (found : Result LevelOf Verdict) (watches : List Watching) (text : List ℕ) → SizeAlone (session_reply found watches text)
 debug_alone (Err verdict) watches text size = refl
 debug_alone (Ok run) watches text size = let none = script_no_size run watches (script_of text) in cc
 

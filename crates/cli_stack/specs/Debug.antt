@@ -88,10 +88,10 @@ script_reply run watches (Ok lines) = lines_reply run watches lines
 
 -- 3. Together: the run is found before the script is read.
 
-abbrev pub run_reply : Result LevelOf Verdict → List Watching → List ℕ → ReplyOf
-run_reply (Err verdict) watches script = verdict_alone verdict
-run_reply (Ok run) watches script = script_reply run watches (script_of script)
+abbrev pub session_reply : Result LevelOf Verdict → List Watching → List ℕ → ReplyOf
+session_reply (Err verdict) watches script = verdict_alone verdict
+session_reply (Ok run) watches script = script_reply run watches (script_of script)
 
 abbrev pub debug_reply : Level → List ℕ → List ℕ → ℕ → ℕ → List ℕ → List Watching → ReplyOf
 debug_reply level source values control temporary script watches =
-    run_reply (run_in level source (stack_words temporary control) values) watches script
+    session_reply (run_in level source (stack_words temporary control) values) watches script
