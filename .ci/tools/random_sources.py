@@ -98,7 +98,7 @@ def assign(variable: str, number: int) -> Statement:
     return make(ASSIGN, variable, Literal("integer", number))
 
 
-def words(variables: list[Variable]) -> int:
+def words_of(variables: list[Variable]) -> int:
     return sum(v.type.length or 1 for v in variables)
 
 
@@ -127,8 +127,8 @@ class Procedure:
     def write(self, start: int) -> str:
         self.place = start
         formals = listed(f"({v.name} {v.type})" for v in self.formals)
-        locals = listed(f"({v.name} {v.type} {Literal(v.type.kind, v.value)})" for v in self.locals)
-        head = f"(proc {self.name} {formals} {listed(self.conditions)} {locals} {listed(self.local_conditions)} "
+        local_ones = listed(f"({v.name} {v.type} {Literal(v.type.kind, v.value)})" for v in self.locals)
+        head = f"(proc {self.name} {formals} {listed(self.conditions)} {local_ones} {listed(self.local_conditions)} "
         return head + self.body.write(start + len(head)) + ")"
 
 
@@ -198,7 +198,7 @@ class Run:
         main = source.main
         self.source, self.control, self.temporary = source, control, temporary
         self.start = {v.name: v.value for v in main.variables} | {v.name: value for v, value in zip(main.formals, values)}
-        self.stack = [Activation(main, dict(self.start), 2 + len(main.variables), words(main.variables))]
+        self.stack = [Activation(main, dict(self.start), 2 + len(main.variables), words_of(main.variables))]
         self.need_control, self.need_temporary = self.stack[0].control + main.most[0], self.stack[0].temporary + main.most[1]
         self.steps = self.instructions = self.piton_steps = 0
         self.places: list[int] = []     # of the items of all steps
@@ -273,7 +273,7 @@ class Run:
                 return self.predefined(place, ROWS[name], arguments)
 
     def call(self, place: int, callee: Procedure, actuals: list[str], conditions: list[str]) -> str:
-        caller, pushed, variables = self.stack[-1], words(callee.locals), len(callee.variables)
+        caller, pushed, variables = self.stack[-1], words_of(callee.locals), len(callee.variables)
         frame = {v.name: v.value for v in callee.locals}
         frame.update((formal.name, caller.frame[actual]) for formal, actual in zip(callee.formals, actuals))
         called = Activation(callee, frame, caller.control + 2 + variables, caller.temporary + pushed)
