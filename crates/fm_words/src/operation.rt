@@ -1,7 +1,7 @@
 //! The sixteen operations on words.
 
-ghost use Rattle.std.specs.Prelude.{◌≡◌, ◌+◌, ◌-◌, ◌%◌, ◌^◌, ℕ, pos, ◌+ℤ◌, ◌-ℤ◌, nat_lt, not, false};
-ghost use Rattle.std.specs.Int.{from_bool, int_div_euclid};
+ghost use Rattle.std.specs.Prelude.{◌≡◌, ◌+◌, ◌-◌, ◌%◌, ◌^◌, ℕ, pos, ◌+ℤ◌, ◌-ℤ◌, nat_lt, not, false, FitsSigned};
+ghost use Rattle.std.specs.Int.{from_bool, int_div_euclid, w32};
 ghost use Rattle.fm_words.specs.Word.{signed_of, is_int};
 ghost use Rattle.fm_words.specs.Alu.{alu_of, plain};
 
@@ -95,7 +95,8 @@ fn plain(word: u32) -> AluOut
 
 // The signed reading of a word, with room for sums.
 fn signed(word: u32) -> i64
-    ensures { result ≡ signed_of word }
+    ensures value { result ≡ signed_of word }
+    ensures fits { FitsSigned w32 result }
 {
     i64::from(signed_of(word))
 }
@@ -149,15 +150,17 @@ fn add_with_carry(carry: bool, a: u32, b: u32) -> AluOut
     ensures { result ≡ alu_of Op.Addc carry a b }
 {
     let (word, c) = a.carrying_add(b, carry);
-    let v = overflows(signed_sum(carry, a, b));
+    let v = overflows(sum_with_carry(carry, signed(a), signed(b)));
     AluOut { word, c, v }
 }
 
-// The exact signed sum with a carry.
-fn signed_sum(carry: bool, a: u32, b: u32) -> i64
-    ensures { result ≡ signed_of a +ℤ signed_of b +ℤ pos (from_bool carry) }
+// The exact sum of two readings and a carry.
+fn sum_with_carry(carry: bool, s: i64, t: i64) -> i64
+    requires first { FitsSigned w32 s }
+    requires second { FitsSigned w32 t }
+    ensures { result ≡ s +ℤ t +ℤ pos (from_bool carry) }
 {
-    signed(a) + signed(b) + i64::from(carry)
+    s + t + i64::from(carry)
 }
 
 fn subtract(a: u32, b: u32) -> AluOut
@@ -172,7 +175,7 @@ fn subtract_with_borrow(borrow: bool, a: u32, b: u32) -> AluOut
     ensures { result ≡ alu_of Op.Subb borrow a b }
 {
     let (word, c) = borrowing_difference(borrow, a, b);
-    let v = overflows(signed_difference(borrow, a, b));
+    let v = overflows(difference_with_borrow(borrow, signed(b), signed(a)));
     AluOut { word, c, v }
 }
 
@@ -185,11 +188,13 @@ fn borrowing_difference(borrow: bool, a: u32, b: u32) -> (u32, bool)
     b.borrowing_sub(a, borrow)
 }
 
-// The exact signed difference with a borrow.
-fn signed_difference(borrow: bool, a: u32, b: u32) -> i64
-    ensures { result ≡ signed_of b -ℤ signed_of a -ℤ pos (from_bool borrow) }
+// The exact difference of two readings, less a borrow.
+fn difference_with_borrow(borrow: bool, s: i64, t: i64) -> i64
+    requires first { FitsSigned w32 s }
+    requires second { FitsSigned w32 t }
+    ensures { result ≡ s -ℤ t -ℤ pos (from_bool borrow) }
 {
-    signed(b) - signed(a) - i64::from(borrow)
+    s - t - i64::from(borrow)
 }
 
 fn rotate_right(carry: bool, a: u32) -> AluOut

@@ -4,6 +4,7 @@ ghost use Rattle.piton_words.specs.Views.{where_true};
 ghost use Rattle.piton_words.specs.Rows.{are_same, bitv_word, bool_word};
 
 use crate::outcome::{Outcome, WordError};
+use crate::view::{addr, bitv, int, nat, truth};
 use crate::word::Word;
 
 pub fn bitv_word(bits: u32) -> Result<Outcome, WordError>
@@ -32,25 +33,25 @@ pub fn addr_lt(t: (u32, u32), s: (u32, u32)) -> Result<Outcome, WordError>
 pub fn are_same(second: Word, top: Word) -> Result<bool, WordError>
     ensures { result ≡ are_same second top }
 {
-    match (second, top) {
-        (Word::Int(s), Word::Int(t)) => Ok(s == t),
-        (Word::Nat(s), Word::Nat(t)) | (Word::Bitv(s), Word::Bitv(t)) => Ok(s == t),
-        (Word::Bool(s), Word::Bool(t)) => Ok(s == t),
-        (
-            Word::Addr { area, offset },
-            Word::Addr {
-                area: other,
-                offset: at,
-            },
-        ) => Ok(area == other && offset == at),
-        (
-            Word::Pc { program, place },
+    match second {
+        Word::Int(s) => Ok(s == int(top)?),
+        Word::Nat(s) => Ok(s == nat(top)?),
+        Word::Bitv(s) => Ok(s == bitv(top)?),
+        Word::Bool(s) => Ok(s == truth(top)?),
+        Word::Addr { area, offset } => {
+            let (other, at) = addr(top)?;
+            Ok(area == other && offset == at)
+        }
+        Word::Pc { program, place } => match top {
             Word::Pc {
                 program: other,
                 place: at,
-            },
-        ) => Ok(program == other && place == at),
-        (Word::Subr { program }, Word::Subr { program: other }) => Ok(program == other),
-        _ => Err(WordError::Tag),
+            } => Ok(program == other && place == at),
+            _ => Err(WordError::Tag),
+        },
+        Word::Subr { program } => match top {
+            Word::Subr { program: other } => Ok(program == other),
+            _ => Err(WordError::Tag),
+        },
     }
 }
