@@ -51,44 +51,40 @@ fn flags_of_difference(a: i32, b: i32) -> Flags {
     }
 }
 
+// Each condition with whether it holds after a subtraction of `a` from `b`, by Rust's own comparisons.
+fn conditions(a: i32, b: i32) -> [(Cc, bool); 16] {
+    let (low, high) = (a.cast_unsigned(), b.cast_unsigned());
+    let overflows = b.checked_sub(a).is_none();
+    let is_negative = b.wrapping_sub(a) < 0;
+    [
+        (Cc::Cs, high < low),
+        (Cc::Cc, high >= low),
+        (Cc::Vs, overflows),
+        (Cc::Vc, !overflows),
+        (Cc::Ns, is_negative),
+        (Cc::Nc, !is_negative),
+        (Cc::Zs, b == a),
+        (Cc::Zc, b != a),
+        (Cc::Lt, b < a),
+        (Cc::Le, b <= a),
+        (Cc::Gt, b > a),
+        (Cc::Ge, b >= a),
+        (Cc::Hi, high > low),
+        (Cc::Ls, high <= low),
+        (Cc::Al, true),
+        (Cc::Nv, false),
+    ]
+}
+
 #[test]
 fn conditions_after_a_difference(rt: HostRuntime) {
     let numbers = [i32::MIN, -2, -1, 0, 1, 2, i32::MAX];
     for a in numbers {
         for b in numbers {
             let flags = flags_of_difference(a, b);
-            let (low, high) = (a.cast_unsigned(), b.cast_unsigned());
-            let borrows = high < low;
-            let overflows = b.checked_sub(a).is_none();
-            let is_negative = b.wrapping_sub(a) < 0;
-            assert_eq!(rt; does_hold(Cc::Cs, flags), borrows, "carry of {b} - {a}");
-            assert_eq!(rt; does_hold(Cc::Cc, flags), !borrows, "no carry of {b} - {a}");
-            assert_eq!(rt;
-                does_hold(Cc::Vs, flags),
-                overflows,
-                "overflow of {b} - {a}"
-            );
-            assert_eq!(rt;
-                does_hold(Cc::Vc, flags),
-                !overflows,
-                "no overflow of {b} - {a}"
-            );
-            assert_eq!(rt; does_hold(Cc::Ns, flags), is_negative, "sign of {b} - {a}");
-            assert_eq!(rt;
-                does_hold(Cc::Nc, flags),
-                !is_negative,
-                "no sign of {b} - {a}"
-            );
-            assert_eq!(rt; does_hold(Cc::Zs, flags), b == a, "{b} == {a}");
-            assert_eq!(rt; does_hold(Cc::Zc, flags), b != a, "{b} != {a}");
-            assert_eq!(rt; does_hold(Cc::Lt, flags), b < a, "{b} < {a}");
-            assert_eq!(rt; does_hold(Cc::Le, flags), b <= a, "{b} <= {a}");
-            assert_eq!(rt; does_hold(Cc::Gt, flags), b > a, "{b} > {a}");
-            assert_eq!(rt; does_hold(Cc::Ge, flags), b >= a, "{b} >= {a}");
-            assert_eq!(rt; does_hold(Cc::Hi, flags), high > low, "{high} > {low}");
-            assert_eq!(rt; does_hold(Cc::Ls, flags), high <= low, "{high} <= {low}");
-            assert!(rt; does_hold(Cc::Al, flags));
-            assert!(rt; !does_hold(Cc::Nv, flags));
+            for (cc, holds) in conditions(a, b) {
+                assert_eq!(rt; does_hold(cc, flags), holds, "{cc:?} after {b} - {a}");
+            }
         }
     }
 }

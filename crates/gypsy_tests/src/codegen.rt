@@ -1,11 +1,10 @@
 //! Generated systems: how each ends, in how many steps, at what cost, and with which words; and what is not generated.
 
-ghost use Rattle.std.specs.Prelude.{◌<◌, ◌^◌, length};
-
 use gypsy_check::{Accepted, check};
 use gypsy_codegen::{GenFault, generate};
 use gypsy_space::needs;
 use gypsy_syntax::read_gypsy;
+use piton_check::Checked;
 use piton_machine::{PitonRun, State};
 use piton_words::Word;
 use std::alloc::Global;
@@ -187,10 +186,24 @@ fn cases() -> &'static [Case] {
 }
 
 /// The source of a text that breaks no rule.
-fn accepted_of(alloc: Global, text: &[u8]) -> Result<Accepted, Fail>
-    requires { length text.now < 2 ^ 20 }
-{
-    Ok(check(alloc, read_gypsy(alloc, text)?)?)
+fn accepted_of(alloc: Global, text: &str) -> Result<Accepted, Fail> {
+    let bytes = text.as_bytes();
+    if bytes.len() > 1 << 20 {
+        return Err(Fail::from("too long"));
+    }
+    Ok(check(alloc, read_gypsy(alloc, bytes)?)?)
+}
+
+/// What is generated of the source of a text, at base 0.
+fn made(
+    alloc: Global,
+    text: &str,
+    ctrl: u32,
+    temp: u32,
+) -> Result<Result<Checked, GenFault>, Fail> {
+    let accepted = accepted_of(alloc, text)?;
+    let needs = needs(alloc, &accepted)?;
+    Ok(generate(alloc, &accepted, &needs, ctrl, temp, 0))
 }
 
 /// Whether a state is what a case ends with.
@@ -205,11 +218,7 @@ fn is_end(case: &Case, state: &State) -> bool {
 fn generated_systems_end_as_their_sources(rt: HostRuntime) -> Result<(), Fail> {
     for case in cases() {
         let text = case.text;
-        let bytes = text.as_bytes();
-        assert!(rt; bytes.len() < 2000);
-        let accepted = accepted_of(rt.alloc(), bytes)?;
-        let needs = needs(rt.alloc(), &accepted)?;
-        let checked = generate(rt.alloc(), &accepted, &needs, case.ctrl, case.temp, 0)?;
+        let checked = made(rt.alloc(), text, case.ctrl, case.temp)??;
         let mut state = State::start(rt.alloc(), &checked)?;
         let run = state.run(&checked, 1_000_000);
         assert!(rt; matches!(run, PitonRun::Halted), "{text}: {run:?}");
@@ -245,11 +254,7 @@ fn faults() -> &'static [(&'static str, u32, u32, Option<GenFault>)] {
 #[test]
 fn sizes_below_what_main_needs_are_refused(rt: HostRuntime) -> Result<(), Fail> {
     for (text, ctrl, temp, fault) in faults() {
-        let bytes = text.as_bytes();
-        assert!(rt; bytes.len() < 2000);
-        let accepted = accepted_of(rt.alloc(), bytes)?;
-        let needs = needs(rt.alloc(), &accepted)?;
-        let made = generate(rt.alloc(), &accepted, &needs, *ctrl, *temp, 0);
+        let made = made(rt.alloc(), text, *ctrl, *temp)?;
         assert!(rt; made.err() == *fault, "{text} {ctrl} {temp}");
     }
     Ok(())
@@ -280,11 +285,7 @@ const LONG: u64 = 1_068_630;
 #[test]
 fn too_many_words_of_code_are_refused(rt: HostRuntime) -> Result<(), Fail> {
     let text = long_source(rt.alloc(), 130, 1)?;
-    let bytes = text.as_str().as_bytes();
-    assert!(rt; bytes.len() < 20_000);
-    let accepted = accepted_of(rt.alloc(), bytes)?;
-    let needs = needs(rt.alloc(), &accepted)?;
-    let made = generate(rt.alloc(), &accepted, &needs, 100, 100, 0);
+    let made = made(rt.alloc(), text.as_str(), 100, 100)?;
     assert!(rt; made.err() == Some(GenFault::Words { count: LONG }));
     Ok(())
 }
@@ -296,11 +297,7 @@ const MANY: u64 = 61_522;
 #[test]
 fn a_call_may_push_many_constants(rt: HostRuntime) -> Result<(), Fail> {
     let text = long_source(rt.alloc(), 1, 15)?;
-    let bytes = text.as_str().as_bytes();
-    assert!(rt; bytes.len() < 200_000);
-    let accepted = accepted_of(rt.alloc(), bytes)?;
-    let needs = needs(rt.alloc(), &accepted)?;
-    let checked = generate(rt.alloc(), &accepted, &needs, 19, 61_455, 0)?;
+    let checked = made(rt.alloc(), text.as_str(), 19, 61_455)??;
     let mut state = State::start(rt.alloc(), &checked)?;
     let run = state.run(&checked, 100_000);
     assert!(rt; matches!(run, PitonRun::Halted), "{run:?}");

@@ -109,27 +109,55 @@ fn costs_each(
     Ok(true)
 }
 
-/// Whether a case does what it says, step by step and in one run.
-fn does(alloc: Global, case: &Case) -> Result<bool, Fail> {
+/// Whether a case does what it says, step by step.
+fn steps_so(
+    alloc: Global,
+    case: &Case,
+    accepted: &Accepted,
+    needs: &Needs,
+    values: &[Value],
+) -> Result<bool, Fail> {
+    let started = Meaning::try_start(alloc, accepted, needs, values, 100, 100)?;
+    let Some(mut meaning) = started else {
+        return Ok(false);
+    };
+    let costs = costs_each(alloc, accepted, needs, &mut meaning, case.costs)?;
+    Ok(costs && is_at_end(case, &meaning))
+}
+
+/// The same in one run.
+fn runs_so(
+    alloc: Global,
+    case: &Case,
+    accepted: &Accepted,
+    needs: &Needs,
+    values: &[Value],
+) -> Result<bool, Fail> {
+    let started = Meaning::try_start(alloc, accepted, needs, values, 100, 100)?;
+    let Some(mut meaning) = started else {
+        return Ok(false);
+    };
+    let run = meaning.run(alloc, accepted, needs, 1000)?;
+    Ok(run == MeanRun::Ended && is_at_end(case, &meaning))
+}
+
+/// The source of a case, once it is accepted.
+fn source_of_case(alloc: Global, case: &Case) -> Result<Accepted, Fail> {
     let main = case.main;
     let others = case.others;
     let text = format!(in alloc; "(program main (proc main {main}) {others})")?;
-    let accepted = accepted_of(alloc, text.as_str().as_bytes())?;
+    accepted_of(alloc, text.as_str().as_bytes())
+}
+
+/// Whether a case does what it says, step by step and in one run.
+fn does(alloc: Global, case: &Case) -> Result<bool, Fail> {
+    let accepted = source_of_case(alloc, case)?;
     let needs = needs(alloc, &accepted)?;
     let values = values_of(alloc, case.values)?;
-    let stepped = Meaning::try_start(alloc, &accepted, &needs, values.as_slice(), 100, 100)?;
-    let Some(mut stepped) = stepped else {
-        return Ok(false);
-    };
-    if !costs_each(alloc, &accepted, &needs, &mut stepped, case.costs)? {
-        return Ok(false);
-    }
-    let ran = Meaning::try_start(alloc, &accepted, &needs, values.as_slice(), 100, 100)?;
-    let Some(mut ran) = ran else {
-        return Ok(false);
-    };
-    let run = ran.run(alloc, &accepted, &needs, 1000)?;
-    Ok(run == MeanRun::Ended && is_at_end(case, &stepped) && is_at_end(case, &ran))
+    Ok(
+        steps_so(alloc, case, &accepted, &needs, &values)?
+            && runs_so(alloc, case, &accepted, &needs, &values)?,
+    )
 }
 
 fn do_each(rt: &impl Abort, alloc: Global, cases: &[Case]) -> Result<(), Fail> {

@@ -1,5 +1,8 @@
 //! Systems that run on Piton's machine and, linked, on the processor, side by side.
 
+ghost use Rattle.piton_machine.specs.Fits.{system_in};
+ghost use Rattle.piton_machine.specs.Seen.{IsSeen};
+
 mod bodies;
 
 use bodies::BODIES;
@@ -139,43 +142,67 @@ fn execute(
     Ok(())
 }
 
+/// One step of Piton's machine, and as many instructions of the processor as it costs.
+fn step_both(
+    rt: &impl Abort,
+    walk: &Walk<'_>,
+    checked: &Checked,
+    machine: &mut Machine,
+    state: &mut State,
+) -> Result<(), Fail>
+    requires { IsSeen (system_in checked.now) state.old }
+    ensures { IsSeen (system_in checked.now) state.new }
+{
+    let text = walk.text;
+    let counted = state.counted();
+    let stepped = state.step(checked);
+    assert!(rt;
+        stepped == Stepped::Next || stepped == Stepped::Halted,
+        "{text}: {stepped:?}"
+    );
+    let cost = state.counted().saturating_sub(counted);
+    execute(rt, machine, walk, cost)
+}
+
 /// Goes along both runs of a system to their ends.
-fn walk_along(rt: &impl Abort, alloc: Global, text: &str, checked: &Checked) -> Result<(), Fail> {
-    let linked = link(alloc, checked)?;
-    let parts = layout(checked);
-    let walk = Walk {
-        text,
-        linked: &linked,
-        parts,
-    };
-    let mut machine = loaded(alloc, &linked)?;
+fn walk_along(
+    rt: &impl Abort,
+    alloc: Global,
+    walk: &Walk<'_>,
+    checked: &Checked,
+) -> Result<(), Fail> {
+    let mut machine = loaded(alloc, walk.linked)?;
     let mut state = State::start(alloc, checked)?;
     for _ in 0..100 {
         walk.stands(rt, &machine, &state)?;
         if state.frames() == 0 {
             return Ok(());
         }
-        let counted = state.counted();
-        let stepped = state.step(checked);
-        assert!(rt;
-            stepped == Stepped::Next || stepped == Stepped::Halted,
-            "{text}: {stepped:?}"
-        );
-        let cost = state.counted().saturating_sub(counted);
-        execute(rt, &mut machine, &walk, cost)?;
+        step_both(rt, walk, checked, &mut machine, &mut state)?;
     }
     Err(Fail::from("no end"))
+}
+
+/// The checked system around a body.
+fn system_around(alloc: Global, body: &str) -> Result<Checked, Fail> {
+    let mut text = Vec::new(alloc);
+    text.extend_from_slice(FRAME.0)?;
+    text.extend_from_slice(body.as_bytes())?;
+    text.extend_from_slice(FRAME.1)?;
+    checked_of(alloc, text.as_slice())
 }
 
 #[test]
 fn walks_side_by_side(rt: HostRuntime) -> Result<(), Fail> {
     for body in all_bodies() {
-        let mut text = Vec::new(rt.alloc());
-        text.extend_from_slice(FRAME.0)?;
-        text.extend_from_slice(body.as_bytes())?;
-        text.extend_from_slice(FRAME.1)?;
-        let checked = checked_of(rt.alloc(), text.as_slice())?;
-        walk_along(&rt, rt.alloc(), body, &checked)?;
+        let checked = system_around(rt.alloc(), body)?;
+        let linked = link(rt.alloc(), &checked)?;
+        let walk = Walk {
+            text: body,
+            linked: &linked,
+            parts: layout(&checked),
+        };
+        walk_along(&rt, rt.alloc(), &walk, &checked)?;
     }
     Ok(())
 }
@@ -199,6 +226,18 @@ const WORDS: [u32; 15] = [
     12,
 ];
 
+/// What is linked is the system below.
+fn is_small_system(linked: &Linked) -> bool {
+    let registers = [13, 13, 18, 0, 0, 0, 0, 0, 0, 0, 0, 0, 0, 0, 0, 2];
+    let Some(places) = linked.places.first() else {
+        return false;
+    };
+    (linked.base, linked.size, linked.final_pc) == (0, 18, 12)
+        && linked.words.as_slice() == WORDS.as_slice()
+        && linked.registers.as_slice() == registers.as_slice()
+        && places.as_slice() == [2, 4, 6, 7].as_slice()
+}
+
 #[test]
 fn links_a_small_system(rt: HostRuntime) -> Result<(), Fail> {
     let text =
@@ -209,11 +248,6 @@ fn links_a_small_system(rt: HostRuntime) -> Result<(), Fail> {
     assert!(rt; starts == [13, 13, 15], "{starts:?}");
     assert!(rt; (parts.size, parts.final_pc, parts.end) == (18, 12, 18));
     let linked = link(rt.alloc(), &checked)?;
-    assert!(rt; (linked.base, linked.size, linked.final_pc) == (0, 18, 12));
-    assert!(rt; linked.words.as_slice() == WORDS.as_slice());
-    let registers = [13, 13, 18, 0, 0, 0, 0, 0, 0, 0, 0, 0, 0, 0, 0, 2];
-    assert!(rt; linked.registers.as_slice() == registers.as_slice());
-    let places = linked.places.first().ok_or("no program")?;
-    assert!(rt; places.as_slice() == [2, 4, 6, 7].as_slice());
+    assert!(rt; is_small_system(&linked));
     Ok(())
 }

@@ -1,12 +1,15 @@
 //! One run for each instruction, and one for each way in which it is refused.
 
+ghost use Rattle.piton_machine.specs.Fits.{system_in};
+ghost use Rattle.piton_machine.specs.Seen.{IsSeen};
+
 mod halts;
 mod refusals;
 mod words;
 
 use halts::{HALTS, TESTS};
 use piton_check::{Checked, check};
-use piton_machine::{PitonRun, State};
+use piton_machine::{ErrorKind, PitonRun, State};
 use piton_syntax::read_piton;
 use piton_words::Word;
 use refusals::{REFUSALS, Refusal, refusal_text};
@@ -47,7 +50,31 @@ fn system_of(alloc: Global, text: &str) -> Result<Checked, Fail> {
     Ok(check(alloc, read_piton(alloc, text.as_bytes())?)?)
 }
 
-/// The system halts so, not a step before, and stays as it is then.
+/// A run from its start halts so, not a step before, and stays as it is then.
+fn ends_so(
+    rt: &impl Abort,
+    text: &str,
+    system: &Checked,
+    state: &mut State,
+    steps: u64,
+    counted: u64,
+    stack: &[Word],
+)
+    requires { IsSeen (system_in system.now) state.old }
+{
+    let before = state.run(system, steps.saturating_sub(1));
+    assert!(rt; before == PitonRun::Spent, "{text}: {before:?}");
+    let end = state.run(system, 100);
+    assert!(rt; end == PitonRun::Halted, "{text}: {end:?}");
+    let again = state.run(system, 100);
+    assert!(rt; again == PitonRun::Halted, "{text}: {again:?}");
+    let counts = (state.steps(), state.counted());
+    assert!(rt; counts == (steps, counted), "{text}: {counts:?}");
+    assert!(rt; state.frames() == 0, "{text}");
+    assert!(rt; state.stack() == stack, "{text}: {:?}", state.stack());
+}
+
+/// The system of the text halts so.
 fn halts_so(
     rt: &impl Abort,
     alloc: Global,
@@ -58,16 +85,7 @@ fn halts_so(
 ) -> Result<(), Fail> {
     let system = system_of(alloc, text)?;
     let mut state = State::start(alloc, &system)?;
-    let before = state.run(&system, steps.saturating_sub(1));
-    assert!(rt; before == PitonRun::Spent, "{text}: {before:?}");
-    let end = state.run(&system, 100);
-    assert!(rt; end == PitonRun::Halted, "{text}: {end:?}");
-    let again = state.run(&system, 100);
-    assert!(rt; again == PitonRun::Halted, "{text}: {again:?}");
-    let counts = (state.steps(), state.counted());
-    assert!(rt; counts == (steps, counted), "{text}: {counts:?}");
-    assert!(rt; state.frames() == 0, "{text}");
-    assert!(rt; state.stack() == stack, "{text}: {:?}", state.stack());
+    ends_so(rt, text, &system, &mut state, steps, counted, stack);
     Ok(())
 }
 
@@ -127,21 +145,27 @@ fn each_operation(rt: HostRuntime) -> Result<(), Fail> {
     Ok(())
 }
 
-/// What is refused changes nothing: no step is counted, and the words are those of the initial stack.
+/// A run from its start is refused so, and changes nothing: no step is counted, and the words are those of the initial stack.
+fn is_refused_so(rt: &impl Abort, text: &str, system: &Checked, state: &mut State, kind: ErrorKind)
+    requires { IsSeen (system_in system.now) state.old }
+{
+    let end = state.run(system, 100);
+    assert!(rt; end == PitonRun::Error(kind), "{text}: {end:?}");
+    let counts = (state.steps(), state.counted(), state.at(), state.frames());
+    assert!(rt; counts == (0, 0, (0, 0), 1), "{text}: {counts:?}");
+    assert!(rt;
+        state.stack() == system.resolved().stack.as_slice(),
+        "{text}"
+    );
+}
+
 #[test]
 fn each_refusal(rt: HostRuntime) -> Result<(), Fail> {
     for (words, temp, instruction, kind) in all_refusals() {
         let text = refusal_text(rt.alloc(), words, *temp, instruction)?;
         let system = system_of(rt.alloc(), text.as_str())?;
         let mut state = State::start(rt.alloc(), &system)?;
-        let end = state.run(&system, 100);
-        assert!(rt; end == PitonRun::Error(*kind), "{text}: {end:?}");
-        let counts = (state.steps(), state.counted(), state.at(), state.frames());
-        assert!(rt; counts == (0, 0, (0, 0), 1), "{text}: {counts:?}");
-        assert!(rt;
-            state.stack() == system.resolved().stack.as_slice(),
-            "{text}"
-        );
+        is_refused_so(&rt, text.as_str(), &system, &mut state, *kind);
     }
     Ok(())
 }

@@ -1,9 +1,10 @@
 //! Texts of systems that keep the rules, and of systems that break one or two.
 
-use piton_check::{CheckFault, Checked, ResolvedArg, ResolvedProgram, check};
+use piton_check::{CheckFault, Checked, Resolved, ResolvedArg, ResolvedProgram, check};
 use piton_syntax::{PitonOp, TestKind, read_piton};
 use piton_words::Word;
 use std::alloc::Global;
+use std::process::Abort;
 use std::test::Fail;
 
 /// Texts of systems with one breach or more: the rule of the least, and its place, counted by hand.
@@ -333,17 +334,17 @@ fn whole_system() -> &'static [u8] {
     SYSTEM
 }
 
-#[test]
-fn resolves_words(rt: HostRuntime) -> Result<(), Fail> {
-    let checked = checked_of(rt.alloc(), whole_system())?;
-    assert!(rt; checked.system().main.name.bytes() == b"main".as_slice());
-    let resolved = checked.resolved();
+/// The words of an area.
+fn area_at(resolved: &Resolved, area: usize) -> Option<&[Word]> {
+    Some(resolved.areas.get(area)?.as_slice())
+}
+
+/// The words of the whole system are resolved.
+fn has_words(rt: &impl Abort, resolved: &Resolved) {
     let numbers = [resolved.main, resolved.ctrl, resolved.temp, resolved.base];
     assert!(rt; numbers == [1, 9, 8, 7]);
-    let first = resolved.areas.first().ok_or("no area")?;
-    assert!(rt; first.as_slice() == [Word::Int(-5), Word::Bool(true)].as_slice());
-    let second = resolved.areas.get(1).ok_or("no second area")?;
-    assert!(rt; second.as_slice() == [Word::Subr { program: 0 }].as_slice());
+    assert!(rt; area_at(resolved, 0) == Some([Word::Int(-5), Word::Bool(true)].as_slice()));
+    assert!(rt; area_at(resolved, 1) == Some([Word::Subr { program: 0 }].as_slice()));
     let stack = [
         Word::Addr { area: 1, offset: 0 },
         Word::Pc {
@@ -353,6 +354,13 @@ fn resolves_words(rt: HostRuntime) -> Result<(), Fail> {
         Word::Bitv(4_294_967_295),
     ];
     assert!(rt; resolved.stack.as_slice() == stack.as_slice());
+}
+
+#[test]
+fn resolves_words(rt: HostRuntime) -> Result<(), Fail> {
+    let checked = checked_of(rt.alloc(), whole_system())?;
+    assert!(rt; checked.system().main.name.bytes() == b"main".as_slice());
+    has_words(&rt, checked.resolved());
     Ok(())
 }
 
@@ -375,11 +383,8 @@ fn resolves_names_of_locals(rt: HostRuntime) -> Result<(), Fail> {
     Ok(())
 }
 
-#[test]
-fn resolves_other_arguments(rt: HostRuntime) -> Result<(), Fail> {
-    let checked = checked_of(rt.alloc(), whole_system())?;
-    let resolved = checked.resolved();
-    let main = resolved.programs.get(1).ok_or("no main")?;
+/// The arguments of the whole system's main program are resolved.
+fn has_other_arguments(rt: &impl Abort, main: &ResolvedProgram) {
     let word = ResolvedArg::Word(Word::Addr { area: 0, offset: 1 });
     assert!(rt; args_at(main, 0) == Some([word].as_slice()));
     assert!(rt; args_at(main, 1) == Some([ResolvedArg::Area(1)].as_slice()));
@@ -389,8 +394,14 @@ fn resolves_other_arguments(rt: HostRuntime) -> Result<(), Fail> {
     let test = [ResolvedArg::Test(TestKind::NotNeg), ResolvedArg::Place(6)];
     assert!(rt; args_at(main, 4) == Some(test.as_slice()));
     assert!(rt; args_at(main, 5) == Some([ResolvedArg::Program(0)].as_slice()));
-    let last = main.instrs.get(6).ok_or("no last instruction")?;
-    assert!(rt; last.op == PitonOp::Ret);
-    assert!(rt; last.args.is_empty());
+    let last = main.instrs.get(6);
+    assert!(rt; matches!(last, Some(last) if last.op == PitonOp::Ret && last.args.is_empty()));
+}
+
+#[test]
+fn resolves_other_arguments(rt: HostRuntime) -> Result<(), Fail> {
+    let checked = checked_of(rt.alloc(), whole_system())?;
+    let main = checked.resolved().programs.get(1);
+    has_other_arguments(&rt, main.ok_or("no main")?);
     Ok(())
 }
