@@ -1,0 +1,100 @@
+#!/usr/bin/env python3
+"""Runs a command of the kit, and prints what the prover took for each crate: processor minutes and the most memory of one process.
+
+    python3 .ci/tools/times.py .ci/run
+
+It looks at the prover's processes a few times a second, whoever started them, so nothing else of the kit may run beside it. A process that
+lives shorter than that isn't seen. The table has a row for each crate, the dearest first, and the sums; then come the time by the clock,
+and the most memory that was in use at once.
+"""
+import os
+import subprocess
+import sys
+import time
+from dataclasses import dataclass, field
+
+TICKS = os.sysconf("SC_CLK_TCK")
+PAGE = os.sysconf("SC_PAGE_SIZE")
+PAUSE = 0.3
+PARTS = ("proof", "tests", "edits")
+
+
+@dataclass
+class Process:
+    crate: str
+    part: str
+    seconds: float = 0.0
+    memory: int = 0
+
+
+@dataclass
+class Seen:
+    """The prover's processes so far, by number and time of start, and the most memory that they held at once."""
+
+    processes: dict = field(default_factory=dict)
+    memory: int = 0
+
+    def look(self):
+        held = 0
+        for pid in filter(str.isdigit, os.listdir("/proc")):
+            try:
+                held += self.look_at(pid)
+            except (OSError, ValueError, IndexError):
+                pass  # it ended meanwhile
+        self.memory = max(self.memory, held)
+
+    def look_at(self, pid):
+        """Notes a process where it is the prover's, and returns its memory in bytes."""
+        with open(f"/proc/{pid}/cmdline", encoding="utf-8", errors="replace") as it:
+            words = it.read().split("\0")
+        if not words[0].endswith("bin/rattle") or "--crate-name" not in words:
+            return 0
+        with open(f"/proc/{pid}/stat", encoding="utf-8") as it:
+            fields = it.read().rsplit(")", 1)[1].split()
+        user, system, start, pages = (int(fields[at]) for at in (11, 12, 19, 21))
+        key = pid, start
+        if key not in self.processes:
+            crate = words[words.index("--crate-name") + 1]
+            self.processes[key] = Process(crate, part_of(words, os.readlink(f"/proc/{pid}/cwd")))
+        process = self.processes[key]
+        process.seconds = (user + system) / TICKS
+        process.memory = max(process.memory, pages * PAGE)
+        return pages * PAGE
+
+    def table(self):
+        """The rows of the table: crate, minutes of each part, their sum, and gigabytes."""
+        rows = {}
+        for it in self.processes.values():
+            row = rows.setdefault(it.crate, dict.fromkeys((*PARTS, "memory"), 0.0))
+            row[it.part] += it.seconds / 60
+            row["memory"] = max(row["memory"], it.memory / 2**30)
+        whole = [(crate, *(row[it] for it in PARTS), sum(row[it] for it in PARTS), row["memory"]) for crate, row in rows.items()]
+        return sorted(whole, key=lambda row: -row[4])
+
+
+def part_of(words, folder):
+    """What a process does: it tries an edit, or proves the tests, or the crate."""
+    if "rt-edit-" in folder:
+        return "edits"
+    return "tests" if "--test" in words else "proof"
+
+
+def main(command):
+    if not command:
+        sys.exit(__doc__)
+    seen, begun = Seen(), time.time()
+    running = subprocess.Popen(command)
+    while running.poll() is None:
+        seen.look()
+        time.sleep(PAUSE)
+    rows = seen.table()
+    print("| Crate | Proof | Tests | Edits | Together | Gigabytes |\n|---|---|---|---|---|---|")
+    for crate, *minutes, memory in rows:
+        print(f"| `{crate}` | " + " | ".join(f"{it:.1f}" for it in minutes) + f" | {memory:.1f} |")
+    print("| all | " + " | ".join(f"{sum(row[at] for row in rows):.0f}" for at in (1, 2, 3, 4)) + " | |")
+    print(f"{(time.time() - begun) / 60:.0f} minutes by the clock, at most {seen.memory / 2**30:.1f} GB at once")
+    return running.returncode
+
+
+if __name__ == "__main__":
+    sys.exit(main(sys.argv[1:]))
