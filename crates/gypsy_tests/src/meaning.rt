@@ -114,14 +114,14 @@ fn steps_so(
     alloc: Global,
     case: &Case,
     accepted: &Accepted,
-    needs: &Needs,
     values: &[Value],
 ) -> Result<bool, Fail> {
-    let started = Meaning::try_start(alloc, accepted, needs, values, 100, 100)?;
+    let needs = needs(alloc, accepted)?;
+    let started = Meaning::try_start(alloc, accepted, &needs, values, 100, 100)?;
     let Some(mut meaning) = started else {
         return Ok(false);
     };
-    let costs = costs_each(alloc, accepted, needs, &mut meaning, case.costs)?;
+    let costs = costs_each(alloc, accepted, &needs, &mut meaning, case.costs)?;
     Ok(costs && is_at_end(case, &meaning))
 }
 
@@ -130,14 +130,14 @@ fn runs_so(
     alloc: Global,
     case: &Case,
     accepted: &Accepted,
-    needs: &Needs,
     values: &[Value],
 ) -> Result<bool, Fail> {
-    let started = Meaning::try_start(alloc, accepted, needs, values, 100, 100)?;
+    let needs = needs(alloc, accepted)?;
+    let started = Meaning::try_start(alloc, accepted, &needs, values, 100, 100)?;
     let Some(mut meaning) = started else {
         return Ok(false);
     };
-    let run = meaning.run(alloc, accepted, needs, 1000)?;
+    let run = meaning.run(alloc, accepted, &needs, 1000)?;
     Ok(run == MeanRun::Ended && is_at_end(case, &meaning))
 }
 
@@ -152,12 +152,8 @@ fn source_of_case(alloc: Global, case: &Case) -> Result<Accepted, Fail> {
 /// Whether a case does what it says, step by step and in one run.
 fn does(alloc: Global, case: &Case) -> Result<bool, Fail> {
     let accepted = source_of_case(alloc, case)?;
-    let needs = needs(alloc, &accepted)?;
     let values = values_of(alloc, case.values)?;
-    Ok(
-        steps_so(alloc, case, &accepted, &needs, &values)?
-            && runs_so(alloc, case, &accepted, &needs, &values)?,
-    )
+    Ok(steps_so(alloc, case, &accepted, &values)? && runs_so(alloc, case, &accepted, &values)?)
 }
 
 fn do_each(rt: &impl Abort, alloc: Global, cases: &[Case]) -> Result<(), Fail> {
