@@ -1,5 +1,5 @@
 """Times the stack beside a C compiler: `programs.py FOLDER` writes sources of 64 KiB to 1 MiB there, and C files of the same sizes
-that do the same, and prints what checking, compiling and running them takes. `stack` and `gcc` have to be on the PATH."""
+that do the same, and prints what checking, compiling and running them takes. `stack`, `gcc` and `tcc` have to be on the PATH."""
 
 import os
 import pathlib
@@ -89,6 +89,7 @@ def main():
             "stack build program.gypsy 64 64 program.image",
             "stack go program.gypsy one.values 64 64 1000000000 program.image",
             "gcc -O0 -c -o program.o program.c",
+            "tcc -c -o program.o program.c",
         ):
             print(f"  {words}: {taken(words.split())}", flush=True)
     print(f"stack big 7 900: {taken('stack big 7 900'.split())}")
