@@ -28,8 +28,6 @@ def check_specs():
     names = defaultdict(list)
     for path in tracked("crates/*/specs/*.antt"):
         for number, line in enumerate(path.read_text().splitlines(), 1):
-            if line.startswith("use ") or line.startswith("pub use "):
-                continue
             if len(line) > SPEC_WIDTH:
                 say(f"{path}:{number}", f"{len(line)} characters; break the line, at most {SPEC_WIDTH}")
             found = DEFINITION.match(line)

@@ -15,7 +15,8 @@ use Rattle.cli_stack.specs.declared.reply.RuleLetter.TheVariants.{G, M, S, P, Q}
 use Rattle.cli_stack.specs.declared.reply.SizeOf.{SizeOf}
 use Rattle.cli_stack.specs.declared.reply.SizeOf.TheVariants.{Control, Temporary, Words}
 use Rattle.cli_stack.specs.declared.reply.Verdict.{Verdict}
-use Rattle.cli_stack.specs.declared.reply.Verdict.TheVariants.{Done, Usage, Refused, Values, Image, Unfinished, Outside, Error, NoRoom, Script, Size}
+use Rattle.cli_stack.specs.declared.reply.Verdict.TheVariants.{Done, Usage, Refused, Values, Image, Unfinished}
+use Rattle.cli_stack.specs.declared.reply.Verdict.TheVariants.{Outside, Error, NoRoom, Script, Size}
 use Rattle.cli_stack.specs.declared.reply.Reply.{Reply}
 use Rattle.cli_stack.specs.declared.driver.early_end.EarlyEnd.{EarlyEnd}
 use Rattle.cli_stack.specs.declared.driver.early_end.EarlyEnd.TheVariants.{Missing, TooLong, ShelfFault, OutOfMemory}

@@ -5,7 +5,8 @@ use Rattle.std.specs.declared.io.Error.{Error as IoError}
 use Rattle.std.specs.declared.io.ErrorKind.{ErrorKind}
 use Rattle.std.specs.declared.io.ErrorKind.TheVariants as kind
 use Rattle.cli_stack.specs.declared.status.Status.{Status}
-use Rattle.cli_stack.specs.declared.status.Status.TheVariants.{Done, Usage, Refused, Values, Image, Unfinished, Outside, NoRoom, Error, Missing, ShelfFault, SinkFault, Size, Script, OutOfMemory, NoWords}
+use Rattle.cli_stack.specs.declared.status.Status.TheVariants.{Done, Usage, Refused, Values, Image, Unfinished, Outside, NoRoom, Error}
+use Rattle.cli_stack.specs.declared.status.Status.TheVariants.{Missing, ShelfFault, SinkFault, Size, Script, OutOfMemory, NoWords}
 
 abbrev pub status_code : Status → ℕ
 status_code Done = 0

@@ -1,5 +1,6 @@
 -- Memory read as a condition and variables.
-use Rattle.std.specs.Prelude.{ℕ, zero, suc, ◌-◌, List, [], ◌∷◌, map, Option, Some, None, true, false, ◌==◌, nat_le, if◌then◌else◌, slice_get, unwrap_or}
+use Rattle.std.specs.Prelude.{ℕ, zero, suc, ◌-◌, List, [], ◌∷◌, map, Option, Some, None}
+use Rattle.std.specs.Prelude.{true, false, ◌==◌, nat_le, if◌then◌else◌, slice_get, unwrap_or}
 use Rattle.std.specs.Option.{option_map}
 use Rattle.stack_text.specs.declared.shape.Kind.{Kind}
 use Rattle.stack_text.specs.declared.shape.Kind.TheVariants.{Integer, Boolean, Character}

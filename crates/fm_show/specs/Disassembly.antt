@@ -2,7 +2,8 @@
 use Rattle.std.specs.Prelude.{ℕ, List, [], ◌++◌, Bool, if◌then◌else◌, codes}
 use Rattle.std.specs.Fmt.{decimal, signed_decimal}
 use Rattle.fm_words.specs.declared.operation.Op.{Op}
-use Rattle.fm_words.specs.declared.operation.Op.TheVariants.{Move, Inc, Addc, Add, Neg, Dec, Subb, Sub, Ror, Asr, Lsr, Xor, Or, And, Not, M15}
+use Rattle.fm_words.specs.declared.operation.Op.TheVariants.{Move, Inc, Addc, Add, Neg, Dec, Subb, Sub}
+use Rattle.fm_words.specs.declared.operation.Op.TheVariants.{Ror, Asr, Lsr, Xor, Or, And, Not, M15}
 use Rattle.fm_words.specs.declared.condition.Cc.{Cc}
 use Rattle.fm_words.specs.declared.condition.Cc.TheVariants as cc
 use Rattle.fm_words.specs.declared.condition.Flags.{Flags}

@@ -1,9 +1,11 @@
 -- The operations and the store conditions, as whole-number arithmetic.
-use Rattle.std.specs.Prelude.{ℕ, ◌+◌, ◌-◌, ◌*◌, ◌/◌, ◌%◌, ◌^◌, ◌==◌, Bool, true, false, not, ◌&&◌, ◌||◌, nat_lt, nat_le, pos, ◌+ℤ◌, ◌-ℤ◌, bit_and, bit_or, bit_xor}
+use Rattle.std.specs.Prelude.{ℕ, ◌+◌, ◌-◌, ◌*◌, ◌/◌, ◌%◌, ◌^◌, ◌==◌, Bool, true, false, not, ◌&&◌}
+use Rattle.std.specs.Prelude.{◌||◌, nat_lt, nat_le, pos, ◌+ℤ◌, ◌-ℤ◌, bit_and, bit_or, bit_xor}
 use Rattle.std.specs.Int.{from_bool as bit_of}
 use Rattle.fm_words.specs.Word.{signed_of, is_int}
 use Rattle.fm_words.specs.declared.operation.Op.{Op}
-use Rattle.fm_words.specs.declared.operation.Op.TheVariants.{Move, Inc, Addc, Add, Neg, Dec, Subb, Sub, Ror, Asr, Lsr, Xor, Or, And, Not, M15}
+use Rattle.fm_words.specs.declared.operation.Op.TheVariants.{Move, Inc, Addc, Add, Neg, Dec, Subb, Sub}
+use Rattle.fm_words.specs.declared.operation.Op.TheVariants.{Ror, Asr, Lsr, Xor, Or, And, Not, M15}
 use Rattle.fm_words.specs.declared.condition.Cc.{Cc}
 use Rattle.fm_words.specs.declared.condition.Cc.TheVariants as cc
 use Rattle.fm_words.specs.declared.operation.AluOut.{AluOut}

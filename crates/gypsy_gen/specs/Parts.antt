@@ -4,7 +4,8 @@ use Rattle.std.specs.Fmt.{decimal}
 use Rattle.stack_text.specs.declared.name.Named.{Named}
 use Rattle.stack_text.specs.declared.shape.Kind.TheVariants.{Integer}
 use Rattle.gypsy_syntax.specs.declared.literal.Decl.{Decl}
-use Rattle.gypsy_syntax.specs.declared.predef.Predef.TheVariants.{MgIntegerAdd, MgIntegerSubtract, MgIntegerUnaryMinus, MgSimpleVariableAssignment}
+use Rattle.gypsy_syntax.specs.declared.predef.Predef.TheVariants.{MgIntegerAdd, MgIntegerSubtract}
+use Rattle.gypsy_syntax.specs.declared.predef.Predef.TheVariants.{MgIntegerUnaryMinus, MgSimpleVariableAssignment}
 use Rattle.gypsy_syntax.specs.Made.{new_name, new_simple, new_decl, new_local, new_seq, new_call, new_predef}
 use Rattle.gypsy_syntax.specs.Sources.{integer, ArgOf, variable, LocalOf, StmtOf, no_op}
 use Rattle.gypsy_gen.specs.declared.parts.Variable.{Variable}

@@ -7,7 +7,8 @@ use Rattle.fm_code.specs.Areas.{joined}
 use Rattle.piton_check.specs.declared.piece.Piece.{Piece}
 use Rattle.piton_check.specs.declared.piece.Piece.TheVariants.{Code, Number, Place, Entry, Area, TempEnd, TempStart, CtrlStart, Table}
 use Rattle.piton_machine.specs.Addresses.{numbers}
-use Rattle.piton_machine.specs.Placed.{address_of_place, instruction_size, prelude_size, program_size, areas_start, ctrl_start, temp_start, end_of, addresses_of}
+use Rattle.piton_machine.specs.Placed.{address_of_place, instruction_size, prelude_size, program_size}
+use Rattle.piton_machine.specs.Placed.{areas_start, ctrl_start, temp_start, end_of, addresses_of}
 use Rattle.piton_machine.specs.Templates.{words_of, pieces_at}
 
 -- the address of each of parts of these sizes, the first of which stands at an address

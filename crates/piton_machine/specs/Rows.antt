@@ -1,5 +1,6 @@
 -- The rows of the instructions.
-use Rattle.std.specs.Prelude.{ℕ, ◌+◌, ◌-◌, ◌==◌, List, [], ◌∷◌, ◌++◌, length, map, reverse, take, drop, Bool, true, false, nat_lt, nat_le, if◌then◌else◌, Result, Ok, slice_get}
+use Rattle.std.specs.Prelude.{ℕ, ◌+◌, ◌-◌, ◌==◌, List, [], ◌∷◌, ◌++◌, length, map, reverse, take, drop}
+use Rattle.std.specs.Prelude.{Bool, true, false, nat_lt, nat_le, if◌then◌else◌, Result, Ok, slice_get}
 use Rattle.piton_words.specs.declared.word.Word.{Word}
 use Rattle.piton_words.specs.declared.word.Word.TheVariants.{Nat, Pc}
 use Rattle.piton_words.specs.declared.op.WordOp.{WordOp}
@@ -14,7 +15,8 @@ use Rattle.piton_machine.specs.declared.error_kind.ErrorKind.TheVariants.{TempEm
 use Rattle.piton_check.specs.Instruction as i
 use Rattle.piton_check.specs.Instruction.{Instruction, ProgramView, SystemView}
 use Rattle.piton_machine.specs.State.{Frame, PitonState, ctrl_used, locals_of, with_local, word_at, with_word, element, with_element}
-use Rattle.piton_machine.specs.Views.{◌>>=◌, where_true, found, one_of, two_of, words_taken, operands_of, nat_of, addr_of, pc_of, subr_of, lifted, test_of}
+use Rattle.piton_machine.specs.Views.{◌>>=◌, where_true, found, one_of, two_of, words_taken}
+use Rattle.piton_machine.specs.Views.{operands_of, nat_of, addr_of, pc_of, subr_of, lifted, test_of}
 
 -- what a row gives: the next state, or why there is none
 abbrev pub Row : Type 0

@@ -1,5 +1,6 @@
 -- The rows of the word operations, on the third word, the second and the top.
-use Rattle.std.specs.Prelude.{ℕ, ◌*◌, ◌-◌, ◌^◌, ◌/◌, ◌%◌, ℤ, pos, negsuc, ◌+ℤ◌, ◌-ℤ◌, ◌*ℤ◌, List, get_or, Result, Ok, Err, Bool, false, not, ◌&&◌, ◌||◌, ◌==◌, nat_lt, int_lt, unsigned_abs, bit_and, bit_or, bit_xor}
+use Rattle.std.specs.Prelude.{ℕ, ◌*◌, ◌-◌, ◌^◌, ◌/◌, ◌%◌, ℤ, pos, negsuc, ◌+ℤ◌, ◌-ℤ◌, ◌*ℤ◌, List, get_or, Result, Ok, Err}
+use Rattle.std.specs.Prelude.{Bool, false, not, ◌&&◌, ◌||◌, ◌==◌, nat_lt, int_lt, unsigned_abs, bit_and, bit_or, bit_xor}
 use Rattle.std.specs.Int.{w32, from_bool as bit, cast_signed}
 use Rattle.fm_words.specs.Word.{is_int, is_nat, wrapped, are_same_ints}
 use Rattle.fm_words.specs.Alu.{are_same as are_same_bools}
