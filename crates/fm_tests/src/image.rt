@@ -1,6 +1,6 @@
 //! Image files by hand.
 
-use fm_image::{ImageFault, read_image, write_image};
+use fm_image::{Image, ImageFault, read_image, write_image};
 use std::alloc::Global;
 use std::test::Fail;
 
@@ -177,17 +177,34 @@ fn fault_after(alloc: Global, tail: &[u8]) -> Result<Option<(u8, u64)>, Fail> {
     fault_of(alloc, &bytes)
 }
 
+/// The fields of the image that `FIELDS` spells.
+fn is_small_image(image: &Image) -> bool {
+    image.size == 11
+        && image.final_pc == 7
+        && image.registers.last().copied() == Some(2)
+        && image.condition_address.is_none()
+        && image.words.len() == 10
+}
+
 #[test]
-fn reads_and_writes(rt: HostRuntime) -> Result<(), Fail> {
+fn reads(rt: HostRuntime) -> Result<(), Fail> {
+    let bytes = file_of(rt.alloc(), &FIELDS)?;
+    let image = read_image(rt.alloc(), &bytes)?;
+    assert!(rt; is_small_image(&image));
+    Ok(())
+}
+
+/// What is written of the image that the bytes spell.
+fn written_again(alloc: Global, bytes: &[u8]) -> Result<Vec<u8>, Fail> {
+    let image = read_image(alloc, bytes)?;
+    Ok(write_image(alloc, &image)?)
+}
+
+#[test]
+fn writes_what_was_read(rt: HostRuntime) -> Result<(), Fail> {
     let bytes = file_of(rt.alloc(), &FIELDS)?;
     assert_eq!(rt; bytes.len(), 144);
-    let image = read_image(rt.alloc(), &bytes)?;
-    assert_eq!(rt; image.size, 11);
-    assert_eq!(rt; image.final_pc, 7);
-    assert_eq!(rt; image.registers.last().copied(), Some(2));
-    assert!(rt; image.condition_address.is_none());
-    assert_eq!(rt; image.words.len(), 10);
-    let written = write_image(rt.alloc(), &image)?;
+    let written = written_again(rt.alloc(), &bytes)?;
     assert!(rt; written.as_slice() == bytes.as_slice());
     Ok(())
 }

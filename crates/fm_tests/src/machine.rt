@@ -88,12 +88,21 @@ fn runs(rt: HostRuntime) -> Result<(), Fail> {
     machine.poke(0, MOVE_R3_5)?;
     machine.poke(1, MOVE_R3_5)?;
     machine.poke(2, JUMP_TO_ITSELF)?;
-    assert_eq!(rt; machine.run(0, 2), Run::Spent);
-    assert_eq!(rt; machine.run(1, 2), Run::Spent);
-    assert_eq!(rt; machine.register(3), 5);
-    assert_eq!(rt; machine.run(1, 2), Run::Ended { count: 1 });
-    assert_eq!(rt; machine.run(0, 2), Run::Ended { count: 0 });
-    assert_eq!(rt; machine.run(10, 3), Run::Spent);
+    let ends = [
+        machine.run(0, 2),
+        machine.run(1, 2),
+        machine.run(1, 2),
+        machine.run(0, 2),
+        machine.run(10, 3),
+    ];
+    let wanted = [
+        Run::Spent,
+        Run::Spent,
+        Run::Ended { count: 1 },
+        Run::Ended { count: 0 },
+        Run::Spent,
+    ];
+    assert_eq!(rt; ends, wanted);
 
     machine.set_register(15, 1);
     machine.poke(2, MOVE_R3_5)?;
@@ -102,7 +111,7 @@ fn runs(rt: HostRuntime) -> Result<(), Fail> {
         count: 2,
     };
     assert_eq!(rt; machine.run(10, 0), outside);
-    assert_eq!(rt; machine.register(15), 3);
+    assert_eq!(rt; (machine.register(3), machine.register(15)), (5, 3));
     Ok(())
 }
 

@@ -124,28 +124,37 @@ fn report_of(rt: &impl Abort, alloc: Global, image: &Image) -> Result<Vec<u8>, F
     Ok(report(alloc, image, &reading, u64::MAX)?)
 }
 
+/// Whether what is written of the image is the bytes that it was read from.
+fn is_written_again(alloc: Global, image: &Image, bytes: &[u8]) -> Result<bool, Fail> {
+    let written = write_image(alloc, image)?;
+    Ok(written.as_slice() == bytes)
+}
+
+/// Whether the image's listing has a line for each part, and its last word in the last.
+fn is_listed(alloc: Global, image: &Image) -> Result<bool, Fail> {
+    let listing = show_image(alloc, image)?;
+    let lines = listing.iter().filter(|byte| **byte == b'\n').count();
+    let last_line = b"\nfffffffe 000fffff MOVE[cc]{cvnz} (r15)+,#-1\n";
+    Ok(lines == 3 + 16 + 1 + 1 + 200 + 200 + (1 << 20) && listing.as_slice().ends_with(last_line))
+}
+
+/// The report that is wanted of the machine as it is loaded.
+fn wanted_report(alloc: Global) -> Result<Vec<u8>, Fail> {
+    let mut text = Vec::from_slice(alloc, b"finished 18446744073709551615\ncondition ")?;
+    push_name(alloc, &mut text, COUNT - 1)?;
+    let variables = lines(alloc, b"\n", b"", b" = ", b"\n")?;
+    text.extend_from_slice(variables.as_slice())?;
+    Ok(text)
+}
+
 #[test]
 fn passes_every_call(rt: HostRuntime) -> Result<(), Fail> {
     let alloc = rt.alloc();
     let bytes = file(alloc)?;
     let image = read_image(alloc, &bytes)?;
-    let written = write_image(alloc, &image)?;
-    assert!(rt; written.as_slice() == bytes.as_slice());
-
-    let listing = show_image(alloc, &image)?;
-    let lines_of_listing = listing.iter().filter(|byte| **byte == b'\n').count();
-    assert_eq!(rt; lines_of_listing, 3 + 16 + 1 + 1 + 200 + 200 + (1 << 20));
-    assert!(rt;
-        listing
-            .as_slice()
-            .ends_with(b"\nfffffffe 000fffff MOVE[cc]{cvnz} (r15)+,#-1\n")
-    );
-
-    let mut expected = Vec::from_slice(alloc, b"finished 18446744073709551615\ncondition ")?;
-    push_name(alloc, &mut expected, COUNT - 1)?;
-    let variables = lines(alloc, b"\n", b"", b" = ", b"\n")?;
-    expected.extend_from_slice(variables.as_slice())?;
+    assert!(rt; is_written_again(alloc, &image, &bytes)?);
+    assert!(rt; is_listed(alloc, &image)?);
     let report = report_of(&rt, alloc, &image)?;
-    assert!(rt; report.as_slice() == expected.as_slice());
+    assert!(rt; report == wanted_report(alloc)?);
     Ok(())
 }
