@@ -25,7 +25,8 @@ use Rattle.gypsy_codegen.specs.Generated.{Scope, out_place, raise_code, raises, 
 use Rattle.gypsy_codegen.specs.Memory.{stack_of, base_of, index_of, index_words}
 use Rattle.gypsy_codegen.specs.Showing.{HasAt, Stands, Waits, frame_with}
 use Rattle.gypsy_codegen.specs.Law.{Halts}
-use Rattle.gypsy_codegen.proofs.CopyLaws.{copied_back, actuals_below, actuals_number, locals_fit}
+use Rattle.gypsy_meaning.proofs.Keeping.{locals_fit}
+use Rattle.gypsy_codegen.proofs.CopyLaws.{copied_back, actuals_below, actuals_number}
 use Rattle.gypsy_codegen.proofs.StackLaws.{push_all-length, push_all-append, values_words, starts-length}
 use Rattle.gypsy_codegen.proofs.LayoutLaws.{if_no, height, low_fits, ctrl_is, newest}
 use Rattle.gypsy_codegen.proofs.StepLaws as go

@@ -4,11 +4,10 @@ use Rattle.std.specs.Prelude.{slice_index, slice_set, slice_get}
 use Rattle.std.proofs.lemmas.List.{length-set, get_or-set_same, get_or-set_other, set-get_or, set_comm}
 use Rattle.stack_text.specs.declared.shape.Shape.{Shape}
 use Rattle.stack_text.specs.Values.{ValueOf}
-use Rattle.gypsy_syntax.specs.ProgramFits.{Misses, Distinct, ActualsFit, ValueFits, Each}
+use Rattle.gypsy_syntax.specs.ProgramFits.{Misses, Distinct, ActualsFit, Each}
 use Rattle.gypsy_syntax.specs.Effects.{value_at, no_value}
 use Rattle.gypsy_meaning.specs.Calls.{copied_out}
 use Rattle.gypsy_meaning.specs.Kept.{VarsFit}
-use Rattle.gypsy_meaning.proofs.EffectLaws.{set_fits}
 
 pub copied-length : (xs : List ℕ) (y x : List ValueOf) → length (copied_out xs y x) ≡ length x
 copied-length [] y x = refl
@@ -106,24 +105,6 @@ pub vars_behind : (formals rest : List Shape) (y : List ValueOf) → VarsFit (fo
 vars_behind [] rest y h = h
 vars_behind (s ∷ formals) rest [] h = absurd h
 vars_behind (s ∷ formals) rest (v ∷ y) h = vars_behind formals rest y h.2
-
-pub vars_join : (ss shapes : List Shape) (y x : List ValueOf) → VarsFit ss y → VarsFit shapes x → VarsFit (ss ++ shapes) (y ++ x)
-vars_join [] shapes [] x h f = f
-vars_join [] shapes (v ∷ y) x h f = absurd h
-vars_join (s ∷ ss) shapes [] x h f = absurd h
-vars_join (s ∷ ss) shapes (v ∷ y) x h f = (h.0, h.1, vars_join ss shapes y x h.2 f)
-
-pub locals_fit : (locals : List ValueOf) → Each ValueFits locals → VarsFit (map (λ (v : ValueOf). v.shape) locals) locals
-locals_fit [] h = tt
-locals_fit (v ∷ locals) h = (refl, h.0, locals_fit locals h.1)
-
-pub copies_fit : (shapes formals rest : List Shape) (xs : List ℕ) (y x : List ValueOf) → ActualsFit shapes formals xs → VarsFit (formals ++ rest) y → VarsFit shapes x → VarsFit shapes (copied_out xs y x)
-copies_fit shapes [] rest [] y x f g h = h
-copies_fit shapes [] rest (a ∷ xs) y x f g h = absurd f
-copies_fit shapes (s ∷ formals) rest [] y x f g h = absurd f
-copies_fit shapes (s ∷ formals) rest (a ∷ xs) [] x f g h = absurd g
-copies_fit shapes (s ∷ formals) rest (a ∷ xs) (v ∷ y) x f g h =
-    copies_fit shapes formals rest xs y (slice_set x a v) f.1 g.2 (set_fits shapes x a v h (f.0 ∙ ap Some (sym g.0)) g.1)
 
 -- Lists.
 

@@ -38,7 +38,8 @@ use Rattle.gypsy_codegen.specs.Generated.{arg_length, offset}
 use Rattle.gypsy_codegen.specs.Written.{Line, Plain, Marked}
 use Rattle.gypsy_codegen.specs.Lines.{labels, label_to, unmarked, marked_raises, raise_labels}
 use Rattle.gypsy_codegen.specs.Lines.{before_code, after_lines, apply_code, lines, tail_lines, lines_of}
-use Rattle.gypsy_codegen.proofs.CopyLaws.{get_below, each_both, locals_fit}
+use Rattle.gypsy_meaning.proofs.Keeping.{locals_fit}
+use Rattle.gypsy_codegen.proofs.CopyLaws.{get_below, each_both}
 use Rattle.gypsy_codegen.proofs.StackLaws.{values_words}
 use Rattle.gypsy_codegen.proofs.PushLaws.{some_items}
 use Rattle.gypsy_codegen.proofs.InstructionLaws.{InRange, Known, Fine}

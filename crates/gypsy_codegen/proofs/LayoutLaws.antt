@@ -24,7 +24,8 @@ use Rattle.gypsy_codegen.specs.WordsOf.{words_of_values, words_before, starts, l
 use Rattle.gypsy_codegen.specs.Generated.{offset}
 use Rattle.gypsy_codegen.specs.Memory.{stack_of, base_of, index_of, frame_of, index_words}
 use Rattle.gypsy_codegen.specs.Showing.{Waits, frame_with}
-use Rattle.gypsy_codegen.proofs.CopyLaws.{copied-length, copied_at, copied_set, copied_past, below_at, get_below, actuals_below, actuals_number, actual_shape, vars_number, vars_behind, copies_fit}
+use Rattle.gypsy_codegen.proofs.CopyLaws.{copied-length, copied_at, copied_set, copied_past, below_at, get_below, actuals_below, actuals_number, actual_shape, vars_number, vars_behind}
+use Rattle.gypsy_meaning.proofs.Keeping.{copies_back}
 use Rattle.gypsy_codegen.proofs.StackLaws.{push_all-length, below_pushed, element_of, words_below, words_from, get_front, get_after, value_words, values_words, read_word, write_words, words_fit, starts_at, starts-length}
 
 pub if_yes : {A : Type 0} (b : Bool) (x y : A) → b ≡ true → (if b then x else y) ≡ x
@@ -60,7 +61,7 @@ module _ (q : Program) where
   -- the variables of the activation below, with the formals' values
   pub low_fits : (p c : ℕ) (x y : List ValueOf) (w : List Rattle.gypsy_meaning.specs.Machine.Item) (xs : List ℕ) (cs : List Rattle.gypsy_syntax.specs.Programs.Cond) (fs : List Frame) → VarsFit (shapes_of (proc_at q p)) y → FramesFit q p (Held c x w xs cs ∷ fs) → VarsFit (shapes_of (proc_at q c)) (copied_out xs y x)
   low_fits p c x y w xs cs fs v g =
-      copies_fit (shapes_of (proc_at q c)) (proc_at q p).formals (local_shapes (proc_at q p)) xs y x g.0.actuals v g.1
+      copies_back (shapes_of (proc_at q c)) (proc_at q p).formals (local_shapes (proc_at q p)) xs y x g.0.actuals v g.1
 
   pub height : (p : ℕ) (y : List ValueOf) (fs : List Frame) → VarsFit (shapes_of (proc_at q p)) y → FramesFit q p fs → length (stack_of q p y fs) ≡ (used q p fs).temp
   height p y [] v g = omega (arith, push_all-length (words_of_values y) [], values_words (shapes_of (proc_at q p)) y v, main_temp p g)

@@ -20,7 +20,8 @@ use Rattle.gypsy_codegen.specs.WordsOf.{words_of_values, starts, local_shapes}
 use Rattle.gypsy_codegen.specs.Generated.{Scope, InLoop, InBegin, target, raise_code, back_code, raises, raise_places, after_code, push_words, push_indices, push_actuals, push_args, before_size, length_code, predef_position, size, gen, tail_code}
 use Rattle.gypsy_predef.specs.Calls.{test_code}
 use Rattle.gypsy_codegen.specs.Sizes.{ProceduresTakeWords}
-use Rattle.gypsy_codegen.proofs.CopyLaws.{actuals_number, locals_fit}
+use Rattle.gypsy_meaning.proofs.Keeping.{locals_fit}
+use Rattle.gypsy_codegen.proofs.CopyLaws.{actuals_number}
 use Rattle.gypsy_codegen.proofs.StackLaws.{values_words, starts-length}
 use Rattle.gypsy_codegen.proofs.StepLaws.{program_is}
 

@@ -17,13 +17,13 @@ use Rattle.gypsy_meaning.proofs.EffectLaws.{value_fits, set_fits, apply_fits}
 
 -- Variables.
 
-vars_join : (ss : List Shape) (shapes : List Shape) (y x : List ValueOf) → VarsFit ss y → VarsFit shapes x → VarsFit (ss ++ shapes) (y ++ x)
+pub vars_join : (ss : List Shape) (shapes : List Shape) (y x : List ValueOf) → VarsFit ss y → VarsFit shapes x → VarsFit (ss ++ shapes) (y ++ x)
 vars_join [] shapes [] x h f = f
 vars_join [] shapes (v ∷ y) x h f = absurd h
 vars_join (s ∷ ss) shapes [] x h f = absurd h
 vars_join (s ∷ ss) shapes (v ∷ y) x h f = (h.0, h.1, vars_join ss shapes y x h.2 f)
 
-locals_fit : (locals : List ValueOf) → Each ValueFits locals → VarsFit (map (λ (v : ValueOf). v.shape) locals) locals
+pub locals_fit : (locals : List ValueOf) → Each ValueFits locals → VarsFit (map (λ (v : ValueOf). v.shape) locals) locals
 locals_fit [] h = tt
 locals_fit (v ∷ locals) h = (refl, h.0, locals_fit locals h.1)
 
@@ -35,7 +35,7 @@ actuals_copied shapes (s ∷ formals) (a ∷ xs) x f h =
     let v = value_fits shapes x a s h f.0 in
     (v.0, v.1, actuals_copied shapes formals xs x f.1 h)
 
-copies_back : (shapes formals rest : List Shape) (xs : List ℕ) (y x : List ValueOf) → ActualsFit shapes formals xs → VarsFit (formals ++ rest) y → VarsFit shapes x → VarsFit shapes (copied_out xs y x)
+pub copies_back : (shapes formals rest : List Shape) (xs : List ℕ) (y x : List ValueOf) → ActualsFit shapes formals xs → VarsFit (formals ++ rest) y → VarsFit shapes x → VarsFit shapes (copied_out xs y x)
 copies_back shapes [] rest [] y x f g h = h
 copies_back shapes [] rest (a ∷ xs) y x f g h = absurd f
 copies_back shapes (s ∷ formals) rest [] y x f g h = absurd f

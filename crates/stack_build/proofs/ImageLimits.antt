@@ -33,7 +33,7 @@ use Rattle.gypsy_space.specs.Needs.{Words}
 use Rattle.gypsy_codegen.specs.WordsOf.{words_of_values, zero_value}
 use Rattle.gypsy_codegen.specs.Generated.{generated_view}
 use Rattle.gypsy_codegen.proofs.DeclareLaws.{Unlike, Differ, differ_source, like_sym}
-use Rattle.gypsy_codegen.proofs.CopyLaws.{vars_join, locals_fit}
+use Rattle.gypsy_meaning.proofs.Keeping.{vars_join, locals_fit}
 use Rattle.gypsy_syntax.specs.Fits.{IsNamed, FitsDecl}
 use Rattle.piton_syntax.proofs.FitsLaws.{all_first, all_rest}
 use Rattle.piton_linker.specs.Layouts.{trimmed}
