@@ -186,18 +186,17 @@ fn cases() -> &'static [Case] {
 }
 
 /// The source of a text that breaks no rule.
-fn accepted_of(alloc: Global, text: &str) -> Result<Accepted, Fail> {
-    let bytes = text.as_bytes();
-    if bytes.len() > 1 << 20 {
+fn accepted_of(alloc: Global, text: &[u8]) -> Result<Accepted, Fail> {
+    if text.len() > 1 << 20 {
         return Err(Fail::from("too long"));
     }
-    Ok(check(alloc, read_gypsy(alloc, bytes)?)?)
+    Ok(check(alloc, read_gypsy(alloc, text)?)?)
 }
 
 /// What is generated of the source of a text, at base 0.
 fn made(
     alloc: Global,
-    text: &str,
+    text: &[u8],
     ctrl: u32,
     temp: u32,
 ) -> Result<Result<Checked, GenFault>, Fail> {
@@ -214,15 +213,18 @@ fn is_end(case: &Case, state: &State) -> bool {
         && state.area(0) == [Word::Nat(case.condition)].as_slice()
 }
 
+/// Whether the system of a case's source ends as the case says.
+fn ends_so(alloc: Global, case: &Case) -> Result<bool, Fail> {
+    let checked = made(alloc, case.text.as_bytes(), case.ctrl, case.temp)??;
+    let mut state = State::start(alloc, &checked)?;
+    let run = state.run(&checked, 1_000_000);
+    Ok(matches!(run, PitonRun::Halted) && is_end(case, &state))
+}
+
 #[test]
 fn generated_systems_end_as_their_sources(rt: HostRuntime) -> Result<(), Fail> {
     for case in cases() {
-        let text = case.text;
-        let checked = made(rt.alloc(), text, case.ctrl, case.temp)??;
-        let mut state = State::start(rt.alloc(), &checked)?;
-        let run = state.run(&checked, 1_000_000);
-        assert!(rt; matches!(run, PitonRun::Halted), "{text}: {run:?}");
-        assert!(rt; is_end(case, &state), "{text}");
+        assert!(rt; ends_so(rt.alloc(), case)?, "{}", case.text);
     }
     Ok(())
 }
@@ -254,28 +256,34 @@ fn faults() -> &'static [(&'static str, u32, u32, Option<GenFault>)] {
 #[test]
 fn sizes_below_what_main_needs_are_refused(rt: HostRuntime) -> Result<(), Fail> {
     for (text, ctrl, temp, fault) in faults() {
-        let made = made(rt.alloc(), text, *ctrl, *temp)?;
+        let made = made(rt.alloc(), text.as_bytes(), *ctrl, *temp)?;
         assert!(rt; made.err() == *fault, "{text} {ctrl} {temp}");
     }
     Ok(())
 }
 
+/// Appends a local of 4,096 words, whose name ends in the number.
+fn push_local(alloc: Global, text: &mut Vec<u8>, number: u32) -> Result<(), Fail> {
+    let name = format!(in alloc; "(a{number} (array integer 4096) (0")?;
+    text.extend_from_slice(name.as_bytes())?;
+    for _item in 1..4096 {
+        text.extend_from_slice(b" 0")?;
+    }
+    text.extend_from_slice(b"))")?;
+    Ok(())
+}
+
 /// A source whose main makes so many calls of a procedure that has so many locals of 4,096 words each.
-fn long_source(alloc: Global, calls: u32, locals: u32) -> Result<String, Fail> {
-    let mut text = String::from_str(alloc, "(program main (proc main () () () () (seq")?;
+fn long_source(alloc: Global, calls: u32, locals: u32) -> Result<Vec<u8>, Fail> {
+    let mut text = Vec::from_slice(alloc, b"(program main (proc main () () () () (seq")?;
     for _call in 0..calls {
-        text.push_str(" (call p () ())")?;
+        text.extend_from_slice(b" (call p () ())")?;
     }
-    text.push_str(")) (proc p () () (")?;
+    text.extend_from_slice(b")) (proc p () () (")?;
     for local in 0..locals {
-        let name = format!(in alloc; "(a{local} (array integer 4096) (0")?;
-        text.push_str(name.as_str())?;
-        for _item in 1..4096 {
-            text.push_str(" 0")?;
-        }
-        text.push_str("))")?;
+        push_local(alloc, &mut text, local)?;
     }
-    text.push_str(") () (no-op)))")?;
+    text.extend_from_slice(b") () (no-op)))")?;
     Ok(text)
 }
 
@@ -285,7 +293,7 @@ const LONG: u64 = 1_068_630;
 #[test]
 fn too_many_words_of_code_are_refused(rt: HostRuntime) -> Result<(), Fail> {
     let text = long_source(rt.alloc(), 130, 1)?;
-    let made = made(rt.alloc(), text.as_str(), 100, 100)?;
+    let made = made(rt.alloc(), &text, 100, 100)?;
     assert!(rt; made.err() == Some(GenFault::Words { count: LONG }));
     Ok(())
 }
@@ -297,7 +305,7 @@ const MANY: u64 = 61_522;
 #[test]
 fn a_call_may_push_many_constants(rt: HostRuntime) -> Result<(), Fail> {
     let text = long_source(rt.alloc(), 1, 15)?;
-    let checked = made(rt.alloc(), text.as_str(), 19, 61_455)??;
+    let checked = made(rt.alloc(), &text, 19, 61_455)??;
     let mut state = State::start(rt.alloc(), &checked)?;
     let run = state.run(&checked, 100_000);
     assert!(rt; matches!(run, PitonRun::Halted), "{run:?}");
