@@ -9,7 +9,7 @@ use stack_text::Memory;
 use std::alloc::Global;
 
 /// What the words ask for, with the names of the files, the sizes of the two stacks, and the most steps.
-#[derive(Debug, Drop)]
+#[derive(Drop)]
 pub enum Command {
     /// Judges a source.
     Check {

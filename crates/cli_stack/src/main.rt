@@ -11,8 +11,6 @@ mod program;
 mod reply;
 mod role;
 mod status;
-#[cfg(test)]
-mod tests;
 mod texts;
 mod words;
 

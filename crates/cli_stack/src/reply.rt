@@ -10,7 +10,7 @@ use stack_text::{Memory, Name, Seq, TextRule};
 use std::alloc::Global;
 
 /// The letter of a rule by which a text is refused: G for the form of trees, M and S for sources, P and Q for Piton.
-#[derive(Clone, Copy, Debug, PartialEq, Eq)]
+#[derive(Clone, Copy, PartialEq, Eq)]
 pub enum RuleLetter {
     G,
     M,
@@ -20,7 +20,7 @@ pub enum RuleLetter {
 }
 
 /// What is too small or too large: a stack, or the words of a program.
-#[derive(Clone, Copy, Debug, PartialEq, Eq)]
+#[derive(Clone, Copy, PartialEq, Eq)]
 pub enum SizeOf {
     Control,
     Temporary,
@@ -28,7 +28,7 @@ pub enum SizeOf {
 }
 
 /// How a command came to its end, with what its last line says.
-#[derive(Debug, Drop)]
+#[derive(Drop)]
 pub enum Verdict {
     /// It came to its defined end.
     Done,

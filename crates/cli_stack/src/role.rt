@@ -2,7 +2,7 @@
 use crate::words::FileName;
 
 /// What a command takes a file for.
-#[derive(Clone, Copy, Debug, PartialEq, Eq)]
+#[derive(Clone, Copy, PartialEq, Eq)]
 pub enum Role {
     /// A source of Micro-Gypsy.
     Source,
@@ -41,7 +41,7 @@ impl Role {
 }
 
 /// A file that a command reads or writes.
-#[derive(Clone, Copy, Debug)]
+#[derive(Clone, Copy)]
 pub struct RoleFile<'a> {
     pub role: Role,
     pub name: &'a FileName,

@@ -7,7 +7,7 @@ use std::alloc::{AllocFailed, Global};
 use std::marker::Model;
 
 /// The bytes of a file that was read, at most 2^31. Contracts see them as a list.
-#[derive(Debug, Drop)]
+#[derive(Drop)]
 pub struct Text {
     bytes: Vec<u8>,
 }
@@ -41,7 +41,7 @@ impl Text {
 }
 
 /// The texts of the files that a command reads, each with its role. Contracts see them as a list.
-#[derive(Debug, Drop)]
+#[derive(Drop)]
 pub struct Texts {
     texts: Vec<(Role, Text)>,
 }

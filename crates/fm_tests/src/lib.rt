@@ -14,6 +14,8 @@ mod loader;
 #[cfg(test)]
 mod machine;
 #[cfg(test)]
+mod runs;
+#[cfg(test)]
 mod show;
 #[cfg(test)]
 mod words;

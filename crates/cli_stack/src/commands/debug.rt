@@ -1,16 +1,17 @@
 //! The command `debug`.
-ghost use Rattle.std.specs.Prelude.{◌≡◌, ◌≤◌, ◌^◌, None, IfOk, length, map};
+ghost use Rattle.std.specs.Prelude.{◌≡◌, ◌≤◌, ◌^◌, [], None, IfOk, length, map};
 ghost use Rattle.gypsy_space.specs.Needs.{stack_words};
 ghost use Rattle.gypsy_syntax.specs.SourceView.{source_of};
 ghost use Rattle.level_debuggers.specs.Levels.{IsRunner, level_of};
-ghost use Rattle.level_debuggers.specs.Sessions.{session_of};
+ghost use Rattle.level_debuggers.specs.Sessions.{IsSession, session_of};
+ghost use Rattle.level_debuggers.specs.Transcripts.{followed};
 ghost use Rattle.level_debuggers.specs.Tallies.{watching};
 ghost use Rattle.stack_build.specs.Starts.{GivesStart};
 ghost use Rattle.debug_script.specs.Scripts.{script_of};
 ghost use Rattle.cli_stack.specs.declared.role.Role.TheVariants as Role;
 ghost use Rattle.cli_stack.specs.declared.words.reader.Level.TheVariants as Level;
 ghost use Rattle.cli_stack.specs.Answer.{text_of};
-ghost use Rattle.cli_stack.specs.Debug.{run_at, run_in, found_run, end_verdict, lines_reply, script_reply, debug_reply};
+ghost use Rattle.cli_stack.specs.Debug.{run_at, run_in, found_run, end_verdict, followed_reply, lines_reply, script_reply, debug_reply};
 ghost use Rattle.cli_stack.specs.Plans.{pending_reply};
 
 use crate::commands::plan::{Pending, Plan};
@@ -195,6 +196,28 @@ fn end_verdict(session: &Session, end: ScriptEnd) -> Result<Verdict, Memory>
     }
 }
 
+/// Follows the lines of a script in a session, and replies what it said.
+#[tactic(auto, unfolding(crate::specs::Debug::lines_reply))]
+fn reply_of_session(alloc: Global, session: &mut Session, lines: &[Line]) -> Result<Plan, Memory>
+    requires { IsSession session.old }
+    ensures stored { IfOk result (λ plan. plan.stored ≡ None) }
+    ensures reply { let session = session_of
+        (λ w. watching (rule_of (w.vtable, w.value)) (tally_of (w.vtable, w.value))) session.old in
+        IfOk result (λ plan. pending_reply plan.pending ≡ followed_reply (followed [] lines.now session)) }
+{
+    let mut said = Vec::new(alloc);
+    let end = follow(alloc, session, lines, &mut said)?;
+    let verdict = end_verdict(session, end)?;
+    Ok(Plan {
+        stored: None,
+        pending: Pending::Reply(Reply {
+            said: Seq::from_vec(said),
+            verdict,
+            machine: None,
+        }),
+    })
+}
+
 /// Follows the lines of a script in a session of a runner.
 #[tactic(auto, unfolding(crate::specs::Debug::lines_reply))]
 fn follow_lines(
@@ -209,15 +232,5 @@ fn follow_lines(
         ≡ lines_reply (level_of runner) (map (λ w. watching (rule_of w) (tally_of w)) watches.items) lines.now) }
 {
     let mut session = Session::new(alloc, runner, watches)?;
-    let mut said = Vec::new(alloc);
-    let end = follow(alloc, &mut session, lines, &mut said)?;
-    let verdict = end_verdict(&session, end)?;
-    Ok(Plan {
-        stored: None,
-        pending: Pending::Reply(Reply {
-            said: Seq::from_vec(said),
-            verdict,
-            machine: None,
-        }),
-    })
+    reply_of_session(alloc, &mut session, lines)
 }

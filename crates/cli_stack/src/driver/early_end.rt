@@ -8,7 +8,7 @@ use stack_text::Memory;
 use std::alloc::{AllocError, AllocFailed, Global};
 
 /// Why a command ended before there was a reply.
-#[derive(Debug, Drop)]
+#[derive(Drop)]
 pub enum EarlyEnd {
     /// A file of this name is not there.
     Missing { name: FileName },

@@ -27,7 +27,7 @@ pub fn number_within(low: u64, high: u64, word: &str) -> Option<u64>
 }
 
 /// The size of a stack: 1 to 65,536 words.
-#[derive(Debug, Drop)]
+#[derive(Drop)]
 pub struct StackSize {
     words: u32,
 }
@@ -69,7 +69,7 @@ impl StackSize {
 }
 
 /// How many procedures a large source calls: 1 to 900.
-#[derive(Debug, Drop)]
+#[derive(Drop)]
 pub struct ProcedureCount {
     procedures: u32,
 }

@@ -8,7 +8,7 @@ use stack_text::Memory;
 use std::alloc::Global;
 
 /// Why words are no command.
-#[derive(Clone, Copy, Debug, PartialEq, Eq)]
+#[derive(Clone, Copy, PartialEq, Eq)]
 pub enum WordsFault {
     /// They are too few, too many, or not of the kinds that are asked for.
     Usage,
@@ -28,7 +28,7 @@ impl From<Memory> for WordsFault {
 }
 
 /// The level of a debug session.
-#[derive(Clone, Copy, Debug, PartialEq, Eq)]
+#[derive(Clone, Copy, PartialEq, Eq)]
 pub enum Level {
     Gypsy,
     Piton,

@@ -1,0 +1,174 @@
+#!/usr/bin/env python3
+"""Runs the built program on the rows of command_tables.py, each in a folder of its own, and compares its status, what it prints and what it
+stores with what the row wants.
+
+    python3 .ci/tools/command_rows.py PROGRAM [FAILING_DEVICES]
+
+FAILING_DEVICES is failing_devices.c, compiled as a library that is loaded before the C library; without it the rows of failing devices are
+left out. Prints a line for each row that fails, and how many rows there were of each theme. The exit status is 1 where one failed.
+"""
+import os
+import subprocess
+import sys
+import tempfile
+from dataclasses import dataclass
+from pathlib import Path
+
+import command_tables as tables
+
+NEVER = tables.NEVER
+
+
+@dataclass
+class Ending:
+    """How a command ended: its status, what it printed, and the files of its folder."""
+
+    status: int
+    printed: str
+    files: dict
+
+    def says(self, status, printed):
+        return (self.status, self.printed) == (status, printed)
+
+
+class Rows:
+    """Runs rows, and notes those that fail."""
+
+    def __init__(self, program, failing_devices):
+        self.program, self.failing_devices = program, failing_devices
+        self.failed, self.counts = 0, {}
+
+    def run(self, words, files, file_call=NEVER, line_call=NEVER):
+        """Runs a command over these files, where one call of a device may fail."""
+        how = dict(os.environ)
+        for variable, call in (("FAILING_FILE", file_call), ("FAILING_LINE", line_call)):
+            if call is not NEVER:
+                how |= {variable: f"{call[0]}:{call[1]}", "LD_PRELOAD": str(self.failing_devices)}
+        with tempfile.TemporaryDirectory() as folder:
+            for name, content in files.items():
+                Path(folder, name).write_bytes(content.encode() if isinstance(content, str) else content)
+            ran = subprocess.run([self.program, *words.split()], cwd=folder, env=how, stdout=subprocess.PIPE, check=False)
+            left = {it.name: it.read_bytes() for it in Path(folder).iterdir()}
+        return Ending(ran.returncode, ran.stdout.decode(), left)
+
+    def note(self, theme, holds, row, ending=None):
+        self.counts[theme] = self.counts.get(theme, 0) + 1
+        if not holds:
+            self.failed += 1
+            print(f"{theme}: {row!r:.300}")
+            if ending is not None:
+                print(f"    status {ending.status}, printed {ending.printed!r:.300}, files {sorted(ending.files)}")
+
+    def words(self):
+        for words, status, printed in tables.WORDS:
+            ending = self.run(words, {})
+            self.note("words of the command line", ending.says(status, printed) and not ending.files, words, ending)
+
+    def runs(self):
+        """`go` and `build` store an image where they get so far, and `pit` a text."""
+        for row in tables.RUNS:
+            words, source, values, status, printed = row
+            ending = self.run(words, {"s": source, "v": values})
+            has_image = words.endswith(" i") and status in (0, 3, 5, 6)
+            self.note("sources that are run", ending.says(status, printed) and ("i" in ending.files) == has_image, row, ending)
+
+    def sessions(self):
+        for row in tables.SESSIONS:
+            words, source, values, script, status, printed = row
+            files = {"s": source, "v": values, "d": script}
+            ending = self.run(words, files)
+            self.note("sessions", ending.says(status, printed) and ending.files.keys() == files.keys(), row, ending)
+
+    def texts(self):
+        for row in tables.TEXTS:
+            words, text, status, printed = row
+            ending = self.run(words, {"t": text})
+            has_image = words.endswith(" i") and status == 0
+            self.note("texts", ending.says(status, printed) and ("i" in ending.files) == has_image, row, ending)
+
+    def images(self):
+        for row in tables.IMAGES:
+            words, image, values, status, printed = row
+            ending = self.run(words, {"i": bytes.fromhex(image), "v": values})
+            self.note("images", ending.says(status, printed), row, ending)
+
+    def refused_images(self):
+        """Each beginning of an image is cut short, a byte more is too many, and a slot at the window's end is outside."""
+        image = bytes.fromhex(tables.IMAGE_OF_RETURN)
+        for length in range(len(image)):
+            ending = self.run("show i", {"i": image[:length]})
+            self.note("refused images", ending.says(4, f"image I3 at {length}\n"), length, ending)
+        ending = self.run("run i v 9", {"i": image + b"\0", "v": "()"})
+        self.note("refused images", ending.says(4, "image I4 at 144\n"), "a byte more", ending)
+        image = bytearray.fromhex(tables.IMAGE_OF_SEVEN)
+        image[116] = 59
+        ending = self.run("run i v 9", {"i": bytes(image), "v": "()"})
+        self.note("refused images", ending.says(4, "image I7 at 113\n"), "a slot at 59", ending)
+
+    def linked(self):
+        """The image of RETURN byte by byte; what is built of a source and what is linked of the text that is generated from it."""
+        ending = self.run("pbuild t i", {"t": tables.RETURN})
+        self.note("linked texts", ending.files.get("i") == bytes.fromhex(tables.IMAGE_OF_RETURN), "RETURN", ending)
+        image = self.run("pbuild t i", {"t": tables.SEVEN_LESS_FIVE}).files.get("i", b"")
+        for words, status, printed in (("run i v 7", 0, "finished 7\n"), ("run i v 6", 5, "unfinished 6\n")):
+            ending = self.run(words, {"i": image, "v": "()"})
+            self.note("linked texts", ending.says(status, printed), words, ending)
+        for source, sizes in ((tables.SEVEN, "7 3"), (tables.RECURSIVE, "24 10"), (tables.PASS, "22 37")):
+            built = self.run(f"build s {sizes} i", {"s": source}).files.get("i", b"")
+            text = self.run(f"pit s {sizes} t", {"s": source}).files.get("t", b"")
+            linked = self.run("pbuild t i", {"t": text}).files.get("i", b"")
+            same = len(built) > 2400 and built[:84] == linked[:84] and built[-2400:] == linked[-2400:]
+            self.note("linked texts", same, source)
+
+    def stored_images(self):
+        """An image that `go` stored runs on its own, on other values, and is the one that `build` stores."""
+        files = {"s": tables.SEVEN, "v": "((x 0))"}
+        stored, built = (self.run(words, files).files.get("i") for words in ("go s v 7 3 28 i", "build s 7 3 i"))
+        self.note("stored images", stored == built and stored is not None, "go and build")
+        ending = self.run("run i v 28", {"i": stored or b"", "v": "((x 9))"})
+        self.note("stored images", ending.says(0, "finished 28\ncondition normal\nx = 7\n"), "run", ending)
+
+    def limits(self):
+        whole = {
+            "s": (tables.SEVEN.encode(), b" "),
+            "v": (b"((x 0))", b" "),
+            "i": (bytes.fromhex(tables.IMAGE_OF_SEVEN), b"\0"),
+            "p": (tables.RETURN.encode(), b")"),
+            "d": (b"up", b"\n"),
+        }
+        for row in tables.LIMITS:
+            words, lengths, status, printed = row
+            files = {name: text + byte * (lengths.get(name, 0) - len(text)) for name, (text, byte) in whole.items()}
+            ending = self.run(words, files)
+            self.note("files at their limits", ending.says(status, printed), row, ending)
+
+    def failing(self):
+        """A call of a device fails: the status, what was printed by then, and the bytes that are stored."""
+        files = {"s": tables.SEVEN, "v": "((x 0))"}
+        whole = self.run("build s 7 3 i", files).files.get("i", b"")
+        self.note("failing devices", len(whole) == tables.WHOLE, "the whole image")
+        for row in tables.FAILING_RUNS:
+            file_call, line_call, status, printed, stored = row
+            ending = self.run("go s v 7 3 28 i", files, file_call, line_call)
+            is_first = ending.files.get("i", b"") == whole[:stored]
+            self.note("failing devices", ending.says(status, printed) and is_first, row, ending)
+        for row in tables.FAILING_TEXTS:
+            words, file_call, line_call, status, printed = row
+            ending = self.run(words, {"t": tables.RETURN}, file_call, line_call)
+            self.note("failing devices", ending.says(status, printed), row, ending)
+
+
+def main(program, failing_devices=None):
+    rows = Rows(Path(program).resolve(), failing_devices and Path(failing_devices).resolve())
+    themes = [rows.words, rows.runs, rows.sessions, rows.texts, rows.images, rows.refused_images, rows.linked, rows.stored_images, rows.limits]
+    for theme in themes + [rows.failing] * (failing_devices is not None):
+        theme()
+    for theme, count in rows.counts.items():
+        print(f"{count:5} rows: {theme}")
+    return rows.failed != 0
+
+
+if __name__ == "__main__":
+    if len(sys.argv) < 2:
+        sys.exit(__doc__)
+    sys.exit(main(*sys.argv[1:]))
