@@ -1,6 +1,6 @@
 //! A program that is loaded and run, and the machine that it leaves.
 
-use fm_image::{Image, read_image};
+use fm_image::read_image;
 use fm_loader::{load, read_values};
 use fm_machine::{Machine, Run};
 use std::alloc::Global;
@@ -21,15 +21,14 @@ const IMAGE_OF_SEVEN: &str = concat!(
     "05e03c0f000000020000000000000000000000000000000000000000000000000000002f",
 );
 
-fn image_of_seven(alloc: Global) -> Result<Image, Fail> {
+/// The machine on which the image is loaded, with -5 for x, and its final program counter.
+fn loaded(alloc: Global) -> Result<(Machine, u32), Fail> {
     let bytes = hex::decode(alloc, IMAGE_OF_SEVEN.as_bytes())?;
-    Ok(read_image(alloc, &bytes)?)
-}
-
-/// The machine on which the image is loaded, with -5 for x.
-fn loaded(alloc: Global, image: &Image) -> Result<Machine, Fail> {
-    let values = read_values(alloc, b"((x -5))".as_slice(), image.slots.as_slice())?;
-    Ok(load(alloc, image, &values)?)
+    let image = read_image(alloc, &bytes)?;
+    let text = b"((x -5))".as_slice();
+    let values = read_values(alloc, text, image.slots.as_slice())?;
+    let machine = load(alloc, &image, &values)?;
+    Ok((machine, image.final_pc))
 }
 
 /// The registers at the end, the condition word, and what was worked out by hand of both stacks. The window ends at 59.
@@ -45,9 +44,8 @@ fn is_end(machine: &Machine) -> bool {
 
 #[test]
 fn a_run_leaves_its_machine(rt: HostRuntime) -> Result<(), Fail> {
-    let image = image_of_seven(rt.alloc())?;
-    let mut machine = loaded(rt.alloc(), &image)?;
-    let run = machine.run(28, image.final_pc);
+    let (mut machine, final_pc) = loaded(rt.alloc())?;
+    let run = machine.run(28, final_pc);
     assert!(rt; run == Run::Ended { count: 28 } && is_end(&machine));
     Ok(())
 }
