@@ -62,12 +62,16 @@ abbrev pub is_character : List ℕ → Bool
 is_character [] = false
 is_character (byte ∷ digits) = byte == 35 && is_digits digits
 
+-- `true` or `false`, or M8
+abbrev pub truth_at : ℕ → List ℕ → Judged LiteralOf
+truth_at p bytes = judged p 8 (is_truth_word bytes) (Ok (truth p (bytes_eq bytes (codes "true"))))
+
 -- a numeral, a character, `true` or `false`, or M8
 abbrev pub simple_at : ℕ → List ℕ → Judged LiteralOf
 simple_at p bytes =
     if is_numeral bytes then Ok (integer p) ⊛ number_at p bytes else
     if is_character bytes then Ok (character p) ⊛ number_at p (drop 1 bytes) else
-    judged p 8 (is_truth_word bytes) (Ok (truth p (bytes_eq bytes (codes "true"))))
+    truth_at p bytes
 
 -- a simple value, also as the item of a list, or M8
 abbrev pub simple_in : Node → Judged LiteralOf

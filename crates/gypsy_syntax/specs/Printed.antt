@@ -3,6 +3,7 @@ use Rattle.std.specs.Prelude.{ℕ, ℤ, List, [], ◌∷◌, ◌++◌, map, Opti
 use Rattle.std.specs.Fmt.{signed_decimal}
 use Rattle.stack_text.specs.Trees.{Node, Nodes, atom, list, none, more}
 use Rattle.stack_text.specs.TreeText.{tree_text}
+use Rattle.stack_text.specs.TreeView.{nodes}
 use Rattle.stack_text.specs.declared.shape.Kind.{Kind}
 use Rattle.stack_text.specs.Grammar.Printed.{lines_text, list_tree, name_tree, tree_of_all}
 use Rattle.gypsy_syntax.specs.declared.keyword.Keyword.{Keyword}
@@ -69,6 +70,27 @@ abbrev mutual
   pub stmt_trees : StmtsOf → Nodes
   stmt_trees no_parts = none
   stmt_trees (part s ss) = more (stmt_tree s) (stmt_trees ss)
+
+-- a statement's first word, and what follows it
+abbrev pub keyword_of : StmtOf → Keyword
+keyword_of (no_op place) = word.NoOp
+keyword_of (signal place cond) = word.Signal
+keyword_of (seq place parts) = word.Seq
+keyword_of (loop place body) = word.Loop
+keyword_of (branch place test b c) = word.If
+keyword_of (begin place body conds arm) = word.Begin
+keyword_of (call place callee xs_place xs cs_place cs) = word.Call
+keyword_of (predef place which args) = word.Predef which
+
+abbrev pub stmt_parts : StmtOf → Nodes
+stmt_parts (no_op place) = none
+stmt_parts (signal place cond) = nodes (name_tree cond ∷ [])
+stmt_parts (seq place parts) = stmt_trees parts
+stmt_parts (loop place body) = nodes (stmt_tree body ∷ [])
+stmt_parts (branch place test b c) = nodes (name_tree test ∷ stmt_tree b ∷ stmt_tree c ∷ [])
+stmt_parts (begin place body conds arm) = nodes (stmt_tree body ∷ list_tree name_tree conds ∷ stmt_tree arm ∷ [])
+stmt_parts (call place callee xs_place xs cs_place cs) = nodes (name_tree callee ∷ list_tree name_tree xs ∷ list_tree name_tree cs ∷ [])
+stmt_parts (predef place which args) = nodes (map arg_tree args)
 
 -- what a procedure takes, and what is its own
 abbrev pub proc_head : ProcOf → List Node

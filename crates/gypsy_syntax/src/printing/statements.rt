@@ -1,9 +1,9 @@
 //! Statements.
 
-ghost use Rattle.std.specs.Prelude.{◌≡◌, ◌++◌, ◌∷◌, [], OnOk};
+ghost use Rattle.std.specs.Prelude.{◌≡◌, ◌++◌, ◌∷◌, OnOk};
 ghost use Rattle.stack_text.specs.TreeText.{spaced_text, tree_text};
 ghost use Rattle.gypsy_syntax.specs.Keywords.{keyword_name};
-ghost use Rattle.gypsy_syntax.specs.Printed.{stmt_tree, stmt_trees};
+ghost use Rattle.gypsy_syntax.specs.Printed.{keyword_of, stmt_parts, stmt_tree, stmt_trees};
 ghost use Rattle.gypsy_syntax.specs.SourceView.{parts_of_list, stmt_of};
 
 use crate::keyword::Keyword;
@@ -11,6 +11,22 @@ use crate::printing::declaration::spaced_list;
 use crate::statement::Stmt;
 use stack_text::grammar::{print_name, spaced_items};
 use stack_text::{Memory, Named};
+
+/// The first word of a statement.
+fn keyword_of(stmt: &Stmt) -> Keyword
+    ensures { result ≡ keyword_of (stmt_of stmt.now) }
+{
+    match stmt {
+        Stmt::NoOp { place: _ } => Keyword::NoOp,
+        Stmt::Signal { place: _, cond: _ } => Keyword::Signal,
+        Stmt::Seq { place: _, parts: _ } => Keyword::Seq,
+        Stmt::Loop { place: _, body: _ } => Keyword::Loop,
+        Stmt::If { .. } => Keyword::If,
+        Stmt::Begin { .. } => Keyword::Begin,
+        Stmt::Call { .. } => Keyword::Call,
+        Stmt::Predef { which, .. } => Keyword::Predef(*which),
+    }
+}
 
 /// Appends `(` and the first word of a statement.
 fn open_statement(out: &mut Vec<u8>, keyword: Keyword) -> Result<(), Memory>
@@ -49,33 +65,25 @@ fn spaced_statements(out: &mut Vec<u8>, parts: &[Stmt]) -> Result<(), Memory>
     Ok(())
 }
 
-/// Appends a statement, all but its `)`.
+/// Appends what follows the first word of a statement, with a space before each part.
 #[cycle(statements)]
-fn print_open(out: &mut Vec<u8>, stmt: &Stmt) -> Result<(), Memory>
-    ensures { OnOk result (out.new.items ++ 41 ∷ [] ≡ out.old.items ++ tree_text (stmt_tree (stmt_of stmt.now))) }
+fn spaced_parts(out: &mut Vec<u8>, stmt: &Stmt) -> Result<(), Memory>
+    ensures { OnOk result (out.new.items ≡ out.old.items ++ spaced_text (stmt_parts (stmt_of stmt.now))) }
 {
     match stmt {
-        Stmt::NoOp { place: _ } => open_statement(out, Keyword::NoOp),
-        Stmt::Signal { place: _, cond } => {
-            open_statement(out, Keyword::Signal)?;
-            spaced_name(out, cond)
-        }
+        Stmt::NoOp { place: _ } => Ok(()),
+        Stmt::Signal { place: _, cond } => spaced_name(out, cond),
         Stmt::Seq { place: _, parts } => {
-            open_statement(out, Keyword::Seq)?;
             spaced_statements(out, parts.as_slice())?;
             Ok(())
         }
-        Stmt::Loop { place: _, body } => {
-            open_statement(out, Keyword::Loop)?;
-            spaced_statement(out, body)
-        }
+        Stmt::Loop { place: _, body } => spaced_statement(out, body),
         Stmt::If {
             place: _,
             test,
             yes,
             no,
         } => {
-            open_statement(out, Keyword::If)?;
             spaced_name(out, test)?;
             spaced_statement(out, yes)?;
             spaced_statement(out, no)
@@ -86,7 +94,6 @@ fn print_open(out: &mut Vec<u8>, stmt: &Stmt) -> Result<(), Memory>
             conds,
             arm,
         } => {
-            open_statement(out, Keyword::Begin)?;
             spaced_statement(out, body)?;
             spaced_list(out, conds.as_slice())?;
             spaced_statement(out, arm)
@@ -99,17 +106,15 @@ fn print_open(out: &mut Vec<u8>, stmt: &Stmt) -> Result<(), Memory>
             conds_place: _,
             conds,
         } => {
-            open_statement(out, Keyword::Call)?;
             spaced_name(out, callee)?;
             spaced_list(out, actuals.as_slice())?;
             spaced_list(out, conds.as_slice())
         }
         Stmt::Predef {
             place: _,
-            which,
+            which: _,
             args,
         } => {
-            open_statement(out, Keyword::Predef(*which))?;
             spaced_items(out, args.as_slice())?;
             Ok(())
         }
@@ -121,7 +126,8 @@ fn print_open(out: &mut Vec<u8>, stmt: &Stmt) -> Result<(), Memory>
 pub fn print_statement(out: &mut Vec<u8>, stmt: &Stmt) -> Result<(), Memory>
     ensures { OnOk result (out.new.items ≡ out.old.items ++ tree_text (stmt_tree (stmt_of stmt.now))) }
 {
-    print_open(out, stmt)?;
+    open_statement(out, keyword_of(stmt))?;
+    spaced_parts(out, stmt)?;
     out.push(b')')?;
     Ok(())
 }

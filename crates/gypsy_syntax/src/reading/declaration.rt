@@ -7,7 +7,7 @@ ghost use Rattle.stack_text.specs.Grammar.Judged.{◌⊛◌};
 ghost use Rattle.stack_text.specs.Grammar.Parts.{list_or};
 ghost use Rattle.stack_text.specs.Grammar.Reading.{Finds, Reads};
 ghost use Rattle.gypsy_syntax.specs.Grammar.{array_type, decl_in, literal_in, local_in, named_in, type_in};
-ghost use Rattle.gypsy_syntax.specs.Made.{new_local};
+ghost use Rattle.gypsy_syntax.specs.Made.{new_decl, new_local};
 ghost use Rattle.gypsy_syntax.specs.SourceView.{local_of};
 
 use crate::keyword::kind_named;
@@ -81,6 +81,16 @@ fn no_formal(place: u32) -> Breach
     Breach { rule: 4, place }
 }
 
+/// A declaration, of which the parts are given.
+fn decl_parts(alloc: Global, name: &Tree, shape: &Tree) -> Result<Decl, FormFault>
+    ensures { Reads (λ decl. decl) result
+        (Ok new_decl ⊛ named_in (node_of name.now) ⊛ type_in (node_of shape.now)) }
+{
+    let name = named(alloc, name)?;
+    let shape = type_in(shape)?;
+    Ok(Decl { name, shape })
+}
+
 /// The declaration that the items of a list are.
 fn decl_at(alloc: Global, place: u32, items: &[Tree]) -> Result<Decl, FormFault>
     ensures { Reads (λ decl. decl) result (decl_in (list place (nodes_of items.now))) }
@@ -88,10 +98,7 @@ fn decl_at(alloc: Global, place: u32, items: &[Tree]) -> Result<Decl, FormFault>
     if items.len() != 2 {
         return Err(no_formal(place).into());
     }
-    let (name, shape) = (&items[0], &items[1]);
-    let name = named(alloc, name)?;
-    let shape = type_in(shape)?;
-    Ok(Decl { name, shape })
+    decl_parts(alloc, &items[0], &items[1])
 }
 
 impl Part for Decl {

@@ -3,7 +3,7 @@
 ghost use Rattle.std.specs.Prelude.{◌≡◌, drop};
 ghost use Rattle.stack_text.specs.TreeView.{node_of};
 ghost use Rattle.stack_text.specs.Grammar.Reading.{Finds, Reads};
-ghost use Rattle.gypsy_syntax.specs.Grammar.{arg_at, is_character, literal_in, simple_at};
+ghost use Rattle.gypsy_syntax.specs.Grammar.{arg_at, is_character, literal_in, simple_at, truth_at};
 ghost use Rattle.gypsy_syntax.specs.SourceView.{arg_of, literal_of};
 
 use crate::literal::Literal;
@@ -30,6 +30,22 @@ fn is_character(bytes: &[u8]) -> bool
     }
 }
 
+/// The truth value that an atom is, or M8 where it is none.
+fn truth_at(place: u32, text: &[u8]) -> Result<Literal, Breach>
+    ensures { Finds literal_of result (truth_at place text.now) }
+{
+    if text == b"true".as_slice() {
+        return Ok(Literal::Truth { place, truth: true });
+    }
+    if text == b"false".as_slice() {
+        return Ok(Literal::Truth {
+            place,
+            truth: false,
+        });
+    }
+    Err(no_value(place))
+}
+
 /// The simple value that an atom is, or M8 where it is none, M11 where its number is out of range.
 fn simple_at(place: u32, text: &[u8]) -> Result<Literal, Breach>
     ensures { Finds literal_of result (simple_at place text.now) }
@@ -42,16 +58,7 @@ fn simple_at(place: u32, text: &[u8]) -> Result<Literal, Breach>
         let code = number_at(place, &text[1..])?;
         return Ok(Literal::Character { place, code });
     }
-    if text == b"true".as_slice() {
-        return Ok(Literal::Truth { place, truth: true });
-    }
-    if text == b"false".as_slice() {
-        return Ok(Literal::Truth {
-            place,
-            truth: false,
-        });
-    }
-    Err(no_value(place))
+    truth_at(place, text)
 }
 
 impl Part for Literal {

@@ -105,6 +105,15 @@ fn is_empty_list(tree: &Tree) -> bool
     }
 }
 
+/// The statement that a tree is, in a box.
+#[cycle(statements)]
+fn boxed(alloc: Global, tree: &Tree) -> Result<Box<Stmt>, FormFault>
+    ensures { Reads (λ stmt. stmt_of stmt.value) result (statement_in (node_of tree.now)) }
+{
+    let stmt = statement(alloc, tree)?;
+    Ok(Box::new(alloc, stmt)?)
+}
+
 /// The statement that each tree is.
 #[cycle(statements)]
 fn statements(alloc: Global, trees: &[Tree]) -> Result<Vec<Stmt>, FormFault>
@@ -136,11 +145,8 @@ fn repetition(alloc: Global, place: u32, parts: &[Tree]) -> Result<Stmt, FormFau
     if parts.len() != 1 {
         return Err(wrong_items(place).into());
     }
-    let body = statement(alloc, &parts[0])?;
-    Ok(Stmt::Loop {
-        place,
-        body: Box::new(alloc, body)?,
-    })
+    let body = boxed(alloc, &parts[0])?;
+    Ok(Stmt::Loop { place, body })
 }
 
 #[cycle(statements)]
@@ -152,13 +158,13 @@ fn branch(alloc: Global, place: u32, parts: &[Tree]) -> Result<Stmt, FormFault>
     }
     let (test, yes, no) = (&parts[0], &parts[1], &parts[2]);
     let test = named(alloc, test)?;
-    let yes = statement(alloc, yes)?;
-    let no = statement(alloc, no)?;
+    let yes = boxed(alloc, yes)?;
+    let no = boxed(alloc, no)?;
     Ok(Stmt::If {
         place,
         test,
-        yes: Box::new(alloc, yes)?,
-        no: Box::new(alloc, no)?,
+        yes,
+        no,
     })
 }
 
@@ -173,14 +179,14 @@ fn guarded(alloc: Global, place: u32, parts: &[Tree]) -> Result<Stmt, FormFault>
     if is_empty_list(conds) {
         return Err(wrong_items(place).into());
     }
-    let body = statement(alloc, body)?;
+    let body = boxed(alloc, body)?;
     let conds = names(alloc, conds)?;
-    let arm = statement(alloc, arm)?;
+    let arm = boxed(alloc, arm)?;
     Ok(Stmt::Begin {
         place,
-        body: Box::new(alloc, body)?,
+        body,
         conds,
-        arm: Box::new(alloc, arm)?,
+        arm,
     })
 }
 

@@ -43,7 +43,7 @@ repetition-returns-in_err-body t c =
 
 pub repetition-returns : goal.repetition-returns
 repetition-returns t c =
-    rw (one_part c.args.parts.now c.index-parts-0.result c.if-parts-ne1.false c.index-parts-0.is, c.in_ok-body.ensures, c.in_ok-new.ensures.ok) refl
+    rw (one_part c.args.parts.now c.index-parts-0.result c.if-parts-ne1.false c.index-parts-0.is, c.in_ok-body.ensures) refl
 
 pub branch-returns-then-parts-ne3 : goal.branch-returns-then-parts-ne3
 branch-returns-then-parts-ne3 t c =
@@ -60,11 +60,11 @@ pub branch-returns-in_err-no : goal.branch-returns-in_err-no
 branch-returns-in_err-no t c =
     let p = err_from_is_err_and c.from_residual-in_err-no.result c.from_residual-in_err-no.ensures.1 in
     rw (p.1, p.2, three_parts c.args.parts.now c.index-parts-0.result c.index-parts-1.result c.index-parts-2.result c.if-parts-ne3.false c.index-parts-0.is c.index-parts-1.is c.index-parts-2.is, c.in_ok-test.ensures, c.in_ok-yes.ensures)
-    (first_of_value c.in_err-no.field-0.0 (new_branch c.args.place c.in_ok-test.test (stmt_of c.in_ok-yes.yes)) (statement_in (node_of c.index-parts-2.result)) c.in_err-no.ensures)
+    (first_of_value c.in_err-no.field-0.0 (new_branch c.args.place c.in_ok-test.test (stmt_of c.in_ok-yes.yes.value)) (statement_in (node_of c.index-parts-2.result)) c.in_err-no.ensures)
 
 pub branch-returns : goal.branch-returns
 branch-returns t c =
-    rw (three_parts c.args.parts.now c.index-parts-0.result c.index-parts-1.result c.index-parts-2.result c.if-parts-ne3.false c.index-parts-0.is c.index-parts-1.is c.index-parts-2.is, c.in_ok-test.ensures, c.in_ok-yes.ensures, c.in_ok-no.ensures, c.in_ok-new.ensures.ok, c.in_ok-new-2.ensures.ok) refl
+    rw (three_parts c.args.parts.now c.index-parts-0.result c.index-parts-1.result c.index-parts-2.result c.if-parts-ne3.false c.index-parts-0.is c.index-parts-1.is c.index-parts-2.is, c.in_ok-test.ensures, c.in_ok-yes.ensures, c.in_ok-no.ensures) refl
 
 pub guarded-returns-then-parts-ne3 : goal.guarded-returns-then-parts-ne3
 guarded-returns-then-parts-ne3 t c =
@@ -81,17 +81,17 @@ pub guarded-returns-in_err-conds : goal.guarded-returns-in_err-conds
 guarded-returns-in_err-conds t c =
     let p = err_from_is_err_and c.from_residual-in_err-conds.result c.from_residual-in_err-conds.ensures.1 in
     rw (p.1, p.2, three_parts c.args.parts.now c.index-parts-0.result c.index-parts-1.result c.index-parts-2.result c.if-parts-ne3.false c.index-parts-0.is c.index-parts-1.is c.index-parts-2.is, sym c.is_empty_list.ensures ∙ c.if-is_empty_list.false, c.in_ok-body.ensures)
-    (first_of_2 c.in_err-conds.field-0.0 (new_begin c.args.place (stmt_of c.in_ok-body.body)) (names_in (node_of c.index-parts-1.result)) (statement_in (node_of c.index-parts-2.result)) c.in_err-conds.ensures)
+    (first_of_2 c.in_err-conds.field-0.0 (new_begin c.args.place (stmt_of c.in_ok-body.body.value)) (names_in (node_of c.index-parts-1.result)) (statement_in (node_of c.index-parts-2.result)) c.in_err-conds.ensures)
 
 pub guarded-returns-in_err-arm : goal.guarded-returns-in_err-arm
 guarded-returns-in_err-arm t c =
     let p = err_from_is_err_and c.from_residual-in_err-arm.result c.from_residual-in_err-arm.ensures.1 in
     rw (p.1, p.2, three_parts c.args.parts.now c.index-parts-0.result c.index-parts-1.result c.index-parts-2.result c.if-parts-ne3.false c.index-parts-0.is c.index-parts-1.is c.index-parts-2.is, sym c.is_empty_list.ensures ∙ c.if-is_empty_list.false, c.in_ok-body.ensures, c.in_ok-conds.ensures)
-    (first_of_value c.in_err-arm.field-0.0 (new_begin c.args.place (stmt_of c.in_ok-body.body) c.in_ok-conds.conds.items) (statement_in (node_of c.index-parts-2.result)) c.in_err-arm.ensures)
+    (first_of_value c.in_err-arm.field-0.0 (new_begin c.args.place (stmt_of c.in_ok-body.body.value) c.in_ok-conds.conds.items) (statement_in (node_of c.index-parts-2.result)) c.in_err-arm.ensures)
 
 pub guarded-returns : goal.guarded-returns
 guarded-returns t c =
-    rw (three_parts c.args.parts.now c.index-parts-0.result c.index-parts-1.result c.index-parts-2.result c.if-parts-ne3.false c.index-parts-0.is c.index-parts-1.is c.index-parts-2.is, sym c.is_empty_list.ensures ∙ c.if-is_empty_list.false, c.in_ok-body.ensures, c.in_ok-conds.ensures, c.in_ok-arm.ensures, c.in_ok-new.ensures.ok, c.in_ok-new-2.ensures.ok) refl
+    rw (three_parts c.args.parts.now c.index-parts-0.result c.index-parts-1.result c.index-parts-2.result c.if-parts-ne3.false c.index-parts-0.is c.index-parts-1.is c.index-parts-2.is, sym c.is_empty_list.ensures ∙ c.if-is_empty_list.false, c.in_ok-body.ensures, c.in_ok-conds.ensures, c.in_ok-arm.ensures) refl
 
 pub statement-returns-in-None : goal.statement-returns-in-None
 statement-returns-in-None t c =
