@@ -9,6 +9,9 @@ use Rattle.stack_text.specs.declared.tree.Tree.{Tree, Atom}
 use Rattle.stack_text.proofs.TreeViewLaws.{node_of-atom}
 use Rattle.stack_text.specs.Grammar.Judged.{◌⊛◌, each_of, fault, front, judged}
 use Rattle.stack_text.specs.Grammar.Parts.{count_of}
+use Rattle.stack_text.specs.Grammar.Reading.{IsFirstFault}
+use Rattle.stack_text.specs.declared.grammar.fault.FormFault.{FormFault}
+use Rattle.stack_text.proofs.PartLaws.{first_of_value}
 use Rattle.stack_text.proofs.TreeListLaws.{count_of_all, rest, rest_is_drop}
 use Rattle.gypsy_syntax.specs.declared.keyword.Keyword.{Keyword}
 use Rattle.gypsy_syntax.specs.declared.keyword.Keyword.TheVariants as word
@@ -18,7 +21,7 @@ use Rattle.gypsy_syntax.specs.declared.literal.Literal.TheVariants.{List as Made
 use Rattle.gypsy_syntax.specs.declared.statement.Stmt.{Stmt}
 use Rattle.gypsy_syntax.specs.declared.statement.Stmt.TheVariants.{Seq as MadeSeq}
 use Rattle.gypsy_syntax.specs.Grammar.{form_in, is_empty_list, is_word, literal_in, named_in, procedure_in, simple_in, source_in, statement_in, statements_in}
-use Rattle.gypsy_syntax.specs.Made.{new_source}
+use Rattle.gypsy_syntax.specs.Made.{new_seq, new_source}
 use Rattle.gypsy_syntax.specs.SourceView.{literal_of, stmt_of}
 use Rattle.gypsy_syntax.proofs.ViewLaws.{list_is_new, seq_is_new}
 
@@ -39,6 +42,10 @@ pub some_parts : (place : ℕ) (ts : List Tree) (ss : Vec Stmt Global) → lengt
     → form_in (Some word.Seq) place (nodes_of ts) ≡ Ok (stmt_of (MadeSeq place ss))
 some_parts place [] ss ne e = absurd (ne refl)
 some_parts place (t ∷ ts) ss ne e = rw e (ap Ok (sym (seq_is_new place ss)))
+
+pub fault_in_parts : (e : FormFault) (place : ℕ) (ts : List Tree) → length ts ≢ 0 → IsFirstFault e (statements_in (nodes_of ts)) → IsFirstFault e (form_in (Some word.Seq) place (nodes_of ts))
+fault_in_parts e place [] ne h = absurd (ne refl)
+fault_in_parts e place (t ∷ ts) ne h = first_of_value e (new_seq place) (Ok front ⊛ statement_in (node_of t) ⊛ statements_in (nodes_of ts)) h
 
 -- a source by the word that it begins with, its main procedure's name, and what follows
 pub source_by_parts : (place : ℕ) (ts : List Tree) (w main : Tree) → 3 ≤ length ts → w ≡ get_or ts 0 w → main ≡ get_or ts 1 main

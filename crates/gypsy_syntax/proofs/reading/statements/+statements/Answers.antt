@@ -1,17 +1,18 @@
 use Rattle.std.proofs.Common.{◌≡◌, [], Err, Some, None, length, map, refl, sym, ap, ◌∙◌, arith}
-use Rattle.std.proofs.lemmas.Bool.{eqb-false}
+use Rattle.std.proofs.lemmas.Bool.{eqb-false, eqb-true}
+use Rattle.std.proofs.lemmas.List.{map_push}
 use Rattle.std.proofs.lemmas.Result.{err_from_is_err_and}
 use Rattle.stack_text.specs.TreeView.{node_of, nodes_of}
-use Rattle.stack_text.proofs.PartLaws.{first_of_2, first_of_3, first_of_value, part_fails, parts_end}
-use Rattle.stack_text.proofs.TreeListLaws.{not_one, not_three, one_part, three_parts}
+use Rattle.stack_text.proofs.PartLaws.{first_of_2, first_of_3, first_of_value, part_fails, part_read, parts_end}
+use Rattle.stack_text.proofs.TreeListLaws.{no_parts, not_one, not_three, one_part, three_parts}
 use Rattle.gypsy_syntax.specs.declared.keyword.Keyword.TheVariants as word
-use Rattle.gypsy_syntax.specs.Grammar.{form_in, names_in, statement_in}
+use Rattle.gypsy_syntax.specs.Grammar.{form_in, named_in, names_in, statement_in}
 use Rattle.gypsy_syntax.specs.Keywords.{keyword_named}
 use Rattle.gypsy_syntax.specs.Sources.{loop}
 use Rattle.stack_text.proofs.TreeViewLaws.{node_of-list}
 use Rattle.gypsy_syntax.specs.Made.{new_begin, new_branch}
 use Rattle.gypsy_syntax.specs.SourceView.{stmt_of}
-use Rattle.gypsy_syntax.proofs.GrammarLaws.{some_parts, statement_by_parts, statements_each}
+use Rattle.gypsy_syntax.proofs.GrammarLaws.{fault_in_parts, some_parts, statement_by_parts, statements_each}
 use Rattle.gypsy_syntax.proofs.reading.statements.+statements.Goals as goal
 
 pub statements-returns-in_err-part : goal.statements-returns-in_err-part
@@ -25,6 +26,22 @@ pub statements-returns : goal.statements-returns
 statements-returns t c =
     statements_each (nodes_of c.args.trees.now)
     ∙ parts_end statement_in (map stmt_of c.loop-tree.parts.items) c.loop-tree.tree-index c.args.trees.now c.loop-tree.invariant (omega (arith, c.loop-tree-test.false))
+
+pub statements-loop-tree-preserved : goal.statements-loop-tree-preserved
+statements-loop-tree-preserved t c =
+    rw (c.in_ok-push.ensures.items, map_push stmt_of c.loop-tree.parts.items c.in_ok-part.part)
+    (part_read statement_in (map stmt_of c.loop-tree.parts.items) c.loop-tree.tree-index c.args.trees.now c.loop-tree.invariant c.tree-item.result (stmt_of c.in_ok-part.part) c.loop-tree-test.true c.tree-item.is
+    c.in_ok-part.ensures)
+
+pub sequence-returns-then-is_empty : goal.sequence-returns-then-is_empty
+sequence-returns-then-is_empty t c =
+    rw (c.into.ensures, c.wrong_items.ensures, no_parts c.args.parts.now (eqb-true (length c.args.parts.now) 0 (sym c.is_empty.ensures ∙ c.if-is_empty.true))) ([], refl)
+
+pub sequence-returns-in_err-parts : goal.sequence-returns-in_err-parts
+sequence-returns-in_err-parts t c =
+    let p = err_from_is_err_and c.from_residual.result c.from_residual.ensures.1 in
+    rw (p.1, p.2)
+    (fault_in_parts c.in_err-parts.field-0.0 c.args.place c.args.parts.now (eqb-false (length c.args.parts.now) 0 (sym c.is_empty.ensures ∙ c.if-is_empty.false)) c.in_err-parts.ensures)
 
 pub sequence-returns : goal.sequence-returns
 sequence-returns t c =
@@ -50,6 +67,12 @@ branch-returns-then-parts-ne3 t c =
     rw (c.into.ensures, c.wrong_items.ensures)
     ([], not_three (λ ts. form_in (Some word.If) c.args.place ts ≡ Err (record { place = c.args.place; rule = 10 }, [])) refl (λ t. refl) (λ t u. refl) (λ t u v w ts. refl) c.args.parts.now c.if-parts-ne3.true)
 
+pub branch-returns-in_err-test : goal.branch-returns-in_err-test
+branch-returns-in_err-test t c =
+    let p = err_from_is_err_and c.from_residual.result c.from_residual.ensures.1 in
+    rw (p.1, p.2, three_parts c.args.parts.now c.index-parts-0.result c.index-parts-1.result c.index-parts-2.result c.if-parts-ne3.false c.index-parts-0.is c.index-parts-1.is c.index-parts-2.is)
+    (first_of_3 c.in_err-test.field-0.0 (new_branch c.args.place) (named_in (node_of c.index-parts-0.result)) (statement_in (node_of c.index-parts-1.result)) (statement_in (node_of c.index-parts-2.result)) c.in_err-test.ensures)
+
 pub branch-returns-in_err-yes : goal.branch-returns-in_err-yes
 branch-returns-in_err-yes t c =
     let p = err_from_is_err_and c.from_residual-in_err-yes.result c.from_residual-in_err-yes.ensures.1 in
@@ -70,6 +93,16 @@ pub guarded-returns-then-parts-ne3 : goal.guarded-returns-then-parts-ne3
 guarded-returns-then-parts-ne3 t c =
     rw (c.into.ensures, c.wrong_items.ensures)
     ([], not_three (λ ts. form_in (Some word.Begin) c.args.place ts ≡ Err (record { place = c.args.place; rule = 10 }, [])) refl (λ t. refl) (λ t u. refl) (λ t u v w ts. refl) c.args.parts.now c.if-parts-ne3.true)
+
+pub guarded-returns-then-is_empty_list : goal.guarded-returns-then-is_empty_list
+guarded-returns-then-is_empty_list t c =
+    rw (
+      c.into-then-is_empty_list.ensures,
+      c.wrong_items-then-is_empty_list.ensures,
+      three_parts c.args.parts.now c.index-parts-0.result c.index-parts-1.result c.index-parts-2.result c.if-parts-ne3.false c.index-parts-0.is c.index-parts-1.is c.index-parts-2.is,
+      sym c.is_empty_list.ensures ∙ c.if-is_empty_list.true,
+    )
+    ([], refl)
 
 pub guarded-returns-in_err-body : goal.guarded-returns-in_err-body
 guarded-returns-in_err-body t c =
