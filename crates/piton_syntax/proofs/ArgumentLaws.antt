@@ -1,5 +1,5 @@
 -- The arguments of an operation, where each is of its kind.
-use Rattle.std.proofs.Common.{◌≡◌, ◌≢◌, ◌<◌, ◌+◌, ℕ, List, [], ◌∷◌, length, drop, get_or, Ok, refl, ap, subst}
+use Rattle.std.proofs.Common.{◌≡◌, ◌≢◌, ◌<◌, ◌+◌, ℕ, List, [], ◌∷◌, length, drop, get_or, refl, ap, subst}
 use Rattle.std.specs.Prelude.{IsTrue, Bool, true, false, ◌&&◌}
 use Rattle.std.specs.List.{list_all}
 use Rattle.stack_text.specs.TreeView.{node_of, nodes_of}
@@ -19,6 +19,18 @@ second_true true true h = refl
 second_true true false h = h
 second_true false true h = refl
 second_true false false h = h
+
+first_true : (b : Bool) (c : Bool) → IsTrue (b && c) → IsTrue b
+first_true true true h = refl
+first_true true false h = refl
+first_true false true h = h
+first_true false false h = h
+
+-- the first of the trees that are of the kind is of the kind
+pub kind_here : (k : ArgKind) (trees : List Tree) (i : ℕ) (t : Tree) → i < length trees → t ≡ get_or trees i t → IsTrue (are_of_kind k (nodes_of (drop i trees))) → IsTrue (is_of_kind k (node_of t))
+kind_here k trees i t lt is h =
+    first_true (is_of_kind k (node_of t)) (are_of_kind k (nodes_of (drop (i + 1) trees)))
+    (subst (λ ts. IsTrue (are_of_kind k (nodes_of ts))) (drop-item trees i t lt is) h)
 
 -- the trees after one of their kind are of the kind
 pub kinds_left : (k : ArgKind) (trees : List Tree) (i : ℕ) (t : Tree) → i < length trees → t ≡ get_or trees i t → IsTrue (are_of_kind k (nodes_of (drop i trees)))

@@ -30,7 +30,7 @@ use Rattle.piton_syntax.specs.Answers.{KeepsForm}
 use Rattle.stack_text.specs.Grammar.Judged.{Judged, ◌⊛◌, front, each_of}
 use Rattle.stack_text.specs.Grammar.Parts.{count_of, list_length}
 use Rattle.piton_syntax.specs.Limits.{is_small_program, is_small_system}
-use Rattle.piton_syntax.specs.Operations.{op_arguments, operation_named, tag_named, tests_of, test_name, test_named}
+use Rattle.piton_syntax.specs.Operations.{op_arguments, operation_named, tag_named, tests_of, test_name}
 use Rattle.stack_text.specs.Grammar.Parts.{bytes_of, is_atom_of}
 use Rattle.piton_syntax.specs.Grammar.{named_of, number_of, is_true_word, is_false_word, address, program_place, item_of, word_of, is_of_kind, are_of_kind, argument_of, test_at, one, test_and_label, tested_of, pair, arguments_of, called_of, labelled_of, instruction_of, list_of, temporary_of, program_of, area_of, system_of}
 use Rattle.piton_syntax.specs.Systems.{InstrOf, ProgramOf, AreaOf, SystemOf, new_word, new_instruction, new_program, new_area, new_system, unplaced_item, unplaced_word, unplaced_argument, unplaced_instruction, unplaced_temporary, unplaced_program, unplaced_area, without_places}

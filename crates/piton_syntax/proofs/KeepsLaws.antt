@@ -1,20 +1,18 @@
 -- What is read keeps the form: its tree has the form of the tree that was read, and is the same value but for places.
-use Rattle.std.proofs.Common.{◌≡◌, ℕ, suc, ◌+◌, ◌<◌, ◌≤◌, ◌^◌, max, Bool, true, false, cond, List, [], ◌∷◌, length, map, Option, Some, None, Ok, Err, refl, sym, ap, subst, ◌∙◌, arith}
+use Rattle.std.proofs.Common.{◌≡◌, ℕ, Bool, true, false, cond, List, [], ◌∷◌, map, Option, Some, None, Ok, refl, sym, ap, subst, ◌∙◌, arith}
 use Rattle.std.specs.Prelude.{ℤ, codes, ◌&&◌, ◌||◌}
-use Rattle.std.specs.List.{find, list_all}
-use Rattle.std.specs.Option.{is_some}
+use Rattle.std.specs.List.{list_all}
 use Rattle.std.specs.Str.{bytes_eq}
 use Rattle.std.specs.Fmt.{signed_decimal}
 use Rattle.std.proofs.lemmas.Slice.Eq.{bytes_eq-Decides}
 use Rattle.stack_text.specs.declared.name.Named.{Named}
 use Rattle.stack_text.specs.Names.{is_name}
 use Rattle.stack_text.specs.Numerals.{is_digits, is_numeral, numeral_value, fits_128_bits}
-use Rattle.stack_text.specs.Tokens.{atom_run}
-use Rattle.stack_text.specs.Trees.{Node, Nodes, atom, list, none, more, place_of, depth, depths, node_count, node_counts, AtomsAreRuns, AllAtomsAreRuns, IsWellFormed}
+use Rattle.stack_text.specs.Trees.{Node, Nodes, atom, list, none, more, place_of, IsWellFormed}
 use Rattle.stack_text.specs.TreeView.{nodes}
 use Rattle.std.proofs.lemmas.Bool.{and_parts}
 use Rattle.stack_text.proofs.AtomLaws.{name_is_run, numeral_is_run}
-use Rattle.stack_text.specs.Grammar.Printed.{name_tree, tree_of_all, unplaced_name}
+use Rattle.stack_text.specs.Grammar.Printed.{name_tree, unplaced_name}
 use Rattle.stack_text.specs.Grammar.Printed.{list_tree}
 use Rattle.piton_syntax.specs.declared.argument.ArgKind.{ArgKind}
 use Rattle.piton_syntax.specs.declared.argument.ArgKind.TheVariants as kind
@@ -34,7 +32,6 @@ use Rattle.piton_syntax.specs.declared.word_text.WordItem.{WordItem}
 use Rattle.piton_syntax.specs.declared.word_text.WordItem.TheVariants as item
 use Rattle.piton_syntax.specs.Answers.{KeepsForm}
 use Rattle.stack_text.specs.Grammar.Judged.{Judged, judged, ◌⊛◌, front, each_of}
-use Rattle.stack_text.specs.Grammar.Parts.{count_of, list_length}
 use Rattle.piton_syntax.specs.Limits.{is_small_program, is_small_system}
 use Rattle.piton_syntax.specs.Operations.{row_of, op_name, op_arguments, operations, operation_named, tag_named, test_name, tests_of, test_named}
 use Rattle.stack_text.specs.Grammar.Parts.{is_atom_of}

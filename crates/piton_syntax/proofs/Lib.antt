@@ -10,3 +10,4 @@ pub mod KeepsLaws
 pub mod FitsLaws
 pub mod MadeLaws
 pub mod SizeLaws
+pub mod ItemLaws

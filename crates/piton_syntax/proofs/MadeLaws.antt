@@ -2,7 +2,6 @@
 -- places, its atoms are runs, and it is shallow.
 use Rattle.std.proofs.Common.{◌∙◌, ◌≡◌, ℕ, zero, suc, ◌+◌, ◌<◌, ◌≤◌, ◌^◌, Bool, true, false, leb, List, [], ◌∷◌, length, map, get_or, Option, Some, None, Ok, All, Contains, refl, sym, ap, subst, arith}
 use Rattle.std.specs.Prelude.{ℤ, pos, negsuc, ◌&&◌}
-use Rattle.std.specs.Option.{is_some}
 use Rattle.std.specs.Fmt.{signed_decimal}
 use Rattle.std.proofs.lemmas.Bool.{lt-ltb, le-leb}
 use Rattle.stack_text.specs.declared.name.Named.{Named}

@@ -1,12 +1,10 @@
 -- The text that is printed for a system is read as that system but for places.
-use Rattle.std.proofs.Common.{◌≡◌, ℕ, List, [], ◌∷◌, ◌++◌, drop, map, Option, Some, None, true, false, Ok, refl, ap, ◌∙◌, append_assoc, arith}
+use Rattle.std.proofs.Common.{◌≡◌, ℕ, List, [], ◌∷◌, drop, map, Option, Some, None, true, false, Ok, refl, ap, ◌∙◌}
 use Rattle.std.specs.Prelude.{codes}
-use Rattle.std.specs.List.{flat_map}
-use Rattle.stack_text.specs.Trees.{Node, Nodes, atom, list, none, more}
-use Rattle.stack_text.specs.Trees.{ReadsAs as TreeReadsAs, without_places as unplaced_tree, all_without_places}
-use Rattle.stack_text.specs.TreeText.{tree_text, items_text, spaced_text}
-use Rattle.stack_text.specs.TreeView.{nodes}
-use Rattle.stack_text.specs.Spellings.{Spells, SpellsAll, SpellsRest}
+use Rattle.stack_text.specs.Trees.{Node, atom}
+use Rattle.stack_text.specs.Trees.{ReadsAs as TreeReadsAs, without_places as unplaced_tree}
+use Rattle.stack_text.specs.TreeText.{tree_text}
+use Rattle.stack_text.specs.Spellings.{Spells}
 use Rattle.stack_text.proofs.SpellingLaws.{spelled_is_read}
 use Rattle.stack_text.proofs.TreeInLaws.{tree_in-TreeOf}
 use Rattle.stack_text.specs.Grammar.Printed.{lines_text, name_tree, tree_of_all}

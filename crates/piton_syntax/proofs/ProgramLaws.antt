@@ -1,10 +1,9 @@
 -- Programs, areas and systems by their parts.
-use Rattle.std.proofs.Common.{◌≡◌, ◌<◌, ◌≤◌, ◌+◌, ◌-◌, ℕ, List, [], ◌∷◌, length, take, drop, get_or, length-drop, Ok, refl, sym, ap, ◌∙◌, arith}
+use Rattle.std.proofs.Common.{◌≡◌, ◌<◌, ◌≤◌, ◌+◌, ℕ, List, [], ◌∷◌, length, drop, get_or, Ok, refl, sym, ap, ◌∙◌, arith}
 use Rattle.std.specs.Prelude.{Bool, ◌&&◌, codes}
 use Rattle.std.specs.Str.{bytes_eq}
 use Rattle.std.proofs.Math.Dec.{leb}
 use Rattle.std.proofs.lemmas.Bool.{le-leb}
-use Rattle.std.proofs.lemmas.List.{take_all}
 use Rattle.stack_text.specs.Numerals.{is_digits}
 use Rattle.stack_text.specs.Trees.{Node, Nodes, atom, list, none, more, place_of}
 use Rattle.stack_text.specs.TreeView.{node_of, nodes_of}
@@ -13,7 +12,7 @@ use Rattle.stack_text.specs.Grammar.Parts.{is_atom_of}
 use Rattle.stack_text.proofs.TreeListLaws.{count_of_all, rest, rest_is_drop}
 use Rattle.piton_syntax.specs.Grammar.{area_of, instruction_of, list_of, named_of, number_of, program_of, system_of, temporary_of, word_of}
 use Rattle.stack_text.specs.Grammar.Judged.{Judged, ◌⊛◌, each_of, fault, judged}
-use Rattle.stack_text.specs.Grammar.Parts.{count_of, list_length}
+use Rattle.stack_text.specs.Grammar.Parts.{list_length}
 use Rattle.piton_syntax.specs.Limits.{is_small_program, is_small_system}
 use Rattle.piton_syntax.specs.Systems.{ProgramOf, SystemOf, new_area, new_program, new_system}
 

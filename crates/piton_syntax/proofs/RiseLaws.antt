@@ -1,5 +1,5 @@
 -- In a tree whose places go up, the faults of each part go up too.
-use Rattle.std.proofs.Common.{◌+◌, ◌<◌, ◌≤◌, ℕ, List, [], ◌∷◌, Ok, Err, Option, Some, None, arith}
+use Rattle.std.proofs.Common.{◌+◌, ◌<◌, ◌≤◌, ℕ, List, [], Ok, Option, Some, None, arith}
 use Rattle.std.specs.Prelude.{Bool, true, false, ◌&&◌, ◌||◌, codes, if◌then◌else◌}
 use Rattle.std.specs.Str.{bytes_eq}
 use Rattle.stack_text.specs.declared.name.Named.{Named}
@@ -16,16 +16,14 @@ use Rattle.piton_syntax.specs.declared.argument.ArgText.TheVariants as arg
 use Rattle.piton_syntax.specs.declared.op.PitonOp.{PitonOp}
 use Rattle.piton_syntax.specs.declared.tag.Tag.{Tag}
 use Rattle.piton_syntax.specs.declared.tag.Tag.TheVariants as tag
-use Rattle.piton_syntax.specs.declared.test_kind.TestFamily.{TestFamily}
 use Rattle.piton_syntax.specs.declared.word_text.WordItem.TheVariants as item
 use Rattle.stack_text.specs.Grammar.Parts.{bytes_of, is_atom_of}
 use Rattle.piton_syntax.specs.Grammar.{named_of, number_of, is_true_word, is_false_word, address, program_place, item_of, word_of, is_of_kind, are_of_kind, argument_of, test_at, one, test_and_label, tested_of, arguments_of, called_of, labelled_of, instruction_of, list_of, pair, temporary_of, program_of, area_of, system_of}
-use Rattle.stack_text.specs.Grammar.Judged.{Judged, ◌⊛◌, each_of, fault, front, judged}
+use Rattle.stack_text.specs.Grammar.Judged.{Judged, ◌⊛◌}
 use Rattle.piton_syntax.specs.Limits.{is_small_program, is_small_system}
-use Rattle.piton_syntax.specs.Operations.{op_arguments, operation_named, tag_named, test_named}
+use Rattle.piton_syntax.specs.Operations.{op_arguments, operation_named, tag_named}
 use Rattle.piton_syntax.specs.Systems.{new_word, new_instruction, new_program, new_area, new_system}
 use Rattle.stack_text.proofs.RiseLaws.{named_up as name_up, list_up as list_or_up, Rising, Up, apply_up, apply_value, at_fault, both, each_up, goes_on, goes_on_with_each, higher, is_judged, lower, only, place_within, starts, up_le}
-use Rattle.stack_text.proofs.JudgedLaws.{JudgedRises, JudgedRises-apply, Rises, Rises-lower, Rises-higher}
 
 pub named_up : Rising named_of
 named_up = name_up 4

@@ -1,6 +1,5 @@
 -- The grammar of Piton: the system that a tree is, or its faults, part by part.
-use Rattle.std.specs.Prelude.{ℕ, List, [], ◌∷◌, Ok, Option, Some, None, Bool, true, false, ◌&&◌, ◌||◌, codes, if◌then◌else◌}
-use Rattle.std.specs.Option.{is_some}
+use Rattle.std.specs.Prelude.{ℕ, List, [], ◌∷◌, Ok, Option, Some, None, Bool, true, ◌&&◌, ◌||◌, codes, if◌then◌else◌}
 use Rattle.std.specs.Str.{bytes_eq}
 use Rattle.stack_text.specs.Names.{is_name}
 use Rattle.stack_text.specs.Numerals.{is_digits, is_numeral, numeral_value, fits_128_bits}

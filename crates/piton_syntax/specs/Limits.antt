@@ -1,7 +1,7 @@
 -- How many parts a system and a program may have.
-use Rattle.std.specs.Prelude.{ℕ, ◌+◌, Bool, ◌&&◌, nat_le}
+use Rattle.std.specs.Prelude.{◌+◌, Bool, ◌&&◌, nat_le}
 use Rattle.stack_text.specs.Grammar.Parts.{count_of, list_length}
-use Rattle.stack_text.specs.Trees.{Node, Nodes, atom, list, none, more}
+use Rattle.stack_text.specs.Trees.{Node, Nodes}
 
 -- the areas and the programs
 abbrev pub is_small_system : Nodes → Nodes → Bool

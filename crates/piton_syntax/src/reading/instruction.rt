@@ -1,6 +1,7 @@
 //! Instructions.
 
-ghost use Rattle.std.specs.Prelude.{◌≡◌, Ok, None, Some};
+ghost use Rattle.std.specs.Prelude.{◌≡◌, Ok, None, Some, codes};
+ghost use Rattle.std.specs.Str.{bytes_eq};
 ghost use Rattle.stack_text.specs.Grammar.Judged.{◌⊛◌};
 ghost use Rattle.stack_text.specs.Grammar.Reading.{Reads};
 ghost use Rattle.stack_text.specs.Trees.{list, none, more};
@@ -75,15 +76,18 @@ fn called_at(
     }
 }
 
-/// An operation's list after a label and an empty list.
-fn called(alloc: Global, place: u32, label: &Tree, call: &Tree) -> Result<InstrText, FormFault>
-    ensures { Reads (λ instruction. instruction) result
-        (labelled_of place (more (node_of label.now) (more (list 0 none) (more (node_of call.now) none)))) }
+/// The items of an operation's list, after a label and an empty list.
+fn called_items(
+    alloc: Global,
+    place: u32,
+    label: &Tree,
+    list_place: u32,
+    items: &[Tree],
+) -> Result<InstrText, FormFault>
+    ensures { let call = list list_place (nodes_of items.now) in
+        Reads (λ instruction. instruction) result
+        (labelled_of place (more (node_of label.now) (more (list 0 none) (more call none)))) }
 {
-    let (list_place, items) = match call {
-        Tree::Atom { place: _, text: _ } => return Err(no_instruction(place).into()),
-        Tree::List { place, items } => (*place, items.as_slice()),
-    };
     if items.is_empty() {
         return Err(no_instruction(place).into());
     }
@@ -92,6 +96,20 @@ fn called(alloc: Global, place: u32, label: &Tree, call: &Tree) -> Result<InstrT
         Tree::Atom { place: _, text } => {
             called_at(alloc, place, label, list_place, text, &items[1..])
         }
+    }
+}
+
+/// An operation's list after a label and an empty list.
+fn called(alloc: Global, place: u32, label: &Tree, call: &Tree) -> Result<InstrText, FormFault>
+    ensures { Reads (λ instruction. instruction) result
+        (labelled_of place (more (node_of label.now) (more (list 0 none) (more (node_of call.now) none)))) }
+{
+    match call {
+        Tree::Atom { place: _, text: _ } => Err(no_instruction(place).into()),
+        Tree::List {
+            place: list_place,
+            items,
+        } => { called_items(alloc, place, label, *list_place, items) }
     }
 }
 
@@ -114,26 +132,40 @@ fn labelled(alloc: Global, place: u32, parts: &[Tree]) -> Result<InstrText, Form
     }
 }
 
-/// The instruction that a tree is: P6 where it is none, P4 where its label is no name.
-fn instruction(alloc: Global, tree: &Tree) -> Result<InstrText, FormFault>
-    ensures { Reads (λ instruction. instruction) result (instruction_of (node_of tree.now)) }
+/// Whether the bytes are the word that stands before a label.
+fn is_label_word(bytes: &[u8]) -> bool
+    ensures { result ≡ bytes_eq bytes.now (codes "dl") }
 {
-    let (place, items) = match tree {
-        Tree::Atom { place, text: _ } => return Err(no_instruction(*place).into()),
-        Tree::List { place, items } => (*place, items.as_slice()),
-    };
+    bytes == b"dl".as_slice()
+}
+
+/// The instruction that the items of a list are.
+fn instruction_at(alloc: Global, place: u32, items: &[Tree]) -> Result<InstrText, FormFault>
+    ensures { Reads (λ instruction. instruction) result (instruction_of (list place (nodes_of items.now))) }
+{
     if items.is_empty() {
         return Err(no_instruction(place).into());
     }
     match &items[0] {
         Tree::List { place: _, items: _ } => Err(no_instruction(place).into()),
         Tree::Atom { place: _, text } => {
-            if text.as_slice() == b"dl".as_slice() {
+            let word = text.as_slice();
+            if is_label_word(word) {
                 labelled(alloc, place, &items[1..])
             } else {
-                unlabelled(alloc, place, text, &items[1..])
+                unlabelled(alloc, place, word, &items[1..])
             }
         }
+    }
+}
+
+/// The instruction that a tree is: P6 where it is none, P4 where its label is no name.
+fn instruction(alloc: Global, tree: &Tree) -> Result<InstrText, FormFault>
+    ensures { Reads (λ instruction. instruction) result (instruction_of (node_of tree.now)) }
+{
+    match tree {
+        Tree::Atom { place, text: _ } => Err(no_instruction(*place).into()),
+        Tree::List { place, items } => instruction_at(alloc, *place, items),
     }
 }
 

@@ -1,8 +1,11 @@
 //! Words.
 
-ghost use Rattle.std.specs.Prelude.{◌≡◌, Some};
+ghost use Rattle.std.specs.Prelude.{◌≡◌, ◌&&◌, Some};
+ghost use Rattle.stack_text.specs.Names.{is_name};
+ghost use Rattle.stack_text.specs.Numerals.{is_digits};
 ghost use Rattle.stack_text.specs.Grammar.Parts.{is_atom_of};
 ghost use Rattle.stack_text.specs.Grammar.Reading.{Finds, Reads};
+ghost use Rattle.stack_text.specs.Trees.{list};
 ghost use Rattle.stack_text.specs.TreeView.{node_of, nodes_of};
 ghost use Rattle.piton_syntax.specs.Grammar.{is_true_word, is_false_word, item_of, word_of};
 ghost use Rattle.piton_syntax.specs.declared.tag.Tag.TheVariants as tags;
@@ -97,6 +100,13 @@ fn bool_item(place: u32, parts: &[Tree]) -> Result<WordItem, Breach>
     Ok(WordItem::Bool(is_true_atom(part)))
 }
 
+/// Whether the trees are a name, and a number in digits alone.
+fn is_named_number(name: &Tree, number: &Tree) -> bool
+    ensures { result ≡ (is_atom_of is_name (node_of name.now) && is_atom_of is_digits (node_of number.now)) }
+{
+    is_name_atom(name) && is_digits_atom(number)
+}
+
 /// An address: the name of an area, and an offset in digits alone.
 fn addr_item(alloc: Global, place: u32, parts: &[Tree]) -> Result<WordItem, FormFault>
     ensures { Reads (λ item. item) result (item_of (Some tags.Addr) place (nodes_of parts.now)) }
@@ -105,7 +115,7 @@ fn addr_item(alloc: Global, place: u32, parts: &[Tree]) -> Result<WordItem, Form
         return Err(no_word(place).into());
     }
     let (area, offset) = (&parts[0], &parts[1]);
-    if !is_name_atom(area) || !is_digits_atom(offset) {
+    if !is_named_number(area, offset) {
         return Err(no_word(place).into());
     }
     let area = name(alloc, area)?;
@@ -121,7 +131,7 @@ fn pc_item(alloc: Global, place: u32, parts: &[Tree]) -> Result<WordItem, FormFa
         return Err(no_word(place).into());
     }
     let (program, at) = (&parts[0], &parts[1]);
-    if !is_name_atom(program) || !is_digits_atom(at) {
+    if !is_named_number(program, at) {
         return Err(no_word(place).into());
     }
     let program = name(alloc, program)?;
@@ -159,14 +169,10 @@ fn item(alloc: Global, tag: Option<Tag>, place: u32, parts: &[Tree]) -> Result<W
     }
 }
 
-/// The word that a tree is: P5 where it is none, P8 where its numeral is out of range.
-pub fn word(alloc: Global, tree: &Tree) -> Result<WordText, FormFault>
-    ensures { Reads (λ word. word) result (word_of (node_of tree.now)) }
+/// The word that the items of a list are.
+fn word_at(alloc: Global, place: u32, items: &[Tree]) -> Result<WordText, FormFault>
+    ensures { Reads (λ word. word) result (word_of (list place (nodes_of items.now))) }
 {
-    let (place, items) = match tree {
-        Tree::Atom { place, text: _ } => return Err(no_word(*place).into()),
-        Tree::List { place, items } => (*place, items.as_slice()),
-    };
     if items.is_empty() {
         return Err(no_word(place).into());
     }
@@ -176,6 +182,16 @@ pub fn word(alloc: Global, tree: &Tree) -> Result<WordText, FormFault>
             let item = item(alloc, tag_named(text), place, &items[1..])?;
             Ok(WordText { place, item })
         }
+    }
+}
+
+/// The word that a tree is: P5 where it is none, P8 where its numeral is out of range.
+pub fn word(alloc: Global, tree: &Tree) -> Result<WordText, FormFault>
+    ensures { Reads (λ word. word) result (word_of (node_of tree.now)) }
+{
+    match tree {
+        Tree::Atom { place, text: _ } => Err(no_word(*place).into()),
+        Tree::List { place, items } => word_at(alloc, *place, items),
     }
 }
 

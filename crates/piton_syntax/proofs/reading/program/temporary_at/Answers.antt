@@ -1,9 +1,9 @@
-use Rattle.std.proofs.Common.{[]}
+use Rattle.std.proofs.Common.{[], refl}
 use Rattle.std.proofs.lemmas.Result.{err_from_is_err_and}
 use Rattle.stack_text.specs.TreeView.{node_of}
 use Rattle.piton_syntax.specs.Grammar.{named_of, pair, word_of}
 use Rattle.piton_syntax.proofs.ProgramLaws.{not_two_of_temporary}
-use Rattle.stack_text.proofs.PartLaws.{first_of_2}
+use Rattle.stack_text.proofs.PartLaws.{first_of_2, first_of_value}
 use Rattle.stack_text.proofs.TreeListLaws.{two_parts}
 use Rattle.piton_syntax.proofs.reading.program.temporary_at.Goals as goal
 
@@ -15,3 +15,12 @@ returns-in_err-name c =
     let p = err_from_is_err_and c.from_residual.result c.from_residual.ensures.1 in
     rw (p.1, p.2, two_parts c.args.items.now c.index-items-0.result c.index-items-1.result c.if-items-ne2.false c.index-items-0.is c.index-items-1.is)
     (first_of_2 c.in_err-name.field-0.0 pair (named_of (node_of c.index-items-0.result)) (word_of (node_of c.index-items-1.result)) c.in_err-name.ensures)
+
+pub returns-in_err-word : goal.returns-in_err-word
+returns-in_err-word c =
+    let p = err_from_is_err_and c.from_residual-in_err-word.result c.from_residual-in_err-word.ensures.1 in
+    rw (p.1, p.2, two_parts c.args.items.now c.index-items-0.result c.index-items-1.result c.if-items-ne2.false c.index-items-0.is c.index-items-1.is, c.in_ok-name.ensures)
+    (first_of_value c.in_err-word.field-0.0 (pair c.in_ok-name.name) (word_of (node_of c.index-items-1.result)) c.in_err-word.ensures)
+
+pub returns : goal.returns
+returns c = rw (two_parts c.args.items.now c.index-items-0.result c.index-items-1.result c.if-items-ne2.false c.index-items-0.is c.index-items-1.is, c.in_ok-name.ensures, c.in_ok-word.ensures) refl
