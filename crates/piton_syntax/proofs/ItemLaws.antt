@@ -1,10 +1,28 @@
--- The items of a list by the first, and those that follow.
-use Rattle.std.proofs.Common.{◌≡◌, ◌≢◌, List, [], ◌∷◌, length, get_or, refl}
-use Rattle.stack_text.specs.Trees.{more}
-use Rattle.stack_text.specs.TreeView.{node_of, nodes_of}
+-- The items of a list by the first, and those that follow, as they are read and printed.
+use Rattle.std.proofs.Common.{◌≡◌, ◌≢◌, ◌<◌, ◌+◌, ℕ, List, [], ◌∷◌, ◌++◌, length, drop, get_or, map, refl, sym, ap, ◌∙◌, append_assoc, append-nil, arith}
+use Rattle.std.specs.Prelude.{Bool, true, false, ◌==◌, if◌then◌else◌}
+use Rattle.std.proofs.lemmas.Bool.{ne_eqb}
+use Rattle.stack_text.specs.Trees.{Node, more}
+use Rattle.stack_text.specs.TreeText.{spaced_text, tree_text}
+use Rattle.stack_text.specs.TreeView.{node_of, nodes, nodes_of}
+use Rattle.stack_text.specs.Grammar.Printed.{items_after}
+use Rattle.stack_text.proofs.Loops.{drop-item}
 use Rattle.stack_text.specs.declared.tree.Tree.{Tree}
 use Rattle.stack_text.proofs.TreeListLaws.{rest, rest_is_drop}
 
 pub first_and_rest : (ts : List Tree) (first : Tree) → length ts ≢ 0 → first ≡ get_or ts 0 first → nodes_of ts ≡ more (node_of first) (nodes_of (rest 1 ts))
 first_and_rest [] first ne is = absurd (ne refl)
 first_and_rest (t ∷ ts) first ne is = rw (is, rest_is_drop 1 (t ∷ ts)) refl
+
+apart_by : (b : Bool) (out text others : List ℕ) → ((out ++ (if b then [] else 32 ∷ [])) ++ text) ++ others ≡ out ++ (if b then text ++ others else 32 ∷ (text ++ others))
+apart_by true out text others = rw (append-nil out) (append_assoc out text others)
+apart_by false out text others = append_assoc (out ++ 32 ∷ []) text others ∙ append_assoc out (32 ∷ []) (text ++ others)
+
+-- an item is printed behind a space where it is not the first: it, and what is left, after what is there
+pub items_next : {X : Type 0} (tree : X → Node) (xs : List X) (n : ℕ) (x : X) (out apart text all : List ℕ) → n < length xs → x ≡ get_or xs n x
+    → apart ≡ out ++ (if n == 0 then [] else 32 ∷ []) → text ≡ apart ++ tree_text (tree x)
+    → out ++ items_after n (nodes (map tree (drop n xs))) ≡ all → text ++ items_after (n + 1) (nodes (map tree (drop (n + 1) xs))) ≡ all
+items_next {X} tree xs n x out apart text all lt is apart_is text_is so_far =
+    rw (text_is, apart_is, ne_eqb (n + 1) 0 (λ k. omega (arith, k))) (apart_by (n == 0) out (tree_text (tree x)) (spaced_text (nodes (map tree (drop (n + 1) xs)))))
+    ∙ ap (λ (ys : List X). out ++ items_after n (nodes (map tree ys))) (sym (drop-item xs n x lt is))
+    ∙ so_far

@@ -5,7 +5,8 @@ use Rattle.piton_syntax.specs.Grammar.{area_of, named_of, number_of, program_of,
 use Rattle.stack_text.specs.Grammar.Judged.{each_of}
 use Rattle.stack_text.specs.declared.grammar.fault.FormFault.TheVariants.{Form}
 use Rattle.piton_syntax.specs.Systems.{AreaOf, new_system}
-use Rattle.stack_text.proofs.PartLaws.{first_of_2, first_of_3, first_of_4, first_of_5, first_of_6, first_of_7}
+use Rattle.stack_text.proofs.PartLaws.{first_of_2, first_of_3, first_of_4, first_of_5, first_of_6, first_of_7, first_of_value}
+use Rattle.piton_syntax.specs.declared.word_text.WordText.{WordText}
 use Rattle.piton_syntax.proofs.reading.system.system_parts.Goals as goal
 
 pub returns-in_err-main : goal.returns-in_err-main
@@ -43,3 +44,9 @@ returns-in_err-stack c =
     let p = err_from_is_err_and c.from_residual-in_err-stack.result c.from_residual-in_err-stack.ensures.1 in
     rw (p.1, p.2, c.in_ok-main.ensures, c.in_ok-ctrl.ensures, c.in_ok-temp.ensures, c.in_ok-base.ensures, c.in_ok-areas.ensures)
     (first_of_2 c.in_err-stack.field-0.0 (new_system c.args.place c.in_ok-main.main c.in_ok-ctrl.ctrl c.in_ok-temp.temp c.in_ok-base.base (map (λ (area : AreaOf). area) c.in_ok-areas.areas.items)) (each_of word_of (nodes_of c.args.trees.stack.now)) (each_of program_of (nodes_of c.args.trees.programs.now)) c.in_err-stack.ensures)
+
+pub returns-in_err-programs : goal.returns-in_err-programs
+returns-in_err-programs c =
+    let p = err_from_is_err_and c.from_residual-in_err-programs.result c.from_residual-in_err-programs.ensures.1 in
+    rw (p.1, p.2, c.in_ok-main.ensures, c.in_ok-ctrl.ensures, c.in_ok-temp.ensures, c.in_ok-base.ensures, c.in_ok-areas.ensures, c.in_ok-stack.ensures)
+    (first_of_value c.in_err-programs.field-0.0 (new_system c.args.place c.in_ok-main.main c.in_ok-ctrl.ctrl c.in_ok-temp.temp c.in_ok-base.base (map (λ (area : AreaOf). area) c.in_ok-areas.areas.items) (map (λ (word : WordText). word) c.in_ok-stack.stack.items)) (each_of program_of (nodes_of c.args.trees.programs.now)) c.in_err-programs.ensures)
