@@ -11,3 +11,4 @@ pub mod FitsLaws
 pub mod MadeLaws
 pub mod SizeLaws
 pub mod ItemLaws
+pub mod WordPrintLaws
