@@ -1,6 +1,6 @@
 -- Programs, areas and systems by their parts.
 use Rattle.std.proofs.Common.{◌≡◌, ◌<◌, ◌≤◌, ◌+◌, ℕ, List, [], ◌∷◌, length, drop, get_or, Ok, refl, sym, ap, ◌∙◌, arith}
-use Rattle.std.specs.Prelude.{Bool, ◌&&◌, codes}
+use Rattle.std.specs.Prelude.{Bool, true, false, ◌&&◌, codes}
 use Rattle.std.specs.Str.{bytes_eq}
 use Rattle.std.proofs.Math.Dec.{leb}
 use Rattle.std.proofs.lemmas.Bool.{le-leb}
@@ -76,6 +76,25 @@ small_program f t is le = rw (le-leb (list_length f + list_length t) 400 le, cou
 
 pub small_system : (areas programs : List Tree) → is_small_system (nodes_of areas) (nodes_of programs) ≡ leb (length areas) 1000 && leb (length programs) 1100
 small_system areas programs = rw (count_of_all areas, count_of_all programs) refl
+
+-- the three numbers of a system's head
+pub head_ctrl : (k c t b : Bool) → (k && c && t && b) ≡ true → c ≡ true
+head_ctrl k true t b h = refl
+head_ctrl true false t b h = h
+head_ctrl false false t b h = h
+
+pub head_temp : (k c t b : Bool) → (k && c && t && b) ≡ true → t ≡ true
+head_temp k c true b h = refl
+head_temp true true false b h = h
+head_temp true false false b h = h
+head_temp false c false b h = h
+
+pub head_base : (k c t b : Bool) → (k && c && t && b) ≡ true → b ≡ true
+head_base k c t true h = refl
+head_base true true true false h = h
+head_base true true false false h = h
+head_base true false t false h = h
+head_base false c t false h = h
 
 -- a system that begins with an atom or a list
 by_items : (p : ℕ) (k m c t b : Node) (q r : ℕ) (gs ws : Nodes) (i : Node) (is : Nodes)
