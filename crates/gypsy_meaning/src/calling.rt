@@ -14,7 +14,8 @@ ghost use Rattle.gypsy_meaning.specs.Work.{work_of};
 use crate::copying::copy_in;
 use crate::names::Names;
 use crate::running::{Frame, Meaning};
-use crate::work::{Work, opened};
+use crate::starting::{body_at, locals_at, names_at};
+use crate::work::{Work, begun};
 use gypsy_space::{CallSite, CostEvent, Needs, Program};
 use stack_text::{Name, Value};
 use std::alloc::{AllocError, Global};
@@ -48,16 +49,15 @@ pub fn callee_start(
     ensures work { IfOk result (λ start. work_of start.work.value
         ≡ open_on (body_of (seen_program program.now) site.now.callee) []) }
 {
-    let callee = &program.procedures[site.callee as usize];
+    let callee = site.callee;
     let variables = copy_in(
         alloc,
-        names[site.callee as usize].variables.as_slice(),
+        names_at(names, callee),
         variables,
         site.actuals.as_slice(),
-        callee.locals.as_slice(),
+        locals_at(program, callee),
     )?;
-    let end = Rc::new(alloc, Work::End)?;
-    let work = opened(alloc, &callee.body, &end)?;
+    let work = begun(alloc, body_at(program, callee))?;
     Ok(Start { variables, work })
 }
 

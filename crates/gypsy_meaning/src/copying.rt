@@ -9,6 +9,25 @@ use crate::writing::write;
 use stack_text::{Name, Value};
 use std::alloc::{AllocError, Global};
 
+/// A copy of a variable's value, under this name.
+fn renamed(
+    alloc: Global,
+    name: &Name,
+    variables: &[(Name, Value)],
+    variable: u32,
+) -> Result<(Name, Value), AllocError>
+    ensures { IfOk result (λ v. v ≡ (name.now, value_at (map (λ v. v.1) variables.now) variable)) }
+{
+    Ok((name.clone()?, value_in(alloc, variables, variable)?))
+}
+
+/// Copies of a name and a value.
+pub fn named_copy(name: &Name, value: &Value) -> Result<(Name, Value), AllocError>
+    ensures { IfOk result (λ v. v ≡ (name.now, value.now)) }
+{
+    Ok((name.clone()?, value.clone()?))
+}
+
 /// Copies of the actuals, under the first names.
 fn copies(
     alloc: Global,
@@ -24,7 +43,7 @@ fn copies(
     let mut copies = Vec::new(alloc);
     for (place, actual) in actuals.iter().enumerate() {
         match names.get(place) {
-            Some(name) => copies.push((name.clone()?, value_in(alloc, variables, *actual)?))?,
+            Some(name) => copies.push(renamed(alloc, name, variables, *actual)?)?,
             None => unreachable!(),
         }
     }
@@ -44,7 +63,7 @@ pub fn append_locals(
 {
     for (place, name) in names.iter().enumerate() {
         match locals.get(place) {
-            Some((_, value)) => all.push((name.clone()?, value.clone()?))?,
+            Some((_, value)) => all.push(named_copy(name, value)?)?,
             None => unreachable!(),
         }
     }

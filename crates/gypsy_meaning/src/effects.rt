@@ -23,12 +23,35 @@ pub enum Effected {
     Beyond,
 }
 
-/// The item of a variable.
-fn item_in(variables: &[(Name, Value)], variable: u32) -> i32
-    ensures { result ≡ item_of_value (value_at (map (λ v. v.1) variables.now) variable) }
+/// The value of a variable, where there is one.
+fn variable_at(variables: &[(Name, Value)], variable: u32) -> Option<&Value>
+    ensures { let value = value_at (map (λ v. v.1) variables.now) variable in
+        MatchOption result (value ≡ no_value) (λ v. v.now ≡ value) }
 {
     match variables.get(variable as usize) {
-        Some((_, value)) => item_of(value),
+        Some((_, value)) => Some(value),
+        None => None,
+    }
+}
+
+/// The value of an argument, where there is one.
+fn lent<'a>(variables: &'a [(Name, Value)], args: &'a [Argument], index: usize) -> Option<&'a Value>
+    ensures { let value = argument_at (map (λ v. v.1) variables.now) args.now index in
+        MatchOption result (value ≡ no_value) (λ v. v.now ≡ value) }
+{
+    match args.get(index) {
+        Some(Argument::Variable(variable)) => variable_at(variables, *variable),
+        Some(Argument::Constant(value)) => Some(value),
+        None => None,
+    }
+}
+
+/// The item of a variable.
+pub fn item_in(variables: &[(Name, Value)], variable: u32) -> i32
+    ensures { result ≡ item_of_value (value_at (map (λ v. v.1) variables.now) variable) }
+{
+    match variable_at(variables, variable) {
+        Some(value) => item_of(value),
         None => 0,
     }
 }
@@ -37,9 +60,8 @@ fn item_in(variables: &[(Name, Value)], variable: u32) -> i32
 fn item_at(variables: &[(Name, Value)], args: &[Argument], index: usize) -> i32
     ensures { result ≡ item_of_value (argument_at (map (λ v. v.1) variables.now) args.now index) }
 {
-    match args.get(index) {
-        Some(Argument::Variable(variable)) => item_in(variables, *variable),
-        Some(Argument::Constant(value)) => item_of(value),
+    match lent(variables, args, index) {
+        Some(value) => item_of(value),
         None => 0,
     }
 }
@@ -71,8 +93,8 @@ pub fn value_in(
 ) -> Result<Value, AllocError>
     ensures { IfOk result (λ v. v ≡ value_at (map (λ v. v.1) variables.now) variable) }
 {
-    match variables.get(variable as usize) {
-        Some((_, value)) => value.clone(),
+    match variable_at(variables, variable) {
+        Some(value) => value.clone(),
         None => simple_value(alloc, Kind::Integer, 0),
     }
 }
@@ -86,9 +108,8 @@ fn argument(
 ) -> Result<Value, AllocError>
     ensures { IfOk result (λ v. v ≡ argument_at (map (λ v. v.1) variables.now) args.now index) }
 {
-    match args.get(index) {
-        Some(Argument::Variable(variable)) => value_in(alloc, variables, *variable),
-        Some(Argument::Constant(value)) => value.clone(),
+    match lent(variables, args, index) {
+        Some(value) => value.clone(),
         None => simple_value(alloc, Kind::Integer, 0),
     }
 }
@@ -162,21 +183,6 @@ fn stored(alloc: Global, array: &Value, index: i32, item: i32) -> Result<Effecte
         return Ok(Effected::Beyond);
     }
     Ok(Effected::Normal(with_item(alloc, array, place, item)?))
-}
-
-/// The value of an argument, where there is one.
-fn lent<'a>(variables: &'a [(Name, Value)], args: &'a [Argument], index: usize) -> Option<&'a Value>
-    ensures { let value = argument_at (map (λ v. v.1) variables.now) args.now index in
-        MatchOption result (value ≡ no_value) (λ v. v.now ≡ value) }
-{
-    match args.get(index) {
-        Some(Argument::Variable(variable)) => match variables.get(*variable as usize) {
-            Some((_, value)) => Some(value),
-            None => None,
-        },
-        Some(Argument::Constant(value)) => Some(value),
-        None => None,
-    }
 }
 
 /// The item of an array argument.

@@ -33,7 +33,7 @@ pub struct Frame {
 }
 
 /// How a run ended.
-#[derive(Clone, Copy, Debug)]
+#[derive(Clone, Copy)]
 pub enum Ending {
     Normal,
     /// With a formal condition of main, or routineerror.

@@ -2,17 +2,17 @@
 
 ghost use Rattle.std.specs.Prelude.{◌≡◌, ◌+◌, ◌++◌, ◌<◌, ◌≤◌, [], IfOk, length, map, take};
 ghost use Rattle.gypsy_syntax.specs.Programs.{body_of, proc_at, words_of};
-ghost use Rattle.gypsy_space.specs.Nodes.{seen_program};
+ghost use Rattle.gypsy_space.specs.Nodes.{seen_program, seen_statement};
 ghost use Rattle.gypsy_meaning.specs.Calls.{main_start};
 ghost use Rattle.gypsy_meaning.specs.Machine.{open_on};
 ghost use Rattle.gypsy_meaning.specs.Named.{variables_of};
 ghost use Rattle.gypsy_meaning.specs.Work.{work_of};
 
 use crate::calling::Start;
-use crate::copying::append_locals;
+use crate::copying::{append_locals, named_copy};
 use crate::names::Names;
-use crate::work::{Work, opened};
-use gypsy_space::Program;
+use crate::work::begun;
+use gypsy_space::{Node, Program};
 use stack_text::{Name, Value};
 use std::alloc::{AllocError, Global};
 use std::rc::Rc;
@@ -41,7 +41,7 @@ fn formals(
     let mut formals = Vec::new(alloc);
     for (place, value) in values.iter().enumerate() {
         match names.get(place) {
-            Some(name) => formals.push((name.clone()?, value.clone()?))?,
+            Some(name) => formals.push(named_copy(name, value)?)?,
             None => unreachable!(),
         }
     }
@@ -64,6 +64,30 @@ fn variables(
     Ok(all)
 }
 
+/// The names of a procedure's variables.
+pub fn names_at(names: &[Names], procedure: u32) -> &[Name]
+    requires { procedure < length names.now }
+    ensures { result.now ≡ variables_of names.now procedure }
+{
+    names[procedure as usize].variables.as_slice()
+}
+
+/// The locals of a procedure, with their initial values.
+pub fn locals_at(program: &Program, procedure: u32) -> &[(Name, Value)]
+    requires { procedure < length program.now.procedures.items }
+    ensures { map (λ l. l.1) result.now ≡ (proc_at (seen_program program.now) procedure).locals }
+{
+    program.procedures[procedure as usize].locals.as_slice()
+}
+
+/// The body of a procedure.
+pub fn body_at(program: &Program, procedure: u32) -> &Rc<Node>
+    requires { procedure < length program.now.procedures.items }
+    ensures { seen_statement result.now.value ≡ body_of (seen_program program.now) procedure }
+{
+    &program.procedures[procedure as usize].body
+}
+
 /// Main at its start, with these values of its formals, and its body to be done.
 #[tactic(auto, unfolding(crate::specs::Calls::main_start))]
 pub fn main_activation(
@@ -83,15 +107,14 @@ pub fn main_activation(
     ensures work { IfOk result (λ start. work_of start.work.value
         ≡ open_on (body_of (seen_program program.now) program.now.main) []) }
 {
-    let main = &program.procedures[program.main as usize];
+    let main = program.main;
     let variables = variables(
         alloc,
-        names[program.main as usize].variables.as_slice(),
+        names_at(names, main),
         values,
-        main.locals.as_slice(),
+        locals_at(program, main),
     )?;
-    let end = Rc::new(alloc, Work::End)?;
-    let work = opened(alloc, &main.body, &end)?;
+    let work = begun(alloc, body_at(program, main))?;
     Ok(Start { variables, work })
 }
 

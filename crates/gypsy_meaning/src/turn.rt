@@ -9,6 +9,7 @@ ghost use Rattle.gypsy_meaning.specs.Machine as machine;
 ghost use Rattle.gypsy_meaning.specs.Work.{work_of};
 ghost use Rattle.gypsy_meaning.specs.Turns.{GoesOn, IsTurn};
 
+use crate::effects::item_in;
 use crate::work::{Item, Work, opened, opened_parts, put, raise, settled};
 use gypsy_space::{Application, CallSite, Condition, CostEvent, Node};
 use stack_text::{Name, Value};
@@ -50,10 +51,7 @@ pub fn item_of(value: &Value) -> i32
 fn is_true(variables: &[(Name, Value)], variable: u32) -> bool
     ensures { result ≡ is_true_value (value_at (map (λ v. v.1) variables.now) variable) }
 {
-    match variables.get(variable as usize) {
-        Some((_, value)) => item_of(value) == 1,
-        None => false,
-    }
+    item_in(variables, variable) == 1
 }
 
 fn signal(alloc: Global, cond: Condition, below: &Rc<Work>) -> Result<Advance, AllocError>

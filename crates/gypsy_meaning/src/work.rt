@@ -1,6 +1,6 @@
 //! The work that an activation has still to do.
 
-ghost use Rattle.std.specs.Prelude.{◌≡◌, ◌∷◌, List, IfOk, ℕ, drop};
+ghost use Rattle.std.specs.Prelude.{◌≡◌, [], ◌∷◌, List, IfOk, ℕ, drop, map};
 ghost use Rattle.stack_text.specs.Values.{ValueOf};
 ghost use Rattle.gypsy_space.specs.Costs.{Tally};
 ghost use Rattle.gypsy_meaning.specs.Machine as machine;
@@ -41,6 +41,42 @@ pub fn put(alloc: Global, item: Item, rest: &Rc<Work>) -> Result<Rc<Work>, Alloc
     Ok(Rc::new(alloc, Work::More(item, rest))?)
 }
 
+/// The work with a statement on top that opens to itself.
+fn unopened(alloc: Global, node: &Rc<Node>, rest: &Rc<Work>) -> Result<Option<Rc<Work>>, AllocError>
+    ensures { IfOk result (λ o. (ws : List machine.Item) →
+        machine.Do (seen_statement node.now.value) ∷ work_of rest.now.value ≡ work_or o ws) }
+{
+    Ok(Some(put(alloc, Item::Do(node.clone()?), rest)?))
+}
+
+/// The work with the guard of a handled body on top.
+fn guarded(
+    alloc: Global,
+    place: u32,
+    conds: &Rc<Vec<Condition>>,
+    arm: &Rc<Node>,
+    rest: &Rc<Work>,
+) -> Result<Rc<Work>, AllocError>
+    ensures { let guard = machine.Guard place (map seen_cond conds.now.value.items) (seen_statement arm.now.value) in
+        IfOk result (λ w. work_of w.value ≡ guard ∷ work_of rest.now.value) }
+{
+    let item = Item::Guard(place, conds.clone()?, arm.clone()?);
+    put(alloc, item, rest)
+}
+
+/// The work with the parts of a sequence from a position on.
+fn later(
+    alloc: Global,
+    parts: &Rc<Vec<Rc<Node>>>,
+    from: usize,
+    rest: &Rc<Work>,
+) -> Result<Rc<Work>, AllocError>
+    ensures { let statements = seen_statements (drop from parts.now.value.items) in
+        IfOk result (λ w. work_of w.value ≡ machine.Do statements ∷ work_of rest.now.value) }
+{
+    put(alloc, Item::Parts(parts.clone()?, from), rest)
+}
+
 /// The work with a statement on top, opened, or `None` where the statement opens to nothing.
 #[cycle(opening)]
 pub fn open(alloc: Global, node: &Rc<Node>, rest: &Rc<Work>) -> Result<Option<Rc<Work>>, AllocError>
@@ -50,22 +86,18 @@ pub fn open(alloc: Global, node: &Rc<Node>, rest: &Rc<Work>) -> Result<Option<Rc
     match &**node {
         Node::Seq(parts) => open_parts(alloc, parts, 0, rest),
         Node::Begin(place, body, conds, arm) => {
-            let guarded = put(
-                alloc,
-                Item::Guard(*place, conds.clone()?, arm.clone()?),
-                rest,
-            )?;
+            let guarded = guarded(alloc, *place, conds, arm, rest)?;
             match open(alloc, body, &guarded)? {
                 Some(opened) => Ok(Some(opened)),
                 None => Ok(Some(guarded)),
             }
         }
-        Node::NoOp(_) => Ok(Some(put(alloc, Item::Do(node.clone()?), rest)?)),
-        Node::Signal(_, _) => Ok(Some(put(alloc, Item::Do(node.clone()?), rest)?)),
-        Node::Loop(_, _) => Ok(Some(put(alloc, Item::Do(node.clone()?), rest)?)),
-        Node::If(_, _, _, _) => Ok(Some(put(alloc, Item::Do(node.clone()?), rest)?)),
-        Node::Call(_) => Ok(Some(put(alloc, Item::Do(node.clone()?), rest)?)),
-        Node::Apply(_) => Ok(Some(put(alloc, Item::Do(node.clone()?), rest)?)),
+        Node::NoOp(_) => unopened(alloc, node, rest),
+        Node::Signal(_, _) => unopened(alloc, node, rest),
+        Node::Loop(_, _) => unopened(alloc, node, rest),
+        Node::If(_, _, _, _) => unopened(alloc, node, rest),
+        Node::Call(_) => unopened(alloc, node, rest),
+        Node::Apply(_) => unopened(alloc, node, rest),
     }
 }
 
@@ -81,7 +113,7 @@ fn open_parts(
         opens (seen_statements (drop from parts.now.value.items)) (work_of rest.now.value) ws ≡ work_or o ws) }
 {
     for index in from..parts.len() {
-        let later = put(alloc, Item::Parts(parts.clone()?, index + 1), rest)?;
+        let later = later(alloc, parts, index + 1, rest)?;
         if let Some(opened) = open(alloc, &parts[index], &later)? {
             return Ok(Some(opened));
         }
@@ -97,6 +129,14 @@ pub fn opened(alloc: Global, node: &Rc<Node>, rest: &Rc<Work>) -> Result<Rc<Work
         Some(opened) => Ok(opened),
         None => settled(alloc, rest),
     }
+}
+
+/// The work of a body that begins: the body on no other work, opened.
+pub fn begun(alloc: Global, body: &Rc<Node>) -> Result<Rc<Work>, AllocError>
+    ensures { IfOk result (λ w. work_of w.value ≡ open_on (seen_statement body.now.value) []) }
+{
+    let end = Rc::new(alloc, Work::End)?;
+    opened(alloc, body, &end)
 }
 
 /// The same for the parts of a sequence from a position on.

@@ -1,4 +1,4 @@
-use Rattle.std.proofs.Common.{◌≡◌, ◌∷◌, List, suc, drop, length, ◌<◌, ◌≤◌, ◌+◌, get_or, ap, sym, ◌∙◌, rules, arith}
+use Rattle.std.proofs.Common.{◌≡◌, ℕ, ◌∷◌, List, suc, drop, length, ◌<◌, ◌≤◌, ◌+◌, get_or, ap, sym, ◌∙◌, rules, arith}
 use Rattle.std.specs.declared.rc.Rc.{Rc}
 use Rattle.std.specs.declared.alloc.Global.{Global}
 use Rattle.gypsy_space.specs.declared.program.Node.{Node}
@@ -18,9 +18,10 @@ pub open_parts-returns-in-Some : goal.open_parts-returns-in-Some
 open_parts-returns-in-Some t c =
     let k = c.loop-index.index in
     let n = c.index.result.now in
+    let plus : suc k ≡ k + 1 = omega arith in
     let ns : List (Rc Node Global) = c.args.parts.now.value.items in
     let w = work_of c.args.rest.now.value in
-    let later : work_of c.in_ok-later.later.value ≡ Do (seen_statements (drop (suc k) ns)) ∷ w = search rules in
+    let later : work_of c.in_ok-later.later.value ≡ Do (seen_statements (drop (suc k) ns)) ∷ w = c.in_ok-later.ensures ∙ ap (λ (i : ℕ). Do (seen_statements (drop i ns)) ∷ w) (sym plus) in
     let same : length c.deref.result.now.items ≡ length ns = ap (λ v. length v.items) c.deref.ensures in
     let lt : k < length ns = omega (arith, same, c.loop-index-test.true, c.len-index-end.ensures) in
     let at : n ≡ get_or ns k n = search rules in
@@ -37,7 +38,7 @@ open_parts-loop-index-preserved t c =
     let plus : suc k ≡ k + 1 = omega arith in
     let ns : List (Rc Node Global) = c.args.parts.now.value.items in
     let w = work_of c.args.rest.now.value in
-    let later : work_of c.in_ok-later.later.value ≡ Do (seen_statements (drop (suc k) ns)) ∷ w = search rules in
+    let later : work_of c.in_ok-later.later.value ≡ Do (seen_statements (drop (suc k) ns)) ∷ w = c.in_ok-later.ensures ∙ ap (λ (i : ℕ). Do (seen_statements (drop i ns)) ∷ w) (sym plus) in
     let same : length c.deref.result.now.items ≡ length ns = ap (λ v. length v.items) c.deref.ensures in
     let lt : k < length ns = omega (arith, same, c.loop-index-test.true, c.len-index-end.ensures) in
     let at : n ≡ get_or ns k n = search rules in
