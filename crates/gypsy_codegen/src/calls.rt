@@ -17,7 +17,7 @@ ghost use Rattle.gypsy_codegen.specs.Written.{label_arg, written};
 
 use crate::context::{Context, Scopes, label_to, number_of, offset, procedure_at};
 use crate::lines::{
-    area, constant, jump, label_named, name_in, of_name, of_number, plain, put, unplaced,
+    area, constant, jump, name_in, of_name, of_number, plain, push_label, put, unplaced,
 };
 use crate::words::{local_count, local_words};
 use gypsy_space::{CallSite, Condition, Procedure};
@@ -194,9 +194,9 @@ fn jump_by_condition(
         OnOk result (instrs.new.items ≡ instrs.old.items ++ instruction None op.JumpCase (map label_arg targets) ∷ []) }
 {
     let mut args = Vec::new(alloc);
-    args.push(ArgText::Name(label_named(alloc, first)?))?;
-    args.push(ArgText::Name(label_named(alloc, first)?))?;
-    args.push(ArgText::Name(label_named(alloc, first + 1)?))?;
+    push_label(alloc, &mut args, first)?;
+    push_label(alloc, &mut args, first)?;
+    push_label(alloc, &mut args, first + 1)?;
     raise_labels(alloc, &mut args, first + 2, conds)?;
     put(alloc, instrs, None, PitonOp::JumpCase, args)
 }
@@ -214,7 +214,7 @@ fn raise_labels(
 {
     for (number, _cond) in conds.iter().enumerate() {
         let label = first + number as u32;
-        args.push(ArgText::Name(label_named(alloc, label)?))?;
+        push_label(alloc, args, label)?;
     }
     Ok(())
 }

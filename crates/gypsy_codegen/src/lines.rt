@@ -33,6 +33,14 @@ pub(crate) fn label_named(alloc: Global, label: u32) -> Result<Named, Memory>
     }
 }
 
+/// Appends a label to the arguments of an instruction.
+pub(crate) fn push_label(alloc: Global, args: &mut Vec<ArgText>, label: u32) -> Result<(), Memory>
+    ensures { OnOk result (args.new.items ≡ args.old.items ++ label_arg label ∷ []) }
+{
+    let name = label_named(alloc, label)?;
+    Ok(args.push(ArgText::Name(name))?)
+}
+
 /// The name of the area that holds the condition.
 pub(crate) fn condition_area(alloc: Global) -> Result<Named, Memory>
     ensures { IfOk result (λ name. name ≡ named condition_area) }
@@ -161,9 +169,7 @@ pub(crate) fn test(
     ensures { let args = arg.Test kind ∷ label_arg to ∷ [] in
         OnOk result (instrs.new.items ≡ instrs.old.items ++ instruction None op args ∷ []) }
 {
-    let name = label_named(alloc, to)?;
-    let mut args = Vec::new(alloc);
-    args.push(ArgText::Test(kind))?;
-    args.push(ArgText::Name(name))?;
+    let mut args = vec![in alloc; ArgText::Test(kind)]?;
+    push_label(alloc, &mut args, to)?;
     put(alloc, instrs, None, op, args)
 }

@@ -1,16 +1,19 @@
 //! The code of statements, in one pass.
 
-ghost use Rattle.std.specs.Prelude.{◌≡◌, ◌+◌, ◌^◌, ◌++◌, ◌∷◌, [], ◌<◌, length, map, OnOk, IfOk};
+ghost use Rattle.std.specs.Prelude.{◌≡◌, ◌+◌, ◌^◌, ◌++◌, ◌∷◌, [], ◌<◌, length, map, None, Some, OnOk, IfOk};
+ghost use Rattle.piton_syntax.specs.declared.op.PitonOp.TheVariants as op;
 ghost use Rattle.piton_syntax.specs.declared.test_kind.TestFamily.TheVariants as family;
 ghost use Rattle.piton_syntax.specs.declared.test_kind.TestKind.TheVariants as test;
 ghost use Rattle.piton_check.specs.Instruction as i;
 ghost use Rattle.gypsy_syntax.specs.Programs.{Call};
 ghost use Rattle.gypsy_syntax.specs.ProgramFits.{Each};
 ghost use Rattle.gypsy_space.specs.Nodes.{seen_cond, seen_statement, seen_statements};
+ghost use Rattle.gypsy_predef.specs.Texts.{instruction};
 ghost use Rattle.gypsy_codegen.specs.Generated.{offset};
 ghost use Rattle.gypsy_codegen.specs.Lines.{labels};
-ghost use Rattle.gypsy_codegen.specs.Views.{code_in, HasWord, IsReady, NamesAreThere, normal_text};
+ghost use Rattle.gypsy_codegen.specs.Views.{code_in, HasWord, IsReady, labelled, NamesAreThere, normal_text};
 ghost use Rattle.gypsy_codegen.specs.Views.{program_in, statement_text};
+ghost use Rattle.gypsy_codegen.specs.Written.{label_arg};
 
 use crate::apply::apply;
 use crate::calls::{after_call, before_call, push_local, raise};
@@ -28,6 +31,29 @@ fn normal(alloc: Global, instrs: &mut Vec<InstrText>, label: u32) -> Result<(), 
 {
     constant(alloc, instrs, Some(label), WordItem::Nat(unplaced(2)))?;
     area(alloc, instrs, PitonOp::PopGlobal)
+}
+
+/// A jump, and behind it the label from which on the condition is normal again.
+fn jump_to_normal(
+    alloc: Global,
+    instrs: &mut Vec<InstrText>,
+    to: u32,
+    label: u32,
+) -> Result<(), Memory>
+    ensures { let text = instruction None op.Jump (label_arg to ∷ []) ∷ normal_text label in
+        OnOk result (instrs.new.items ≡ instrs.old.items ++ text) }
+{
+    jump(alloc, instrs, to)?;
+    normal(alloc, instrs, label)
+}
+
+/// A jump, and behind it a label.
+fn jump_over(alloc: Global, instrs: &mut Vec<InstrText>, to: u32, label: u32) -> Result<(), Memory>
+    ensures { let text = instruction None op.Jump (label_arg to ∷ []) ∷ labelled (Some label) op.NoOp [] ∷ [] in
+        OnOk result (instrs.new.items ≡ instrs.old.items ++ text) }
+{
+    jump(alloc, instrs, to)?;
+    plain(alloc, instrs, Some(label), PitonOp::NoOp)
 }
 
 /// The test of an `if`, and the jump to a label where it is false.
@@ -105,15 +131,13 @@ pub(crate) fn statement(
             plain(alloc, instrs, Some(first), PitonOp::NoOp)?;
             let inner = Scopes::InLoop(first + 1, &*scopes);
             let next = statement(alloc, instrs, context, body, &inner, first + 2)?;
-            jump(alloc, instrs, first)?;
-            normal(alloc, instrs, first + 1)?;
+            jump_to_normal(alloc, instrs, first, first + 1)?;
             Ok(next)
         }
         Node::If(_, variable, yes, no) => {
             branch(alloc, instrs, context, *variable, first)?;
             let behind = statement(alloc, instrs, context, yes, scopes, first + 2)?;
-            jump(alloc, instrs, first + 1)?;
-            plain(alloc, instrs, Some(first), PitonOp::NoOp)?;
+            jump_over(alloc, instrs, first + 1, first)?;
             let next = statement(alloc, instrs, context, no, scopes, behind)?;
             plain(alloc, instrs, Some(first + 1), PitonOp::NoOp)?;
             Ok(next)
@@ -121,8 +145,7 @@ pub(crate) fn statement(
         Node::Begin(_, body, conds, arm) => {
             let inner = Scopes::InBegin(conds.as_slice(), first, &*scopes);
             let behind = statement(alloc, instrs, context, body, &inner, first + 2)?;
-            jump(alloc, instrs, first + 1)?;
-            normal(alloc, instrs, first)?;
+            jump_to_normal(alloc, instrs, first + 1, first)?;
             let next = statement(alloc, instrs, context, arm, scopes, behind)?;
             plain(alloc, instrs, Some(first + 1), PitonOp::NoOp)?;
             Ok(next)

@@ -11,8 +11,7 @@ pub loop-number-preserved : goal.loop-number-preserved
 loop-number-preserved c =
     let first = c.args.first in
     let k = c.loop-number.number in
-    let pushed : c.push.new.self.items ≡ c.loop-number.args.items ++ label_arg (first + k) ∷ [] = search rules in
     numbered_next (λ (n : ℕ) (ds : List Condition). map label_arg (raise_labels (first + n) (map seen_cond ds))) c.args.conds.now k Leave
-    (label_arg (first + k) ∷ []) c.loop-number.args.items c.push.new.self.items _ c.loop-number-test.true
+    (label_arg (first + k) ∷ []) c.loop-number.args.items c.push_label.new.args.items _ c.loop-number-test.true
     (λ x rest. let next : first + k + 1 ≡ first + (k + 1) = omega arith in ap (λ (l : ℕ). label_arg (first + k) ∷ map label_arg (raise_labels l (map seen_cond rest))) next)
-    pushed c.loop-number.invariant
+    c.in_ok-push_label.ensures c.loop-number.invariant

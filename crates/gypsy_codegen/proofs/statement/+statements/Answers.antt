@@ -1,11 +1,15 @@
-use Rattle.std.proofs.Common.{rules, ◌≡◌, ◌+◌, ◌++◌, ◌∷◌, [], List, ap, sym, ◌∙◌}
+use Rattle.std.proofs.Common.{rules, ◌≡◌, ◌+◌, ◌++◌, ◌∷◌, [], List, map, None, ap, sym, ◌∙◌}
+use Rattle.std.specs.Global.{Vec}
+use Rattle.piton_words.specs.declared.word.Word.TheVariants.{Nat}
 use Rattle.piton_syntax.specs.declared.test_kind.TestFamily.TheVariants as family
 use Rattle.piton_syntax.specs.declared.test_kind.TestKind.TheVariants as test
 use Rattle.piton_check.specs.Instruction as i
-use Rattle.gypsy_syntax.specs.Programs.{If}
-use Rattle.gypsy_codegen.specs.Generated.{offset}
+use Rattle.gypsy_syntax.specs.Programs.{Loop, If, Begin}
+use Rattle.gypsy_codegen.specs.Generated.{InLoop, InBegin, offset}
+use Rattle.gypsy_codegen.specs.WordsOf.{number_of_way}
 use Rattle.gypsy_codegen.proofs.CodeLaws.{both_are}
-use Rattle.gypsy_space.specs.Nodes.{seen_program, seen_statement, seen_statements}
+use Rattle.gypsy_space.specs.Nodes.{seen_cond, seen_program, seen_statement, seen_statements}
+use Rattle.gypsy_space.specs.declared.program.Condition.{Condition}
 use Rattle.gypsy_space.specs.declared.program.Node.{the_lemmas}
 use Rattle.gypsy_space.proofs.NodeLaws.{seen_statement-seq}
 use Rattle.gypsy_codegen.specs.Lines.{labels, lines}
@@ -28,8 +32,8 @@ statement-returns-in_ok-next-in-Seq-clause-next t c =
     let k : seen_statement c.args.node.now.value ≡ seen_statements c.in-Seq.nodes.value.items = ap seen_statement (sym c.deref.ensures ∙ c.in-Seq.is) ∙ seen_statement-seq c.in-Seq.nodes in
     rw k c.in_ok-next-in-Seq.ensures.next
 
-pub statement-returns-in_ok-plain-in-If-2-clause-lines : goal.statement-returns-in_ok-plain-in-If-2-clause-lines
-statement-returns-in_ok-plain-in-If-2-clause-lines t c =
+pub statement-returns-in_ok-plain-in-If-clause-lines : goal.statement-returns-in_ok-plain-in-If-clause-lines
+statement-returns-in_ok-plain-in-If-clause-lines t c =
     let context = c.args.context.now in
     let q = seen_program context.program.now in
     let p = context.procedure in
@@ -48,6 +52,44 @@ statement-returns-in_ok-plain-in-If-2-clause-lines t c =
     (both_are n (Plain (i.PushLocal (offset q p c.in-If.variable)) ∷ Plain i.FetchTempStk ∷ Plain (i.TestAndJump family.Bool test.F l) ∷ [])
     (lines q p scopes (l + 2) yes ++ between) _ _ _ c.in_ok-branch-in-If.ensures
     (both_are n (lines q p scopes (l + 2) yes) between _ _ _ first_part
-    (both_are n (Plain (i.Jump (l + 1)) ∷ []) (Marked l i.NoOp ∷ otherwise) _ _ _ c.in_ok-jump-in-If.ensures
-    (both_are n (Marked l i.NoOp ∷ []) otherwise _ _ _ c.in_ok-plain-in-If.ensures
-    (both_are n (lines q p scopes (l + 2 + labels yes) no) end _ _ _ second_part c.in_ok-plain-in-If-2.ensures)))))
+    (both_are n (Plain (i.Jump (l + 1)) ∷ Marked l i.NoOp ∷ []) otherwise _ _ _ c.in_ok-jump_over-in-If.ensures
+    (both_are n (lines q p scopes (l + 2 + labels yes) no) end _ _ _ second_part c.in_ok-plain-in-If.ensures))))
+
+pub statement-returns-in_ok-jump_to_normal-in-Loop-clause-lines : goal.statement-returns-in_ok-jump_to_normal-in-Loop-clause-lines
+statement-returns-in_ok-jump_to_normal-in-Loop-clause-lines t c =
+    let context = c.args.context.now in
+    let q = seen_program context.program.now in
+    let p = context.procedure in
+    let n = names_of context in
+    let l = c.args.first in
+    let body = seen_statement c.in-Loop.body.value in
+    let k : seen_statement c.args.node.now.value ≡ Loop c.in-Loop.field-0 body = ap seen_statement (sym c.deref.ensures ∙ c.in-Loop.is) in
+    let inside : List Line = lines q p (InLoop (l + 1) ∷ env c.args.scopes.now) (l + 2) body in
+    let end : List Line = Plain (i.Jump l) ∷ Marked (l + 1) (i.PushConstant (Nat (number_of_way None))) ∷ Plain (i.PopGlobal 0) ∷ [] in
+    rw k
+    (both_are n (Marked l i.NoOp ∷ []) (inside ++ end) _ _ _ c.in_ok-plain-in-Loop.ensures
+    (both_are n inside end _ _ _ c.in_ok-next-in-Loop.ensures.lines c.in_ok-jump_to_normal-in-Loop.ensures))
+
+pub statement-returns-in_ok-plain-in-Begin-clause-lines : goal.statement-returns-in_ok-plain-in-Begin-clause-lines
+statement-returns-in_ok-plain-in-Begin-clause-lines t c =
+    let context = c.args.context.now in
+    let q = seen_program context.program.now in
+    let p = context.procedure in
+    let n = names_of context in
+    let scopes = env c.args.scopes.now in
+    let l = c.args.first in
+    let body = seen_statement c.in-Begin.body.value in
+    let arm = seen_statement c.in-Begin.arm.value in
+    let conds = c.in-Begin.conds.value.items in
+    let k : seen_statement c.args.node.now.value ≡ Begin c.in-Begin.field-0 body (map seen_cond conds) arm = ap seen_statement (sym c.deref.ensures ∙ c.in-Begin.is) in
+    let same : c.as_slice.result.now ≡ conds = c.as_slice.ensures.value ∙ ap (λ (v : Vec Condition). v.items) c.deref-in-Begin.ensures in
+    let first_part = rw same at c.in_ok-behind-in-Begin.ensures.lines in
+    let second_part = rw c.in_ok-behind-in-Begin.ensures.next at c.in_ok-next-in-Begin.ensures.lines in
+    let inside : List Line = lines q p (InBegin (map seen_cond conds) l ∷ scopes) (l + 2) body in
+    let between : List Line = Plain (i.Jump (l + 1)) ∷ Marked l (i.PushConstant (Nat (number_of_way None))) ∷ Plain (i.PopGlobal 0) ∷ [] in
+    let handler : List Line = lines q p scopes (l + 2 + labels body) arm in
+    let end : List Line = Marked (l + 1) i.NoOp ∷ [] in
+    rw k
+    (both_are n inside (between ++ (handler ++ end)) _ _ _ first_part
+    (both_are n between (handler ++ end) _ _ _ c.in_ok-jump_to_normal-in-Begin.ensures
+    (both_are n handler end _ _ _ second_part c.in_ok-plain-in-Begin.ensures)))
