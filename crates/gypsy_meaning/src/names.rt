@@ -64,33 +64,19 @@ fn append_conditions(conditions: &mut Vec<Current>, names: &[Named]) -> Result<(
     Ok(())
 }
 
-/// The names of a procedure's variables, formals and then locals.
-fn variable_names(alloc: Global, proc: &Proc) -> Result<Vec<Name>, AllocError>
-    ensures { IfOk result (λ names. names.items ≡ variable_names (proc_of proc.now)) }
-{
-    let mut names = Vec::new(alloc);
-    append_formals(&mut names, proc.formals.as_slice())?;
-    append_locals(&mut names, proc.locals.as_slice())?;
-    Ok(names)
-}
-
-/// The conditions of a procedure, formal and then local, as they are shown.
-fn shown_conditions(alloc: Global, proc: &Proc) -> Result<Vec<Current>, AllocError>
-    ensures { IfOk result (λ shown. shown.items ≡ shown_names (condition_names (proc_of proc.now))) }
-{
-    let mut conditions = Vec::new(alloc);
-    append_conditions(&mut conditions, proc.conds.as_slice())?;
-    append_conditions(&mut conditions, proc.local_conds.as_slice())?;
-    Ok(conditions)
-}
-
 /// The names of a procedure.
 fn procedure_names(alloc: Global, proc: &Proc) -> Result<Names, AllocError>
     ensures { IfOk result (λ n. seen_names n ≡ proc_names (proc_of proc.now)) }
 {
+    let mut variables = Vec::new(alloc);
+    append_formals(&mut variables, proc.formals.as_slice())?;
+    append_locals(&mut variables, proc.locals.as_slice())?;
+    let mut conditions = Vec::new(alloc);
+    append_conditions(&mut conditions, proc.conds.as_slice())?;
+    append_conditions(&mut conditions, proc.local_conds.as_slice())?;
     Ok(Names {
-        variables: variable_names(alloc, proc)?,
-        conditions: shown_conditions(alloc, proc)?,
+        variables,
+        conditions,
     })
 }
 
