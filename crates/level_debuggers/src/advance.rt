@@ -5,7 +5,7 @@ use crate::watch::Event;
 use piton_machine::ErrorKind;
 
 /// Why the next step of a run is refused.
-#[derive(Clone, Copy, Debug, PartialEq, Eq)]
+#[derive(Clone, Copy)]
 pub(crate) enum Stop {
     /// A call has no room.
     NoRoom {
@@ -55,7 +55,7 @@ impl Stop {
 }
 
 /// What a step of a run was.
-#[derive(Clone, Copy, Debug, PartialEq, Eq)]
+#[derive(Clone, Copy)]
 pub(crate) enum Advance {
     /// The end was reached before, and nothing has changed.
     Over,
