@@ -1,6 +1,6 @@
 //! The system of a source.
 
-ghost use Rattle.std.specs.Prelude.{◌≡◌, ◌^◌, ◌++◌, ◌≤◌, length, map, OnOk, IfOk};
+ghost use Rattle.std.specs.Prelude.{◌≡◌, ◌^◌, ◌++◌, ◌≤◌, length, map, pos, OnOk, IfOk};
 ghost use Rattle.gypsy_check.specs.Accepted.{IsAccepted};
 ghost use Rattle.gypsy_syntax.specs.Resolved.{program_of};
 ghost use Rattle.gypsy_syntax.specs.SourceView.{proc_of, source_of};
@@ -10,6 +10,7 @@ ghost use Rattle.gypsy_predef.specs.Texts.{body_texts};
 ghost use Rattle.gypsy_codegen.specs.Acceptable.{total_words};
 ghost use Rattle.gypsy_codegen.specs.Text.{generated, procedures_with, program_texts};
 ghost use Rattle.gypsy_codegen.specs.Views.{AreWritable, area_text, opening_text};
+ghost use Rattle.gypsy_codegen.specs.Written.{number};
 
 use crate::context::procedure_at;
 use crate::lines::{condition_area, named, unplaced};
@@ -18,7 +19,7 @@ use crate::words::{formal_words, local_words};
 use gypsy_predef::bodies;
 use gypsy_space::{Procedure, Program};
 use gypsy_syntax::{Proc, Source};
-use piton_syntax::{Area, System, WordItem, WordText};
+use piton_syntax::{Area, Number, System, WordItem, WordText};
 use stack_text::{Memory, Name};
 use std::alloc::Global;
 
@@ -98,6 +99,13 @@ fn area(alloc: Global) -> Result<Area, Memory>
     })
 }
 
+/// A size or an address that stands nowhere.
+fn unplaced_size(size: u32) -> Number
+    ensures { result ≡ number (pos size) }
+{
+    unplaced(size as i128)
+}
+
 /// The programs of a source, and the predefined ones behind them.
 fn programs(
     alloc: Global,
@@ -135,9 +143,9 @@ pub(crate) fn system(
     Ok(System {
         place: 0,
         main: named(&source.main.name)?,
-        ctrl: unplaced(ctrl as i128),
-        temp: unplaced(temp as i128),
-        base: unplaced(base as i128),
+        ctrl: unplaced_size(ctrl),
+        temp: unplaced_size(temp),
+        base: unplaced_size(base),
         areas: vec![in alloc; area(alloc)?]?,
         stack: opening(alloc, procedure_at(program, program.main))?,
         programs: programs(alloc, source, program)?,

@@ -1,5 +1,4 @@
-use Rattle.std.proofs.Common.{◌≡◌, arith, subst, sym, ap, ◌∙◌, [], ◌∷◌, rules}
-use Rattle.std.specs.Prelude.{pos}
+use Rattle.std.proofs.Common.{◌≡◌, arith, subst, sym, ap, ◌∙◌, [], ◌∷◌}
 use Rattle.piton_syntax.specs.Systems.{AreaOf}
 use Rattle.gypsy_syntax.specs.Programs.{Program}
 use Rattle.gypsy_space.specs.Needs.{stack_words}
@@ -8,7 +7,6 @@ use Rattle.gypsy_syntax.specs.SourceView.{source_of}
 use Rattle.gypsy_syntax.proofs.FitsLaws.{keeps_fits}
 use Rattle.gypsy_codegen.specs.Text.{program_texts}
 use Rattle.gypsy_codegen.specs.Views.{AreWritable, area_text}
-use Rattle.gypsy_codegen.specs.Written.{number}
 use Rattle.gypsy_codegen.proofs.WritableLaws.{all_writable, system_is}
 use Rattle.gypsy_codegen.proofs.system.system.Goals as goal
 
@@ -27,10 +25,7 @@ returns c =
     let s = source_of c.args.source.now in
     let q = seen_program c.args.program.now in
     let areas : c.in_ok-vec.field-0.items ≡ area_text ∷ [] = c.in_ok-vec.ensures.items ∙ ap (λ (a : AreaOf). a ∷ []) c.in_ok-area.ensures in
-    let ctrl : c.unplaced.result ≡ number (pos c.args.ctrl) = search rules in
-    let temp : c.unplaced-2.result ≡ number (pos c.args.temp) = search rules in
-    let base : c.unplaced-3.result ≡ number (pos c.args.base) = search rules in
     system_is s (stack_words c.args.temp c.args.ctrl) c.args.base q c.in_ok-named.field-0 (seen_proc c.procedure_at.result.now)
-    c.unplaced.result c.unplaced-2.result c.unplaced-3.result c.in_ok-vec.field-0.items c.in_ok-opening.field-0.items c.in_ok-programs.field-0.items
-    c.requires.program c.procedure_at.ensures c.in_ok-named.ensures ctrl temp base areas
+    c.unplaced_size.result c.unplaced_size-2.result c.unplaced_size-3.result c.in_ok-vec.field-0.items c.in_ok-opening.field-0.items c.in_ok-programs.field-0.items
+    c.requires.program c.procedure_at.ensures c.in_ok-named.ensures c.unplaced_size.ensures c.unplaced_size-2.ensures c.unplaced_size-3.ensures areas
     c.in_ok-opening.ensures c.in_ok-programs.ensures
