@@ -42,8 +42,6 @@ mod shelf;
 mod sink;
 mod stdout_sink;
 mod streams;
-#[cfg(test)]
-mod tests;
 
 pub use fault::{FetchFault, PutFault, StoreFault};
 pub use folder_shelf::FolderShelf;
