@@ -12,4 +12,6 @@ mod rules;
 #[cfg(test)]
 mod syntax;
 #[cfg(test)]
+mod texts;
+#[cfg(test)]
 mod words;

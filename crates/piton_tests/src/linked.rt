@@ -5,15 +5,14 @@ ghost use Rattle.piton_machine.specs.Seen.{IsSeen};
 
 mod bodies;
 
+use crate::texts::{checked_of, joined};
 use bodies::BODIES;
 use fm_machine::Machine;
-use piton_check::{Checked, check};
+use piton_check::Checked;
 use piton_linker::{Layout, Linked, layout, link};
 use piton_machine::{State, Stepped};
-use piton_syntax::read_piton;
 use piton_words::Word;
 use std::alloc::Global;
-use std::process::Abort;
 use std::test::Fail;
 
 /// What comes before a body, and after it.
@@ -26,18 +25,8 @@ fn all_bodies() -> &'static [&'static str] {
     &BODIES
 }
 
-/// The checked system of a text.
-fn checked_of(alloc: Global, text: &[u8]) -> Result<Checked, Fail> {
-    if text.len() > 1 << 31 {
-        return Err(Fail::from("too long"));
-    }
-    let system = read_piton(alloc, text)?;
-    Ok(check(alloc, system)?)
-}
-
-/// A machine with a linked system in its memory.
-fn loaded(alloc: Global, linked: &Linked) -> Result<Machine, Fail> {
-    let mut machine = Machine::new(alloc, linked.base, linked.size)?;
+/// Puts a linked system into a machine's memory and registers.
+fn put_into(machine: &mut Machine, linked: &Linked) -> Result<(), Fail> {
     let mut at = linked.base;
     for word in linked.words.iter() {
         machine.poke(at, *word)?;
@@ -47,13 +36,19 @@ fn loaded(alloc: Global, linked: &Linked) -> Result<Machine, Fail> {
         let word = linked.registers.get(r as usize).ok_or("no register")?;
         machine.set_register(r, *word);
     }
+    Ok(())
+}
+
+/// A machine with a linked system in its memory.
+fn loaded(alloc: Global, linked: &Linked) -> Result<Machine, Fail> {
+    let mut machine = Machine::new(alloc, linked.base, linked.size)?;
+    put_into(&mut machine, linked)?;
     Ok(machine)
 }
 
 /// Where the words of a linked system stand.
 #[derive(Clone, Copy)]
 struct Walk<'a> {
-    text: &'a str,
     linked: &'a Linked,
     parts: Layout,
 }
@@ -81,128 +76,125 @@ impl Walk<'_> {
         }
     }
 
-    /// The memory has the numbers of words from an address on.
-    fn has(&self, rt: &impl Abort, machine: &Machine, from: u32, words: &[Word]) {
-        let text = self.text;
+    /// Whether the memory has the numbers of words from an address on.
+    fn has(&self, machine: &Machine, from: u32, words: &[Word]) -> bool {
         let mut at = from;
         for word in words {
             let number = self.number(*word);
-            if number.is_some() {
-                assert!(rt; machine.peek(at) == number, "{text}: {at}");
+            if number.is_some() && machine.peek(at) != number {
+                return false;
             }
             at = at.wrapping_add(1);
         }
+        true
     }
 
-    /// The machine stands for the state.
-    fn stands(&self, rt: &impl Abort, machine: &Machine, state: &State) -> Result<(), Fail> {
-        let text = self.text;
-        let (program, place) = state.at();
-        let pc = if state.frames() == 0 {
-            Some(self.linked.final_pc)
-        } else {
-            self.place(program, place)
-        };
-        assert!(rt;
-            Some(machine.register(15)) == pc,
-            "{text}: {program} {place}"
-        );
-        self.has(rt, machine, machine.register(0), state.locals());
-        self.has(
-            rt,
-            machine,
-            u32::try_from(self.parts.areas_start)?,
-            state.area(0),
-        );
-        let mut at = u32::try_from(self.parts.end)?;
-        for word in state.stack() {
+    /// The top of the temporary stack, where the memory has the numbers of its words.
+    fn top(&self, machine: &Machine, stack: &[Word]) -> Option<u32> {
+        let mut at = u32::try_from(self.parts.end).ok()?;
+        for word in stack {
             at = at.wrapping_sub(1);
-            self.has(rt, machine, at, &[*word]);
+            if !self.has(machine, at, &[*word]) {
+                return None;
+            }
         }
-        assert!(rt; machine.register(2) == at, "{text}: the stack's top");
-        Ok(())
+        Some(at)
+    }
+
+    /// Where the processor is to be.
+    fn counter(&self, state: &State) -> Option<u32> {
+        if state.frames() == 0 {
+            return Some(self.linked.final_pc);
+        }
+        let (program, place) = state.at();
+        self.place(program, place)
+    }
+
+    /// Whether the machine stands for the state.
+    fn stands(&self, machine: &Machine, state: &State) -> bool {
+        let Ok(areas_start) = u32::try_from(self.parts.areas_start) else {
+            return false;
+        };
+        self.counter(state) == Some(machine.register(15))
+            && self.has(machine, machine.register(0), state.locals())
+            && self.has(machine, areas_start, state.area(0))
+            && self.top(machine, state.stack()) == Some(machine.register(2))
     }
 }
 
-/// So many instructions of the processor, before any of which its program hasn't ended.
-fn execute(
-    rt: &impl Abort,
-    machine: &mut Machine,
-    walk: &Walk<'_>,
-    count: u64,
-) -> Result<(), Fail> {
-    let text = walk.text;
+/// Whether the processor makes so many instructions, before any of which its program hasn't ended.
+fn executes(machine: &mut Machine, final_pc: u32, count: u64) -> bool {
     for _ in 0..count {
-        assert!(rt;
-            machine.register(15) != walk.linked.final_pc,
-            "{text}: ended before"
-        );
-        machine.step()?;
+        if machine.register(15) == final_pc || machine.step().is_err() {
+            return false;
+        }
     }
-    Ok(())
+    true
 }
 
-/// One step of Piton's machine, and as many instructions of the processor as it costs.
-fn step_both(
-    rt: &impl Abort,
+/// Whether Piton's machine makes a step, and the processor as many instructions as it costs.
+fn step_both(walk: &Walk<'_>, checked: &Checked, machine: &mut Machine, state: &mut State) -> bool
+    requires { IsSeen (system_in checked.now) state.old }
+    ensures { IsSeen (system_in checked.now) state.new }
+{
+    let counted = state.counted();
+    let stepped = state.step(checked);
+    let cost = state.counted().saturating_sub(counted);
+    matches!(stepped, Stepped::Next | Stepped::Halted)
+        && executes(machine, walk.linked.final_pc, cost)
+}
+
+/// Whether both come to their ends together, and the machine stands for the state before each step and at the end.
+fn run_together(
     walk: &Walk<'_>,
     checked: &Checked,
     machine: &mut Machine,
     state: &mut State,
-) -> Result<(), Fail>
+) -> bool
     requires { IsSeen (system_in checked.now) state.old }
-    ensures { IsSeen (system_in checked.now) state.new }
 {
-    let text = walk.text;
-    let counted = state.counted();
-    let stepped = state.step(checked);
-    assert!(rt;
-        stepped == Stepped::Next || stepped == Stepped::Halted,
-        "{text}: {stepped:?}"
-    );
-    let cost = state.counted().saturating_sub(counted);
-    execute(rt, machine, walk, cost)
+    for _ in 0..100 {
+        if !walk.stands(machine, state) {
+            return false;
+        }
+        if state.frames() == 0 {
+            return true;
+        }
+        if !step_both(walk, checked, machine, state) {
+            return false;
+        }
+    }
+    false
 }
 
-/// Goes along both runs of a system to their ends.
-fn walk_along(
-    rt: &impl Abort,
-    alloc: Global,
-    walk: &Walk<'_>,
-    checked: &Checked,
-) -> Result<(), Fail> {
+/// Whether both runs of a system, from their starts, go along to their ends.
+fn walk_along(alloc: Global, walk: &Walk<'_>, checked: &Checked) -> Result<bool, Fail> {
     let mut machine = loaded(alloc, walk.linked)?;
     let mut state = State::start(alloc, checked)?;
-    for _ in 0..100 {
-        walk.stands(rt, &machine, &state)?;
-        if state.frames() == 0 {
-            return Ok(());
-        }
-        step_both(rt, walk, checked, &mut machine, &mut state)?;
-    }
-    Err(Fail::from("no end"))
+    Ok(run_together(walk, checked, &mut machine, &mut state))
 }
 
 /// The checked system around a body.
 fn system_around(alloc: Global, body: &str) -> Result<Checked, Fail> {
-    let mut text = Vec::new(alloc);
-    text.extend_from_slice(FRAME.0)?;
-    text.extend_from_slice(body.as_bytes())?;
-    text.extend_from_slice(FRAME.1)?;
-    checked_of(alloc, text.as_slice())
+    let text = joined(alloc, &[FRAME.0, body.as_bytes(), FRAME.1])?;
+    checked_of(alloc, &text)
+}
+
+/// Whether the runs of a checked system go along.
+fn walks(alloc: Global, checked: &Checked) -> Result<bool, Fail> {
+    let linked = link(alloc, checked)?;
+    let walk = Walk {
+        linked: &linked,
+        parts: layout(checked),
+    };
+    walk_along(alloc, &walk, checked)
 }
 
 #[test]
 fn walks_side_by_side(rt: HostRuntime) -> Result<(), Fail> {
     for body in all_bodies() {
         let checked = system_around(rt.alloc(), body)?;
-        let linked = link(rt.alloc(), &checked)?;
-        let walk = Walk {
-            text: body,
-            linked: &linked,
-            parts: layout(&checked),
-        };
-        walk_along(&rt, rt.alloc(), &walk, &checked)?;
+        assert!(rt; walks(rt.alloc(), &checked)?, "{body}");
     }
     Ok(())
 }
@@ -226,16 +218,30 @@ const WORDS: [u32; 15] = [
     12,
 ];
 
+/// The parts of the system below.
+fn is_small_layout(parts: Layout) -> bool {
+    let starts = [parts.areas_start, parts.ctrl_start, parts.temp_start];
+    starts == [13, 13, 15] && (parts.size, parts.final_pc, parts.end) == (18, 12, 18)
+}
+
+/// The registers of the system below.
+const REGISTERS: [u32; 16] = [13, 13, 18, 0, 0, 0, 0, 0, 0, 0, 0, 0, 0, 0, 0, 2];
+
 /// What is linked is the system below.
 fn is_small_system(linked: &Linked) -> bool {
-    let registers = [13, 13, 18, 0, 0, 0, 0, 0, 0, 0, 0, 0, 0, 0, 0, 2];
     let Some(places) = linked.places.first() else {
         return false;
     };
     (linked.base, linked.size, linked.final_pc) == (0, 18, 12)
         && linked.words.as_slice() == WORDS.as_slice()
-        && linked.registers.as_slice() == registers.as_slice()
+        && linked.registers.as_slice() == REGISTERS.as_slice()
         && places.as_slice() == [2, 4, 6, 7].as_slice()
+}
+
+/// Whether a checked system is linked as the system below.
+fn is_linked_so(alloc: Global, checked: &Checked) -> Result<bool, Fail> {
+    let linked = link(alloc, checked)?;
+    Ok(is_small_system(&linked))
 }
 
 #[test]
@@ -243,11 +249,7 @@ fn links_a_small_system(rt: HostRuntime) -> Result<(), Fail> {
     let text =
         b"(piton main 2 3 0 () () (main () () (push-constant (nat 7)) (push-constant (nat 5)) (sub-nat) (ret)))";
     let checked = checked_of(rt.alloc(), text)?;
-    let parts = layout(&checked);
-    let starts = [parts.areas_start, parts.ctrl_start, parts.temp_start];
-    assert!(rt; starts == [13, 13, 15], "{starts:?}");
-    assert!(rt; (parts.size, parts.final_pc, parts.end) == (18, 12, 18));
-    let linked = link(rt.alloc(), &checked)?;
-    assert!(rt; is_small_system(&linked));
+    assert!(rt; is_small_layout(layout(&checked)));
+    assert!(rt; is_linked_so(rt.alloc(), &checked)?);
     Ok(())
 }

@@ -7,14 +7,13 @@ mod halts;
 mod refusals;
 mod words;
 
+use crate::texts::{checked_of, joined};
 use halts::{HALTS, TESTS};
-use piton_check::{Checked, check};
+use piton_check::Checked;
 use piton_machine::{ErrorKind, PitonRun, State};
-use piton_syntax::read_piton;
 use piton_words::Word;
 use refusals::{REFUSALS, Refusal, refusal_text};
-use std::alloc::Global;
-use std::process::Abort;
+use std::alloc::{AllocError, Global};
 use std::test::Fail;
 use words::OPERATIONS;
 
@@ -42,130 +41,119 @@ fn all_refusals() -> &'static [Refusal] {
     &REFUSALS
 }
 
-/// The checked system of a text.
-fn system_of(alloc: Global, text: &str) -> Result<Checked, Fail> {
-    if text.len() > 1 << 31 {
-        return Err(Fail::from("too long"));
-    }
-    Ok(check(alloc, read_piton(alloc, text.as_bytes())?)?)
-}
-
-/// A run from its start halts so, not a step before, and stays as it is then.
-fn ends_so(
-    rt: &impl Abort,
-    text: &str,
-    system: &Checked,
-    state: &mut State,
-    steps: u64,
-    counted: u64,
-    stack: &[Word],
-)
+/// Whether a run from its start halts so, not a step before, and stays as it is then.
+fn ends_so(system: &Checked, state: &mut State, steps: u64, counted: u64, stack: &[Word]) -> bool
     requires { IsSeen (system_in system.now) state.old }
 {
     let before = state.run(system, steps.saturating_sub(1));
-    assert!(rt; before == PitonRun::Spent, "{text}: {before:?}");
     let end = state.run(system, 100);
-    assert!(rt; end == PitonRun::Halted, "{text}: {end:?}");
     let again = state.run(system, 100);
-    assert!(rt; again == PitonRun::Halted, "{text}: {again:?}");
-    let counts = (state.steps(), state.counted());
-    assert!(rt; counts == (steps, counted), "{text}: {counts:?}");
-    assert!(rt; state.frames() == 0, "{text}");
-    assert!(rt; state.stack() == stack, "{text}: {:?}", state.stack());
+    [before, end, again] == [PitonRun::Spent, PitonRun::Halted, PitonRun::Halted]
+        && (state.steps(), state.counted(), state.frames()) == (steps, counted, 0)
+        && state.stack() == stack
 }
 
-/// The system of the text halts so.
+/// Whether the system of the text halts so.
 fn halts_so(
-    rt: &impl Abort,
     alloc: Global,
-    text: &str,
+    text: &[u8],
     steps: u64,
     counted: u64,
     stack: &[Word],
-) -> Result<(), Fail> {
-    let system = system_of(alloc, text)?;
+) -> Result<bool, Fail> {
+    let system = checked_of(alloc, text)?;
     let mut state = State::start(alloc, &system)?;
-    ends_so(rt, text, &system, &mut state, steps, counted, stack);
-    Ok(())
+    Ok(ends_so(&system, &mut state, steps, counted, stack))
 }
 
 #[test]
 fn each_instruction(rt: HostRuntime) -> Result<(), Fail> {
     for halt in all_halts() {
-        halts_so(
-            &rt,
-            rt.alloc(),
-            halt.text,
-            halt.steps,
-            halt.counted,
-            halt.stack,
-        )?;
+        let text = halt.text;
+        let (steps, counted) = (halt.steps, halt.counted);
+        let halts = halts_so(rt.alloc(), text.as_bytes(), steps, counted, halt.stack)?;
+        assert!(rt; halts, "{text}");
     }
     Ok(())
 }
 
-/// A test that jumps passes over the push of nat 9.
+/// Whether a system with a word on the stack, which passes over the push of nat 9 where its test jumps, halts so.
+fn passes_over(alloc: Global, word: &str, test: &str, jumps: bool) -> Result<bool, Fail> {
+    let text = joined(
+        alloc,
+        &[
+            b"(piton main 2 1 0 () (",
+            word.as_bytes(),
+            b") (main () () (",
+            test.as_bytes(),
+            b" l) (push-constant (nat 9)) (dl l () (ret))))",
+        ],
+    )?;
+    if jumps {
+        halts_so(alloc, &text, 2, 6, &[])
+    } else {
+        halts_so(alloc, &text, 3, 7, &[Word::Nat(9)])
+    }
+}
+
 #[test]
 fn each_test(rt: HostRuntime) -> Result<(), Fail> {
     for (word, test, jumps) in all_tests() {
-        let text = format!(in rt.alloc();
-            "(piton main 2 1 0 () ({word}) (main () () ({test} l) (push-constant (nat 9)) (dl l () (ret))))"
-        )?;
-        if *jumps {
-            halts_so(&rt, rt.alloc(), text.as_str(), 2, 6, [].as_slice())?;
-        } else {
-            halts_so(
-                &rt,
-                rt.alloc(),
-                text.as_str(),
-                3,
-                7,
-                [Word::Nat(9)].as_slice(),
-            )?;
-        }
+        assert!(rt;
+            passes_over(rt.alloc(), word, test, *jumps)?,
+            "{word} {test}"
+        );
     }
     Ok(())
+}
+
+/// The text of a system with words on the stack, the operation first.
+fn operation_text(alloc: Global, words: &str, operation: &str) -> Result<Vec<u8>, AllocError> {
+    joined(
+        alloc,
+        &[
+            b"(piton main 2 4 0 ((g (nat 4) (nat 5)) (h (nat 6))) (",
+            words.as_bytes(),
+            b") (main () () (",
+            operation.as_bytes(),
+            b") (ret)))",
+        ],
+    )
 }
 
 #[test]
 fn each_operation(rt: HostRuntime) -> Result<(), Fail> {
     for (words, operation, cost, stack) in all_operations() {
-        let text = format!(in rt.alloc();
-            "(piton main 2 4 0 ((g (nat 4) (nat 5)) (h (nat 6))) ({words}) (main () () ({operation}) (ret)))"
-        )?;
-        halts_so(
-            &rt,
-            rt.alloc(),
-            text.as_str(),
-            2,
-            cost.saturating_add(4),
-            stack,
-        )?;
+        let text = operation_text(rt.alloc(), words, operation)?;
+        let halts = halts_so(rt.alloc(), &text, 2, cost.saturating_add(4), stack)?;
+        assert!(rt; halts, "{words} {operation}");
     }
     Ok(())
 }
 
-/// A run from its start is refused so, and changes nothing: no step is counted, and the words are those of the initial stack.
-fn is_refused_so(rt: &impl Abort, text: &str, system: &Checked, state: &mut State, kind: ErrorKind)
+/// Whether a run from its start is refused so, and changes nothing: no step is counted, and the words are those of the
+/// initial stack.
+fn is_refused_so(system: &Checked, state: &mut State, kind: ErrorKind) -> bool
     requires { IsSeen (system_in system.now) state.old }
 {
-    let end = state.run(system, 100);
-    assert!(rt; end == PitonRun::Error(kind), "{text}: {end:?}");
-    let counts = (state.steps(), state.counted(), state.at(), state.frames());
-    assert!(rt; counts == (0, 0, (0, 0), 1), "{text}: {counts:?}");
-    assert!(rt;
-        state.stack() == system.resolved().stack.as_slice(),
-        "{text}"
-    );
+    state.run(system, 100) == PitonRun::Error(kind)
+        && (state.steps(), state.counted(), state.at(), state.frames()) == (0, 0, (0, 0), 1)
+        && state.stack() == system.resolved().stack.as_slice()
+}
+
+/// Whether the system of a text is refused so.
+fn refuses_so(alloc: Global, text: &[u8], kind: ErrorKind) -> Result<bool, Fail> {
+    let system = checked_of(alloc, text)?;
+    let mut state = State::start(alloc, &system)?;
+    Ok(is_refused_so(&system, &mut state, kind))
 }
 
 #[test]
 fn each_refusal(rt: HostRuntime) -> Result<(), Fail> {
     for (words, temp, instruction, kind) in all_refusals() {
         let text = refusal_text(rt.alloc(), words, *temp, instruction)?;
-        let system = system_of(rt.alloc(), text.as_str())?;
-        let mut state = State::start(rt.alloc(), &system)?;
-        is_refused_so(&rt, text.as_str(), &system, &mut state, *kind);
+        let is_refused = refuses_so(rt.alloc(), &text, *kind)?;
+        assert!(rt; is_refused, "{words} {temp} {instruction}");
     }
     Ok(())
 }

@@ -1,10 +1,10 @@
 //! Texts of systems that keep the rules, and of systems that break one or two.
 
-use piton_check::{CheckFault, Checked, Resolved, ResolvedArg, ResolvedProgram, check};
-use piton_syntax::{PitonOp, TestKind, read_piton};
+use crate::texts::{checked_of, system_of};
+use piton_check::{CheckFault, Resolved, ResolvedArg, ResolvedProgram, check};
+use piton_syntax::{PitonOp, TestKind};
 use piton_words::Word;
 use std::alloc::Global;
-use std::process::Abort;
 use std::test::Fail;
 
 /// Texts of systems with one breach or more: the rule of the least, and its place, counted by hand.
@@ -286,27 +286,14 @@ fn kept() -> &'static [&'static str] {
     &KEPT
 }
 
-/// What checking the system of a text returns.
-fn result_of(alloc: Global, text: &[u8]) -> Result<Result<Checked, CheckFault>, Fail> {
-    if text.len() > 1 << 31 {
-        return Err(Fail::from("too long"));
-    }
-    let system = read_piton(alloc, text)?;
-    Ok(check(alloc, system))
-}
-
 /// The rule that a text's system breaks, and where.
 fn breach_of(alloc: Global, text: &[u8]) -> Result<Option<(u8, u32)>, Fail> {
-    match result_of(alloc, text)? {
+    let system = system_of(alloc, text)?;
+    match check(alloc, system) {
         Ok(_checked) => Ok(None),
         Err(CheckFault::Violation { rule, place }) => Ok(Some((rule, place))),
         Err(fault) => Err(Fail::from(fault)),
     }
-}
-
-/// The checked system of a text.
-fn checked_of(alloc: Global, text: &[u8]) -> Result<Checked, Fail> {
-    Ok(result_of(alloc, text)??)
 }
 
 #[test]
@@ -339,12 +326,8 @@ fn area_at(resolved: &Resolved, area: usize) -> Option<&[Word]> {
     Some(resolved.areas.get(area)?.as_slice())
 }
 
-/// The words of the whole system are resolved.
-fn has_words(rt: &impl Abort, resolved: &Resolved) {
-    let numbers = [resolved.main, resolved.ctrl, resolved.temp, resolved.base];
-    assert!(rt; numbers == [1, 9, 8, 7]);
-    assert!(rt; area_at(resolved, 0) == Some([Word::Int(-5), Word::Bool(true)].as_slice()));
-    assert!(rt; area_at(resolved, 1) == Some([Word::Subr { program: 0 }].as_slice()));
+/// Whether the words of the whole system are resolved.
+fn has_words(resolved: &Resolved) -> bool {
     let stack = [
         Word::Addr { area: 1, offset: 0 },
         Word::Pc {
@@ -353,55 +336,73 @@ fn has_words(rt: &impl Abort, resolved: &Resolved) {
         },
         Word::Bitv(4_294_967_295),
     ];
-    assert!(rt; resolved.stack.as_slice() == stack.as_slice());
+    [resolved.main, resolved.ctrl, resolved.temp, resolved.base] == [1, 9, 8, 7]
+        && area_at(resolved, 0) == Some([Word::Int(-5), Word::Bool(true)].as_slice())
+        && area_at(resolved, 1) == Some([Word::Subr { program: 0 }].as_slice())
+        && resolved.stack.as_slice() == stack.as_slice()
 }
 
 #[test]
 fn resolves_words(rt: HostRuntime) -> Result<(), Fail> {
     let checked = checked_of(rt.alloc(), whole_system())?;
     assert!(rt; checked.system().main.name.bytes() == b"main".as_slice());
-    has_words(&rt, checked.resolved());
+    assert!(rt; has_words(checked.resolved()));
     Ok(())
 }
 
-/// The arguments of an instruction.
-fn args_at(program: &ResolvedProgram, place: usize) -> Option<&[ResolvedArg]> {
-    let instr = program.instrs.get(place)?;
-    Some(instr.args.as_slice())
+/// The arguments of the instructions of the whole system's programs, of which main is the second.
+const ARGUMENTS: ([&[ResolvedArg]; 3], [&[ResolvedArg]; 7]) = (
+    [
+        &[ResolvedArg::Local(2)],
+        &[ResolvedArg::Local(0)],
+        &[ResolvedArg::Place(2)],
+    ],
+    [
+        &[ResolvedArg::Word(Word::Addr { area: 0, offset: 1 })],
+        &[ResolvedArg::Area(1)],
+        &[ResolvedArg::Number(65_536)],
+        &[ResolvedArg::Place(6), ResolvedArg::Place(2)],
+        &[ResolvedArg::Test(TestKind::NotNeg), ResolvedArg::Place(6)],
+        &[ResolvedArg::Program(0)],
+        &[],
+    ],
+);
+
+/// Whether a program's instructions have these arguments.
+fn has_arguments(program: &ResolvedProgram, wanted: &[&[ResolvedArg]]) -> bool {
+    program.instrs.len() == wanted.len()
+        && program
+            .instrs
+            .iter()
+            .zip(wanted)
+            .all(|(instr, args)| instr.args.as_slice() == *args)
+}
+
+/// Whether the first program of the whole system has its locals.
+fn has_locals(program: &ResolvedProgram) -> bool {
+    program.formals == 2
+        && program.temporaries.as_slice() == [Word::Nat(3)].as_slice()
+        && has_arguments(program, &ARGUMENTS.0)
 }
 
 #[test]
 fn resolves_names_of_locals(rt: HostRuntime) -> Result<(), Fail> {
     let checked = checked_of(rt.alloc(), whole_system())?;
-    let resolved = checked.resolved();
-    let program = resolved.programs.first().ok_or("no program")?;
-    assert!(rt; program.formals == 2);
-    assert!(rt; program.temporaries.as_slice() == [Word::Nat(3)].as_slice());
-    assert!(rt; args_at(program, 0) == Some([ResolvedArg::Local(2)].as_slice()));
-    assert!(rt; args_at(program, 1) == Some([ResolvedArg::Local(0)].as_slice()));
-    assert!(rt; args_at(program, 2) == Some([ResolvedArg::Place(2)].as_slice()));
+    let first = checked.resolved().programs.first();
+    assert!(rt; matches!(first, Some(program) if has_locals(program)));
     Ok(())
 }
 
-/// The arguments of the whole system's main program are resolved.
-fn has_other_arguments(rt: &impl Abort, main: &ResolvedProgram) {
-    let word = ResolvedArg::Word(Word::Addr { area: 0, offset: 1 });
-    assert!(rt; args_at(main, 0) == Some([word].as_slice()));
-    assert!(rt; args_at(main, 1) == Some([ResolvedArg::Area(1)].as_slice()));
-    assert!(rt; args_at(main, 2) == Some([ResolvedArg::Number(65_536)].as_slice()));
-    let places = [ResolvedArg::Place(6), ResolvedArg::Place(2)];
-    assert!(rt; args_at(main, 3) == Some(places.as_slice()));
-    let test = [ResolvedArg::Test(TestKind::NotNeg), ResolvedArg::Place(6)];
-    assert!(rt; args_at(main, 4) == Some(test.as_slice()));
-    assert!(rt; args_at(main, 5) == Some([ResolvedArg::Program(0)].as_slice()));
-    let last = main.instrs.get(6);
-    assert!(rt; matches!(last, Some(last) if last.op == PitonOp::Ret && last.args.is_empty()));
+/// Whether the main program of the whole system has its instructions' arguments, and returns at last.
+fn has_other_arguments(main: &ResolvedProgram) -> bool {
+    has_arguments(main, &ARGUMENTS.1)
+        && matches!(main.instrs.last(), Some(last) if last.op == PitonOp::Ret)
 }
 
 #[test]
 fn resolves_other_arguments(rt: HostRuntime) -> Result<(), Fail> {
     let checked = checked_of(rt.alloc(), whole_system())?;
     let main = checked.resolved().programs.get(1);
-    has_other_arguments(&rt, main.ok_or("no main")?);
+    assert!(rt; matches!(main, Some(main) if has_other_arguments(main)));
     Ok(())
 }

@@ -1,6 +1,7 @@
 //! Instructions that are refused, each in each way that its row has. Where two hold, the first in the order of checks is the
 //! answer.
 
+use crate::texts::joined;
 use piton_machine::ErrorKind;
 use piton_machine::ErrorKind::{CtrlFull, Range, Tag, TempEmpty, TempFull};
 use std::alloc::{AllocError, Global};
@@ -15,9 +16,19 @@ pub fn refusal_text(
     words: &str,
     temp: u32,
     instruction: &str,
-) -> Result<String, AllocError> {
-    format!(in alloc;
-        "(piton main 6 {temp} 0 ((g (nat 4) (nat 5)) (h (nat 6))) ({words}) (main () ((v (nat 1))) ({instruction}) (dl l () (ret))) (p (x y) () (ret)))"
+) -> Result<Vec<u8>, AllocError> {
+    let temp = format!(in alloc; "{temp}")?;
+    joined(
+        alloc,
+        &[
+            b"(piton main 6 ",
+            temp.as_bytes(),
+            b" 0 ((g (nat 4) (nat 5)) (h (nat 6))) (",
+            words.as_bytes(),
+            b") (main () ((v (nat 1))) (",
+            instruction.as_bytes(),
+            b") (dl l () (ret))) (p (x y) () (ret)))",
+        ],
     )
 }
 

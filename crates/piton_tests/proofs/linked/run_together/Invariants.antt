@@ -1,7 +1,7 @@
 use Rattle.piton_machine.specs.Fits.{system_in}
 use Rattle.piton_machine.specs.Seen.{IsSeen}
-use Rattle.piton_tests.proofs.linked.walk_along.Given as goal
+use Rattle.piton_tests.proofs.linked.run_together.Given as goal
 
 -- the state is one of the system
 abbrev pub invariant-loop : goal.invariant-loop
-invariant-loop g l = IsSeen (system_in l.checked) l.state
+invariant-loop l = IsSeen (system_in l.checked) l.state
