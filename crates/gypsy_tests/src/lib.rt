@@ -15,3 +15,5 @@ mod rules;
 mod space;
 #[cfg(test)]
 mod syntax;
+#[cfg(test)]
+mod texts;

@@ -7,6 +7,7 @@ ghost use Rattle.gypsy_meaning.specs.Belongs.{BelongsTo};
 mod cases;
 mod wholes;
 
+use crate::texts::joined;
 use cases::{Case, Given, arrays, calls, numbers, work};
 use gypsy_check::{Accepted, check};
 use gypsy_meaning::{Current, MeanRun, Meaning, Moved};
@@ -77,10 +78,13 @@ fn sum(costs: &[u64]) -> u64 {
 
 /// Whether a run is at the end that the case says.
 fn is_at_end(case: &Case, meaning: &Meaning) -> bool {
-    meaning.ended()
-        && meaning.steps() == case.costs.len() as u64
-        && meaning.counted() == sum(case.costs)
-        && meaning.depth() == 1
+    let wanted = (true, case.costs.len() as u64, sum(case.costs), 1);
+    (
+        meaning.ended(),
+        meaning.steps(),
+        meaning.counted(),
+        meaning.depth(),
+    ) == wanted
         && is_condition(meaning.condition(), case.condition)
         && has_items(meaning.variables(), case.items)
 }
@@ -143,10 +147,17 @@ fn runs_so(
 
 /// The source of a case, once it is accepted.
 fn source_of_case(alloc: Global, case: &Case) -> Result<Accepted, Fail> {
-    let main = case.main;
-    let others = case.others;
-    let text = format!(in alloc; "(program main (proc main {main}) {others})")?;
-    accepted_of(alloc, text.as_str().as_bytes())
+    let text = joined(
+        alloc,
+        &[
+            b"(program main (proc main ",
+            case.main.as_bytes(),
+            b") ",
+            case.others.as_bytes(),
+            b")",
+        ],
+    )?;
+    accepted_of(alloc, &text)
 }
 
 /// Whether a case does what it says, step by step and in one run.
@@ -174,10 +185,8 @@ fn each_row_costs_what_it_says(rt: HostRuntime) -> Result<(), Fail> {
 
 /// Whether a run shows what it is to show.
 fn shows(whole: &Whole, meaning: &Meaning) -> bool {
-    meaning.steps() == whole.steps
-        && meaning.counted() == whole.counted
-        && meaning.place() == whole.place
-        && meaning.depth() == whole.depth
+    (meaning.steps(), meaning.counted()) == (whole.steps, whole.counted)
+        && (meaning.place(), meaning.depth()) == (whole.place, whole.depth)
         && is_condition(meaning.condition(), "normal")
         && has_names(meaning.variables(), whole.names)
         && has_items(meaning.variables(), whole.items)

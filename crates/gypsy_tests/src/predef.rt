@@ -1,29 +1,31 @@
 //! The programs' texts, and calls of them: what each leaves, in how many steps, and at what cost.
 
+use crate::texts::joined;
 use gypsy_predef::bodies;
 use piton_check::{Checked, check};
 use piton_machine::{PitonRun, State};
-use piton_syntax::{ArgText, InstrText, Program, WordItem, read_piton};
+use piton_syntax::{ArgText, InstrText, Program, System, WordItem, read_piton};
 use piton_words::Word;
 use stack_text::Named;
-use std::alloc::Global;
+use std::alloc::{AllocError, Global};
 use std::test::Fail;
 
 /// The programs as the table has them.
-const PROGRAMS: &str =
-    "(mg-simple-variable-assignment (d x) () (push-local x) (fetch-temp-stk) (push-local d) (deposit-temp-stk) (ret))
-(mg-simple-constant-assignment (d v) () (push-local v) (push-local d) (deposit-temp-stk) (ret))
-(mg-simple-variable-eq (b x y) () (push-local x) (fetch-temp-stk) (push-local y) (fetch-temp-stk) (eq) (push-local b) (deposit-temp-stk) (ret))
-(mg-simple-constant-eq (b x v) () (push-local x) (fetch-temp-stk) (push-local v) (eq) (push-local b) (deposit-temp-stk) (ret))
-(mg-integer-le (b x y) () (push-local y) (fetch-temp-stk) (push-local x) (fetch-temp-stk) (lt-int) (not-bool) (push-local b) (deposit-temp-stk) (ret))
-(mg-integer-unary-minus (d x) () (push-local x) (fetch-temp-stk) (push-constant (int -2147483648)) (eq) (test-bool-and-jump t L0) (push-local x) (fetch-temp-stk) (neg-int) (push-local d) (deposit-temp-stk) (ret) (dl L0 () (push-constant (nat 1))) (pop-global c-c) (ret))
-(mg-integer-add (d x y) ((t (int 0))) (push-constant (bool f)) (push-local x) (fetch-temp-stk) (push-local y) (fetch-temp-stk) (add-int-with-carry) (pop-local t) (test-bool-and-jump t L0) (push-local t) (push-local d) (deposit-temp-stk) (ret) (dl L0 () (push-constant (nat 1))) (pop-global c-c) (ret))
-(mg-integer-subtract (d x y) ((t (int 0))) (push-constant (bool f)) (push-local x) (fetch-temp-stk) (push-local y) (fetch-temp-stk) (sub-int-with-carry) (pop-local t) (test-bool-and-jump t L0) (push-local t) (push-local d) (deposit-temp-stk) (ret) (dl L0 () (push-constant (nat 1))) (pop-global c-c) (ret))
-(mg-boolean-or (b x y) () (push-local x) (fetch-temp-stk) (push-local y) (fetch-temp-stk) (or-bool) (push-local b) (deposit-temp-stk) (ret))
-(mg-boolean-and (b x y) () (push-local x) (fetch-temp-stk) (push-local y) (fetch-temp-stk) (and-bool) (push-local b) (deposit-temp-stk) (ret))
-(mg-boolean-not (b x) () (push-local x) (fetch-temp-stk) (not-bool) (push-local b) (deposit-temp-stk) (ret))
-(mg-index-array (d a i n) ((t (int 0))) (push-local i) (fetch-temp-stk) (set-local t) (test-int-and-jump neg L0) (push-local t) (push-local n) (lt-int) (test-bool-and-jump f L0) (push-local a) (push-local t) (int-to-nat) (add-nat) (fetch-temp-stk) (push-local d) (deposit-temp-stk) (ret) (dl L0 () (push-constant (nat 1))) (pop-global c-c) (ret))
-(mg-array-element-assignment (a i x n) ((t (int 0))) (push-local i) (fetch-temp-stk) (set-local t) (test-int-and-jump neg L0) (push-local t) (push-local n) (lt-int) (test-bool-and-jump f L0) (push-local x) (fetch-temp-stk) (push-local a) (push-local t) (int-to-nat) (add-nat) (deposit-temp-stk) (ret) (dl L0 () (push-constant (nat 1))) (pop-global c-c) (ret))";
+const PROGRAMS: [&str; 13] = [
+    "(mg-simple-variable-assignment (d x) () (push-local x) (fetch-temp-stk) (push-local d) (deposit-temp-stk) (ret))",
+    "(mg-simple-constant-assignment (d v) () (push-local v) (push-local d) (deposit-temp-stk) (ret))",
+    "(mg-simple-variable-eq (b x y) () (push-local x) (fetch-temp-stk) (push-local y) (fetch-temp-stk) (eq) (push-local b) (deposit-temp-stk) (ret))",
+    "(mg-simple-constant-eq (b x v) () (push-local x) (fetch-temp-stk) (push-local v) (eq) (push-local b) (deposit-temp-stk) (ret))",
+    "(mg-integer-le (b x y) () (push-local y) (fetch-temp-stk) (push-local x) (fetch-temp-stk) (lt-int) (not-bool) (push-local b) (deposit-temp-stk) (ret))",
+    "(mg-integer-unary-minus (d x) () (push-local x) (fetch-temp-stk) (push-constant (int -2147483648)) (eq) (test-bool-and-jump t L0) (push-local x) (fetch-temp-stk) (neg-int) (push-local d) (deposit-temp-stk) (ret) (dl L0 () (push-constant (nat 1))) (pop-global c-c) (ret))",
+    "(mg-integer-add (d x y) ((t (int 0))) (push-constant (bool f)) (push-local x) (fetch-temp-stk) (push-local y) (fetch-temp-stk) (add-int-with-carry) (pop-local t) (test-bool-and-jump t L0) (push-local t) (push-local d) (deposit-temp-stk) (ret) (dl L0 () (push-constant (nat 1))) (pop-global c-c) (ret))",
+    "(mg-integer-subtract (d x y) ((t (int 0))) (push-constant (bool f)) (push-local x) (fetch-temp-stk) (push-local y) (fetch-temp-stk) (sub-int-with-carry) (pop-local t) (test-bool-and-jump t L0) (push-local t) (push-local d) (deposit-temp-stk) (ret) (dl L0 () (push-constant (nat 1))) (pop-global c-c) (ret))",
+    "(mg-boolean-or (b x y) () (push-local x) (fetch-temp-stk) (push-local y) (fetch-temp-stk) (or-bool) (push-local b) (deposit-temp-stk) (ret))",
+    "(mg-boolean-and (b x y) () (push-local x) (fetch-temp-stk) (push-local y) (fetch-temp-stk) (and-bool) (push-local b) (deposit-temp-stk) (ret))",
+    "(mg-boolean-not (b x) () (push-local x) (fetch-temp-stk) (not-bool) (push-local b) (deposit-temp-stk) (ret))",
+    "(mg-index-array (d a i n) ((t (int 0))) (push-local i) (fetch-temp-stk) (set-local t) (test-int-and-jump neg L0) (push-local t) (push-local n) (lt-int) (test-bool-and-jump f L0) (push-local a) (push-local t) (int-to-nat) (add-nat) (fetch-temp-stk) (push-local d) (deposit-temp-stk) (ret) (dl L0 () (push-constant (nat 1))) (pop-global c-c) (ret))",
+    "(mg-array-element-assignment (a i x n) ((t (int 0))) (push-local i) (fetch-temp-stk) (set-local t) (test-int-and-jump neg L0) (push-local t) (push-local n) (lt-int) (test-bool-and-jump f L0) (push-local x) (fetch-temp-stk) (push-local a) (push-local t) (int-to-nat) (add-nat) (deposit-temp-stk) (ret) (dl L0 () (push-constant (nat 1))) (pop-global c-c) (ret))",
+];
 
 /// A call of a program, its variables' words at the bottom of the stack, each with a local that has its index.
 struct Case {
@@ -409,8 +411,8 @@ const CASES: [Case; 35] = [
     },
 ];
 
-fn programs() -> &'static str {
-    PROGRAMS
+fn programs() -> &'static [&'static str] {
+    &PROGRAMS
 }
 
 fn cases() -> &'static [Case] {
@@ -418,12 +420,35 @@ fn cases() -> &'static [Case] {
 }
 
 /// The text of a system of the programs after a main program.
-fn system_text(alloc: Global, stack: &str, variables: &str, code: &str) -> Result<String, Fail> {
-    let programs = programs();
-    let text = format!(in alloc;
-        "(piton main 20 20 0 ((c-c (nat 2))) ({stack}) (main () ({variables}) {code} (dl end () (ret))) {programs})"
+fn system_text(
+    alloc: Global,
+    stack: &str,
+    variables: &str,
+    code: &str,
+) -> Result<Vec<u8>, AllocError> {
+    let mut text = joined(
+        alloc,
+        &[
+            b"(piton main 20 20 0 ((c-c (nat 2))) (",
+            stack.as_bytes(),
+            b") (main () (",
+            variables.as_bytes(),
+            b") ",
+            code.as_bytes(),
+            b" (dl end () (ret)))",
+        ],
     )?;
+    push_programs(&mut text)?;
     Ok(text)
+}
+
+/// Appends the programs, and the parenthesis behind them.
+fn push_programs(text: &mut Vec<u8>) -> Result<(), AllocError> {
+    for program in programs() {
+        text.push(b'\n')?;
+        text.extend_from_slice(program.as_bytes())?;
+    }
+    text.extend_from_slice(b")")
 }
 
 /// The checked system of a text.
@@ -443,17 +468,20 @@ fn is_after(case: &Case, state: &State) -> bool {
         && state.area(0) == [Word::Nat(case.condition)].as_slice()
 }
 
+/// Whether a run of a checked system halts, and is then what the case says.
+fn does(alloc: Global, case: &Case, checked: &Checked) -> Result<bool, Fail> {
+    let mut state = State::start(alloc, checked)?;
+    let run = state.run(checked, 100);
+    Ok(matches!(run, PitonRun::Halted) && is_after(case, &state))
+}
+
 #[test]
 fn does_each_row(rt: HostRuntime) -> Result<(), Fail> {
     for case in cases() {
-        let text = system_text(rt.alloc(), case.stack, case.variables, case.code)?;
-        let checked = checked_of(rt.alloc(), text.as_str().as_bytes())?;
-        let mut state = State::start(rt.alloc(), &checked)?;
-        let run = state.run(&checked, 100);
         let code = case.code;
-        assert!(rt; matches!(run, PitonRun::Halted), "{code}: {run:?}");
-        let stack = state.stack();
-        assert!(rt; is_after(case, &state), "{code}: {stack:?}");
+        let text = system_text(rt.alloc(), case.stack, case.variables, code)?;
+        let checked = checked_of(rt.alloc(), &text)?;
+        assert!(rt; does(rt.alloc(), case, &checked)?, "{code}");
     }
     Ok(())
 }
@@ -530,15 +558,30 @@ fn is_program(program: &Program, other: &Program) -> bool {
             .all(|(instr, other)| is_instruction(instr, other))
 }
 
+/// Whether the programs are the thirteen of a system after its main program.
+fn are_programs(programs: &[Program], system: &System) -> bool {
+    [programs.len(), system.programs.len()] == [13, 14]
+        && programs
+            .iter()
+            .zip(system.programs.iter().skip(1))
+            .all(|(program, wanted)| is_program(program, wanted))
+}
+
+/// The checked system of the programs as the table has them.
+fn table(alloc: Global) -> Result<Checked, Fail> {
+    let text = system_text(alloc, "", "", "")?;
+    checked_of(alloc, &text)
+}
+
+/// The programs as they are written.
+fn written(alloc: Global) -> Result<Vec<Program>, Fail> {
+    Ok(bodies(alloc)?)
+}
+
 #[test]
 fn writes_the_table(rt: HostRuntime) -> Result<(), Fail> {
-    let text = system_text(rt.alloc(), "", "", "")?;
-    let checked = checked_of(rt.alloc(), text.as_str().as_bytes())?;
-    let made = bodies(rt.alloc())?;
-    assert!(rt; made.len() == 13);
-    let after_main = checked.system().programs.iter().skip(1);
-    for (program, wanted) in made.iter().zip(after_main) {
-        assert!(rt; is_program(program, wanted), "{program:?}");
-    }
+    let checked = table(rt.alloc())?;
+    let programs = written(rt.alloc())?;
+    assert!(rt; are_programs(&programs, checked.system()));
     Ok(())
 }

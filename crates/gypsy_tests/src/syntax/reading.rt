@@ -3,7 +3,6 @@
 use gypsy_syntax::{GypsyFault, print_gypsy, read_gypsy};
 use stack_text::TextRule;
 use std::alloc::{AllocError, Global};
-use std::process::Abort;
 use std::test::Fail;
 
 /// Texts that are no source's: the rule, and the place of the tree at fault, counted by hand. The last four have two faults.
@@ -155,18 +154,29 @@ fn faults() -> &'static [(&'static str, u8, u32)] {
     &FAULTS
 }
 
+/// Whether a text has this fault, or, if that is none, is printed again as it is read.
+fn reads_so(alloc: Global, text: &[u8], fault: Option<GypsyFault>) -> Result<bool, Fail> {
+    if text.len() > 1 << 31 {
+        return Err(Fail::from("too long"));
+    }
+    match read_gypsy(alloc, text) {
+        Err(found) => Ok(fault == Some(found)),
+        Ok(source) => {
+            let again = print_gypsy(alloc, &source)?;
+            Ok(fault.is_none() && again.as_slice() == text)
+        }
+    }
+}
+
 #[test]
 fn finds_the_least_fault(rt: HostRuntime) -> Result<(), Fail> {
     for (text, rule, place) in faults() {
-        assert!(rt; text.len() < 10000);
-        let wanted = GypsyFault::Form {
+        let fault = GypsyFault::Form {
             rule: *rule,
             place: *place,
         };
-        match read_gypsy(rt.alloc(), text.as_bytes()) {
-            Ok(_) => return Err(Fail::from("a text with a fault was read")),
-            Err(found) => assert!(rt; found == wanted, "{text}"),
-        }
+        let is_found = reads_so(rt.alloc(), text.as_bytes(), Some(fault))?;
+        assert!(rt; is_found, "{text}");
     }
     Ok(())
 }
@@ -287,30 +297,12 @@ fn repeated(
     Ok(text)
 }
 
-/// Reads a text, and prints what was read, or tells the fault.
-fn printed(
-    rt: &impl Abort,
-    alloc: Global,
-    text: &[u8],
-) -> Result<Result<Vec<u8>, GypsyFault>, Fail> {
-    assert!(rt; text.len() < 10_000_000);
-    match read_gypsy(alloc, text) {
-        Err(fault) => Ok(Err(fault)),
-        Ok(source) => Ok(Ok(print_gypsy(alloc, &source)?)),
-    }
-}
-
 #[test]
 fn reads_long_texts(rt: HostRuntime) -> Result<(), Fail> {
     for (head, item, count, tail, fault) in long() {
         let text = repeated(rt.alloc(), head, item, *count, tail)?;
-        match (printed(&rt, rt.alloc(), &text)?, *fault) {
-            (Ok(again), None) => assert!(rt; again == text, "{head}"),
-            (Err(found), Some((rule, place))) => {
-                assert!(rt; found == GypsyFault::Form { rule, place }, "{head}");
-            }
-            _ => return Err(Fail::from("a long text")),
-        }
+        let fault = fault.map(|(rule, place)| GypsyFault::Form { rule, place });
+        assert!(rt; reads_so(rt.alloc(), &text, fault)?, "{head}");
     }
     Ok(())
 }
@@ -340,17 +332,23 @@ fn parentheses() -> &'static [(usize, usize, GypsyFault)] {
     &PARENTHESES
 }
 
+/// Parentheses that open and close.
+fn nested(alloc: Global, opening: usize, closing: usize) -> Result<Vec<u8>, AllocError> {
+    let mut text = vec![in alloc; b'('; opening]?;
+    for _ in 0..closing {
+        text.push(b')')?;
+    }
+    Ok(text)
+}
+
 #[test]
 fn refuses_parentheses(rt: HostRuntime) -> Result<(), Fail> {
     for (opening, closing, wanted) in parentheses() {
-        let mut text = repeated(rt.alloc(), "", "(", *opening, "")?;
-        for _ in 0..*closing {
-            text.push(b')')?;
-        }
-        match printed(&rt, rt.alloc(), &text)? {
-            Ok(_) => return Err(Fail::from("parentheses were read")),
-            Err(found) => assert!(rt; found == *wanted),
-        }
+        let text = nested(rt.alloc(), *opening, *closing)?;
+        assert!(rt;
+            reads_so(rt.alloc(), &text, Some(*wanted))?,
+            "{opening} {closing}"
+        );
     }
     Ok(())
 }
