@@ -1,8 +1,13 @@
 //! A large source of the least size, as its text.
 
+ghost use Rattle.std.specs.Prelude.{IfOk};
+ghost use Rattle.gypsy_syntax.specs.Answers.{KeepsForm};
+ghost use Rattle.gypsy_syntax.specs.SourceView.{source_of};
+
 use gypsy_check::check;
 use gypsy_gen::large;
-use gypsy_syntax::print_gypsy;
+use gypsy_syntax::{Source, print_gypsy};
+use std::alloc::Global;
 use std::test::Fail;
 
 /// The source of number 1 and size 1.
@@ -11,22 +16,40 @@ const LEAST: &str = "(program main
 (proc p1 ((x integer)) () ((c integer 748)) () (mg-integer-add x x c)))
 ";
 
+/// The large source of a number and a size of 1 to 900.
+fn made(alloc: Global, number: u32, size: u32) -> Result<Source, Fail>
+    ensures { IfOk result (λ source. KeepsForm (source_of source)) }
+{
+    if size < 1 || size > 900 {
+        return Err(Fail::from("no such size"));
+    }
+    Ok(large(alloc, number, size)?)
+}
+
+/// What is printed of the source of number 1 and size 1.
+fn least(alloc: Global) -> Result<Vec<u8>, Fail> {
+    let source = made(alloc, 1, 1)?;
+    Ok(print_gypsy(alloc, &source)?)
+}
+
 #[test]
 fn the_least(rt: HostRuntime) -> Result<(), Fail> {
-    let source = large(rt.alloc(), 1, 1)?;
-    let text = print_gypsy(rt.alloc(), &source)?;
-    assert_eq!(rt; text.len(), 144);
-    let spelled = String::from_utf8(text)?;
-    assert_eq!(rt; spelled.as_str(), LEAST);
+    let text = least(rt.alloc())?;
+    assert!(rt; text.len() == 144);
+    assert!(rt; text.as_slice() == LEAST.as_bytes());
     Ok(())
+}
+
+/// Whether a large source is accepted.
+fn is_accepted(alloc: Global, number: u32, size: u32) -> Result<bool, Fail> {
+    let source = made(alloc, number, size)?;
+    Ok(check(alloc, source).is_ok())
 }
 
 #[test]
 fn each_is_accepted(rt: HostRuntime) -> Result<(), Fail> {
     for (number, size) in [(0u32, 1u32), (7, 40), (u32::MAX, 900)] {
-        assert!(rt; 1 <= size && size <= 900);
-        let source = large(rt.alloc(), number, size)?;
-        assert!(rt; check(rt.alloc(), source).is_ok(), "{number} {size}");
+        assert!(rt; is_accepted(rt.alloc(), number, size)?, "{number} {size}");
     }
     Ok(())
 }

@@ -1,17 +1,19 @@
 //! Runs at each level.
 
-ghost use Rattle.std.specs.Prelude.{IfOk};
+ghost use Rattle.std.specs.Prelude.{◌≤◌, ◌^◌, IfOk};
+ghost use Rattle.piton_machine.specs.Fits.{system_in};
+ghost use Rattle.piton_machine.specs.Placed.{placed};
 ghost use Rattle.level_debuggers.specs.Levels.{IsRunner};
 
 use fm_image::{Image, read_image};
 use fm_loader::{load, read_values};
 use fm_machine::Machine;
-use gypsy_check::check as check_source;
+use gypsy_check::{Accepted, check as check_source};
 use gypsy_meaning::Meaning;
 use gypsy_space::needs;
 use gypsy_syntax::read_gypsy;
 use level_debuggers::Runner;
-use piton_check::check as check_system;
+use piton_check::{Checked, check as check_system};
 use piton_linker::link;
 use piton_machine::State;
 use piton_syntax::read_piton;
@@ -57,23 +59,30 @@ fn push_registers(bytes: &mut Vec<u8>, picture: &Picture) -> Result<(), Fail> {
     push_number(bytes, picture.start)
 }
 
+fn push_words(bytes: &mut Vec<u8>, words: &[u32]) -> Result<(), Fail> {
+    let count = u32::try_from(words.len()).ok().ok_or("too many words")?;
+    push_number(bytes, count)?;
+    for word in words {
+        push_number(bytes, *word)?;
+    }
+    Ok(())
+}
+
+fn push_image(bytes: &mut Vec<u8>, picture: &Picture) -> Result<(), Fail> {
+    push_number(bytes, picture.size)?;
+    push_number(bytes, picture.final_pc)?;
+    push_registers(bytes, picture)?;
+    push_number(bytes, 0)?;
+    push_number(bytes, picture.condition)?;
+    push_number(bytes, 0)?;
+    push_slots(bytes, picture.slot)?;
+    push_words(bytes, picture.words)
+}
+
 /// The image of a picture, with 8, 8 and the window's end in r0 to r2.
 pub(crate) fn image_of(alloc: Global, picture: &Picture) -> Result<Image, Fail> {
     let mut bytes = Vec::from_slice(alloc, b"FM91\0\0\0\x01\0\0\0\0")?;
-    push_number(&mut bytes, picture.size)?;
-    push_number(&mut bytes, picture.final_pc)?;
-    push_registers(&mut bytes, picture)?;
-    push_number(&mut bytes, 0)?;
-    push_number(&mut bytes, picture.condition)?;
-    push_number(&mut bytes, 0)?;
-    push_slots(&mut bytes, picture.slot)?;
-    let count = u32::try_from(picture.words.len())
-        .ok()
-        .ok_or("too many words")?;
-    push_number(&mut bytes, count)?;
-    for word in picture.words {
-        push_number(&mut bytes, *word)?;
-    }
+    push_image(&mut bytes, picture)?;
     Ok(read_image(alloc, &bytes)?)
 }
 
@@ -100,15 +109,28 @@ pub(crate) fn of_image(alloc: Global, picture: &Picture) -> Result<Runner, Fail>
     Ok(Runner::Fm { image, machine })
 }
 
+/// The checked system of a text.
+fn checked_of(alloc: Global, text: &[u8]) -> Result<Checked, Fail> {
+    if text.len() > 1 << 31 {
+        return Err(Fail::from("too long"));
+    }
+    Ok(check_system(alloc, read_piton(alloc, text)?)?)
+}
+
+/// The checked system of a text whose words are few enough to be linked.
+fn linkable_of(alloc: Global, text: &[u8]) -> Result<Checked, Fail>
+    ensures { IfOk result (λ checked. (placed (system_in checked)).size ≤ 2 ^ 20) }
+{
+    let checked = checked_of(alloc, text)?;
+    let _linked = link(alloc, &checked)?;
+    Ok(checked)
+}
+
 /// A run of a system of Piton.
 pub(crate) fn of_system(alloc: Global, text: &[u8], picture: &Picture) -> Result<Runner, Fail>
     ensures { IfOk result IsRunner }
 {
-    if text.len() > 1 << 31 {
-        return Err(Fail::from("too long"));
-    }
-    let checked = check_system(alloc, read_piton(alloc, text)?)?;
-    let _linked = link(alloc, &checked)?;
+    let checked = linkable_of(alloc, text)?;
     let state = State::start(alloc, &checked)?;
     let image = image_of(alloc, picture)?;
     Ok(Runner::Piton {
@@ -116,6 +138,26 @@ pub(crate) fn of_system(alloc: Global, text: &[u8], picture: &Picture) -> Result
         image,
         state,
     })
+}
+
+/// The source of a text, once it is accepted.
+fn accepted_of(alloc: Global, text: &[u8]) -> Result<Accepted, Fail> {
+    if text.len() > 1 << 31 {
+        return Err(Fail::from("too long"));
+    }
+    Ok(check_source(alloc, read_gypsy(alloc, text)?)?)
+}
+
+/// The values of one integer.
+fn values_of(alloc: Global, number: i32) -> Result<Vec<Value>, Fail> {
+    let shape = Shape {
+        kind: Kind::Integer,
+        length: 0,
+    };
+    let items = Vec::from_slice(alloc, &[number])?;
+    let mut values = Vec::new(alloc);
+    values.push(Value::new(shape, items).ok_or("no value")?)?;
+    Ok(values)
 }
 
 /// A run of a source whose main procedure has one formal, an integer, with these sizes of the stacks.
@@ -128,18 +170,9 @@ pub(crate) fn of_source(
 ) -> Result<Runner, Fail>
     ensures { IfOk result IsRunner }
 {
-    if text.len() > 1 << 31 {
-        return Err(Fail::from("too long"));
-    }
-    let accepted = check_source(alloc, read_gypsy(alloc, text)?)?;
+    let accepted = accepted_of(alloc, text)?;
     let needs = needs(alloc, &accepted)?;
-    let shape = Shape {
-        kind: Kind::Integer,
-        length: 0,
-    };
-    let items = Vec::from_slice(alloc, &[value])?;
-    let mut values = Vec::new(alloc);
-    values.push(Value::new(shape, items).ok_or("no value")?)?;
+    let values = values_of(alloc, value)?;
     match Meaning::try_start(alloc, &accepted, &needs, &values, ctrl, temp)? {
         Some(meaning) => Ok(Runner::Gypsy {
             accepted,

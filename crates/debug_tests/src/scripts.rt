@@ -1,8 +1,7 @@
 //! Scripts, and the first fault of each.
 
 use debug_script::{Command, Line, ScriptFault, WatchWord, read_script};
-use std::alloc::Global;
-use std::process::Abort;
+use std::alloc::{AllocError, Global};
 use std::test::Fail;
 
 /// Texts, and what each is: its lines, or the rule and the number of the first line that is refused.
@@ -67,47 +66,75 @@ fn word_of(watch: WatchWord) -> &'static str {
     }
 }
 
-/// A line as a word or two, with its number.
-fn spelled(alloc: Global, line: &Line) -> Result<String, Fail> {
-    let number = line.line;
-    Ok(match line.command {
-        Command::Step { count } => format!(in alloc; "{number} step {count};")?,
-        Command::Show => format!(in alloc; "{number} show;")?,
-        Command::Up => format!(in alloc; "{number} up;")?,
+/// Appends the words of a command.
+fn push_command(alloc: Global, text: &mut Vec<u8>, command: Command) -> Result<(), AllocError> {
+    match command {
+        Command::Step { count } => {
+            text.extend_from_slice(b"step ")?;
+            text.extend_from_slice(count.to_string(alloc)?.as_bytes())
+        }
+        Command::Show => text.extend_from_slice(b"show"),
+        Command::Up => text.extend_from_slice(b"up"),
         Command::Attach { watch } => {
-            let word = word_of(watch);
-            format!(in alloc; "{number} attach {word};")?
+            text.extend_from_slice(b"attach ")?;
+            text.extend_from_slice(word_of(watch).as_bytes())
         }
         Command::Detach { watch } => {
-            let word = word_of(watch);
-            format!(in alloc; "{number} detach {word};")?
+            text.extend_from_slice(b"detach ")?;
+            text.extend_from_slice(word_of(watch).as_bytes())
         }
-    })
+    }
+}
+
+/// Appends each line as its number and its words.
+fn push_lines(alloc: Global, text: &mut Vec<u8>, lines: &[Line]) -> Result<(), AllocError> {
+    for line in lines {
+        text.extend_from_slice(line.line.to_string(alloc)?.as_bytes())?;
+        text.extend_from_slice(b" ")?;
+        push_command(alloc, text, line.command)?;
+        text.push(b';')?;
+    }
+    Ok(())
+}
+
+/// Lines, each as its number and its words.
+fn spelled(alloc: Global, lines: &[Line]) -> Result<Vec<u8>, AllocError> {
+    let mut text = Vec::new(alloc);
+    push_lines(alloc, &mut text, lines)?;
+    Ok(text)
+}
+
+/// The rule and the number of a line that is refused.
+fn refusal(alloc: Global, rule: u8, line: u32) -> Result<Vec<u8>, AllocError> {
+    let mut text = Vec::from_slice(alloc, b"D")?;
+    text.extend_from_slice(rule.to_string(alloc)?.as_bytes())?;
+    text.extend_from_slice(b" at ")?;
+    text.extend_from_slice(line.to_string(alloc)?.as_bytes())?;
+    Ok(text)
 }
 
 /// What a text is as a script.
-fn outcome(alloc: Global, text: &[u8]) -> Result<String, Fail> {
+fn outcome(alloc: Global, text: &[u8]) -> Result<Vec<u8>, Fail> {
     if text.len() > 1 << 31 {
         return Err(Fail::from("too long"));
     }
     match read_script(alloc, text) {
-        Ok(lines) => {
-            let mut all = String::new(alloc);
-            for line in lines.iter() {
-                all.push_str(spelled(alloc, line)?.as_str())?;
-            }
-            Ok(all)
-        }
-        Err(ScriptFault::Refused { rule, line }) => Ok(format!(in alloc; "D{rule} at {line}")?),
+        Ok(lines) => Ok(spelled(alloc, &lines)?),
+        Err(ScriptFault::Refused { rule, line }) => Ok(refusal(alloc, rule, line)?),
         Err(ScriptFault::Memory) => Err(Fail::from("out of memory")),
     }
+}
+
+/// Whether a text is this as a script.
+fn is(alloc: Global, text: &[u8], wanted: &str) -> Result<bool, Fail> {
+    let found = outcome(alloc, text)?;
+    Ok(found.as_slice() == wanted.as_bytes())
 }
 
 #[test]
 fn each_text(rt: HostRuntime) -> Result<(), Fail> {
     for (text, wanted) in cases() {
-        let found = outcome(rt.alloc(), text)?;
-        assert!(rt; found.as_str() == *wanted, "{text:?}: {found}");
+        assert!(rt; is(rt.alloc(), text, wanted)?, "{wanted}: {text:?}");
     }
     Ok(())
 }
@@ -122,21 +149,21 @@ fn long_line(alloc: Global, length: usize) -> Result<Vec<u8>, Fail> {
     Ok(line)
 }
 
-fn is(rt: &impl Abort, alloc: Global, text: &[u8], wanted: &str) -> Result<(), Fail> {
-    let found = outcome(alloc, text)?;
-    assert!(rt; found.as_str() == wanted, "{found}");
-    Ok(())
+/// Lines of at most 256 bytes, and of more.
+fn has_limit(alloc: Global) -> Result<[bool; 2], Fail> {
+    let (most, more) = (long_line(alloc, 256)?, long_line(alloc, 257)?);
+    Ok([is(alloc, &most, "1 step 1;")?, is(alloc, &more, "D6 at 1")?])
 }
 
 #[test]
 fn lines_of_256_bytes(rt: HostRuntime) -> Result<(), Fail> {
-    is(&rt, rt.alloc(), &long_line(rt.alloc(), 256)?, "1 step 1;")?;
-    is(&rt, rt.alloc(), &long_line(rt.alloc(), 257)?, "D6 at 1")?;
+    assert!(rt; has_limit(rt.alloc())? == [true, true]);
     let mut ended = long_line(rt.alloc(), 256)?;
     ended.extend_from_slice(b"\r\nup")?;
-    is(&rt, rt.alloc(), &ended, "1 step 1;2 up;")?;
+    assert!(rt; is(rt.alloc(), &ended, "1 step 1;2 up;")?);
     let tildes = vec![in rt.alloc(); b'~'; 256]?;
-    is(&rt, rt.alloc(), &tildes, "D1 at 1")
+    assert!(rt; is(rt.alloc(), &tildes, "D1 at 1")?);
+    Ok(())
 }
 
 /// A script of a mebibyte.
@@ -146,5 +173,6 @@ fn many_lines(rt: HostRuntime) -> Result<(), Fail> {
     for _ in 0..174_762 {
         text.extend_from_slice(b"\nshow\r")?;
     }
-    is(&rt, rt.alloc(), &text, "D6 at 174763")
+    assert!(rt; is(rt.alloc(), &text, "D6 at 174763")?);
+    Ok(())
 }

@@ -1,8 +1,7 @@
 //! Sessions at each level, by the scripts that they are given.
 
 use crate::runners::{Picture, of_image, of_source, of_system};
-use crate::transcript::{Lines, transcript};
-use std::process::Abort;
+use crate::transcript::{Lines, says};
 use std::test::Fail;
 
 /// No condition word.
@@ -50,8 +49,8 @@ fn sources() -> &'static [(&'static [u8], &'static str)] {
 fn runs_of_a_source(rt: HostRuntime) -> Result<(), Fail> {
     for (script, wanted) in sources() {
         let runner = of_source(rt.alloc(), ASSIGNS, 0, 100, 100)?;
-        let said = transcript(rt.alloc(), runner, script, Lines::Each)?;
-        assert!(rt; said.as_str() == *wanted, "{said}");
+        let is_said = says(rt.alloc(), runner, script, Lines::Each, wanted)?;
+        assert!(rt; is_said, "{wanted}");
     }
     Ok(())
 }
@@ -60,10 +59,9 @@ fn runs_of_a_source(rt: HostRuntime) -> Result<(), Fail> {
 fn a_call_without_room(rt: HostRuntime) -> Result<(), Fail> {
     let runner = of_source(rt.alloc(), RECURSIVE, 2, 23, 10)?;
     let script = b"attach peak\nattach last\nstep 100\nstep 1\ndetach peak\ndetach last";
-    let said = transcript(rt.alloc(), runner, script, Lines::Each)?;
     let wanted =
         "attached peak\nattached last\nnoroom 213 8\nnoroom 213 8\npeak 3\nlast 48 134 164 183 213 134 164 183\n";
-    assert!(rt; said.as_str() == wanted, "{said}");
+    assert!(rt; says(rt.alloc(), runner, script, Lines::Each, wanted)?);
     Ok(())
 }
 
@@ -92,8 +90,8 @@ fn refused() -> &'static [(&'static [u8], &'static str)] {
 fn a_refusal_ends_a_script(rt: HostRuntime) -> Result<(), Fail> {
     for (script, wanted) in refused() {
         let runner = of_source(rt.alloc(), RECURSIVE, 2, 23, 10)?;
-        let said = transcript(rt.alloc(), runner, script, Lines::Whole)?;
-        assert!(rt; said.as_str() == *wanted, "{said}");
+        let is_said = says(rt.alloc(), runner, script, Lines::Whole, wanted)?;
+        assert!(rt; is_said, "{wanted}");
     }
     Ok(())
 }
@@ -223,8 +221,8 @@ fn systems() -> &'static [(&'static [u8], Pictured, &'static [u8], &'static str)
 fn runs_of_a_system(rt: HostRuntime) -> Result<(), Fail> {
     for (text, picture, script, wanted) in systems() {
         let runner = of_system(rt.alloc(), text, &picture_of(*picture))?;
-        let said = transcript(rt.alloc(), runner, script, Lines::Each)?;
-        assert!(rt; said.as_str() == *wanted, "{said}");
+        let is_said = says(rt.alloc(), runner, script, Lines::Each, wanted)?;
+        assert!(rt; is_said, "{wanted}");
     }
     Ok(())
 }
@@ -261,8 +259,8 @@ fn images() -> &'static [(Pictured, &'static [u8], &'static str)] {
 fn runs_of_an_image(rt: HostRuntime) -> Result<(), Fail> {
     for (picture, script, wanted) in images() {
         let runner = of_image(rt.alloc(), &picture_of(*picture))?;
-        let said = transcript(rt.alloc(), runner, script, Lines::Each)?;
-        assert!(rt; said.as_str() == *wanted, "{said}");
+        let is_said = says(rt.alloc(), runner, script, Lines::Each, wanted)?;
+        assert!(rt; is_said, "{wanted}");
     }
     Ok(())
 }

@@ -1,5 +1,6 @@
 //! What a session says to a script.
 
+ghost use Rattle.std.specs.Prelude.{IfOk};
 ghost use Rattle.level_debuggers.specs.Levels.{IsRunner};
 ghost use Rattle.level_debuggers.specs.Sessions.{IsSession};
 
@@ -7,7 +8,8 @@ use debug_script::{Line, read_script};
 use level_debuggers::{
     CountWatch, LastWatch, PeakWatch, Runner, ScriptEnd, Session, Watch, follow,
 };
-use std::alloc::Global;
+use piton_machine::ErrorKind;
+use std::alloc::{AllocError, Global};
 use std::test::Fail;
 
 /// Whether the lines behind a refusal are followed too.
@@ -19,20 +21,58 @@ pub(crate) enum Lines {
     Whole,
 }
 
-fn end_text(alloc: Global, end: ScriptEnd) -> Result<String, Fail> {
-    Ok(match end {
-        ScriptEnd::Done => String::new(alloc),
-        ScriptEnd::NoRoom { place, after } => format!(in alloc; "noroom {place} {after}\n")?,
+/// Appends a line of a word and numbers.
+fn push_line(
+    alloc: Global,
+    text: &mut Vec<u8>,
+    word: &[u8],
+    numbers: &[u64],
+) -> Result<(), AllocError> {
+    text.extend_from_slice(word)?;
+    for number in numbers {
+        text.extend_from_slice(b" ")?;
+        text.extend_from_slice(number.to_string(alloc)?.as_bytes())?;
+    }
+    text.extend_from_slice(b"\n")
+}
+
+/// Appends the line of an error of Piton's machine.
+fn push_error(
+    alloc: Global,
+    text: &mut Vec<u8>,
+    kind: ErrorKind,
+    numbers: &[u64],
+) -> Result<(), AllocError> {
+    text.extend_from_slice(b"error ")?;
+    push_line(alloc, text, kind.to_string(alloc)?.as_bytes(), numbers)
+}
+
+/// Appends the line for how lines end, if there is one.
+fn push_end(alloc: Global, text: &mut Vec<u8>, end: ScriptEnd) -> Result<(), AllocError> {
+    match end {
+        ScriptEnd::Done => Ok(()),
+        ScriptEnd::NoRoom { place, after } => {
+            push_line(alloc, text, b"noroom", &[u64::from(place), after])
+        }
         ScriptEnd::Error {
             kind,
             program,
             place,
             after,
-        } => format!(in alloc; "error {kind} {program} {place} {after}\n")?,
-        ScriptEnd::Outside { address, after } => format!(in alloc; "outside {address} {after}\n")?,
-        ScriptEnd::NoneWaits { line } => format!(in alloc; "none waits {line}\n")?,
-        ScriptEnd::NoneAttached { line } => format!(in alloc; "none attached {line}\n")?,
-    })
+        } => {
+            let numbers = [u64::from(program), u64::from(place), after];
+            push_error(alloc, text, kind, &numbers)
+        }
+        ScriptEnd::Outside { address, after } => {
+            push_line(alloc, text, b"outside", &[u64::from(address), after])
+        }
+        ScriptEnd::NoneWaits { line } => {
+            push_line(alloc, text, b"none waits", &[u64::from(line)])
+        }
+        ScriptEnd::NoneAttached { line } => {
+            push_line(alloc, text, b"none attached", &[u64::from(line)])
+        }
+    }
 }
 
 /// Appends what a session says to lines, and how they end.
@@ -41,35 +81,74 @@ fn say(alloc: Global, session: &mut Session, lines: &[Line], text: &mut Vec<u8>)
     ensures { IsSession session.new }
 {
     let end = follow(alloc, session, lines, text)?;
-    Ok(text.extend_from_slice(end_text(alloc, end)?.as_bytes())?)
+    Ok(push_end(alloc, text, end)?)
 }
 
-/// What a session with a watch of each rule says to a script.
-pub(crate) fn transcript(
+/// Appends what a session says to each line as a script of its own.
+fn say_each(
+    alloc: Global,
+    session: &mut Session,
+    lines: &[Line],
+    text: &mut Vec<u8>,
+) -> Result<(), Fail>
+    requires { IsSession session.old }
+{
+    for line in lines {
+        say(alloc, session, &[*line], text)?;
+    }
+    Ok(())
+}
+
+/// A watch of each rule.
+fn each_watch(alloc: Global) -> Result<Vec<Box<dyn Watch>>, AllocError> {
+    let count = Box::new(alloc, CountWatch::new())?;
+    let last = Box::new(alloc, LastWatch::new())?;
+    let peak = Box::new(alloc, PeakWatch::new())?;
+    let watches: [Box<dyn Watch>; 3] = [count, last, peak];
+    Ok(Vec::from_array(alloc, watches)?)
+}
+
+/// The lines of a script.
+fn lines_of(alloc: Global, script: &[u8]) -> Result<Vec<Line>, Fail> {
+    if script.len() > 1 << 31 {
+        return Err(Fail::from("too long"));
+    }
+    Ok(read_script(alloc, script)?)
+}
+
+/// What a session says to lines.
+fn said(alloc: Global, session: &mut Session, lines: &[Line], by: Lines) -> Result<Vec<u8>, Fail>
+    requires { IsSession session.old }
+{
+    let mut text = Vec::new(alloc);
+    match by {
+        Lines::Each => say_each(alloc, session, lines, &mut text)?,
+        Lines::Whole => say(alloc, session, lines, &mut text)?,
+    }
+    Ok(text)
+}
+
+/// A session of a run, with a watch of each rule.
+fn session_of(alloc: Global, runner: Runner) -> Result<Session, Fail>
+    requires { IsRunner runner }
+    ensures { IfOk result IsSession }
+{
+    let watches = each_watch(alloc)?;
+    Ok(Session::new(alloc, runner, watches)?)
+}
+
+/// Whether a session with a watch of each rule says this to a script.
+pub(crate) fn says(
     alloc: Global,
     runner: Runner,
     script: &[u8],
     by: Lines,
-) -> Result<String, Fail>
+    wanted: &str,
+) -> Result<bool, Fail>
     requires { IsRunner runner }
 {
-    if script.len() > 1 << 31 {
-        return Err(Fail::from("too long"));
-    }
-    let mut watches: Vec<Box<dyn Watch>> = Vec::new(alloc);
-    watches.push(Box::new(alloc, CountWatch::new())?)?;
-    watches.push(Box::new(alloc, LastWatch::new())?)?;
-    watches.push(Box::new(alloc, PeakWatch::new())?)?;
-    let mut session = Session::new(alloc, runner, watches)?;
-    let mut text = Vec::new(alloc);
-    let lines = read_script(alloc, script)?;
-    match by {
-        Lines::Each => {
-            for line in &lines {
-                say(alloc, &mut session, &[*line], &mut text)?;
-            }
-        }
-        Lines::Whole => say(alloc, &mut session, lines.as_slice(), &mut text)?,
-    }
-    Ok(String::from_utf8(text)?)
+    let mut session = session_of(alloc, runner)?;
+    let lines = lines_of(alloc, script)?;
+    let text = said(alloc, &mut session, &lines, by)?;
+    Ok(text.as_slice() == wanted.as_bytes())
 }

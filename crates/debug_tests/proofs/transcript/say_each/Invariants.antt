@@ -1,5 +1,5 @@
 use Rattle.level_debuggers.specs.Sessions.{IsSession}
-use Rattle.debug_tests.proofs.transcript.transcript.Given as goal
+use Rattle.debug_tests.proofs.transcript.say_each.Given as goal
 
 abbrev pub invariant-loop-line : goal.invariant-loop-line
-invariant-loop-line l = IsSession l.session
+invariant-loop-line g l = IsSession l.session
