@@ -1,32 +1,46 @@
 //! Names by the rule's words, and bytes that just miss it.
 
 use stack_text::{Name, read_name};
+use std::alloc::Global;
 use std::collections::HashMap;
 use std::test::Fail;
 
+/// Names.
+const NAMES: [&str; 8] = [
+    "x",
+    "Z",
+    "a1",
+    "a-b_c*d$",
+    "mg-simple-constant-assignment",
+    "True",
+    "truer",
+    "falsehood",
+];
+
+/// Texts that are no names.
+const OTHERS: [&str; 12] = [
+    "", "true", "false", "1a", "-a", "_a", "*", "$x", "a b", "a.b", "a(", "a\u{e9}",
+];
+
+/// Whether a text is a name, which has its bytes.
+fn is_name(alloc: Global, text: &[u8]) -> Result<bool, Fail> {
+    let read = read_name(alloc, text)?;
+    Ok(matches!(&read, Some(name) if name.bytes() == text))
+}
+
+/// Whether a text is no name.
+fn is_no_name(alloc: Global, text: &[u8]) -> Result<bool, Fail> {
+    Ok(read_name(alloc, text)?.is_none())
+}
+
 #[test]
 fn reads_names(rt: HostRuntime) -> Result<(), Fail> {
-    let names = [
-        "x",
-        "Z",
-        "a1",
-        "a-b_c*d$",
-        "mg-simple-constant-assignment",
-        "True",
-        "truer",
-        "falsehood",
-    ];
-    for name in names {
-        let read = read_name(rt.alloc(), name.as_bytes())?;
-        let kept = read.as_ref().map(|name| name.bytes());
-        assert!(rt; kept == Some(name.as_bytes()), "{name} is a name");
+    for name in NAMES {
+        assert!(rt; is_name(rt.alloc(), name.as_bytes())?, "{name} is a name");
     }
-    let others = [
-        "", "true", "false", "1a", "-a", "_a", "*", "$x", "a b", "a.b", "a(", "a\u{e9}",
-    ];
-    for text in others {
+    for text in OTHERS {
         assert!(rt;
-            read_name(rt.alloc(), text.as_bytes())?.is_none(),
+            is_no_name(rt.alloc(), text.as_bytes())?,
             "{text} is no name"
         );
     }
@@ -36,9 +50,9 @@ fn reads_names(rt: HostRuntime) -> Result<(), Fail> {
 #[test]
 fn has_at_most_64_bytes(rt: HostRuntime) -> Result<(), Fail> {
     let mut bytes = vec![in rt.alloc(); b'n'; 64]?;
-    assert!(rt; read_name(rt.alloc(), &bytes)?.is_some());
+    assert!(rt; is_name(rt.alloc(), &bytes)?);
     bytes.push(b'n')?;
-    assert!(rt; read_name(rt.alloc(), &bytes)?.is_none());
+    assert!(rt; is_no_name(rt.alloc(), &bytes)?);
     Ok(())
 }
 
