@@ -183,13 +183,23 @@ fn each_row_costs_what_it_says(rt: HostRuntime) -> Result<(), Fail> {
     do_each(&rt, rt.alloc(), arrays())
 }
 
+/// Whether a run's numbers are those that it is to show.
+fn has_numbers(whole: &Whole, meaning: &Meaning) -> bool {
+    let counts = (meaning.steps(), meaning.counted());
+    let places = (meaning.place(), meaning.depth());
+    counts == (whole.steps, whole.counted) && places == (whole.place, whole.depth)
+}
+
+/// Whether variables are those that a run is to show.
+fn has_variables(whole: &Whole, variables: &[(Name, Value)]) -> bool {
+    has_names(variables, whole.names) && has_items(variables, whole.items)
+}
+
 /// Whether a run shows what it is to show.
 fn shows(whole: &Whole, meaning: &Meaning) -> bool {
-    (meaning.steps(), meaning.counted()) == (whole.steps, whole.counted)
-        && (meaning.place(), meaning.depth()) == (whole.place, whole.depth)
+    has_numbers(whole, meaning)
         && is_condition(meaning.condition(), "normal")
-        && has_names(meaning.variables(), whole.names)
-        && has_items(meaning.variables(), whole.items)
+        && has_variables(whole, meaning.variables())
 }
 
 /// Whether a run of at most so many steps answers and shows what it is to.
