@@ -106,10 +106,7 @@ fn called(alloc: Global, place: u32, label: &Tree, call: &Tree) -> Result<InstrT
 {
     match call {
         Tree::Atom { place: _, text: _ } => Err(no_instruction(place).into()),
-        Tree::List {
-            place: list_place,
-            items,
-        } => { called_items(alloc, place, label, *list_place, items) }
+        Tree::List { place: at, items } => called_items(alloc, place, label, *at, items),
     }
 }
 
