@@ -37,10 +37,11 @@ fn arguments(alloc: Global, rt: &(impl Env + AllocGlobal)) -> io::Result<Vec<Str
 fn run(rt: HostRuntime) -> io::Result<u8> {
     let alloc = rt.alloc();
     let words = arguments(alloc, &rt)?;
-    let mut watches: Vec<Box<dyn Watch>> = Vec::new(alloc);
-    watches.push(Box::new(alloc, CountWatch::new())?)?;
-    watches.push(Box::new(alloc, LastWatch::new())?)?;
-    watches.push(Box::new(alloc, PeakWatch::new())?)?;
+    let count = Box::new(alloc, CountWatch::new())?;
+    let last = Box::new(alloc, LastWatch::new())?;
+    let peak = Box::new(alloc, PeakWatch::new())?;
+    let watches: [Box<dyn Watch>; 3] = [count, last, peak];
+    let watches = Vec::from_array(alloc, watches)?;
     let mut shelf = FolderShelf::new(alloc, rt, PathBuf::new(alloc));
     let mut out = StdoutSink::new(rt);
     let mut kept = None;
