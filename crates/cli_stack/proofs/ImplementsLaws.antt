@@ -9,16 +9,23 @@ use Rattle.level_debuggers.specs.Tallies.{Watching}
 use Rattle.stack_build.specs.declared.fault.BuildFault.{BuildFault}
 use Rattle.stack_build.specs.Build.{BuiltOf, built, BuildsText}
 use Rattle.stack_build.specs.Joined.{BuiltImplements}
-use Rattle.cli_stack.proofs.FileLaws.{was_short, set_bytes}
-use Rattle.cli_stack.specs.declared.command.Command.{Command}
-use Rattle.cli_stack.specs.declared.command.Command.TheVariants as command
-use Rattle.cli_stack.specs.declared.driver.early_end.EarlyEnd.{EarlyEnd}
-use Rattle.cli_stack.specs.declared.role.Role.{Role}
-use Rattle.cli_stack.specs.declared.role.Role.TheVariants.{Source, Piton, Values, Image}
-use Rattle.cli_stack.specs.Roles.{limit_of}
-use Rattle.cli_stack.specs.Answer.{text_or_end, set_file, inputs_of, output_of, stored_by, answer_on, answer_to, answer_by}
+use Rattle.command_line.proofs.FileLaws.{was_short}
+use Rattle.command_line.specs.declared.command.Command.{Command}
+use Rattle.command_line.specs.declared.command.Command.TheVariants as command
+use Rattle.command_line.specs.declared.early_end.EarlyEnd.{EarlyEnd}
+use Rattle.command_line.specs.declared.role.Role.{Role}
+use Rattle.command_line.specs.declared.role.Role.TheVariants.{Source, Piton, Values, Image}
+use Rattle.command_line.specs.Roles.{limit_of}
+use Rattle.command_line.specs.Gathered.{text_or_end}
+use Rattle.command_line.specs.CommandFiles.{inputs_of, output_of}
+use Rattle.cli_stack.specs.Answer.{set_file, stored_by, answer_on, answer_to, answer_by}
 use Rattle.cli_stack.specs.Build.{image_stored}
 use Rattle.cli_stack.specs.Correct.{HoldsImplementation, StoresImplementation, Implements}
+
+-- the bytes of a file that is set
+abbrev pub set_bytes : Option (List ℕ × List ℕ) → List ℕ
+set_bytes None = []
+set_bytes (Some output) = output.1
 
 -- a source's text is short enough to be read
 is_readable : (text : List ℕ) → length text ≤ 1048576 → length text ≤ 2 ^ 31

@@ -1,5 +1,3 @@
-pub mod FileLaws
-pub mod GatherLaws
 pub mod ImplementsLaws
 pub mod KnownLaws
 pub mod LinkedLaws
@@ -9,8 +7,6 @@ pub mod MeanLaws
 pub mod MeansLaws
 pub mod PerformLaws
 pub mod PitonTextLaws
-pub mod PrintLaws
 pub mod PromisesLaws
 pub mod SizeLaws
 pub mod TellsLaws
-pub mod TextsLaws

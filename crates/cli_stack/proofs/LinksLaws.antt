@@ -18,21 +18,24 @@ use Rattle.piton_machine.specs.Placed.{placed}
 use Rattle.piton_linker.specs.Theorem.{ComesToStand}
 use Rattle.piton_linker.proofs.ProcessorLaws.{checked_runs}
 use Rattle.fm_machine.specs.State.{Fm}
-use Rattle.cli_stack.specs.declared.command.Command.{Command}
-use Rattle.cli_stack.specs.declared.command.Command.TheVariants as command
-use Rattle.cli_stack.specs.declared.driver.early_end.EarlyEnd.{EarlyEnd}
+use Rattle.display_maps.specs.Report.{shaped}
+use Rattle.command_line.specs.declared.command.Command.{Command}
+use Rattle.command_line.specs.declared.command.Command.TheVariants as command
+use Rattle.command_line.specs.declared.early_end.EarlyEnd.{EarlyEnd}
+use Rattle.command_line.specs.declared.role.Role.{Role}
+use Rattle.command_line.specs.declared.role.Role.TheVariants.{Source, Piton, Values, Image}
+use Rattle.command_line.specs.Roles.{limit_of}
+use Rattle.command_line.specs.Gathered.{text_or_end}
+use Rattle.command_line.specs.CommandFiles.{inputs_of, output_of}
+use Rattle.command_line.specs.Ends.{line}
+use Rattle.command_line.proofs.FileLaws.{was_short}
 use Rattle.cli_stack.specs.declared.reply.Verdict.{Verdict}
-use Rattle.cli_stack.specs.declared.role.Role.{Role}
-use Rattle.cli_stack.specs.declared.role.Role.TheVariants.{Source, Piton, Values, Image}
-use Rattle.cli_stack.specs.Roles.{limit_of}
 use Rattle.cli_stack.specs.Run.{outcome_reply, run_reply}
 use Rattle.cli_stack.specs.PitonText.{checked_in}
 use Rattle.cli_stack.specs.Pbuild.{linked_image, is_large, checked_stored}
-use Rattle.cli_stack.specs.Answer.{text_or_end, set_file, inputs_of, output_of, stored_by, answer_on, answer_to, answer_by}
-use Rattle.display_maps.specs.Report.{shaped}
-use Rattle.cli_stack.specs.Replies.{line}
+use Rattle.cli_stack.specs.Answer.{set_file, stored_by, answer_on, answer_to, answer_by}
 use Rattle.cli_stack.specs.Linked.{cost_of, RunsAs, TellsCosts, HoldsLinked, StoresLinked, Links}
-use Rattle.cli_stack.proofs.FileLaws.{was_short, set_bytes}
+use Rattle.cli_stack.proofs.ImplementsLaws.{set_bytes}
 use Rattle.cli_stack.proofs.KnownLaws.{text_is_checked}
 use Rattle.cli_stack.proofs.LinkedLaws.{image_fits}
 use Rattle.cli_stack.proofs.LoadedLaws.{image_loaded}

@@ -9,8 +9,8 @@ use Rattle.piton_machine.specs.Fits.{system_in}
 use Rattle.piton_machine.specs.Placed.{placed, loaded}
 use Rattle.piton_machine.proofs.SizeLaws.{length-placed}
 use Rattle.piton_machine.proofs.SoundLaws.{known}
-use Rattle.cli_stack.specs.Pbuild.{linked_image}
 use Rattle.stack_build.proofs.Windows.{all_stand}
+use Rattle.cli_stack.specs.Pbuild.{linked_image}
 
 -- the loaded machine is the placed one
 pub image_loaded : (c : CheckedOf) → IsChecked c → loader.loaded (linked_image (system_in c)) [] ≡ loaded (system_in c) (system_in c).stack

@@ -30,18 +30,20 @@ use Rattle.stack_build.specs.Starts.{or_values, shortage_of, unless_short, gypsy
 use Rattle.stack_build.specs.declared.fault.BuildFault.{BuildFault}
 use Rattle.stack_build.specs.Build.{source_in}
 use Rattle.stack_build.specs.Image.{formal_slots}
-use Rattle.cli_stack.specs.declared.command.Command.{Command}
-use Rattle.cli_stack.specs.declared.command.Command.TheVariants as command
-use Rattle.cli_stack.specs.declared.driver.early_end.EarlyEnd.{EarlyEnd}
+use Rattle.command_line.specs.declared.command.Command.{Command}
+use Rattle.command_line.specs.declared.command.Command.TheVariants as command
+use Rattle.command_line.specs.declared.early_end.EarlyEnd.{EarlyEnd}
+use Rattle.command_line.specs.declared.role.Role.{Role}
+use Rattle.command_line.specs.declared.role.Role.TheVariants.{Source, Piton, Image, Values, Script}
+use Rattle.command_line.specs.declared.status.Status.TheVariants.{Done}
+use Rattle.command_line.specs.Gathered.{Texts}
+use Rattle.command_line.specs.CommandFiles.{inputs_of, output_of}
 use Rattle.cli_stack.specs.declared.reply.Verdict.{Verdict}
 use Rattle.cli_stack.specs.declared.reply.Verdict.TheVariants as verdict
-use Rattle.cli_stack.specs.declared.role.Role.{Role}
-use Rattle.cli_stack.specs.declared.role.Role.TheVariants.{Source, Piton, Image, Values, Script}
-use Rattle.cli_stack.specs.declared.status.Status.TheVariants.{Done}
 use Rattle.cli_stack.specs.Replies.{ReplyOf, status_of, verdict_line}
 use Rattle.cli_stack.specs.SourceText.{unless_refused, accepted_in}
 use Rattle.cli_stack.specs.Mean.{said_text, mean_end_reply, mean_run_reply, mean_started_reply, mean_accepted_reply, mean_reply}
-use Rattle.cli_stack.specs.Answer.{Texts, inputs_of, output_of, reply_by, answer_with, answer_on, answer_to, answer_by}
+use Rattle.cli_stack.specs.Answer.{reply_by, answer_with, answer_on, answer_to, answer_by}
 use Rattle.cli_stack.specs.Correct.{IsReadable}
 use Rattle.cli_stack.specs.Means.{meaning_text, IsMeant, TellsSteps, Follows, FollowsMeanings, Means}
 use Rattle.cli_stack.proofs.TellsLaws.{both_there}

@@ -6,14 +6,17 @@ use Rattle.stack_shelf.specs.Files.{Files}
 use Rattle.level_debuggers.specs.Tallies.{Watching}
 use Rattle.stack_shelf.specs.Causes.{Counts, NoneFell}
 use Rattle.stack_shelf.specs.Shelf.{PartlyStored}
-use Rattle.cli_stack.specs.declared.command.Command.{Command}
-use Rattle.cli_stack.specs.declared.driver.early_end.EarlyEnd.{EarlyEnd}
-use Rattle.cli_stack.specs.declared.driver.early_end.EarlyEnd.TheVariants.{Missing, TooLong, ShelfFault, OutOfMemory}
-use Rattle.cli_stack.specs.declared.role.Role.{Role}
-use Rattle.cli_stack.specs.Answer.{Texts, names_of, Answer, answer_to, answer_on, gathered, set_file, inputs_of, output_of, stored_by, file_names}
+use Rattle.command_line.specs.declared.command.Command.{Command}
+use Rattle.command_line.specs.declared.early_end.EarlyEnd.{EarlyEnd}
+use Rattle.command_line.specs.declared.early_end.EarlyEnd.TheVariants.{Missing, TooLong, ShelfFault, OutOfMemory}
+use Rattle.command_line.specs.declared.role.Role.{Role}
+use Rattle.command_line.specs.Gathered.{Texts, gathered}
+use Rattle.command_line.specs.CommandFiles.{names_of, inputs_of, output_of, file_names}
+use Rattle.command_line.specs.Devices.{EndsAtOne, IsFaultAt, LeavesPart}
+use Rattle.command_line.proofs.GatherLaws.{rose_from}
+use Rattle.cli_stack.specs.Answer.{Answer, answer_to, answer_on, set_file, stored_by}
 use Rattle.cli_stack.specs.World.{ShelfOf, shelf_of}
-use Rattle.cli_stack.specs.Driver.{EndsAtOne, IsFaultAt, HasReason, LeavesPart, LeavesAs, Leaves}
-use Rattle.cli_stack.proofs.GatherLaws.{rose_from}
+use Rattle.cli_stack.specs.Driver.{HasReason, LeavesAs, Leaves}
 
 -- the file that it writes is one of its files
 own : (command : Command) (output : Role × List ℕ) → output_of command ≡ Some output → Contains (file_names (Some command)) output.1

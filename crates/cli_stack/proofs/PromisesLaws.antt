@@ -7,24 +7,26 @@ use Rattle.stack_shelf.specs.Files.{Files}
 use Rattle.level_debuggers.specs.Tallies.{Watching}
 use Rattle.stack_shelf.specs.Causes.{Rose}
 use Rattle.stack_shelf.specs.Shelf.{appended, PrefixAppended}
-use Rattle.cli_stack.specs.declared.command.Command.{Command}
+use Rattle.command_line.specs.declared.command.Command.{Command}
+use Rattle.command_line.specs.declared.early_end.EarlyEnd.{EarlyEnd}
+use Rattle.command_line.specs.declared.early_end.EarlyEnd.TheVariants as early
+use Rattle.command_line.specs.declared.status.Status.{Status}
+use Rattle.command_line.specs.declared.status.Status.TheVariants.{Missing, ShelfFault, SinkFault, Size, OutOfMemory}
+use Rattle.command_line.specs.Ends.{end_line}
+use Rattle.command_line.specs.CommandFiles.{input_names, file_names}
+use Rattle.command_line.proofs.PrintLaws.{nothing_printed}
 use Rattle.cli_stack.specs.declared.driver.conclude.Conclusion.{Conclusion}
-use Rattle.cli_stack.specs.declared.driver.early_end.EarlyEnd.{EarlyEnd}
-use Rattle.cli_stack.specs.declared.driver.early_end.EarlyEnd.TheVariants as early
 use Rattle.cli_stack.specs.declared.reply.Reply.{Reply}
 use Rattle.cli_stack.specs.declared.reply.Verdict.{Verdict}
 use Rattle.cli_stack.specs.declared.reply.Verdict.TheVariants as verdict
-use Rattle.cli_stack.specs.declared.status.Status.{Status}
-use Rattle.cli_stack.specs.declared.status.Status.TheVariants.{Missing, ShelfFault, SinkFault, Size, OutOfMemory}
-use Rattle.cli_stack.specs.Replies.{status_of, verdict_line, end_line}
-use Rattle.cli_stack.specs.Answer.{Answer, early_answer, files_after, input_names, file_names, answer_by}
+use Rattle.cli_stack.specs.Replies.{status_of, verdict_line}
+use Rattle.cli_stack.specs.Answer.{Answer, early_answer, files_after, answer_by}
 use Rattle.cli_stack.specs.World.{World}
 use Rattle.cli_stack.specs.Promises.{HoldsMachine, Agrees, RoseAt, RoseAndPrinted, opening_by, SizePrinted, HoldsPart, LeavesFiles, PrintsPrefix, PromisesOf}
 use Rattle.cli_stack.specs.Correct.{Implements, Tells}
 use Rattle.cli_stack.specs.Means.{Means}
 use Rattle.cli_stack.specs.Linked.{Links}
 use Rattle.cli_stack.specs.Driver.{HasReason, IsReplyTo, LeavesAs, Leaves, machine_kept, conclusion_of, Stopped, NotBegun, Concludes}
-use Rattle.cli_stack.proofs.PrintLaws.{nothing_printed}
 use Rattle.cli_stack.proofs.SizeLaws.{sizes_alone}
 
 -- 1. Statuses.

@@ -48,16 +48,18 @@ use Rattle.level_debuggers.specs.Tallies.{Watching}
 use Rattle.stack_build.specs.declared.start_fault.StartFault.{StartFault}
 use Rattle.stack_build.specs.Starts.{gypsy_start}
 use Rattle.stack_build.specs.Build.{BuiltOf, built, source_built, compiled, source_in, reading_fault, accepted_unless, accepted_by}
-use Rattle.cli_stack.specs.declared.command.Command.{Command}
-use Rattle.cli_stack.specs.declared.command.Command.TheVariants as command
+use Rattle.command_line.specs.declared.command.Command.{Command}
+use Rattle.command_line.specs.declared.command.Command.TheVariants as command
+use Rattle.command_line.specs.declared.role.Role.TheVariants as role
+use Rattle.command_line.specs.Gathered.{Texts, text_of}
+use Rattle.command_line.specs.CommandFiles.{output_of}
 use Rattle.cli_stack.specs.declared.reply.Reply.{Reply}
 use Rattle.cli_stack.specs.declared.reply.SizeOf.{SizeOf}
 use Rattle.cli_stack.specs.declared.reply.SizeOf.TheVariants.{Words}
 use Rattle.cli_stack.specs.declared.reply.Verdict.{Verdict}
 use Rattle.cli_stack.specs.declared.reply.Verdict.TheVariants as verdict
-use Rattle.cli_stack.specs.declared.role.Role.TheVariants as role
 use Rattle.cli_stack.specs.Replies.{ReplyOf, verdict_alone, judgement_reply}
-use Rattle.cli_stack.specs.Answer.{Texts, text_of, output_of, reply_by}
+use Rattle.cli_stack.specs.Answer.{reply_by}
 use Rattle.cli_stack.specs.Go.{go_reply}
 use Rattle.cli_stack.specs.Run.{end_reply, run_reply, values_reply, image_reply}
 use Rattle.cli_stack.specs.Show.{listing_reply}

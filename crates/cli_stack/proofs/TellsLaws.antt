@@ -21,19 +21,21 @@ use Rattle.stack_build.specs.Build.{built, BuildsText}
 use Rattle.stack_build.specs.Implements.{meaning_shown, FitsFormals, Finishes}
 use Rattle.stack_build.specs.Implements as meant
 use Rattle.stack_build.specs.Joined.{BuiltImplements, BuiltTakesValues}
-use Rattle.cli_stack.specs.declared.command.Command.{Command}
-use Rattle.cli_stack.specs.declared.command.Command.TheVariants as command
-use Rattle.cli_stack.specs.declared.driver.early_end.EarlyEnd.{EarlyEnd}
+use Rattle.command_line.specs.declared.command.Command.{Command}
+use Rattle.command_line.specs.declared.command.Command.TheVariants as command
+use Rattle.command_line.specs.declared.early_end.EarlyEnd.{EarlyEnd}
+use Rattle.command_line.specs.declared.role.Role.{Role}
+use Rattle.command_line.specs.declared.role.Role.TheVariants.{Source, Piton, Image, Values, Script}
+use Rattle.command_line.specs.declared.words.reader.Level.{Level}
+use Rattle.command_line.specs.Roles.{limit_of}
+use Rattle.command_line.specs.Gathered.{Texts, text_or_end, gathered}
+use Rattle.command_line.specs.CommandFiles.{inputs_of, output_of}
 use Rattle.cli_stack.specs.declared.reply.Verdict.{Verdict}
 use Rattle.cli_stack.specs.declared.reply.Verdict.TheVariants.{Done}
-use Rattle.cli_stack.specs.declared.role.Role.{Role}
-use Rattle.cli_stack.specs.declared.role.Role.TheVariants.{Source, Piton, Image, Values, Script}
-use Rattle.cli_stack.specs.declared.words.reader.Level.{Level}
-use Rattle.cli_stack.specs.Roles.{limit_of}
 use Rattle.cli_stack.specs.Replies.{ReplyOf, status_of, verdict_line}
 use Rattle.cli_stack.specs.Go.{go_reply}
 use Rattle.cli_stack.specs.Run.{outcome_reply, run_reply, image_file_reply}
-use Rattle.cli_stack.specs.Answer.{Texts, text_or_end, gathered, inputs_of, output_of, reply_by, answer_with, answer_on, answer_to, answer_by}
+use Rattle.cli_stack.specs.Answer.{reply_by, answer_with, answer_on, answer_to, answer_by}
 use Rattle.cli_stack.specs.Correct.{IsReadable, IsBuilt, IsRead, TellsMeaning, HasImage, TellsMeanings, Tells}
 
 -- 1. A run that is long enough tells the meaning.

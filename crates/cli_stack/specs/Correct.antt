@@ -12,13 +12,14 @@ use Rattle.gypsy_meaning.specs.Calls.{Way}
 use Rattle.stack_build.specs.Build.{BuiltOf, built, source_in}
 use Rattle.stack_build.specs.Implements.{meaning_shown, FitsFormals, Finishes}
 use Rattle.stack_build.specs.Implements as meant
-use Rattle.cli_stack.specs.declared.command.Command.{Command}
-use Rattle.cli_stack.specs.declared.command.Command.TheVariants.{Mean, Pit, Build, Run, Go, Debug, Big}
-use Rattle.cli_stack.specs.declared.role.Role.{Role}
-use Rattle.cli_stack.specs.declared.role.Role.TheVariants.{Source, Image, Values}
-use Rattle.cli_stack.specs.declared.status.Status.TheVariants.{Done}
-use Rattle.cli_stack.specs.Roles.{limit_of}
-use Rattle.cli_stack.specs.Answer.{Answer, inputs_of, output_of}
+use Rattle.command_line.specs.declared.command.Command.{Command}
+use Rattle.command_line.specs.declared.command.Command.TheVariants.{Mean, Pit, Build, Run, Go, Debug, Big}
+use Rattle.command_line.specs.declared.role.Role.{Role}
+use Rattle.command_line.specs.declared.role.Role.TheVariants.{Source, Image, Values}
+use Rattle.command_line.specs.declared.status.Status.TheVariants.{Done}
+use Rattle.command_line.specs.Roles.{limit_of}
+use Rattle.command_line.specs.CommandFiles.{inputs_of, output_of}
+use Rattle.cli_stack.specs.Answer.{Answer}
 
 -- the command reads the file of this name in this role
 abbrev pub ReadsFile : Command → Role → List ℕ → Type 0

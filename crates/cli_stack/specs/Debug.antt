@@ -18,10 +18,10 @@ use Rattle.level_debuggers.specs.Walks.{SessionOf}
 use Rattle.piton_machine.specs.declared.error_kind.ErrorKind.{ErrorKind}
 use Rattle.stack_build.specs.declared.start_fault.StartFault.{StartFault}
 use Rattle.stack_build.specs.Starts.{gypsy_start, system_start, image_start}
+use Rattle.command_line.specs.declared.words.reader.Level.{Level}
+use Rattle.command_line.specs.declared.words.reader.Level.TheVariants.{Gypsy, Piton, Fm9001}
 use Rattle.cli_stack.specs.declared.reply.Verdict.{Verdict}
 use Rattle.cli_stack.specs.declared.reply.Verdict.TheVariants.{Done, Usage, Outside, NoRoom, Error, Script}
-use Rattle.cli_stack.specs.declared.words.reader.Level.{Level}
-use Rattle.cli_stack.specs.declared.words.reader.Level.TheVariants.{Gypsy, Piton, Fm9001}
 use Rattle.cli_stack.specs.Replies.{ReplyOf, verdict_alone}
 use Rattle.cli_stack.specs.SourceText.{accepted_in, start_verdict}
 

@@ -1,57 +1,28 @@
 -- What the functions of the driver say to one another.
-use Rattle.std.specs.Prelude.{◌≡◌, ◌≢◌, ◌⊎◌, ℕ, ◌∷◌, [], ◌++◌, List, Option, Some, None, Result, Ok, Err, Contains, All, IsSomeAnd}
+use Rattle.std.specs.Prelude.{◌≡◌, ◌⊎◌, ℕ, ◌++◌, List, Option, Some, None, Result, Ok, Err, IsSomeAnd}
 use Rattle.fm_machine.specs.State.{Seen}
 use Rattle.stack_shelf.specs.Files.{Files}
 use Rattle.level_debuggers.specs.Tallies.{Watching}
 use Rattle.stack_shelf.specs.Causes.{Counts, Rose}
-use Rattle.stack_shelf.specs.Shelf.{PartlyStored, appended, PrefixAppended}
-use Rattle.cli_stack.specs.declared.command.Command.{Command}
+use Rattle.stack_shelf.specs.Shelf.{appended, PrefixAppended}
+use Rattle.command_line.specs.declared.command.Command.{Command}
+use Rattle.command_line.specs.declared.early_end.EarlyEnd.{EarlyEnd}
+use Rattle.command_line.specs.declared.early_end.EarlyEnd.TheVariants.{Missing, TooLong, ShelfFault, OutOfMemory}
+use Rattle.command_line.specs.declared.status.Status.{Status}
+use Rattle.command_line.specs.declared.status.Status.TheVariants as exit
+use Rattle.command_line.specs.Devices.{EndsAtOne}
+use Rattle.command_line.specs.Ends.{end_status, end_line}
+use Rattle.command_line.specs.Gathered.{Texts}
+use Rattle.command_line.specs.CommandFiles.{input_names, file_names}
 use Rattle.cli_stack.specs.declared.driver.conclude.Conclusion.{Conclusion}
-use Rattle.cli_stack.specs.declared.driver.early_end.EarlyEnd.{EarlyEnd}
-use Rattle.cli_stack.specs.declared.driver.early_end.EarlyEnd.TheVariants.{Missing, TooLong, ShelfFault, OutOfMemory}
 use Rattle.cli_stack.specs.declared.reply.Reply.{Reply}
 use Rattle.cli_stack.specs.declared.reply.Verdict.TheVariants.{Usage}
-use Rattle.cli_stack.specs.declared.status.Status.{Status}
-use Rattle.cli_stack.specs.declared.status.Status.TheVariants as exit
-use Rattle.cli_stack.specs.Replies.{status_of, verdict_line, reply_of, verdict_alone, end_status, end_line}
-use Rattle.cli_stack.specs.Answer.{Answer, Texts, reply_by, answer_with, early_answer, answer_by, files_after, input_names, file_names}
+use Rattle.cli_stack.specs.Replies.{status_of, verdict_line, reply_of, verdict_alone}
+use Rattle.cli_stack.specs.Answer.{Answer, reply_by, answer_with, early_answer, answer_by, files_after}
 use Rattle.cli_stack.specs.World.{ShelfOf, OutOf}
 use Rattle.cli_stack.specs.Promises.{HoldsPart, FaultRose}
 
--- 1. Fetching and storing.
-
--- what a call returned, seen by view, is what the definition gives, unless the shelf failed or memory ran out
-abbrev pub Gives : {X Y : Type 0} → (X → Y) → Result X EarlyEnd → Result Y EarlyEnd → Type 0
-Gives view (Ok x) gives = gives ≡ Ok (view x)
-Gives view (Err (Missing name)) gives = gives ≡ Err (Missing name)
-Gives view (Err (TooLong limit)) gives = gives ≡ Err (TooLong limit)
-Gives view (Err (ShelfFault name)) gives = Unit {0}
-Gives view (Err OutOfMemory) gives = Unit {0}
-
--- why a command ended early at this name
-abbrev pub EndsAt : Counts → Counts → List ℕ → EarlyEnd → Type 0
-EndsAt before after name (Missing missing) = (missing ≡ name) × Rose (before.absences name) (after.absences name)
-EndsAt before after name (TooLong limit) = Rose (before.overruns name) (after.overruns name)
-EndsAt before after name (ShelfFault failed) = (failed ≡ name) × Rose (before.faults name) (after.faults name)
-EndsAt before after name OutOfMemory = Unit {0}
-
--- the same for one of these names
-abbrev pub EndsAtOne : Counts → Counts → List (List ℕ) → EarlyEnd → Type 0
-EndsAtOne before after names OutOfMemory = Unit {0}
-EndsAtOne before after names end = (name : List ℕ) × Contains names name × EndsAt before after name end
-
--- what a store that failed, or whose fault could not be named, leaves
-abbrev pub LeavesPart : Option Files → Option Files → Counts → Counts → List ℕ → List ℕ → Type 0
-LeavesPart old new before after name bytes =
-    (new ≡ old) ⊎ (PartlyStored old new name bytes × Rose (before.faults name) (after.faults name))
-
--- a failure at this name, or out of memory
-abbrev pub IsFaultAt : Counts → Counts → List ℕ → EarlyEnd → Type 0
-IsFaultAt before after name (Missing missing) = ⊥
-IsFaultAt before after name (TooLong limit) = ⊥
-IsFaultAt before after name end = EndsAt before after name end
-
--- 2. Performing a command.
+-- 1. Performing a command.
 
 -- why a command ended early: at a missing or long input, or by a failure at a file of its own
 abbrev pub HasReason : Counts → Counts → Option Command → EarlyEnd → Type 0
@@ -80,13 +51,7 @@ LeavesAs answer names files before after (Err OutOfMemory) =
 abbrev pub Leaves : Option Command → List Watching → Files → ShelfOf → ShelfOf → Result Reply EarlyEnd → Type 0
 Leaves command watches files before after ran = LeavesAs (answer_by command watches files) (file_names command) files before after ran
 
--- 3. Printing.
-
--- a line ends with its first line feed, or it has none and nothing follows
-abbrev pub IsFirstLine : List ℕ → List ℕ → Type 0
-IsFirstLine line rest =
-    (All (λ byte. byte ≢ 10) line × (rest ≡ []))
-    ⊎ ((before : List ℕ) × (line ≡ before ++ 10 ∷ []) × All (λ byte. byte ≢ 10) before)
+-- 2. Printing.
 
 -- the place for the machine afterwards: as before where none was run
 abbrev pub machine_kept : Option Seen → Option Seen → Option Seen

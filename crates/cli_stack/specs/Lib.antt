@@ -5,12 +5,7 @@ pub mod Means
 pub mod Linked
 pub mod Answer
 pub mod World
-pub mod Status
 pub mod Replies
-pub mod Roles
--- the words of the commands
-pub mod Words
-pub mod Rows
 -- a page for each command
 pub mod SourceText
 pub mod Check

@@ -12,9 +12,10 @@ use Rattle.gypsy_meaning.specs.Shown.{condition_at, names_at}
 use Rattle.display_maps.specs.Running.{run_lines}
 use Rattle.stack_build.specs.declared.start_fault.StartFault.{StartFault}
 use Rattle.stack_build.specs.Starts.{gypsy_start}
+use Rattle.command_line.specs.Ends.{line}
 use Rattle.cli_stack.specs.declared.reply.Verdict.{Verdict}
 use Rattle.cli_stack.specs.declared.reply.Verdict.TheVariants.{Unfinished, NoRoom}
-use Rattle.cli_stack.specs.Replies.{ReplyOf, verdict_alone, all_said, line}
+use Rattle.cli_stack.specs.Replies.{ReplyOf, verdict_alone, all_said}
 use Rattle.cli_stack.specs.SourceText.{accepted_in, start_verdict}
 
 -- so many steps at this cost, a condition, and variables by their names and values

@@ -14,11 +14,12 @@ use Rattle.gypsy_meaning.specs.Seen.{Stage, Finished, IsEnd, opening, run_of, va
 use Rattle.gypsy_meaning.specs.Shown.{condition_at, names_at}
 use Rattle.stack_build.specs.Build.{source_in}
 use Rattle.stack_build.specs.Image.{formal_slots}
-use Rattle.cli_stack.specs.declared.command.Command.{Command}
-use Rattle.cli_stack.specs.declared.command.Command.TheVariants.{Mean}
-use Rattle.cli_stack.specs.declared.role.Role.TheVariants.{Source, Values}
-use Rattle.cli_stack.specs.declared.status.Status.TheVariants.{Done}
-use Rattle.cli_stack.specs.Answer.{Answer, inputs_of, output_of}
+use Rattle.command_line.specs.declared.command.Command.{Command}
+use Rattle.command_line.specs.declared.command.Command.TheVariants.{Mean}
+use Rattle.command_line.specs.declared.role.Role.TheVariants.{Source, Values}
+use Rattle.command_line.specs.declared.status.Status.TheVariants.{Done}
+use Rattle.command_line.specs.CommandFiles.{inputs_of, output_of}
+use Rattle.cli_stack.specs.Answer.{Answer}
 use Rattle.cli_stack.specs.Correct.{IsReadable}
 use Rattle.cli_stack.specs.Mean.{said_text}
 

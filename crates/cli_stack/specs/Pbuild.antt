@@ -9,10 +9,11 @@ use Rattle.piton_check.specs.Instruction.{SystemView}
 use Rattle.piton_machine.specs.Fits.{system_in}
 use Rattle.piton_machine.specs.Placed.{placed}
 use Rattle.piton_linker.specs.Layouts.{trimmed}
+use Rattle.command_line.specs.Ends.{line}
 use Rattle.cli_stack.specs.declared.reply.SizeOf.TheVariants.{Words}
 use Rattle.cli_stack.specs.declared.reply.Verdict.{Verdict}
 use Rattle.cli_stack.specs.declared.reply.Verdict.TheVariants.{Size}
-use Rattle.cli_stack.specs.Replies.{ReplyOf, verdict_alone, all_said, line}
+use Rattle.cli_stack.specs.Replies.{ReplyOf, verdict_alone, all_said}
 use Rattle.cli_stack.specs.PitonText.{checked_in}
 
 -- the image of a placed system: without slots, and without a condition word

@@ -3,7 +3,8 @@ use Rattle.std.specs.Prelude.{ℕ, List, ◌++◌, Option, Some, None, Result, O
 use Rattle.piton_syntax.specs.Printed.{piton_text}
 use Rattle.piton_syntax.specs.Systems.{SystemOf}
 use Rattle.stack_build.specs.declared.fault.BuildFault.{BuildFault}
-use Rattle.cli_stack.specs.Replies.{ReplyOf, verdict_alone, all_said, line}
+use Rattle.command_line.specs.Ends.{line}
+use Rattle.cli_stack.specs.Replies.{ReplyOf, verdict_alone, all_said}
 use Rattle.cli_stack.specs.SourceText.{build_verdict}
 
 -- what is stored: the text of the generated system

@@ -5,18 +5,20 @@ use Rattle.stack_shelf.specs.Files.{Files}
 use Rattle.level_debuggers.specs.Tallies.{Watching}
 use Rattle.stack_shelf.specs.Causes.{Counts, Rose}
 use Rattle.stack_shelf.specs.Shelf.{PartlyStored, appended, PrefixAppended}
-use Rattle.cli_stack.specs.declared.command.Command.{Command}
-use Rattle.cli_stack.specs.declared.command.Command.TheVariants.{Big}
-use Rattle.cli_stack.specs.declared.driver.early_end.EarlyEnd.TheVariants as end
+use Rattle.command_line.specs.declared.command.Command.{Command}
+use Rattle.command_line.specs.declared.command.Command.TheVariants.{Big}
+use Rattle.command_line.specs.declared.early_end.EarlyEnd.TheVariants as end
+use Rattle.command_line.specs.declared.role.Role.TheVariants.{Image}
+use Rattle.command_line.specs.declared.status.Status.{Status}
+use Rattle.command_line.specs.declared.status.Status.TheVariants.{Missing, ShelfFault, SinkFault, Size, OutOfMemory}
+use Rattle.command_line.specs.Status.{status_code}
+use Rattle.command_line.specs.Rows.{command_of}
+use Rattle.command_line.specs.Ends.{end_line}
+use Rattle.command_line.specs.CommandFiles.{input_names, file_names}
 use Rattle.cli_stack.specs.declared.reply.SizeOf.{SizeOf}
 use Rattle.cli_stack.specs.declared.reply.Verdict.TheVariants as verdict
-use Rattle.cli_stack.specs.declared.role.Role.TheVariants.{Image}
-use Rattle.cli_stack.specs.declared.status.Status.{Status}
-use Rattle.cli_stack.specs.declared.status.Status.TheVariants.{Missing, ShelfFault, SinkFault, Size, OutOfMemory}
-use Rattle.cli_stack.specs.Status.{status_code}
-use Rattle.cli_stack.specs.Rows.{command_of}
-use Rattle.cli_stack.specs.Replies.{verdict_line, end_line}
-use Rattle.cli_stack.specs.Answer.{Answer, files_after, input_names, file_names, answer}
+use Rattle.cli_stack.specs.Replies.{verdict_line}
+use Rattle.cli_stack.specs.Answer.{Answer, files_after, answer}
 use Rattle.cli_stack.specs.World.{World}
 use Rattle.cli_stack.specs.Correct.{StoresFile, sizes_of, Implements, Tells}
 use Rattle.cli_stack.specs.Means.{Means}

@@ -1,5 +1,5 @@
 -- The ends of a command, with their exit statuses and their lines.
-use Rattle.std.specs.Prelude.{ℕ, List, [], ◌∷◌, ◌++◌, Option, None, Result, Ok, Err, codes}
+use Rattle.std.specs.Prelude.{ℕ, List, [], ◌++◌, Option, None, Result, Ok, Err, codes}
 use Rattle.std.specs.Option.{option_map}
 use Rattle.std.specs.Fmt.{decimal}
 use Rattle.fm_machine.specs.State.{Fm, Seen}
@@ -8,8 +8,9 @@ use Rattle.piton_machine.specs.declared.error_kind.ErrorKind.{ErrorKind}
 use Rattle.piton_machine.specs.declared.error_kind.ErrorKind.TheVariants as kind
 use Rattle.stack_text.specs.declared.text_fault.TextRule.{TextRule}
 use Rattle.stack_text.specs.declared.text_fault.TextRule.TheVariants as text
-use Rattle.cli_stack.specs.declared.status.Status.{Status}
-use Rattle.cli_stack.specs.declared.status.Status.TheVariants as status
+use Rattle.command_line.specs.declared.status.Status.{Status}
+use Rattle.command_line.specs.declared.status.Status.TheVariants as status
+use Rattle.command_line.specs.Ends.{line}
 use Rattle.cli_stack.specs.declared.reply.RuleLetter.{RuleLetter}
 use Rattle.cli_stack.specs.declared.reply.RuleLetter.TheVariants.{G, M, S, P, Q}
 use Rattle.cli_stack.specs.declared.reply.SizeOf.{SizeOf}
@@ -18,12 +19,6 @@ use Rattle.cli_stack.specs.declared.reply.Verdict.{Verdict}
 use Rattle.cli_stack.specs.declared.reply.Verdict.TheVariants.{Done, Usage, Refused, Values, Image, Unfinished}
 use Rattle.cli_stack.specs.declared.reply.Verdict.TheVariants.{Outside, Error, NoRoom, Script, Size}
 use Rattle.cli_stack.specs.declared.reply.Reply.{Reply}
-use Rattle.cli_stack.specs.declared.driver.early_end.EarlyEnd.{EarlyEnd}
-use Rattle.cli_stack.specs.declared.driver.early_end.EarlyEnd.TheVariants.{Missing, TooLong, ShelfFault, OutOfMemory}
-
--- a line feed after a text
-abbrev pub line : List ℕ → List ℕ
-line text = text ++ 10 ∷ []
 
 -- the letter of a rule
 abbrev pub letter_text : RuleLetter → List ℕ
@@ -55,8 +50,6 @@ kind_text kind.Tag = codes "tag"
 kind_text kind.Range = codes "range"
 kind_text kind.TempFull = codes "temp-full"
 kind_text kind.CtrlFull = codes "ctrl-full"
-
--- 1. Ends of the command's own.
 
 abbrev pub status_of : Verdict → Status
 status_of Done = status.Done
@@ -113,17 +106,3 @@ judgement_reply (Err verdict) = verdict_alone verdict
 -- all that a reply prints
 abbrev pub reply_text : ReplyOf → List ℕ
 reply_text reply = reply.said ++ verdict_line reply.verdict
-
--- 2. Ends before there is a reply.
-
-abbrev pub end_status : EarlyEnd → Status
-end_status (Missing name) = status.Missing
-end_status (TooLong limit) = status.Size
-end_status (ShelfFault name) = status.ShelfFault
-end_status OutOfMemory = status.OutOfMemory
-
-abbrev pub end_line : EarlyEnd → List ℕ
-end_line (Missing name) = line (codes "missing " ++ name)
-end_line (TooLong limit) = line (codes "size file " ++ decimal limit)
-end_line (ShelfFault name) = line (codes "shelf fault " ++ name)
-end_line OutOfMemory = []

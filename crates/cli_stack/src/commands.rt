@@ -22,10 +22,8 @@ mod run;
 mod show;
 mod source_text;
 
-use crate::command::Command;
 use crate::reply::Reply;
-use crate::role::Role;
-use crate::texts::Texts;
+use command_line::{Command, Role, Texts};
 use level_debuggers::Watch;
 pub use plan::{Pending, Plan};
 use stack_text::Memory;

@@ -2,12 +2,7 @@
 //! for all commands.
 
 mod conclude;
-mod early_end;
-mod gather;
 mod perform;
-mod print;
-mod save;
 
 pub use conclude::conclude;
-pub use early_end::EarlyEnd;
 pub use perform::run_words;

@@ -1,23 +1,15 @@
 //! The short stack as one program: runs the words of its command line over the files of the current folder.
 #![tactic(auto)]
 
-ghost use Rattle.std.specs.Prelude.{◌≡◌};
-ghost use Rattle.cli_stack.specs.Status.{exit_code};
-
-mod command;
 mod commands;
 mod driver;
 mod program;
 mod reply;
-mod role;
-mod status;
-mod texts;
-mod words;
 
+use command_line::exit_code;
 use level_debuggers::{CountWatch, LastWatch, PeakWatch, Watch};
 use program::cli;
 use stack_shelf::{FolderShelf, StdoutSink};
-use status::Status;
 use std::alloc::Global;
 use std::path::PathBuf;
 use std::process::ExitCode;
@@ -46,17 +38,6 @@ fn run(rt: HostRuntime) -> io::Result<u8> {
     let mut out = StdoutSink::new(rt);
     let mut kept = None;
     Ok(cli(alloc, &words, &mut shelf, &mut out, &mut kept, watches))
-}
-
-/// The exit status: that of the program, or why its words can't be read.
-fn exit_code(ran: io::Result<u8>) -> u8
-    ensures { result ≡ exit_code ran }
-{
-    match ran {
-        Ok(code) => code,
-        Err(e) if e.kind() == io::ErrorKind::OutOfMemory => Status::OutOfMemory.code(),
-        Err(_) => Status::NoWords.code(),
-    }
 }
 
 fn main(rt: HostRuntime) -> ExitCode {

@@ -1,7 +1,7 @@
 //! The whole program over a shelf and a sink.
 ghost use Rattle.std.specs.Prelude.{map};
 ghost use Rattle.level_debuggers.specs.Tallies.{watching};
-ghost use Rattle.cli_stack.specs.Words.{spelled};
+ghost use Rattle.command_line.specs.Words.{spelled};
 ghost use Rattle.cli_stack.specs.World.{world};
 ghost use Rattle.cli_stack.specs.Promises.{Promises};
 

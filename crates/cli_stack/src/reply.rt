@@ -2,7 +2,7 @@
 ghost use Rattle.std.specs.Prelude.{◌≡◌, IfOk};
 ghost use Rattle.cli_stack.specs.Replies.{letter_text, text_rule_number, size_of_text, kind_text, status_of, verdict_line};
 
-use crate::status::Status;
+use command_line::Status;
 use fm_machine::Machine;
 use fm_show::hex_digits;
 use piton_machine::ErrorKind;

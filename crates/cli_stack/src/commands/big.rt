@@ -13,7 +13,7 @@ use crate::commands::plan::{Pending, Plan};
 use crate::commands::run::begin;
 use crate::commands::source_text::verdict_of;
 use crate::reply::Reply;
-use crate::words::ProcedureCount;
+use command_line::ProcedureCount;
 use gypsy_check::{Accepted, CheckFault, check};
 use gypsy_gen::large;
 use gypsy_syntax::{Source, print_gypsy};

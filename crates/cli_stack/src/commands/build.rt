@@ -6,7 +6,7 @@ ghost use Rattle.cli_stack.specs.Plans.{pending_reply};
 
 use crate::commands::plan::Plan;
 use crate::commands::source_text::verdict_of;
-use crate::words::StackSize;
+use command_line::StackSize;
 use stack_build::{Built, build};
 use stack_text::{Memory, Seq};
 use std::alloc::Global;

@@ -1,5 +1,5 @@
 //! The command `debug`.
-ghost use Rattle.std.specs.Prelude.{◌≡◌, ◌≤◌, ◌^◌, [], None, IfOk, length, map};
+ghost use Rattle.std.specs.Prelude.{◌≡◌, ◌≤◌, ◌^◌, [], None, Some, IfOk, length, map};
 ghost use Rattle.gypsy_space.specs.Needs.{stack_words};
 ghost use Rattle.gypsy_syntax.specs.SourceView.{source_of};
 ghost use Rattle.level_debuggers.specs.Levels.{IsRunner, level_of};
@@ -7,19 +7,18 @@ ghost use Rattle.level_debuggers.specs.Sessions.{IsSession, session_of};
 ghost use Rattle.level_debuggers.specs.Transcripts.{followed};
 ghost use Rattle.level_debuggers.specs.Tallies.{watching};
 ghost use Rattle.stack_build.specs.Starts.{GivesStart};
-ghost use Rattle.debug_script.specs.Scripts.{script_of};
-ghost use Rattle.cli_stack.specs.declared.role.Role.TheVariants as Role;
-ghost use Rattle.cli_stack.specs.declared.words.reader.Level.TheVariants as Level;
-ghost use Rattle.cli_stack.specs.Answer.{text_of};
-ghost use Rattle.cli_stack.specs.Debug.{run_at, run_in, found_run, end_verdict, followed_reply, lines_reply, script_reply, debug_reply};
+ghost use Rattle.debug_script.specs.Scripts.{fault_of, script_of};
+ghost use Rattle.command_line.specs.declared.role.Role.TheVariants as Role;
+ghost use Rattle.command_line.specs.declared.words.reader.Level.TheVariants as Level;
+ghost use Rattle.command_line.specs.Gathered.{text_of};
+ghost use Rattle.cli_stack.specs.Replies.{verdict_alone};
+ghost use Rattle.cli_stack.specs.Debug.{run_at, run_in, found_run, end_verdict, followed_reply, lines_reply, script_verdict, script_reply, debug_reply};
 ghost use Rattle.cli_stack.specs.Plans.{pending_reply};
 
 use crate::commands::plan::{Pending, Plan};
 use crate::commands::source_text::{read_accepted, start_verdict};
 use crate::reply::{Reply, Verdict};
-use crate::role::Role;
-use crate::texts::Texts;
-use crate::words::{Level, StackSize};
+use command_line::{Level, Role, StackSize, Texts};
 use debug_script::{Line, ScriptFault, read_script};
 use gypsy_check::Accepted;
 use gypsy_space::needs;
@@ -138,6 +137,20 @@ fn run_in(
     }
 }
 
+/// The plan where a script is refused.
+fn refused_script(alloc: Global, fault: ScriptFault) -> Result<Plan, Memory>
+    ensures known { IfOk result (λ _. fault_of fault ≡ Some fault) }
+    ensures stored { IfOk result (λ plan. plan.stored ≡ None) }
+    ensures reply { IfOk result (λ plan. pending_reply plan.pending ≡ verdict_alone (script_verdict fault)) }
+{
+    match fault {
+        ScriptFault::Refused { rule, line } => {
+            Ok(Plan::verdict_alone(alloc, Verdict::Script { rule, line }))
+        }
+        ScriptFault::Memory => Err(Memory),
+    }
+}
+
 /// Reads a script, and follows it in a session of a runner.
 fn play(
     alloc: Global,
@@ -152,13 +165,11 @@ fn play(
         ≡ script_reply (level_of runner) (map (λ w. watching (rule_of w) (tally_of w)) watches.items)
         (script_of script.now)) }
 {
-    match read_script(alloc, script) {
-        Ok(lines) => follow_lines(alloc, runner, &lines, watches),
-        Err(ScriptFault::Refused { rule, line }) => {
-            Ok(Plan::verdict_alone(alloc, Verdict::Script { rule, line }))
-        }
-        Err(ScriptFault::Memory) => Err(Memory),
-    }
+    let lines = match read_script(alloc, script) {
+        Ok(lines) => lines,
+        Err(fault) => return refused_script(alloc, fault),
+    };
+    follow_lines(alloc, runner, &lines, watches)
 }
 
 /// How the command ends with its script.

@@ -10,7 +10,7 @@ ghost use Rattle.cli_stack.specs.Plans.{pending_reply};
 use crate::commands::plan::Plan;
 use crate::commands::source_text::{read_accepted, start_verdict};
 use crate::reply::Verdict;
-use crate::words::StackSize;
+use command_line::StackSize;
 use display_maps::push_run;
 use gypsy_check::Accepted;
 use gypsy_meaning::{Current, MeanRun, Meaning};

@@ -9,7 +9,7 @@ ghost use Rattle.cli_stack.specs.Plans.{pending_reply};
 use crate::commands::plan::{Pending, Plan};
 use crate::commands::source_text::verdict_of;
 use crate::reply::{Reply, Verdict};
-use crate::words::{FileName, StackSize};
+use command_line::{FileName, StackSize};
 use piton_syntax::{System, print_piton};
 use stack_build::compile;
 use stack_text::{Memory, Seq};

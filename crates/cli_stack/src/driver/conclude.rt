@@ -3,10 +3,8 @@ ghost use Rattle.std.specs.Prelude.{◌≡◌, IfOk, Some};
 ghost use Rattle.cli_stack.specs.World.{out_of};
 ghost use Rattle.cli_stack.specs.Driver.{machine_kept, conclusion_of, Concludes};
 
-use crate::driver::early_end::EarlyEnd;
-use crate::driver::print::print;
 use crate::reply::Reply;
-use crate::status::Status;
+use command_line::{EarlyEnd, Status, print};
 use fm_machine::Machine;
 use stack_shelf::{PutFault, Sink};
 use stack_text::{Memory, Seq};

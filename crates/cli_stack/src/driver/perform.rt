@@ -2,19 +2,16 @@
 ghost use Rattle.std.specs.Prelude.{◌≡◌, IfOk, IfErr, IfSome, Some, map};
 ghost use Rattle.level_debuggers.specs.Tallies.{watching};
 ghost use Rattle.stack_shelf.specs.Causes.{NoneFell};
-ghost use Rattle.cli_stack.specs.Words.{spelled};
-ghost use Rattle.cli_stack.specs.Rows.{command_of};
-ghost use Rattle.cli_stack.specs.Answer.{answer_by, file_names};
+ghost use Rattle.command_line.specs.Words.{spelled};
+ghost use Rattle.command_line.specs.Rows.{command_of};
+ghost use Rattle.command_line.specs.CommandFiles.{file_names};
+ghost use Rattle.cli_stack.specs.Answer.{answer_by};
 ghost use Rattle.cli_stack.specs.World.{shelf_of};
 ghost use Rattle.cli_stack.specs.Driver.{Leaves, HasReason, IsReplyTo};
 
-use crate::command::Command;
 use crate::commands::{Plan, finish, prepare};
-use crate::driver::early_end::EarlyEnd;
-use crate::driver::gather::gather;
-use crate::driver::save::save;
 use crate::reply::{Reply, Verdict};
-use crate::words::{WordsFault, command_of};
+use command_line::{Command, EarlyEnd, WordsFault, command_of, gather, save};
 use level_debuggers::Watch;
 use stack_shelf::Shelf;
 use std::alloc::Global;

@@ -1,7 +1,7 @@
 use Rattle.std.proofs.Common.{List, map}
 use Rattle.level_debuggers.specs.Tallies.{Watching, watching}
-use Rattle.cli_stack.specs.Words.{spelled}
-use Rattle.cli_stack.specs.Rows.{command_of}
+use Rattle.command_line.specs.Words.{spelled}
+use Rattle.command_line.specs.Rows.{command_of}
 use Rattle.cli_stack.proofs.ImplementsLaws.{implements}
 use Rattle.cli_stack.proofs.TellsLaws.{tells}
 use Rattle.cli_stack.proofs.LinksLaws.{links}

@@ -1,0 +1,33 @@
+-- Why a command ended early, over several files.
+use Rattle.std.proofs.Common.{◌≡◌, ◌≤◌, ◌<◌, ℕ, List, length, get_or, map, arith, ◌∙◌, ap, sym}
+use Rattle.std.specs.Prelude.{Contains}
+use Rattle.std.proofs.lemmas.List.{length-map, get_or-map}
+use Rattle.stack_shelf.specs.Causes.{Counts, Rose, NoneFell}
+use Rattle.command_line.specs.declared.early_end.EarlyEnd.{EarlyEnd}
+use Rattle.command_line.specs.declared.early_end.EarlyEnd.TheVariants.{Missing, TooLong, ShelfFault, OutOfMemory}
+use Rattle.command_line.specs.declared.role.Role.{Role}
+use Rattle.command_line.specs.declared.role.RoleFile.{RoleFile}
+use Rattle.command_line.specs.CommandFiles.{names_of}
+use Rattle.command_line.specs.Devices.{EndsAt, EndsAtOne}
+
+pub rose_from : (before mid after : ℕ) → before ≤ mid → Rose mid after → Rose before after
+rose_from before mid after le rose = omega arith
+
+among : (before mid after : Counts) (names : List (List ℕ)) (name : List ℕ) (end : EarlyEnd) → NoneFell before mid → Contains names name
+    → EndsAt mid after name end → EndsAtOne before after names end
+among before mid after names name (Missing missing) fell in_names ends = (name, in_names, (ends.0, rose_from _ _ _ (fell.absences name) ends.1))
+among before mid after names name (TooLong limit) fell in_names ends = (name, in_names, rose_from _ _ _ (fell.overruns name) ends)
+among before mid after names name (ShelfFault failed) fell in_names ends = (name, in_names, (ends.0, rose_from _ _ _ (fell.faults name) ends.1))
+among before mid after names name OutOfMemory fell in_names ends = tt
+
+-- an input at a place is one of them
+pub ends_at_input : (before mid after : Counts) (inputs : List RoleFile) (i : ℕ) (input : RoleFile) (name : List ℕ) (end : EarlyEnd) → NoneFell before mid → i < length inputs
+    → input ≡ get_or inputs i input → name ≡ input.name.now → EndsAt mid after name end
+    → EndsAtOne before after (names_of (map (λ (input : RoleFile). (input.role, input.name.now)) inputs)) end
+ends_at_input before mid after inputs i input name end fell lt is named ends =
+    let pair : RoleFile → Role × List ℕ = λ i. (i.role, i.name.now) in
+    let second : Role × List ℕ → List ℕ = λ p. p.1 in
+    let lt' : i < length (map pair inputs) = rw length-map lt in
+    let at : get_or (map second (map pair inputs)) i name ≡ name =
+    get_or-map second (map pair inputs) i (pair input) name lt' ∙ ap second (get_or-map pair inputs i input (pair input) lt) ∙ ap (λ (i : RoleFile). i.name.now) (sym is) ∙ sym named in
+    among before mid after _ name end fell (i, rw length-map lt', at) ends

@@ -1,0 +1,4 @@
+pub mod FileLaws
+pub mod GatherLaws
+pub mod PrintLaws
+pub mod TextsLaws

@@ -1,0 +1,44 @@
+-- The files that a command reads, in order, and the one that it writes: each with its role and its name.
+use Rattle.std.specs.Prelude.{ℕ, List, [], ◌∷◌, ◌++◌, Option, Some, None, map}
+use Rattle.std.specs.Option.{option_to_list}
+use Rattle.command_line.specs.declared.command.Command.{Command}
+use Rattle.command_line.specs.declared.command.Command.TheVariants.{Check, Mean, Pit, Build, Pcheck, Prun, Pbuild}
+use Rattle.command_line.specs.declared.command.Command.TheVariants.{Run, Go, Show, Debug, Big}
+use Rattle.command_line.specs.declared.role.Role.{Role}
+use Rattle.command_line.specs.declared.role.Role.TheVariants as role
+
+unfoldable pub inputs_of : Command → List (Role × List ℕ)
+inputs_of (Go source values control temporary budget image) = (role.Source, source) ∷ (role.Values, values) ∷ []
+inputs_of (Mean source values control temporary limit) = (role.Source, source) ∷ (role.Values, values) ∷ []
+inputs_of (Run image values budget) = (role.Image, image) ∷ (role.Values, values) ∷ []
+inputs_of (Show image) = (role.Image, image) ∷ []
+inputs_of (Check source) = (role.Source, source) ∷ []
+inputs_of (Pit source control temporary piton) = (role.Source, source) ∷ []
+inputs_of (Build source control temporary image) = (role.Source, source) ∷ []
+inputs_of (Pcheck piton) = (role.Piton, piton) ∷ []
+inputs_of (Prun piton limit) = (role.Piton, piton) ∷ []
+inputs_of (Pbuild piton image) = (role.Piton, piton) ∷ []
+inputs_of (Debug level source values control temporary script) =
+    (role.Source, source) ∷ (role.Values, values) ∷ (role.Script, script) ∷ []
+inputs_of (Big number procedures) = []
+
+unfoldable pub output_of : Command → Option (Role × List ℕ)
+output_of (Go source values control temporary budget image) = Some (role.Image, image)
+output_of (Build source control temporary image) = Some (role.Image, image)
+output_of (Pbuild piton image) = Some (role.Image, image)
+output_of (Pit source control temporary piton) = Some (role.Piton, piton)
+output_of _ = None
+
+-- the names of files
+abbrev pub names_of : List (Role × List ℕ) → List (List ℕ)
+names_of files = map (λ file. file.1) files
+
+-- the names of the files that a command reads
+abbrev pub input_names : Option Command → List (List ℕ)
+input_names None = []
+input_names (Some command) = names_of (inputs_of command)
+
+-- the names of the files that it reads and writes
+abbrev pub file_names : Option Command → List (List ℕ)
+file_names None = []
+file_names (Some command) = names_of (option_to_list (output_of command) ++ inputs_of command)

@@ -1,0 +1,44 @@
+-- What fetching, storing and printing say.
+use Rattle.std.specs.Prelude.{◌≡◌, ◌≢◌, ◌⊎◌, ℕ, ◌∷◌, [], ◌++◌, List, Option, Result, Ok, Err, Contains, All}
+use Rattle.stack_shelf.specs.Files.{Files}
+use Rattle.stack_shelf.specs.Causes.{Counts, Rose}
+use Rattle.stack_shelf.specs.Shelf.{PartlyStored}
+use Rattle.command_line.specs.declared.early_end.EarlyEnd.{EarlyEnd}
+use Rattle.command_line.specs.declared.early_end.EarlyEnd.TheVariants.{Missing, TooLong, ShelfFault, OutOfMemory}
+
+-- what a call returned, seen by view, is what the definition gives, unless the shelf failed or memory ran out
+abbrev pub Gives : {X Y : Type 0} → (X → Y) → Result X EarlyEnd → Result Y EarlyEnd → Type 0
+Gives view (Ok x) gives = gives ≡ Ok (view x)
+Gives view (Err (Missing name)) gives = gives ≡ Err (Missing name)
+Gives view (Err (TooLong limit)) gives = gives ≡ Err (TooLong limit)
+Gives view (Err (ShelfFault name)) gives = Unit {0}
+Gives view (Err OutOfMemory) gives = Unit {0}
+
+-- why a command ended early at this name
+abbrev pub EndsAt : Counts → Counts → List ℕ → EarlyEnd → Type 0
+EndsAt before after name (Missing missing) = (missing ≡ name) × Rose (before.absences name) (after.absences name)
+EndsAt before after name (TooLong limit) = Rose (before.overruns name) (after.overruns name)
+EndsAt before after name (ShelfFault failed) = (failed ≡ name) × Rose (before.faults name) (after.faults name)
+EndsAt before after name OutOfMemory = Unit {0}
+
+-- the same for one of these names
+abbrev pub EndsAtOne : Counts → Counts → List (List ℕ) → EarlyEnd → Type 0
+EndsAtOne before after names OutOfMemory = Unit {0}
+EndsAtOne before after names end = (name : List ℕ) × Contains names name × EndsAt before after name end
+
+-- what a store that failed, or whose fault could not be named, leaves
+abbrev pub LeavesPart : Option Files → Option Files → Counts → Counts → List ℕ → List ℕ → Type 0
+LeavesPart old new before after name bytes =
+    (new ≡ old) ⊎ (PartlyStored old new name bytes × Rose (before.faults name) (after.faults name))
+
+-- a failure at this name, or out of memory
+abbrev pub IsFaultAt : Counts → Counts → List ℕ → EarlyEnd → Type 0
+IsFaultAt before after name (Missing missing) = ⊥
+IsFaultAt before after name (TooLong limit) = ⊥
+IsFaultAt before after name end = EndsAt before after name end
+
+-- a line ends with its first line feed, or it has none and nothing follows
+abbrev pub IsFirstLine : List ℕ → List ℕ → Type 0
+IsFirstLine line rest =
+    (All (λ byte. byte ≢ 10) line × (rest ≡ []))
+    ⊎ ((before : List ℕ) × (line ≡ before ++ 10 ∷ []) × All (λ byte. byte ≢ 10) before)

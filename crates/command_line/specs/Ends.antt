@@ -1,0 +1,23 @@
+-- Ends of a command before there is a reply, with their exit statuses and their lines.
+use Rattle.std.specs.Prelude.{ℕ, List, [], ◌∷◌, ◌++◌, codes}
+use Rattle.std.specs.Fmt.{decimal}
+use Rattle.command_line.specs.declared.early_end.EarlyEnd.{EarlyEnd}
+use Rattle.command_line.specs.declared.early_end.EarlyEnd.TheVariants.{Missing, TooLong, ShelfFault, OutOfMemory}
+use Rattle.command_line.specs.declared.status.Status.{Status}
+use Rattle.command_line.specs.declared.status.Status.TheVariants as status
+
+-- a line feed after a text
+abbrev pub line : List ℕ → List ℕ
+line text = text ++ 10 ∷ []
+
+abbrev pub end_status : EarlyEnd → Status
+end_status (Missing name) = status.Missing
+end_status (TooLong limit) = status.Size
+end_status (ShelfFault name) = status.ShelfFault
+end_status OutOfMemory = status.OutOfMemory
+
+abbrev pub end_line : EarlyEnd → List ℕ
+end_line (Missing name) = line (codes "missing " ++ name)
+end_line (TooLong limit) = line (codes "size file " ++ decimal limit)
+end_line (ShelfFault name) = line (codes "shelf fault " ++ name)
+end_line OutOfMemory = []

@@ -1,0 +1,31 @@
+-- The texts that a command reads, where all files are known and no device fails.
+use Rattle.std.specs.Prelude.{ℕ, List, [], ◌∷◌, Result, Ok, Err, if◌then◌else◌}
+use Rattle.stack_text.specs.Results.{◌>>=◌}
+use Rattle.stack_shelf.specs.Files.{Files}
+use Rattle.stack_shelf.specs.Shelf.{Refusal, Missing, TooLong, fetched}
+use Rattle.command_line.specs.declared.early_end.EarlyEnd.{EarlyEnd}
+use Rattle.command_line.specs.declared.early_end.EarlyEnd.TheVariants as end
+use Rattle.command_line.specs.declared.role.Role.{Role}
+use Rattle.command_line.specs.Roles.{limit_of, is_role}
+
+abbrev pub Texts : Type 0
+Texts = List (Role × List ℕ)
+
+-- the first text of a role
+abbrev pub text_of : Role → Texts → List ℕ
+text_of role [] = []
+text_of role (text ∷ texts) = if is_role text.0 role then text.1 else text_of role texts
+
+-- a file that can't be fetched ends the command
+abbrev pub text_or_end : Role × List ℕ → Result (List ℕ) Refusal → Result (List ℕ) EarlyEnd
+text_or_end input (Ok text) = Ok text
+text_or_end input (Err Missing) = Err (end.Missing input.1)
+text_or_end input (Err TooLong) = Err (end.TooLong (limit_of input.0))
+
+-- the texts of the files, or the end at the first that is missing or too long
+abbrev pub gathered : Files → List (Role × List ℕ) → Result Texts EarlyEnd
+gathered files [] = Ok []
+gathered files (input ∷ inputs) = do
+  text ← text_or_end input (fetched files input.1 (limit_of input.0))
+  texts ← gathered files inputs
+  Ok ((input.0, text) ∷ texts)

@@ -1,0 +1,60 @@
+//! Fetches the files that a command reads.
+ghost use Rattle.std.specs.Prelude.{◌≡◌, ◌≤◌, ◌^◌, IfErr, IfSome, map};
+ghost use Rattle.stack_shelf.specs.Causes.{NoneFell};
+ghost use Rattle.stack_shelf.specs.Shelf.{fetched};
+ghost use Rattle.command_line.specs.Roles.{limit_of};
+ghost use Rattle.command_line.specs.Gathered.{text_or_end, gathered};
+ghost use Rattle.command_line.specs.CommandFiles.{names_of};
+ghost use Rattle.command_line.specs.Devices.{Gives, EndsAt, EndsAtOne};
+
+use crate::early_end::EarlyEnd;
+use crate::role::{Role, RoleFile};
+use crate::texts::{Text, Texts};
+use crate::words::FileName;
+use stack_shelf::{FetchFault, Shelf};
+use std::alloc::Global;
+
+/// The text of one file.
+fn fetch<S: Shelf>(alloc: Global, shelf: &mut S, role: Role, name: &str) -> Result<Text, EarlyEnd>
+    ensures text { IfSome (S.files shelf.old) (λ files.
+        Gives (λ text. text) result (text_or_end (role, name.now) (fetched files name.now (limit_of role)))) }
+    ensures cause { IfErr result (EndsAt (S.counts shelf.old) (S.counts shelf.new) name.now) }
+    ensures files { S.files shelf.new ≡ S.files shelf.old }
+    ensures counts { NoneFell (S.counts shelf.old) (S.counts shelf.new) }
+{
+    let limit = role.limit();
+    match shelf.fetch(alloc, name, limit) {
+        Ok(text) => Ok(Text::new(text)),
+        Err(FetchFault::Missing) => {
+            let name = FileName::new(alloc, name)?;
+            Err(EarlyEnd::Missing { name })
+        }
+        Err(FetchFault::TooLong) => Err(EarlyEnd::TooLong { limit }),
+        Err(FetchFault::Failed) => {
+            let name = FileName::new(alloc, name)?;
+            Err(EarlyEnd::ShelfFault { name })
+        }
+        Err(FetchFault::Memory) => Err(EarlyEnd::OutOfMemory),
+    }
+}
+
+/// The texts of the files that a command reads.
+pub fn gather<S: Shelf>(
+    alloc: Global,
+    shelf: &mut S,
+    inputs: &[RoleFile],
+) -> Result<Texts, EarlyEnd>
+    ensures texts { IfSome (S.files shelf.old) (λ files. Gives (λ texts. texts) result
+        (gathered files (map (λ input. (input.role, input.name.now)) inputs.now))) }
+    ensures cause { IfErr result (EndsAtOne (S.counts shelf.old) (S.counts shelf.new)
+        (names_of (map (λ input. (input.role, input.name.now)) inputs.now))) }
+    ensures files { S.files shelf.new ≡ S.files shelf.old }
+    ensures counts { NoneFell (S.counts shelf.old) (S.counts shelf.new) }
+{
+    let mut texts = Texts::new(alloc);
+    for input in inputs {
+        let text = fetch(alloc, shelf, input.role, input.name.as_str())?;
+        texts.push(input.role, text)?;
+    }
+    Ok(texts)
+}

@@ -1,0 +1,23 @@
+//! Commands and what is around them: the words of a command line, the files that a command reads and writes, printing, and exit
+//! statuses. It knows of no language; what a command makes of its texts is `cli_stack`'s.
+#![tactic(auto)]
+
+mod command;
+mod early_end;
+mod fetching;
+mod printing;
+mod role;
+mod status;
+mod storing;
+mod texts;
+mod words;
+
+pub use command::Command;
+pub use early_end::EarlyEnd;
+pub use fetching::gather;
+pub use printing::print;
+pub use role::{Role, RoleFile};
+pub use status::{Status, exit_code};
+pub use storing::save;
+pub use texts::Texts;
+pub use words::{FileName, Level, ProcedureCount, StackSize, WordsFault, command_of};

@@ -1,0 +1,56 @@
+//! The roles of files.
+use crate::words::FileName;
+
+/// What a command takes a file for.
+#[derive(Clone, Copy, PartialEq, Eq)]
+pub enum Role {
+    /// A source of Micro-Gypsy.
+    Source,
+    /// A text of Piton.
+    Piton,
+    /// An image.
+    Image,
+    /// Values of variables.
+    Values,
+    /// A script of a debugger.
+    Script,
+}
+
+impl Role {
+    ghost use Rattle.std.specs.Prelude.{◌≡◌, ◌≤◌, ◌^◌};
+    ghost use Rattle.command_line.specs.Roles.{limit_of, is_role};
+
+    /// Whether the two are one role.
+    pub fn is(self, other: Role) -> bool
+        ensures { result ≡ is_role self other }
+    {
+        self == other
+    }
+
+    /// The file of this name, in this role.
+    pub fn file(self, name: &FileName) -> RoleFile<'_>
+        ensures role { result.role ≡ self }
+        ensures name { result.name.now ≡ name.now }
+    {
+        RoleFile { role: self, name }
+    }
+
+    /// The most bytes of a file that is read in this role.
+    pub fn limit(self) -> u64
+        ensures value { result ≡ limit_of self }
+        ensures small { result ≤ 2 ^ 31 }
+    {
+        match self {
+            Role::Source | Role::Values | Role::Script => 1 << 20,
+            Role::Piton => 1 << 24,
+            Role::Image => 1 << 23,
+        }
+    }
+}
+
+/// A file that a command reads or writes.
+#[derive(Clone, Copy)]
+pub struct RoleFile<'a> {
+    pub role: Role,
+    pub name: &'a FileName,
+}

@@ -1,0 +1,33 @@
+//! Stores the file that a command writes.
+ghost use Rattle.std.specs.Prelude.{◌≡◌, IfErr, OnOk};
+ghost use Rattle.stack_shelf.specs.Causes.{NoneFell};
+ghost use Rattle.stack_shelf.specs.Shelf.{stored};
+ghost use Rattle.command_line.specs.Devices.{LeavesPart, IsFaultAt};
+
+use crate::early_end::EarlyEnd;
+use crate::words::FileName;
+use stack_shelf::{Shelf, StoreFault};
+use std::alloc::Global;
+
+/// Puts bytes under a name.
+pub fn save<S: Shelf>(
+    alloc: Global,
+    shelf: &mut S,
+    name: &str,
+    bytes: &[u8],
+) -> Result<(), EarlyEnd>
+    ensures ok { OnOk result (S.files shelf.new ≡ stored (S.files shelf.old) name.now bytes.now) }
+    ensures err { IfErr result (λ _. LeavesPart (S.files shelf.old) (S.files shelf.new)
+        (S.counts shelf.old) (S.counts shelf.new) name.now bytes.now) }
+    ensures cause { IfErr result (IsFaultAt (S.counts shelf.old) (S.counts shelf.new) name.now) }
+    ensures counts { NoneFell (S.counts shelf.old) (S.counts shelf.new) }
+{
+    match shelf.store(name, bytes) {
+        Ok(()) => Ok(()),
+        Err(StoreFault::Failed) => {
+            let name = FileName::new(alloc, name)?;
+            Err(EarlyEnd::ShelfFault { name })
+        }
+        Err(StoreFault::Memory) => Err(EarlyEnd::OutOfMemory),
+    }
+}

@@ -1,0 +1,90 @@
+//! The texts that a command reads.
+ghost use Rattle.std.specs.Prelude.{◌≡◌, ◌≤◌, ◌^◌, ◌++◌, ◌∷◌, [], length, OnOk};
+ghost use Rattle.command_line.specs.Gathered.{text_of};
+
+use crate::role::Role;
+use std::alloc::{AllocFailed, Global};
+use std::marker::Model;
+
+/// The bytes of a file that was read, at most 2^31. Contracts see them as a list.
+#[derive(Drop)]
+pub struct Text {
+    bytes: Vec<u8>,
+}
+
+impl Model for Text {
+    ghost use Rattle.std.specs.Prelude.{List, ℕ, ◌≤◌, ◌^◌, length};
+
+    ghost Value = { List ℕ };
+
+    ghost view = { λ t. t.bytes.items };
+
+    ghost invariant = { λ t. length t.bytes.items ≤ 2 ^ 31 };
+}
+
+impl Text {
+    ghost use Rattle.std.specs.Prelude.{◌≡◌, ◌≤◌, ◌^◌, length};
+
+    pub fn new(bytes: Vec<u8>) -> Text
+        requires { length bytes.items ≤ 2 ^ 31 }
+        ensures { result ≡ bytes.items }
+    {
+        Text { bytes }
+    }
+
+    pub fn as_slice(&self) -> &[u8]
+        ensures value { result.now ≡ self.now }
+        ensures short { length result.now ≤ 2 ^ 31 }
+    {
+        self.bytes.as_slice()
+    }
+}
+
+/// The texts of the files that a command reads, each with its role. Contracts see them as a list.
+#[derive(Drop)]
+pub struct Texts {
+    texts: Vec<(Role, Text)>,
+}
+
+impl Model for Texts {
+    ghost use Rattle.std.specs.Prelude.{List, ℕ};
+    ghost use Rattle.command_line.specs.declared.role.Role.{Role};
+
+    ghost Value = { List (Role × List ℕ) };
+
+    ghost view = { λ t. t.texts.items };
+}
+
+impl Texts {
+    ghost use Rattle.std.specs.Prelude.{◌≡◌, ◌≤◌, ◌^◌, ◌++◌, ◌∷◌, [], length, OnOk};
+    ghost use Rattle.command_line.specs.Gathered.{text_of};
+
+    /// No texts. It takes no memory.
+    pub fn new(alloc: Global) -> Texts
+        ensures { result ≡ [] }
+    {
+        Texts {
+            texts: Vec::new(alloc),
+        }
+    }
+
+    /// Puts a text after the others.
+    pub fn push(&mut self, role: Role, text: Text) -> Result<(), AllocFailed<(Role, Text)>>
+        ensures { OnOk result (self.new ≡ self.old ++ (role, text) ∷ []) }
+    {
+        self.texts.push((role, text))
+    }
+
+    /// The bytes of the first text of a role, or none.
+    pub fn of(&self, role: Role) -> &[u8]
+        ensures value { result.now ≡ text_of role self.now }
+        ensures short { length result.now ≤ 2 ^ 31 }
+    {
+        for text in &self.texts {
+            if text.0.is(role) {
+                return text.1.as_slice();
+            }
+        }
+        &[]
+    }
+}

@@ -1,0 +1,140 @@
+//! Reads words one after the other.
+ghost use Rattle.std.specs.Prelude.{◌≡◌};
+ghost use Rattle.command_line.specs.Words.{Reads, spelled, first, file, size, limit, seed, procedures, debug_level, level_named, end};
+
+use crate::words::name::FileName;
+use crate::words::number::{ProcedureCount, StackSize, number_within};
+use stack_text::Memory;
+use std::alloc::Global;
+
+/// Why words are no command.
+#[derive(Clone, Copy, PartialEq, Eq)]
+pub enum WordsFault {
+    /// They are too few, too many, or not of the kinds that are asked for.
+    Usage,
+    /// There was no memory.
+    Memory,
+}
+
+impl From<Memory> for WordsFault {
+    ghost use Rattle.std.specs.Prelude.{◌≡◌};
+    ghost use Rattle.command_line.specs.declared.words.reader.WordsFault.TheVariants.{Memory};
+
+    ghost from_gives = { λ _ e. e ≡ Memory };
+
+    fn from(_: Memory) -> Self {
+        WordsFault::Memory
+    }
+}
+
+/// The level of a debug session.
+#[derive(Clone, Copy, PartialEq, Eq)]
+pub enum Level {
+    Gypsy,
+    Piton,
+    Fm9001,
+}
+
+/// The first word, and the words after it.
+#[tactic(auto, unfolding(crate::specs::Words::first))]
+fn first(words: &[String]) -> Result<(&str, &[String]), WordsFault>
+    ensures { Reads (λ found. (found.0.now, spelled found.1.now)) result (first (spelled words.now)) }
+{
+    match words {
+        [] => Err(WordsFault::Usage),
+        [word, rest @ ..] => Ok((word.as_str(), rest)),
+    }
+}
+
+/// The name of a file, which is any word.
+#[tactic(auto, unfolding(crate::specs::Words::file))]
+pub fn file(alloc: Global, words: &[String]) -> Result<(FileName, &[String]), WordsFault>
+    ensures { Reads (λ found. (found.0, spelled found.1.now)) result (file (spelled words.now)) }
+{
+    let (word, rest) = first(words)?;
+    Ok((FileName::new(alloc, word)?, rest))
+}
+
+/// The size of a stack.
+#[tactic(auto, unfolding(crate::specs::Words::size))]
+pub fn size(words: &[String]) -> Result<(StackSize, &[String]), WordsFault>
+    ensures { Reads (λ found. (found.0, spelled found.1.now)) result (size (spelled words.now)) }
+{
+    let (word, rest) = first(words)?;
+    match StackSize::read(word) {
+        Some(size) => Ok((size, rest)),
+        None => Err(WordsFault::Usage),
+    }
+}
+
+/// The most instructions or steps: at most 2^40.
+#[tactic(auto, unfolding(crate::specs::Words::limit))]
+pub fn limit(words: &[String]) -> Result<(u64, &[String]), WordsFault>
+    ensures { Reads (λ found. (found.0, spelled found.1.now)) result (limit (spelled words.now)) }
+{
+    let (word, rest) = first(words)?;
+    match number_within(0, 1 << 40, word) {
+        Some(limit) => Ok((limit, rest)),
+        None => Err(WordsFault::Usage),
+    }
+}
+
+/// The number that a large source is made from: any of 32 bits.
+#[tactic(auto, unfolding(crate::specs::Words::seed))]
+pub fn seed(words: &[String]) -> Result<(u32, &[String]), WordsFault>
+    ensures { Reads (λ found. (found.0, spelled found.1.now)) result (seed (spelled words.now)) }
+{
+    let (word, rest) = first(words)?;
+    match number_within(0, 0xffff_ffff, word) {
+        Some(seed) => Ok((seed as u32, rest)),
+        None => Err(WordsFault::Usage),
+    }
+}
+
+/// How many procedures a large source calls: 1 to 900.
+#[tactic(auto, unfolding(crate::specs::Words::procedures))]
+pub fn procedures(words: &[String]) -> Result<(ProcedureCount, &[String]), WordsFault>
+    ensures { Reads (λ found. (found.0, spelled found.1.now)) result (procedures (spelled words.now)) }
+{
+    let (word, rest) = first(words)?;
+    match ProcedureCount::read(word) {
+        Some(procedures) => Ok((procedures, rest)),
+        None => Err(WordsFault::Usage),
+    }
+}
+
+/// The level that a word names.
+#[tactic(auto, unfolding(crate::specs::Words::level_named))]
+fn level_named(word: &str) -> Option<Level>
+    ensures { result ≡ level_named word.now }
+{
+    match word {
+        "gypsy" => Some(Level::Gypsy),
+        "piton" => Some(Level::Piton),
+        "fm9001" => Some(Level::Fm9001),
+        _ => None,
+    }
+}
+
+/// The level of a debug session.
+#[tactic(auto, unfolding(crate::specs::Words::debug_level))]
+pub fn debug_level(words: &[String]) -> Result<(Level, &[String]), WordsFault>
+    ensures { Reads (λ found. (found.0, spelled found.1.now)) result (debug_level (spelled words.now)) }
+{
+    let (word, rest) = first(words)?;
+    match level_named(word) {
+        Some(level) => Ok((level, rest)),
+        None => Err(WordsFault::Usage),
+    }
+}
+
+/// No further word.
+#[tactic(auto, unfolding(crate::specs::Words::end))]
+pub fn end(words: &[String]) -> Result<(), WordsFault>
+    ensures { Reads (λ found. found) result (end (spelled words.now)) }
+{
+    match words {
+        [] => Ok(()),
+        [_word, _rest @ ..] => Err(WordsFault::Usage),
+    }
+}

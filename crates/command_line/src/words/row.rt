@@ -1,0 +1,222 @@
+//! The words of each command.
+ghost use Rattle.std.specs.Prelude.{◌≡◌};
+ghost use Rattle.command_line.specs.Words.{Reads, spelled};
+ghost use Rattle.command_line.specs.Rows.{check_row, mean_row, pit_row, build_row, pcheck_row, prun_row, pbuild_row, run_row, go_row, show_row, debug_row, big_row, row_of, command_of};
+
+use crate::command::Command;
+use crate::words::reader::{WordsFault, debug_level, end, file, limit, procedures, seed, size};
+use crate::words::verb::{Verb, verb_of};
+use std::alloc::Global;
+
+/// `check SRC`
+#[tactic(auto, unfolding(crate::specs::Rows::check_row))]
+fn check_row(alloc: Global, words: &[String]) -> Result<Command, WordsFault>
+    ensures { Reads (λ command. command) result (check_row (spelled words.now)) }
+{
+    let (source, words) = file(alloc, words)?;
+    end(words)?;
+    Ok(Command::Check { source })
+}
+
+/// `mean SRC VALS CTRL TEMP LIMIT`
+#[tactic(auto, unfolding(crate::specs::Rows::mean_row))]
+fn mean_row(alloc: Global, words: &[String]) -> Result<Command, WordsFault>
+    ensures { Reads (λ command. command) result (mean_row (spelled words.now)) }
+{
+    let (source, words) = file(alloc, words)?;
+    let (values, words) = file(alloc, words)?;
+    let (control, words) = size(words)?;
+    let (temporary, words) = size(words)?;
+    let (limit, words) = limit(words)?;
+    end(words)?;
+    Ok(Command::Mean {
+        source,
+        values,
+        control,
+        temporary,
+        limit,
+    })
+}
+
+/// `pit SRC CTRL TEMP OUT`
+#[tactic(auto, unfolding(crate::specs::Rows::pit_row))]
+fn pit_row(alloc: Global, words: &[String]) -> Result<Command, WordsFault>
+    ensures { Reads (λ command. command) result (pit_row (spelled words.now)) }
+{
+    let (source, words) = file(alloc, words)?;
+    let (control, words) = size(words)?;
+    let (temporary, words) = size(words)?;
+    let (piton, words) = file(alloc, words)?;
+    end(words)?;
+    Ok(Command::Pit {
+        source,
+        control,
+        temporary,
+        piton,
+    })
+}
+
+/// `build SRC CTRL TEMP IMG`
+#[tactic(auto, unfolding(crate::specs::Rows::build_row))]
+fn build_row(alloc: Global, words: &[String]) -> Result<Command, WordsFault>
+    ensures { Reads (λ command. command) result (build_row (spelled words.now)) }
+{
+    let (source, words) = file(alloc, words)?;
+    let (control, words) = size(words)?;
+    let (temporary, words) = size(words)?;
+    let (image, words) = file(alloc, words)?;
+    end(words)?;
+    Ok(Command::Build {
+        source,
+        control,
+        temporary,
+        image,
+    })
+}
+
+/// `pcheck PIT`
+#[tactic(auto, unfolding(crate::specs::Rows::pcheck_row))]
+fn pcheck_row(alloc: Global, words: &[String]) -> Result<Command, WordsFault>
+    ensures { Reads (λ command. command) result (pcheck_row (spelled words.now)) }
+{
+    let (piton, words) = file(alloc, words)?;
+    end(words)?;
+    Ok(Command::Pcheck { piton })
+}
+
+/// `prun PIT LIMIT`
+#[tactic(auto, unfolding(crate::specs::Rows::prun_row))]
+fn prun_row(alloc: Global, words: &[String]) -> Result<Command, WordsFault>
+    ensures { Reads (λ command. command) result (prun_row (spelled words.now)) }
+{
+    let (piton, words) = file(alloc, words)?;
+    let (limit, words) = limit(words)?;
+    end(words)?;
+    Ok(Command::Prun { piton, limit })
+}
+
+/// `pbuild PIT IMG`
+#[tactic(auto, unfolding(crate::specs::Rows::pbuild_row))]
+fn pbuild_row(alloc: Global, words: &[String]) -> Result<Command, WordsFault>
+    ensures { Reads (λ command. command) result (pbuild_row (spelled words.now)) }
+{
+    let (piton, words) = file(alloc, words)?;
+    let (image, words) = file(alloc, words)?;
+    end(words)?;
+    Ok(Command::Pbuild { piton, image })
+}
+
+/// `run IMG VALS BUDGET`
+#[tactic(auto, unfolding(crate::specs::Rows::run_row))]
+fn run_row(alloc: Global, words: &[String]) -> Result<Command, WordsFault>
+    ensures { Reads (λ command. command) result (run_row (spelled words.now)) }
+{
+    let (image, words) = file(alloc, words)?;
+    let (values, words) = file(alloc, words)?;
+    let (budget, words) = limit(words)?;
+    end(words)?;
+    Ok(Command::Run {
+        image,
+        values,
+        budget,
+    })
+}
+
+/// `go SRC VALS CTRL TEMP BUDGET IMG`
+#[tactic(auto, unfolding(crate::specs::Rows::go_row))]
+fn go_row(alloc: Global, words: &[String]) -> Result<Command, WordsFault>
+    ensures { Reads (λ command. command) result (go_row (spelled words.now)) }
+{
+    let (source, words) = file(alloc, words)?;
+    let (values, words) = file(alloc, words)?;
+    let (control, words) = size(words)?;
+    let (temporary, words) = size(words)?;
+    let (budget, words) = limit(words)?;
+    let (image, words) = file(alloc, words)?;
+    end(words)?;
+    Ok(Command::Go {
+        source,
+        values,
+        control,
+        temporary,
+        budget,
+        image,
+    })
+}
+
+/// `show IMG`
+#[tactic(auto, unfolding(crate::specs::Rows::show_row))]
+fn show_row(alloc: Global, words: &[String]) -> Result<Command, WordsFault>
+    ensures { Reads (λ command. command) result (show_row (spelled words.now)) }
+{
+    let (image, words) = file(alloc, words)?;
+    end(words)?;
+    Ok(Command::Show { image })
+}
+
+/// `debug LEVEL SRC VALS CTRL TEMP SCRIPT`
+#[tactic(auto, unfolding(crate::specs::Rows::debug_row))]
+fn debug_row(alloc: Global, words: &[String]) -> Result<Command, WordsFault>
+    ensures { Reads (λ command. command) result (debug_row (spelled words.now)) }
+{
+    let (level, words) = debug_level(words)?;
+    let (source, words) = file(alloc, words)?;
+    let (values, words) = file(alloc, words)?;
+    let (control, words) = size(words)?;
+    let (temporary, words) = size(words)?;
+    let (script, words) = file(alloc, words)?;
+    end(words)?;
+    Ok(Command::Debug {
+        level,
+        source,
+        values,
+        control,
+        temporary,
+        script,
+    })
+}
+
+/// `big NUMBER SIZE`
+#[tactic(auto, unfolding(crate::specs::Rows::big_row))]
+fn big_row(words: &[String]) -> Result<Command, WordsFault>
+    ensures { Reads (λ command. command) result (big_row (spelled words.now)) }
+{
+    let (number, words) = seed(words)?;
+    let (procedures, words) = procedures(words)?;
+    end(words)?;
+    Ok(Command::Big { number, procedures })
+}
+
+/// The command of a verb and the words after it.
+fn row_of(alloc: Global, verb: Verb, words: &[String]) -> Result<Command, WordsFault>
+    ensures { Reads (λ command. command) result (row_of verb (spelled words.now)) }
+{
+    match verb {
+        Verb::Check => check_row(alloc, words),
+        Verb::Mean => mean_row(alloc, words),
+        Verb::Pit => pit_row(alloc, words),
+        Verb::Build => build_row(alloc, words),
+        Verb::Pcheck => pcheck_row(alloc, words),
+        Verb::Prun => prun_row(alloc, words),
+        Verb::Pbuild => pbuild_row(alloc, words),
+        Verb::Run => run_row(alloc, words),
+        Verb::Go => go_row(alloc, words),
+        Verb::Show => show_row(alloc, words),
+        Verb::Debug => debug_row(alloc, words),
+        Verb::Big => big_row(words),
+    }
+}
+
+/// The command that the words ask for.
+#[tactic(auto, unfolding(crate::specs::Rows::command_of))]
+pub fn command_of(alloc: Global, words: &[String]) -> Result<Command, WordsFault>
+    ensures { Reads (λ command. command) result (command_of (spelled words.now)) }
+{
+    match words {
+        [] => Err(WordsFault::Usage),
+        [word, words @ ..] => match verb_of(word.as_str()) {
+            None => Err(WordsFault::Usage),
+            Some(verb) => row_of(alloc, verb, words),
+        },
+    }
+}
