@@ -1,10 +1,11 @@
 //! Programs.
 
-ghost use Rattle.std.specs.Prelude.{◌≡◌, ◌+◌, ◌-◌, ◌≤◌, ◌^◌, length, map, slice_get, IfOk, OnOk};
+ghost use Rattle.std.specs.Prelude.{◌≡◌, ◌+◌, ◌-◌, ◌≤◌, ◌^◌, ◌++◌, [], length, map, slice_get, IfOk, OnOk};
 ghost use Rattle.std.specs.List.{flat_map};
 ghost use Rattle.stack_text.specs.Breaches.{Notes};
 ghost use Rattle.piton_check.specs.Resolved.{resolved_program};
-ghost use Rattle.piton_check.specs.Tables.{IsSmall, AreSmall, KnowsSystem};
+ghost use Rattle.piton_check.specs.Declarations.{label_names, local_names, repeats};
+ghost use Rattle.piton_check.specs.Tables.{IsSmall, AreSmall, Knows, KnowsSystem, KnowsProgram};
 ghost use Rattle.piton_check.specs.Violations.{is_end, end_breaches, program_breaches};
 
 use crate::argument::instructions;
@@ -35,6 +36,61 @@ fn check_end(best: &mut Option<Breach>, instrs: &[InstrText])
     }
 }
 
+/// The table of a program's formals and temporaries.
+fn locals<'a>(
+    alloc: Global,
+    best: &mut Option<Breach>,
+    text: &'a Program,
+) -> Result<IndexMap<&'a [u8], u32>, Memory>
+    requires { IsSmall text.now }
+    ensures known { IfOk result (λ table. Knows table (local_names text.now)) }
+    ensures noted { OnOk result (Notes best.old (repeats 5 [] (local_names text.now)) best.new) }
+{
+    let mut table = IndexMap::new(alloc);
+    declare_locals(best, &mut table, &text.formals, &text.temporaries)?;
+    Ok(table)
+}
+
+/// The table of a program's labels.
+fn labels<'a>(
+    alloc: Global,
+    best: &mut Option<Breach>,
+    text: &'a Program,
+) -> Result<IndexMap<&'a [u8], u32>, Memory>
+    requires { IsSmall text.now }
+    ensures known { IfOk result (λ table. Knows table (label_names text.now)) }
+    ensures noted { OnOk result (Notes best.old (repeats 6 [] (label_names text.now)) best.new) }
+{
+    let mut table = IndexMap::new(alloc);
+    declare_labels(best, &mut table, &text.instrs)?;
+    Ok(table)
+}
+
+/// The names that a program's instructions may use.
+fn scope<'a, 'b>(
+    alloc: Global,
+    best: &mut Option<Breach>,
+    names: &'b Names<'a>,
+    text: &'a Program,
+) -> Result<Scope<'a, 'b>, Memory>
+    requires known { KnowsSystem names.now }
+    requires small { IsSmall text.now }
+    ensures of { IfOk result (λ scope. scope.program.now ≡ text.now) }
+    ensures names { IfOk result (λ scope. scope.names.now ≡ names.now) }
+    ensures known { IfOk result KnowsProgram }
+    ensures noted { let breaches = repeats 5 [] (local_names text.now) ++ repeats 6 [] (label_names text.now) in
+        OnOk result (Notes best.old breaches best.new) }
+{
+    let locals = locals(alloc, best, text)?;
+    let labels = labels(alloc, best, text)?;
+    Ok(Scope {
+        names,
+        program: text,
+        locals,
+        labels,
+    })
+}
+
 /// A program.
 fn program<'a, 'b>(
     alloc: Global,
@@ -47,17 +103,8 @@ fn program<'a, 'b>(
     ensures value { IfOk result (λ resolved. resolved ≡ resolved_program names.now.system.now text.now) }
     ensures noted { OnOk result (Notes best.old (program_breaches names.now.system.now text.now) best.new) }
 {
-    let mut locals = IndexMap::new(alloc);
-    declare_locals(best, &mut locals, &text.formals, &text.temporaries)?;
-    let mut labels = IndexMap::new(alloc);
-    declare_labels(best, &mut labels, &text.instrs)?;
+    let scope = scope(alloc, best, names, text)?;
     let temporaries = temporary_words(alloc, best, names, &text.temporaries)?;
-    let scope = Scope {
-        names,
-        program: text,
-        locals,
-        labels,
-    };
     let instrs = instructions(alloc, best, &scope, &text.instrs)?;
     check_end(best, &text.instrs);
     Ok(ResolvedProgram {

@@ -177,6 +177,5 @@ pub(crate) fn resolve(
     ensures noted { OnOk result (Notes best.old (violations system.now) best.new) }
 {
     let names = names(alloc, best, system)?;
-    let made = parts(alloc, best, &names, system)?;
-    Ok(made)
+    parts(alloc, best, &names, system)
 }
