@@ -3,9 +3,9 @@
 
     python3 .ci/tools/times.py .ci/run
 
-It looks at the prover's processes a few times a second, whoever started them, so nothing else of the kit may run beside it. A process that
-lives shorter than that isn't seen. The table has a row for each crate, the dearest first, and the sums; then come the time by the clock,
-and the most memory that was in use at once.
+It looks at the prover's processes among the command's descendants a few times a second. One that lives shorter than that isn't seen. What
+else runs on the machine isn't counted, but makes the rest take longer. The table has a row for each crate, the dearest first, and the sums;
+then come the time by the clock, and the most memory that was in use at once.
 """
 import os
 import subprocess
@@ -29,14 +29,15 @@ class Process:
 
 @dataclass
 class Seen:
-    """The prover's processes so far, by number and time of start, and the most memory that they held at once."""
+    """The prover's processes below one process so far, by number and time of start, and the most memory that they held at once."""
 
+    above: int
     processes: dict = field(default_factory=dict)
     memory: int = 0
 
     def look(self):
         held = 0
-        for pid in filter(str.isdigit, os.listdir("/proc")):
+        for pid in descendants(self.above):
             try:
                 held += self.look_at(pid)
             except (OSError, ValueError, IndexError):
@@ -50,7 +51,7 @@ class Seen:
         if not words[0].endswith("bin/rattle") or "--crate-name" not in words:
             return 0
         with open(f"/proc/{pid}/stat", encoding="utf-8") as it:
-            fields = it.read().rsplit(")", 1)[1].split()
+            fields = fields_of(it.read())
         user, system, start, pages = (int(fields[at]) for at in (11, 12, 19, 21))
         key = pid, start
         if key not in self.processes:
@@ -72,6 +73,26 @@ class Seen:
         return sorted(whole, key=lambda row: -row[4])
 
 
+def fields_of(stat):
+    """The fields of a process's line in /proc that follow its name."""
+    return stat.rsplit(")", 1)[1].split()
+
+
+def descendants(above):
+    """The numbers of the processes that a process started, or that these started."""
+    children = {}
+    for pid in filter(str.isdigit, os.listdir("/proc")):
+        try:
+            with open(f"/proc/{pid}/stat", encoding="utf-8") as it:
+                children.setdefault(int(fields_of(it.read())[1]), []).append(int(pid))
+        except (OSError, ValueError, IndexError):
+            pass  # it ended meanwhile
+    found = list(children.get(above, ()))
+    for pid in found:
+        found.extend(children.get(pid, ()))
+    return found
+
+
 def part_of(words, folder):
     """What a process does: it tries an edit, or proves the tests, or the crate."""
     if "rt-edit-" in folder:
@@ -82,8 +103,8 @@ def part_of(words, folder):
 def main(command):
     if not command:
         sys.exit(__doc__)
-    seen, begun = Seen(), time.time()
-    running = subprocess.Popen(command)
+    begun, running = time.time(), subprocess.Popen(command)
+    seen = Seen(os.getpid())
     while running.poll() is None:
         seen.look()
         time.sleep(PAUSE)
