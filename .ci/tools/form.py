@@ -6,11 +6,15 @@ import sys
 from collections import defaultdict
 from pathlib import Path
 
+from believe import files_below, length
+
 SPEC_WIDTH = 140
 CLAUSE_WIDTH = 120
 DEFINITION = re.compile(r"^\s*(?:abbrev |unfoldable )?pub (?:record |data |abbrev )?([^\s:({]+)")
 CITATION = re.compile(r"(?:Rattle\.\w+|crate)(?:\.|::)proofs(?:\.|::)([A-Z]\w*)")
 LINK = re.compile(r"\]\(([^)\s]+)\)")
+STATEMENT = Path("crates/stack_build/specs/Implements.antt")
+READING_ROW = re.compile(r"\|[^|]*\|([^|]*/specs/[^|]*)\| ([\d,]+) \|$")
 
 findings = []
 
@@ -80,6 +84,45 @@ def check_documents():
                     say(f"{path}:{index + 1}", f"{file} has no heading for #{anchor}; mend the link")
 
 
+def files_of_row(names):
+    """The files that a row of the reading list names: a folder ends with a slash, and the names after it are its files."""
+    folder = Path()
+    for name in re.findall(r"`([^`]+)`", names):
+        if name.endswith("/"):
+            folder = Path("crates") / name
+        else:
+            yield (Path("crates") / name if "/" in name else folder / name).with_suffix(".antt")
+
+
+def check_reading_list():
+    readme, files = Path("README.md").read_text(), files_below(STATEMENT)
+    whole = f"{len(files)} files of {sum(map(length, files)):,} lines"
+    if whole not in readme:
+        say("README.md", f"the theorem rests on {whole}; write that, and mend the table after it")
+    listed = []
+    for number, line in enumerate(readme.splitlines(), 1):
+        row = READING_ROW.match(line)
+        if not row:
+            continue
+        row_files = list(files_of_row(row.group(1)))
+        listed += row_files
+        lines = sum(length(file) for file in row_files if file.is_file())
+        if f"{lines:,}" != row.group(2):
+            say(f"README.md:{number}", f"the files of this row have {lines:,} lines; write that")
+    for file in sorted(set(files) ^ set(listed)):
+        say("README.md", f"{file} {'is missing from' if file in files else 'does not belong into'} the reading list")
+
+
+def check_crates():
+    """Each crate stands in the map of the crates, and in the README."""
+    pages = [Path("README.md"), Path("docs/ARCHITECTURE.md")]
+    for line in Path("crates.txt").read_text().splitlines():
+        crate = re.match(r"(\w+):", line)
+        for page in pages if crate else []:
+            if f"`{crate.group(1)}`" not in page.read_text():
+                say(page, f"the crate {crate.group(1)} is missing")
+
+
 def check_lemmas():
     cited = defaultdict(set)
     for path in tracked("crates/*/proofs/*.antt", "crates/*/proofs/**/*.antt", "crates/*/src/*.rt", "crates/*/src/**/*.rt"):
@@ -98,6 +141,9 @@ def check_lemmas():
 check_specs()
 check_clauses()
 check_documents()
+check_reading_list()
+check_crates()
 check_lemmas()
-print("\n".join(findings))
+for finding in findings:
+    print(finding)
 sys.exit(1 if findings else 0)
