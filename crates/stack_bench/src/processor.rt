@@ -1,13 +1,8 @@
-//! Runs a loop of four instructions on the machine, and says how the run ended. The time is taken from outside.
-//!
-//! The first word of the command line is how many rounds the loop makes, 250,000 where there is none. `docs/bench` has
-//! the same loop as an image file.
-#![tactic(auto)]
+//! A loop of four instructions on the processor. `docs/bench` has the same loop as an image file.
 
 use fm_machine::{Machine, NewFault, Outside, Run};
 use std::alloc::Global;
-use std::rt::Env;
-use std::{env, io};
+use std::io;
 use thiserror::Error;
 
 /// The loop, the address that it jumps to, the final instruction and a word of data.
@@ -27,7 +22,7 @@ const FINAL: u32 = 5;
 /// The address of the word of data.
 const DATA: u32 = 6;
 
-/// How many rounds the loop makes, where the command line says nothing.
+/// How many rounds the loop makes, where nothing is said.
 const ROUNDS: u32 = 250_000;
 
 /// More steps than any number of rounds takes.
@@ -35,7 +30,7 @@ const BUDGET: u64 = 1 << 40;
 
 /// Why there is no run.
 #[derive(Debug, Drop, Error)]
-enum Fault {
+pub enum Fault {
     #[error("{0}")]
     Machine(#[from] NewFault),
     #[error("{0}")]
@@ -63,16 +58,9 @@ fn machine(alloc: Global, rounds: u32) -> Result<Machine, Fault> {
     Ok(machine)
 }
 
-/// The first word of the command line as a number.
-fn rounds(rt: &(impl Env + AllocGlobal)) -> io::Result<u32> {
-    match env::args(rt)?.nth(1) {
-        Some(word) => Ok(word.as_str().parse().unwrap_or(ROUNDS)),
-        None => Ok(ROUNDS),
-    }
-}
-
-fn main(rt: HostRuntime) -> Result<(), Fault> {
-    let mut machine = machine(rt.alloc(), rounds(&rt)?)?;
+/// Runs the loop with so many rounds, and prints how the run ended.
+pub fn report(rt: &(impl Print + Alloc<A = Global>), rounds: Option<u32>) -> Result<(), Fault> {
+    let mut machine = machine(rt.alloc(), rounds.unwrap_or(ROUNDS))?;
     match run(&mut machine) {
         Run::Ended { count } => println!(rt; "finished {count}")?,
         Run::Spent => println!(rt; "unfinished {BUDGET}")?,

@@ -1,8 +1,11 @@
 //! Runs of the step machine: a long loop, and deep recursion.
+ghost use Rattle.gypsy_space.specs.Events.{AreNeeds, AreSmall};
+ghost use Rattle.gypsy_syntax.specs.Resolved.{program_of};
+ghost use Rattle.gypsy_syntax.specs.SourceView.{source_of};
 
 use gypsy_check::{Accepted, check};
-use gypsy_meaning::{MeanRun, Meaning};
-use gypsy_space::needs;
+use gypsy_meaning::Meaning;
+use gypsy_space::{Needs, needs};
 use gypsy_syntax::read_gypsy;
 use stack_text::{Kind, Memory, Shape, Value};
 use std::alloc::Global;
@@ -15,8 +18,8 @@ const LIMIT: u64 = 1 << 40;
 const SIZE: u32 = 65_536;
 
 /// A source, and the integers with which main's formals start.
-pub struct Sample {
-    pub name: &'static str,
+struct Sample {
+    name: &'static str,
     text: &'static str,
     values: &'static [i32],
 }
@@ -36,7 +39,8 @@ const RECURSION: &str = "(program main
 (seq (mg-simple-constant-eq b n 0) (if b (no-op) (seq (mg-integer-subtract n n one) (call p (n) ()))))))
 ";
 
-pub static SAMPLES: [Sample; 3] = [
+/// The runs.
+static SAMPLES: [Sample; 3] = [
     Sample {
         name: "a loop of 200,000 rounds",
         text: LOOP,
@@ -63,6 +67,7 @@ fn accepted_of(alloc: Global, text: &str) -> Option<Accepted> {
     check(alloc, read_gypsy(alloc, text).ok()?).ok()
 }
 
+/// The values of integers.
 fn integers(alloc: Global, items: &[i32]) -> Result<Vec<Value>, Memory> {
     let shape = Shape {
         kind: Kind::Integer,
@@ -77,31 +82,50 @@ fn integers(alloc: Global, items: &[i32]) -> Result<Vec<Value>, Memory> {
     Ok(values)
 }
 
-/// The run at its end, and how it ended; `None` where the source isn't accepted or doesn't start.
-fn run(alloc: Global, sample: &Sample) -> Result<Option<(MeanRun, Meaning)>, Memory> {
+/// How a run of a source on values ends; `None` where it doesn't start.
+fn end_of(
+    alloc: Global,
+    accepted: &Accepted,
+    needs: &Needs,
+    values: &[Value],
+) -> Result<Option<String>, Memory>
+    requires needs { AreNeeds (program_of (source_of accepted.now)) needs.now.procedures.items }
+    requires small { AreSmall needs.now.procedures.items }
+{
+    let Some(mut meaning) = Meaning::try_start(alloc, accepted, needs, values, SIZE, SIZE)? else {
+        return Ok(None);
+    };
+    let run = meaning.run(alloc, accepted, needs, LIMIT)?;
+    let (steps, counted) = (meaning.steps(), meaning.counted());
+    Ok(Some(format!(in alloc; "{run:?}, steps {steps}, counted {counted}")?))
+}
+
+/// How a sample's run ends; `None` where its source isn't accepted or doesn't start.
+fn run(alloc: Global, sample: &Sample) -> Result<Option<String>, Memory> {
+    let values = integers(alloc, sample.values)?;
     let Some(accepted) = accepted_of(alloc, sample.text) else {
         return Ok(None);
     };
     let needs = needs(alloc, &accepted)?;
-    let values = integers(alloc, sample.values)?;
-    let started = Meaning::try_start(alloc, &accepted, &needs, values.as_slice(), SIZE, SIZE)?;
-    let Some(mut meaning) = started else {
-        return Ok(None);
-    };
-    let run = meaning.run(alloc, &accepted, &needs, LIMIT)?;
-    Ok(Some((run, meaning)))
+    end_of(alloc, &accepted, &needs, values.as_slice())
 }
 
 /// Runs the sample, and prints how it ended.
-pub fn report(rt: &(impl Print + Alloc<A = Global>), sample: &Sample) -> io::Result<()> {
+fn report_one(rt: &(impl Print + Alloc<A = Global>), sample: &Sample) -> io::Result<()> {
     let name = sample.name;
     match run(rt.alloc(), sample) {
-        Ok(Some((run, meaning))) => {
-            let steps = meaning.steps();
-            let counted = meaning.counted();
-            println!(rt; "{name}: {run:?}, steps {steps}, counted {counted}")
-        }
+        Ok(Some(end)) => println!(rt; "{name}: {end}"),
         Ok(None) => println!(rt; "{name}: no run"),
         Err(_) => println!(rt; "{name}: out of memory"),
     }
+}
+
+/// Runs the sample with this number, or all.
+pub fn report(rt: &(impl Print + Alloc<A = Global>), number: Option<u32>) -> io::Result<()> {
+    for (place, sample) in (1..).zip(&SAMPLES) {
+        if number.is_none() || number == Some(place) {
+            report_one(rt, sample)?;
+        }
+    }
+    Ok(())
 }
