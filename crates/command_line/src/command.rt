@@ -91,7 +91,7 @@ impl Command {
     ghost use Rattle.std.specs.Option.{option_map};
     ghost use Rattle.command_line.specs.CommandFiles.{inputs_of, output_of};
 
-    /// The files that it reads, in order.
+    /// The files that it reads, in order; out of memory is the only error.
     #[tactic(auto, unfolding(crate::specs::CommandFiles::inputs_of))]
     pub fn inputs(&self, alloc: Global) -> Result<Vec<RoleFile<'_>>, Memory>
         ensures { IfOk result (λ inputs.

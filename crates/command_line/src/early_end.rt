@@ -12,10 +12,11 @@ use std::alloc::{AllocError, AllocFailed, Global};
 pub enum EarlyEnd {
     /// A file of this name is not there.
     Missing { name: FileName },
-    /// A file has more bytes than this.
+    /// A file has more bytes than this, which is the most for its role.
     TooLong { limit: u64 },
     /// The shelf failed at this name.
     ShelfFault { name: FileName },
+    /// There was no memory.
     OutOfMemory,
 }
 
@@ -49,7 +50,7 @@ impl EarlyEnd {
         }
     }
 
-    /// The line that is printed. Out of memory prints nothing.
+    /// The line that is printed, with its line feed. Out of memory prints nothing. The only error is out of memory.
     pub fn line(&self, alloc: Global) -> Result<String, Memory>
         ensures { IfOk result (λ line. string_bytes line ≡ end_line self.now) }
     {

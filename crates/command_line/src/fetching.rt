@@ -38,7 +38,10 @@ fn fetch<S: Shelf>(alloc: Global, shelf: &mut S, role: Role, name: &str) -> Resu
     }
 }
 
-/// The texts of the files that a command reads.
+/// The texts of the files that a command reads, fetched in this order.
+///
+/// The first file that is missing, or has more bytes than its role allows, ends the command, and so does a shelf that fails. A
+/// fault is told only where the shelf counted one at one of these names.
 pub fn gather<S: Shelf>(
     alloc: Global,
     shelf: &mut S,

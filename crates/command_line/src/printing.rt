@@ -19,7 +19,7 @@ fn first_line(text: &[u8]) -> (&[u8], &[u8])
     }
 }
 
-/// Prints a text, each of its lines by one call of `put`.
+/// Prints a text, each of its lines by one call of `put`. Where the sink fails, a prefix of the text was printed.
 pub fn print<K: Sink>(out: &mut K, text: &[u8]) -> Result<(), PutFault>
     ensures ok { OnOk result (K.taken out.new ≡ appended (K.taken out.old) text.now) }
     ensures prefix { OnErr result (PrefixAppended (K.taken out.old) (K.taken out.new) text.now) }

@@ -51,6 +51,8 @@ impl Role {
 /// A file that a command reads or writes.
 #[derive(Clone, Copy)]
 pub struct RoleFile<'a> {
+    /// What it is taken for.
     pub role: Role,
+    /// Its name on the shelf.
     pub name: &'a FileName,
 }

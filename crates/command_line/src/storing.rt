@@ -9,7 +9,10 @@ use crate::words::FileName;
 use stack_shelf::{Shelf, StoreFault};
 use std::alloc::Global;
 
-/// Puts bytes under a name.
+/// Stores bytes under a name.
+///
+/// On an error the files are as they were, or the shelf failed, counted a fault at this name, and left no file there or one
+/// with a prefix of the bytes.
 pub fn save<S: Shelf>(
     alloc: Global,
     shelf: &mut S,

@@ -20,6 +20,7 @@ impl Model for FileName {
 }
 
 impl FileName {
+    /// A name of these bytes, which it copies; out of memory is the only error.
     pub fn new(alloc: Global, text: &str) -> Result<FileName, Memory>
         ensures { IfOk result (λ name. name ≡ text.now) }
     {
@@ -28,6 +29,7 @@ impl FileName {
         })
     }
 
+    /// The name as a text.
     pub fn as_str(&self) -> &str
         ensures { result.now ≡ self.now }
     {

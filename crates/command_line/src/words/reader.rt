@@ -30,8 +30,11 @@ impl From<Memory> for WordsFault {
 /// The level of a debug session.
 #[derive(Clone, Copy, PartialEq, Eq)]
 pub enum Level {
+    /// The source's own steps, of the step machine.
     Gypsy,
+    /// Steps of the generated Piton.
     Piton,
+    /// Instructions of the processor.
     Fm9001,
 }
 
