@@ -1,6 +1,6 @@
 #!/usr/bin/env python3
-"""Runs the built program on the rows of command_tables.py, each in a folder of its own, and compares its status, what it prints and what it
-stores with what the row wants.
+"""Runs the built program on the rows of command_tables.py and of the folder rows, each in a folder of its own, and compares its status,
+what it prints and what it stores with what the row wants.
 
     python3 .ci/tools/command_rows.py PROGRAM [FAILING_DEVICES]
 
@@ -8,6 +8,7 @@ FAILING_DEVICES is failing_devices.c, compiled as a library that is loaded befor
 left out. Prints a line for each row that fails, and how many rows there were of each theme. The exit status is 1 where one failed.
 """
 import os
+import re
 import subprocess
 import sys
 import tempfile
@@ -17,6 +18,25 @@ from pathlib import Path
 import command_tables as tables
 
 NEVER = tables.NEVER
+ROWS = Path(__file__).resolve().parent.parent / "rows"
+
+
+def rows_of(name):
+    """The rows of a file: what is printed, and what comes after it, as the file says."""
+    for line in (ROWS / f"{name}.rows").read_text().splitlines():
+        if line and not line.startswith("#"):
+            answer, *rest = line.split("\t")
+            printed = "" if answer == "nothing" else answer.replace(" / ", "\n") + "\n"
+            yield printed, *(unescaped(it) for it in rest)
+
+
+def unescaped(text):
+    """A text with bytes in place of backslashes and what follows them."""
+    return re.sub(r"\\(n|r|t|x..)", lambda it: it.group().encode().decode("unicode_escape"), text)
+
+
+def numbers_in(text):
+    return [int(it) for it in re.findall(r"\d+", text)]
 
 
 @dataclass
@@ -79,12 +99,66 @@ class Rows:
             ending = self.run(words, files)
             self.note("sessions", ending.says(status, printed) and ending.files.keys() == files.keys(), row, ending)
 
+    def scripts(self):
+        for answer, script in rows_of("scripts"):
+            ending = self.run("debug gypsy s v 100 100 d", {"s": tables.SEVEN, "v": "((x 0))", "d": script})
+            self.note("scripts", ending.says(13 if "script D" in answer else 0, answer), (answer, script), ending)
+
     def texts(self):
         for row in tables.TEXTS:
             words, text, status, printed = row
             ending = self.run(words, {"t": text})
             has_image = words.endswith(" i") and status == 0
             self.note("texts", ending.says(status, printed) and ("i" in ending.files) == has_image, row, ending)
+
+    def judged(self):
+        """Texts that keep the rules of the form and the static rules, and texts that break one or more."""
+        for command in ("check", "pcheck"):
+            for answer, text in rows_of(command):
+                ending = self.run(f"{command} t", {"t": text})
+                self.note(f"texts that {command} judges", ending.says(0 if answer == "ok\n" else 2, answer), (answer, text), ending)
+
+    def ends(self, theme, answer, text):
+        """A system halts or is refused. One that halts doesn't a step earlier; linked, it takes as many instructions as it counts."""
+        ending = self.run("prun t 100", {"t": text})
+        halts = answer.startswith("halted ")
+        self.note(theme, ending.says(0 if halts else 8, answer), (answer, text), ending)
+        if not halts:
+            return
+        steps, counted = numbers_in(answer)[:2]
+        ending = self.run(f"prun t {steps - 1}", {"t": text})
+        self.note(theme, ending.says(5, f"unfinished {steps - 1}\n"), ("a step less", text), ending)
+        image = self.run("pbuild t i", {"t": text}).files.get("i", b"")
+        for budget, status, printed in ((counted, 0, f"finished {counted}\n"), (counted - 1, 5, f"unfinished {counted - 1}\n")):
+            ending = self.run(f"run i v {budget}", {"i": image, "v": "()"})
+            self.note(theme, ending.says(status, printed), (f"linked, {budget}", text), ending)
+
+    def systems(self):
+        for answer, text in rows_of("prun"):
+            self.ends("systems that are run", answer, text)
+        programs = (ROWS / "predefined.piton").read_text().rstrip("\n")
+        for answer, stack, variables, code in rows_of("predefined"):
+            head = f"(piton main 20 20 0 ((c-c (nat 2))) ({stack}) (main () ({variables}) {code} (dl end () (ret)))"
+            self.ends("predefined programs", answer, f"{head}\n{programs})")
+        text = self.run("pit s 2 1 t", {"s": tables.NOTHING}).files.get("t", b"").decode()
+        self.note("predefined programs", " ".join(text.split()).endswith(" ".join(programs.split()) + ")"), "the programs of a generated text")
+
+    def meanings(self):
+        """What a source means, and that its image finishes with the same."""
+        for answer, values, source in rows_of("mean"):
+            counted = numbers_in(answer)[1]
+            finished = f"finished {counted}\n" + "".join(answer.splitlines(keepends=True)[2:])
+            for words, printed in (("mean s v 100 100 1000", answer), (f"go s v 100 100 {counted} i", finished)):
+                ending = self.run(words, {"s": source, "v": values})
+                self.note("meanings", ending.says(0, printed), (words, answer, values, source), ending)
+
+    def generated(self):
+        """The texts that are generated of sources, run as Piton."""
+        for answer, sizes, source in rows_of("pit"):
+            text = self.run(f"pit s {sizes} t", {"s": source}).files.get("t", b"")
+            ending = self.run("prun t 1000000", {"t": text})
+            holds = ending.status == 0 and re.fullmatch(re.escape(answer).replace(r"\*", r"\d+"), ending.printed)
+            self.note("generated texts", holds, (answer, sizes, source), ending)
 
     def images(self):
         for row in tables.IMAGES:
@@ -160,7 +234,8 @@ class Rows:
 
 def main(program, failing_devices=None):
     rows = Rows(Path(program).resolve(), failing_devices and Path(failing_devices).resolve())
-    themes = [rows.words, rows.runs, rows.sessions, rows.texts, rows.images, rows.refused_images, rows.linked, rows.stored_images, rows.limits]
+    themes = [rows.words, rows.runs, rows.sessions, rows.scripts, rows.texts, rows.judged, rows.systems]
+    themes += [rows.meanings, rows.generated, rows.images, rows.refused_images, rows.linked, rows.stored_images, rows.limits]
     for theme in themes + [rows.failing] * (failing_devices is not None):
         theme()
     for theme, count in rows.counts.items():

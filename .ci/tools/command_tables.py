@@ -70,6 +70,13 @@ REPEATED = "(program main\n(proc main ((x integer)) () () () (call p (x x) ()))\
 # An array of 4,096 integers.
 LONGEST = "(program main\n(proc main ((a (array integer 4096))) () () () (no-op)))\n"
 
+def many_locals(calls, count):
+    """Main calls a procedure so many times, which has so many locals of 4,096 words each."""
+    local = "(a{} (array integer 4096) (0" + " 0" * 4095 + "))"
+    locals_ = "".join(local.format(number) for number in range(count))
+    return "(program main (proc main () () () () (seq" + " (call p () ())" * calls + f")) (proc p () () ({locals_}) () (no-op)))"
+
+
 # 2. Words of the command line, in a folder without files: the status and what is printed.
 WORDS = [
     ("", 1, "usage\n"),
@@ -131,6 +138,7 @@ RUNS = [
     ("build s 7 3 i", SEVEN, "", 0, "built 629\n"),
     ("mean s v 7 3 2", SEVEN, "((x 0))", 0, "steps 2\ncounted 28\ncondition normal\nx = 7\n"),
     ("mean s v 7 3 1", SEVEN, "((x 0))", 5, "unfinished 1\n"),
+    ("mean s v 7 3 0", SEVEN, "((x 0))", 5, "unfinished 0\n"),
     ("mean s v 6 3 2", SEVEN, "((x 0))", 12, "size control 7\n"),
     ("mean s v 7 2 2", SEVEN, "((x 0))", 12, "size temporary 3\n"),
     ("mean s v 7 3 2", SEVEN, "((x true))", 3, "values V5 at 1\n"),
@@ -167,11 +175,17 @@ RUNS = [
     ),
     ("build s 3 4097 i", LONGEST, "", 0, "built 4710\n"),
     ("build s 3 4096 i", LONGEST, "", 12, "size temporary 4097\n"),
+    ("build s 2 4096 i", LONGEST, "", 12, "size control 3\n"),
+    # Main's 14 words of code and 8,220 for each of 130 calls, and the procedure's 16.
+    ("build s 100 100 i", many_locals(130, 1), "", 12, "size words 1068630\n"),
+    # 22 for a call of a procedure without locals, 61,440 constants, and 4 for each local.
+    ("go s v 19 61455 61522 i", many_locals(1, 15), "()", 0, "finished 61522\ncondition normal\n"),
     ("go s v 100 100 100 i", FOREVER, "()", 5, "unfinished 100\n"),
     ("go s v 17 10 1000 i", RECURSIVE, "((n 2))", 6, "outside 00e00c3f after 325\n"),
     ("go s v 24 10 1000000 i", RECURSIVE, "((n 2))", 0, "finished 357\ncondition normal\nn = 0\n"),
     ("mean s v 24 10 100", RECURSIVE, "((n 2))", 0, "steps 19\ncounted 357\ncondition normal\nn = 0\n"),
     ("mean s v 23 10 100", RECURSIVE, "((n 2))", 7, "noroom at 213 after 8\n"),
+    ("mean s v 24 9 100", RECURSIVE, "((n 2))", 7, "noroom at 213 after 8\n"),
     ("mean s v 23 10 8", RECURSIVE, "((n 2))", 5, "unfinished 8\n"),
     ("go s v 100 100 99 i", HANDLES, "((x 0))", 0, "finished 54\ncondition normal\nx = 5\n"),
     ("go s v 100 100 99 i", LOCAL_CONDITION, "()", 0, "finished 11\ncondition routineerror\n"),
@@ -184,6 +198,12 @@ RUNS = [
     (
         "mean s v 22 37 1000000", PASS, DESCENDING, 0,
         "steps 312\ncounted 10291\ncondition normal\na = (19 18 17 16 15 14 13 12 11 10 9 8 7 6 5 4 3 2 1 20)\nswaps = 19\n",
+    ),
+    ("mean s v 21 37 1000", PASS, DESCENDING, 7, "noroom at 90 after 0\n"),
+    ("mean s v 22 36 1000", PASS, DESCENDING, 7, "noroom at 90 after 0\n"),
+    (
+        "mean s v 22 37 1000", PASS, ALL_ZERO, 0,
+        "steps 274\ncounted 6548\ncondition normal\na = (0 0 0 0 0 0 0 0 0 0 0 0 0 0 0 0 0 0 0 0)\nswaps = 0\n",
     ),
     (
         "go s v 22 37 1000000 i", PASS, ALL_ZERO, 0,
@@ -202,7 +222,14 @@ REGISTERS = (
     "r9 00000000\nr10 00000000\nr11 00000000\nr12 00000000\nr13 00000000\nr14 00000000\nr15 00000002\nflags ----\n"
 )
 
+# The longest line.
+LONGEST_STEP = "step " + "0" * 250 + "1"
+
 SESSIONS = [
+    ("debug gypsy s v 100 100 d", SEVEN, "((x 0))", LONGEST_STEP + "\r\nup", 0, "stepped 1\ntop\n"),
+    ("debug gypsy s v 100 100 d", SEVEN, "((x 0))", LONGEST_STEP.replace(" ", " 0"), 13, "script D6 at line 1\n"),
+    ("debug gypsy s v 100 100 d", SEVEN, "((x 0))", "~" * 256, 13, "script D1 at line 1\n"),
+    ("debug gypsy s v 100 100 d", SEVEN, "((x 0))", "\nshow\r" * 174762, 13, "script D6 at line 174763\n"),
     (
         "debug gypsy s v 100 100 d", SEVEN, "((x 0))", "attach last\nstep 5\ndetach last", 0,
         "attached last\nstepped 2 ended\nlast 48 14\n",

@@ -8,8 +8,6 @@ mod large;
 #[cfg(test)]
 mod runners;
 #[cfg(test)]
-mod scripts;
-#[cfg(test)]
 mod sessions;
 #[cfg(test)]
 mod transcript;

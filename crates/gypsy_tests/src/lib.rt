@@ -6,14 +6,6 @@
 #[cfg(test)]
 mod codegen;
 #[cfg(test)]
-mod meaning;
-#[cfg(test)]
-mod predef;
-#[cfg(test)]
-mod rules;
-#[cfg(test)]
 mod space;
 #[cfg(test)]
 mod syntax;
-#[cfg(test)]
-mod texts;

@@ -6,8 +6,6 @@
 #[cfg(test)]
 mod linked;
 #[cfg(test)]
-mod machine;
-#[cfg(test)]
 mod rules;
 #[cfg(test)]
 mod syntax;
