@@ -1,5 +1,5 @@
 #!/usr/bin/env python3
-"""Runs the built program on the rows of command_tables.py and of the folder rows, each in a folder of its own, and compares its status,
+"""Runs the built program on the rows of command_tables.py, image_tables.py and the folder rows, each in a folder of its own, and compares its status,
 what it prints and what it stores with what the row wants.
 
     python3 .ci/tools/command_rows.py PROGRAM [FAILING_DEVICES]
@@ -16,6 +16,7 @@ from dataclasses import dataclass
 from pathlib import Path
 
 import command_tables as tables
+import image_tables as images
 
 NEVER = tables.NEVER
 ROWS = Path(__file__).resolve().parent.parent / "rows"
@@ -166,18 +167,44 @@ class Rows:
             ending = self.run(words, {"i": bytes.fromhex(image), "v": values})
             self.note("images", ending.says(status, printed), row, ending)
 
-    def refused_images(self):
-        """Each beginning of an image is cut short, a byte more is too many, and a slot at the window's end is outside."""
-        image = bytes.fromhex(tables.IMAGE_OF_RETURN)
+    def show(self, row, image, fault):
+        """An image is refused by this rule at this place, or listed."""
+        ending = self.run("show i", {"i": image})
+        holds = ending.says(4, f"image I{fault[0]} at {fault[1]}\n") if fault else ending.status == 0
+        self.note("images that show judges", holds, row, ending)
+
+    def judged_images(self):
+        """Fields that break a rule; each beginning of an image is cut short, a byte more is too many."""
+        for opening, fault in images.OPENINGS:
+            self.show(opening, opening, fault)
+        for index, number, fault in images.NUMBERS:
+            self.show((index, number), images.returning(index, number), fault)
+        for tail, fault in images.TAILS:
+            self.show(tail, images.returning()[:92] + tail, fault)
+        image = images.returning()
         for length in range(len(image)):
-            ending = self.run("show i", {"i": image[:length]})
-            self.note("refused images", ending.says(4, f"image I3 at {length}\n"), length, ending)
-        ending = self.run("run i v 9", {"i": image + b"\0", "v": "()"})
-        self.note("refused images", ending.says(4, "image I4 at 144\n"), "a byte more", ending)
+            self.show(length, image[:length], (3, length))
+        self.show("a byte more", image + b"\0", (4, 144))
         image = bytearray.fromhex(tables.IMAGE_OF_SEVEN)
         image[116] = 59
         ending = self.run("run i v 9", {"i": bytes(image), "v": "()"})
-        self.note("refused images", ending.says(4, "image I7 at 113\n"), "a slot at 59", ending)
+        self.note("images that show judges", ending.says(4, "image I7 at 113\n"), "a slot at 59", ending)
+        ending = self.run("show i", {"i": images.returning()})
+        self.note("images that show judges", ending.says(0, images.SMALL_LISTING), "the listing of a return", ending)
+
+    def judged_values(self):
+        for answer, slots, text in rows_of("values"):
+            ending = self.run("run i v 1", {"i": images.SLOTS[slots], "v": text})
+            self.note("values that run judges", ending.says(3, answer), (answer, slots, text), ending)
+
+    def largest_image(self):
+        files = {"i": images.largest(), "v": images.LARGEST_TEXT}
+        ending = self.run("run i v 0", files)
+        self.note("the largest image", ending.says(0, images.LARGEST_REPORT), "run", ending)
+        ending = self.run("show i", files)
+        lines = ending.printed.splitlines()
+        holds = len(lines) == 3 + 16 + 1 + 1 + 200 + 200 + images.SIZE and lines[-1] == "fffffffe 000fffff MOVE[cc]{cvnz} (r15)+,#-1"
+        self.note("the largest image", holds, "show")
 
     def linked(self):
         """The image of RETURN byte by byte; what is built of a source and what is linked of the text that is generated from it."""
@@ -235,7 +262,8 @@ class Rows:
 def main(program, failing_devices=None):
     rows = Rows(Path(program).resolve(), failing_devices and Path(failing_devices).resolve())
     themes = [rows.words, rows.runs, rows.sessions, rows.scripts, rows.texts, rows.judged, rows.systems]
-    themes += [rows.meanings, rows.generated, rows.images, rows.refused_images, rows.linked, rows.stored_images, rows.limits]
+    themes += [rows.meanings, rows.generated, rows.images, rows.judged_images, rows.judged_values, rows.largest_image]
+    themes += [rows.linked, rows.stored_images, rows.limits]
     for theme in themes + [rows.failing] * (failing_devices is not None):
         theme()
     for theme, count in rows.counts.items():

@@ -1,7 +1,5 @@
 //! Readings and reports by hand.
 
-mod limits;
-
 use display_maps::{read_up, report};
 use fm_image::{Image, read_image};
 use fm_machine::Machine;

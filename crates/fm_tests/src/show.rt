@@ -162,25 +162,6 @@ fn image_of(
 }
 
 #[test]
-fn lines_of_a_small_image(rt: HostRuntime) -> Result<(), Fail> {
-    let rest = b"\xff\xff\xff\xff\0\0\0\0\0\0\0\0\0\0\0\x0a\
-        \x00\xe0\x84\x00\x00\xe0\x00\x01\x00\xe0\x04\x00\x03\xe0\x04\x3f\0\0\0\0\
-        \x00\xe0\x00\x31\x00\xe0\x3c\x31\x05\xe0\x3c\x0f\0\0\0\0\0\0\0\x07"
-        .as_slice();
-    let image = image_of(rt.alloc(), 0, 11, 7, 0, rest)?;
-    let expected = "base 00000000\nsize 11\nfinal 00000007\nr0 00000008\nr1 00000008\nr2 0000000b\n\
-        r3 00000000\nr4 00000000\nr5 00000000\nr6 00000000\nr7 00000000\nr8 00000000\nr9 00000000\n\
-        r10 00000000\nr11 00000000\nr12 00000000\nr13 00000000\nr14 00000000\nr15 00000002\nflags ----\n\
-        00000000 00e08400 MOVE -(r1),r0\n00000001 00e00001 MOVE r0,r1\n00000002 00e00400 MOVE r1,r0\n\
-        00000003 03e0043f ADD r1,(r15)+\n00000004 00000000 MOVE[cc] r0,r0\n00000005 00e00031 MOVE r0,(r1)+\n\
-        00000006 00e03c31 MOVE r15,(r1)+\n00000007 05e03c0f DEC r15,r15\n00000008 00000000 MOVE[cc] r0,r0\n\
-        00000009 00000007 MOVE[cc] r0,r7\n";
-    let printed = show_image(rt.alloc(), &image)?;
-    assert_eq!(rt; printed.as_slice(), expected.as_bytes());
-    Ok(())
-}
-
-#[test]
 fn lines_of_names_and_slots(rt: HostRuntime) -> Result<(), Fail> {
     let rest = b"\xab\xcd\xf0\x10\0\0\0\x02\0\0\0\x08disorder\0\0\0\x03err\0\0\0\x03\
         \0\0\0\x01x\0\0\0\x00\0\0\0\x00\xab\xcd\xff\xff\
