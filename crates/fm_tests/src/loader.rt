@@ -13,7 +13,7 @@ const INTEGERS: &[u8] = b"\0\0\0\x03\
     \0\0\0\x01i\0\0\0\x00\0\0\0\x00\0\0\0\x73";
 
 /// An image with these slots: a window of 20 words from 100, two words, registers 1 to 16, and the flags c and z.
-fn image(alloc: Global) -> Result<Image, Fail> {
+fn small_image(alloc: Global) -> Result<Image, Fail> {
     let mut bytes = Vec::from_slice(alloc, b"FM91\0\0\0\x01\0\0\0\x64\0\0\0\x14\0\0\0\x66")?;
     for number in 1u32..17 {
         bytes.extend_from_slice(&number.to_be_bytes())?;
@@ -26,7 +26,7 @@ fn image(alloc: Global) -> Result<Image, Fail> {
 
 #[test]
 fn loads_an_image(rt: HostRuntime) -> Result<(), Fail> {
-    let image = image(rt.alloc())?;
+    let image = small_image(rt.alloc())?;
     let text = b"((i -1) (a (10 20 -30)) (x 2147483647))".as_slice();
     let values = read_values(rt.alloc(), text, image.slots.as_slice())?;
     let machine = load(rt.alloc(), &image, &values)?;
