@@ -137,7 +137,22 @@ fn session_of(alloc: Global, runner: Runner) -> Result<Session, Fail>
     Ok(Session::new(alloc, runner, watches)?)
 }
 
-/// Whether a session with a watch of each rule says this to a script.
+/// Whether a session says this to a script.
+fn is_said(
+    alloc: Global,
+    session: &mut Session,
+    script: &[u8],
+    by: Lines,
+    wanted: &str,
+) -> Result<bool, Fail>
+    requires { IsSession session.old }
+{
+    let lines = lines_of(alloc, script)?;
+    let text = said(alloc, session, &lines, by)?;
+    Ok(text.as_slice() == wanted.as_bytes())
+}
+
+/// Whether a session of a run, with a watch of each rule, says this to a script.
 pub(crate) fn says(
     alloc: Global,
     runner: Runner,
@@ -148,7 +163,5 @@ pub(crate) fn says(
     requires { IsRunner runner }
 {
     let mut session = session_of(alloc, runner)?;
-    let lines = lines_of(alloc, script)?;
-    let text = said(alloc, &mut session, &lines, by)?;
-    Ok(text.as_slice() == wanted.as_bytes())
+    is_said(alloc, &mut session, script, by, wanted)
 }
