@@ -2,6 +2,7 @@
 ghost use Rattle.gypsy_space.specs.Events.{AreNeeds, AreSmall};
 ghost use Rattle.gypsy_syntax.specs.Resolved.{program_of};
 ghost use Rattle.gypsy_syntax.specs.SourceView.{source_of};
+ghost use Rattle.gypsy_meaning.specs.Belongs.{BelongsTo};
 
 use gypsy_check::{Accepted, check};
 use gypsy_meaning::Meaning;
@@ -82,8 +83,22 @@ fn integers(alloc: Global, items: &[i32]) -> Result<Vec<Value>, Memory> {
     Ok(values)
 }
 
-/// How a run of a source on values ends; `None` where it doesn't start.
+/// How a run ends, with its counts.
 fn end_of(
+    alloc: Global,
+    accepted: &Accepted,
+    needs: &Needs,
+    meaning: &mut Meaning,
+) -> Result<String, Memory>
+    requires { BelongsTo (source_of accepted.now) needs.now.procedures.items meaning.old }
+{
+    let run = meaning.run(alloc, accepted, needs, LIMIT)?;
+    let (steps, counted) = (meaning.steps(), meaning.counted());
+    Ok(format!(in alloc; "{run:?}, steps {steps}, counted {counted}")?)
+}
+
+/// How a run of a source on values ends; `None` where it doesn't start.
+fn run_on(
     alloc: Global,
     accepted: &Accepted,
     needs: &Needs,
@@ -92,12 +107,10 @@ fn end_of(
     requires needs { AreNeeds (program_of (source_of accepted.now)) needs.now.procedures.items }
     requires small { AreSmall needs.now.procedures.items }
 {
-    let Some(mut meaning) = Meaning::try_start(alloc, accepted, needs, values, SIZE, SIZE)? else {
-        return Ok(None);
-    };
-    let run = meaning.run(alloc, accepted, needs, LIMIT)?;
-    let (steps, counted) = (meaning.steps(), meaning.counted());
-    Ok(Some(format!(in alloc; "{run:?}, steps {steps}, counted {counted}")?))
+    match Meaning::try_start(alloc, accepted, needs, values, SIZE, SIZE)? {
+        Some(mut meaning) => Ok(Some(end_of(alloc, accepted, needs, &mut meaning)?)),
+        None => Ok(None),
+    }
 }
 
 /// How a sample's run ends; `None` where its source isn't accepted or doesn't start.
@@ -107,7 +120,7 @@ fn run(alloc: Global, sample: &Sample) -> Result<Option<String>, Memory> {
         return Ok(None);
     };
     let needs = needs(alloc, &accepted)?;
-    end_of(alloc, &accepted, &needs, values.as_slice())
+    run_on(alloc, &accepted, &needs, values.as_slice())
 }
 
 /// Runs the sample, and prints how it ended.

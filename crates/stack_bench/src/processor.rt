@@ -58,15 +58,21 @@ fn machine(alloc: Global, rounds: u32) -> Result<Machine, Fault> {
     Ok(machine)
 }
 
-/// Runs the loop with so many rounds, and prints how the run ended.
-pub fn report(rt: &(impl Print + Alloc<A = Global>), rounds: Option<u32>) -> Result<(), Fault> {
-    let mut machine = machine(rt.alloc(), rounds.unwrap_or(ROUNDS))?;
-    match run(&mut machine) {
+/// Prints how a run ended, and the sum that it left.
+fn print_end(rt: &impl Print, ended: Run, sum: u32) -> Result<(), Fault> {
+    match ended {
         Run::Ended { count } => println!(rt; "finished {count}")?,
         Run::Spent => println!(rt; "unfinished {BUDGET}")?,
         Run::Outside { address, count } => println!(rt; "outside {address:08x} after {count}")?,
     }
-    let sum = machine.register(2);
     println!(rt; "r2 {sum:08x}")?;
     Ok(())
+}
+
+/// Runs the loop with so many rounds, and prints how the run ended.
+pub fn report(rt: &(impl Print + Alloc<A = Global>), rounds: Option<u32>) -> Result<(), Fault> {
+    let mut machine = machine(rt.alloc(), rounds.unwrap_or(ROUNDS))?;
+    let ended = run(&mut machine);
+    let sum = machine.register(2);
+    print_end(rt, ended, sum)
 }
