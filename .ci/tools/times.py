@@ -5,9 +5,10 @@
 
 It looks at the prover's processes among the command's descendants a few times a second. One that lives shorter than that isn't seen. What
 else runs on the machine isn't counted, but makes the rest take longer. The table has a row for each crate, the dearest first, and the sums;
-then come the time by the clock, and the most memory that was in use at once.
+then come the time by the clock, and the most memory that was in use at once. Stopped by a signal, it prints what it has seen so far.
 """
 import os
+import signal
 import subprocess
 import sys
 import time
@@ -100,14 +101,22 @@ def part_of(words, folder):
     return "tests" if "--test" in words else "proof"
 
 
+def stop(*_):
+    raise KeyboardInterrupt
+
+
 def main(command):
     if not command:
         sys.exit(__doc__)
     begun, running = time.time(), subprocess.Popen(command)
     seen = Seen(os.getpid())
-    while running.poll() is None:
-        seen.look()
-        time.sleep(PAUSE)
+    signal.signal(signal.SIGTERM, stop)
+    try:
+        while running.poll() is None:
+            seen.look()
+            time.sleep(PAUSE)
+    except KeyboardInterrupt:
+        running.terminate()
     rows = seen.table()
     print("| Crate | Proof | Tests | Edits | Together | Gigabytes |\n|---|---|---|---|---|---|")
     for crate, *minutes, memory in rows:
