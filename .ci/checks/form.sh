@@ -3,6 +3,7 @@
 set -u
 cd "$(dirname "${BASH_SOURCE[0]}")/../.." || exit 1
 status=0
+export PYTHONDONTWRITEBYTECODE=1
 python3 .ci/tools/form.py || status=1
 if ! python3 .ci/tools/proof_map.py | diff -q - docs/PROOFMAP.md >/dev/null; then
     echo "docs/PROOFMAP.md isn't current: run  python3 .ci/tools/proof_map.py >docs/PROOFMAP.md"
