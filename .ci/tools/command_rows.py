@@ -1,6 +1,6 @@
 #!/usr/bin/env python3
-"""Runs the built program on the rows of command_tables.py, image_tables.py and the folder rows, each in a folder of its own, and compares its status,
-what it prints and what it stores with what the row wants.
+"""Runs the built program on the rows of command_tables.py, image_tables.py and the folder rows, each in a folder of its own, and compares
+its status, what it prints and what it stores with what the row wants.
 
     python3 .ci/tools/command_rows.py PROGRAM [FAILING_DEVICES]
 

@@ -123,7 +123,7 @@ def main(command):
         print(f"| `{crate}` | " + " | ".join(f"{it:.1f}" for it in minutes) + f" | {memory:.1f} |")
     print("| all | " + " | ".join(f"{sum(row[at] for row in rows):.0f}" for at in (1, 2, 3, 4)) + " | |")
     print(f"{(time.time() - begun) / 60:.0f} minutes by the clock, at most {seen.memory / 2**30:.1f} GB at once")
-    return running.returncode
+    return 1 if running.poll() is None else running.returncode
 
 
 if __name__ == "__main__":
