@@ -19,7 +19,8 @@ import command_tables as tables
 import image_tables as images
 
 NEVER = tables.NEVER
-ROWS = Path(__file__).resolve().parent.parent / "rows"
+TOP = Path(__file__).resolve().parent.parent.parent
+ROWS = TOP / ".ci/rows"
 
 
 def rows_of(name):
@@ -29,6 +30,19 @@ def rows_of(name):
             answer, *rest = line.split("\t")
             printed = "" if answer == "nothing" else answer.replace(" / ", "\n") + "\n"
             yield printed, *(unescaped(it) for it in rest)
+
+
+def documented_image():
+    """The bytes of the example in docs/image-file.md: each place of the file with what stands there. The words come in a table of their own."""
+    text = (TOP / "docs/image-file.md").read_text().split("## An example, byte by byte")[1].split("\n## ")[0]
+    start, factor = 0, 1
+    for line in text.splitlines():
+        cells = [it.strip() for it in line.strip("|").split("|")]
+        if cells[0] == "Address":
+            start, factor = 121, 4
+        if cells[0].isdigit() and "`" in cells[1]:
+            times = {"twelve": 12, "four": 4}.get(cells[1].split(" ")[0], 1)
+            yield start + factor * int(cells[0]), bytes.fromhex("".join(re.findall(r"`([0-9a-f ]+)`", cells[1])) * times)
 
 
 def unescaped(text):
@@ -84,14 +98,19 @@ class Rows:
         for words, status, printed in tables.WORDS:
             ending = self.run(words, {})
             self.note("words of the command line", ending.says(status, printed) and not ending.files, words, ending)
+        ran = subprocess.run([self.program, b"\xff"], stdout=subprocess.PIPE, check=False)
+        self.note("words of the command line", (ran.returncode, ran.stdout) == (19, b""), "a word that isn't UTF-8")
 
     def runs(self):
-        """`go` and `build` store an image where they get so far, and `pit` a text."""
+        """`go` and `build` store an image where they get so far, and `pit` a text. What `go` finishes with, the stored image finishes with."""
         for row in tables.RUNS:
             words, source, values, status, printed = row
             ending = self.run(words, {"s": source, "v": values})
             has_image = words.endswith(" i") and status in (0, 3, 5, 6)
             self.note("sources that are run", ending.says(status, printed) and ("i" in ending.files) == has_image, row, ending)
+            if words.startswith("go ") and status == 0:
+                ending = self.run(f"run i v {words.split()[5]}", {"i": ending.files.get("i", b""), "v": values})
+                self.note("images of sources that are run", ending.says(status, printed), row, ending)
 
     def sessions(self):
         for row in tables.SESSIONS:
@@ -222,12 +241,18 @@ class Rows:
             self.note("linked texts", same, source)
 
     def stored_images(self):
-        """An image that `go` stored runs on its own, on other values, and is the one that `build` stores."""
+        """An image that `go` stored runs on its own, on other values, and is the one that `build` stores; its bytes are those of its page."""
         files = {"s": tables.SEVEN, "v": "((x 0))"}
         stored, built = (self.run(words, files).files.get("i") for words in ("go s v 7 3 28 i", "build s 7 3 i"))
         self.note("stored images", stored == built and stored is not None, "go and build")
         ending = self.run("run i v 28", {"i": stored or b"", "v": "((x 9))"})
         self.note("stored images", ending.says(0, "finished 28\ncondition normal\nx = 7\n"), "run", ending)
+        for place, content in documented_image():
+            holds = (built or b"")[place : place + len(content)] == content
+            self.note("stored images", holds, ("docs/image-file.md", place, content.hex()))
+        long = self.run("build s 19 61455 i", {"s": tables.many_locals(1, 15)}).files.get("i", b"")
+        ending = self.run("run i v 61522", {"i": long, "v": "()"})
+        self.note("stored images", len(long) > 400_000 and ending.says(0, "finished 61522\ncondition normal\n"), "a long one", ending)
 
     def limits(self):
         whole = {
@@ -253,10 +278,27 @@ class Rows:
             ending = self.run("go s v 7 3 28 i", files, file_call, line_call)
             is_first = ending.files.get("i", b"") == whole[:stored]
             self.note("failing devices", ending.says(status, printed) and is_first, row, ending)
-        for row in tables.FAILING_TEXTS:
-            words, file_call, line_call, status, printed = row
-            ending = self.run(words, {"t": tables.RETURN}, file_call, line_call)
-            self.note("failing devices", ending.says(status, printed), row, ending)
+        for words, names in tables.FAILING_IN_TURN:
+            self.fail_in_turn(words, names.split())
+
+    def fail_in_turn(self, words, names):
+        """Each call of a device fails in turn, and keeps three bytes; the first call that isn't there changes nothing."""
+        files = {name: tables.FILES[name] for name in names if name in tables.FILES}
+        whole = self.run(words, files)
+        self.note("calls of devices that fail in turn", whole.status == 0, words, whole)
+        lines = whole.printed.splitlines(keepends=True)
+        for call, name in enumerate(names):
+            ending = self.run(words, files, file_call=(call, 3))
+            stored = {} if name in files else {name: whole.files.get(name, b"")[:3]}
+            left = {it: content for it, content in whole.files.items() if it in files} | stored
+            holds = ending.says(10, f"shelf fault {name}\n") and ending.files == left
+            self.note("calls of devices that fail in turn", holds, (words, name), ending)
+        for call, line in enumerate(lines):
+            ending = self.run(words, files, line_call=(call, 3))
+            holds = ending.says(11, "".join(lines[:call]) + line[:3]) and ending.files == whole.files
+            self.note("calls of devices that fail in turn", holds, (words, line), ending)
+        ending = self.run(words, files, (len(names), 3), (len(lines), 3))
+        self.note("calls of devices that fail in turn", ending == whole, (words, "none"), ending)
 
 
 def main(program, failing_devices=None):

@@ -77,6 +77,23 @@ def many_locals(calls, count):
     return "(program main (proc main () () () () (seq" + " (call p () ())" * calls + f")) (proc p () () ({locals_}) () (no-op)))"
 
 
+def many_formals(count):
+    """Main has so many integers and so many conditions, and signals the last condition."""
+    formals = " ".join(f"(x{number} integer)" for number in range(count))
+    conditions = " ".join(f"c{number}" for number in range(count))
+    return f"(program main (proc main ({formals}) ({conditions}) () () (signal c{count - 1})))"
+
+
+def many_values(count):
+    return "(" + " ".join(f"(x{number} {number - 7})" for number in range(count)) + ")"
+
+
+def many_read(count):
+    """What memory is read as after a run of many_formals on many_values."""
+    return f"condition c{count - 1}\n" + "".join(f"x{number} = {number - 7}\n" for number in range(count))
+
+
+
 # 2. Words of the command line, in a folder without files: the status and what is printed.
 WORDS = [
     ("", 1, "usage\n"),
@@ -214,6 +231,14 @@ RUNS = [
     ("big 7 900", "", "", 0, "source 90455\nfinished 67266\ncondition normal\nx = -443\n"),
 ]
 
+# Main's index of each formal and two words more, and each formal and the number of the condition: main's stacks. The signal is 4
+# instructions, and the way out of main 4.
+for count in (7, 60, 200):
+    RUNS += [
+        (f"go s v {count + 2} {count + 1} 8 i", many_formals(count), many_values(count), 0, "finished 8\n" + many_read(count)),
+        (f"mean s v {count + 2} {count + 1} 2", many_formals(count), many_values(count), 0, "steps 2\ncounted 8\n" + many_read(count)),
+    ]
+
 # 4. Sessions: a source, values and a script; the status and what is printed.
 
 # What the processor shows of NOTHING before its first instruction, with 100 words for each stack.
@@ -316,6 +341,11 @@ NESTED_200 = "(" * 200 + ")" * 200
 
 OPEN_201 = "(" * 201
 
+# A system whose only area has so many words; they are printed in one line.
+def long_area(count):
+    return "(piton main 2 1 0 ((a" + " (nat 0)" * count + ")) () (main () () (ret)))"
+
+
 # Commands on a text: the status and what is printed.
 TEXTS = [
     ("check t", SEVEN, 0, "ok\n"),
@@ -326,6 +356,8 @@ TEXTS = [
     ("check t", "", 2, "refused G6 at 0\n"),
     ("check t", NESTED_200, 2, "refused M1 at 0\n"),
     ("check t", OPEN_201, 2, "refused G4 at 200\n"),
+    ("check t", "(" * 1_048_576, 2, "refused G4 at 200\n"),
+    ("check t", "(" * 1_048_577, 12, "size file 1048576\n"),
     ("pcheck t", RETURN, 0, "ok\n"),
     ("pcheck t", COMMENTED, 0, "ok\n"),
     ("pcheck t", JUMP_WITHOUT_LABEL, 2, "refused P7 at 36\n"),
@@ -352,6 +384,7 @@ TEXTS = [
         "prun t 9", ALL_WORDS, 0,
         "halted 2\ncounted 6\na (nat 1) (int -2)\nb (addr a 1) (pc p 1) (subr p) (bool t) (bitv 5)\nstack (bool f) (nat 1)\n",
     ),
+    ("prun t 1", long_area(20_000), 0, "halted 1\ncounted 4\na" + " (nat 0)" * 20_000 + "\nstack\n"),
     ("prun t 9", "(piton)", 2, "refused P1 at 0\n"),
     ("pbuild t i", JUMP_TO_NOWHERE, 2, "refused Q7 at 77\n"),
     ("pbuild t i", SEVEN_LESS_FIVE, 0, "built 18\n"),
@@ -462,17 +495,27 @@ FAILING_RUNS = [
     ((2, 0), (0, 5), 11, "shelf", 0),
 ]
 
-# The same for commands on RETURN: the words, the calls, the status and what is printed.
-FAILING_TEXTS = [
-    ("check t", (0, 3), NEVER, 10, "shelf fault t\n"),
-    ("pcheck t", (0, 3), NEVER, 10, "shelf fault t\n"),
-    ("pcheck t", (1, 3), NEVER, 0, "ok\n"),
-    ("pcheck t", NEVER, (0, 0), 11, ""),
-    ("pcheck t", NEVER, (0, 2), 11, "ok"),
-    ("pbuild t i", (0, 3), NEVER, 10, "shelf fault t\n"),
-    ("pbuild t i", (1, 3), NEVER, 10, "shelf fault i\n"),
-    ("pbuild t i", NEVER, (0, 5), 11, "built"),
-    ("prun t 5", (0, 3), NEVER, 10, "shelf fault t\n"),
-    ("prun t 5", NEVER, (1, 4), 11, "halted 1\ncoun"),
-    ("prun t 5", NEVER, (3, 4), 0, "halted 1\ncounted 4\nstack\n"),
+# Commands with the files that they read and store, in this order; each call of a device fails in turn.
+FAILING_IN_TURN = [
+    ("check s", "s"),
+    ("mean s v 7 3 2", "s v"),
+    ("pit s 7 3 o", "s o"),
+    ("build s 7 3 o", "s o"),
+    ("go s v 7 3 28 o", "s v o"),
+    ("big 1 1", ""),
+    ("debug piton s v 7 3 d", "s v d"),
+    ("pcheck t", "t"),
+    ("prun t 5", "t"),
+    ("pbuild t o", "t o"),
+    ("run i v 28", "i v"),
+    ("show j", "j"),
 ]
+
+FILES = {
+    "s": SEVEN,
+    "v": "((x 0))",
+    "d": "attach count\nshow\nstep 9\ndetach count\nup",
+    "t": RETURN,
+    "i": bytes.fromhex(IMAGE_OF_SEVEN),
+    "j": bytes.fromhex(IMAGE_OF_ALL),
+}
