@@ -3,7 +3,7 @@
 import re
 import subprocess
 import sys
-from collections import defaultdict
+from collections import Counter, defaultdict
 from pathlib import Path
 
 from believe import files_below, length
@@ -13,6 +13,13 @@ CLAUSE_WIDTH = 120
 DEFINITION = re.compile(r"^\s*(?:abbrev |unfoldable )?pub (?:record |data |abbrev )?([^\s:({]+)")
 CITATION = re.compile(r"(?:Rattle\.\w+|crate)(?:\.|::)proofs(?:\.|::)([A-Z]\w*)")
 LINK = re.compile(r"\]\(([^)\s]+)\)")
+NAMED_PATH = re.compile(r"`((?:crates|docs|examples|\.ci)/[\w./-]+)`")
+LEMMA = re.compile(r"(  )?(?:abbrev |unfoldable )?(?:pub )?([^\s:(){}]+) : ")
+TOKEN = re.compile(r"[^\s(){};,.:\[\]λ]+")
+GHOST_USE = re.compile(r"^ *ghost use [^{;]*\{([^}]*)\};\n", re.M)
+ANY_USE = re.compile(r"^ *(?:pub )?(?:ghost )?use [^;]*;\n", re.M)
+# Lemmas that stand for themselves: DECISIONS 16.
+KEPT_LEMMAS = {"outcome_is"}
 STATEMENT = Path("crates/stack_build/specs/Implements.antt")
 READING_ROW = re.compile(r"\|[^|]*\|([^|]*/specs/[^|]*)\| ([\d,]+) \|$")
 
@@ -73,6 +80,9 @@ def check_documents():
             starts_table = line.startswith("|") and (index == 0 or not lines[index - 1].startswith("|"))
             if starts_table and not (index + 1 < len(lines) and re.match(r"\|[ :|-]+\|?$", lines[index + 1])):
                 say(f"{path}:{index + 1}", "a table row without its head; remove the blank line before it")
+            for named in NAMED_PATH.findall(line):
+                if not any(Path(named + ending).exists() for ending in ("", ".antt", ".rt")):
+                    say(f"{path}:{index + 1}", f"there is no {named}; mend the path")
             for link in LINK.findall(line):
                 if "://" in link:
                     continue
@@ -136,6 +146,55 @@ def check_lemmas():
             continue
         if not cited[path.parts[1], path.stem] - {path}:
             say(path, "no proof cites this lemma module; remove it, or put its law on a clause")
+    check_lemma_names()
+
+
+def lemmas_of(lines):
+    """The lemmas of a file: the first line and the one after the last, and the name."""
+    index = 0
+    while index < len(lines):
+        found = LEMMA.match(lines[index])
+        start, index = index, index + 1
+        if not found:
+            continue
+        indent, name = found.group(1) or "", found.group(2)
+        while index < len(lines) and (lines[index].startswith((f"{indent}{name} ", f"{indent}  ", "unfolding "))):
+            index += 1
+        if not indent or not is_field(lines, start):
+            yield start, index, name
+
+
+def is_field(lines, index):
+    """Whether a line that is set in belongs to a record or a type with variants."""
+    above = next((it for it in reversed(lines[:index]) if it and not it.startswith(" ")), "")
+    return re.search(r"\b(record|data)\b", above) is not None
+
+
+def check_lemma_names():
+    """Each lemma is used somewhere outside itself, by its name."""
+    texts = {it: it.read_text() for it in tracked("crates/*.antt", "crates/*.rt")}
+    uses = Counter(word for text in texts.values() for word in TOKEN.findall(text))
+    for path, text in texts.items():
+        if len(path.parts) != 4 or path.parts[2] != "proofs" or path.name == "Lib.antt":
+            continue
+        lines = text.splitlines()
+        for start, end, name in lemmas_of(lines):
+            own = TOKEN.findall("\n".join(lines[start:end])).count(name)
+            if uses[name] == own and name not in KEPT_LEMMAS:
+                say(f"{path}:{start + 1}", f"nothing uses {name}; remove it")
+
+
+def check_imports():
+    """Each name that a `ghost use` of the code imports is used in its file."""
+    for path in tracked("crates/*/src/*.rt", "crates/*/src/**/*.rt"):
+        text = path.read_text()
+        rest = re.sub(r"//.*", "", ANY_USE.sub("", text))
+        for names in GHOST_USE.findall(text):
+            for name in (it.split(" as ")[-1].strip() for it in names.split(",") if it.strip()):
+                parts = [it for it in name.split("◌") if it]
+                word = rf"(?<![\w']){re.escape(name)}(?![\w'])"
+                if not (re.search(word, rest) if re.fullmatch(r"[\w'«»-]+", name) else all(it in rest for it in parts)):
+                    say(path, f"it imports {name} and doesn't use it")
 
 
 check_specs()
@@ -144,6 +203,7 @@ check_documents()
 check_reading_list()
 check_crates()
 check_lemmas()
+check_imports()
 for finding in findings:
     print(finding)
 sys.exit(1 if findings else 0)
