@@ -5,7 +5,7 @@ use Rattle.std.proofs.lemmas.Bool.{and_from, le-leb, le-ltb, lt-ltb}
 use Rattle.fm_words.specs.Code.{no_flags}
 use Rattle.fm_image.specs.declared.slot.Slot.{Slot}
 use Rattle.fm_image.specs.Image.{ImageOf, all_after, is_image}
-use Rattle.fm_image.proofs.Limits.{from_limits}
+use Rattle.fm_image.proofs.LimitLaws.{from_limits}
 use Rattle.piton_check.specs.Answers.{CheckedOf, IsChecked}
 use Rattle.piton_check.specs.Instruction.{SystemView}
 use Rattle.piton_machine.specs.Fits.{system_in}

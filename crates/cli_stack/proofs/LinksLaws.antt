@@ -9,7 +9,7 @@ use Rattle.stack_shelf.specs.Files.{Files, file_at}
 use Rattle.stack_shelf.specs.Shelf.{fetched}
 use Rattle.fm_machine.specs.Run.{Outcome, outcome}
 use Rattle.fm_machine.specs.declared.processor.Run.TheVariants.{Ended}
-use Rattle.fm_machine.proofs.Runs.{outcome_only}
+use Rattle.fm_machine.proofs.RunLaws.{outcome_only}
 use Rattle.fm_image.specs.Spelling.{spelling}
 use Rattle.fm_loader.specs.Loaded as loader
 use Rattle.piton_check.specs.Answers.{CheckedOf, IsChecked}

@@ -6,9 +6,9 @@ use Rattle.stack_shelf.specs.Files.{Files}
 use Rattle.stack_shelf.specs.Shelf.{fetched, within}
 use Rattle.fm_machine.specs.Run.{Outcome, outcome}
 use Rattle.fm_machine.specs.declared.processor.Run.TheVariants.{Ended}
-use Rattle.fm_machine.proofs.Runs.{outcome_only}
+use Rattle.fm_machine.proofs.RunLaws.{outcome_only}
 use Rattle.fm_image.specs.Image.{ImageOf}
-use Rattle.fm_image.proofs.Whole.{spelled_reads}
+use Rattle.fm_image.proofs.ImageLaws.{spelled_reads}
 use Rattle.fm_loader.specs.Loaded.{loaded}
 use Rattle.fm_loader.specs.Values.{values_in}
 use Rattle.stack_text.specs.Values.{ValueOf}

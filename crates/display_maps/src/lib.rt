@@ -6,7 +6,7 @@ mod reading;
 mod running;
 mod shown;
 
-pub use printing::{Variable, push_lines, push_reading, report};
+pub use printing::{push_reading, report};
 pub use reading::{Reading, read_up};
 pub use running::push_run;
 pub use shown::{Shown, condition_of, item_of};

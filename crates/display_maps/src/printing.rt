@@ -1,9 +1,8 @@
 //! The report of a run.
 
 ghost use Rattle.std.specs.Prelude.{◌≡◌, ◌++◌, map, IfOk, OnOk};
-ghost use Rattle.std.specs.List.{flat_map};
 ghost use Rattle.std.specs.Option.{option_copied};
-ghost use Rattle.display_maps.specs.Report.{shown_text, spaced, items_text, value_text, variable_line, condition_line, reading_lines, shaped, lines_of_reading, report_text};
+ghost use Rattle.display_maps.specs.Report.{spaced, items_text, value_text, variable_line, condition_line, reading_lines, shaped, lines_of_reading, report_text};
 ghost use Rattle.display_maps.specs.Variable.{variable_of_line};
 
 use crate::reading::Reading;
@@ -13,8 +12,8 @@ use stack_text::{Memory, Name, Shape};
 use std::alloc::Global;
 
 /// What the line of a variable says.
-#[derive(Clone, Copy, Debug)]
-pub struct Variable<'a> {
+#[derive(Clone, Copy)]
+pub(crate) struct Variable<'a> {
     pub name: &'a Name,
     /// An array's items are printed in parentheses.
     pub shape: Shape,
@@ -94,8 +93,8 @@ fn push_condition(
 /// Appends the lines of a reading, each of which ends in LF: `condition` with the condition, where there is one, and
 /// each variable as `NAME = VALUE`.
 ///
-/// The only error is out of memory; the text is then a prefix of these lines after the text before.
-pub fn push_lines(
+/// The only error is out of memory; the text may then end with a part of these lines.
+pub(crate) fn push_lines(
     alloc: Global,
     text: &mut Vec<u8>,
     condition: Option<&Shown>,

@@ -1,6 +1,6 @@
 //! Memory read as a condition and variables.
 
-ghost use Rattle.std.specs.Prelude.{◌≡◌, ◌≤◌, map, IfOk};
+ghost use Rattle.std.specs.Prelude.{◌≡◌, map, IfOk};
 ghost use Rattle.std.specs.Option.{option_map};
 ghost use Rattle.stack_text.specs.Values.{item_count};
 ghost use Rattle.display_maps.specs.Reading.{word_or_zero, condition_of, item_of, words_down, variable_of, reading};
@@ -40,7 +40,7 @@ fn word_or_zero(machine: &Machine, address: u32) -> u32
 }
 
 /// The condition that the word at an address says.
-fn condition_at(
+fn condition_read(
     machine: &Machine,
     names: &[Name],
     address: Option<u32>,
@@ -93,7 +93,7 @@ pub fn read_up(alloc: Global, machine: &Machine, image: &Image) -> Result<Readin
     ensures { IfOk result (λ read. read ≡ reading image.now machine.now.state) }
 {
     Ok(Reading {
-        condition: condition_at(machine, &image.conditions, image.condition_address)?,
+        condition: condition_read(machine, &image.conditions, image.condition_address)?,
         items: variables(alloc, machine, &image.slots)?,
     })
 }

@@ -73,7 +73,7 @@ fn push_variables(
 
 /// Appends the lines of a run of a source: `condition` with its condition, and each variable as `NAME = VALUE`.
 ///
-/// The only error is out of memory; the text is then a prefix of these lines after the text before.
+/// The only error is out of memory; the text may then end with a part of these lines.
 pub fn push_run(
     alloc: Global,
     text: &mut Vec<u8>,

@@ -58,9 +58,3 @@ code_in P pc zero ts (us ∷ tss) h code =
 code_in P pc (suc k) ts (us ∷ tss) h code =
     let a : pc + length us + words_before tss k ≡ pc + (length us + words_before tss k) = omega arith in
     subst (λ b. CodeAt P b ts) a (code_in P (pc + length us) k ts tss h (code_after P pc us (joined tss) code))
-
--- and the next one after its own words
-pub words_next : (tss : List (List ℕ)) (k : ℕ) (ts : List ℕ) → slice_get tss k ≡ Some ts → words_before tss (suc k) ≡ words_before tss k + length ts
-words_next [] k ts h = cc
-words_next (us ∷ tss) zero ts h = let e : us ≡ ts = cc in omega (arith, ap length e)
-words_next (us ∷ tss) (suc k) ts h = let e = words_next tss k ts h in omega arith

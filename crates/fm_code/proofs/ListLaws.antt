@@ -79,11 +79,3 @@ joined_below (ys ∷ xss) (suc a) o xs h q =
     let n = length-append ys (joined xss) in
     let g = joined_below xss a o xs h q in
     omega arith
-
--- another list of as many words in place of one changes no place
-pub words_before-set : (xss : List (List ℕ)) (a b : ℕ) (xs ys : List ℕ) → slice_get xss a ≡ Some xs → length ys ≡ length xs → words_before (slice_set xss a ys) b ≡ words_before xss b
-words_before-set [] a b xs ys h e = refl
-words_before-set (zs ∷ xss) a zero xs ys h e = refl
-words_before-set (zs ∷ xss) zero (suc b) xs ys h e =
-    let same : zs ≡ xs = cc in omega (arith, ap length same)
-words_before-set (zs ∷ xss) (suc a) (suc b) xs ys h e = ap (λ n. length zs + n) (words_before-set xss a b xs ys h e)

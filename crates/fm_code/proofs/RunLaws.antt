@@ -4,7 +4,7 @@ use Rattle.std.specs.Prelude.{slice_index}
 use Rattle.fm_words.specs.declared.condition.Flags.{Flags}
 use Rattle.fm_machine.specs.State.{Fm}
 use Rattle.fm_machine.specs.Run.{IsFirst}
-use Rattle.fm_machine.proofs.Runs.{run_none, avoids_none, run_then, avoids_then}
+use Rattle.fm_machine.proofs.RunLaws.{run_none, avoids_none, run_then, avoids_then}
 use Rattle.fm_code.specs.Execution.{Parts, AreParts, HasView, Arrives, View, view, Executes, CodeAt, final_pc}
 use Rattle.fm_code.proofs.RegisterLaws.{sixteen_are}
 use Rattle.fm_code.proofs.OperandLaws.{RunsTo, state_of}
@@ -66,10 +66,6 @@ arrives_then {P} {j} {k} {s} h g =
 pub arrives_at_once : {P : Parts} {s : Fm} {t : View} → HasView P s t → Arrives P 0 s t
 arrives_at_once {P} {s} h = record { state = s; runs = run_none s; avoids = avoids_none s (final_pc P); laid = h }
 
--- code after a run
-pub executes_then : {P : Parts} {j k : ℕ} {s : Fm} {t u : View} {code : List ℕ} → AreParts P → Arrives P j s t → Executes P code k t u → CodeAt P t.pc code → Arrives P (j + k) s u
-executes_then is h d words = arrives_then h (d.leads h.state is h.laid words)
-
 -- a run that arrives at the final pc is there for the first time
 pub ends : {P : Parts} {n : ℕ} {s : Fm} {t : View} (h : Arrives P n s t) → t.pc ≡ final_pc P → IsFirst s (final_pc P) n h.state
 ends h e = record { reached = h.runs; there = h.laid.r15_is ∙ e; before = h.avoids }
@@ -90,10 +86,6 @@ with_ctrl {P} {n} {s} {f} {pc} {temp = temp} {areas = areas} h e =
 pub with_temp : {P : Parts} {n : ℕ} {s : Fm} {f pc : ℕ} {ctrl temp temp' areas : List ℕ} → RunsToView P n s f pc ctrl temp areas → temp ≡ temp' → RunsToView P n s f pc ctrl temp' areas
 with_temp {P} {n} {s} {f} {pc} {ctrl} {areas = areas} h e =
     subst (λ ws. RunsToView P n s f pc ctrl ws areas) e h
-
-pub with_areas : {P : Parts} {n : ℕ} {s : Fm} {f pc : ℕ} {ctrl temp areas areas' : List ℕ} → RunsToView P n s f pc ctrl temp areas → areas ≡ areas' → RunsToView P n s f pc ctrl temp areas'
-with_areas {P} {n} {s} {f} {pc} {ctrl} {temp} h e =
-    subst (λ ws. RunsToView P n s f pc ctrl temp ws) e h
 
 module _ {P : Parts} {n : ℕ} {s : Fm} {f pc : ℕ} {ctrl temp areas : List ℕ} where
   -- r1 is the first address of the control stack

@@ -1,6 +1,6 @@
 //! The notation of instruction words: an operation, then its target, then its source.
 
-ghost use Rattle.std.specs.Prelude.{◌≡◌, ◌<◌};
+ghost use Rattle.std.specs.Prelude.{◌≡◌};
 ghost use Rattle.fm_words.specs.Code.{IsOperand};
 ghost use Rattle.fm_code.specs.Words.{reg, at, push, pop, immediate, literal, literal_at, instruction, always, setting, when, mov, add, sub};
 
@@ -102,7 +102,7 @@ pub fn literal_at() -> OperandA
     at(15)
 }
 
-// An instruction with its target and its source. An immediate is no target.
+/// An instruction with its target and its source. An immediate is no target.
 fn instruction(op: Op, cc: Cc, set: Flags, target: OperandA, source: OperandA) -> Instr
     ensures { result ≡ instruction op cc set target source }
 {

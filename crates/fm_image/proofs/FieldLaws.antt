@@ -15,7 +15,7 @@ use Rattle.stack_text.specs.Results.{◌>>=◌}
 use Rattle.fm_image.specs.Fields.{number_at, passing, bytes_at, is_name_length, text_at}
 use Rattle.fm_image.specs.Reading.{opening_at, is_magic, is_version, window_at, name_at, condition_at}
 use Rattle.stack_text.proofs.ResultLaws.{bind_ok, bind_at}
-use Rattle.fm_image.proofs.Readers.{IsBytes, ok_is, Took, Took-then, Reads, bytes_reads, is_word, number_reads, passing_reads, refit_reads}
+use Rattle.fm_image.proofs.ReaderLaws.{IsBytes, ok_is, Took, Took-then, Reads, bytes_reads, is_word, number_reads, passing_reads, refit_reads}
 
 abbrev pub limited_reads : (test : ℕ → Bool) (rule : Rule) (end : ℕ) → Reads (passing test rule end (number_at end)) number_bytes (λ n. is_word n && test n)
 limited_reads test rule end = passing_reads test rule end (number_at end) number_bytes is_word (number_reads end)

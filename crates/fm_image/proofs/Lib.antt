@@ -1,7 +1,7 @@
-pub mod ItemLoops
-pub mod Limits
+pub mod ItemLaws
+pub mod LimitLaws
 pub mod NameLaws
-pub mod Readers
+pub mod ReaderLaws
 pub mod FieldLaws
 pub mod SlotLaws
-pub mod Whole
+pub mod ImageLaws

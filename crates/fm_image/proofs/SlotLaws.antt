@@ -19,9 +19,9 @@ use Rattle.fm_image.specs.Spelling.{number_bytes, name_bytes, flags_bytes, addre
 use Rattle.stack_text.specs.Results.{◌>>=◌}
 use Rattle.fm_image.specs.Rules.{Fault}
 use Rattle.fm_image.specs.Fields.{number_at, passing}
-use Rattle.fm_image.specs.Reading.{is_flags, flags_at, address_of, condition_address_at, name_at, is_kind, kind_of, kind_at, is_length, shape_at, slot_name_at, slot_at}
+use Rattle.fm_image.specs.Reading.{is_flags, flags_at, address_from, condition_address_at, name_at, is_kind, kind_of, kind_at, is_length, shape_at, slot_name_at, slot_at}
 use Rattle.stack_text.proofs.ResultLaws.{bind_ok, bind_at}
-use Rattle.fm_image.proofs.Readers.{IsBytes, ok_is, Took, Took-then, Reads, is_word, passing_reads, coded_reads}
+use Rattle.fm_image.proofs.ReaderLaws.{IsBytes, ok_is, Took, Took-then, Reads, is_word, passing_reads, coded_reads}
 use Rattle.fm_image.proofs.FieldLaws.{limited_reads, both, name_reads}
 
 -- ---- flags
@@ -44,7 +44,7 @@ flags_reads end =
 
 -- ---- the condition address
 
-address_back : (n : ℕ) → address_number (address_of n) ≡ n
+address_back : (n : ℕ) → address_number (address_from n) ≡ n
 address_back n =
     elim (cases_Bool (eqb n 4294967295)) [
       | inl e ↦ ap (λ (b : Bool). address_number (cond b None (Some n))) e ∙ sym (eqb-true n 4294967295 e)
@@ -52,7 +52,7 @@ address_back n =
     ]
 
 address_there : (window : Window) → is_window window ≡ true → (a : Option ℕ) → is_condition_address window a ≡ true
-    → (address_of (address_number a) ≡ a) × ((is_word (address_number a) && is_condition_address window (address_of (address_number a))) ≡ true)
+    → (address_from (address_number a) ≡ a) × ((is_word (address_number a) && is_condition_address window (address_from (address_number a))) ≡ true)
 address_there window sized None h = (refl, refl)
 address_there window sized (Some a) h =
     let p = and_parts (is_size window.base window.size) (is_inside window.base window.size window.final_pc) sized in
@@ -60,13 +60,13 @@ address_there window sized (Some a) h =
     let last : window.base + window.size ≤ 4294967295 = leb-true (window.base + window.size) 4294967295 q.1 in
     let inside : a < window.base + window.size = ltb-true a (window.base + window.size) (and_parts (leb window.base a) (ltb a (window.base + window.size)) h).1 in
     let other : eqb a 4294967295 ≡ false = ne_eqb a 4294967295 (λ e. omega (arith, e, last, inside)) in
-    let same : address_of a ≡ Some a = ap (λ (b : Bool). cond b None (Some a)) other in
+    let same : address_from a ≡ Some a = ap (λ (b : Bool). cond b None (Some a)) other in
     (same, and_from _ _ (lt-ltb a (2 ^ 32) (omega (arith, last, inside))) (ap (is_condition_address window) same ∙ h))
 
 pub address_reads : (end : ℕ) (window : Window) → is_window window ≡ true → Reads (condition_address_at end window) condition_address_bytes (is_condition_address window)
 address_reads end window sized =
-    coded_reads address_of address_number (passing (λ n. is_condition_address window (address_of n)) rules.Address end (number_at end)) number_bytes (λ n. is_word n && is_condition_address window (address_of n)) (is_condition_address window)
-    (limited_reads (λ n. is_condition_address window (address_of n)) rules.Address end) (λ n h. (address_back n, (and_parts (is_word n) (is_condition_address window (address_of n)) h).1)) (address_there window sized)
+    coded_reads address_from address_number (passing (λ n. is_condition_address window (address_from n)) rules.Address end (number_at end)) number_bytes (λ n. is_word n && is_condition_address window (address_from n)) (is_condition_address window)
+    (limited_reads (λ n. is_condition_address window (address_from n)) rules.Address end) (λ n h. (address_back n, (and_parts (is_word n) (is_condition_address window (address_from n)) h).1)) (address_there window sized)
 
 -- ---- shapes
 

@@ -52,13 +52,13 @@ flags_at end left = do
   Ok (flags_of number.0, number.1)
 
 -- 2^32 - 1 says that there is no condition word
-abbrev pub address_of : ℕ → Option ℕ
-address_of number = if number == 2 ^ 32 - 1 then None else Some number
+abbrev pub address_from : ℕ → Option ℕ
+address_from number = if number == 2 ^ 32 - 1 then None else Some number
 
 abbrev pub condition_address_at : ℕ → Window → Parser (Option ℕ)
 condition_address_at end window left = do
-  number ← passing (λ n. is_condition_address window (address_of n)) rules.Address end (number_at end) left
-  Ok (address_of number.0, number.1)
+  number ← passing (λ n. is_condition_address window (address_from n)) rules.Address end (number_at end) left
+  Ok (address_from number.0, number.1)
 
 -- a length that no name has, and bytes that are no name, break one rule, at the length
 abbrev pub name_at : ℕ → Parser (List ℕ)
@@ -161,7 +161,7 @@ image_fault bytes = error_of (read_of bytes)
 
 -- What a call says of the faults of a file: an image is read only where there is none, and else the error is the
 -- first. Out of memory alone is free.
-abbrev pub TellsFault : {X : Type 0} → List ℕ → Result X ImageFault → Type 0
-TellsFault bytes (Ok x) = image_fault bytes ≡ None
-TellsFault bytes (Err (Refused rule place)) = image_fault bytes ≡ Some (rule, place)
-TellsFault bytes (Err Memory) = Unit {0}
+abbrev pub ReportsFault : {X : Type 0} → List ℕ → Result X ImageFault → Type 0
+ReportsFault bytes (Ok x) = image_fault bytes ≡ None
+ReportsFault bytes (Err (Refused rule place)) = image_fault bytes ≡ Some (rule, place)
+ReportsFault bytes (Err Memory) = Unit {0}

@@ -2,7 +2,7 @@
 
 ghost use Rattle.std.specs.Prelude.{◌≡◌, ◌≤◌};
 ghost use Rattle.fm_image.specs.Spelling.{address_number, kind_number};
-ghost use Rattle.fm_image.specs.Reading.{address_of, kind_of};
+ghost use Rattle.fm_image.specs.Reading.{address_from, kind_of};
 
 use stack_text::Kind;
 
@@ -34,7 +34,7 @@ pub(crate) fn kind_bits(kind: Kind) -> u32
 
 /// The address of a number, where it is one.
 pub(crate) fn address_from(number: u32) -> Option<u32>
-    ensures { result ≡ address_of number }
+    ensures { result ≡ address_from number }
 {
     if number == NO_ADDRESS {
         None

@@ -7,7 +7,7 @@ ghost use Rattle.std.specs.List.{list_any};
 ghost use Rattle.std.specs.Str.{bytes_eq};
 ghost use Rattle.fm_image.specs.Rules.{GivesExactly, Gives};
 ghost use Rattle.fm_image.specs.Fields.{place, number_at, bytes_at, text_at};
-ghost use Rattle.fm_image.specs.Reading.{opening_at, window_at, numbers_at, flags_at, condition_address_at, name_at, condition_at, count_at, conditions_at, kind_at, shape_at, slot_name_at, slot_at, slots_at, words_at, image_at, read_of, TellsFault};
+ghost use Rattle.fm_image.specs.Reading.{opening_at, window_at, numbers_at, flags_at, condition_address_at, name_at, condition_at, count_at, conditions_at, kind_at, shape_at, slot_name_at, slot_at, slots_at, words_at, image_at, read_of, ReportsFault};
 
 use crate::code::{address_from, kind_from};
 use crate::fault::{ImageFault, Refusal, Rule};
@@ -349,7 +349,7 @@ pub fn read_image(alloc: Global, bytes: &[u8]) -> Result<Image, ImageFault>
     // Where the bytes spell an image, that image is read, or memory runs out.
     ensures only { (image : ImageOf) → Spelled bytes.now image → Gives (λ read. read) result (Ok image) }
     // An error is the first fault of the file.
-    ensures fault { TellsFault bytes.now result }
+    ensures fault { ReportsFault bytes.now result }
     ensures exact { Gives (λ image. image) result (read_of bytes.now) }
 {
     image(alloc, bytes.len(), bytes)

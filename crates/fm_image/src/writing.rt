@@ -1,9 +1,7 @@
 //! Writing images.
 
 ghost use Rattle.std.specs.Prelude.{◌≡◌, ◌≤◌, ◌<◌, ◌^◌, ◌++◌, length, IfOk, OnOk};
-ghost use Rattle.std.specs.List.{flat_map};
-ghost use Rattle.fm_image.specs.Image.{window_of};
-ghost use Rattle.fm_image.specs.Spelling.{number_bytes, numbers_bytes, name_bytes, counted_bytes, slot_bytes, opening_bytes, window_bytes, flags_bytes, condition_address_bytes, spelling};
+ghost use Rattle.fm_image.specs.Spelling.{number_bytes, numbers_bytes, name_bytes, counted_bytes, slot_bytes, opening_bytes, window_bytes, spelling};
 
 use crate::code::{address_bits, kind_bits};
 use crate::image::Image;

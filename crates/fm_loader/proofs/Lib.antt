@@ -1,7 +1,7 @@
-pub mod Trees
-pub mod Names
-pub mod Found
-pub mod Fitting
+pub mod TreeLaws
+pub mod NameLaws
+pub mod FoundLaws
+pub mod FitLaws
 pub mod ValuesLaws
-pub mod Images
-pub mod Stores
+pub mod ImageLaws
+pub mod StoreLaws

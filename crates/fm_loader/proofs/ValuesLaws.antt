@@ -32,9 +32,9 @@ use Rattle.fm_loader.specs.Parsed.{in_32_bits, character_of, scalar_of, scalar_a
 use Rattle.fm_loader.specs.Values.{entry_at, entries_of, mismatch, rule_broken, slot_named, is_named, rule_of, fault_at, entry_fault, number_of, numbers_of, numbers_for, value_with, value_for, unless_fault, found_in, all_found, values_at, values_on, values_in, HaveOwnNames}
 use Rattle.fm_loader.specs.Rules.{rule_number, Fault, Gives}
 use Rattle.fm_loader.specs.Loaded.{Fits}
-use Rattle.fm_loader.proofs.Names.{not_equal, index_within}
-use Rattle.fm_loader.proofs.Found.{at_slot}
-use Rattle.fm_loader.proofs.Fitting.{fits_is_value}
+use Rattle.fm_loader.proofs.NameLaws.{not_equal, index_within}
+use Rattle.fm_loader.proofs.FoundLaws.{at_slot}
+use Rattle.fm_loader.proofs.FitLaws.{fits_is_value}
 
 -- ---- a reading that came to values came to its entries, and each slot has its value
 

@@ -1,6 +1,6 @@
 //! Reading the values of an image's variables.
 
-ghost use Rattle.std.specs.Prelude.{◌≡◌, ◌≤◌, ◌^◌, length, IfOk};
+ghost use Rattle.std.specs.Prelude.{◌≤◌, ◌^◌, length, IfOk};
 ghost use Rattle.stack_text.specs.TreeView.{node_of};
 ghost use Rattle.fm_loader.specs.Rules.{Gives};
 ghost use Rattle.fm_loader.specs.Loaded.{Fits};

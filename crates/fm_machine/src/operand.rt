@@ -1,14 +1,14 @@
 //! How an instruction finds its operands in the registers, and which flags it sets.
 
 ghost use Rattle.std.specs.Prelude.{◌≡◌, ◌<◌};
-ghost use Rattle.fm_machine.specs.Step.{address_of, passed, reads_b, flags_set};
+ghost use Rattle.fm_machine.specs.Step.{address_of, registers_after, reads_b, flags_set};
 
 use fm_words::{AluOut, Flags, Mode, Op};
 
 /// The sixteen registers, by number.
 pub(crate) type Registers = [u32; 16];
 
-// The address of an operand's place, or None for the register itself.
+/// The address of an operand's place, or None for the register itself.
 pub(crate) fn address_of(mode: Mode, reg: u8, registers: &Registers) -> Option<u32>
     requires { reg < 16 }
     ensures { result ≡ address_of mode reg registers.now }
@@ -23,10 +23,10 @@ pub(crate) fn address_of(mode: Mode, reg: u8, registers: &Registers) -> Option<u
     }
 }
 
-// The registers once a place is found.
+/// The registers once a place is found.
 pub(crate) fn pass(mode: Mode, reg: u8, registers: &mut Registers)
     requires { reg < 16 }
-    ensures { registers.new ≡ passed mode reg registers.old }
+    ensures { registers.new ≡ registers_after mode reg registers.old }
 {
     let at = reg as usize;
     match mode {
@@ -36,7 +36,7 @@ pub(crate) fn pass(mode: Mode, reg: u8, registers: &mut Registers)
     }
 }
 
-// Whether an operation reads the second operand.
+/// Whether an operation reads the second operand.
 pub(crate) fn reads_b(op: Op) -> bool
     ensures { result ≡ reads_b op }
 {
@@ -46,7 +46,7 @@ pub(crate) fn reads_b(op: Op) -> bool
     )
 }
 
-// The flags after an operation: those of the mask are new.
+/// The flags after an operation: those of the mask are new.
 pub(crate) fn flags_set(set: Flags, old: Flags, out: AluOut) -> Flags
     ensures { result ≡ flags_set set old out }
 {

@@ -1,2 +1,2 @@
-pub mod Lossless
-pub mod NumberedLines
+pub mod LosslessLaws
+pub mod LineLaws

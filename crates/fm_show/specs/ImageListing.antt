@@ -2,9 +2,8 @@
 use Rattle.std.specs.Prelude.{ℕ, List, [], ◌++◌, Option, None, Some, codes}
 use Rattle.std.specs.Fmt.{decimal}
 use Rattle.std.specs.List.{flat_map}
-use Rattle.stack_text.specs.declared.shape.Kind.{Kind}
-use Rattle.stack_text.specs.declared.shape.Kind.TheVariants.{Integer, Boolean, Character}
 use Rattle.stack_text.specs.declared.shape.Shape.{Shape}
+use Rattle.stack_text.specs.Values.{kind_name}
 use Rattle.fm_image.specs.declared.slot.Slot.{Slot}
 use Rattle.fm_image.specs.Image.{ImageOf}
 use Rattle.fm_show.specs.Digits.{hex_digits}
@@ -26,11 +25,6 @@ condition_line (Some address) = codes "condition " ++ hex_digits address ++ line
 -- `name disorder`
 abbrev pub name_line : List ℕ → List ℕ
 name_line name = codes "name " ++ name ++ line_end
-
-abbrev pub kind_name : Kind → List ℕ
-kind_name Integer = codes "integer"
-kind_name Boolean = codes "boolean"
-kind_name Character = codes "character"
 
 -- `integer 0`, where the length of a simple type is 0
 abbrev pub shape_text : Shape → List ℕ

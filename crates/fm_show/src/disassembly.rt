@@ -15,7 +15,7 @@ use std::fmt;
 ///
 /// Two words have one text exactly where they are one but for the bits that decoding passes over.
 /// The only error is out of memory.
-#[tactic(auto, using(crate::proofs::Lossless::lossless))]
+#[tactic(auto, using(crate::proofs::LosslessLaws::lossless))]
 pub fn disassemble(alloc: Global, word: u32) -> Result<Vec<u8>, Memory>
     ensures text { IfOk result (λ text. text.items ≡ disassembly_text word) }
     ensures lossless { (other : ℕ)

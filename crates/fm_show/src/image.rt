@@ -3,13 +3,13 @@
 ghost use Rattle.std.specs.Prelude.{◌≡◌, ◌++◌, ◌+◌, ◌<◌, ◌^◌, length, IfOk, OnOk, Some};
 ghost use Rattle.std.specs.List.{flat_map};
 ghost use Rattle.fm_show.specs.Listing.{numbered_lines};
-ghost use Rattle.fm_show.specs.ImageListing.{window_lines, condition_line, name_line, kind_name, shape_text, slot_line, word_line, image_listing};
+ghost use Rattle.fm_show.specs.ImageListing.{window_lines, condition_line, name_line, shape_text, slot_line, word_line, image_listing};
 
 use crate::digits::hex_digits;
 use crate::disassembly::disassemble;
 use crate::listing::{push_flags, push_registers};
 use fm_image::{Image, Slot};
-use stack_text::{Kind, Memory, Name, Shape};
+use stack_text::{Memory, Name, Shape};
 use std::alloc::Global;
 use std::fmt;
 
@@ -75,17 +75,6 @@ fn push_names(text: &mut Vec<u8>, names: &[Name]) -> Result<(), Memory>
     Ok(())
 }
 
-/// The word for a kind.
-fn kind_name(kind: Kind) -> &'static str
-    ensures { result.now ≡ kind_name kind }
-{
-    match kind {
-        Kind::Integer => "integer",
-        Kind::Boolean => "boolean",
-        Kind::Character => "character",
-    }
-}
-
 /// The kind and the length of a shape.
 #[derive(Clone, Copy)]
 struct ShapeText(Shape);
@@ -94,7 +83,7 @@ impl fmt::Display for ShapeText {
     ghost output = { λ shape. Some (shape_text shape.0) };
 
     fn fmt<W: fmt::Write>(&self, f: &mut fmt::Formatter<W>) -> fmt::Result {
-        let kind = kind_name(self.0.kind);
+        let kind = self.0.kind.name();
         let length = self.0.length;
         write!(f, "{kind} {length}")
     }

@@ -14,8 +14,8 @@ use std::alloc::Global;
 use std::process::Abort;
 use std::test::Fail;
 
-// The code begins at 100, three words of areas at 150, the control stack's part at 160, the
-// temporary stack's at 170, and the window ends at 180.
+/// The code begins at 100, three words of areas at 150, the control stack's part at 160, the
+/// temporary stack's at 170, and the window ends at 180.
 const CODE: u32 = 100;
 
 const AREAS_END: u32 = 153;
@@ -24,7 +24,7 @@ const TEMP: u32 = 170;
 
 const END: u32 = 180;
 
-// Sets words that end before an address, and gives the address of the first.
+/// Sets words that end before an address, and gives the address of the first.
 fn set_below(machine: &mut Machine, end: u32, words: &[u32]) -> Result<u32, Fail> {
     let mut at = end;
     for word in words.iter().rev() {
@@ -34,7 +34,7 @@ fn set_below(machine: &mut Machine, end: u32, words: &[u32]) -> Result<u32, Fail
     Ok(at)
 }
 
-// The address of the first of words that are found before an address.
+/// The address of the first of words that are found before an address.
 fn found_below(rt: &impl Abort, machine: &Machine, end: u32, words: &[u32]) -> u32 {
     let mut at = end;
     for word in words.iter().rev() {
@@ -61,7 +61,7 @@ fn machine_with(alloc: Global, code: &[u32], view: &View) -> Result<Machine, Fai
     Ok(machine)
 }
 
-// The code leads from the one view to the other in so many steps, and to this pc.
+/// The code leads from the one view to the other in so many steps, and to this pc.
 fn executes(rt: &impl Abort, alloc: Global, case: &Case) -> Result<(), Fail> {
     let Case {
         code,

@@ -1,8 +1,8 @@
 //! Worked values from outside, and the conditions against Rust's own comparisons.
 
-use fm_words::{AluOut, Cc, Flags, Instr, Mode, Op, OperandA, alu, decode, does_hold, encode};
+use fm_words::{AluOut, Cc, Flags, Instr, Mode, Op, OperandA, alu, decode, encode, holds};
 
-// A result with its carry and overflow.
+/// A result with its carry and overflow.
 fn out(word: u32, c: bool, v: bool) -> AluOut {
     AluOut { word, c, v }
 }
@@ -40,7 +40,7 @@ fn operations(rt: HostRuntime) {
     }
 }
 
-// The flags that a subtraction of `a` from `b` leaves.
+/// The flags that a subtraction of `a` from `b` leaves.
 fn flags_of_difference(a: i32, b: i32) -> Flags {
     let out = alu(Op::Sub, false, a.cast_unsigned(), b.cast_unsigned());
     Flags {
@@ -51,7 +51,7 @@ fn flags_of_difference(a: i32, b: i32) -> Flags {
     }
 }
 
-// Each condition with whether it holds after a subtraction of `a` from `b`, by Rust's own comparisons.
+/// Each condition with whether it holds after a subtraction of `a` from `b`, by Rust's own comparisons.
 fn conditions(a: i32, b: i32) -> [(Cc, bool); 16] {
     let (low, high) = (a.cast_unsigned(), b.cast_unsigned());
     let overflows = b.checked_sub(a).is_none();
@@ -82,8 +82,8 @@ fn conditions_after_a_difference(rt: HostRuntime) {
     for a in numbers {
         for b in numbers {
             let flags = flags_of_difference(a, b);
-            for (cc, holds) in conditions(a, b) {
-                assert_eq!(rt; does_hold(cc, flags), holds, "{cc:?} after {b} - {a}");
+            for (cc, wanted) in conditions(a, b) {
+                assert_eq!(rt; holds(cc, flags), wanted, "{cc:?} after {b} - {a}");
             }
         }
     }

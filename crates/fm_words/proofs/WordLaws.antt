@@ -23,10 +23,6 @@ word_of_int-cast_signed word h = grind (arith, nat_tests)
 -- the first two, for attributes
 pub ruleset readings = (signed_of-word_of_int, word_of_int-signed_of)
 
--- a signed reading fits
-pub is_int-signed_of : (word : ℕ) → word < 2 ^ 32 → is_int (signed_of word) ≡ true
-is_int-signed_of word h = grind (arith, nat_tests, ints)
-
 -- the word of an integer has 32 bits
 pub word_of_int_below : (z : ℤ) → is_int z ≡ true → word_of_int z < 2 ^ 32
 word_of_int_below (pos n) h = grind (arith, nat_tests)

@@ -92,7 +92,7 @@ pub enum Cc {
 
 /// Whether a store condition holds of the flags.
 #[inline(always)]
-pub fn does_hold(cc: Cc, flags: Flags) -> bool
+pub fn holds(cc: Cc, flags: Flags) -> bool
     ensures { result ≡ does_hold cc flags }
 {
     let Flags { c, v, n, z } = flags;

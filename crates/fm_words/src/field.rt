@@ -7,7 +7,7 @@ use crate::condition::Cc;
 use crate::instruction::{Mode, OperandA};
 use crate::operation::Op;
 
-// The operation of a number.
+/// The operation of a number.
 pub(crate) fn op_of(number: u32) -> Op
     requires { number < 16 }
     ensures { result ≡ op_of number }
@@ -32,7 +32,7 @@ pub(crate) fn op_of(number: u32) -> Op
     }
 }
 
-// The store condition of a number.
+/// The store condition of a number.
 pub(crate) fn cc_of(number: u32) -> Cc
     requires { number < 16 }
     ensures { result ≡ cc_of number }
@@ -57,7 +57,7 @@ pub(crate) fn cc_of(number: u32) -> Cc
     }
 }
 
-// The mode of a number.
+/// The mode of a number.
 pub(crate) fn mode_of(number: u32) -> Mode
     requires { number < 4 }
     ensures { result ≡ mode_of number }
@@ -70,7 +70,7 @@ pub(crate) fn mode_of(number: u32) -> Mode
     }
 }
 
-// The first operand of an instruction's word.
+/// The first operand of an instruction's word.
 pub(crate) fn operand_of(word: u32) -> OperandA
     ensures { result ≡ operand_of word }
 {
@@ -84,7 +84,7 @@ pub(crate) fn operand_of(word: u32) -> OperandA
     }
 }
 
-// Nine bits as a signed number.
+/// Nine bits as a signed number.
 fn imm_of(bits: u16) -> i16
     requires { bits < 2 ^ 9 }
     ensures { result ≡ imm_of bits }
@@ -96,7 +96,7 @@ fn imm_of(bits: u16) -> i16
     }
 }
 
-// The number of an operation.
+/// The number of an operation.
 pub(crate) fn op_number(op: Op) -> u32
     ensures value { result ≡ op_number op }
     ensures below { result < 16 }
@@ -104,7 +104,7 @@ pub(crate) fn op_number(op: Op) -> u32
     op as u32
 }
 
-// The number of a store condition.
+/// The number of a store condition.
 pub(crate) fn cc_number(cc: Cc) -> u32
     ensures value { result ≡ cc_number cc }
     ensures below { result < 16 }
@@ -112,7 +112,7 @@ pub(crate) fn cc_number(cc: Cc) -> u32
     cc as u32
 }
 
-// The number of a mode.
+/// The number of a mode.
 pub(crate) fn mode_number(mode: Mode) -> u32
     ensures value { result ≡ mode_number mode }
     ensures below { result < 4 }
@@ -120,7 +120,7 @@ pub(crate) fn mode_number(mode: Mode) -> u32
     mode as u32
 }
 
-// Bits 0 to 9 of a first operand.
+/// Bits 0 to 9 of a first operand.
 pub(crate) fn operand_number(a: OperandA) -> u32
     requires { IsOperand a }
     ensures value { result ≡ operand_number a }

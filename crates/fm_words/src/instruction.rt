@@ -54,7 +54,7 @@ pub struct Instr {
 /// bits 6 to 8 where the first operand is no immediate. The other bits can be read back from
 /// the instruction.
 #[inline(always)]
-#[tactic(auto, using(crate::proofs::Fields::encode_decode))]
+#[tactic(auto, using(crate::proofs::FieldLaws::encode_decode))]
 pub fn decode(word: u32) -> Instr
     ensures value { result ≡ decode_of word }
     ensures limits { IsInstr result }
@@ -64,7 +64,7 @@ pub fn decode(word: u32) -> Instr
 }
 
 /// The word of an instruction, with each unused bit zero. Decoding it gives the instruction back.
-#[tactic(auto, using(crate::proofs::Fields::decode_encode))]
+#[tactic(auto, using(crate::proofs::FieldLaws::decode_encode))]
 pub fn encode(instr: Instr) -> u32
     requires { IsInstr instr }
     ensures value { result ≡ encode_of instr }
@@ -73,7 +73,7 @@ pub fn encode(instr: Instr) -> u32
     put_together(instr)
 }
 
-// The six fields of a word.
+/// The six fields of a word.
 #[inline(always)]
 fn taken_apart(word: u32) -> Instr
     ensures value { result ≡ decode_of word }
@@ -89,7 +89,7 @@ fn taken_apart(word: u32) -> Instr
     }
 }
 
-// The six fields in one word.
+/// The six fields in one word.
 fn put_together(instr: Instr) -> u32
     requires { IsInstr instr }
     ensures { result ≡ encode_of instr }

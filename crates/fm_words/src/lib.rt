@@ -11,7 +11,7 @@ mod instruction;
 mod operation;
 mod word;
 
-pub use condition::{Cc, Flags, does_hold};
+pub use condition::{Cc, Flags, holds};
 pub use instruction::{Instr, Mode, OperandA, decode, encode};
 pub use operation::{AluOut, Op, alu};
 pub use word::{is_int, is_nat, signed_of, word_of_int, wrapped};

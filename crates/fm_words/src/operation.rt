@@ -1,6 +1,6 @@
 //! The sixteen operations on words.
 
-ghost use Rattle.std.specs.Prelude.{◌≡◌, ◌+◌, ◌-◌, ◌%◌, ◌^◌, ℕ, pos, ◌+ℤ◌, ◌-ℤ◌, nat_lt, not, false, FitsSigned};
+ghost use Rattle.std.specs.Prelude.{◌≡◌, ◌+◌, ◌-◌, ◌%◌, ◌^◌, pos, ◌+ℤ◌, ◌-ℤ◌, nat_lt, not, false, FitsSigned};
 ghost use Rattle.std.specs.Int.{from_bool, int_div_euclid, w32};
 ghost use Rattle.fm_words.specs.Word.{signed_of, is_int};
 ghost use Rattle.fm_words.specs.Alu.{alu_of, plain};
@@ -82,7 +82,7 @@ pub fn alu(op: Op, carry: bool, a: u32, b: u32) -> AluOut
     }
 }
 
-// A result with neither carry nor overflow.
+/// A result with neither carry nor overflow.
 fn plain(word: u32) -> AluOut
     ensures { result ≡ plain word }
 {
@@ -93,7 +93,7 @@ fn plain(word: u32) -> AluOut
     }
 }
 
-// The signed reading of a word, with room for sums.
+/// The signed reading of a word, with room for sums.
 fn signed(word: u32) -> i64
     ensures value { result ≡ signed_of word }
     ensures fits { FitsSigned w32 result }
@@ -101,7 +101,7 @@ fn signed(word: u32) -> i64
     i64::from(signed_of(word))
 }
 
-// Whether an exact signed result is outside 32 bits.
+/// Whether an exact signed result is outside 32 bits.
 fn overflows(exact: i64) -> bool
     ensures { result ≡ not (is_int exact) }
 {
@@ -154,7 +154,7 @@ fn add_with_carry(carry: bool, a: u32, b: u32) -> AluOut
     AluOut { word, c, v }
 }
 
-// The exact sum of two readings and a carry.
+/// The exact sum of two readings and a carry.
 fn sum_with_carry(carry: bool, s: i64, t: i64) -> i64
     requires first { FitsSigned w32 s }
     requires second { FitsSigned w32 t }
@@ -179,8 +179,8 @@ fn subtract_with_borrow(borrow: bool, a: u32, b: u32) -> AluOut
     AluOut { word, c, v }
 }
 
-// The difference with a borrow, modulo 2^32, and whether it borrows in turn.
-#[tactic(auto, using(crate::proofs::Borrow::borrow_word, crate::proofs::Borrow::borrow_carry))]
+/// The difference with a borrow, modulo 2^32, and whether it borrows in turn.
+#[tactic(auto, using(crate::proofs::BorrowLaws::borrow_word, crate::proofs::BorrowLaws::borrow_carry))]
 fn borrowing_difference(borrow: bool, a: u32, b: u32) -> (u32, bool)
     ensures word { result.0 ≡ (b + 2 ^ 32 - (a + from_bool borrow)) % 2 ^ 32 }
     ensures carry { result.1 ≡ nat_lt b (a + from_bool borrow) }
@@ -188,7 +188,7 @@ fn borrowing_difference(borrow: bool, a: u32, b: u32) -> (u32, bool)
     b.borrowing_sub(a, borrow)
 }
 
-// The exact difference of two readings, less a borrow.
+/// The exact difference of two readings, less a borrow.
 fn difference_with_borrow(borrow: bool, s: i64, t: i64) -> i64
     requires first { FitsSigned w32 s }
     requires second { FitsSigned w32 t }
@@ -208,7 +208,7 @@ fn rotate_right(carry: bool, a: u32) -> AluOut
     }
 }
 
-// The sign bit is kept, so the signed reading is halved, rounded down.
+/// The sign bit is kept, so the signed reading is halved, rounded down.
 #[tactic(auto, using(crate::proofs::ShiftLaws::halved))]
 fn arithmetic_shift_right(a: u32) -> AluOut
     ensures value { result ≡ alu_of Op.Asr false a 0 }

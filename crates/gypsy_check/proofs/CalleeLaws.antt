@@ -42,10 +42,6 @@ past_map f (Some x) b v = refl
 past_map f None true v = refl
 past_map f None false v = refl
 
-pub some_map : {V W : Type 0} (f : V → W) (o : Option V) → is_some (option_map f o) ≡ is_some o
-some_map f None = refl
-some_map f (Some x) = refl
-
 -- the same seen through references
 pub declared : (es : List (Key × Bor Proc)) (key : Key) (proc : Bor Proc) → is_some (lookup (sought key.now) es) ≡ false →
     (other : List ℕ) → option_map (λ (p : Bor Proc). p.now) (lookup (sought other) (insert_entry (λ a b. bytes_eq a.now b.now) es key proc)) ≡ first_or (option_map (λ (p : Bor Proc). p.now) (lookup (sought other) es)) (bytes_eq other key.now) proc.now

@@ -1,6 +1,6 @@
 //! Kinds and types.
 
-ghost use Rattle.std.specs.Prelude.{◌≡◌, not, ◌≤◌};
+ghost use Rattle.std.specs.Prelude.{◌≡◌, ◌≤◌};
 ghost use Rattle.stack_text.specs.Breaches.{Notes};
 ghost use Rattle.gypsy_check.specs.Rules.{is_of_type, type_breaches};
 ghost use Rattle.gypsy_check.specs.Types.{has_length, is_boolean, same_kind, same_length, same_type, words_of_length};

@@ -1,10 +1,8 @@
 //! A large source.
 
-ghost use Rattle.std.specs.Prelude.{◌≡◌, ◌≤◌, ◌*◌, ◌+◌, ◌-◌, ◌%◌, ◌^◌, IfOk, map, [], ◌∷◌};
-ghost use Rattle.stack_text.specs.Names.{is_name};
+ghost use Rattle.std.specs.Prelude.{◌≡◌, ◌≤◌, ◌*◌, ◌+◌, ◌-◌, ◌%◌, IfOk, map, [], ◌∷◌};
 ghost use Rattle.gypsy_syntax.specs.Answers.{KeepsForm};
-ghost use Rattle.gypsy_syntax.specs.SourceView.{parts_of_list, proc_of, source_of, stmt_of};
-ghost use Rattle.gypsy_syntax.specs.Made.{new_seq};
+ghost use Rattle.gypsy_syntax.specs.SourceView.{proc_of, source_of, stmt_of};
 ghost use Rattle.gypsy_check.specs.Rules.{violations};
 ghost use Rattle.gypsy_gen.specs.Large.{next_state, procedure, calls_from, main_procedure, procedures_from, large_of};
 

@@ -20,6 +20,7 @@ use Rattle.stack_text.proofs.AtomLaws.{name_is_run, numeral_is_run}
 use Rattle.stack_text.specs.Grammar.Judged.{Judged, fault, front, judged, ◌⊛◌, each_of}
 use Rattle.stack_text.specs.Grammar.Parts.{count_of, list_or}
 use Rattle.stack_text.specs.Grammar.Printed.{list_tree, name_tree, unplaced_name}
+use Rattle.stack_text.specs.Values.{kind_name}
 use Rattle.stack_text.proofs.NumeralTextLaws.{value-signed_decimal, numeral-signed_decimal, digits-signed_decimal}
 use Rattle.stack_text.proofs.KeepsLaws.{Alike, AllAlike, Holds, IsRun, Keeps, KeepsEach, KeepsName, alike_list_length, alike_items, holds_at, holds_judged, holds_one, holds_six, holds_three, holds_two, keeps_each, keeps_list, keeps_name, keeps_named, named_again, ok_one, ok_six, ok_three, ok_two, passes, well_formed}
 use Rattle.gypsy_syntax.specs.declared.keyword.Keyword.{Keyword}
@@ -30,7 +31,7 @@ use Rattle.gypsy_syntax.specs.declared.predef.Predef.TheVariants as row
 use Rattle.gypsy_syntax.specs.Answers.{KeepsForm}
 use Rattle.gypsy_syntax.specs.Fits.{IsNumber}
 use Rattle.gypsy_syntax.specs.Grammar.{named_in, names_in, number_at, simple_type, array_type, type_in, is_character, simple_at, simple_in, literal_in, decl_in, local_in, arg_in, is_empty_list, statement_in, form_in, statements_in, are_few, procedure_in, source_in}
-use Rattle.gypsy_syntax.specs.Keywords.{keyword_name, keyword_named, keywords, kind_name, kind_named}
+use Rattle.gypsy_syntax.specs.Keywords.{keyword_name, keyword_named, keywords, kind_named}
 use Rattle.gypsy_syntax.specs.Made.{literals, statements, new_name, new_array, new_decl, new_local, new_list, new_seq, new_branch, new_begin, new_call, new_predef, new_proc, new_source}
 use Rattle.gypsy_syntax.specs.Places.{unplaced_type, unplaced_literal, unplaced_arg, unplaced_decl, unplaced_local, unplaced_stmt, unplaced_proc, without_places}
 use Rattle.gypsy_syntax.specs.Printed.{number_tree, type_tree, type_tree_by, literal_tree, literal_trees, arg_tree, decl_tree, local_tree, keyword_tree, stmt_tree, stmt_trees, proc_tree, tree_of}

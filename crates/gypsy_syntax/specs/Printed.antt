@@ -5,12 +5,13 @@ use Rattle.stack_text.specs.Trees.{Node, Nodes, atom, list, none, more}
 use Rattle.stack_text.specs.TreeText.{tree_text}
 use Rattle.stack_text.specs.TreeView.{nodes}
 use Rattle.stack_text.specs.declared.shape.Kind.{Kind}
+use Rattle.stack_text.specs.Values.{kind_name}
 use Rattle.stack_text.specs.Grammar.Printed.{lines_text, list_tree, name_tree, tree_of_all}
 use Rattle.gypsy_syntax.specs.declared.keyword.Keyword.{Keyword}
 use Rattle.gypsy_syntax.specs.declared.keyword.Keyword.TheVariants as word
 use Rattle.gypsy_syntax.specs.declared.literal.Decl.{Decl}
 use Rattle.gypsy_syntax.specs.declared.literal.TypeText.{TypeText}
-use Rattle.gypsy_syntax.specs.Keywords.{keyword_name, kind_name}
+use Rattle.gypsy_syntax.specs.Keywords.{keyword_name}
 use Rattle.gypsy_syntax.specs.Sources.{LiteralOf, LiteralsOf, integer, truth, character, array, no_items, item}
 use Rattle.gypsy_syntax.specs.Sources.{ArgOf, variable, constant}
 use Rattle.gypsy_syntax.specs.Sources.{StmtOf, StmtsOf, no_op, signal, seq, loop, branch, begin, call, predef, no_parts, part}
@@ -82,15 +83,12 @@ keyword_of (begin place body conds arm) = word.Begin
 keyword_of (call place callee xs_place xs cs_place cs) = word.Call
 keyword_of (predef place which args) = word.Predef which
 
+abbrev pub after_first : Node → Nodes
+after_first (list place (more first rest)) = rest
+after_first node = none
+
 abbrev pub stmt_parts : StmtOf → Nodes
-stmt_parts (no_op place) = none
-stmt_parts (signal place cond) = nodes (name_tree cond ∷ [])
-stmt_parts (seq place parts) = stmt_trees parts
-stmt_parts (loop place body) = nodes (stmt_tree body ∷ [])
-stmt_parts (branch place test b c) = nodes (name_tree test ∷ stmt_tree b ∷ stmt_tree c ∷ [])
-stmt_parts (begin place body conds arm) = nodes (stmt_tree body ∷ list_tree name_tree conds ∷ stmt_tree arm ∷ [])
-stmt_parts (call place callee xs_place xs cs_place cs) = nodes (name_tree callee ∷ list_tree name_tree xs ∷ list_tree name_tree cs ∷ [])
-stmt_parts (predef place which args) = nodes (map arg_tree args)
+stmt_parts s = after_first (stmt_tree s)
 
 -- what a procedure takes, and what is its own
 abbrev pub proc_head : ProcOf → List Node

@@ -4,6 +4,6 @@ pub mod ProgramLaws
 pub mod SystemLaws
 pub mod CountLaws
 pub mod SoundLaws
-pub mod SoundUses
+pub mod SoundUseLaws
 pub mod SmallLaws
 pub mod CheckedLaws

@@ -1,23 +1,9 @@
--- Words and the operations on them, as the text of Piton names them.
+-- The operations on words, as the text of Piton names them.
 use Rattle.std.specs.Prelude.{Option, Some, None}
-use Rattle.piton_words.specs.declared.word.Word.{Word}
-use Rattle.piton_words.specs.declared.word.Word.TheVariants as word
 use Rattle.piton_words.specs.declared.op.WordOp.{WordOp}
 use Rattle.piton_words.specs.declared.op.WordOp.TheVariants as operation
 use Rattle.piton_syntax.specs.declared.op.PitonOp.{PitonOp}
 use Rattle.piton_syntax.specs.declared.op.PitonOp.TheVariants as op
-use Rattle.piton_syntax.specs.declared.tag.Tag.{Tag}
-use Rattle.piton_syntax.specs.declared.tag.Tag.TheVariants as tag
-
--- the tag of a word
-abbrev pub tag_of : Word → Tag
-tag_of (word.Int number) = tag.Int
-tag_of (word.Nat number) = tag.Nat
-tag_of (word.Bitv bits) = tag.Bitv
-tag_of (word.Bool truth) = tag.Bool
-tag_of (word.Addr area offset) = tag.Addr
-tag_of (word.Pc program place) = tag.Pc
-tag_of (word.Subr program) = tag.Subr
 
 -- the operation on words that an operation is, if it is one
 abbrev pub word_operation : PitonOp → Option WordOp

@@ -18,4 +18,4 @@ pub use checked::{Checked, check};
 pub use fault::CheckFault;
 pub use piece::Piece;
 pub use resolved::{Resolved, ResolvedArg, ResolvedInstr, ResolvedProgram};
-pub use word_names::{tag_of, word_operation};
+pub use word_names::word_operation;

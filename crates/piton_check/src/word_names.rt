@@ -1,28 +1,10 @@
-//! Words and the operations on them, as the text of Piton names them.
+//! The operations on words, as the text of Piton names them.
 
 ghost use Rattle.std.specs.Prelude.{◌≡◌};
-ghost use Rattle.piton_check.specs.Words.{tag_of, word_operation};
+ghost use Rattle.piton_check.specs.Words.{word_operation};
 
-use piton_syntax::{PitonOp, Tag};
-use piton_words::{Word, WordOp};
-
-/// The tag of a word.
-pub fn tag_of(word: Word) -> Tag
-    ensures { result ≡ tag_of word }
-{
-    match word {
-        Word::Int(_) => Tag::Int,
-        Word::Nat(_) => Tag::Nat,
-        Word::Bitv(_) => Tag::Bitv,
-        Word::Bool(_) => Tag::Bool,
-        Word::Addr { area: _, offset: _ } => Tag::Addr,
-        Word::Pc {
-            program: _,
-            place: _,
-        } => Tag::Pc,
-        Word::Subr { program: _ } => Tag::Subr,
-    }
-}
+use piton_syntax::PitonOp;
+use piton_words::WordOp;
 
 /// The operation on words that an operation is, if it is one.
 pub fn word_operation(op: PitonOp) -> Option<WordOp>

@@ -43,7 +43,7 @@ pub fn emit(
     }
 }
 
-// The pieces of an operation on words.
+/// The pieces of an operation on words.
 fn operation(alloc: Global, op: WordOp) -> Result<Vec<Piece>, AllocError>
     ensures { IfOk result (λ pieces. pieces.items ≡ code_pieces (operation_code op)) }
 {

@@ -60,7 +60,7 @@ pub fn emit(
     }
 }
 
-// The pieces of a jump, a call or a return at a place of a program with so many locals; none for another instruction.
+/// The pieces of a jump, a call or a return at a place of a program with so many locals; none for another instruction.
 fn emitted(
     alloc: Global,
     program: u32,
@@ -145,14 +145,14 @@ fn emitted(
     }
 }
 
-// An instruction that does nothing.
+/// An instruction that does nothing.
 fn no_op(alloc: Global) -> Result<Vec<Piece>, AllocError>
     ensures { IfOk result (λ pieces. pieces.items ≡ code_pieces no_op_code) }
 {
     code_pieces(alloc, &no_op_code())
 }
 
-// A jump by a table of the places of these labels.
+/// A jump by a table of the places of these labels.
 fn jump_case(alloc: Global, program: u32, args: &[ResolvedArg]) -> Result<Vec<Piece>, AllocError>
     ensures { IfOk result (λ pieces.
         pieces.items ≡ jump_case_pieces ++ map (λ to. Place program to) (map place_of args.now)) }
@@ -167,7 +167,7 @@ fn jump_case(alloc: Global, program: u32, args: &[ResolvedArg]) -> Result<Vec<Pi
     Ok(pieces)
 }
 
-// The condition that a test is.
+/// The condition that a test is.
 fn condition_of(kind: TestKind) -> Cc
     ensures { result ≡ condition_of kind }
 {

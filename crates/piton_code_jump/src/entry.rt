@@ -25,7 +25,7 @@ pub fn prelude(alloc: Global, checked: &Checked, program: u32) -> Result<Vec<Pie
     }
 }
 
-// The prelude of a program with so many formals and these temporaries.
+/// The prelude of a program with so many formals and these temporaries.
 fn entered(alloc: Global, formals: u32, temporaries: &[Word]) -> Result<Vec<Piece>, Memory>
     requires { formals + length temporaries.now ≤ 400 }
     ensures { IfOk result (λ pieces. pieces.items ≡ entered_pieces formals temporaries.now) }
@@ -39,7 +39,7 @@ fn entered(alloc: Global, formals: u32, temporaries: &[Word]) -> Result<Vec<Piec
     Ok(pieces)
 }
 
-// The pushes of these temporaries, last first.
+/// The pushes of these temporaries, last first.
 fn push_temporaries(pieces: &mut Vec<Piece>, temporaries: &[Word]) -> Result<(), Memory>
     ensures { OnOk result (pieces.new.items ≡ pieces.old.items ++ temporary_pieces temporaries.now) }
 {

@@ -44,7 +44,7 @@ pub fn emit(
     }
 }
 
-// The pieces of a move; none for another instruction.
+/// The pieces of a move; none for another instruction.
 fn emitted(alloc: Global, op: PitonOp, args: &[ResolvedArg]) -> Result<Vec<Piece>, AllocError>
     requires counts { (n : ℕ) → instruction_by_argument op args.now ≡ PushTempStkIndex n → n ≤ 65536 }
     ensures { (program place locals : ℕ) → IfOk result (λ pieces.
@@ -116,7 +116,7 @@ fn emitted(alloc: Global, op: PitonOp, args: &[ResolvedArg]) -> Result<Vec<Piece
     }
 }
 
-// An instruction that does nothing.
+/// An instruction that does nothing.
 fn no_op(alloc: Global) -> Result<Vec<Piece>, AllocError>
     ensures { IfOk result (λ pieces. pieces.items ≡ code_pieces no_op_code) }
 {

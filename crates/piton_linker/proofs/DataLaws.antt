@@ -21,9 +21,6 @@ numbers_more s (suc k) w (x ∷ ws) d e lt =
     let count : suc (k + 1) ≡ suc k + 1 = omega arith in
     ap (λ ns. word_number (addresses_of s) x ∷ ns) (numbers_more s k w ws d e (omega arith)) ∙ ap (λ n. numbers (addresses_of s) (take n (x ∷ ws))) count
 
-pub each_at_index : (s : SystemView) (ws : List Word) (k : ℕ) (d : Word) → Each (IsWordOf s) ws → k < length ws → IsWordOf s (get_or ws k d)
-each_at_index s ws k d all lt = each_get (IsWordOf s) ws k (get_or ws k d) all (slice_get-get_or ws k d lt)
-
 pub areas_more : (s : SystemView) (k : ℕ) (xss : List (List Word)) (xs : List Word) → slice_get xss k ≡ Some xs → areas_words s (take k xss) ++ numbers (addresses_of s) xs ≡ areas_words s (take (k + 1) xss)
 areas_more s k [] xs h = cc
 areas_more s zero (ys ∷ xss) xs h = let same : ys ≡ xs = cc in sym (append-nil (numbers (addresses_of s) ys) ∙ ap (numbers (addresses_of s)) same)

@@ -3,7 +3,7 @@ use Rattle.std.proofs.Common.{◌≡◌, ℕ, zero, suc, ◌+◌, ◌<◌, ◌�
 use Rattle.std.specs.Prelude.{◌^◌, unwrap_or, get_or, slice_get, slice_index_or}
 use Rattle.piton_words.specs.declared.word.Word.{Word}
 use Rattle.piton_check.specs.Instruction.{Instruction, ProgramView, SystemView}
-use Rattle.piton_machine.specs.State.{program_of}
+use Rattle.piton_machine.specs.State.{no_program, program_of}
 use Rattle.piton_machine.specs.Fits.{IsPlace}
 use Rattle.piton_machine.specs.Placed.{instruction_size, instructions_size, prelude_size, program_size, programs_size, areas_size, entry_of, address_of_place, address_of_area, areas_start, end_of}
 use Rattle.piton_machine.proofs.AddressLaws.{program_there}
@@ -54,9 +54,6 @@ rows_more a (suc k) (q ∷ ps) p h =
     ∙ ap (λ ns. row_at a q ∷ ns) (rows_more (a + program_size q) k ps p h ∙ ap (λ n. take k (place_rows (a + program_size q) ps) ++ row_at n p ∷ []) place)
 
 -- look-ups
-abbrev no_program : ProgramView
-no_program = record { formals = 0; temporaries = []; instructions = [] }
-
 entry_there : (a k : ℕ) (ps : List ProgramView) → k < length ps → slice_get (starts a (map program_size ps)) k ≡ Some (a + programs_size (take k ps))
 entry_there a k [] h = absurd (omega arith)
 entry_there a zero (p ∷ ps) h = ap Some (omega arith)

@@ -1,15 +1,13 @@
 -- The rows of the table are the addresses of the instructions.
 use Rattle.std.proofs.Common.{◌≡◌, ℕ, zero, suc, ◌+◌, ◌<◌, ◌≤◌, Some, List, [], ◌∷◌, length, map, take, refl, sym, ap, ◌∙◌, subst, arith}
 use Rattle.std.specs.Prelude.{slice_get, slice_index_or}
+use Rattle.std.proofs.lemmas.Option.{get_or_from_slice_get}
 use Rattle.piton_check.specs.Instruction.{Instruction, ProgramView, SystemView}
-use Rattle.piton_machine.specs.State.{program_of}
+use Rattle.piton_machine.specs.State.{no_program, program_of}
 use Rattle.piton_machine.specs.Placed.{instruction_size, instructions_size, prelude_size, program_size, programs_size, entry_of, address_of_place}
 use Rattle.piton_linker.specs.Layouts.{places_from, places_of}
 use Rattle.piton_linker.specs.Tables.{TableOf, starts, place_rows, table_of}
 use Rattle.piton_linker.proofs.BoundLaws.{lengths_next, programs_next}
-
-abbrev no_program : ProgramView
-no_program = record { formals = 0; temporaries = []; instructions = [] }
 
 -- those of one program, from a place on
 row_from : (s : SystemView) (program place a : ℕ) (is : List Instruction) → a ≡ address_of_place s program place → ((j : ℕ) (x : Instruction) → slice_get is j ≡ Some x → slice_get (program_of s program).instructions (place + j) ≡ Some x) → starts a (map instruction_size is) ≡ places_from s program place is
@@ -21,17 +19,12 @@ row_from s program place a (x ∷ is) e there =
     let rest = row_from s program (place + 1) (a + instruction_size x) is next (λ j y h. ap (slice_get all) (omega arith) ∙ there (suc j) y h) in
     λ t. e t ∷ rest t
 
-index_is : (ps : List ProgramView) (k : ℕ) (p : ProgramView) → slice_get ps k ≡ Some p → slice_index_or ps k no_program ≡ p
-index_is [] k p h = cc
-index_is (q ∷ ps) zero p h = cc
-index_is (q ∷ ps) (suc k) p h = index_is ps k p h
-
 -- those of programs, from one on
 rows_from : (s : SystemView) (program a : ℕ) (ps : List ProgramView) → a ≡ entry_of s program → ((j : ℕ) (p : ProgramView) → slice_get ps j ≡ Some p → slice_get s.programs (program + j) ≡ Some p) → place_rows a ps ≡ places_of s program ps
 rows_from s program a [] e there = refl
 rows_from s program a (p ∷ ps) e there =
     let here : slice_get s.programs program ≡ Some p = ap (slice_get s.programs) (omega arith) ∙ there 0 p refl in
-    let same : program_of s program ≡ p = index_is s.programs program p here in
+    let same : program_of s program ≡ p = get_or_from_slice_get s.programs program p no_program here in
     let size : prelude_size (program_of s program) ≡ prelude_size p = ap prelude_size same in
     let first : a + prelude_size p ≡ address_of_place s program 0 = omega arith in
     let row = row_from s program 0 (a + prelude_size p) p.instructions first (λ j x h. ap (λ (q : ProgramView). slice_get q.instructions (0 + j)) same ∙ ap (slice_get p.instructions) (omega arith) ∙ h) in

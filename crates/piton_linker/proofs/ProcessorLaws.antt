@@ -5,7 +5,7 @@ use Rattle.fm_machine.specs.State.{Fm}
 use Rattle.fm_machine.specs.Run.{fm_run, Avoids}
 use Rattle.fm_machine.specs.Step as machine_step
 use Rattle.fm_machine.specs.declared.fault.Outside.{Outside}
-use Rattle.fm_machine.proofs.Runs as machine
+use Rattle.fm_machine.proofs.RunLaws as machine
 use Rattle.fm_code.proofs.RunLaws.{arrives_then, arrives_at_once}
 use Rattle.piton_words.specs.declared.word.Word.{Word}
 use Rattle.piton_check.specs.Instruction.{SystemView}

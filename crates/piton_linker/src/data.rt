@@ -15,7 +15,7 @@ use piton_machine::word_piece;
 use piton_words::Word;
 use stack_text::Memory;
 
-// The number of a word.
+/// The number of a word.
 fn number(table: &Table, checked: &Resolved, item: Word) -> u32
     requires table { table.now ≡ table_of (system_view checked.now) }
     requires fits { end_of (system_view checked.now) < 2 ^ 32 }

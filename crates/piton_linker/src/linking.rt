@@ -59,7 +59,7 @@ pub fn link(alloc: Global, checked: &Checked) -> Result<Linked, LinkFault>
     Ok(link_small(alloc, checked)?)
 }
 
-// Links a system whose placed words are few enough.
+/// Links a system whose placed words are few enough.
 #[tactic(auto, using(crate::proofs::ProcessorLaws::checked_end))]
 fn link_small(alloc: Global, checked: &Checked) -> Result<Linked, Memory>
     requires small { (placed (system_in checked.now)).size ≤ 2 ^ 20 }

@@ -41,7 +41,7 @@ pub(crate) fn memory(
     Ok(words)
 }
 
-// The words of the areas.
+/// The words of the areas.
 fn append_data(words: &mut Vec<u32>, table: &Table, checked: &Checked) -> Result<(), Memory>
     requires table { table.now ≡ table_of (system_in checked.now) }
     requires fits { end_of (system_in checked.now) + 2 < 2 ^ 32 }
@@ -53,7 +53,7 @@ fn append_data(words: &mut Vec<u32>, table: &Table, checked: &Checked) -> Result
     Ok(())
 }
 
-// The words of the temporary stack.
+/// The words of the temporary stack.
 fn append_stack(words: &mut Vec<u32>, table: &Table, checked: &Checked) -> Result<(), Memory>
     requires table { table.now ≡ table_of (system_in checked.now) }
     requires fits { end_of (system_in checked.now) + 2 < 2 ^ 32 }
@@ -65,7 +65,7 @@ fn append_stack(words: &mut Vec<u32>, table: &Table, checked: &Checked) -> Resul
     Ok(())
 }
 
-// The words of main's frame.
+/// The words of main's frame.
 fn append_frame(
     words: &mut Vec<u32>,
     table: &Table,
@@ -83,7 +83,7 @@ fn append_frame(
     Ok(())
 }
 
-// The first values of main's locals.
+/// The first values of main's locals.
 fn main_temporaries(checked: &Checked) -> &[Word]
     ensures { result.now ≡ (program_of (system_in checked.now) (system_in checked.now).main).temporaries }
 {
@@ -94,7 +94,7 @@ fn main_temporaries(checked: &Checked) -> &[Word]
     }
 }
 
-// How many words of the control stack lie below main's frame.
+/// How many words of the control stack lie below main's frame.
 fn ctrl_gap(checked: &Checked) -> u32
     ensures { result ≡ (system_in checked.now).ctrl - 2 - length
         (program_of (system_in checked.now) (system_in checked.now).main).temporaries }
@@ -103,7 +103,7 @@ fn ctrl_gap(checked: &Checked) -> u32
     (checked.resolved().ctrl as usize).saturating_sub(used) as u32
 }
 
-// How many words of the temporary stack are free.
+/// How many words of the temporary stack are free.
 fn temp_gap(checked: &Checked) -> u32
     ensures { result ≡ (system_in checked.now).temp - length (system_in checked.now).stack }
 {
@@ -111,7 +111,7 @@ fn temp_gap(checked: &Checked) -> u32
     (resolved.temp as usize).saturating_sub(resolved.stack.len()) as u32
 }
 
-// So many zeros.
+/// So many zeros.
 fn append_zeros(words: &mut Vec<u32>, count: u32) -> Result<(), Memory>
     ensures { OnOk result (words.new.items ≡ words.old.items ++ replicate count 0) }
 {
@@ -141,7 +141,7 @@ pub(crate) fn registers(
     Ok(made)
 }
 
-// The first address of main's frame.
+/// The first address of main's frame.
 fn first_frame_at(checked: &Checked, parts: Layout) -> u32
     requires fits { end_of (system_in checked.now) + 2 < 2 ^ 32 }
     requires parts { parts ≡ layout_of (system_in checked.now) }
@@ -151,7 +151,7 @@ fn first_frame_at(checked: &Checked, parts: Layout) -> u32
     parts.temp_start.saturating_sub(used) as u32
 }
 
-// The address of the temporary stack's top.
+/// The address of the temporary stack's top.
 fn first_top(checked: &Checked, parts: Layout) -> u32
     requires fits { end_of (system_in checked.now) + 2 < 2 ^ 32 }
     requires parts { parts ≡ layout_of (system_in checked.now) }
@@ -161,7 +161,7 @@ fn first_top(checked: &Checked, parts: Layout) -> u32
     parts.end.saturating_sub(held) as u32
 }
 
-// The address of main's first place.
+/// The address of main's first place.
 #[tactic(auto, using(crate::proofs::EmissionLaws::main_begins))]
 fn main_at(table: &Table, checked: &Checked) -> u32
     requires table { table.now ≡ table_of (system_in checked.now) }
@@ -179,7 +179,7 @@ pub(crate) fn trim(words: &mut Vec<u32>)
     words.truncate(used);
 }
 
-// How many words there are up to the last that isn't zero.
+/// How many words there are up to the last that isn't zero.
 fn used(words: &[u32]) -> usize
     ensures { take result words.now ≡ trimmed words.now }
 {

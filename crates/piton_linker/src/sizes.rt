@@ -1,6 +1,6 @@
 //! How many words each part of a placed system takes.
 
-ghost use Rattle.std.specs.Prelude.{◌≡◌, ◌≤◌, ◌<◌, ◌^◌, map};
+ghost use Rattle.std.specs.Prelude.{◌≡◌, ◌<◌, ◌^◌, map};
 ghost use Rattle.piton_check.specs.Instruction.{instruction_view, program_view};
 ghost use Rattle.piton_machine.specs.Arguments.{instruction_by_argument};
 ghost use Rattle.piton_machine.specs.Fits.{system_in};
@@ -12,11 +12,11 @@ ghost use Rattle.piton_linker.specs.Layouts.{layout_of};
 use crate::placement::Layout;
 use piton_check::{Checked, ResolvedArg, ResolvedInstr, ResolvedProgram, word_operation};
 use piton_machine::{
-    area_argument, local_argument, number_argument, place_argument, program_argument,
-    test_argument, word_argument,
+    area_argument, local_argument, number_argument, operation_cost, place_argument,
+    program_argument, test_argument, word_argument,
 };
 use piton_syntax::PitonOp;
-use piton_words::{Word, WordOp};
+use piton_words::Word;
 
 /// Where the parts of a system are placed.
 #[tactic(auto, using(crate::proofs::BoundLaws::checked_programs, crate::proofs::BoundLaws::checked_areas))]
@@ -42,7 +42,7 @@ pub fn layout(checked: &Checked) -> Layout
     }
 }
 
-// The words of these programs.
+/// The words of these programs.
 fn code_size(programs: &[ResolvedProgram]) -> u64
     requires { programs_size (map program_view programs.now) < 2 ^ 40 }
     ensures { result ≡ programs_size (map program_view programs.now) }
@@ -54,7 +54,7 @@ fn code_size(programs: &[ResolvedProgram]) -> u64
     sum
 }
 
-// The words of a program.
+/// The words of a program.
 pub(crate) fn program_size(program: &ResolvedProgram) -> u64
     requires { program_size (program_view program.now) < 2 ^ 40 }
     ensures { result ≡ program_size (program_view program.now) }
@@ -62,7 +62,7 @@ pub(crate) fn program_size(program: &ResolvedProgram) -> u64
     prelude_size(program) + instructions_size(program.instrs.as_slice())
 }
 
-// The words of a program's prelude.
+/// The words of a program's prelude.
 pub(crate) fn prelude_size(program: &ResolvedProgram) -> u64
     requires { prelude_size (program_view program.now) < 2 ^ 40 }
     ensures { result ≡ prelude_size (program_view program.now) }
@@ -71,7 +71,7 @@ pub(crate) fn prelude_size(program: &ResolvedProgram) -> u64
     1 + 2 * temporaries + u64::from(program.formals) + 1
 }
 
-// The words of these instructions.
+/// The words of these instructions.
 fn instructions_size(instrs: &[ResolvedInstr]) -> u64
     requires { instructions_size (map instruction_view instrs.now) < 2 ^ 40 }
     ensures { result ≡ instructions_size (map instruction_view instrs.now) }
@@ -83,7 +83,7 @@ fn instructions_size(instrs: &[ResolvedInstr]) -> u64
     sum
 }
 
-// The words of these areas.
+/// The words of these areas.
 fn data_size(areas: &[Vec<Word>]) -> u64
     requires { areas_size (map words_in areas.now) < 2 ^ 40 }
     ensures { result ≡ areas_size (map words_in areas.now) }
@@ -107,7 +107,7 @@ pub(crate) fn instruction_size(instr: &ResolvedInstr) -> u64
     }
 }
 
-// The words of a move, a jump, a call or a return.
+/// The words of a move, a jump, a call or a return.
 fn size_otherwise(op: PitonOp, args: &[ResolvedArg]) -> u64
     requires { instruction_size (instruction_by_argument op args.now) < 2 ^ 40 }
     ensures { result ≡ instruction_size (instruction_by_argument op args.now) }
@@ -166,25 +166,6 @@ fn size_otherwise(op: PitonOp, args: &[ResolvedArg]) -> u64
             None => 1,
         },
         PitonOp::Ret => 5,
-        _ => 1,
-    }
-}
-
-// The words of an operation on words.
-fn operation_cost(op: WordOp) -> u64
-    ensures { result ≡ operation_cost op }
-{
-    match op {
-        WordOp::Eq => 4,
-        WordOp::LtInt
-        | WordOp::LtNat
-        | WordOp::LtAddr
-        | WordOp::Mult2NatWithCarryOut
-        | WordOp::Div2Nat => 5,
-        WordOp::AddIntWithCarry
-        | WordOp::AddNatWithCarry
-        | WordOp::SubIntWithCarry
-        | WordOp::SubNatWithCarry => 7,
         _ => 1,
     }
 }

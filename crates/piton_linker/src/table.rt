@@ -58,7 +58,7 @@ pub(crate) fn tabulated(alloc: Global, checked: &Resolved, layout: Layout) -> Re
     })
 }
 
-// The addresses of these programs, the first of which stands at an address.
+/// The addresses of these programs, the first of which stands at an address.
 fn entries(alloc: Global, base: u32, programs: &[ResolvedProgram]) -> Result<Vec<u32>, Memory>
     requires { base + programs_size (map program_view programs.now) < 2 ^ 32 }
     ensures { IfOk result (λ made. made.items ≡ starts base (map program_size (map program_view programs.now))) }
@@ -72,7 +72,7 @@ fn entries(alloc: Global, base: u32, programs: &[ResolvedProgram]) -> Result<Vec
     Ok(made)
 }
 
-// The addresses of the places of these programs, the first of which stands at an address.
+/// The addresses of the places of these programs, the first of which stands at an address.
 fn places(alloc: Global, base: u32, programs: &[ResolvedProgram]) -> Result<Vec<Vec<u32>>, Memory>
     requires { base + programs_size (map program_view programs.now) < 2 ^ 32 }
     ensures { IfOk result (λ made. map (λ row. row.items) made.items
@@ -88,7 +88,7 @@ fn places(alloc: Global, base: u32, programs: &[ResolvedProgram]) -> Result<Vec<
     Ok(made)
 }
 
-// The addresses of these instructions, the first of which stands at an address.
+/// The addresses of these instructions, the first of which stands at an address.
 fn row(alloc: Global, first: u64, instrs: &[ResolvedInstr]) -> Result<Vec<u32>, Memory>
     requires { first + instructions_size (map instruction_view instrs.now) < 2 ^ 32 }
     ensures { IfOk result (λ made. made.items ≡ starts first (map instruction_size (map instruction_view instrs.now))) }
@@ -102,7 +102,7 @@ fn row(alloc: Global, first: u64, instrs: &[ResolvedInstr]) -> Result<Vec<u32>, 
     Ok(made)
 }
 
-// The addresses of these areas, the first of which stands at an address.
+/// The addresses of these areas, the first of which stands at an address.
 fn starts(alloc: Global, first: u32, areas: &[Vec<Word>]) -> Result<Vec<u32>, Memory>
     requires { first + areas_size (map words_in areas.now) < 2 ^ 32 }
     ensures { IfOk result (λ made. made.items ≡ starts first (map length (map words_in areas.now))) }
@@ -116,7 +116,7 @@ fn starts(alloc: Global, first: u32, areas: &[Vec<Word>]) -> Result<Vec<u32>, Me
     Ok(made)
 }
 
-// The address of a program, of a place of a program, and of an area, if there is one.
+/// The address of a program, of a place of a program, and of an area, if there is one.
 fn entry(table: &Table, program: u32) -> Option<u32>
     ensures { result ≡ slice_get table.now.entries program }
 {
@@ -160,7 +160,7 @@ pub(crate) fn word(table: &Table, _checked: &Resolved, at: u32, piece: Piece) ->
     }
 }
 
-// The addresses of what there is.
+/// The addresses of what there is.
 #[tactic(auto, using(crate::proofs::LookupLaws::place_word))]
 pub(crate) fn at_place(table: &Table, _checked: &Resolved, program: u32, to: u32) -> u32
     requires table { table.now ≡ table_of (system_view _checked.now) }

@@ -3,7 +3,7 @@ use Rattle.std.proofs.Common.{◌≡◌, ℕ, ◌+◌, ◌-◌, ◌*◌, ◌/◌
 use Rattle.std.specs.Prelude.{not, ◌&&◌, ◌||◌, nat_lt, ℤ, pos, negsuc, ◌+ℤ◌, ◌-ℤ◌, ◌*ℤ◌, int_lt, unsigned_abs, bit_and, bit_or, bit_xor}
 use Rattle.std.specs.Int.{from_bool as bit_of, cast_signed, w32}
 use Rattle.std.proofs.lemmas.Bool.Decides.{nat_tests}
-use Rattle.std.proofs.lemmas.Bool.{cases_lt}
+use Rattle.std.proofs.lemmas.Bool.{cases_lt, ltb-true}
 use Rattle.std.proofs.lemmas.Int.{ints as integers}
 use Rattle.fm_words.specs.Alu.{are_same as are_same_tests}
 use Rattle.fm_words.specs.Word.{is_int, is_nat, are_same_ints, word_of_int, wrapped}
@@ -40,9 +40,6 @@ same_lt c q o = grind (arith, nat_tests)
 
 same_from : (a b : ℕ) → (a == b) ≡ true → a ≡ b
 same_from a b h = grind (arith, nat_tests)
-
-below_true : (a b : ℕ) → nat_lt a b ≡ true → a < b
-below_true a b h = grind (arith, nat_tests)
 
 offset_fits : (lens : List ℕ) (a o x : ℕ) → is_offset lens a (pos o -ℤ pos x) ≡ true → x ≤ o
 offset_fits lens a o x h = ⊎_elim negative (λ le. le) (cases_lt o x)
@@ -261,7 +258,7 @@ module _ (P : Parts) (A : Addresses) (lens : List ℕ) (IsPlace : ℕ → ℕ �
       by_nat top _ out (λ w. W third → W second → W w → G op.AddAddr third second w out) h (λ x h1.
       by_addr second _ out (λ w. W third → W w → W (Nat x) → G op.AddAddr third w (Nat x) out) h1 (λ a o h2 u q p.
       by_true (nat_lt (o + x) (get_or lens a 0)) _ out _ h2 (λ r h3.
-      by_ok (One (Addr a (o + x))) out (λ v. G op.AddAddr third (Addr a o) (Nat x) v) h3 (moved_up a o x (below_true _ _ r)))))
+      by_ok (One (Addr a (o + x))) out (λ v. G op.AddAddr third (Addr a o) (Nat x) v) h3 (moved_up a o x (ltb-true _ _ r)))))
     where
       moved_up : (a o x : ℕ) → o + x < get_or lens a 0 → G op.AddAddr third (Addr a o) (Nat x) (One (Addr a (o + x)))
       moved_up a o x r =

@@ -1,11 +1,12 @@
 -- Each program's prelude and each instruction's code stand where the addresses say.
 use Rattle.std.proofs.Common.{◌≡◌, ℕ, zero, suc, ◌+◌, Some, List, [], ◌∷◌, length, sym, ap, ◌∙◌, subst, arith}
 use Rattle.std.specs.Prelude.{take, slice_get, slice_index_or}
+use Rattle.std.proofs.lemmas.Option.{get_or_from_slice_get}
 use Rattle.fm_code.specs.Execution.{Parts, CodeAt}
 use Rattle.fm_code.proofs.CodeLaws.{code_whole, code_front, code_after}
 use Rattle.piton_check.specs.Instruction.{Instruction, ProgramView, SystemView}
 use Rattle.piton_check.specs.Sound.{local_count}
-use Rattle.piton_machine.specs.State.{program_of}
+use Rattle.piton_machine.specs.State.{no_program, program_of}
 use Rattle.piton_machine.specs.Addresses.{Addresses}
 use Rattle.piton_machine.specs.Templates.{template, prelude_words, instructions_words, program_words, programs_words}
 use Rattle.piton_machine.specs.Placed.{instruction_size, instructions_size, prelude_size, programs_size, entry_of, address_of_place, addresses_of, parts_of}
@@ -38,14 +39,6 @@ instruction_in P A program locals from (suc place) m pc (x ∷ is) instruction e
     let there : next + instructions_size (take place is) ≡ pc + instructions_size (take (suc place) (x ∷ is)) = omega (arith, length-template A program from locals x) in
     subst (λ a. CodeAt P a (template A program m locals instruction)) there (instruction_in P A program locals (from + 1) place m next is instruction (omega arith) h rest)
 
-abbrev no_program : ProgramView
-no_program = record { formals = 0; temporaries = []; instructions = [] }
-
-index_is : (ps : List ProgramView) (k : ℕ) (p : ProgramView) → slice_get ps k ≡ Some p → slice_index_or ps k no_program ≡ p
-index_is [] k p h = cc
-index_is (q ∷ ps) zero p h = cc
-index_is (q ∷ ps) (suc k) p h = index_is ps k p h
-
 module _ (s : SystemView) (k : ℕ) (p : ProgramView) (some : slice_get s.programs k ≡ Some p) where
   program_at : CodeAt (parts_of s) (entry_of s k) (program_words (addresses_of s) k p)
   program_at = program_in (parts_of s) (addresses_of s) 0 k k s.base s.programs p (omega arith) some (code_whole (parts_of s))
@@ -55,14 +48,14 @@ module _ (s : SystemView) (k : ℕ) (p : ProgramView) (some : slice_get s.progra
 
   pub first_at : address_of_place s k 0 ≡ entry_of s k + length (prelude_words (addresses_of s) k p)
   first_at =
-      let same = index_is s.programs k p some in
+      let same = get_or_from_slice_get s.programs k p no_program some in
       let size : prelude_size (program_of s k) ≡ prelude_size p = ap prelude_size same in
       omega (arith, length-prelude_words (addresses_of s) k p, size)
 
   pub instruction_at : (place : ℕ) (instruction : Instruction) → slice_get p.instructions place ≡ Some instruction → CodeAt (parts_of s) (address_of_place s k place) (template (addresses_of s) k place (local_count p) instruction)
   instruction_at place instruction h =
       let A = addresses_of s in
-      let same = index_is s.programs k p some in
+      let same = get_or_from_slice_get s.programs k p no_program some in
       let after = code_after (parts_of s) (entry_of s k) (prelude_words A k p) (instructions_words A k (local_count p) 0 p.instructions) program_at in
       let first = subst (λ a. CodeAt (parts_of s) a (instructions_words A k (local_count p) 0 p.instructions)) (sym first_at) after in
       let here = instruction_in (parts_of s) A k (local_count p) 0 place place (address_of_place s k 0) p.instructions instruction (omega arith) h first in

@@ -43,15 +43,6 @@ before_is A (xs ∷ xss) (ys ∷ yss) (suc a) e =
     let rest : map length xss ≡ map length yss = ap (λ ns. drop 1 ns) e in
     omega (arith, length-map xs (word_number A), first, before_is A xss yss a rest)
 
-pub same_areas : (xss yss : List (List Word)) → map length xss ≡ map length yss → areas_size xss ≡ areas_size yss
-same_areas [] [] e = refl
-same_areas [] (ys ∷ yss) e = cc
-same_areas (xs ∷ xss) [] e = cc
-same_areas (xs ∷ xss) (ys ∷ yss) e =
-    let first : length xs ≡ length ys = ap (λ ns. get_or ns 0 0) e in
-    let rest : map length xss ≡ map length yss = ap (λ ns. drop 1 ns) e in
-    omega (arith, first, same_areas xss yss rest)
-
 pub area_end : (xss : List (List Word)) (a : ℕ) → areas_size (take a xss) + get_or (map length xss) a 0 ≤ areas_size xss
 area_end [] zero = omega arith
 area_end [] (suc a) = omega arith

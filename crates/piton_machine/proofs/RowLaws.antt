@@ -30,12 +30,6 @@ pub record StepFound (s : SystemView) (p q : PitonState) : Type 0 where
   pub there : instruction_at s p.program p.place ≡ Some instruction
   pub goes : row_of s p instruction ≡ Ok q
 
-pub step_found : (s : SystemView) (p q : PitonState) (f : Frame) (fs : List Frame) →
-    p.frames ≡ f ∷ fs → piton_step s p ≡ Ok q → StepFound s p q
-step_found s p q f fs e h =
-    let g = went_on (ap (step_from s p) (sym e) ∙ h) in
-    record { instruction = g.value; there = found_is _ Range g.value g.is; goes = g.goes }
-
 pub where_holds : {A : Type 0} (b : Bool) (kind : ErrorKind) (answer : Result A ErrorKind) → b ≡ true → where_true b kind answer ≡ answer
 unfolding where_true
 where_holds b kind answer h = rw h refl
@@ -81,11 +75,6 @@ pub does_pop_global : (p : PitonState) (area : ℕ) (t : Word) (below : List Wor
 unfolding then_on
 does_pop_global p area t below e = ap (λ stack. one_of stack >>= λ one. set_word p area 0 one.top one.below) e
 
-pub does_set_global : (p : PitonState) (area : ℕ) (t : Word) (below : List Word) → p.stack ≡ t ∷ below →
-    set_global p area ≡ to_next (record p { areas = with_word p.areas area 0 t }) p.stack
-unfolding then_on
-does_set_global p area t below e = ap (λ stack. one_of stack >>= λ one. set_word p area 0 one.top p.stack) e
-
 pub does_push_temp_stk_index : (temp : ℕ) (p : PitonState) (n : ℕ) → n < length p.stack → length p.stack < temp →
     push_temp_stk_index temp p n ≡ to_next p (Nat (length p.stack - 1 - n) ∷ p.stack)
 does_push_temp_stk_index temp p n h room =
@@ -103,27 +92,8 @@ unfolding then_on
 does_deposit_temp_stk p n word below e h =
     rw e (where_holds (nat_lt n (length below)) Range (to_next p (with_element below n word)) (lt-ltb n (length below) h))
 
-pub does_fetch : (p : PitonState) (area offset : ℕ) (below : List Word) (word : Word) → p.stack ≡ Addr area offset ∷ below →
-    word_at p.areas area offset ≡ Some word → fetch p ≡ to_next p (word ∷ below)
-unfolding then_on
-does_fetch p area offset below word e h = rw e (ap (λ o. found o Range >>= λ w. to_next p (w ∷ below)) h)
-
-pub does_deposit : (p : PitonState) (area offset : ℕ) (word : Word) (below : List Word) → p.stack ≡ Addr area offset ∷ word ∷ below →
-    deposit p ≡ to_next (record p { areas = with_word p.areas area offset word }) below
-unfolding then_on
-does_deposit p area offset word below e = rw e refl
-
-pub does_pop : (p : PitonState) (t : Word) (below : List Word) → p.stack ≡ t ∷ below → pop p ≡ to_next p below
-unfolding then_on
-does_pop p t below e = rw e refl
-
 pub does_pop_star : (p : PitonState) (n : ℕ) → n ≤ length p.stack → pop_star p n ≡ to_next p (drop n p.stack)
 does_pop_star p n h = where_holds (nat_le n (length p.stack)) TempEmpty (to_next p (drop n p.stack)) (le-leb n (length p.stack) h)
-
-pub does_popn : (p : PitonState) (n : ℕ) (below : List Word) → p.stack ≡ Nat n ∷ below → n ≤ length below →
-    popn p ≡ to_next p (drop n below)
-unfolding then_on
-does_popn p n below e h = rw e (where_holds (nat_le n (length below)) Range (to_next p (drop n below)) (le-leb n (length below) h))
 
 -- The jumps and calls. Those without a premise compute: `no_op`, `jump`, `jump_where`.
 
@@ -131,16 +101,6 @@ pub does_jump_case : (p : PitonState) (places : List ℕ) (n place : ℕ) (below
     slice_get places n ≡ Some place → jump_case p places ≡ to_place p place below
 unfolding then_on
 does_jump_case p places n place below e h = rw e (ap (λ o. found o Range >>= λ to. to_place p to below) h)
-
-pub does_pushj : (temp : ℕ) (p : PitonState) (place : ℕ) → length p.stack < temp →
-    pushj temp p place ≡ to_place p place (Pc p.program (p.place + 1) ∷ p.stack)
-does_pushj temp p place h = room_there temp p (to_place p place (Pc p.program (p.place + 1) ∷ p.stack)) h
-
-pub does_popj : (p : PitonState) (place : ℕ) (below : List Word) → p.stack ≡ Pc p.program place ∷ below → popj p ≡ to_place p place below
-unfolding then_on
-does_popj p place below e =
-    ap (λ stack. one_of stack >>= λ one. Rattle.piton_machine.specs.Views.pc_of one.top >>= λ target. where_true (target.0 == p.program) Range (to_place p target.1 one.below)) e
-    ∙ where_holds (p.program == p.program) Range (to_place p place below) (eq-eqb p.program p.program refl)
 
 pub does_test_and_jump : (p : PitonState) (family : TestFamily) (kind : TestKind) (place : ℕ) (t : Word) (below : List Word) (test : Bool) →
     p.stack ≡ t ∷ below → test_of family kind t ≡ Ok test → test_and_jump p family kind place ≡ jump_where p test place below
@@ -158,12 +118,6 @@ does_call s p program callee stack h enough room =
     ∙ where_holds (nat_le callee.formals (length stack)) TempEmpty _ (le-leb callee.formals (length stack) enough)
     ∙ where_holds (nat_le (ctrl_used p.frames + (2 + (callee.formals + length callee.temporaries))) s.ctrl) CtrlFull (entered p program callee stack) (le-leb _ _ room)
 
-pub does_pop_call : (s : SystemView) (p : PitonState) (program : ℕ) (below : List Word) → p.stack ≡ Subr program ∷ below →
-    pop_call s p ≡ call s p program below
-unfolding then_on
-does_pop_call s p program below e =
-    ap (λ stack. one_of stack >>= λ one. Rattle.piton_machine.specs.Views.subr_of one.top >>= λ program. call s p program one.below) e
-
 -- The words: the operands are there, and the operation's row gives an outcome.
 pub does_apply : (temp : ℕ) (p : PitonState) (o : WordOp) (operands : Operands) (out : Outcome) → operands_of (words_taken o) p.stack ≡ Ok operands →
     words.row_of o operands.third operands.second operands.top (map length p.areas) ≡ Ok out → does_grow o ≡ false →
@@ -173,14 +127,3 @@ does_apply temp p o operands out e h small =
     ap (λ r. r >>= λ operands. lifted (words.row_of o operands.third operands.second operands.top (map length p.areas)) >>= λ outcome. let next = to_next p (results_on outcome operands.below) in if does_grow o then with_room temp p next else next) e
     ∙ ap (λ r. lifted r >>= λ outcome. let next = to_next p (results_on outcome operands.below) in if does_grow o then with_room temp p next else next) h
     ∙ ap (λ b. let next = to_next p (results_on out operands.below) in if b then with_room temp p next else next) small
-
--- the two operations that push more than they pop
-pub does_apply_growing : (temp : ℕ) (p : PitonState) (o : WordOp) (operands : Operands) (out : Outcome) → operands_of (words_taken o) p.stack ≡ Ok operands →
-    words.row_of o operands.third operands.second operands.top (map length p.areas) ≡ Ok out → length p.stack < temp → does_grow o ≡ true →
-    apply temp p o ≡ to_next p (results_on out operands.below)
-unfolding then_on
-does_apply_growing temp p o operands out e h room grows =
-    ap (λ r. r >>= λ operands. lifted (words.row_of o operands.third operands.second operands.top (map length p.areas)) >>= λ outcome. let next = to_next p (results_on outcome operands.below) in if does_grow o then with_room temp p next else next) e
-    ∙ ap (λ r. lifted r >>= λ outcome. let next = to_next p (results_on outcome operands.below) in if does_grow o then with_room temp p next else next) h
-    ∙ ap (λ b. let next = to_next p (results_on out operands.below) in if b then with_room temp p next else next) grows
-    ∙ room_there temp p (to_next p (results_on out operands.below)) room

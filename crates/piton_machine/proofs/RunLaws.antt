@@ -51,16 +51,6 @@ run_add s (suc j) k p q h =
     let f = first_of_run s j p q h in
     ap (λ n. piton_run s n p) (omega arith) ∙ run_first s (j + k) p f.next f.step ∙ run_add s j k f.next q f.rest
 
-pub cost_add : (s : SystemView) (j k : ℕ) (p q : PitonState) → piton_run s j p ≡ Ok q → run_cost s (j + k) p ≡ run_cost s j p + run_cost s k q
-cost_add s zero k p q h =
-    let same : p ≡ q = same_Ok (sym (run_none s p) ∙ h) in
-    ap (λ n. run_cost s n p) (omega arith) ∙ ap (run_cost s k) same ∙ omega (arith, cost_none s p)
-cost_add s (suc j) k p q h =
-    let f = first_of_run s j p q h in
-    let rest = cost_add s j k f.next q f.rest in
-    let here = cost_first s j p f.next f.step in
-    ap (λ n. run_cost s n p) (omega arith) ∙ cost_first s (j + k) p f.next f.step ∙ omega (arith, rest, here)
-
 -- what each state of a run keeps
 pub run_kept : (s : SystemView) (k : ℕ) (p q : PitonState) → IsWellFormed s → IsState s p → piton_run s k p ≡ Ok q → IsState s q
 run_kept s zero p q sound is h = subst (IsState s) (same_Ok (sym (run_none s p) ∙ h)) is

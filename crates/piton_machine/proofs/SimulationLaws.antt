@@ -19,6 +19,8 @@ use Rattle.piton_words.specs.declared.outcome.Outcome.{Outcome}
 use Rattle.piton_words.specs.declared.outcome.Outcome.TheVariants.{One, Two}
 use Rattle.piton_words.specs.Rows as words
 use Rattle.std.specs.Prelude.{zero, suc, None, slice_index_or}
+use Rattle.std.proofs.lemmas.Option.{get_or_from_slice_get}
+use Rattle.std.proofs.lemmas.Bool.{ltb-true}
 use Rattle.piton_machine.specs.declared.error_kind.ErrorKind.TheVariants.{TempEmpty, Range, TempFull, CtrlFull}
 use Rattle.piton_syntax.specs.declared.test_kind.TestFamily.{TestFamily}
 use Rattle.piton_syntax.specs.declared.test_kind.TestKind.{TestKind}
@@ -42,9 +44,6 @@ use Rattle.piton_machine.proofs.StepViewLaws.{refused, by_one, by_two, by_nat, b
 abbrev pub state_with : ℕ → ℕ → Frame → List Frame → List (List Word) → List Word → PitonState
 state_with pr pl f fs areas ws = record { program = pr; place = pl; frames = f ∷ fs; stack = ws; areas = areas }
 
-below_true : (a b : ℕ) → nat_lt a b ≡ true → a < b
-below_true a b h = grind (arith, nat_tests)
-
 most_true : (a b : ℕ) → nat_le a b ≡ true → a ≤ b
 most_true a b h = grind (arith, nat_tests)
 
@@ -53,13 +52,8 @@ by_element : (ws : List Word) (n : ℕ) (w : Word) → element ws n ≡ Some w �
 by_element ws n w h = by_order (nat_lt n (length ws)) refl h
   where
     by_order : (b : Bool) → nat_lt n (length ws) ≡ b → (if b then slice_get ws (length ws - 1 - n) else None) ≡ Some w → (n < length ws) × (slice_get ws (length ws - 1 - n) ≡ Some w)
-    by_order true e g = (below_true n (length ws) e, g)
+    by_order true e g = (ltb-true n (length ws) e, g)
     by_order false e g = absurd cc
-
-index_is : (qs : List ProgramView) (k : ℕ) (q d : ProgramView) → slice_get qs k ≡ Some q → slice_index_or qs k d ≡ q
-index_is [] k q d h = cc
-index_is (r ∷ qs) zero q d h = cc
-index_is (r ∷ qs) (suc k) q d h = index_is qs k q d h
 
 -- room for what an operation leaves
 room_for : (P : Parts) (S : SystemView) (o : WordOp) (temp : List ℕ) (m : ℕ) → P.temp_at + S.temp ≡ P.end → (does_grow o ≡ true → m ≡ 1 + length temp) → (does_grow o ≡ true → m < S.temp) → HasRoomFor o P temp
@@ -107,7 +101,7 @@ continuation S p o x =
     lifted (words.row_of o x.third x.second x.top (map length p.areas)) >>= λ outcome. (let next = row.to_next p (row.results_on outcome x.below) in if does_grow o then row.with_room S.temp p next else next)
 
 by_grow : (b : Bool) (temp : ℕ) (q : PitonState) (next : Row) (p : PitonState) (Q : Type 0) → (if b then row.with_room temp q next else next) ≡ Ok p → ((b ≡ true → length q.stack < temp) → next ≡ Ok p → Q) → Q
-by_grow true temp q next p Q h k = by_true (nat_lt (length q.stack) temp) TempFull next p Q h (λ r g. k (λ e. below_true _ _ r) g)
+by_grow true temp q next p Q h k = by_true (nat_lt (length q.stack) temp) TempFull next p Q h (λ r g. k (λ e. ltb-true _ _ r) g)
 by_grow false temp q next p Q h k = k (λ e. absurd cc) h
 
 -- the words of frames are as many as they use
@@ -139,7 +133,7 @@ module _ (A : Addresses) (code : List ℕ) (S : SystemView) (pr pl : ℕ) (f : F
   room : (ws : List Word) → nat_lt (length ws) S.temp ≡ true → HasRoom (parts_with A code) (numbers A ws)
   room ws r =
       let a = length-map ws (word_number A) in
-      let b = below_true _ _ r in
+      let b = ltb-true _ _ r in
       let c = ready.temp_is in
       omega arith
 
@@ -254,7 +248,7 @@ module _ (A : Addresses) (code : List ℕ) (S : SystemView) (pr pl : ℕ) (f : F
   push_temp_stk_index n ws p h here after e =
       let same : length (numbers A ws) ≡ length ws = length-map ws (word_number A) in
       by_true (nat_lt n (length ws)) Range _ p _ e (λ b g.
-      let below = below_true _ _ b in
+      let below = ltb-true _ _ b in
       pushed_row 3 4 _ ws (Nat (length ws - 1 - n)) p h here after g (λ r.
       let t = view_of A (state_with pr pl f fs areas ws) in
       subst (λ m. Executes (parts_with A code) (template A pr pl (length f.locals) (i.PushTempStkIndex n)) 3 t (view t.frame (t.pc + 4) t.ctrl ((m - 1 - n) ∷ t.temp) t.areas)) same ((move_rows (parts_with A code) _ _ _ _ _).push_temp_stk_index n (omega arith) r)))
@@ -298,7 +292,7 @@ module _ (A : Addresses) (code : List ℕ) (S : SystemView) (pr pl : ℕ) (f : F
       by_nat t _ p (λ u. At (u ∷ v ∷ rest) → SimulatesAt A code 3 s p) g1 (λ n g2 h2.
       by_true (nat_lt n (length rest)) Range _ p _ g2 (λ b g3.
       let same : length (numbers A rest) ≡ length rest = length-map rest (word_number A) in
-      let below = below_true _ _ b in
+      let below = ltb-true _ _ b in
       let t0 = view_of A (state_with pr pl f fs areas (Nat n ∷ v ∷ rest)) in
       let set : slice_set (numbers A rest) (length (numbers A rest) - 1 - n) (word_number A v) ≡ numbers A (slice_set rest (length rest - 1 - n) v) = ap (λ m. slice_set (numbers A rest) (m - 1 - n) (word_number A v)) same ∙ set_map (word_number A) rest (length rest - 1 - n) v in
       let d = subst (λ us. Executes (parts_with A code) (template A pr pl (length f.locals) i.DepositTempStk) 3 t0 (view t0.frame (t0.pc + 4) t0.ctrl us t0.areas)) set ((move_rows (parts_with A code) _ _ _ (numbers A rest) _).deposit_temp_stk n (word_number A v) (omega arith)) in
@@ -451,7 +445,7 @@ module _ (A : Addresses) (code : List ℕ) (S : SystemView) (pr pl : ℕ) (f : F
       let e1 : frame ≡ numbers A (reverse (take q.formals rest) ++ q.temporaries) ++ (t.frame ∷ next ∷ t.ctrl) = sym (append_assoc (reverse xs) ts (t.frame ∷ next ∷ t.ctrl)) ∙ ap (λ us. us ++ (t.frame ∷ next ∷ t.ctrl)) turned in
       let place : A.entry_at program + length (prelude_code (length xs) ts) ≡ A.place_at program 0 = ap (λ m. A.entry_at program + length (prelude_code m ts)) long ∙ sym (ready.first program q some) in
       let into : PitonState = record { program = program; place = 0; frames = record { locals = reverse (take q.formals rest) ++ q.temporaries; program = pr; place = pl + 1 } ∷ f ∷ fs; stack = drop q.formals rest; areas = areas } in
-      let taken : variables_of S program ≡ q.formals + length q.temporaries = ap (λ z. z.formals + length z.temporaries) (index_is S.programs program q _ some) in
+      let taken : variables_of S program ≡ q.formals + length q.temporaries = ap (λ z. z.formals + length z.temporaries) (get_or_from_slice_get S.programs program q _ some) in
       let count : cost0 + length xs + length ts ≡ cost0 + variables_of S program = omega arith in
       by_ok _ p (SimulatesAt A code (cost0 + variables_of S program) s) g3 (subst (λ m. SimulatesAt A code m s into) count (run ws into d1 h here (λ i. view (A.temp_at - length (e1 i)) (place i) (e1 i) (numbers A (drop q.formals rest)) t.areas))))))
 

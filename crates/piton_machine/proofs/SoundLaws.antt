@@ -4,6 +4,8 @@ use Rattle.std.specs.Prelude.{◌^◌, nat_lt, All, get_or, slice_get, slice_ind
 use Rattle.std.proofs.lemmas.Option.{slice_get_within, get_or_from_slice_get}
 use Rattle.std.proofs.lemmas.Bool.{ltb-true, ltb-false}
 use Rattle.std.proofs.lemmas.List.Sums.{sum_by-cons}
+use Rattle.std.proofs.lemmas.Option.{get_or_from_slice_get}
+use Rattle.piton_check.proofs.SoundUseLaws.{all_at}
 use Rattle.piton_words.specs.declared.word.Word.{Word}
 use Rattle.piton_words.specs.declared.word.Word.TheVariants.{Int, Nat, Bitv, Bool as Truth, Addr, Pc, Subr}
 use Rattle.piton_check.specs.Instruction as i
@@ -12,7 +14,7 @@ use Rattle.piton_check.specs.Answers.{CheckedOf, IsChecked}
 use Rattle.piton_check.specs.Resolved.{ResolvedOf}
 use Rattle.piton_check.specs.Instruction.{system_view}
 use Rattle.piton_check.specs.Sound.{Exists, IsPlaced, IsEnd, IsSoundProgram, IsSound}
-use Rattle.piton_machine.specs.State.{program_of, instruction_at}
+use Rattle.piton_machine.specs.State.{no_program, program_of, instruction_at}
 use Rattle.piton_machine.specs.Fits.{Each, IsPlace, IsWordOf, IsInstructionOf, IsWellFormed, IsInitialStack, system_in}
 
 -- ---- lists
@@ -21,18 +23,10 @@ pub all_each : {A : Type 0} (P Q : A → Type 0) → ((x : A) → P x → Q x) �
 all_each P Q f [] h = tt
 all_each P Q f (x ∷ xs) h = (f x (h 0 x (omega arith)), all_each P Q f xs (λ k d lt. h (suc k) d (omega arith)))
 
-all_at : {A : Type 0} (P : A → Type 0) (xs : List A) (k : ℕ) (x : A) → All P xs → slice_get xs k ≡ Some x → P x
-all_at P [] k x h e = cc
-all_at P (y ∷ xs) zero x h e = let same : y ≡ x = cc in subst P same (h 0 y (omega arith))
-all_at P (y ∷ xs) (suc k) x h e = all_at P xs k x (λ j d lt. h (suc j) d (omega arith)) e
-
 length_of_area : (areas : List (List Word)) (a : ℕ) → get_or (map length areas) a 0 ≡ length (get_or areas a [])
 length_of_area [] a = refl
 length_of_area (xs ∷ xss) zero = refl
 length_of_area (xs ∷ xss) (suc a) = length_of_area xss a
-
-abbrev no_program : ProgramView
-no_program = record { formals = 0; temporaries = []; instructions = [] }
 
 instructions_of : (ps : List ProgramView) (k : ℕ) → get_or (map (λ (p : ProgramView). p.instructions) ps) k [] ≡ (get_or ps k no_program).instructions
 instructions_of [] k = refl
@@ -65,9 +59,6 @@ pub words_known : (s : SystemView) (ws : List Word) → All (Exists s) ws → Ea
 words_known s ws h = all_each (Exists s) (IsWordOf s) (word_known s) ws h
 
 -- ---- programs
-
-sound_program : (s : SystemView) → IsSound s → (k : ℕ) → k < length s.programs → IsSoundProgram s (program_of s k)
-sound_program s sound k lt = sound.programs k no_program lt
 
 -- behind what is no end there is a next place
 next_place : (p : ProgramView) (place : ℕ) (instruction : Instruction) →
@@ -136,16 +127,11 @@ instruction_known s sound program place instruction e =
     let h = placed_at s sound program place instruction e in
     known_at s sound program place instruction h.1 (next_place (program_of s program) place instruction h.0.last e)
 
-index_is : (ps : List ProgramView) (k : ℕ) (p : ProgramView) → slice_get ps k ≡ Some p → slice_index_or ps k no_program ≡ p
-index_is [] k p h = cc
-index_is (q ∷ ps) zero p h = cc
-index_is (q ∷ ps) (suc k) p h = index_is ps k p h
-
 pub known : (s : SystemView) → IsSound s → IsWellFormed s
 known s sound =
     let main = sound.main.0 in
     let is_main = sound.main.1 in
-    let same : program_of s s.main ≡ main = index_is s.programs s.main main is_main.is_named in
+    let same : program_of s s.main ≡ main = get_or_from_slice_get s.programs s.main main no_program is_main.is_named in
     record {
       main = slice_get_within s.programs s.main main is_main.is_named;
       main_formals = ap (λ (p : ProgramView). p.formals) same ∙ is_main.no_formals;

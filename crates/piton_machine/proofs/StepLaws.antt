@@ -9,7 +9,7 @@ use Rattle.piton_check.specs.Instruction as i
 use Rattle.piton_check.specs.Instruction.{Instruction, ProgramView, SystemView}
 use Rattle.piton_check.specs.Sound.{IsSound, IsProgram}
 use Rattle.piton_machine.specs.declared.error_kind.ErrorKind.TheVariants.{Range}
-use Rattle.piton_machine.specs.State.{Frame, PitonState, program_of, instruction_at, variables_of}
+use Rattle.piton_machine.specs.State.{no_program, Frame, PitonState, program_of, instruction_at, variables_of}
 use Rattle.piton_machine.specs.Rows.{row_of}
 use Rattle.piton_machine.specs.Step.{piton_step, step_cost, cost_at}
 use Rattle.piton_machine.specs.Fits.{IsPlace, IsState, IsInstructionOf, AreFrames}
@@ -25,9 +25,6 @@ use Rattle.piton_machine.proofs.PlacingLaws as placing
 use Rattle.piton_machine.proofs.TestLaws.{is_tested}
 use Rattle.piton_machine.proofs.StepViewLaws.{by_found, by_ok, area_length}
 use Rattle.piton_machine.proofs.SimulationLaws.{each_row, state_with}
-
-abbrev no_program : ProgramView
-no_program = record { formals = 0; temporaries = []; instructions = [] }
 
 -- What a step needs of a placed program and of a state, at an instruction i: the state's words are in range, and the
 -- code of i and of the next place stands where the names say.

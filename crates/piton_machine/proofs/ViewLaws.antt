@@ -41,51 +41,6 @@ two_are [] two h = cc
 two_are (t ∷ []) two h = cc
 two_are (t ∷ s ∷ below) two h = ap (λ (o : Two). o.top ∷ o.second ∷ o.below) (same_Ok h)
 
-pub int_is : (w : Word) (i : ℤ) → int_of w ≡ Ok i → w ≡ Int i
-int_is (Int j) i h = ap Int (same_Ok h)
-int_is (Nat n) i h = cc
-int_is (Bitv n) i h = cc
-int_is (Truth b) i h = cc
-int_is (Addr a o) i h = cc
-int_is (Pc q l) i h = cc
-int_is (Subr q) i h = cc
-
-pub nat_is : (w : Word) (n : ℕ) → nat_of w ≡ Ok n → w ≡ Nat n
-nat_is (Int j) n h = cc
-nat_is (Nat m) n h = ap Nat (same_Ok h)
-nat_is (Bitv m) n h = cc
-nat_is (Truth b) n h = cc
-nat_is (Addr a o) n h = cc
-nat_is (Pc q l) n h = cc
-nat_is (Subr q) n h = cc
-
-pub bitv_is : (w : Word) (n : ℕ) → bitv_of w ≡ Ok n → w ≡ Bitv n
-bitv_is (Int j) n h = cc
-bitv_is (Nat m) n h = cc
-bitv_is (Bitv m) n h = ap Bitv (same_Ok h)
-bitv_is (Truth b) n h = cc
-bitv_is (Addr a o) n h = cc
-bitv_is (Pc q l) n h = cc
-bitv_is (Subr q) n h = cc
-
-pub bool_is : (w : Word) (b : Bool) → bool_of w ≡ Ok b → w ≡ Truth b
-bool_is (Int j) b h = cc
-bool_is (Nat m) b h = cc
-bool_is (Bitv m) b h = cc
-bool_is (Truth c) b h = ap Truth (same_Ok h)
-bool_is (Addr a o) b h = cc
-bool_is (Pc q l) b h = cc
-bool_is (Subr q) b h = cc
-
-pub addr_is : (w : Word) (a : ℕ × ℕ) → addr_of w ≡ Ok a → w ≡ Addr a.0 a.1
-addr_is (Int j) a h = cc
-addr_is (Nat m) a h = cc
-addr_is (Bitv m) a h = cc
-addr_is (Truth c) a h = cc
-addr_is (Addr area offset) a h = ap (λ (p : ℕ × ℕ). Addr p.0 p.1) (same_Ok h)
-addr_is (Pc q l) a h = cc
-addr_is (Subr q) a h = cc
-
 pub pc_is : (w : Word) (a : ℕ × ℕ) → pc_of w ≡ Ok a → w ≡ Pc a.0 a.1
 pc_is (Int j) a h = cc
 pc_is (Nat m) a h = cc
@@ -94,15 +49,6 @@ pc_is (Truth c) a h = cc
 pc_is (Addr area offset) a h = cc
 pc_is (Pc q l) a h = ap (λ (p : ℕ × ℕ). Pc p.0 p.1) (same_Ok h)
 pc_is (Subr q) a h = cc
-
-pub subr_is : (w : Word) (n : ℕ) → subr_of w ≡ Ok n → w ≡ Subr n
-subr_is (Int j) n h = cc
-subr_is (Nat m) n h = cc
-subr_is (Bitv m) n h = cc
-subr_is (Truth c) n h = cc
-subr_is (Addr area offset) n h = cc
-subr_is (Pc q l) n h = cc
-subr_is (Subr q) n h = ap Subr (same_Ok h)
 
 -- an operation that was no error
 pub lifted_is : {A : Type 0} (r : Result A WordError) (x : A) → lifted r ≡ Ok x → r ≡ Ok x

@@ -8,6 +8,7 @@ use Rattle.piton_words.specs.declared.outcome.Outcome.{Outcome}
 use Rattle.piton_words.specs.declared.outcome.WordError.{WordError}
 use Rattle.fm_words.specs.Word.{is_nat}
 use Rattle.stack_text.specs.Results.{◌>>=◌}
+use Rattle.stack_text.proofs.ResultLaws.{bind_ok}
 use Rattle.piton_words.specs.Views.{int_of, nat_of, bitv_of, bool_of, addr_of, where_true}
 use Rattle.piton_words.specs.Rows.{ints, nats, bitvs, bools}
 
@@ -22,8 +23,7 @@ pub record WentOn {A B : Type 0} (r : Result A WordError) (go : A → Result B W
   pub goes : go value ≡ Ok y
 
 pub went_on : {A B : Type 0} (r : Result A WordError) (go : A → Result B WordError) (y : B) → (r >>= go) ≡ Ok y → WentOn r go y
-went_on (Ok x) go y h = record { value = x; is = refl; goes = h }
-went_on (Err e) go y h = cc
+went_on r go y h = let first = bind_ok r go y h in record { value = first.0; is = first.1; goes = first.2 }
 
 pub int_is : (w : Word) (i : ℤ) → int_of w ≡ Ok i → w ≡ Int i
 int_is (Int j) i h = ap Int (same_Ok h)
@@ -60,15 +60,6 @@ bool_is (Truth c) b h = ap Truth (same_Ok h)
 bool_is (Addr a o) b h = cc
 bool_is (Pc q l) b h = cc
 bool_is (Subr q) b h = cc
-
-pub addr_is : (w : Word) (a : ℕ × ℕ) → addr_of w ≡ Ok a → w ≡ Addr a.0 a.1
-addr_is (Int j) a h = cc
-addr_is (Nat m) a h = cc
-addr_is (Bitv m) a h = cc
-addr_is (Truth c) a h = cc
-addr_is (Addr area offset) a h = ap (λ (p : ℕ × ℕ). Addr p.0 p.1) (same_Ok h)
-addr_is (Pc q l) a h = cc
-addr_is (Subr q) a h = cc
 
 -- a condition that held
 pub record Held (b : Bool) (answer : Result Outcome WordError) (out : Outcome) : Type 0 where

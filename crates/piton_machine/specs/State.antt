@@ -19,9 +19,13 @@ pub record PitonState : Type 0 where
   pub stack : List Word
   pub areas : List (List Word)
 
+-- what stands for a program where there is none
+abbrev pub no_program : ProgramView
+no_program = record { formals = 0; temporaries = []; instructions = [] }
+
 -- the program at a position
 abbrev pub program_of : SystemView → ℕ → ProgramView
-program_of s program = slice_index_or s.programs program record { formals = 0; temporaries = []; instructions = [] }
+program_of s program = slice_index_or s.programs program no_program
 
 -- the instruction at a place of a program
 abbrev pub instruction_at : SystemView → ℕ → ℕ → Option Instruction

@@ -38,7 +38,7 @@ impl State {
         }
     }
 
-    // A move, a jump, a call or a return done.
+    /// A move, a jump, a call or a return done.
     fn act_otherwise(
         &mut self,
         checked: &Resolved,
@@ -155,14 +155,14 @@ impl State {
         }
     }
 
-    // Whether the temporary stack has no room left.
+    /// Whether the temporary stack has no room left.
     fn is_full(&self) -> bool
         ensures { result ≡ (length self.now.state.stack == self.now.temp) }
     {
         self.stack.len() == self.stack.room()
     }
 
-    // Whether the temporary stack has no word.
+    /// Whether the temporary stack has no word.
     fn is_empty(&self) -> bool
         ensures { result ≡ (length self.now.state.stack == 0) }
     {
@@ -181,7 +181,7 @@ impl State {
         }
     }
 
-    // What a move, a jump, a call or a return costs.
+    /// What a move, a jump, a call or a return costs.
     fn cost_otherwise(&self, checked: &Resolved, op: PitonOp, args: &[ResolvedArg]) -> u64
         requires { (program : ℕ) → variables_of (system_view checked.now) program ≤ 400 }
         ensures value { result ≡
@@ -276,7 +276,7 @@ impl State {
         }
     }
 
-    // How many locals the program has that the top word names.
+    /// How many locals the program has that the top word names.
     fn variables_on_top(&self, checked: &Resolved) -> u64
         requires { (program : ℕ) → variables_of (system_view checked.now) program ≤ 400 }
         ensures value { result ≡ variables_on_top (system_view checked.now) self.now.state.stack }
@@ -301,8 +301,8 @@ pub fn variables(checked: &Resolved, program: u32) -> u64
     }
 }
 
-// What an operation on words costs.
-fn operation_cost(op: WordOp) -> u64
+/// What an operation on words costs: as many instructions as it has words of code.
+pub fn operation_cost(op: WordOp) -> u64
     ensures { result ≡ operation_cost op }
 {
     match op {

@@ -28,7 +28,7 @@ pub fn group_of(op: PitonOp) -> Group
     }
 }
 
-// Whether an operation is a jump, a call or a return.
+/// Whether an operation is a jump, a call or a return.
 fn is_jump(op: PitonOp) -> bool
     ensures { result ≡ is_jump op }
 {

@@ -21,7 +21,7 @@ mod state;
 mod stepped;
 mod view;
 
-pub use act::variables;
+pub use act::{operation_cost, variables};
 pub use argument::{
     area_argument, local_argument, number_argument, place_argument, place_of, program_argument,
     test_argument, word_argument,

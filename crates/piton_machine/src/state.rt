@@ -84,7 +84,7 @@ impl State {
         self.ran(checked.resolved(), limit)
     }
 
-    // The opening state of a system with this initial stack, from the bottom up.
+    /// The opening state of a system with this initial stack, from the bottom up.
     fn opened(alloc: Global, checked: &Resolved, stack: &[Word]) -> Result<State, Memory>
         requires sound { IsWellFormed (system_view checked.now) }
         requires room { length stack.now ≤ checked.now.temp }
@@ -109,7 +109,7 @@ impl State {
         })
     }
 
-    // One step.
+    /// One step.
     #[tactic(auto, unfolding(crate::specs::Views::then_on))]
     fn stepped(&mut self, checked: &Resolved) -> Stepped
         requires sound { IsWellFormed (system_view checked.now) }
@@ -137,7 +137,7 @@ impl State {
         }
     }
 
-    // At most `limit` steps.
+    /// At most `limit` steps.
     fn ran(&mut self, checked: &Resolved, limit: u64) -> PitonRun
         requires sound { IsWellFormed (system_view checked.now) }
         requires fits { IsSeen (system_view checked.now) self.old }

@@ -12,7 +12,7 @@ use Rattle.stack_text.specs.Values.{ValueOf, item_count}
 use Rattle.fm_image.specs.declared.slot.Slot.{Slot}
 use Rattle.fm_image.specs.declared.window.Window.{Window}
 use Rattle.fm_image.specs.Image.{ImageOf, window_of, is_slot_address, all_after, is_image}
-use Rattle.fm_image.proofs.Limits.{from_limits}
+use Rattle.fm_image.proofs.LimitLaws.{from_limits}
 use Rattle.fm_image.proofs.NameLaws.{fits_window, slots_fit, conditions_fit}
 use Rattle.piton_check.specs.Instruction.{SystemView}
 use Rattle.piton_check.specs.Sound.{IsSound}

@@ -14,7 +14,7 @@ use Rattle.fm_image.specs.Image.{is_image}
 use Rattle.fm_loader.specs.declared.fault.ValuesFault.{ValuesFault}
 use Rattle.fm_loader.specs.Rules.{Gives}
 use Rattle.fm_loader.specs.Values.{values_in, HaveOwnNames}
-use Rattle.fm_loader.proofs.Images.{own_names}
+use Rattle.fm_loader.proofs.ImageLaws.{own_names}
 use Rattle.fm_loader.proofs.ValuesLaws.{values_fit, values_are, values_have_32_bits}
 use Rattle.gypsy_syntax.specs.declared.literal.Decl.{Decl}
 use Rattle.gypsy_syntax.specs.Sources.{ProcOf, SourceOf}

@@ -31,6 +31,8 @@
 //! 3. Say in a clause of your own what the value is after each answer, as `after` does in the four
 //!    of this crate. Such clauses replace the trait's and have to imply them. Repeat
 //!    `counts` (of a sink, `faults`), since a model doesn't show that a count fits a `u64`.
+//! 4. `files`, where they are told, is a list: a file that is stored again keeps its place, and a new
+//!    name comes last.
 #![tactic(auto)]
 
 mod failing;

@@ -40,10 +40,6 @@ notes_next {X} f xs i item x y z lt is h k =
     notes_more x y z (flat_map f (take i xs)) (f item) h k
     ∙ ap (λ (bs : List Breach). lesser_of x (least bs)) (sym (ap (flat_map f) (take_more xs i item lt ∙ ap (λ (u : X). take i xs ++ u ∷ []) (sym is)) ∙ flat_map-push f (take i xs) item))
 
--- of all items
-pub notes_all : {X : Type 0} (f : X → List Breach) (xs : List X) (i : ℕ) (x y : Option Breach) → length xs ≤ i → Notes x (flat_map f (take i xs)) y → Notes x (flat_map f xs) y
-notes_all {X} f xs i x y le h = h ∙ ap (λ (us : List X). lesser_of x (least (flat_map f us))) (take_all i xs le)
-
 -- where there is no least breach, there is none
 pub none_least : (bs : List Breach) → least bs ≡ None → bs ≡ []
 none_least [] h = refl

@@ -1,5 +1,5 @@
 -- Values: a shape, and the items of it.
-use Rattle.std.specs.Prelude.{ℕ, ℤ, pos, negsuc, List, Bool, true, false, ◌==◌, ◌&&◌, ◌||◌, nat_le, length, if◌then◌else◌}
+use Rattle.std.specs.Prelude.{ℕ, ℤ, pos, negsuc, List, Bool, true, false, ◌==◌, ◌&&◌, ◌||◌, nat_le, length, if◌then◌else◌, codes}
 use Rattle.std.specs.List.{list_all}
 use Rattle.stack_text.specs.declared.shape.Kind.{Kind}
 use Rattle.stack_text.specs.declared.shape.Kind.TheVariants.{Integer, Boolean, Character}
@@ -12,6 +12,12 @@ is_item Boolean (pos n) = n == 0 || n == 1
 is_item Boolean (negsuc n) = false
 is_item Character (pos n) = nat_le n 127
 is_item Character (negsuc n) = false
+
+-- the word of a kind, in sources and in listings
+abbrev pub kind_name : Kind → List ℕ
+kind_name Integer = codes "integer"
+kind_name Boolean = codes "boolean"
+kind_name Character = codes "character"
 
 -- one for a simple type, and else the length of the array
 abbrev pub item_count : Shape → ℕ

@@ -1,7 +1,7 @@
 //! Kinds and shapes of values.
 
 ghost use Rattle.std.specs.Prelude.{◌≡◌};
-ghost use Rattle.stack_text.specs.Values.{is_item, item_count};
+ghost use Rattle.stack_text.specs.Values.{is_item, item_count, kind_name};
 
 /// What an item of a value is.
 #[derive(Clone, Copy, Debug, PartialEq, Eq)]
@@ -23,6 +23,17 @@ pub struct Shape {
 }
 
 impl Kind {
+    /// The word of the kind, in sources and in listings.
+    pub fn name(self) -> &'static str
+        ensures { result.now ≡ kind_name self }
+    {
+        match self {
+            Kind::Integer => "integer",
+            Kind::Boolean => "boolean",
+            Kind::Character => "character",
+        }
+    }
+
     /// Whether the kind has this item.
     pub fn has(self, item: i32) -> bool
         ensures { result ≡ is_item self item }

@@ -20,7 +20,7 @@ pub fn assembled(alloc: Global, text: &str) -> Result<Vec<u32>, Fail> {
     Ok(words)
 }
 
-// The text without a space in front.
+/// The text without a space in front.
 fn trimmed(text: &[u8]) -> &[u8] {
     match text {
         [b' ', rest @ ..] => rest,
@@ -28,13 +28,13 @@ fn trimmed(text: &[u8]) -> &[u8] {
     }
 }
 
-// The text before a byte, and the text after it.
+/// The text before a byte, and the text after it.
 fn cut(text: &[u8], byte: u8) -> (&[u8], &[u8]) {
     let mut parts = text.splitn(2, |other| *other == byte);
     (parts.next().unwrap_or(&[]), parts.next().unwrap_or(&[]))
 }
 
-// The number that digits stand for.
+/// The number that digits stand for.
 fn number(digits: &[u8]) -> u32 {
     let mut value = 0u32;
     for digit in digits {
@@ -45,14 +45,14 @@ fn number(digits: &[u8]) -> u32 {
     value
 }
 
-// The register of a number.
+/// The register of a number.
 fn register(digits: &[u8]) -> u8
     ensures { result < 16 }
 {
     (number(digits) % 16) as u8
 }
 
-// An operand, and the word that follows the instruction.
+/// An operand, and the word that follows the instruction.
 fn operand(text: &[u8]) -> (OperandA, Option<u32>)
     ensures { IsOperand result.0 }
 {
@@ -109,7 +109,7 @@ fn flags(names: &[u8]) -> Flags {
     }
 }
 
-// An operation with the flags in braces that it sets, or with the condition in brackets under which it stores.
+/// An operation with the flags in braces that it sets, or with the condition in brackets under which it stores.
 fn word(head: &[u8], target: OperandA, source: OperandA) -> u32
     requires target { IsOperand target }
     requires source { IsOperand source }

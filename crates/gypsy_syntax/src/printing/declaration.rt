@@ -1,13 +1,11 @@
 //! Types and declarations.
 
 ghost use Rattle.std.specs.Prelude.{◌≡◌, ◌++◌, ◌∷◌, Some, map, OnOk};
-ghost use Rattle.stack_text.specs.TreeText.{items_text, tree_text};
-ghost use Rattle.stack_text.specs.TreeView.{nodes};
+ghost use Rattle.stack_text.specs.TreeText.{tree_text};
 ghost use Rattle.stack_text.specs.Grammar.Printed.{list_tree};
 ghost use Rattle.gypsy_syntax.specs.Printed.{local_tree, type_tree, type_tree_by};
 ghost use Rattle.gypsy_syntax.specs.SourceView.{local_of};
 
-use crate::keyword::kind_name;
 use crate::literal::{Decl, Local, TypeText};
 use crate::printing::literals::{print_literal, print_number};
 use stack_text::Memory;
@@ -18,7 +16,7 @@ fn print_array(out: &mut Vec<u8>, shape: TypeText, length: i128) -> Result<(), M
     ensures { OnOk result (out.new.items ≡ out.old.items ++ tree_text (type_tree_by shape.kind (Some length))) }
 {
     out.extend_from_slice(b"(array ")?;
-    out.extend_from_slice(kind_name(shape.kind).as_bytes())?;
+    out.extend_from_slice(shape.kind.name().as_bytes())?;
     out.push(b' ')?;
     print_number(out, length)?;
     out.push(b')')?;
@@ -31,7 +29,7 @@ fn print_type(out: &mut Vec<u8>, shape: TypeText) -> Result<(), Memory>
 {
     match shape.length {
         None => {
-            out.extend_from_slice(kind_name(shape.kind).as_bytes())?;
+            out.extend_from_slice(shape.kind.name().as_bytes())?;
             Ok(())
         }
         Some(length) => print_array(out, shape, length),

@@ -1,6 +1,6 @@
 //! Procedures, and whole sources.
 
-ghost use Rattle.std.specs.Prelude.{◌≡◌, Ok, nat_le};
+ghost use Rattle.std.specs.Prelude.{◌≡◌, Ok};
 ghost use Rattle.stack_text.specs.Trees.{list};
 ghost use Rattle.stack_text.specs.TreeView.{node_of, nodes_of};
 ghost use Rattle.stack_text.specs.Grammar.Judged.{each_of, ◌⊛◌};

@@ -1,8 +1,7 @@
 //! Words, names and numerals.
 
-ghost use Rattle.std.specs.Prelude.{◌≡◌, IsTrue, codes, map};
+ghost use Rattle.std.specs.Prelude.{◌≡◌, IsTrue, codes};
 ghost use Rattle.stack_text.specs.Numerals.{is_numeral};
-ghost use Rattle.stack_text.specs.Trees.{none};
 ghost use Rattle.stack_text.specs.TreeView.{node_of};
 ghost use Rattle.stack_text.specs.Grammar.Parts.{is_atom_of};
 ghost use Rattle.stack_text.specs.Grammar.Reading.{Finds, Reads};

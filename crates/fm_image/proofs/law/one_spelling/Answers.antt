@@ -1,4 +1,4 @@
-use Rattle.fm_image.proofs.Whole.{one_spelling, one_image, is_read_again}
+use Rattle.fm_image.proofs.ImageLaws.{one_spelling, one_image, is_read_again}
 use Rattle.fm_image.proofs.law.one_spelling.Goals as goal
 
 pub returns-clause-spelling : goal.returns-clause-spelling

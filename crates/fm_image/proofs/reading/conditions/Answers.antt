@@ -2,7 +2,7 @@ use Rattle.std.proofs.Common.{◌≡◌, [], refl, sym, ◌∙◌}
 use Rattle.std.proofs.lemmas.Result.{err_from_is_err_and}
 use Rattle.fm_image.specs.Fields.{items_at}
 use Rattle.fm_image.specs.Reading.{condition_at, conditions_at}
-use Rattle.fm_image.proofs.ItemLoops.{goes_on, ends, is_done}
+use Rattle.fm_image.proofs.ItemLaws.{goes_on, ends, is_done}
 use Rattle.fm_image.proofs.reading.conditions.Goals as goal
 
 pub returns-in_err-next : goal.returns-in_err-next

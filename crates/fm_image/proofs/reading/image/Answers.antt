@@ -1,6 +1,6 @@
 use Rattle.std.proofs.Common.{◌≡◌, length, arith}
 use Rattle.std.proofs.lemmas.Grind.{common_steps}
-use Rattle.fm_image.proofs.Whole.{fields_hold}
+use Rattle.fm_image.proofs.ImageLaws.{fields_hold}
 use Rattle.fm_image.proofs.reading.image.Goals as goal
 
 pub invariant_of-result : goal.invariant_of-result

@@ -1,4 +1,4 @@
-use Rattle.fm_image.proofs.Limits.{condition_count, slot_count, word_count}
+use Rattle.fm_image.proofs.LimitLaws.{condition_count, slot_count, word_count}
 use Rattle.fm_image.proofs.writing.write_image.Goals as goal
 
 pub push_conditions-requires : goal.push_conditions-requires

@@ -1,4 +1,4 @@
-use Rattle.fm_loader.proofs.Names.{names_next}
+use Rattle.fm_loader.proofs.NameLaws.{names_next}
 use Rattle.fm_loader.proofs.judging.names.Goals as goal
 
 pub loop-slot-preserved : goal.loop-slot-preserved

@@ -1,5 +1,6 @@
-use Rattle.std.proofs.Common.{sym, ◌∙◌}
-use Rattle.fm_loader.proofs.Names.{no_slot, the_slot, got}
+use Rattle.std.proofs.Common.{sym, ◌∙◌, refl, length}
+use Rattle.std.proofs.lemmas.Option.{slice_get_read}
+use Rattle.fm_loader.proofs.NameLaws.{no_slot, the_slot}
 use Rattle.fm_loader.proofs.judging.slot_named.Goals as goal
 
 pub returns-in_err-index-clause-slot : goal.returns-in_err-index-clause-slot
@@ -7,7 +8,7 @@ returns-in_err-index-clause-slot c = rw c.from_residual.ensures (no_slot c.args.
 
 pub returns-clause-slot : goal.returns-clause-slot
 returns-clause-slot c =
-    sym (the_slot c.args.name.now c.args.names.now.keys c.args.slots.now c.in_ok-index.index c.requires c.in_ok-index.ensures.index ∙ got c.args.slots.now c.in_ok-index.index c.in_ok-slot.slot.now c.in_ok-slot.ensures.lookup.3.0 c.in_ok-slot.ensures.lookup.1)
+    sym (the_slot c.args.name.now c.args.names.now.keys c.args.slots.now c.in_ok-index.index c.requires c.in_ok-index.ensures.index ∙ slice_get_read c.args.slots.now (length c.args.slots.now) c.in_ok-index.index c.in_ok-slot.slot.now refl c.in_ok-slot.ensures.lookup.3.0 c.in_ok-slot.ensures.lookup.1)
 
 pub returns-clause-position : goal.returns-clause-position
-returns-clause-position c = got c.args.slots.now c.in_ok-index.index c.in_ok-slot.slot.now c.in_ok-slot.ensures.lookup.3.0 c.in_ok-slot.ensures.lookup.1
+returns-clause-position c = slice_get_read c.args.slots.now (length c.args.slots.now) c.in_ok-index.index c.in_ok-slot.slot.now refl c.in_ok-slot.ensures.lookup.3.0 c.in_ok-slot.ensures.lookup.1

@@ -1,5 +1,5 @@
 use Rattle.std.proofs.Common.{sym}
-use Rattle.fm_loader.proofs.Fitting.{fits_is_value}
+use Rattle.fm_loader.proofs.FitLaws.{fits_is_value}
 use Rattle.fm_loader.proofs.judging.value.Goals as goal
 
 pub invariant_of-result : goal.invariant_of-result

@@ -1,6 +1,6 @@
 use Rattle.std.proofs.Common.{refl}
-use Rattle.fm_image.proofs.Limits.{sixteen, words_below}
-use Rattle.fm_loader.proofs.Images.{has_window, has_room}
+use Rattle.fm_image.proofs.LimitLaws.{sixteen, words_below}
+use Rattle.fm_loader.proofs.ImageLaws.{has_window, has_room}
 use Rattle.fm_loader.proofs.loading.load.Goals as goal
 
 pub unreachable-requires : goal.unreachable-requires

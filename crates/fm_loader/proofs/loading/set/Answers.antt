@@ -1,6 +1,6 @@
 use Rattle.std.proofs.Common.{ap}
 use Rattle.fm_machine.specs.State.{Seen}
-use Rattle.fm_loader.proofs.Stores.{is_set, on_err}
+use Rattle.fm_loader.proofs.StoreLaws.{is_set, on_err}
 use Rattle.fm_loader.proofs.loading.set.Goals as goal
 
 pub returns : goal.returns

@@ -1,4 +1,4 @@
-use Rattle.fm_loader.proofs.Stores.{room_at}
+use Rattle.fm_loader.proofs.StoreLaws.{room_at}
 use Rattle.fm_loader.proofs.loading.set_values.Goals as goal
 
 pub set_value-requires-clause-room : goal.set_value-requires-clause-room

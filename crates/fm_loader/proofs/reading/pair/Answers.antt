@@ -1,4 +1,4 @@
-use Rattle.fm_loader.proofs.Trees.{no_pair, is_pair}
+use Rattle.fm_loader.proofs.TreeLaws.{no_pair, is_pair}
 use Rattle.fm_loader.proofs.reading.pair.Goals as goal
 
 pub returns-then-trees-ne2 : goal.returns-then-trees-ne2

@@ -1,6 +1,6 @@
 use Rattle.stack_text.specs.TreeView.{nodes_of}
 use Rattle.fm_loader.specs.Parsed.{scalars_of}
-use Rattle.fm_loader.proofs.Trees.{scalars_next, scalars_stop, scalars_end}
+use Rattle.fm_loader.proofs.TreeLaws.{scalars_next, scalars_stop, scalars_end}
 use Rattle.fm_loader.proofs.reading.scalars.Goals as goal
 
 pub returns-in-None : goal.returns-in-None

@@ -1,4 +1,4 @@
-use Rattle.fm_image.proofs.Limits.{words_below}
+use Rattle.fm_image.proofs.LimitLaws.{words_below}
 use Rattle.fm_show.proofs.image.show_image.Goals as goal
 
 pub push_words-requires : goal.push_words-requires

@@ -1,4 +1,4 @@
-use Rattle.fm_loader.proofs.Images.{own_names}
+use Rattle.fm_loader.proofs.ImageLaws.{own_names}
 use Rattle.fm_tests.proofs.loader.loads_an_image.Goals as goal
 
 pub read_values-requires-clause-names : goal.read_values-requires-clause-names

@@ -1,11 +1,13 @@
+use Rattle.std.proofs.Common.{refl, length}
+use Rattle.std.proofs.lemmas.Option.{slice_get_read}
 use Rattle.piton_check.specs.Resolved.{resolved_program}
 use Rattle.piton_check.specs.Violations.{program_breaches}
 use Rattle.stack_text.proofs.BreachLaws.{notes_next}
-use Rattle.piton_check.proofs.ListLaws.{mapped_next, got}
+use Rattle.piton_check.proofs.ListLaws.{mapped_next}
 use Rattle.piton_check.proofs.program.programs.Goals as goal
 
 pub program-requires-clause-small : goal.program-requires-clause-small
-program-requires-clause-small c = c.requires.small c.loop-text.text-index c.text-item.result (got c.args.texts.now c.loop-text.text-index c.text-item.result c.loop-text-test.true c.text-item.is)
+program-requires-clause-small c = c.requires.small c.loop-text.text-index c.text-item.result (slice_get_read c.args.texts.now (length c.args.texts.now) c.loop-text.text-index c.text-item.result refl c.loop-text-test.true c.text-item.is)
 
 pub loop-text-preserved : goal.loop-text-preserved
 loop-text-preserved c = record {

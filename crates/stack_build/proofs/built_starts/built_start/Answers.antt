@@ -1,6 +1,6 @@
 use Rattle.std.proofs.Common.{rules, ◌≡◌, subst}
 use Rattle.std.proofs.lemmas.Result.{err_from_is_err_and}
-use Rattle.fm_loader.proofs.Images.{own_names}
+use Rattle.fm_loader.proofs.ImageLaws.{own_names}
 use Rattle.gypsy_space.specs.Needs.{stack_words}
 use Rattle.gypsy_syntax.specs.SourceView.{source_of}
 use Rattle.stack_build.specs.Starts.{CanRun}

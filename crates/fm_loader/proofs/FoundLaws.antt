@@ -6,6 +6,8 @@ use Rattle.std.specs.Str.{bytes_eq}
 use Rattle.std.proofs.lemmas.List.{append-nil, drop_all, drop_more, take_all, take_more, length-map}
 use Rattle.std.proofs.lemmas.Map.Keys.{IsDistinct-head, IsDistinct-tail, apart_from_distinct}
 use Rattle.std.proofs.lemmas.Slice.Eq.{bytes_eq-Decides}
+use Rattle.stack_text.proofs.Loops.{drop-item}
+use Rattle.stack_text.proofs.ResultLoops.{with_front}
 use Rattle.stack_text.specs.declared.shape.Shape.{Shape}
 use Rattle.stack_text.specs.Values.{ValueOf}
 use Rattle.fm_image.specs.declared.slot.Slot.{Slot}
@@ -16,34 +18,27 @@ use Rattle.fm_loader.specs.declared.fault.ValuesFault.{ValuesFault}
 use Rattle.fm_loader.specs.declared.fault.ValuesFault.TheVariants.{Refused, Memory}
 use Rattle.fm_loader.specs.Rules.{rule_number, Fault, Fails}
 use Rattle.fm_loader.specs.Values.{mismatch, rule_broken, unless_fault, value_or_fault, found_in, is_named, slot_named, rule_of, fault_at, entry_fault, numbers_of, numbers_for, value_with, value_for, all_found, HaveOwnNames}
-use Rattle.fm_loader.proofs.Names.{not_equal, index_within, named_same}
+use Rattle.fm_loader.proofs.NameLaws.{not_equal, index_within, named_same}
 
 -- ---- all are there
 
-abbrev pub behind_values : List ValueOf → Result (List ValueOf) Fault → Result (List ValueOf) Fault
-behind_values front (Ok others) = Ok (front ++ others)
-behind_values front (Err fault) = Err fault
-
-value_before : (place : ℕ) (front : List ValueOf) (x : ValueOf) (rest : List (Option ValueOf)) (r : Result (List ValueOf) Fault) → all_found place rest ≡ r → behind_values front (all_found place (Some x ∷ rest)) ≡ behind_values (front ++ x ∷ []) r
+value_before : (place : ℕ) (front : List ValueOf) (x : ValueOf) (rest : List (Option ValueOf)) (r : Result (List ValueOf) Fault) → all_found place rest ≡ r → with_front front (all_found place (Some x ∷ rest)) ≡ with_front (front ++ x ∷ []) r
 unfolding all_found
 value_before place front x rest (Ok others) e = rw e (ap Ok (sym (append_assoc front (x ∷ []) others)))
 value_before place front x rest (Err fault) e = rw e refl
 
-pub found_next : (place : ℕ) (front : List ValueOf) (x : ValueOf) (left rest : List (Option ValueOf)) (all : Result (List ValueOf) Fault) → left ≡ Some x ∷ rest → all ≡ behind_values front (all_found place left) → all ≡ behind_values (front ++ x ∷ []) (all_found place rest)
-found_next place front x left rest all is so_far = so_far ∙ ap (λ (l : List (Option ValueOf)). behind_values front (all_found place l)) is ∙ value_before place front x rest (all_found place rest) refl
+pub found_next : (place : ℕ) (front : List ValueOf) (x : ValueOf) (left rest : List (Option ValueOf)) (all : Result (List ValueOf) Fault) → left ≡ Some x ∷ rest → all ≡ with_front front (all_found place left) → all ≡ with_front (front ++ x ∷ []) (all_found place rest)
+found_next place front x left rest all is so_far = so_far ∙ ap (λ (l : List (Option ValueOf)). with_front front (all_found place l)) is ∙ value_before place front x rest (all_found place rest) refl
 
-pub found_stop : (place : ℕ) (front : List ValueOf) (left rest : List (Option ValueOf)) (all : Result (List ValueOf) Fault) → left ≡ None ∷ rest → all ≡ behind_values front (all_found place left) → all ≡ Err (rule_number rules.Missing, place)
+pub found_stop : (place : ℕ) (front : List ValueOf) (left rest : List (Option ValueOf)) (all : Result (List ValueOf) Fault) → left ≡ None ∷ rest → all ≡ with_front front (all_found place left) → all ≡ Err (rule_number rules.Missing, place)
 unfolding all_found
-found_stop place front left rest all is so_far = so_far ∙ ap (λ (l : List (Option ValueOf)). behind_values front (all_found place l)) is
+found_stop place front left rest all is so_far = so_far ∙ ap (λ (l : List (Option ValueOf)). with_front front (all_found place l)) is
 
-pub found_end : (place : ℕ) (front : List ValueOf) (left : List (Option ValueOf)) (all : Result (List ValueOf) Fault) → left ≡ [] → all ≡ behind_values front (all_found place left) → all ≡ Ok front
+pub found_end : (place : ℕ) (front : List ValueOf) (left : List (Option ValueOf)) (all : Result (List ValueOf) Fault) → left ≡ [] → all ≡ with_front front (all_found place left) → all ≡ Ok front
 unfolding all_found
-found_end place front left all is so_far = so_far ∙ ap (λ (l : List (Option ValueOf)). behind_values front (all_found place l)) is ∙ ap Ok (append-nil front)
+found_end place front left all is so_far = so_far ∙ ap (λ (l : List (Option ValueOf)). with_front front (all_found place l)) is ∙ ap Ok (append-nil front)
 
 -- ---- one entry more
-
-first_entry : (entries : List Entry) (i : ℕ) (entry : Entry) → i < length entries → entry ≡ get_or entries i entry → drop i entries ≡ entry ∷ drop (i + 1) entries
-first_entry entries i entry lt is = drop_more entries i entry lt ∙ ap (λ (e : Entry). e ∷ drop (i + 1) entries) (sym is)
 
 entry_behind : (entries : List Entry) (i : ℕ) (entry : Entry) → i < length entries → entry ≡ get_or entries i entry → take (i + 1) entries ≡ take i entries ++ entry ∷ []
 entry_behind entries i entry lt is = take_more entries i entry lt ∙ ap (λ (e : Entry). take i entries ++ e ∷ []) (sym is)
@@ -52,14 +47,14 @@ entry_behind entries i entry lt is = take_more entries i entry lt ∙ ap (λ (e 
 pub fault_now : (slots : List Slot) (entries : List Entry) (i : ℕ) (entry : Entry) (rule : Rule) (all : Option Fault) → i < length entries → entry ≡ get_or entries i entry → rule_of slots (take i entries) entry ≡ Some rule
     → all ≡ entry_fault slots (take i entries) (drop i entries) → all ≡ Some (fault_at entry.place rule)
 unfolding entry_fault
-fault_now slots entries i entry rule all lt is breaks so_far = so_far ∙ ap (entry_fault slots (take i entries)) (first_entry entries i entry lt is) ∙ rw breaks refl
+fault_now slots entries i entry rule all lt is breaks so_far = so_far ∙ ap (entry_fault slots (take i entries)) (drop-item entries i entry lt is) ∙ rw breaks refl
 
 -- it breaks none
 pub fault_later : (slots : List Slot) (entries : List Entry) (i : ℕ) (entry : Entry) (all : Option Fault) → i < length entries → entry ≡ get_or entries i entry → rule_of slots (take i entries) entry ≡ None
     → all ≡ entry_fault slots (take i entries) (drop i entries) → all ≡ entry_fault slots (take (i + 1) entries) (drop (i + 1) entries)
 unfolding entry_fault
 fault_later slots entries i entry all lt is breaks so_far =
-    so_far ∙ ap (entry_fault slots (take i entries)) (first_entry entries i entry lt is) ∙ rw breaks (ap (λ (es : List Entry). entry_fault slots es (drop (i + 1) entries)) (sym (entry_behind entries i entry lt is)))
+    so_far ∙ ap (entry_fault slots (take i entries)) (drop-item entries i entry lt is) ∙ rw breaks (ap (λ (es : List Entry). entry_fault slots es (drop (i + 1) entries)) (sym (entry_behind entries i entry lt is)))
 
 -- a slot has a value exactly where an earlier entry has its name
 has_value : (name : List ℕ) (shape : Shape) (entries : List Entry) → is_some (option_map (value_with shape) (numbers_for name entries)) ≡ is_named name entries

@@ -5,7 +5,7 @@ use Rattle.std.proofs.lemmas.Bool.{le-ltb, leb-true, and_parts}
 use Rattle.std.specs.List.{list_all}
 use Rattle.stack_text.specs.Values.{ValueOf, item_count}
 use Rattle.fm_machine.specs.State.{Fm, word_at, with_word}
-use Rattle.fm_machine.specs.Step.{written, written_if}
+use Rattle.fm_machine.specs.Step.{store_at, store_at_if}
 use Rattle.fm_machine.specs.declared.fault.Outside.{Outside}
 use Rattle.fm_image.specs.declared.slot.Slot.{Slot}
 use Rattle.fm_loader.specs.Loaded.{Fits, HaveRoom}
@@ -25,18 +25,18 @@ nothing_there base memory address word above h =
     let e : nat_lt address base ≡ false = le-ltb address base above in
     none_set memory (address - base) word (none_of (slice_get memory (address - base)) (rw e at h))
 
-taken : (b : Bool) (s t : Fm) (base address word : ℕ) → s.base ≡ base → written_if b s address word ≡ Ok t → t ≡ record s { memory = with_word base s.memory address word }
+taken : (b : Bool) (s t : Fm) (base address word : ℕ) → s.base ≡ base → store_at_if b s address word ≡ Ok t → t ≡ record s { memory = with_word base s.memory address word }
 taken true s t base address word is h = let k : record s { memory = with_word s.base s.memory address word } ≡ t = cc in sym k ∙ ap (λ n. record s { memory = with_word n s.memory address word }) is
 taken false s t base address word is h = cc
 
-refused : (b : Bool) (s : Fm) (base address word : ℕ) (e : Outside) → s.base ≡ base → base ≤ address → is_some (word_at s.base s.memory address) ≡ b → written_if b s address word ≡ Err e → s ≡ record s { memory = with_word base s.memory address word }
+refused : (b : Bool) (s : Fm) (base address word : ℕ) (e : Outside) → s.base ≡ base → base ≤ address → is_some (word_at s.base s.memory address) ≡ b → store_at_if b s address word ≡ Err e → s ≡ record s { memory = with_word base s.memory address word }
 refused true s base address word e is above there h = cc
 refused false s base address word e is above there h =
     let none : is_some (word_at base s.memory address) ≡ false = rw is at there in
     ap (λ (m : List ℕ). record s { memory = m }) (sym (nothing_there base s.memory address word above none))
 
 -- after a word is set, or there was no such word
-pub is_set : (s t : Fm) (base address word : ℕ) (r : Result (Unit {0}) Outside) → s.base ≡ base → base ≤ address → OnOk r (written s address word ≡ Ok t) → OnErr r (t ≡ s) → IfErr r (λ e. written s address word ≡ Err e)
+pub is_set : (s t : Fm) (base address word : ℕ) (r : Result (Unit {0}) Outside) → s.base ≡ base → base ≤ address → OnOk r (store_at s address word ≡ Ok t) → OnErr r (t ≡ s) → IfErr r (λ e. store_at s address word ≡ Err e)
     → t ≡ record s { memory = with_word base s.memory address word }
 is_set s t base address word (Ok u) is above ok same err = taken (is_some (word_at s.base s.memory address)) s t base address word is ok
 is_set s t base address word (Err e) is above ok same err = same ∙ refused (is_some (word_at s.base s.memory address)) s base address word e is above refl err

@@ -8,6 +8,7 @@ use Rattle.std.specs.Str.{bytes_eq}
 use Rattle.std.proofs.lemmas.List.{map_push, take_more, take-map, length-map}
 use Rattle.std.proofs.lemmas.Map.Keys.{IsDistinct-tail, apart_from_distinct}
 use Rattle.std.proofs.lemmas.Slice.Eq.{bytes_eq-Decides}
+use Rattle.std.proofs.lemmas.Option.{slice_get_past}
 use Rattle.fm_image.specs.declared.slot.Slot.{Slot}
 use Rattle.fm_loader.specs.Values.{HaveOwnNames, slot_named}
 
@@ -91,22 +92,12 @@ some_below n m i h = by_test (nat_lt n m) refl h
     by_test true e h = (cc, ltb-true n m e)
     by_test false e h = cc
 
-get_past : {X : Type 0} (xs : List X) (i : ℕ) → length xs ≤ i → slice_get xs i ≡ None
-get_past [] i le = refl
-get_past (x ∷ xs) zero le = absurd (omega arith)
-get_past (x ∷ xs) (suc i) le = get_past xs i (omega arith)
-
 pub no_slot : (name : List ℕ) (keys : List (Bor (List ℕ))) (slots : List Slot) → map (λ k. k.now) keys ≡ map (λ s. s.name) slots → None ≡ position (λ k. bytes_eq name k.now) keys → None ≡ slot_named name slots
 no_slot name keys slots same none =
     let past = none_below (position_or_len (λ s. bytes_eq name s.name) slots) (length slots) (sym (none ∙ same_position name keys slots same)) in
-    sym (find_at (λ (s : Slot). bytes_eq name s.name) slots ∙ get_past slots (position_or_len (λ s. bytes_eq name s.name) slots) past)
+    sym (find_at (λ (s : Slot). bytes_eq name s.name) slots ∙ slice_get_past slots (position_or_len (λ s. bytes_eq name s.name) slots) past)
 
 pub the_slot : (name : List ℕ) (keys : List (Bor (List ℕ))) (slots : List Slot) (index : ℕ) → map (λ k. k.now) keys ≡ map (λ s. s.name) slots → Some index ≡ position (λ k. bytes_eq name k.now) keys → slot_named name slots ≡ slice_get slots index
 the_slot name keys slots index same found =
     let at = some_below (position_or_len (λ s. bytes_eq name s.name) slots) (length slots) index (sym (found ∙ same_position name keys slots same)) in
     find_at (λ (s : Slot). bytes_eq name s.name) slots ∙ ap (slice_get slots) at.0
-
-pub got : {X : Type 0} (xs : List X) (i : ℕ) (x : X) → i < length xs → x ≡ get_or xs i x → slice_get xs i ≡ Some x
-got [] i x lt is = absurd (omega arith)
-got (y ∷ xs) zero x lt is = ap Some (sym is)
-got (y ∷ xs) (suc i) x lt is = got xs i x (omega arith) is

@@ -1,6 +1,8 @@
 -- Reading trees one after the other, as a loop does.
 use Rattle.std.proofs.Common.{◌≡◌, ◌≢◌, ℕ, ◌+◌, ◌<◌, ◌≤◌, List, [], ◌∷◌, ◌++◌, length, get_or, drop, Option, Some, None, Result, Ok, Err, option_map, refl, sym, ap, ◌∙◌, append_assoc, arith}
 use Rattle.std.proofs.lemmas.List.{drop_all, drop_more, append-nil}
+use Rattle.stack_text.proofs.Loops.{drop-item}
+use Rattle.stack_text.proofs.ResultLoops.{with_front}
 use Rattle.stack_text.specs.Trees.{Node, more}
 use Rattle.stack_text.specs.TreeView.{node_of, nodes_of}
 use Rattle.stack_text.specs.declared.tree.Tree.{Tree}
@@ -17,9 +19,6 @@ use Rattle.fm_loader.specs.Rules.{Fault, Fails}
 abbrev pub behind_scalars : List Scalar → Option (List Scalar) → Option (List Scalar)
 behind_scalars front rest = option_map (λ others. front ++ others) rest
 
-first_tree : (trees : List Tree) (i : ℕ) (tree : Tree) → i < length trees → tree ≡ get_or trees i tree → drop i trees ≡ tree ∷ drop (i + 1) trees
-first_tree trees i tree lt is = drop_more trees i tree lt ∙ ap (λ (t : Tree). t ∷ drop (i + 1) trees) (sym is)
-
 scalar_before : (front : List Scalar) (x : Scalar) (rest : Option (List Scalar)) → behind_scalars front (option_map (λ others. x ∷ others) rest) ≡ behind_scalars (front ++ x ∷ []) rest
 scalar_before front x None = refl
 scalar_before front x (Some others) = ap Some (sym (append_assoc front (x ∷ []) others))
@@ -33,14 +32,14 @@ pub scalars_next : (trees : List Tree) (i : ℕ) (tree : Tree) (front : List Sca
     → all ≡ behind_scalars front (scalars_of (nodes_of (drop i trees))) → all ≡ behind_scalars (front ++ x ∷ []) (scalars_of (nodes_of (drop (i + 1) trees)))
 scalars_next trees i tree front x all lt is read so_far =
     let step = scalars_step (node_of tree) (drop (i + 1) trees) x read (scalars_of (nodes_of (drop (i + 1) trees))) refl in
-    so_far ∙ ap (λ (ts : List Tree). behind_scalars front (scalars_of (nodes_of ts))) (first_tree trees i tree lt is)
+    so_far ∙ ap (λ (ts : List Tree). behind_scalars front (scalars_of (nodes_of ts))) (drop-item trees i tree lt is)
     ∙ ap (behind_scalars front) (sym step) ∙ scalar_before front x (scalars_of (nodes_of (drop (i + 1) trees)))
 
 pub scalars_stop : (trees : List Tree) (i : ℕ) (tree : Tree) (front : List Scalar) (all : Option (List Scalar)) → i < length trees → tree ≡ get_or trees i tree → None ≡ scalar_at (node_of tree)
     → all ≡ behind_scalars front (scalars_of (nodes_of (drop i trees))) → all ≡ None
 unfolding scalars_of
 scalars_stop trees i tree front all lt is read so_far =
-    so_far ∙ ap (λ (ts : List Tree). behind_scalars front (scalars_of (nodes_of ts))) (first_tree trees i tree lt is) ∙ rw (← read) refl
+    so_far ∙ ap (λ (ts : List Tree). behind_scalars front (scalars_of (nodes_of ts))) (drop-item trees i tree lt is) ∙ rw (← read) refl
 
 pub scalars_end : (trees : List Tree) (i : ℕ) (front : List Scalar) (all : Option (List Scalar)) → length trees ≤ i → all ≡ behind_scalars front (scalars_of (nodes_of (drop i trees))) → all ≡ Some front
 unfolding scalars_of
@@ -63,30 +62,26 @@ is_pair (a ∷ b ∷ c ∷ trees) first second two is is' = absurd (omega arith)
 
 -- ---- the entries of a text
 
-abbrev pub behind_entries : List Entry → Result (List Entry) Fault → Result (List Entry) Fault
-behind_entries front (Ok others) = Ok (front ++ others)
-behind_entries front (Err fault) = Err fault
-
 entry_before : (front : List Entry) (x : Entry) (tree : Node) (trees : List Tree) → entry_at tree ≡ Ok x → (rest : Result (List Entry) Fault) → entries_of (nodes_of trees) ≡ rest →
-    behind_entries front (entries_of (more tree (nodes_of trees))) ≡ behind_entries (front ++ x ∷ []) rest
+    with_front front (entries_of (more tree (nodes_of trees))) ≡ with_front (front ++ x ∷ []) rest
 unfolding entries_of
 entry_before front x tree trees is (Ok others) e = rw (is, e) (ap Ok (sym (append_assoc front (x ∷ []) others)))
 entry_before front x tree trees is (Err fault) e = rw (is, e) refl
 
 pub entries_next : (trees : List Tree) (i : ℕ) (tree : Tree) (front : List Entry) (x : Entry) (all : Result (List Entry) Fault) → i < length trees → tree ≡ get_or trees i tree → entry_at (node_of tree) ≡ Ok x
-    → all ≡ behind_entries front (entries_of (nodes_of (drop i trees))) → all ≡ behind_entries (front ++ x ∷ []) (entries_of (nodes_of (drop (i + 1) trees)))
+    → all ≡ with_front front (entries_of (nodes_of (drop i trees))) → all ≡ with_front (front ++ x ∷ []) (entries_of (nodes_of (drop (i + 1) trees)))
 entries_next trees i tree front x all lt is read so_far =
-    so_far ∙ ap (λ (ts : List Tree). behind_entries front (entries_of (nodes_of ts))) (first_tree trees i tree lt is)
+    so_far ∙ ap (λ (ts : List Tree). with_front front (entries_of (nodes_of ts))) (drop-item trees i tree lt is)
     ∙ entry_before front x (node_of tree) (drop (i + 1) trees) read (entries_of (nodes_of (drop (i + 1) trees))) refl
 
 pub entries_stop : (e : ValuesFault) (trees : List Tree) (i : ℕ) (tree : Tree) (front : List Entry) (all : Result (List Entry) Fault) → i < length trees → tree ≡ get_or trees i tree → Fails e (entry_at (node_of tree))
-    → all ≡ behind_entries front (entries_of (nodes_of (drop i trees))) → Fails e all
+    → all ≡ with_front front (entries_of (nodes_of (drop i trees))) → Fails e all
 unfolding entries_of
 entries_stop Memory trees i tree front all lt is fails so_far = tt
 entries_stop (Refused rule place) trees i tree front all lt is fails so_far =
-    so_far ∙ ap (λ (ts : List Tree). behind_entries front (entries_of (nodes_of ts))) (first_tree trees i tree lt is) ∙ rw fails refl
+    so_far ∙ ap (λ (ts : List Tree). with_front front (entries_of (nodes_of ts))) (drop-item trees i tree lt is) ∙ rw fails refl
 
-pub entries_end : (trees : List Tree) (i : ℕ) (front : List Entry) (all : Result (List Entry) Fault) → length trees ≤ i → all ≡ behind_entries front (entries_of (nodes_of (drop i trees))) → all ≡ Ok front
+pub entries_end : (trees : List Tree) (i : ℕ) (front : List Entry) (all : Result (List Entry) Fault) → length trees ≤ i → all ≡ with_front front (entries_of (nodes_of (drop i trees))) → all ≡ Ok front
 unfolding entries_of
 entries_end trees i front all past so_far =
-    so_far ∙ ap (λ (ts : List Tree). behind_entries front (entries_of (nodes_of ts))) (drop_all i trees past) ∙ ap Ok (append-nil front)
+    so_far ∙ ap (λ (ts : List Tree). with_front front (entries_of (nodes_of ts))) (drop_all i trees past) ∙ ap Ok (append-nil front)

@@ -13,7 +13,7 @@ use Rattle.fm_machine.specs.State.{is_refused}
 use Rattle.fm_image.specs.declared.slot.Slot.{Slot}
 use Rattle.fm_image.specs.declared.window.Window.{Window}
 use Rattle.fm_image.specs.Image.{ImageOf, window_of, is_size, is_inside, is_slot, is_slot_address, all_after, is_image}
-use Rattle.fm_image.proofs.Limits.{limits_of, sized}
+use Rattle.fm_image.proofs.LimitLaws.{limits_of, sized}
 use Rattle.fm_image.proofs.NameLaws.{slots_differ}
 use Rattle.fm_loader.specs.Values.{HaveOwnNames}
 use Rattle.fm_loader.specs.Loaded.{HaveRoom}

@@ -13,10 +13,10 @@ use Rattle.fm_image.specs.Spelling.{number_bytes, numbers_bytes, name_bytes, cou
 use Rattle.stack_text.specs.Results.{◌>>=◌}
 use Rattle.fm_image.specs.Rules.{rule_number, Fault, Gives}
 use Rattle.fm_image.specs.Fields.{place, number_at}
-use Rattle.fm_image.specs.Reading.{opening_at, window_at, numbers_at, flags_at, condition_address_at, condition_at, conditions_at, slot_at, slots_at, words_at, image_at, read_of, error_of, TellsFault}
-use Rattle.fm_image.proofs.Limits.{Limits, limits_of, from_limits}
+use Rattle.fm_image.specs.Reading.{opening_at, window_at, numbers_at, flags_at, condition_address_at, condition_at, conditions_at, slot_at, slots_at, words_at, image_at, read_of, error_of, ReportsFault}
+use Rattle.fm_image.proofs.LimitLaws.{Limits, limits_of, from_limits}
 use Rattle.stack_text.proofs.ResultLaws.{bind_ok, bind_at}
-use Rattle.fm_image.proofs.Readers.{IsBytes, ok_is, guard_passed, Took, Took-then, Reads, is_word, number_reads, items_take, items_again, counted_reads}
+use Rattle.fm_image.proofs.ReaderLaws.{IsBytes, ok_is, guard_passed, Took, Took-then, Reads, is_word, number_reads, items_take, items_again, counted_reads}
 use Rattle.fm_image.proofs.FieldLaws.{opening_takes, opening_again, window_reads, condition_reads}
 use Rattle.fm_image.proofs.SlotLaws.{flags_reads, address_reads, slot_reads}
 
@@ -180,7 +180,7 @@ pub is_found : (bytes : List ℕ) (r : Result ImageOf ImageFault) → IsBytes by
 is_found bytes (Ok image) ok given = read_spells bytes image ok given
 is_found bytes (Err e) ok given = tt
 
-pub tells : (bytes : List ℕ) (r : Result ImageOf ImageFault) → Gives (λ image. image) r (read_of bytes) → TellsFault bytes r
+pub tells : (bytes : List ℕ) (r : Result ImageOf ImageFault) → Gives (λ image. image) r (read_of bytes) → ReportsFault bytes r
 tells bytes (Ok image) given = ap error_of given
 tells bytes (Err (Refused rule place)) given = ap error_of given
 tells bytes (Err Memory) given = tt

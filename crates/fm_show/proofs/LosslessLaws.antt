@@ -19,7 +19,7 @@ use Rattle.fm_words.specs.declared.instruction.OperandA.{OperandA}
 use Rattle.fm_words.specs.declared.instruction.OperandA.TheVariants.{Immediate, Place}
 use Rattle.fm_words.specs.declared.instruction.Instr.{Instr}
 use Rattle.fm_words.specs.Code.{ops, ccs, modes, imm_of, operand_of, decode_of, encode_of, IsOperand, IsInstr, significant}
-use Rattle.fm_words.proofs.Fields.{decode_encode, encode_decode}
+use Rattle.fm_words.proofs.FieldLaws.{decode_encode, encode_decode}
 use Rattle.fm_show.specs.Disassembly.{operation_name, condition_text, flags_text, register_name, place_text, operand_text, instruction_text, disassembly_text}
 
 -- each byte passes

@@ -61,10 +61,6 @@ mode_back Indirect = record { back = refl; below = omega arith }
 mode_back PreDecrement = record { back = refl; below = omega arith }
 mode_back PostIncrement = record { back = refl; below = omega arith }
 
--- the six fields in one word
-word_from : ℕ → ℕ → ℕ → ℕ → ℕ → ℕ → ℕ
-word_from o c f m r a = 2 ^ 24 * o + 2 ^ 20 * c + 2 ^ 16 * f + 2 ^ 14 * m + 2 ^ 10 * r + a
-
 record Fields (w o c f m r a : ℕ) : Type 0 where
   o_is : w / 2 ^ 24 % 16 ≡ o
   c_is : w / 2 ^ 20 % 16 ≡ c
