@@ -23,7 +23,7 @@ use Rattle.cli_stack.specs.Replies.{status_of, verdict_line}
 use Rattle.cli_stack.specs.Answer.{Answer, early_answer, files_after, answer_by}
 use Rattle.cli_stack.specs.World.{World}
 use Rattle.cli_stack.specs.Promises.{HoldsMachine, Agrees, RoseAt, RoseAndPrinted, opening_by, SizePrinted, HoldsPart, LeavesFiles, PrintsPrefix, PromisesOf}
-use Rattle.cli_stack.specs.Correct.{Implements, Tells}
+use Rattle.cli_stack.specs.Correct.{Compiles, Tells}
 use Rattle.cli_stack.specs.Means.{Means}
 use Rattle.cli_stack.specs.Linked.{Links}
 use Rattle.cli_stack.specs.Driver.{HasReason, IsReplyTo, LeavesAs, Leaves, machine_kept, conclusion_of, Stopped, NotBegun, Concludes}
@@ -238,7 +238,7 @@ pub promises : (command : Option Command) (watches : List Watching) (before afte
     → IfSome before.shelf.files (λ files. Leaves command watches files before.shelf after.shelf ran)
     → IfErr ran (HasReason before.shelf.counts after.shelf.counts command) → IfOk ran (IsReplyTo command watches)
     → Concludes (conclusion_of ran) status before.out after.out
-    → IfSome before.shelf.files (λ files. Implements command files (answer_by command watches files).output)
+    → IfSome before.shelf.files (λ files. Compiles command files (answer_by command watches files).output)
     → IfSome before.shelf.files (λ files. Tells command files (answer_by command watches files))
     → IfSome before.shelf.files (λ files. Means command files (answer_by command watches files))
     → IfSome before.shelf.files (λ files. Links command files (answer_by command watches files).output)

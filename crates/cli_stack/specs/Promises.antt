@@ -20,7 +20,7 @@ use Rattle.cli_stack.specs.declared.reply.Verdict.TheVariants as verdict
 use Rattle.cli_stack.specs.Replies.{verdict_line}
 use Rattle.cli_stack.specs.Answer.{Answer, files_after, answer}
 use Rattle.cli_stack.specs.World.{World}
-use Rattle.cli_stack.specs.Correct.{StoresFile, sizes_of, Implements, Tells}
+use Rattle.cli_stack.specs.Correct.{StoresFile, sizes_of, Compiles, Tells}
 use Rattle.cli_stack.specs.Means.{Means}
 use Rattle.cli_stack.specs.Linked.{Links}
 use Rattle.cli_stack.specs.Big.{source_line}
@@ -99,7 +99,7 @@ pub record PromisesOf (command : Option Command) (answer : Files → Answer) (be
   pub answers : IfSome before.shelf.files (λ files.
       status ≢ ShelfFault → status ≢ SinkFault → status ≢ OutOfMemory → Agrees (answer files) files before after status)
   -- who reads a source and stores an image stores what does as the source means, and who runs an image tells what its source means
-  pub implements : IfSome before.shelf.files (λ files. Implements command files (answer files).output)
+  pub implements : IfSome before.shelf.files (λ files. Compiles command files (answer files).output)
   pub tells : IfSome before.shelf.files (λ files. Tells command files (answer files))
   -- who reads a source and values alone, and writes no file, tells what the source means
   pub means : IfSome before.shelf.files (λ files. Means command files (answer files))
