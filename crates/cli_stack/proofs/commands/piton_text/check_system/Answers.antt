@@ -1,6 +1,5 @@
-use Rattle.cli_stack.proofs.PitonTextLaws.{reads_checked}
-use Rattle.cli_stack.proofs.commands.piton_text.read_checked.Goals as goal
+use Rattle.cli_stack.proofs.PitonTextLaws.{is_checked}
+use Rattle.cli_stack.proofs.commands.piton_text.check_system.Goals as goal
 
-pub returns-in-Ok-check-clause-found : goal.returns-in-Ok-check-clause-found
-returns-in-Ok-check-clause-found c =
-    reads_checked c.args.text.now c.in-Ok.system c.in-Ok-check.checked c.in-Ok.ensures.value c.in-Ok-check.ensures.checked c.in-Ok-check.ensures.kept
+pub returns-in-Ok-clause-found : goal.returns-in-Ok-clause-found
+returns-in-Ok-clause-found c = is_checked c.args.system c.in-Ok.checked c.in-Ok.ensures.checked c.in-Ok.ensures.kept
