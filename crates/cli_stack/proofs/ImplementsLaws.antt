@@ -20,7 +20,7 @@ use Rattle.command_line.specs.Gathered.{text_or_end}
 use Rattle.command_line.specs.CommandFiles.{inputs_of, output_of}
 use Rattle.cli_stack.specs.Answer.{set_file, stored_by, answer_on, answer_to, answer_by}
 use Rattle.cli_stack.specs.Build.{image_stored}
-use Rattle.cli_stack.specs.Correct.{HoldsImplementation, StoresImplementation, Implements}
+use Rattle.cli_stack.specs.Correct.{HoldsImplementation, StoresImplementation, Compiles}
 
 -- the bytes of a file that is set
 abbrev pub set_bytes : Option (List ℕ × List ℕ) → List ℕ
@@ -104,7 +104,7 @@ stores laws (command.Pbuild piton image) watches files = λ name own stored byte
 stores laws c watches files = λ name own stored bytes reads writes sets. absurd (let e : None ≡ Some (Image, own) = writes in cc)
 
 -- whatever the command and the files are
-pub implements : BuiltImplements → (c : Option Command) (watches : List Watching) (o : Option Files) → IfSome o (λ files. Implements c files (answer_by c watches files).output)
+pub implements : BuiltImplements → (c : Option Command) (watches : List Watching) (o : Option Files) → IfSome o (λ files. Compiles c files (answer_by c watches files).output)
 implements laws c watches None = tt
 implements laws None watches (Some files) = tt
 implements laws (Some c) watches (Some files) = stores laws c watches files

@@ -3,6 +3,7 @@ pub mod KnownLaws
 pub mod LinkedLaws
 pub mod LinksLaws
 pub mod LoadedLaws
+pub mod MachineLaws
 pub mod MeanLaws
 pub mod MeansLaws
 pub mod PerformLaws

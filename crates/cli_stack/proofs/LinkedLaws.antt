@@ -1,7 +1,7 @@
--- The image of a linked system keeps the limits of images; what is stored and replied where it has too many words, and where not.
-use Rattle.std.proofs.Common.{◌≡◌, ◌≤◌, ◌<◌, ◌+◌, ℕ, List, [], true, false, length, None, refl, sym, subst, arith}
+-- The image of a linked system keeps the limits of images.
+use Rattle.std.proofs.Common.{◌≡◌, ◌≤◌, ◌+◌, ℕ, List, [], length, None, refl, sym, subst, arith}
 use Rattle.std.specs.Prelude.{◌^◌, IsTrue}
-use Rattle.std.proofs.lemmas.Bool.{and_from, le-leb, le-ltb, lt-ltb}
+use Rattle.std.proofs.lemmas.Bool.{and_from, le-leb, lt-ltb}
 use Rattle.fm_words.specs.Code.{no_flags}
 use Rattle.fm_image.specs.declared.slot.Slot.{Slot}
 use Rattle.fm_image.specs.Image.{ImageOf, all_after, is_image}
@@ -14,7 +14,7 @@ use Rattle.piton_machine.proofs.SizeLaws.{length-placed}
 use Rattle.piton_machine.proofs.SoundLaws.{known}
 use Rattle.piton_linker.specs.Layouts.{trimmed}
 use Rattle.stack_build.proofs.Windows.{shorter}
-use Rattle.cli_stack.specs.Pbuild.{linked_image, is_large}
+use Rattle.cli_stack.specs.Pbuild.{linked_image}
 
 -- the image keeps the limits of images
 pub image_fits : (c : CheckedOf) → IsChecked c → (placed (system_in c)).size ≤ 2 ^ 20 → IsTrue (is_image (linked_image (system_in c)))
@@ -52,9 +52,3 @@ parts_fit c is small base size final_pc registers conditions slots words b n f r
     let whole : linked_image (system_in c) ≡ image =
     λ i. record { base = b' i; size = n' i; final_pc = f' i; registers = r' i; flags = no_flags; condition_address = None; conditions = o' i; slots = l' i; words = w' i } in
     subst (λ (m : ImageOf). IsTrue (is_image m)) whole (image_fits c is small)
-
-pub is_small : (s : SystemView) → (placed s).size ≤ 2 ^ 20 → is_large s ≡ false
-is_small s small = le-ltb (2 ^ 20) (placed s).size small
-
-pub is_larger : (s : SystemView) → 2 ^ 20 < (placed s).size → is_large s ≡ true
-is_larger s large = lt-ltb (2 ^ 20) (placed s).size large

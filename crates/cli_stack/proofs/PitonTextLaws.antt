@@ -1,22 +1,20 @@
--- A system that was checked: it is the one of its text, and keeps the limits.
+-- A system that was checked: it is the one that was given, and keeps the limits.
 use Rattle.std.proofs.Common.{◌≡◌, ◌≤◌, ℕ, List, [], Ok, length, sym, ap, ◌∙◌, subst}
 use Rattle.std.proofs.lemmas.List.{length-map}
 use Rattle.stack_text.specs.declared.breach.Breach.{Breach}
 use Rattle.stack_text.specs.Breaches.{least}
-use Rattle.piton_syntax.specs.Answers.{piton_in}
 use Rattle.piton_syntax.specs.Systems.{SystemOf}
 use Rattle.piton_check.specs.Answers.{CheckedOf, IsChecked}
 use Rattle.piton_check.specs.Resolved.{ResolvedOf, resolved, resolved_area}
 use Rattle.piton_check.specs.Violations.{violations}
-use Rattle.cli_stack.specs.PitonText.{checked_unless, checked_by, checked_in}
+use Rattle.cli_stack.specs.PitonText.{checked_unless}
 
-pub reads_checked : (text : List ℕ) (system : SystemOf) (c : CheckedOf) → piton_in text ≡ Ok system → IsChecked c → c.system ≡ system → Ok c ≡ checked_in text
-unfolding checked_in
-reads_checked text system c read is kept =
+pub is_checked : (system : SystemOf) (c : CheckedOf) → IsChecked c → c.system ≡ system → Ok c ≡ checked_unless system (least (violations system))
+is_checked system c is kept =
     let clean : violations system ≡ [] = subst (λ (s : SystemOf). violations s ≡ []) kept is.rules in
     let names : resolved system ≡ c.resolved = sym (is.names ∙ ap resolved kept) in
     let whole : record { system = system; resolved = resolved system } ≡ c = λ i. record { system = sym kept i; resolved = names i } in
-    sym (ap checked_by read ∙ ap (λ (breaches : List Breach). checked_unless system (least breaches)) clean ∙ ap (λ (found : CheckedOf). Ok found) whole)
+    sym (ap (λ (breaches : List Breach). checked_unless system (least breaches)) clean ∙ ap (λ (found : CheckedOf). Ok found) whole)
 
 -- it has few areas
 pub few_areas : (c : CheckedOf) → IsChecked c → length c.system.areas ≤ 1000

@@ -22,12 +22,13 @@ use Rattle.cli_stack.specs.declared.reply.Verdict.TheVariants as verdict
 use Rattle.cli_stack.specs.Replies.{status_of, verdict_line}
 use Rattle.cli_stack.specs.Answer.{Answer, early_answer, files_after, answer_by}
 use Rattle.cli_stack.specs.World.{World}
-use Rattle.cli_stack.specs.Promises.{HoldsMachine, Agrees, RoseAt, RoseAndPrinted, opening_by, SizePrinted, HoldsPart, LeavesFiles, PrintsPrefix, PromisesOf}
-use Rattle.cli_stack.specs.Correct.{Implements, Tells}
+use Rattle.cli_stack.specs.Promises.{HoldsMachine, Agrees, RunsImage, IsRunEnd, RoseAt, RoseAndPrinted, opening_by, SizePrinted, HoldsPart, LeavesFiles, PrintsPrefix, PromisesOf}
+use Rattle.cli_stack.specs.Correct.{Compiles, Tells}
 use Rattle.cli_stack.specs.Means.{Means}
 use Rattle.cli_stack.specs.Linked.{Links}
 use Rattle.cli_stack.specs.Driver.{HasReason, IsReplyTo, LeavesAs, Leaves, machine_kept, conclusion_of, Stopped, NotBegun, Concludes}
-use Rattle.cli_stack.proofs.SizeLaws.{sizes_alone}
+use Rattle.cli_stack.proofs.MachineLaws.{only_runs}
+use Rattle.cli_stack.proofs.SizeLaws.{sizes_alone, size_refused}
 
 -- 1. Statuses.
 
@@ -149,15 +150,15 @@ known command answer files before after (Err early.OutOfMemory) status l reason 
 
 -- 3. Causes.
 
-record Caused (command : Option Command) (before after : World) (status : Status) : Type 0 where
+record Caused (command : Option Command) (watches : List Watching) (before after : World) (status : Status) : Type 0 where
   pub missing : status ≡ Missing → RoseAndPrinted (λ c. c.absences) (λ name. end_line (early.Missing name)) (input_names command) before after
   pub shelf_fault : status ≡ ShelfFault → RoseAndPrinted (λ c. c.faults) (λ name. end_line (early.ShelfFault name)) (file_names command) before after
   pub sink_fault : status ≡ SinkFault → Rose before.out.faults after.out.faults
-  pub too_long : status ≡ Size → RoseAt (λ c. c.overruns) (input_names command) before after ⊎ SizePrinted command before after
-  pub kept : (status ≡ ShelfFault) ⊎ ((status ≡ SinkFault) ⊎ (status ≡ OutOfMemory)) → after.out.kept ≡ before.out.kept
+  pub too_long : status ≡ Size → RoseAt (λ c. c.overruns) (input_names command) before after ⊎ SizePrinted command watches before after
+  pub kept : ¬ (RunsImage command × IsRunEnd status) → after.out.kept ≡ before.out.kept
 
-not_begun : (command : Option Command) (before after : World) (status : Status) → NotBegun status before.out after.out → Caused command before after status
-not_begun command before after status n = record {
+not_begun : (command : Option Command) (watches : List Watching) (before after : World) (status : Status) → NotBegun status before.out after.out → Caused command watches before after status
+not_begun command watches before after status n = record {
   missing = λ h. absurd (let e : Missing ≡ OutOfMemory = sym h ∙ n.ends in cc);
   shelf_fault = λ h. absurd (let e : ShelfFault ≡ OutOfMemory = sym h ∙ n.ends in cc);
   sink_fault = λ h. absurd (let e : SinkFault ≡ OutOfMemory = sym h ∙ n.ends in cc);
@@ -165,8 +166,8 @@ not_begun command before after status n = record {
   kept = λ h. n.machine;
 }
 
-stopped : (command : Option Command) (before after : World) (c : Conclusion) (status : Status) → Stopped c status before.out after.out → Caused command before after status
-stopped command before after c status s = record {
+stopped : (command : Option Command) (watches : List Watching) (before after : World) (c : Conclusion) (status : Status) → Stopped c status before.out after.out → Caused command watches before after status
+stopped command watches before after c status s = record {
   missing = λ h. absurd (other Missing refl h);
   shelf_fault = λ h. absurd (⊎_elim (λ failed. let e : ShelfFault ≡ SinkFault = sym h ∙ failed.0 in cc) (λ memory. let e : ShelfFault ≡ OutOfMemory = sym h ∙ memory in cc) s.cause);
   sink_fault = λ h. ⊎_elim (λ failed. failed.1) (λ memory. absurd (let e : SinkFault ≡ OutOfMemory = sym h ∙ memory in cc)) s.cause;
@@ -179,29 +180,30 @@ stopped command before after c status s = record {
 
 -- a reply was printed whose verdict is a size
 size_printed : (command : Option Command) (watches : List Watching) (before after : World) (reply : Reply) (v : Verdict) → reply.verdict ≡ v → status_of v ≡ Size → IsReplyTo command watches reply
-    → after.out.taken ≡ appended before.out.taken (reply.said ++ verdict_line reply.verdict) → SizePrinted command before after
+    → after.out.taken ≡ appended before.out.taken (reply.said ++ verdict_line reply.verdict) → SizePrinted command watches before after
 size_printed command watches before after reply (verdict.Size of need) is size to printed =
     let alone = sizes_alone command watches reply of need to is in
-    (alone.0, of, need, printed ∙ ap (λ (said : List ℕ). appended before.out.taken (said ++ verdict_line reply.verdict)) alone.1 ∙ ap (λ (v : Verdict). appended before.out.taken (opening_by command ++ verdict_line v)) is)
+    (alone.0, of, need, size_refused command watches reply of need to is, printed ∙ ap (λ (said : List ℕ). appended before.out.taken (said ++ verdict_line reply.verdict)) alone.1 ∙ ap (λ (v : Verdict). appended before.out.taken (opening_by command ++ verdict_line v)) is)
 size_printed command watches before after reply verdict.Done is size to printed = absurd cc
 size_printed command watches before after reply v is size to printed = absurd cc
 
 caused : (command : Option Command) (watches : List Watching) (before after : World) (ran : Result Reply EarlyEnd) (status : Status)
     → IfErr ran (HasReason before.shelf.counts after.shelf.counts command) → IfOk ran (IsReplyTo command watches)
-    → Concludes (conclusion_of ran) status before.out after.out → Caused command before after status
-caused command watches before after ran status reason to (inl n) = not_begun command before after status n
-caused command watches before after (Ok reply) status reason to (inr (inr s)) = stopped command before after _ status s
+    → Concludes (conclusion_of ran) status before.out after.out → Caused command watches before after status
+caused command watches before after ran status reason to (inl n) = not_begun command watches before after status n
+caused command watches before after (Ok reply) status reason to (inr (inr s)) = stopped command watches before after _ status s
 caused command watches before after (Ok reply) status reason to (inr (inl p)) = record {
   missing = λ h. absurd (apart is_own (status_of reply.verdict) Missing (own_verdict reply.verdict) refl (sym p.ends ∙ h));
   shelf_fault = λ h. absurd (apart is_own (status_of reply.verdict) ShelfFault (own_verdict reply.verdict) refl (sym p.ends ∙ h));
   sink_fault = λ h. absurd (apart is_own (status_of reply.verdict) SinkFault (own_verdict reply.verdict) refl (sym p.ends ∙ h));
   too_long = λ h. inr (size_printed command watches before after reply reply.verdict refl (sym p.ends ∙ h) to p.text);
-  kept = λ h. absurd (⊎_elim (λ (e : status ≡ ShelfFault). not_a ShelfFault refl e) (λ failed. ⊎_elim (λ (e : status ≡ SinkFault). not_a SinkFault refl e) (λ e. not_a OutOfMemory refl e) failed) h);
+  kept = λ none. unchanged reply.machine p.machine (only_runs command watches reply to (λ run. none (run.0, subst IsRunEnd (sym p.ends) run.1)));
 }
   where
-    not_a : (t : Status) → is_own t ≡ false → status ≡ t → ⊥
-    not_a t other e = apart is_own (status_of reply.verdict) t (own_verdict reply.verdict) other (sym p.ends ∙ e)
-caused command watches before after (Err (early.Missing name)) status reason to (inr (inr s)) = stopped command before after _ status s
+    unchanged : (machine : Option Seen) → after.out.kept ≡ machine_kept before.out.kept machine → option_map (λ (m : Seen). m.state) machine ≡ None → after.out.kept ≡ before.out.kept
+    unchanged None kept none = kept
+    unchanged (Some m) kept none = absurd cc
+caused command watches before after (Err (early.Missing name)) status reason to (inr (inr s)) = stopped command watches before after _ status s
 caused command watches before after (Err (early.Missing name)) status reason to (inr (inl p)) = record {
   missing = λ h. (reason.0, reason.1, reason.2.1, p.text ∙ ap (λ (n : List ℕ). appended before.out.taken (end_line (early.Missing n))) reason.2.0);
   shelf_fault = λ h. absurd (let e : ShelfFault ≡ Missing = sym h ∙ p.ends in cc);
@@ -209,7 +211,7 @@ caused command watches before after (Err (early.Missing name)) status reason to 
   too_long = λ h. absurd (let e : Size ≡ Missing = sym h ∙ p.ends in cc);
   kept = λ h. p.machine;
 }
-caused command watches before after (Err (early.TooLong limit)) status reason to (inr (inr s)) = stopped command before after _ status s
+caused command watches before after (Err (early.TooLong limit)) status reason to (inr (inr s)) = stopped command watches before after _ status s
 caused command watches before after (Err (early.TooLong limit)) status reason to (inr (inl p)) = record {
   missing = λ h. absurd (let e : Missing ≡ Size = sym h ∙ p.ends in cc);
   shelf_fault = λ h. absurd (let e : ShelfFault ≡ Size = sym h ∙ p.ends in cc);
@@ -217,7 +219,7 @@ caused command watches before after (Err (early.TooLong limit)) status reason to
   too_long = λ h. inl reason;
   kept = λ h. p.machine;
 }
-caused command watches before after (Err (early.ShelfFault name)) status reason to (inr (inr s)) = stopped command before after _ status s
+caused command watches before after (Err (early.ShelfFault name)) status reason to (inr (inr s)) = stopped command watches before after _ status s
 caused command watches before after (Err (early.ShelfFault name)) status reason to (inr (inl p)) = record {
   missing = λ h. absurd (let e : Missing ≡ ShelfFault = sym h ∙ p.ends in cc);
   shelf_fault = λ h. (reason.0, reason.1, reason.2.1, p.text ∙ ap (λ (n : List ℕ). appended before.out.taken (end_line (early.ShelfFault n))) reason.2.0);
@@ -238,11 +240,11 @@ pub promises : (command : Option Command) (watches : List Watching) (before afte
     → IfSome before.shelf.files (λ files. Leaves command watches files before.shelf after.shelf ran)
     → IfErr ran (HasReason before.shelf.counts after.shelf.counts command) → IfOk ran (IsReplyTo command watches)
     → Concludes (conclusion_of ran) status before.out after.out
-    → IfSome before.shelf.files (λ files. Implements command files (answer_by command watches files).output)
+    → IfSome before.shelf.files (λ files. Compiles command files (answer_by command watches files).output)
     → IfSome before.shelf.files (λ files. Tells command files (answer_by command watches files))
     → IfSome before.shelf.files (λ files. Means command files (answer_by command watches files))
     → IfSome before.shelf.files (λ files. Links command files (answer_by command watches files).output)
-    → PromisesOf command (answer_by command watches) before after status
+    → PromisesOf command watches (answer_by command watches) before after status
 promises command watches before after ran status leaves reason to ends implements tells means links =
     let all : IfSome before.shelf.files (λ files. Known (answer_by command watches files) (file_names command) files before after status) =
     if_known before.shelf.files (λ files. Leaves command watches files before.shelf after.shelf ran) (λ files. Known (answer_by command watches files) (file_names command) files before after status)

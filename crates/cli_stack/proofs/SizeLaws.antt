@@ -72,7 +72,7 @@ use Rattle.cli_stack.specs.Pit.{pit_reply}
 use Rattle.cli_stack.specs.Build.{build_reply}
 use Rattle.cli_stack.specs.Big.{source_line, go_on_source, big_reply}
 use Rattle.cli_stack.specs.PitonText.{piton_verdict, checked_unless, checked_by, checked_in}
-use Rattle.cli_stack.specs.Promises.{HasSizes, opening_by}
+use Rattle.cli_stack.specs.Promises.{HasSizes, opening_by, RefusesSize}
 use Rattle.cli_stack.specs.Driver.{IsReplyTo}
 
 abbrev is_size : Verdict → Bool
@@ -264,3 +264,8 @@ of_command (Some c) watches reply (texts, is) size =
 
 pub sizes_alone : (c : Option Command) (watches : List Watching) (reply : Reply) (of : SizeOf) (need : ℕ) → IsReplyTo c watches reply → reply.verdict ≡ verdict.Size of need → HasSizes c × (reply.said ≡ opening_by c)
 sizes_alone c watches reply of need is size = of_command c watches reply is (ap is_size size)
+
+-- the refused size is the command's own reply to some texts
+pub size_refused : (c : Option Command) (watches : List Watching) (reply : Reply) (of : SizeOf) (need : ℕ) → IsReplyTo c watches reply → reply.verdict ≡ verdict.Size of need → RefusesSize c watches of need
+size_refused None watches reply of need is size = let e : verdict.Usage ≡ verdict.Size of need = ap (λ (r : ReplyOf). r.verdict) (sym is) ∙ size in absurd cc
+size_refused (Some c) watches reply of need (texts, is) size = (texts, ap (λ (r : ReplyOf). r.verdict) (sym is) ∙ size)

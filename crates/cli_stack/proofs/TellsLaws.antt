@@ -18,8 +18,7 @@ use Rattle.gypsy_syntax.specs.Sources.{SourceOf}
 use Rattle.gypsy_space.specs.Needs.{Words, stack_words}
 use Rattle.gypsy_meaning.specs.Calls.{Way}
 use Rattle.stack_build.specs.Build.{built, BuildsText}
-use Rattle.stack_build.specs.Implements.{meaning_shown, FitsFormals, Finishes}
-use Rattle.stack_build.specs.Implements as meant
+use Rattle.stack_build.specs.Implements.{meaning_shown, FitsFormals, Finishes, Implements}
 use Rattle.stack_build.specs.Joined.{BuiltImplements, BuiltTakesValues}
 use Rattle.command_line.specs.declared.command.Command.{Command}
 use Rattle.command_line.specs.declared.command.Command.TheVariants as command
@@ -40,7 +39,7 @@ use Rattle.cli_stack.specs.Correct.{IsReadable, IsBuilt, IsRead, TellsMeaning, H
 
 -- 1. A run that is long enough tells the meaning.
 
-run_tells : (image : ImageOf) (source : SourceOf) (sizes : Words) (values finals : List ValueOf) (way : Way) (count budget : ℕ) → meant.Implements image source sizes → FitsFormals source values
+run_tells : (image : ImageOf) (source : SourceOf) (sizes : Words) (values finals : List ValueOf) (way : Way) (count budget : ℕ) → Implements image source sizes → FitsFormals source values
     → Finishes source sizes values finals way count → count ≤ budget
     → ((run_reply image values budget).verdict ≡ Done) × ((run_reply image values budget).said ≡ report_text image (meaning_shown source finals way) count)
 unfolding run_reply
@@ -51,7 +50,7 @@ run_tells image source sizes values finals way count budget does fits done enoug
     (ap (λ (o : Outcome). (outcome_reply image budget o).verdict) is, ap (λ (o : Outcome). (outcome_reply image budget o).said) is ∙ ap (λ r. report_text image r count) end.reads)
 
 -- so does the answer that has its reply
-reply_tells : (image : ImageOf) (source : SourceOf) (sizes : Words) (values finals : List ValueOf) (way : Way) (count budget : ℕ) (output : Option (List ℕ × List ℕ)) (reply : ReplyOf) → meant.Implements image source sizes → FitsFormals source values
+reply_tells : (image : ImageOf) (source : SourceOf) (sizes : Words) (values finals : List ValueOf) (way : Way) (count budget : ℕ) (output : Option (List ℕ × List ℕ)) (reply : ReplyOf) → Implements image source sizes → FitsFormals source values
     → Finishes source sizes values finals way count → count ≤ budget → reply ≡ run_reply image values budget
     → TellsMeaning source image finals way count (answer_with output reply)
 reply_tells image source sizes values finals way count budget output reply does fits done enough is =
@@ -88,9 +87,9 @@ module _ (files : Files) (sizes : Words) (source : SourceOf) (image : ImageOf) (
       let builds : BuildsText here.text control temporary here.found = rw is at (implement here.text control temporary 0 short (omega arith)) in
       let read : Ok builds.source ≡ Ok source = sym builds.read ∙ here.read in
       let same : builds.source ≡ source = cc in
-      let does : meant.Implements image source (stack_words temporary control) =
-      subst (λ (i : ImageOf). meant.Implements i source (stack_words temporary control)) here.same
-      (subst (λ (s : SourceOf). meant.Implements here.found.image s (stack_words temporary control)) same builds.builds.implements) in
+      let does : Implements image source (stack_words temporary control) =
+      subst (λ (i : ImageOf). Implements i source (stack_words temporary control)) here.same
+      (subst (λ (s : SourceOf). Implements here.found.image s (stack_words temporary control)) same builds.builds.implements) in
       let found : values_in here.found.image.slots values_text ≡ Ok values = ap (λ (i : ImageOf). values_in i.slots values_text) here.same ∙ gives in
       let fits = take here.text control temporary 0 source here.found values_text values short (omega arith) here.read is found in
       let done_here : Finishes source (stack_words temporary control) values finals way count = subst (λ (s : Words). Finishes source s values finals way count) (sym own) done in

@@ -10,8 +10,7 @@ use Rattle.gypsy_syntax.specs.Sources.{SourceOf}
 use Rattle.gypsy_space.specs.Needs.{Words, stack_words}
 use Rattle.gypsy_meaning.specs.Calls.{Way}
 use Rattle.stack_build.specs.Build.{BuiltOf, built, source_in}
-use Rattle.stack_build.specs.Implements.{meaning_shown, FitsFormals, Finishes}
-use Rattle.stack_build.specs.Implements as meant
+use Rattle.stack_build.specs.Implements.{meaning_shown, FitsFormals, Finishes, Implements}
 use Rattle.command_line.specs.declared.command.Command.{Command}
 use Rattle.command_line.specs.declared.command.Command.TheVariants.{Mean, Pit, Build, Run, Go, Debug, Big}
 use Rattle.command_line.specs.declared.role.Role.{Role}
@@ -50,7 +49,7 @@ pub record HoldsImplementation (files : Files) (name : List ℕ) (sizes : Words)
   pub image : ImageOf
   pub short : length bytes ≤ limit_of Image
   pub spells : Spelled bytes image
-  pub implements : meant.Implements image source sizes
+  pub implements : Implements image source sizes
 
 -- who reads a source and stores an image has sizes of stacks, and stores an implementation of the source for them
 abbrev pub StoresImplementation : Command → Files → Option (List ℕ × List ℕ) → Type 0
@@ -59,9 +58,9 @@ StoresImplementation command files output =
     → output ≡ Some (stored, bytes)
     → IsSomeAnd (sizes_of command) (λ sizes. HoldsImplementation files source sizes bytes)
 
-abbrev pub Implements : Option Command → Files → Option (List ℕ × List ℕ) → Type 0
-Implements None files output = Unit {0}
-Implements (Some command) files output = StoresImplementation command files output
+abbrev pub Compiles : Option Command → Files → Option (List ℕ × List ℕ) → Type 0
+Compiles None files output = Unit {0}
+Compiles (Some command) files output = StoresImplementation command files output
 
 -- 2. What is run.
 
@@ -103,7 +102,7 @@ pub record IsRead (files : Files) (name : List ℕ) (sizes : Words) (source : So
   pub bytes : List ℕ
   pub readable : IsReadable files Image name bytes
   pub spells : Spelled bytes image
-  pub implements : meant.Implements image source sizes
+  pub implements : Implements image source sizes
   pub fit : FitsFormals source values
 
 -- the program is this image of this source, for stacks of these sizes

@@ -20,9 +20,9 @@ use Rattle.cli_stack.specs.Run.{run_reply}
 use Rattle.cli_stack.specs.PitonText.{checked_in}
 use Rattle.cli_stack.specs.Correct.{ReadsFile, StoresFile}
 
--- the system comes to this state in so many steps from its opening state, none of which is an error
-abbrev pub ComesTo : SystemView → ℕ → PitonState → Type 0
-ComesTo system j state = piton_run system j (started system system.stack) ≡ Ok state
+-- the system reaches this state in so many steps from its opening state, none of which is an error
+abbrev pub ReachesState : SystemView → ℕ → PitonState → Type 0
+ReachesState system j state = piton_run system j (started system system.stack) ≡ Ok state
 
 -- what those steps cost
 abbrev pub cost_of : SystemView → ℕ → ℕ
@@ -31,7 +31,8 @@ cost_of system j = run_cost system j (started system system.stack)
 -- wherever the system comes, the machine that is loaded with the image comes to stand for it, in the instructions that the steps
 -- cost: inside the window, and at the final program counter exactly where the system has halted, and never before
 abbrev pub RunsAs : ImageOf → SystemView → Type 0
-RunsAs image system = (j : ℕ) (state : PitonState) → ComesTo system j state → ComesToStand system (loaded image []) (cost_of system j) state
+RunsAs image system =
+    (j : ℕ) (state : PitonState) → ReachesState system j state → ComesToStand system (loaded image []) (cost_of system j) state
 
 -- what `run` replies, where the system halts and the budget is enough: that it finished, and the count
 pub record TellsCost (image : ImageOf) (budget count : ℕ) : Type 0 where
@@ -40,7 +41,7 @@ pub record TellsCost (image : ImageOf) (budget count : ℕ) : Type 0 where
 
 abbrev pub TellsCosts : ImageOf → SystemView → Type 0
 TellsCosts image system =
-    (j : ℕ) (state : PitonState) (budget : ℕ) → ComesTo system j state → state.frames ≡ [] → cost_of system j ≤ budget
+    (j : ℕ) (state : PitonState) (budget : ℕ) → ReachesState system j state → state.frames ≡ [] → cost_of system j ≤ budget
     → TellsCost image budget (cost_of system j)
 
 -- the bytes are the fields of an image within the limits, which does what the system of the Piton text in a file does

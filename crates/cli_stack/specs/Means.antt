@@ -1,5 +1,5 @@
 -- That what is told of a source's steps is what the source means.
-use Rattle.std.specs.Prelude.{◌≡◌, ◌≤◌, ◌-◌, ◌^◌, ℕ, suc, min, List, [], ◌∷◌, Option, Some, None, Ok, IsSomeAnd}
+use Rattle.std.specs.Prelude.{◌≡◌, ◌≤◌, ℕ, suc, List, [], ◌∷◌, Option, Some, None, Ok, IsSomeAnd}
 use Rattle.stack_text.specs.Values.{ValueOf}
 use Rattle.stack_shelf.specs.Files.{Files}
 use Rattle.fm_loader.specs.Values.{values_in}
@@ -12,6 +12,7 @@ use Rattle.gypsy_meaning.specs.Counted.{instruction_count}
 use Rattle.gypsy_meaning.specs.Meaning.{Done as MeaningDone, meaning}
 use Rattle.gypsy_meaning.specs.Seen.{Stage, Finished, IsEnd, opening, run_of, values_at}
 use Rattle.gypsy_meaning.specs.Shown.{condition_at, names_at}
+use Rattle.piton_machine.specs.Seen.{saturated}
 use Rattle.stack_build.specs.Build.{source_in}
 use Rattle.stack_build.specs.Image.{formal_slots}
 use Rattle.command_line.specs.declared.command.Command.{Command}
@@ -36,14 +37,10 @@ follow_of (Mean source values control temporary limit) =
     Some (record { source = source; values = values; sizes = stack_words temporary control; limit = limit })
 follow_of _ = None
 
--- a count of 64 bits, which stays at its last value
-abbrev pub shown_count : ℕ → ℕ
-shown_count n = min n (2 ^ 64 - 1)
-
 -- so many steps, the instructions that are counted for them, the condition, and main's formals with these values
 abbrev pub meaning_text : SourceOf → Stage → ℕ → ℕ → List ℕ
 meaning_text source stage steps count =
-    said_text (shown_count steps) (shown_count count) (condition_at source stage) (names_at source stage) (values_at stage)
+    said_text (saturated steps) (saturated count) (condition_at source stage) (names_at source stage) (values_at stage)
 
 -- the meaning of the source is done, with these values and this condition, and so many instructions counted, within a bound of
 -- one more than the steps

@@ -6,21 +6,23 @@ use Rattle.level_debuggers.specs.Tallies.{Watching}
 use Rattle.stack_shelf.specs.Causes.{Counts, Rose}
 use Rattle.stack_shelf.specs.Shelf.{PartlyStored, appended, PrefixAppended}
 use Rattle.command_line.specs.declared.command.Command.{Command}
-use Rattle.command_line.specs.declared.command.Command.TheVariants.{Big}
+use Rattle.command_line.specs.declared.command.Command.TheVariants.{Go, Run, Big}
 use Rattle.command_line.specs.declared.early_end.EarlyEnd.TheVariants as end
 use Rattle.command_line.specs.declared.role.Role.TheVariants.{Image}
 use Rattle.command_line.specs.declared.status.Status.{Status}
+use Rattle.command_line.specs.declared.status.Status.TheVariants.{Done, Unfinished, Outside}
 use Rattle.command_line.specs.declared.status.Status.TheVariants.{Missing, ShelfFault, SinkFault, Size, OutOfMemory}
 use Rattle.command_line.specs.Status.{status_code}
 use Rattle.command_line.specs.Rows.{command_of}
 use Rattle.command_line.specs.Ends.{end_line}
 use Rattle.command_line.specs.CommandFiles.{input_names, file_names}
+use Rattle.command_line.specs.Gathered.{Texts}
 use Rattle.cli_stack.specs.declared.reply.SizeOf.{SizeOf}
 use Rattle.cli_stack.specs.declared.reply.Verdict.TheVariants as verdict
 use Rattle.cli_stack.specs.Replies.{verdict_line}
-use Rattle.cli_stack.specs.Answer.{Answer, files_after, answer}
+use Rattle.cli_stack.specs.Answer.{Answer, files_after, reply_by, answer}
 use Rattle.cli_stack.specs.World.{World}
-use Rattle.cli_stack.specs.Correct.{StoresFile, sizes_of, Implements, Tells}
+use Rattle.cli_stack.specs.Correct.{StoresFile, sizes_of, Compiles, Tells}
 use Rattle.cli_stack.specs.Means.{Means}
 use Rattle.cli_stack.specs.Linked.{Links}
 use Rattle.cli_stack.specs.Big.{source_line}
@@ -38,6 +40,20 @@ pub record Agrees (answer : Answer) (files : Files) (before after : World) (stat
   pub files_left : after.shelf.files ≡ Some (files_after answer.output files)
   pub text : after.out.taken ≡ appended before.out.taken answer.text
   pub machine : HoldsMachine before.out.kept after.out.kept answer.machine
+
+-- a command that runs an image
+abbrev pub RunsImage : Option Command → Type 0
+RunsImage (Some (Go source values control temporary budget image)) = Unit {0}
+RunsImage (Some (Run image values budget)) = Unit {0}
+RunsImage (Some (Big number procedures)) = Unit {0}
+RunsImage _ = ⊥
+
+-- a status with which a run of an image ends
+abbrev pub IsRunEnd : Status → Type 0
+IsRunEnd Done = Unit {0}
+IsRunEnd Unfinished = Unit {0}
+IsRunEnd Outside = Unit {0}
+IsRunEnd _ = ⊥
 
 -- 2. Causes.
 
@@ -62,10 +78,16 @@ abbrev pub opening_by : Option Command → List ℕ
 opening_by (Some (Big number procedures)) = source_line number procedures
 opening_by _ = []
 
--- a size of such a command was refused, and its line is what was printed
-abbrev pub SizePrinted : Option Command → World → World → Type 0
-SizePrinted command before after =
-    HasSizes command × (of : SizeOf) × (need : ℕ)
+-- the command replies to some texts of its files that this size is refused
+abbrev pub RefusesSize : Option Command → List Watching → SizeOf → ℕ → Type 0
+RefusesSize None watches of need = ⊥
+RefusesSize (Some command) watches of need =
+    (texts : Texts) × ((reply_by command watches texts).verdict ≡ verdict.Size of need)
+
+-- such a command refused a size, and its line is what was printed
+abbrev pub SizePrinted : Option Command → List Watching → World → World → Type 0
+SizePrinted command watches before after =
+    HasSizes command × (of : SizeOf) × (need : ℕ) × RefusesSize command watches of need
     × (after.out.taken ≡ appended before.out.taken (opening_by command ++ verdict_line (verdict.Size of need)))
 
 -- 3. What a failure leaves.
@@ -92,14 +114,15 @@ PrintsPrefix text names before after =
     ⊎ ((name : List ℕ) × Contains names name × Rose (before.shelf.counts.faults name) (after.shelf.counts.faults name)
     × PrefixAppended before.out.taken after.out.taken (end_line (end.ShelfFault name)))
 
--- 4. All promises, of a command and of the answer that it has over known files.
+-- 4. All promises, of a command with these watches and of the answer that it has over known files.
 
-pub record PromisesOf (command : Option Command) (answer : Files → Answer) (before after : World) (status : Status) : Type 0 where
+pub record PromisesOf (command : Option Command) (watches : List Watching) (answer : Files → Answer) (before after : World)
+    (status : Status) : Type 0 where
   -- where the files are known: the answer, unless a device failed or memory ran out
   pub answers : IfSome before.shelf.files (λ files.
       status ≢ ShelfFault → status ≢ SinkFault → status ≢ OutOfMemory → Agrees (answer files) files before after status)
   -- who reads a source and stores an image stores what does as the source means, and who runs an image tells what its source means
-  pub implements : IfSome before.shelf.files (λ files. Implements command files (answer files).output)
+  pub implements : IfSome before.shelf.files (λ files. Compiles command files (answer files).output)
   pub tells : IfSome before.shelf.files (λ files. Tells command files (answer files))
   -- who reads a source and values alone, and writes no file, tells what the source means
   pub means : IfSome before.shelf.files (λ files. Means command files (answer files))
@@ -112,7 +135,7 @@ pub record PromisesOf (command : Option Command) (answer : Files → Answer) (be
       → RoseAndPrinted (λ c. c.faults) (λ name. end_line (end.ShelfFault name)) (file_names command) before after
   pub sink_fault : status ≡ SinkFault → Rose before.out.faults after.out.faults
   pub too_long : status ≡ Size
-      → RoseAt (λ c. c.overruns) (input_names command) before after ⊎ SizePrinted command before after
+      → RoseAt (λ c. c.overruns) (input_names command) before after ⊎ SizePrinted command watches before after
   -- what such an end leaves
   pub files_at_10 : IfSome before.shelf.files (λ files. status ≡ ShelfFault
       → HoldsPart (Some files) after.shelf.files (answer files).output)
@@ -122,10 +145,12 @@ pub record PromisesOf (command : Option Command) (answer : Files → Answer) (be
       → (after.shelf.files ≡ Some files) ⊎ LeavesFiles files (answer files).output (file_names command) before after)
   pub text : IfSome before.shelf.files (λ files. (status ≡ SinkFault) ⊎ (status ≡ OutOfMemory)
       → PrintsPrefix (answer files).text (file_names command) before after)
-  pub kept : (status ≡ ShelfFault) ⊎ ((status ≡ SinkFault) ⊎ (status ≡ OutOfMemory)) → after.out.kept ≡ before.out.kept
+  -- only the end of a run changes the place for the machine
+  pub kept : ¬ (RunsImage command × IsRunEnd status) → after.out.kept ≡ before.out.kept
 
 -- the promises of the program on the words of a command line and the watches that are handed in: its result is the number of a
 -- status that keeps them
 abbrev pub Promises : List (List ℕ) → List Watching → World → World → ℕ → Type 0
 Promises words watches before after result =
-    (status : Status) × (result ≡ status_code status) × PromisesOf (command_of words) (answer words watches) before after status
+    (status : Status) × (result ≡ status_code status)
+    × PromisesOf (command_of words) watches (answer words watches) before after status

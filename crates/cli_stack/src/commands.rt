@@ -41,56 +41,45 @@ pub fn prepare(
     ensures reply { IfOk result (λ plan. pending_reply plan.pending
         ≡ reply_by command.now (map (λ w. watching (rule_of w) (tally_of w)) watches.items) texts.now) }
 {
+    let (source, values) = (texts.of(Role::Source), texts.of(Role::Values));
+    let (piton, image) = (texts.of(Role::Piton), texts.of(Role::Image));
     match command {
-        Command::Go {
-            control,
-            temporary,
-            budget,
-            ..
-        } => {
-            let (source, values) = (texts.of(Role::Source), texts.of(Role::Values));
-            go::prepare(alloc, source, values, control, temporary, *budget)
-        }
-        Command::Run { budget, .. } => {
-            run::prepare(
-                alloc,
-                texts.of(Role::Image),
-                texts.of(Role::Values),
-                *budget,
-            )
-        }
-        Command::Show { .. } => show::prepare(alloc, texts.of(Role::Image)),
-        Command::Check { .. } => check::prepare(alloc, texts.of(Role::Source)),
-        Command::Pit {
-            control,
-            temporary,
-            piton,
-            ..
-        } => pit::prepare(alloc, texts.of(Role::Source), control, temporary, piton),
+        Command::Check { .. } => check::prepare(alloc, source),
         Command::Mean {
             control,
             temporary,
             limit,
             ..
-        } => {
-            let (source, values) = (texts.of(Role::Source), texts.of(Role::Values));
-            mean::prepare(alloc, source, values, control, temporary, *limit)
-        }
+        } => mean::prepare(alloc, source, values, control, temporary, *limit),
+        Command::Pit {
+            control,
+            temporary,
+            piton: name,
+            ..
+        } => pit::prepare(alloc, source, control, temporary, name),
         Command::Build {
             control,
             temporary,
             ..
-        } => build::prepare(alloc, texts.of(Role::Source), control, temporary),
-        Command::Big { number, procedures } => big::prepare(alloc, *number, procedures),
-        Command::Pcheck { .. } => pcheck::prepare(alloc, texts.of(Role::Piton)),
-        Command::Pbuild { .. } => pbuild::prepare(alloc, texts.of(Role::Piton)),
-        Command::Prun { limit, .. } => prun::prepare(alloc, texts.of(Role::Piton), *limit),
+        } => build::prepare(alloc, source, control, temporary),
+        Command::Go {
+            control,
+            temporary,
+            budget,
+            ..
+        } => go::prepare(alloc, source, values, control, temporary, *budget),
         Command::Debug {
             level,
             control,
             temporary,
             ..
         } => debug::prepare(alloc, *level, texts, control, temporary, watches),
+        Command::Pcheck { .. } => pcheck::prepare(alloc, piton),
+        Command::Prun { limit, .. } => prun::prepare(alloc, piton, *limit),
+        Command::Pbuild { .. } => pbuild::prepare(alloc, piton),
+        Command::Run { budget, .. } => run::prepare(alloc, image, values, *budget),
+        Command::Show { .. } => show::prepare(alloc, image),
+        Command::Big { number, procedures } => big::prepare(alloc, *number, procedures),
     }
 }
 

@@ -1,6 +1,6 @@
 //! What a command replies.
 ghost use Rattle.std.specs.Prelude.{◌≡◌, IfOk};
-ghost use Rattle.cli_stack.specs.Replies.{letter_text, text_rule_number, size_of_text, kind_text, status_of, verdict_line};
+ghost use Rattle.cli_stack.specs.Replies.{letter_text, text_rule_number, size_of_text, kind_text, verdict_line};
 
 use command_line::Status;
 use fm_machine::Machine;

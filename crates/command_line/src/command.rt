@@ -1,7 +1,4 @@
 //! The commands.
-ghost use Rattle.std.specs.Prelude.{◌≡◌, IfOk, map};
-ghost use Rattle.std.specs.Option.{option_map};
-ghost use Rattle.command_line.specs.CommandFiles.{inputs_of, output_of};
 
 use crate::role::{Role, RoleFile};
 use crate::words::{FileName, Level, ProcedureCount, StackSize};

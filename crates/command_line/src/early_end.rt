@@ -1,6 +1,6 @@
 //! Ends before there is a reply.
 ghost use Rattle.std.specs.Prelude.{◌≡◌, IfOk, string_bytes};
-ghost use Rattle.command_line.specs.Ends.{end_status, end_line};
+ghost use Rattle.command_line.specs.Ends.{end_line};
 
 use crate::status::Status;
 use crate::words::FileName;

@@ -1,5 +1,5 @@
 //! Fetches the files that a command reads.
-ghost use Rattle.std.specs.Prelude.{◌≡◌, ◌≤◌, ◌^◌, IfErr, IfSome, map};
+ghost use Rattle.std.specs.Prelude.{◌≡◌, IfErr, IfSome, map};
 ghost use Rattle.stack_shelf.specs.Causes.{NoneFell};
 ghost use Rattle.stack_shelf.specs.Shelf.{fetched};
 ghost use Rattle.command_line.specs.Roles.{limit_of};

@@ -1,6 +1,6 @@
 //! Exit statuses.
 ghost use Rattle.std.specs.Prelude.{◌≡◌};
-ghost use Rattle.command_line.specs.Status.{status_code, exit_code};
+ghost use Rattle.command_line.specs.Status.{exit_code};
 
 use std::io;
 

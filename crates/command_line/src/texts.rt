@@ -1,6 +1,4 @@
 //! The texts that a command reads.
-ghost use Rattle.std.specs.Prelude.{◌≡◌, ◌≤◌, ◌^◌, ◌++◌, ◌∷◌, [], length, OnOk};
-ghost use Rattle.command_line.specs.Gathered.{text_of};
 
 use crate::role::Role;
 use std::alloc::{AllocFailed, Global};

@@ -14,6 +14,8 @@ use stack_text::{Memory, Seq};
 use std::alloc::Global;
 
 /// What `go` stores, and what is left to do.
+///
+/// The values are read here, before the store; a refusal of them waits in `pending`, so the image is stored all the same.
 pub fn prepare(
     alloc: Global,
     source: &[u8],

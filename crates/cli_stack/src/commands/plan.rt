@@ -1,8 +1,4 @@
 //! What a command makes of its texts: first what it stores, then its reply.
-ghost use Rattle.std.specs.Prelude.{◌≡◌, Some, None, IfOk};
-ghost use Rattle.cli_stack.specs.Pbuild.{built_reply};
-ghost use Rattle.cli_stack.specs.Replies.{verdict_alone, all_said};
-ghost use Rattle.cli_stack.specs.Plans.{pending_reply};
 
 use crate::commands::image_run::ImageRun;
 use crate::reply::{Reply, Verdict};

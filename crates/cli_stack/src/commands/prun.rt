@@ -1,5 +1,5 @@
 //! The command `prun`.
-ghost use Rattle.std.specs.Prelude.{◌≡◌, ◌≤◌, ◌^◌, ◌++◌, None, IfOk, OnOk, length, slice_index_or, []};
+ghost use Rattle.std.specs.Prelude.{◌≡◌, ◌≤◌, ◌^◌, ◌++◌, None, IfOk, OnOk, length};
 ghost use Rattle.std.specs.List.{flat_map, enumerate_from};
 ghost use Rattle.cli_stack.specs.Prun.{area_line, halted_text, run_end_reply, system_run_reply, prun_reply};
 ghost use Rattle.cli_stack.specs.Plans.{pending_reply};

@@ -1,11 +1,9 @@
 //! Performs a command over a shelf.
-ghost use Rattle.std.specs.Prelude.{◌≡◌, IfOk, IfErr, IfSome, Some, map};
+ghost use Rattle.std.specs.Prelude.{IfOk, IfErr, IfSome, Some, map};
 ghost use Rattle.level_debuggers.specs.Tallies.{watching};
 ghost use Rattle.stack_shelf.specs.Causes.{NoneFell};
 ghost use Rattle.command_line.specs.Words.{spelled};
 ghost use Rattle.command_line.specs.Rows.{command_of};
-ghost use Rattle.command_line.specs.CommandFiles.{file_names};
-ghost use Rattle.cli_stack.specs.Answer.{answer_by};
 ghost use Rattle.cli_stack.specs.World.{shelf_of};
 ghost use Rattle.cli_stack.specs.Driver.{Leaves, HasReason, IsReplyTo};
 

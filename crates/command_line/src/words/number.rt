@@ -1,6 +1,6 @@
 //! Numbers of the command line.
 ghost use Rattle.std.specs.Prelude.{◌≡◌, ◌≤◌, IfSome};
-ghost use Rattle.command_line.specs.Words.{number_within, size_of_stack, count_of_procedures};
+ghost use Rattle.command_line.specs.Words.{number_within};
 
 use stack_text::{is_digits, read_numeral};
 use std::marker::Model;

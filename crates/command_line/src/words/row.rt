@@ -1,5 +1,4 @@
 //! The words of each command.
-ghost use Rattle.std.specs.Prelude.{◌≡◌};
 ghost use Rattle.command_line.specs.Words.{Reads, spelled};
 ghost use Rattle.command_line.specs.Rows.{check_row, mean_row, pit_row, build_row, pcheck_row, prun_row, pbuild_row, run_row, go_row, show_row, debug_row, big_row, row_of, command_of};
 
