@@ -3,7 +3,7 @@ use Rattle.std.proofs.Common.{◌≡◌, ◌⊎◌, inl, inr, ⊎_elim, ℕ, Lis
 use Rattle.std.specs.Prelude.{◌^◌, codes, if◌then◌else◌}
 use Rattle.std.specs.Option.{option_map}
 use Rattle.fm_machine.specs.Run.{Outcome, outcome}
-use Rattle.fm_machine.specs.State.{Fm, Seen}
+use Rattle.fm_machine.specs.State.{Fm, MachineOf}
 use Rattle.fm_machine.specs.declared.processor.Run.{Run}
 use Rattle.fm_machine.specs.declared.processor.Run.TheVariants as run
 use Rattle.fm_image.specs.Image.{ImageOf}
@@ -193,5 +193,5 @@ of_reply (Some c) watches reply (texts, is) = subst (OnlyRuns (Some c)) (sym is)
 
 -- a reply that is not the end of such a run has no machine
 pub only_runs : (c : Option Command) (watches : List Watching) (reply : Reply) → IsReplyTo c watches reply → ¬ (RunsImage c × IsRunEnd (status_of reply.verdict))
-    → option_map (λ (m : Seen). m.state) reply.machine ≡ None
+    → option_map (λ (m : MachineOf). m.state) reply.machine ≡ None
 only_runs c watches reply is none = ⊎_elim (λ (state : (reply_of reply).state ≡ None). state) (λ run. absurd (none run)) (of_reply c watches reply is)

@@ -2,7 +2,7 @@
 use Rattle.std.proofs.Common.{◌≡◌, ◌⊎◌, inl, inr, ⊎_elim, ℕ, List, ◌++◌, Bool, true, false, Option, Some, None, IfSome, IfErr, IfOk, Result, Ok, Err, refl, sym, ap, ◌∙◌, subst}
 use Rattle.std.specs.Prelude.{◌≢◌}
 use Rattle.std.specs.Option.{option_map}
-use Rattle.fm_machine.specs.State.{Fm, Seen}
+use Rattle.fm_machine.specs.State.{Fm, MachineOf}
 use Rattle.stack_shelf.specs.Files.{Files}
 use Rattle.level_debuggers.specs.Tallies.{Watching}
 use Rattle.stack_shelf.specs.Causes.{Rose}
@@ -67,7 +67,7 @@ record Known (answer : Answer) (names : List (List ℕ)) (files : Files) (before
   pub files_at_14 : status ≡ OutOfMemory → (after.shelf.files ≡ Some files) ⊎ LeavesFiles files answer.output names before after
   pub text : (status ≡ SinkFault) ⊎ (status ≡ OutOfMemory) → PrintsPrefix answer.text names before after
 
-holds_machine : (before after machine : Option Seen) (state : Option Fm) → after ≡ machine_kept before machine → state ≡ option_map (λ (m : Seen). m.state) machine → HoldsMachine before after state
+holds_machine : (before after machine : Option MachineOf) (state : Option Fm) → after ≡ machine_kept before machine → state ≡ option_map (λ (m : MachineOf). m.state) machine → HoldsMachine before after state
 holds_machine before after None None kept is = kept
 holds_machine before after None (Some s) kept is = cc
 holds_machine before after (Some m) None kept is = cc
@@ -75,7 +75,7 @@ holds_machine before after (Some m) (Some s) kept is = let same : s ≡ m.state 
 
 -- the command concludes as it is to answer, and has set its file
 agreeing : (answer : Answer) (names : List (List ℕ)) (files : Files) (before after : World) (c : Conclusion) (status : Status)
-    → answer.status ≡ c.status → answer.text ≡ c.text → answer.machine ≡ option_map (λ (m : Seen). m.state) c.machine
+    → answer.status ≡ c.status → answer.text ≡ c.text → answer.machine ≡ option_map (λ (m : MachineOf). m.state) c.machine
     → after.shelf.files ≡ Some (files_after answer.output files) → is_plain c.status ≡ true
     → Concludes (Some c) status before.out after.out → Known answer names files before after status
 agreeing answer names files before after c status ends says runs left plain (inl n) = record {
@@ -200,7 +200,7 @@ caused command watches before after (Ok reply) status reason to (inr (inl p)) = 
   kept = λ none. unchanged reply.machine p.machine (only_runs command watches reply to (λ run. none (run.0, subst IsRunEnd (sym p.ends) run.1)));
 }
   where
-    unchanged : (machine : Option Seen) → after.out.kept ≡ machine_kept before.out.kept machine → option_map (λ (m : Seen). m.state) machine ≡ None → after.out.kept ≡ before.out.kept
+    unchanged : (machine : Option MachineOf) → after.out.kept ≡ machine_kept before.out.kept machine → option_map (λ (m : MachineOf). m.state) machine ≡ None → after.out.kept ≡ before.out.kept
     unchanged None kept none = kept
     unchanged (Some m) kept none = absurd cc
 caused command watches before after (Err (early.Missing name)) status reason to (inr (inr s)) = stopped command watches before after _ status s

@@ -1,6 +1,6 @@
 -- What the functions of the driver say to one another.
 use Rattle.std.specs.Prelude.{◌≡◌, ◌⊎◌, ℕ, ◌++◌, List, Option, Some, None, Result, Ok, Err, IsSomeAnd}
-use Rattle.fm_machine.specs.State.{Seen}
+use Rattle.fm_machine.specs.State.{MachineOf}
 use Rattle.stack_shelf.specs.Files.{Files}
 use Rattle.level_debuggers.specs.Tallies.{Watching}
 use Rattle.stack_shelf.specs.Causes.{Counts, Rose}
@@ -54,7 +54,7 @@ Leaves command watches files before after ran = LeavesAs (answer_by command watc
 -- 2. Printing.
 
 -- the place for the machine afterwards: as before where none was run
-abbrev pub machine_kept : Option Seen → Option Seen → Option Seen
+abbrev pub machine_kept : Option MachineOf → Option MachineOf → Option MachineOf
 machine_kept kept None = kept
 machine_kept kept (Some machine) = Some machine
 

@@ -1,6 +1,6 @@
 -- What the program promises.
 use Rattle.std.specs.Prelude.{◌≡◌, ◌≢◌, ◌⊎◌, ℕ, List, [], ◌++◌, Option, Some, None, Contains, IfSome, IsSome, IsSomeAnd}
-use Rattle.fm_machine.specs.State.{Fm, Seen}
+use Rattle.fm_machine.specs.State.{Fm, MachineOf}
 use Rattle.stack_shelf.specs.Files.{Files}
 use Rattle.level_debuggers.specs.Tallies.{Watching}
 use Rattle.stack_shelf.specs.Causes.{Counts, Rose}
@@ -30,7 +30,7 @@ use Rattle.cli_stack.specs.Big.{source_line}
 -- 1. What no failure spoils.
 
 -- the place holds a machine in this state, or is as before where none was run
-abbrev pub HoldsMachine : Option Seen → Option Seen → Option Fm → Type 0
+abbrev pub HoldsMachine : Option MachineOf → Option MachineOf → Option Fm → Type 0
 HoldsMachine before after None = after ≡ before
 HoldsMachine before after (Some s) = IsSomeAnd after (λ machine. machine.state ≡ s)
 

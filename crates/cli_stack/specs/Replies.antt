@@ -2,7 +2,7 @@
 use Rattle.std.specs.Prelude.{ℕ, List, [], ◌++◌, Option, None, Result, Ok, Err, codes}
 use Rattle.std.specs.Option.{option_map}
 use Rattle.std.specs.Fmt.{decimal}
-use Rattle.fm_machine.specs.State.{Fm, Seen}
+use Rattle.fm_machine.specs.State.{Fm, MachineOf}
 use Rattle.fm_show.specs.Digits.{hex_digits}
 use Rattle.piton_machine.specs.declared.error_kind.ErrorKind.{ErrorKind}
 use Rattle.piton_machine.specs.declared.error_kind.ErrorKind.TheVariants as kind
@@ -88,7 +88,7 @@ pub record ReplyOf : Type 0 where
 
 abbrev pub reply_of : Reply → ReplyOf
 reply_of reply =
-    record { said = reply.said; verdict = reply.verdict; state = option_map (λ (machine : Seen). machine.state) reply.machine }
+    record { said = reply.said; verdict = reply.verdict; state = option_map (λ (machine : MachineOf). machine.state) reply.machine }
 
 -- a verdict alone
 abbrev pub verdict_alone : Verdict → ReplyOf

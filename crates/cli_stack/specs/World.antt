@@ -1,6 +1,6 @@
 -- What is known of the devices and of the place for the machine, before a call or after it.
 use Rattle.std.specs.Prelude.{ℕ, List, Option}
-use Rattle.fm_machine.specs.State.{Seen}
+use Rattle.fm_machine.specs.State.{MachineOf}
 use Rattle.stack_shelf.specs.Files.{Files}
 use Rattle.stack_shelf.specs.Causes.{Counts}
 
@@ -16,14 +16,14 @@ shelf_of files counts = record { files = files; counts = counts }
 pub record OutOf : Type 0 where
   pub taken : Option (List ℕ)
   pub faults : ℕ
-  pub kept : Option Seen
+  pub kept : Option MachineOf
 
-abbrev pub out_of : Option (List ℕ) → ℕ → Option Seen → OutOf
+abbrev pub out_of : Option (List ℕ) → ℕ → Option MachineOf → OutOf
 out_of taken faults kept = record { taken = taken; faults = faults; kept = kept }
 
 pub record World : Type 0 where
   pub shelf : ShelfOf
   pub out : OutOf
 
-abbrev pub world : Option Files → Counts → Option (List ℕ) → ℕ → Option Seen → World
+abbrev pub world : Option Files → Counts → Option (List ℕ) → ℕ → Option MachineOf → World
 world files counts taken faults kept = record { shelf = shelf_of files counts; out = out_of taken faults kept }
