@@ -4,7 +4,8 @@ use Rattle.std.specs.Prelude.{None, Result, Ok, Err, nat_le, if◌then◌else◌
 use Rattle.std.specs.List.{slice_split}
 use Rattle.std.specs.Str.{bytes_eq}
 use Rattle.stack_text.specs.Numerals.{is_digits, numeral_value}
-use Rattle.debug_script.specs.declared.fault.TheConstants.{UNKNOWN_COMMAND, WORD_COUNT, ARGUMENT}
+use Rattle.debug_script.specs.declared.fault.ScriptRule.{ScriptRule}
+use Rattle.debug_script.specs.declared.fault.ScriptRule.TheVariants as rules
 use Rattle.debug_script.specs.declared.command.Command.{Command}
 use Rattle.debug_script.specs.declared.command.Command.TheVariants as command
 use Rattle.debug_script.specs.declared.command.Verb.{Verb}
@@ -24,42 +25,42 @@ verb_of word =
     else (if bytes_eq word (codes "attach") then Some verb.Attach
     else (if bytes_eq word (codes "detach") then Some verb.Detach else None))))
 
-unfoldable pub watch_of : List ℕ → Result WatchWord ℕ
+unfoldable pub watch_of : List ℕ → Result WatchWord ScriptRule
 watch_of word =
     if bytes_eq word (codes "count") then Ok watch.Count
     else (if bytes_eq word (codes "last") then Ok watch.Last
-    else (if bytes_eq word (codes "peak") then Ok watch.Peak else Err ARGUMENT))
+    else (if bytes_eq word (codes "peak") then Ok watch.Peak else Err rules.Argument))
 
 -- a number that is at most 2^40
-abbrev pub in_range : ℤ → Result ℕ ℕ
-in_range (pos n) = if nat_le n (2 ^ 40) then Ok n else Err ARGUMENT
-in_range (negsuc n) = Err ARGUMENT
+abbrev pub in_range : ℤ → Result ℕ ScriptRule
+in_range (pos n) = if nat_le n (2 ^ 40) then Ok n else Err rules.Argument
+in_range (negsuc n) = Err rules.Argument
 
 -- the number that decimal digits spell, of which there may be any number
-unfoldable pub count_of : List ℕ → Result ℕ ℕ
-count_of word = if is_digits word then in_range (numeral_value word) else Err ARGUMENT
+unfoldable pub count_of : List ℕ → Result ℕ ScriptRule
+count_of word = if is_digits word then in_range (numeral_value word) else Err rules.Argument
 
-abbrev pub stepping : Result ℕ ℕ → Result Command ℕ
+abbrev pub stepping : Result ℕ ScriptRule → Result Command ScriptRule
 stepping (Ok count) = Ok (command.Step count)
 stepping (Err rule) = Err rule
 
-abbrev pub watching : (WatchWord → Command) → Result WatchWord ℕ → Result Command ℕ
+abbrev pub watching : (WatchWord → Command) → Result WatchWord ScriptRule → Result Command ScriptRule
 watching make (Ok watch) = Ok (make watch)
 watching make (Err rule) = Err rule
 
 -- the command of a verb and the words behind it, or the rule that they break
-abbrev pub command_by : Verb → List (List ℕ) → Result Command ℕ
+abbrev pub command_by : Verb → List (List ℕ) → Result Command ScriptRule
 command_by verb.Step (count ∷ []) = stepping (count_of count)
 command_by verb.Show [] = Ok command.Show
 command_by verb.Up [] = Ok command.Up
 command_by verb.Attach (watch ∷ []) = watching command.Attach (watch_of watch)
 command_by verb.Detach (watch ∷ []) = watching command.Detach (watch_of watch)
-command_by verb words = Err WORD_COUNT
+command_by verb words = Err rules.WordCount
 
-abbrev pub command_with : Option Verb → List (List ℕ) → Result Command ℕ
+abbrev pub command_with : Option Verb → List (List ℕ) → Result Command ScriptRule
 command_with (Some verb) words = command_by verb words
-command_with None words = Err UNKNOWN_COMMAND
+command_with None words = Err rules.UnknownCommand
 
-abbrev pub command_of : List (List ℕ) → Result Command ℕ
-command_of [] = Err UNKNOWN_COMMAND
+abbrev pub command_of : List (List ℕ) → Result Command ScriptRule
+command_of [] = Err rules.UnknownCommand
 command_of (word ∷ words) = command_with (verb_of word) words

@@ -1,7 +1,8 @@
 -- Lines.
 use Rattle.std.specs.Prelude.{ℕ, List, length, Bool, ◌&&◌, nat_le, Result, Err, if◌then◌else◌}
 use Rattle.std.specs.List.{list_all}
-use Rattle.debug_script.specs.declared.fault.TheConstants.{BYTES}
+use Rattle.debug_script.specs.declared.fault.ScriptRule.{ScriptRule}
+use Rattle.debug_script.specs.declared.fault.ScriptRule.TheVariants as rules
 use Rattle.debug_script.specs.declared.command.Command.{Command}
 use Rattle.debug_script.specs.Commands.{words_of, command_of}
 
@@ -13,5 +14,5 @@ abbrev pub is_plain_line : List ℕ → Bool
 is_plain_line line = nat_le (length line) 256 && list_all is_plain_byte line
 
 -- the command of a line, or the rule that the line breaks
-unfoldable pub command_in : List ℕ → Result Command ℕ
-command_in line = if is_plain_line line then command_of (words_of line) else Err BYTES
+unfoldable pub command_in : List ℕ → Result Command ScriptRule
+command_in line = if is_plain_line line then command_of (words_of line) else Err rules.Bytes

@@ -4,9 +4,11 @@ use Rattle.bstr.specs.Text.{lines_of, without_terminator}
 use Rattle.stack_text.specs.Results.{◌>>=◌}
 use Rattle.stack_text.specs.Gives as common
 use Rattle.debug_script.specs.declared.command.Command.{Command}
+use Rattle.debug_script.specs.declared.fault.ScriptRule.{ScriptRule}
 use Rattle.debug_script.specs.declared.fault.ScriptFault.{ScriptFault}
 use Rattle.debug_script.specs.declared.fault.ScriptFault.TheVariants.{Refused, Memory}
 use Rattle.debug_script.specs.declared.reading.Line.{Line}
+use Rattle.debug_script.specs.Rules.{rule_number}
 use Rattle.debug_script.specs.Lines.{command_in}
 
 -- the fault of a text that an error is; there is none where memory ran out
@@ -19,9 +21,9 @@ abbrev pub Gives : {X Y : Type 0} → (X → Y) → Result X ScriptFault → Res
 Gives view result value = common.Gives fault_of view result value
 
 -- a command, or the rule that its line breaks, with the line's number
-abbrev pub numbered : ℕ → Result Command ℕ → Result (Option Line) ScriptFault
+abbrev pub numbered : ℕ → Result Command ScriptRule → Result (Option Line) ScriptFault
 numbered number (Ok command) = Ok (Some record { line = number; command = command })
-numbered number (Err rule) = Err (Refused rule number)
+numbered number (Err rule) = Err (Refused (rule_number rule) number)
 
 -- an empty line has no command
 unfoldable pub line_read : ℕ → List ℕ → Result (Option Line) ScriptFault

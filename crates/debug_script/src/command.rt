@@ -1,10 +1,9 @@
 //! Commands.
 
 ghost use Rattle.std.specs.Prelude.{◌≡◌, map};
-ghost use Rattle.std.specs.Option.{option_copied};
 ghost use Rattle.debug_script.specs.Commands.{verb_of, watch_of, count_of, command_of, command_by};
 
-use crate::fault::{ARGUMENT, UNKNOWN_COMMAND, WORD_COUNT};
+use crate::fault::ScriptRule;
 use stack_text::{is_digits, read_numeral};
 
 /// The greatest number of steps that one command asks for.
@@ -61,7 +60,7 @@ fn verb_of(word: &[u8]) -> Option<Verb>
 
 /// The watch that a word is.
 #[tactic(auto, unfolding(crate::specs::Commands::watch_of))]
-fn watch_of(word: &[u8]) -> Result<WatchWord, u8>
+fn watch_of(word: &[u8]) -> Result<WatchWord, ScriptRule>
     ensures { result ≡ watch_of word.now }
 {
     if word == b"count".as_slice() {
@@ -71,39 +70,39 @@ fn watch_of(word: &[u8]) -> Result<WatchWord, u8>
     } else if word == b"peak".as_slice() {
         Ok(WatchWord::Peak)
     } else {
-        Err(ARGUMENT)
+        Err(ScriptRule::Argument)
     }
 }
 
 /// The number of steps that a word spells in decimal.
 #[tactic(auto, unfolding(crate::specs::Commands::count_of))]
-fn count_of(word: &[u8]) -> Result<u64, u8>
+fn count_of(word: &[u8]) -> Result<u64, ScriptRule>
     ensures { result ≡ count_of word.now }
 {
     if !is_digits(word) {
-        return Err(ARGUMENT);
+        return Err(ScriptRule::Argument);
     }
     match read_numeral(word) {
         Some(number) if 0 <= number && number <= MOST_STEPS => Ok(number as u64),
-        _ => Err(ARGUMENT),
+        _ => Err(ScriptRule::Argument),
     }
 }
 
 /// The command of words, or the rule that they break.
-pub fn command_of(words: &[&[u8]]) -> Result<Command, u8>
+pub fn command_of(words: &[&[u8]]) -> Result<Command, ScriptRule>
     ensures { result ≡ command_of (map (λ word. word.now) words.now) }
 {
     match words {
         [verb, arguments @ ..] => match verb_of(verb) {
             Some(verb) => command_by(verb, arguments),
-            None => Err(UNKNOWN_COMMAND),
+            None => Err(ScriptRule::UnknownCommand),
         },
-        [] => Err(UNKNOWN_COMMAND),
+        [] => Err(ScriptRule::UnknownCommand),
     }
 }
 
 /// The command of a verb and the words behind it.
-fn command_by(verb: Verb, arguments: &[&[u8]]) -> Result<Command, u8>
+fn command_by(verb: Verb, arguments: &[&[u8]]) -> Result<Command, ScriptRule>
     ensures { result ≡ command_by verb (map (λ word. word.now) arguments.now) }
 {
     match (verb, arguments) {
@@ -118,6 +117,6 @@ fn command_by(verb: Verb, arguments: &[&[u8]]) -> Result<Command, u8>
         (Verb::Detach, [watch]) => Ok(Command::Detach {
             watch: watch_of(watch)?,
         }),
-        _ => Err(WORD_COUNT),
+        _ => Err(ScriptRule::WordCount),
     }
 }

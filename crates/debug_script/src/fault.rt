@@ -1,18 +1,37 @@
 //! Why a text is no script.
 
+ghost use Rattle.std.specs.Prelude.{◌≡◌};
+ghost use Rattle.debug_script.specs.Rules.{rule_number};
+
 use std::alloc::{AllocError, AllocFailed};
 use thiserror::Error;
 
-// The numbers of the rules that a line may break. The first of them in this order is the line's fault.
+/// A rule of a line. The first of these, in this order, that a line breaks is the line's fault.
+#[derive(Clone, Copy, Debug, PartialEq, Eq)]
+pub enum ScriptRule {
+    /// D6: the line is over 256 bytes, or has a byte that is not 0x20 to 0x7E.
+    Bytes,
+    /// D1: its first word is no command.
+    UnknownCommand,
+    /// D2: the command has a wrong number of words.
+    WordCount,
+    /// D3: its second word is no number in the range, or no watch.
+    Argument,
+}
 
-/// The line is over 256 bytes, or has a byte that is not 0x20 to 0x7E.
-pub const BYTES: u8 = 6;
-/// Its first word is no command.
-pub const UNKNOWN_COMMAND: u8 = 1;
-/// The command has a wrong number of words.
-pub const WORD_COUNT: u8 = 2;
-/// Its second word is no number in the range, or no watch.
-pub const ARGUMENT: u8 = 3;
+impl ScriptRule {
+    /// The number by which the rule is known: 1 for D1.
+    pub fn number(self) -> u8
+        ensures { result ≡ rule_number self }
+    {
+        match self {
+            ScriptRule::UnknownCommand => 1,
+            ScriptRule::WordCount => 2,
+            ScriptRule::Argument => 3,
+            ScriptRule::Bytes => 6,
+        }
+    }
+}
 
 /// Why no script was read: the fault of the first line that has one, or out of memory.
 #[derive(Clone, Copy, Debug, PartialEq, Eq, Error)]

@@ -1,12 +1,12 @@
 //! One line.
 
 ghost use Rattle.std.specs.Prelude.{◌≡◌, map, IfOk};
-ghost use Rattle.std.specs.List.{list_all, slice_split};
+ghost use Rattle.std.specs.List.{list_all};
 ghost use Rattle.debug_script.specs.Commands.{words_of};
 ghost use Rattle.debug_script.specs.Lines.{is_plain_byte, is_plain_line, command_in};
 
 use crate::command::{Command, command_of};
-use crate::fault::BYTES;
+use crate::fault::ScriptRule;
 use stack_text::Memory;
 use std::alloc::{AllocError, Global};
 
@@ -36,11 +36,11 @@ fn words_of<'a>(alloc: Global, line: &'a [u8]) -> Result<Vec<&'a [u8]>, AllocErr
 
 /// The command of a line that is not empty, or the rule that the line breaks.
 #[tactic(auto, unfolding(crate::specs::Lines::command_in))]
-pub fn command_in(alloc: Global, line: &[u8]) -> Result<Result<Command, u8>, Memory>
+pub fn command_in(alloc: Global, line: &[u8]) -> Result<Result<Command, ScriptRule>, Memory>
     ensures { IfOk result (λ command. command ≡ command_in line.now) }
 {
     if !is_plain_line(line) {
-        return Ok(Err(BYTES));
+        return Ok(Err(ScriptRule::Bytes));
     }
     let words = words_of(alloc, line)?;
     Ok(command_of(&words))

@@ -1,6 +1,6 @@
 //! Scripts.
 
-ghost use Rattle.std.specs.Prelude.{◌≡◌, ◌≤◌, ◌^◌, length};
+ghost use Rattle.std.specs.Prelude.{◌≤◌, ◌^◌, length};
 ghost use Rattle.debug_script.specs.Scripts.{Gives, line_read, script_of};
 
 use crate::command::Command;
@@ -30,7 +30,10 @@ fn read_line(alloc: Global, number: u32, line: &[u8]) -> Result<Option<Line>, Sc
             line: number,
             command,
         })),
-        Ok(Err(rule)) => Err(ScriptFault::Refused { rule, line: number }),
+        Ok(Err(rule)) => Err(ScriptFault::Refused {
+            rule: rule.number(),
+            line: number,
+        }),
         Err(Memory) => Err(ScriptFault::Memory),
     }
 }

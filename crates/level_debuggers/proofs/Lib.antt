@@ -2,5 +2,6 @@ pub mod NotedLaws
 pub mod WalkLaws
 pub mod TakenLaws
 pub mod ElementLaws
+pub mod AreaLaws
 pub mod GypsyLaws
 pub mod FollowLaws

@@ -2,6 +2,7 @@
 use Rattle.std.proofs.Common.{◌≡◌, ◌+◌, ◌^◌, ◌<◌, ◌≤◌, ◌==◌, ℕ, zero, suc, Bool, false, cond, List, [], ◌∷◌, ◌++◌, length, map, refl, sym, ap, ◌∙◌, add-one, arith, length-append, inl, inr}
 use Rattle.std.proofs.lemmas.Bool.Decides.{eqb_tells}
 use Rattle.std.proofs.lemmas.List.Sums.{fold-append}
+use Rattle.piton_machine.specs.Seen.{saturated}
 use Rattle.level_debuggers.specs.declared.watch.Event.{Event}
 use Rattle.level_debuggers.specs.declared.advance.Stop.{Stop}
 use Rattle.level_debuggers.specs.declared.advance.Advance.{Advance}
@@ -10,7 +11,7 @@ use Rattle.level_debuggers.specs.declared.session.SessionRun.{SessionRun}
 use Rattle.level_debuggers.specs.declared.session.SessionRun.TheVariants as run
 use Rattle.level_debuggers.specs.Levels.{LevelOf, next_of}
 use Rattle.level_debuggers.specs.Steps.{Next, Over, Stops, Makes, IsAdvance}
-use Rattle.level_debuggers.specs.Tallies.{Watching, tally_step, noted, told, saturated}
+use Rattle.level_debuggers.specs.Tallies.{Watching, tally_step, noted, told}
 use Rattle.level_debuggers.specs.Walks.{Walk, with_event, walk_on, walk, SessionOf, after_event, after_walk, refused_after, ends_by, stepped_by, stepped, HasMadeSome}
 
 -- One step more.
@@ -108,9 +109,6 @@ made_more n old middle new event after made is becomes =
           ∙ after_more old (walk n old.level).events event (walk n old.level).level after
           ∙ ap (after_walk old) (sym more);
     }
-
-pub made_some : (m n : ℕ) (old new : SessionOf) → Made m old new → m ≤ n → HasMadeSome n old new
-made_some m n old new made le = (m, le, made.whole, made.comes)
 
 -- what the call answers once the walk does not go on
 answer_at : (m n : ℕ) (old new : SessionOf) (next : Next LevelOf) → Made m old new → m ≤ n → next_of new.level ≡ next → IsStop next

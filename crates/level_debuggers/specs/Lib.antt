@@ -1,3 +1,4 @@
+-- What the crate promises: what watches keep, runs at each level, what they show and say of their source, and scripts.
 pub mod Tallies
 pub mod Steps
 pub mod Texts
@@ -6,8 +7,9 @@ pub mod PitonLevels
 pub mod PitonReadings
 pub mod GypsyLevels
 pub mod Levels
-pub mod Belonging
 pub mod Walks
 pub mod Taken
-pub mod Sessions
 pub mod Transcripts
+-- How clauses see a session and its run, as the code keeps them.
+pub mod Belonging
+pub mod Sessions

@@ -1,19 +1,21 @@
 -- What the end of a run of Piton's machine says of the variables of its source.
 use Rattle.std.specs.Prelude.{ℕ, zero, suc, ◌+◌, ◌-◌, List, [], ◌∷◌, length, map, reverse, Bool}
-use Rattle.std.specs.Prelude.{◌&&◌, nat_lt, nat_le, if◌then◌else◌, slice_index, slice_index_or}
-use Rattle.std.specs.List.{list_all}
+use Rattle.std.specs.Prelude.{◌&&◌, nat_lt, nat_le, if◌then◌else◌, slice_index, unwrap_or}
+use Rattle.std.specs.List.{list_all, flat_map}
 use Rattle.std.specs.Option.{option_map}
 use Rattle.stack_text.specs.Values.{item_count}
+use Rattle.fm_machine.specs.State.{word_at}
 use Rattle.fm_image.specs.declared.slot.Slot.{Slot}
 use Rattle.fm_image.specs.Image.{ImageOf}
 use Rattle.display_maps.specs.declared.shown.Shown.{Shown}
 use Rattle.display_maps.specs.Reading.{ReadingOf, condition_of, item_of}
 use Rattle.display_maps.specs.Report.{lines_of_reading}
+use Rattle.piton_words.specs.declared.word.Word.{Word}
 use Rattle.piton_check.specs.Instruction.{SystemView}
 use Rattle.piton_machine.specs.State.{PitonState}
 use Rattle.piton_machine.specs.Fits.{system_in}
 use Rattle.piton_machine.specs.Addresses.{numbers}
-use Rattle.piton_machine.specs.Placed.{addresses_of, end_of}
+use Rattle.piton_machine.specs.Placed.{addresses_of, areas_start, end_of}
 use Rattle.level_debuggers.specs.PitonLevels.{PitonLevelOf, piton_over}
 use Rattle.level_debuggers.specs.Texts.{no_mark}
 
@@ -39,13 +41,17 @@ variable_at above elements slot =
 abbrev pub element_numbers : SystemView → PitonState → List ℕ
 element_numbers s state = numbers (addresses_of s) (reverse state.stack)
 
--- the number of the condition: the word of `c-c`, which is the first area
-abbrev pub condition_number : SystemView → PitonState → ℕ
-condition_number s state = slice_index (numbers (addresses_of s) (slice_index_or state.areas 0 [])) 0
+-- the words of all areas, one area after the other
+abbrev pub area_words : PitonState → List Word
+area_words state = flat_map (λ area. area) state.areas
+
+-- the number of the word that the areas have at an address; 0 where they have none there
+abbrev pub area_number : SystemView → PitonState → ℕ → ℕ
+area_number s state address = unwrap_or (word_at (areas_start s) (numbers (addresses_of s) (area_words state)) address) 0
 
 abbrev pub piton_reading_of : SystemView → ImageOf → PitonState → ReadingOf
 piton_reading_of s image state = record {
-  condition = option_map (λ (address : ℕ). condition_of image.conditions (condition_number s state)) image.condition_address;
+  condition = option_map (λ address. condition_of image.conditions (area_number s state address)) image.condition_address;
   items = map (variable_at (end_of s) (element_numbers s state)) image.slots;
 }
 

@@ -1,13 +1,10 @@
 -- What watches make of events.
-use Rattle.std.specs.Prelude.{ℕ, ◌+◌, ◌-◌, ◌^◌, min, max, List, [], ◌∷◌, ◌++◌, drop, fold, replicate}
+use Rattle.std.specs.Prelude.{◌+◌, max, List, [], ◌∷◌, ◌++◌, drop, fold, replicate}
+use Rattle.piton_machine.specs.Seen.{saturated}
 use Rattle.level_debuggers.specs.declared.watch.Event.{Event}
 use Rattle.level_debuggers.specs.declared.watch.Tally.{Tally}
 use Rattle.level_debuggers.specs.declared.watch.Rule.{Rule}
 use Rattle.level_debuggers.specs.declared.watch.Rule.TheVariants.{Count, Last, Peak}
-
--- a count stays at the greatest number of 64 bits
-abbrev pub saturated : ℕ → ℕ
-saturated n = min n (2 ^ 64 - 1)
 
 abbrev pub no_events : Tally
 no_events = record { count = 0; peak = 0; last = replicate 8 0 }

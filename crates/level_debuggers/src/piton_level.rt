@@ -2,7 +2,7 @@
 
 use crate::advance::{Advance, Stop};
 use crate::piton_listing::piton_listing;
-use crate::piton_reading::{condition, covers_all, variables};
+use crate::piton_reading::{area_words, condition, covers_all, variables};
 use crate::texts::no_mark;
 use crate::watch::Event;
 use display_maps::{Reading, push_reading};
@@ -39,7 +39,7 @@ impl Model for PitonLevel {
 }
 
 impl PitonLevel {
-    ghost use Rattle.std.specs.Prelude.{◌≡◌, ◌≤◌, ◌^◌, IfOk, slice_index_or, []};
+    ghost use Rattle.std.specs.Prelude.{◌≡◌, ◌≤◌, ◌^◌, IfOk};
     ghost use Rattle.piton_machine.specs.Addresses.{numbers};
     ghost use Rattle.piton_machine.specs.Fits.{system_in};
     ghost use Rattle.piton_machine.specs.Seen.{IsSeen};
@@ -47,7 +47,7 @@ impl PitonLevel {
     ghost use Rattle.piton_show.specs.NamedWords.{program_name};
     ghost use Rattle.level_debuggers.specs.Steps.{IsAdvance};
     ghost use Rattle.level_debuggers.specs.PitonLevels.{piton_listing, piton_next, piton_over};
-    ghost use Rattle.level_debuggers.specs.PitonReadings.{element_numbers, is_readable, piton_reading_of, piton_up};
+    ghost use Rattle.level_debuggers.specs.PitonReadings.{area_words, element_numbers, is_readable, piton_reading_of, piton_up};
 
     pub(crate) fn new(checked: Checked, image: Image, state: State) -> PitonLevel
         requires seen { IsSeen (system_in checked) state }
@@ -114,13 +114,14 @@ impl PitonLevel {
         word_numbers(alloc, &self.checked, self.state.stack())
     }
 
-    /// The numbers of the words of the first area.
-    #[tactic(auto, using(crate::proofs::ElementLaws::area_words))]
-    fn first_area(&self, alloc: Global) -> Result<Vec<u32>, Memory>
+    /// The numbers of the words of all areas, one area after the other.
+    #[tactic(auto, using(crate::proofs::AreaLaws::few_areas, crate::proofs::AreaLaws::same_count))]
+    fn area_numbers(&self, alloc: Global) -> Result<Vec<u32>, Memory>
         ensures { IfOk result (λ made. made.items
-            ≡ numbers (addresses_of (system_in self.now.checked)) (slice_index_or self.now.seen.state.areas 0 [])) }
+            ≡ numbers (addresses_of (system_in self.now.checked)) (area_words self.now.seen.state)) }
     {
-        word_numbers(alloc, &self.checked, self.state.area(0))
+        let words = area_words(alloc, self.checked.resolved(), &self.state)?;
+        word_numbers(alloc, &self.checked, &words)
     }
 
     /// Whether there is something to read.
@@ -137,11 +138,16 @@ impl PitonLevel {
         ensures { IfOk result (λ read.
             read ≡ piton_reading_of (system_in self.now.checked) self.now.image self.now.seen.state) }
     {
-        let end = layout(&self.checked).end;
-        let area = self.first_area(alloc)?;
+        let placed = layout(&self.checked);
+        let areas = self.area_numbers(alloc)?;
         Ok(Reading {
-            condition: condition(&self.image.conditions, self.image.condition_address, &area)?,
-            items: variables(alloc, end, elements, &self.image.slots)?,
+            condition: condition(
+                &self.image.conditions,
+                self.image.condition_address,
+                placed.areas_start,
+                &areas,
+            )?,
+            items: variables(alloc, placed.end, elements, &self.image.slots)?,
         })
     }
 

@@ -1,14 +1,19 @@
 //! What the end of a run of Piton's machine says of variables.
 
-ghost use Rattle.std.specs.Prelude.{◌≡◌, IfOk, map, slice_index};
+ghost use Rattle.std.specs.Prelude.{◌≡◌, ◌≤◌, IfOk, length, map, unwrap_or};
 ghost use Rattle.std.specs.List.{list_all};
 ghost use Rattle.std.specs.Option.{option_map};
 ghost use Rattle.stack_text.specs.Values.{item_count};
+ghost use Rattle.fm_machine.specs.State.{word_at};
 ghost use Rattle.display_maps.specs.Reading.{condition_of, item_of};
-ghost use Rattle.level_debuggers.specs.PitonReadings.{element_at, covers, elements_down, variable_at};
+ghost use Rattle.piton_check.specs.Instruction.{system_view};
+ghost use Rattle.level_debuggers.specs.PitonReadings.{area_words, element_at, covers, elements_down, variable_at};
 
 use display_maps::{Shown, condition_of, item_of};
 use fm_image::Slot;
+use piton_check::Resolved;
+use piton_machine::State;
+use piton_words::Word;
 use stack_text::{Memory, Name};
 use std::alloc::Global;
 
@@ -69,17 +74,58 @@ pub(crate) fn variables(
     Ok(variables)
 }
 
-/// The condition that the first of these numbers says, where an image has a condition word.
+/// The number at an address, where the first of these stands at `start`; 0 where there is none.
+#[tactic(auto, unfolding(fm_machine::specs::State::word_at))]
+fn number_at(start: u64, numbers: &[u32], address: u32) -> u32
+    ensures { result ≡ unwrap_or (word_at start numbers.now address) 0 }
+{
+    let address = u64::from(address);
+    if address < start {
+        return 0;
+    }
+    numbers
+        .get((address - start) as usize)
+        .copied()
+        .unwrap_or(0)
+}
+
+/// The condition that the number at an image's condition address says, where the first of these stands at `start`.
 pub(crate) fn condition(
     names: &[Name],
     address: Option<u32>,
+    start: u64,
     numbers: &[u32],
 ) -> Result<Option<Shown>, Memory>
-    ensures { IfOk result (λ condition.
-        condition ≡ option_map (λ a. condition_of names.now (slice_index numbers.now 0)) address) }
+    ensures { IfOk result (λ condition. condition
+        ≡ option_map (λ a. condition_of names.now (unwrap_or (word_at start numbers.now a) 0)) address) }
 {
     match address {
-        Some(_address) => Ok(Some(condition_of(names, numbers.first().copied().unwrap_or(0))?)),
+        Some(address) => Ok(Some(condition_of(names, number_at(start, numbers, address))?)),
         None => Ok(None),
     }
+}
+
+/// How many areas a system has.
+fn area_count(checked: &Resolved) -> u32
+    requires { length (system_view checked.now).areas ≤ 1000 }
+    ensures { result ≡ length (system_view checked.now).areas }
+{
+    checked.areas.len() as u32
+}
+
+/// The words of all areas of a state of a system, one area after the other.
+pub(crate) fn area_words(
+    alloc: Global,
+    checked: &Resolved,
+    state: &State,
+) -> Result<Vec<Word>, Memory>
+    requires few { length (system_view checked.now).areas ≤ 1000 }
+    requires same { length state.now.state.areas ≡ length (system_view checked.now).areas }
+    ensures { IfOk result (λ words. words.items ≡ area_words state.now.state) }
+{
+    let mut words = Vec::new(alloc);
+    for area in 0..area_count(checked) {
+        words.extend_from_slice(state.area(area))?;
+    }
+    Ok(words)
 }

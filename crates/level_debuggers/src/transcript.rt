@@ -151,7 +151,10 @@ fn push_answer(
 /// Carries out a script in a session, line by line, and appends what the session says. A step that is refused ends the
 /// script, and so does a watch that isn't there.
 ///
-/// The only error is out of memory.
+/// # Errors
+///
+/// Out of memory: the commands and the steps that were carried out stand, and the text may have gained a part of what the
+/// session said to them.
 pub fn follow(
     alloc: Global,
     session: &mut Session,

@@ -7,6 +7,7 @@ ghost use Rattle.piton_machine.specs.Fits.{system_in, IsInitialStack};
 ghost use Rattle.piton_machine.specs.Seen.{IsSeen, seen_step, answer_of, left_of, run_of, opening};
 ghost use Rattle.piton_machine.specs.Groups.{resolved_at};
 ghost use Rattle.piton_machine.specs.State.{instruction_at, locals_of};
+ghost use Rattle.piton_machine.specs.Step.{step_cost};
 
 use crate::areas::Areas;
 use crate::error_kind::ErrorKind;
@@ -82,6 +83,28 @@ impl State {
         ensures fits { IsSeen (system_in checked.now) self.new }
     {
         self.ran(checked.resolved(), limit)
+    }
+
+    /// What the next step costs, in instructions of the processor; 0 where the state has halted.
+    #[tactic(auto, using(crate::proofs::SoundLaws::checked_known))]
+    pub fn step_cost(&self, checked: &Checked) -> u64
+        ensures { result ≡ step_cost (system_in checked.now) self.now.state }
+    {
+        self.next_cost(checked.resolved())
+    }
+
+    /// What the next step costs.
+    fn next_cost(&self, checked: &Resolved) -> u64
+        requires sound { IsWellFormed (system_view checked.now) }
+        ensures { result ≡ step_cost (system_view checked.now) self.now.state }
+    {
+        if self.frames.len() == 0 {
+            return 0;
+        }
+        match instruction(checked, self.program, self.place) {
+            Some(instr) => self.cost(checked, instr),
+            None => 0,
+        }
     }
 
     /// The opening state of a system with this initial stack, from the bottom up.
