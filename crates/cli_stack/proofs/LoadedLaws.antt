@@ -1,7 +1,6 @@
 -- A machine that is loaded with the image of a linked system is the placed machine.
 use Rattle.std.proofs.Common.{◌≡◌, ℕ, List, [], ap}
 use Rattle.fm_words.specs.Code.{no_flags}
-use Rattle.fm_loader.specs.Loaded.{with_words}
 use Rattle.fm_loader.specs.Loaded as loader
 use Rattle.piton_check.specs.Answers.{CheckedOf, IsChecked}
 use Rattle.piton_check.specs.Instruction.{SystemView}

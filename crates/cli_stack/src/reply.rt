@@ -96,18 +96,11 @@ fn letter_text(letter: RuleLetter) -> &'static str
     }
 }
 
-/// The number of a rule of the form of texts, whose letter is G.
+/// The number of a rule of the form of texts, whose letter is G. They are declared in this order.
 pub fn text_rule_number(rule: TextRule) -> u8
     ensures { result ≡ text_rule_number rule }
 {
-    match rule {
-        TextRule::G1 => 1,
-        TextRule::G2 => 2,
-        TextRule::G3 => 3,
-        TextRule::G4 => 4,
-        TextRule::G5 => 5,
-        TextRule::G6 => 6,
-    }
+    rule as u8 + 1
 }
 
 /// What a size is of.
