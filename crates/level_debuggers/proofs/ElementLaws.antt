@@ -1,5 +1,5 @@
 -- Elements of the stack that are read one after the other.
-use Rattle.std.proofs.Common.{◌≡◌, ◌<◌, ◌+◌, ◌-◌, ℕ, suc, List, [], ◌∷◌, map, ap, arith}
+use Rattle.std.proofs.Common.{◌≡◌, ◌<◌, ◌+◌, ◌-◌, ℕ, suc, List, ◌∷◌, map, ap, arith}
 use Rattle.stack_text.specs.declared.shape.Kind.{Kind}
 use Rattle.display_maps.specs.Reading.{item_of}
 use Rattle.level_debuggers.specs.PitonReadings.{element_at, elements_down}

@@ -1,5 +1,5 @@
 -- Runs of Piton's machine.
-use Rattle.std.specs.Prelude.{ℕ, ◌-◌, ◌==◌, Bool, List, [], ◌∷◌, ◌++◌, length, map, reverse}
+use Rattle.std.specs.Prelude.{ℕ, ◌==◌, Bool, List, [], ◌∷◌, ◌++◌, length, map, reverse}
 use Rattle.std.specs.Prelude.{slice_get, Option, Some, None, Result, Ok, Err, codes, if◌then◌else◌}
 use Rattle.std.specs.Fmt.{decimal}
 use Rattle.fm_image.specs.Image.{ImageOf}
@@ -10,6 +10,7 @@ use Rattle.piton_show.specs.NamedWords.{program_name, word_text, words_line}
 use Rattle.piton_check.specs.Answers.{CheckedOf}
 use Rattle.piton_machine.specs.declared.error_kind.ErrorKind.{ErrorKind}
 use Rattle.piton_machine.specs.State.{Frame, PitonState, locals_of}
+use Rattle.piton_machine.specs.Step.{step_cost}
 use Rattle.piton_machine.specs.Fits.{system_in}
 use Rattle.piton_machine.specs.Seen.{Seen, seen_step}
 use Rattle.level_debuggers.specs.declared.watch.Event.{Event}
@@ -22,18 +23,17 @@ pub record PitonLevelOf : Type 0 where
   pub image : ImageOf
   pub seen : Seen
 
-abbrev pub piton_event : Seen → Seen → Event
-piton_event before after = record {
-  place = before.state.place;
-  depth = length before.state.frames;
-  cost = after.counted - before.counted;
-}
+-- the next step, as watches are told it
+abbrev pub piton_event : PitonLevelOf → Event
+piton_event level =
+    let state = level.seen.state in
+    record { place = state.place; depth = length state.frames; cost = step_cost (system_in level.checked) state }
 
 abbrev pub piton_over : PitonLevelOf → Bool
 piton_over level = length level.seen.state.frames == 0
 
 abbrev pub piton_after : PitonLevelOf → Result Seen ErrorKind → Next PitonLevelOf
-piton_after level (Ok seen) = Makes (piton_event level.seen seen) (record level { seen = seen })
+piton_after level (Ok seen) = Makes (piton_event level) (record level { seen = seen })
 piton_after level (Err kind) = Stops (stop.Error kind level.seen.state.program level.seen.state.place)
 
 -- over where no frame is left; or else the instruction at the state's place

@@ -77,18 +77,14 @@ impl PitonLevel {
             return Advance::Over;
         }
         let (program, place) = self.state.at();
-        let before = self.state.counted();
+        let cost = self.state.step_cost(&self.checked);
         match self.state.step(&self.checked) {
             Stepped::Error(kind) => Advance::Stops(Stop::Error {
                 kind,
                 program,
                 place,
             }),
-            _ => Advance::Makes(Event {
-                place,
-                depth,
-                cost: self.state.counted().saturating_sub(before),
-            }),
+            _ => Advance::Makes(Event { place, depth, cost }),
         }
     }
 

@@ -200,7 +200,8 @@ impl Session {
 
     /// What the run says of the variables of its source, as lines. At the level of Micro-Gypsy: `top`. At the end of a run
     /// of the FM9001, and at that of a run of Piton whose stack has an element for each item of the image's slots: the
-    /// condition and the variables, as a report has them. Elsewhere: `no mark`.
+    /// condition and the variables, as a report has them. Elsewhere: `no mark`. In a run of Piton the condition's word is
+    /// the one that the areas have at the image's condition address, and 0 where they have none there.
     ///
     /// The only error is out of memory.
     pub fn up(&self, alloc: Global) -> Result<Vec<u8>, Memory>
