@@ -62,7 +62,7 @@ impl Meaning {
     }
 
     /// Makes the step in which main ends normally.
-    pub fn end_main(&mut self, needs: &Needs)
+    pub(crate) fn end_main(&mut self, needs: &Needs)
         requires small { AreSmall needs.now.procedures.items }
         requires turn { work_of self.old.work.value ≡ [] }
         requires alone { self.old.waiting.items ≡ [] }
@@ -72,7 +72,7 @@ impl Meaning {
     }
 
     /// Makes the step in which a condition leaves main.
-    pub fn leave_main(&mut self, needs: &Needs, cond: Condition)
+    pub(crate) fn leave_main(&mut self, needs: &Needs, cond: Condition)
         requires small { AreSmall needs.now.procedures.items }
         requires turn { Leaves (seen_cond cond) (work_of self.old.work.value) }
         requires alone { self.old.waiting.items ≡ [] }
