@@ -1,6 +1,6 @@
 //! What a step does at the end of a procedure for which another waits.
 
-ghost use Rattle.std.specs.Prelude.{◌≡◌, ℕ, [], get_or, map, IfErr, IfOk, IfSome, IfNone, MatchBool};
+ghost use Rattle.std.specs.Prelude.{◌≡◌, [], get_or, map, IfErr, IfOk, IfSome, IfNone, MatchBool};
 ghost use Rattle.gypsy_space.specs.Events.{AreSmall};
 ghost use Rattle.gypsy_syntax.specs.Programs.{Routine};
 ghost use Rattle.gypsy_space.specs.Nodes.{seen_cond, seen_program};
