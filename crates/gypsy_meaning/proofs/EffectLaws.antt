@@ -116,9 +116,6 @@ simple_item k v e f =
     let all : list_all (is_in_range k) v.items ≡ true = ap (λ (s : Shape). list_all (is_in_range s.kind) v.items) (sym e) ∙ f.items in
     get_holds (is_in_range k) v.items 0 all (omega (arith, one))
 
-array_items : (k : Kind) (n : ℕ) (v : ValueOf) → v.shape ≡ record { kind = k; length = n } → ValueFits v → list_all (is_in_range k) v.items ≡ true
-array_items k n v e f = ap (λ (s : Shape). list_all (is_in_range s.kind) v.items) (sym e) ∙ f.items
-
 indexed_fits : (k : Kind) (n : ℕ) (a : ValueOf) (z : ℤ) → a.shape ≡ record { kind = k; length = n } → ValueFits a → EffectFits (simple k) (indexed a z)
 indexed_fits k n a (negsuc i) e f = tt
 indexed_fits k n a (pos i) e f = pick (nat_lt i (length a.items)) refl

@@ -13,7 +13,7 @@ use Rattle.gypsy_space.specs.declared.need.Need.{Need}
 use Rattle.gypsy_space.specs.declared.program.Condition.{Condition}
 use Rattle.gypsy_meaning.specs.Calls.{is_formal, main_formals, main_way}
 use Rattle.gypsy_meaning.specs.Finishing.{IsFinished, end_price}
-use Rattle.gypsy_meaning.specs.Held.{Finishes, Keeps}
+use Rattle.gypsy_meaning.specs.Held.{EndsRun, Keeps}
 use Rattle.gypsy_meaning.specs.Machine.{Item, Out, At, Ended, gypsy_step}
 use Rattle.gypsy_meaning.specs.Machine as machine
 use Rattle.gypsy_meaning.specs.Running.{frames_of, sizes_of, state_of, way_of, paid}
@@ -44,7 +44,7 @@ finished_keeps e cost m n f = record {
 }
 
 finishes : (e : Ending) (cost : ℕ) (m n : Meaning) (u : Tally) → m.waiting.items ≡ [] → IsFinished e cost m n → u.count ≡ cost →
-    gypsy_step (seen_program m.program) (sizes_of m) (state_of m) ≡ Ended (main_formals (seen_program m.program) (map (λ v. v.1) m.variables.items)) (way_of e) u → Finishes m n
+    gypsy_step (seen_program m.program) (sizes_of m) (state_of m) ≡ Ended (main_formals (seen_program m.program) (map (λ v. v.1) m.variables.items)) (way_of e) u → EndsRun m n
 finishes e cost m n u alone f costs step = record {
   alone = alone;
   ended_by = e;
@@ -59,7 +59,7 @@ finishes e cost m n u alone f costs step = record {
   named = f.named;
 }
 
-pub end_finishes : (ns : List Need) (m n : Meaning) → work_of m.work.value ≡ [] → m.waiting.items ≡ [] → IsFinished ending.Normal (event_count ns event.EndMain) m n → Finishes m n
+pub end_finishes : (ns : List Need) (m n : Meaning) → work_of m.work.value ≡ [] → m.waiting.items ≡ [] → IsFinished ending.Normal (event_count ns event.EndMain) m n → EndsRun m n
 unfolding event_count spend
 end_finishes ns m n nothing alone f =
     let q = seen_program m.program in
@@ -74,7 +74,7 @@ price_is true = refl
 price_is false = refl
 
 pub leave_finishes : (m n : Meaning) (c d : Condition) (below : List Item) → work_of m.work.value ≡ Out (seen_cond c) ∷ below → m.waiting.items ≡ [] → seen_cond d ≡ main_way (seen_program m.program) (seen_cond c) →
-    IsFinished (ending.Raised d) (end_price (is_formal (seen_program m.program) m.program.main (seen_cond c))) m n → Finishes m n
+    IsFinished (ending.Raised d) (end_price (is_formal (seen_program m.program) m.program.main (seen_cond c))) m n → EndsRun m n
 leave_finishes m n c d below out alone way f =
     let q = seen_program m.program in
     let x = map (λ v. v.1) m.variables.items in

@@ -2,43 +2,27 @@
 use Rattle.std.proofs.Common.{◌≡◌, ℕ, ◌+◌, ◌≤◌, List, [], ◌∷◌, ◌++◌, ◌==◌, ◌&&◌, map, length, nat_le, true, refl, sym, ap, ap₂, subst, ◌∙◌, arith, eqb-true, eq-eqb, le-leb}
 use Rattle.std.specs.List.{list_all}
 use Rattle.std.proofs.lemmas.Bool.{and_parts, and_from, leb-true}
-use Rattle.stack_text.specs.declared.shape.Kind.{Kind}
-use Rattle.stack_text.specs.declared.shape.Kind.TheVariants.{Integer, Boolean, Character}
 use Rattle.stack_text.specs.declared.shape.Shape.{Shape}
 use Rattle.stack_text.specs.Values.{ValueOf, item_count}
 use Rattle.gypsy_syntax.specs.ProgramFits.{ProgramFits, ValueFits, is_in_range}
 use Rattle.gypsy_syntax.specs.Programs.{Program, proc_at, words_of}
+use Rattle.gypsy_check.specs.Types.{same_kind}
+use Rattle.gypsy_check.proofs.LiteralLaws.{kind_same, kind_self}
 use Rattle.gypsy_space.specs.Events.{AreNeeds, need_at, need_of}
 use Rattle.gypsy_space.specs.Needs.{Words, main_need, main_used}
 use Rattle.gypsy_space.specs.declared.need.Need.{Need}
-use Rattle.gypsy_meaning.specs.Fitting.{CanStart, are_as_many, are_values, can_start, is_value_of, same_kind, same_shape, suffice}
+use Rattle.gypsy_meaning.specs.Fitting.{CanStart, are_as_many, are_values, can_start, is_value_of, same_shape, suffice}
 use Rattle.gypsy_meaning.specs.Kept.{VarsFit}
-
-kinds_same : (a b : Kind) → same_kind a b ≡ true → a ≡ b
-kinds_same Integer Integer e = refl
-kinds_same Integer Boolean e = absurd cc
-kinds_same Integer Character e = absurd cc
-kinds_same Boolean Integer e = absurd cc
-kinds_same Boolean Boolean e = refl
-kinds_same Boolean Character e = absurd cc
-kinds_same Character Integer e = absurd cc
-kinds_same Character Boolean e = absurd cc
-kinds_same Character Character e = refl
-
-kind_itself : (a : Kind) → same_kind a a ≡ true
-kind_itself Integer = refl
-kind_itself Boolean = refl
-kind_itself Character = refl
 
 shapes_same : (a b : Shape) → same_shape a b ≡ true → a ≡ b
 shapes_same a b e =
     let p = and_parts (same_kind a.kind b.kind) (a.length == b.length) e in
-    let k = kinds_same a.kind b.kind p.0 in
+    let k = kind_same a.kind b.kind p.0 in
     let n = eqb-true a.length b.length p.1 in
     λ i. record { kind = k i; length = n i }
 
 shape_itself : (a : Shape) → same_shape a a ≡ true
-shape_itself a = and_from (same_kind a.kind a.kind) (a.length == a.length) (kind_itself a.kind) (eq-eqb a.length a.length refl)
+shape_itself a = and_from (same_kind a.kind a.kind) (a.length == a.length) (kind_self a.kind) (eq-eqb a.length a.length refl)
 
 value_is : (s : Shape) (v : ValueOf) → is_value_of s v ≡ true → (v.shape ≡ s) × ValueFits v
 unfolding is_value_of

@@ -1,6 +1,7 @@
 -- The names that the code keeps are the source's.
 use Rattle.std.proofs.Common.{◌≡◌, ℕ, zero, suc, ◌+◌, List, [], ◌∷◌, ◌++◌, map, length, get_or, refl, sym, ap, ◌∙◌, arith, length-append}
 use Rattle.std.proofs.lemmas.List.{length-map}
+use Rattle.std.proofs.lemmas.Simd.{map-map}
 use Rattle.gypsy_syntax.specs.Sources.{LocalOf, ProcOf, SourceOf}
 use Rattle.gypsy_syntax.specs.Programs.{Program, no_proc, proc_at}
 use Rattle.gypsy_syntax.specs.Resolved.{condition_names, local_value, procedure_of, program_of, shape_of, variable_names}
@@ -10,15 +11,11 @@ use Rattle.gypsy_meaning.specs.Named.{NamesOf, conditions_of, proc_names, seen_n
 use Rattle.gypsy_meaning.specs.Shown.{conditions_at, variables_at}
 use Rattle.gypsy_meaning.specs.declared.names.Names.{Names}
 
-twice : {X Y Z : Type 0} (f : X → Y) (g : Y → Z) (xs : List X) → map (λ x. g (f x)) xs ≡ map g (map f xs)
-twice f g [] = refl
-twice f g (x ∷ xs) = ap (λ ys. g (f x) ∷ ys) (twice f g xs)
-
 module _ (s : SourceOf) (names : List Names) (same : map seen_names names ≡ map proc_names s.procs) where
   pub variables_same : (p : ℕ) → variables_of names p ≡ variables_at s p
   variables_same p =
       let each : map (λ n. n.variables.items) names ≡ map variable_names s.procs =
-      twice seen_names (λ (r : NamesOf). r.variables) names ∙ ap (map (λ (r : NamesOf). r.variables)) same ∙ sym (twice proc_names (λ (r : NamesOf). r.variables) s.procs) in
+      sym (map-map (λ (r : NamesOf). r.variables) seen_names names) ∙ ap (map (λ (r : NamesOf). r.variables)) same ∙ map-map (λ (r : NamesOf). r.variables) proc_names s.procs in
       ap (λ rows. get_or rows p []) each
 
   rows_names : (rows : List ProcOf) (p : ℕ) → get_or (map (λ r. shown_names (condition_names r)) rows) p [] ≡ shown_names (get_or (map condition_names rows) p [])
@@ -29,7 +26,7 @@ module _ (s : SourceOf) (names : List Names) (same : map seen_names names ≡ ma
   pub conditions_same : (p : ℕ) → conditions_of names p ≡ shown_names (conditions_at s p)
   conditions_same p =
       let each : map (λ n. n.conditions.items) names ≡ map (λ r. shown_names (condition_names r)) s.procs =
-      twice seen_names (λ (r : NamesOf). r.conditions) names ∙ ap (map (λ (r : NamesOf). r.conditions)) same ∙ sym (twice proc_names (λ (r : NamesOf). r.conditions) s.procs) in
+      sym (map-map (λ (r : NamesOf). r.conditions) seen_names names) ∙ ap (map (λ (r : NamesOf). r.conditions)) same ∙ map-map (λ (r : NamesOf). r.conditions) proc_names s.procs in
       ap (λ rows. get_or rows p []) each ∙ rows_names s.procs p
 
   pub number_same : (code : Code) → seen_program code ≡ program_of s → length names ≡ length code.procedures.items

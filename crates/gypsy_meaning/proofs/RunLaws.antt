@@ -1,11 +1,8 @@
 -- Runs of several steps.
-use Rattle.std.proofs.Common.{◌≡◌, ℕ, zero, suc, ◌+◌, ◌-◌, ◌<◌, ◌≤◌, List, Bool, true, false, Result, Ok, Err, IfOk, refl, sym, ap, subst, ◌∙◌, arith}
-use Rattle.std.specs.Result.{IsErrAnd}
-use Rattle.stack_text.specs.Values.{ValueOf}
+use Rattle.std.proofs.Common.{◌≡◌, ℕ, zero, suc, ◌+◌, ◌-◌, ◌<◌, ◌≤◌, Bool, true, false, refl, sym, ap, subst, ◌∙◌, arith}
 use Rattle.gypsy_meaning.specs.Agreed.{EndAgrees, RunAgrees}
-use Rattle.gypsy_meaning.specs.Calls.{Way}
 use Rattle.gypsy_meaning.specs.Machine.{Ended, Full, Move, Next, State, gypsy_step, place_of}
-use Rattle.gypsy_meaning.specs.Seen.{Finished, IsEnd, Ran, Running, Seen, Stage, after_move, answer_by, answer_from, answer_of, end_by, is_over, left_from, left_of, ran_on, run_of}
+use Rattle.gypsy_meaning.specs.Seen.{Finished, Ran, Running, Seen, Stage, after_move, answer_by, answer_from, answer_of, end_by, is_over, left_from, left_of, ran_on, run_of}
 use Rattle.gypsy_meaning.specs.declared.answers.MeanRun.{MeanRun}
 use Rattle.gypsy_meaning.specs.declared.answers.MeanRun.TheVariants as ran
 use Rattle.gypsy_meaning.specs.declared.answers.Moved.{Moved}
@@ -57,13 +54,6 @@ run_agrees (suc k) v r = from_agrees k (run_agrees k) v v.stage r refl
 -- with what a run gave
 pub answer_agrees : (k : ℕ) (v w : Seen) (run : MeanRun) → Reached v → run_of k v ≡ record { run = run; seen = w } → RunAgrees w run
 answer_agrees k v w run r e = let P : Ran → Type 0 = λ b. RunAgrees b.seen b.run in subst P e (run_agrees k v r)
-
-pub answer_ends : (k : ℕ) (v w : Seen) (run : MeanRun) (x : List ValueOf) (c : Way) → run_of k v ≡ record { run = run; seen = w } → IsEnd (run_of k v) x c → (run ≡ ran.Ended) × (w.stage ≡ Finished x c)
-answer_ends k v w run x c e h = let P : Ran → Type 0 = λ b. IsEnd b x c in let f = subst P e h in (f.run, f.stage)
-
-pub none_ok : {T E : Type 0} (r : Result T E) (Q : E → Type 0) (P : T → Type 0) → IsErrAnd r Q → IfOk r P
-none_ok (Ok x) Q P h = absurd h
-none_ok (Err e) Q P h = tt
 
 -- how a run ends whose steps are spent
 pub end_over : (s : Stage) (b : Bool) → is_over s ≡ b → end_by s ≡ over_answer b

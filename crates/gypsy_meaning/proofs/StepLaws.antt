@@ -13,7 +13,7 @@ use Rattle.gypsy_space.specs.Needs.{Words, stack_words}
 use Rattle.gypsy_space.specs.Nodes.{seen_program}
 use Rattle.gypsy_space.specs.declared.need.Need.{Need}
 use Rattle.gypsy_meaning.specs.Calling.{IsFull, IsUnchanged}
-use Rattle.gypsy_meaning.specs.Held.{AreActivations, Finishes, IsActivation, Keeps, Moves}
+use Rattle.gypsy_meaning.specs.Held.{AreActivations, EndsRun, IsActivation, Keeps, Moves}
 use Rattle.gypsy_meaning.specs.Machine.{At, Ended, Full, Move, Next, gypsy_step, place_of}
 use Rattle.gypsy_meaning.specs.Named.{seen_names, variables_of}
 use Rattle.gypsy_meaning.specs.Running.{Costs, frames_of, seen, sizes_of, stage_by, state_of, way_of}
@@ -107,7 +107,7 @@ module _ (m : Meaning) (e : m.ending ≡ None) where
       let stage : stage_by n.ending n ≡ Running (state_of n) = ap (λ o. stage_by o n) (h.ending ∙ e) in
       by_move n moved.Moved (Next g) h.goes.1 refl (alike m n (Running (state_of n)) u.count h.keeps stage h.goes.2)
 
-  pub finishes_step : (n : Meaning) → Finishes m n → IsStep m n moved.Ended
+  pub finishes_step : (n : Meaning) → EndsRun m n → IsStep m n moved.Ended
   finishes_step n h =
       let x = map (λ v. v.1) n.variables.items in
       let c = way_of h.ended_by in
@@ -191,7 +191,7 @@ module _ (s : SourceOf) (ns : List Need) (m : Meaning) (b : BelongsTo s ns m) wh
       let none : n.ending ≡ None = h.ending ∙ e in
       belongs_after n h.keeps (moves_step m e n h).left (subst P (sym none) (h.held (ready e).held))
 
-  finishes_belongs : m.ending ≡ None → (n : Meaning) → Finishes m n → BelongsTo s ns n
+  finishes_belongs : m.ending ≡ None → (n : Meaning) → EndsRun m n → BelongsTo s ns n
   finishes_belongs e n h =
       let P : Option Ending → Type 0 = IsKept n in
       let q = seen_program m.program in

@@ -1,9 +1,9 @@
 -- Steps that open what is on top.
-use Rattle.std.proofs.Common.{◌≡◌, ℕ, List, [], ◌∷◌, refl, sym, subst}
+use Rattle.std.proofs.Common.{◌≡◌, List, [], ◌∷◌, refl, sym, subst}
 use Rattle.std.specs.declared.rc.Rc.{Rc}
 use Rattle.std.specs.declared.alloc.Global.{Global}
 use Rattle.stack_text.specs.Values.{ValueOf}
-use Rattle.gypsy_syntax.specs.Programs.{Stmt, Begin, Cond}
+use Rattle.gypsy_syntax.specs.Programs.{Stmt}
 use Rattle.gypsy_space.specs.declared.program.Node.{Node}
 use Rattle.gypsy_space.specs.Nodes.{seen_statements}
 use Rattle.gypsy_meaning.specs.Machine.{Item, Do, open_on}
@@ -18,10 +18,6 @@ parts_open (n ∷ ns) x w = λ q sizes p fs t. refl
 pub seq_opens : (s : Stmt) (ns : List (Rc Node Global)) (x : List ValueOf) (w v : List Item) → s ≡ seen_statements ns → v ≡ open_on s w → OpensTo x (Do s ∷ w) v
 seq_opens s ns x w v e f = let P : Stmt → Type 0 = λ r. (u : List Item) → u ≡ open_on r w → OpensTo x (Do r ∷ w) u in
     subst P (sym e) (λ u g. let Q : List Item → Type 0 = OpensTo x (Do (seen_statements ns) ∷ w) in subst Q (sym g) (parts_open ns x w)) v f
-
-pub begin_opens : (s : Stmt) (place : ℕ) (b a : Stmt) (cs : List Cond) (x : List ValueOf) (w v : List Item) → s ≡ Begin place b cs a → v ≡ open_on s w → OpensTo x (Do s ∷ w) v
-begin_opens s place b a cs x w v e f = let P : Stmt → Type 0 = λ r. (u : List Item) → u ≡ open_on r w → OpensTo x (Do r ∷ w) u in
-    subst P (sym e) (λ u g. let Q : List Item → Type 0 = OpensTo x (Do (Begin place b cs a) ∷ w) in subst Q (sym g) (λ q sizes p fs t. refl)) v f
 
 pub goes_at : (s r : Stmt) (x : List ValueOf) (w : List Item) (a : Advance) → s ≡ r → GoesOn x (Do r ∷ w) a → GoesOn x (Do s ∷ w) a
 goes_at s r x w a e g = let P : Stmt → Type 0 = λ b. GoesOn x (Do b ∷ w) a in subst P (sym e) g

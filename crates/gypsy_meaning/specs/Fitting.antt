@@ -1,21 +1,14 @@
 -- Whether values and sizes suit the start of a run.
 use Rattle.std.specs.Prelude.{ℤ, List, [], ◌∷◌, length, Bool, true, false, ◌==◌, ◌&&◌, nat_le}
 use Rattle.std.specs.List.{list_all}
-use Rattle.stack_text.specs.declared.shape.Kind.{Kind}
-use Rattle.stack_text.specs.declared.shape.Kind.TheVariants.{Integer, Boolean, Character}
 use Rattle.stack_text.specs.declared.shape.Shape.{Shape}
 use Rattle.stack_text.specs.Values.{ValueOf, item_count}
 use Rattle.gypsy_syntax.specs.Programs.{Program, proc_at}
 use Rattle.gypsy_syntax.specs.ProgramFits.{is_in_range}
+use Rattle.gypsy_check.specs.Types.{same_kind}
 use Rattle.gypsy_space.specs.Needs.{Words, main_need}
 use Rattle.gypsy_meaning.specs.Belongs.{Suffices}
 use Rattle.gypsy_meaning.specs.Kept.{VarsFit}
-
-abbrev pub same_kind : Kind → Kind → Bool
-same_kind Integer Integer = true
-same_kind Boolean Boolean = true
-same_kind Character Character = true
-same_kind _ _ = false
 
 abbrev pub same_shape : Shape → Shape → Bool
 same_shape a b = same_kind a.kind b.kind && a.length == b.length

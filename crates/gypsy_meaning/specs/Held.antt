@@ -54,7 +54,7 @@ pub record Moves (m n : Meaning) : Type 0 where
   pub held : IsHeld m → IsHeld n
 
 -- a step ended the run
-pub record Finishes (m n : Meaning) : Type 0 where
+pub record EndsRun (m n : Meaning) : Type 0 where
   pub alone : m.waiting.items ≡ []
   pub ended_by : Ending
   pub ending : n.ending ≡ Some ended_by

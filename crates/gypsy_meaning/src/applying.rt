@@ -1,11 +1,8 @@
 //! Steps of predefined calls.
 
-ghost use Rattle.std.specs.Prelude.{◌≡◌, ℕ, ◌∷◌, IfOk, map};
-ghost use Rattle.gypsy_syntax.specs.Effects.{Effect, predef_effect};
+ghost use Rattle.std.specs.Prelude.{◌≡◌, IfOk, map};
 ghost use Rattle.gypsy_space.specs.Nodes.{seen_arg};
 ghost use Rattle.gypsy_meaning.specs.Calls.{target_of};
-ghost use Rattle.gypsy_meaning.specs.Machine as machine;
-ghost use Rattle.gypsy_meaning.specs.Machine.{settle};
 ghost use Rattle.gypsy_meaning.specs.Work.{work_of};
 ghost use Rattle.gypsy_meaning.specs.Turns.{RaisesOn};
 ghost use Rattle.gypsy_meaning.specs.Applied.{IsApplied};

@@ -108,7 +108,7 @@ impl Meaning {
     }
 
     /// Makes the step of a call; `false` where the call has no room, and nothing is changed then.
-    pub fn enter_call(
+    pub(crate) fn enter_call(
         &mut self,
         alloc: Global,
         needs: &Needs,

@@ -1,12 +1,10 @@
 //! What predefined calls do.
 
-ghost use Rattle.std.specs.Prelude.{◌≡◌, ℕ, ◌<◌, ◌∷◌, [], IfOk, IsTrue, MatchOption, length, map, pos, slice_set};
+ghost use Rattle.std.specs.Prelude.{◌≡◌, ◌<◌, ◌∷◌, [], IfOk, IsTrue, MatchOption, length, map, slice_set};
 ghost use Rattle.stack_text.specs.Values.{is_item};
 ghost use Rattle.gypsy_syntax.specs.Programs.{simple};
 ghost use Rattle.gypsy_syntax.specs.Effects as effect;
-ghost use Rattle.gypsy_syntax.specs.Effects.{item_of_value, is_true_value, value_at, number_effect, truth_value, indexed, stored, predef_effect, no_value};
-ghost use Rattle.gypsy_space.specs.Nodes.{seen_arg};
-ghost use Rattle.gypsy_meaning.specs.Calls.{values_of};
+ghost use Rattle.gypsy_syntax.specs.Effects.{item_of_value, is_true_value, value_at, number_effect, truth_value, indexed, stored, no_value};
 ghost use Rattle.gypsy_meaning.specs.Applying.{Suits, effect_of, argument_at, applied_effect};
 
 use crate::turn::item_of;

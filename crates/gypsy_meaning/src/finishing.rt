@@ -4,9 +4,9 @@ ghost use Rattle.std.specs.Prelude.{◌≡◌, [], length};
 ghost use Rattle.gypsy_syntax.specs.Programs.{proc_at};
 ghost use Rattle.gypsy_space.specs.Events.{AreSmall};
 ghost use Rattle.gypsy_space.specs.Nodes.{seen_cond, seen_program};
-ghost use Rattle.gypsy_meaning.specs.Calls.{is_formal, main_way};
+ghost use Rattle.gypsy_meaning.specs.Calls.{main_way};
 ghost use Rattle.gypsy_meaning.specs.Finishing.{IsFinished, end_price};
-ghost use Rattle.gypsy_meaning.specs.Held.{Finishes};
+ghost use Rattle.gypsy_meaning.specs.Held.{EndsRun};
 ghost use Rattle.gypsy_meaning.specs.Returning.{Leaves};
 ghost use Rattle.gypsy_meaning.specs.Work.{work_of};
 
@@ -62,21 +62,21 @@ impl Meaning {
     }
 
     /// Makes the step in which main ends normally.
-    pub fn end_main(&mut self, needs: &Needs)
+    pub(crate) fn end_main(&mut self, needs: &Needs)
         requires small { AreSmall needs.now.procedures.items }
         requires turn { work_of self.old.work.value ≡ [] }
         requires alone { self.old.waiting.items ≡ [] }
-        ensures { Finishes self.old self.new }
+        ensures { EndsRun self.old self.new }
     {
         self.finish(Ending::Normal, needs.cost(CostEvent::EndMain));
     }
 
     /// Makes the step in which a condition leaves main.
-    pub fn leave_main(&mut self, needs: &Needs, cond: Condition)
+    pub(crate) fn leave_main(&mut self, needs: &Needs, cond: Condition)
         requires small { AreSmall needs.now.procedures.items }
         requires turn { Leaves (seen_cond cond) (work_of self.old.work.value) }
         requires alone { self.old.waiting.items ≡ [] }
-        ensures { Finishes self.old self.new }
+        ensures { EndsRun self.old self.new }
     {
         let formal = is_formal(&self.program, self.program.main, cond);
         let cond = main_condition(&self.program, cond);

@@ -7,7 +7,7 @@ ghost use Rattle.gypsy_syntax.specs.Programs.{proc_at, words_of};
 ghost use Rattle.gypsy_space.specs.Events.{AreNeeds, AreSmall};
 ghost use Rattle.gypsy_space.specs.Needs.{main_need, stack_words};
 ghost use Rattle.gypsy_space.specs.Nodes.{seen_program};
-ghost use Rattle.gypsy_meaning.specs.Fitting.{are_as_many, are_values, can_start, is_value_of, same_kind, same_shape, suffice};
+ghost use Rattle.gypsy_meaning.specs.Fitting.{are_as_many, are_values, can_start, is_value_of, same_shape, suffice};
 
 use gypsy_space::{Needs, Program};
 use stack_text::{Kind, Name, Shape, Value};
@@ -30,18 +30,6 @@ fn are_in_range(kind: Kind, items: &[i32]) -> bool
     items.iter().all(|item| is_in_range(kind, *item))
 }
 
-/// Whether two kinds are the same.
-fn same_kind(left: Kind, right: Kind) -> bool
-    ensures { result ≡ same_kind left right }
-{
-    matches!(
-        (left, right),
-        (Kind::Integer, Kind::Integer)
-            | (Kind::Boolean, Kind::Boolean)
-            | (Kind::Character, Kind::Character)
-    )
-}
-
 /// Whether the items are as many as a shape of at most 4,096 has.
 fn are_as_many(shape: Shape, items: &[i32]) -> bool
     ensures { result ≡ are_as_many shape items.now }
@@ -53,7 +41,7 @@ fn are_as_many(shape: Shape, items: &[i32]) -> bool
 fn same_shape(left: Shape, right: Shape) -> bool
     ensures { result ≡ same_shape left right }
 {
-    same_kind(left.kind, right.kind) && left.length == right.length
+    left.kind == right.kind && left.length == right.length
 }
 
 /// Whether a value is one of the shape.

@@ -14,7 +14,7 @@ ghost use Rattle.gypsy_meaning.specs.Fitting.{CanStart};
 ghost use Rattle.gypsy_meaning.specs.Kept.{VarsFit};
 ghost use Rattle.gypsy_meaning.specs.Meaning.{Done, meaning};
 ghost use Rattle.gypsy_meaning.specs.Running.{seen};
-ghost use Rattle.gypsy_meaning.specs.Seen.{Finished, after, answer_of, left_of, opening, run_of};
+ghost use Rattle.gypsy_meaning.specs.Seen.{IsEnd, after, answer_of, left_of, opening, run_of};
 
 use crate::answers::{MeanRun, Moved};
 use crate::calling::Start;
@@ -132,7 +132,7 @@ impl Meaning {
     }
 
     /// At most `limit` steps, until the end is reached or a call has no room. What it answers agrees with the meaning
-    /// of the source.
+    /// of the source; where the meaning is done, a run whose limit is large enough ends with the same.
     ///
     /// # Errors
     ///
@@ -150,8 +150,7 @@ impl Meaning {
         ensures agrees { IfOk result (RunAgrees (seen self.new)) }
         ensures completes { let v = seen self.old in
             (n : ℕ) (x : List ValueOf) (c : Way) → meaning v.program v.sizes v.values n ≡ Done x c →
-            (j : ℕ) × (j ≤ limit →
-            IfOk result (λ run. (run ≡ MeanRun.Ended) × ((seen self.new).stage ≡ Finished x c))) }
+            (j : ℕ) × ((most : ℕ) → j ≤ most → IsEnd (run_of most v) x c) }
         ensures belongs { BelongsTo (source_of accepted.now) needs.now.procedures.items self.new }
     {
         let run = self.make_steps(alloc, accepted, needs, limit)?;

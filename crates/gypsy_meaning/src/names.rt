@@ -1,7 +1,6 @@
 //! The names that are shown.
 
 ghost use Rattle.std.specs.Prelude.{◌≡◌, ◌++◌, IfOk, OnOk, map};
-ghost use Rattle.gypsy_syntax.specs.Resolved.{condition_names, variable_names};
 ghost use Rattle.gypsy_syntax.specs.SourceView.{local_of, proc_of, source_of};
 ghost use Rattle.gypsy_meaning.specs.Named.{proc_names, seen_names, shown_names, unnamed};
 

@@ -1,6 +1,6 @@
 //! What a step does at the end of a procedure for which another waits.
 
-ghost use Rattle.std.specs.Prelude.{◌≡◌, ℕ, [], get_or, map, IfErr, IfOk, IfSome, IfNone, MatchBool};
+ghost use Rattle.std.specs.Prelude.{◌≡◌, [], get_or, map, IfErr, IfOk, IfSome, IfNone, MatchBool};
 ghost use Rattle.gypsy_space.specs.Events.{AreSmall};
 ghost use Rattle.gypsy_syntax.specs.Programs.{Routine};
 ghost use Rattle.gypsy_space.specs.Nodes.{seen_cond, seen_program};
@@ -146,7 +146,7 @@ impl Meaning {
     }
 
     /// Makes the step at the normal end of a procedure for which another waits; `false` where none waits.
-    pub fn end_call(&mut self, alloc: Global, needs: &Needs) -> Result<bool, AllocError>
+    pub(crate) fn end_call(&mut self, alloc: Global, needs: &Needs) -> Result<bool, AllocError>
         requires small { AreSmall needs.now.procedures.items }
         requires turn { work_of self.old.work.value ≡ [] }
         ensures done { IfOk result (λ b. MatchBool b
@@ -165,7 +165,7 @@ impl Meaning {
     }
 
     /// Makes the step of a condition that leaves a procedure for which another waits; `false` where none waits.
-    pub fn leave_call(
+    pub(crate) fn leave_call(
         &mut self,
         alloc: Global,
         needs: &Needs,

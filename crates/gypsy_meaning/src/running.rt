@@ -96,7 +96,7 @@ fn price(needs: &Needs, event: CostEvent, caught: bool) -> u64
 
 impl Meaning {
     /// Makes a step that changes the work alone.
-    pub fn advance(&mut self, needs: &Needs, advance: Advance)
+    pub(crate) fn advance(&mut self, needs: &Needs, advance: Advance)
         requires { AreSmall needs.now.procedures.items }
         ensures { self.new ≡ advanced needs.now.procedures.items advance self.old }
     {
@@ -105,7 +105,7 @@ impl Meaning {
     }
 
     /// Makes a step that changes the work alone, by the definition.
-    pub fn go(&mut self, needs: &Needs, advance: Advance)
+    pub(crate) fn go(&mut self, needs: &Needs, advance: Advance)
         requires small { AreSmall needs.now.procedures.items }
         requires turn { GoesOn (map (λ v. v.1) self.old.variables.items) (work_of self.old.work.value) advance }
         ensures { Moves self.old self.new }
@@ -114,7 +114,7 @@ impl Meaning {
     }
 
     /// Makes a step that writes a variable.
-    pub fn write(&mut self, needs: &Needs, variable: u32, value: Value, advance: Advance)
+    pub(crate) fn write(&mut self, needs: &Needs, variable: u32, value: Value, advance: Advance)
         requires small { AreSmall needs.now.procedures.items }
         requires turn { WritesOn (map (λ v. v.1) self.old.variables.items) (work_of self.old.work.value)
             variable value advance }
@@ -148,7 +148,7 @@ impl Meaning {
     }
 
     /// Makes a step within the active procedure, or tells what leaves it.
-    pub fn step_within(
+    pub(crate) fn step_within(
         &mut self,
         alloc: Global,
         needs: &Needs,

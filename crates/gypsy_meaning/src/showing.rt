@@ -1,6 +1,6 @@
 //! What a run shows.
 
-ghost use Rattle.std.specs.Prelude.{◌≡◌, ℕ, ◌+◌, ◌^◌, ◌<◌, List, map, slice_get, option_map};
+ghost use Rattle.std.specs.Prelude.{◌≡◌, ◌+◌, ◌^◌, ◌<◌, List, map, slice_get, option_map};
 ghost use Rattle.stack_text.specs.Values.{ValueOf};
 ghost use Rattle.gypsy_syntax.specs.Programs.{proc_at};
 ghost use Rattle.gypsy_syntax.specs.Sources.{SourceOf};

@@ -67,7 +67,7 @@ impl Meaning {
     }
 
     /// Makes a step of a run that isn't over.
-    pub fn move_on(&mut self, alloc: Global, needs: &Needs) -> Result<Moved, AllocError>
+    pub(crate) fn move_on(&mut self, alloc: Global, needs: &Needs) -> Result<Moved, AllocError>
         requires { IsReady needs.now.procedures.items self.old }
         ensures done { IfOk result (Does self.old self.new) }
         ensures unchanged { IfErr result (λ e. IsUnchanged self.old self.new) }

@@ -1,7 +1,7 @@
 use Rattle.gypsy_syntax.specs.SourceView.{source_of}
 use Rattle.gypsy_meaning.specs.Running.{seen}
 use Rattle.gypsy_meaning.proofs.ReachLaws.{completes}
-use Rattle.gypsy_meaning.proofs.RunLaws.{answer_agrees, answer_ends}
+use Rattle.gypsy_meaning.proofs.RunLaws.{answer_agrees}
 use Rattle.gypsy_meaning.proofs.StepLaws.{seen_reached}
 use Rattle.gypsy_meaning.proofs.running.Meaning.run.Goals as goal
 
@@ -13,5 +13,9 @@ returns-clause-agrees c =
 pub returns-clause-completes : goal.returns-clause-completes
 returns-clause-completes c = λ n x d done.
     let reached = seen_reached (source_of c.args.accepted.now) c.args.needs.now.procedures.items c.args.self.now c.requires in
-    let ends = completes x d (seen c.args.self.now) n reached done in
-    (ends.0, λ le. answer_ends c.args.limit (seen c.args.self.now) (seen c.make_steps.new.self) c.in_ok-run.run' x d c.in_ok-run.ensures.ran (ends.1 c.args.limit le))
+    completes x d (seen c.args.self.now) n reached done
+
+pub returns-in_err-run-clause-completes : goal.returns-in_err-run-clause-completes
+returns-in_err-run-clause-completes c = λ n x d done.
+    let reached = seen_reached (source_of c.args.accepted.now) c.args.needs.now.procedures.items c.args.self.now c.requires in
+    completes x d (seen c.args.self.now) n reached done
