@@ -7,6 +7,8 @@ use Rattle.piton_check.specs.Answers.{CheckedOf, IsChecked}
 use Rattle.piton_check.specs.Instruction.{SystemView, system_view}
 use Rattle.piton_check.specs.Resolved.{resolved}
 use Rattle.piton_syntax.specs.Systems.{SystemOf}
+use Rattle.piton_machine.specs.State as state
+use Rattle.piton_machine.specs.Placed.{program_size}
 use Rattle.piton_machine.specs.Fits.{system_in}
 use Rattle.piton_machine.specs.Seen.{started}
 use Rattle.gypsy_syntax.specs.Programs.{Program, Proc, proc_at, words_of}
@@ -23,8 +25,9 @@ use Rattle.gypsy_meaning.specs.Calls.{main_start}
 use Rattle.gypsy_codegen.specs.declared.fault.GenFault.{GenFault}
 use Rattle.gypsy_codegen.specs.declared.fault.GenFault.TheVariants.{Control, Temporary, Size, Words as TooManyWords}
 use Rattle.gypsy_codegen.specs.Acceptable.{code_words_of, total_words, LimitsFit, GeneratedIsAcceptable, SourceRuns}
-use Rattle.gypsy_codegen.specs.Answers.{are_sizes, size_fault, unless_fault, generation, Implements}
-use Rattle.gypsy_codegen.specs.Generated.{count_from}
+use Rattle.gypsy_codegen.specs.Answers.{are_sizes, size_fault, unless_fault, generation, SystemImplements, TakesCodeWords}
+use Rattle.gypsy_codegen.specs.Generated.{count_from, generated_view}
+use Rattle.gypsy_codegen.specs.Sizes.{ProceduresTakeWords}
 use Rattle.gypsy_codegen.specs.Text.{generated}
 use Rattle.gypsy_codegen.specs.Views.{AreModest, words_together}
 use Rattle.gypsy_codegen.specs.Whole.{RunsTo}
@@ -145,7 +148,7 @@ generation_is s sizes base c system none made kept =
     ap (λ (o : Option GenFault). unless_fault o (generated s sizes base)) none ∙ ap (λ (g : SystemOf). unless_fault None g) (sym (kept ∙ made))
 
 pub implements : GeneratedIsAcceptable → SourceRuns → (s : SourceOf) (sizes : Words) (base : ℕ) (c : CheckedOf) → IsAccepted s →
-    LimitsFit (program_of s) sizes base → IsChecked c → c.system ≡ generated s sizes base → Implements s sizes base c
+    LimitsFit (program_of s) sizes base → IsChecked c → c.system ≡ generated s sizes base → SystemImplements s sizes base c
 implements acceptable runs s sizes base c accepted limits known kept =
     let seen : system_in c ≡ system_view (resolved (generated s sizes base)) =
     ap system_view (known.names ∙ ap resolved kept) in
@@ -157,3 +160,9 @@ implements acceptable runs s sizes base c accepted limits known kept =
           (run.0, run.1, subst (λ (z : SystemView). RunsTo z (started z (words_of_values (main_start q v))) x w run.0) (sym seen) run.2);
       limits = limits;
     }
+
+pub takes_code_words : ProceduresTakeWords → (s : SourceOf) (sizes : Words) (base : ℕ) (c : CheckedOf) → IsAccepted s →
+    system_in c ≡ generated_view (program_of s) sizes base → TakesCodeWords s c
+takes_code_words law s sizes base c accepted view p lt =
+    let q = program_of s in
+    subst (λ (z : SystemView). program_size (state.program_of z p) ≡ code_words q p) (sym view) (law q sizes base p accepted.fits lt)

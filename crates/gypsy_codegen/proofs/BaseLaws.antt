@@ -4,9 +4,6 @@ use Rattle.std.specs.Prelude.{IsTrue}
 use Rattle.stack_text.specs.Names.{is_name}
 use Rattle.piton_syntax.specs.Systems.{ProgramOf, SystemOf}
 use Rattle.piton_check.specs.Declarations.{program_names, area_names, local_names, first_of}
-use Rattle.gypsy_syntax.specs.declared.predef.Predef.{Predef}
-use Rattle.gypsy_syntax.specs.declared.predef.Predef.TheVariants as row
-use Rattle.gypsy_syntax.specs.Predefined.{predef_name}
 use Rattle.gypsy_syntax.specs.ProgramFits.{Each}
 use Rattle.gypsy_predef.specs.Texts.{named}
 use Rattle.gypsy_codegen.specs.Written.{Names}
@@ -35,18 +32,3 @@ world_of s t n programs base e d h = record {
 pub declared_both : (a b : List (List ℕ)) → declarations (a ++ b) ≡ declarations a ++ declarations b
 declared_both [] b = refl
 declared_both (x ∷ a) b = ap (λ z. Some (named x) ∷ z) (declared_both a b)
-
-pub predef_named : (r : Predef) → IsTrue (is_name (predef_name r))
-predef_named row.MgSimpleVariableAssignment = refl
-predef_named row.MgSimpleConstantAssignment = refl
-predef_named row.MgSimpleVariableEq = refl
-predef_named row.MgSimpleConstantEq = refl
-predef_named row.MgIntegerLe = refl
-predef_named row.MgIntegerUnaryMinus = refl
-predef_named row.MgIntegerAdd = refl
-predef_named row.MgIntegerSubtract = refl
-predef_named row.MgBooleanOr = refl
-predef_named row.MgBooleanAnd = refl
-predef_named row.MgBooleanNot = refl
-predef_named row.MgIndexArray = refl
-predef_named row.MgArrayElementAssignment = refl

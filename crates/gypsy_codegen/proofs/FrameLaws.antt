@@ -10,7 +10,7 @@ use Rattle.gypsy_syntax.specs.Resolved.{variable_names, shape_of, local_value, p
 use Rattle.gypsy_codegen.specs.Generated.{offset}
 use Rattle.gypsy_codegen.specs.Text.{frame_texts}
 
-front_at : (a b : List (List ℕ)) (k : ℕ) → k < length a → get_or (a ++ b) k [] ≡ get_or a k []
+pub front_at : (a b : List (List ℕ)) (k : ℕ) → k < length a → get_or (a ++ b) k [] ≡ get_or a k []
 front_at [] b k lt = absurd (omega (arith, lt))
 front_at (x ∷ a) b zero lt = refl
 front_at (x ∷ a) b (suc k) lt = front_at a b k (omega (arith, lt))

@@ -42,10 +42,6 @@ pub ranged_plain : (lo hi : ℕ) (is : List Instruction) (b : List Line) → Ran
 ranged_plain lo hi [] b r = r
 ranged_plain lo hi (c ∷ is) b r = ranged_plain lo hi is b r
 
-misses_plain : (n : ℕ) (is : List Instruction) (b : List Line) → Misses n b → Misses n (unmarked is ++ b)
-misses_plain n [] b r = r
-misses_plain n (c ∷ is) b r = misses_plain n is b r
-
 pub distinct_plain : (is : List Instruction) (b : List Line) → Distinct b → Distinct (unmarked is ++ b)
 distinct_plain [] b r = r
 distinct_plain (c ∷ is) b r = distinct_plain is b r

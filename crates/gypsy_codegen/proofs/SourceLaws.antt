@@ -47,10 +47,6 @@ differ_of [] e = tt
 differ_of (n ∷ names) e =
     let h = and_parts (list_all (λ m. not (bytes_eq m n)) names) (differ_all names) e in (unlike_of n names h.0, differ_of names h.1)
 
-pub named_of : (names : List (List ℕ)) → list_all is_name names ≡ true → Each (λ name. IsTrue (is_name name)) names
-named_of [] e = tt
-named_of (n ∷ names) e = let h = and_parts (is_name n) (list_all is_name names) e in (h.0, named_of names h.1)
-
 pub named_at : (names : List (List ℕ)) (b : ℕ) → Each (λ name. IsTrue (is_name name)) names → b < length names → IsTrue (is_name (get_or names b []))
 named_at [] b h lt = absurd (omega (arith, lt))
 named_at (n ∷ names) zero h lt = h.0

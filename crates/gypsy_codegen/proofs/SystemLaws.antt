@@ -3,7 +3,7 @@ use Rattle.std.proofs.Common.{◌≡◌, ℕ, zero, suc, ◌+◌, ◌<◌, ◌�
 use Rattle.std.proofs.Common.{Bool, true, cond, ltb, not, Some, unwrap_or, refl, sym, ap, subst, ◌∙◌, arith, length-append, flat_map}
 use Rattle.std.specs.Prelude.{pos, IsTrue}
 use Rattle.std.specs.List.{list_all}
-use Rattle.std.proofs.lemmas.List.{length-map}
+use Rattle.std.proofs.lemmas.List.{length-map, length-replicate}
 use Rattle.std.proofs.lemmas.Bool.{le-leb, eq-eqb}
 use Rattle.stack_text.specs.declared.shape.Kind.{Kind}
 use Rattle.stack_text.specs.declared.shape.Kind.TheVariants.{Integer, Boolean, Character}
@@ -65,7 +65,9 @@ use Rattle.piton_check.specs.Sound.{IsSound}
 use Rattle.piton_check.proofs.SoundLaws.{is_sound}
 use Rattle.gypsy_codegen.proofs.NodeLaws.{system_nodes}
 use Rattle.gypsy_codegen.proofs.SourceLaws.{Kept, kept, named_at}
-use Rattle.gypsy_codegen.proofs.BaseLaws.{Base, declared_both, predef_named}
+use Rattle.gypsy_predef.proofs.FormLaws.{predef_named}
+use Rattle.gypsy_codegen.proofs.BaseLaws.{Base, declared_both}
+use Rattle.gypsy_codegen.proofs.FrameLaws.{front_at}
 use Rattle.gypsy_codegen.proofs.ProcedureLaws.{procedure_clean, procedure_total}
 
 -- ---- lists
@@ -79,11 +81,6 @@ get_some : {X : Type 0} (xs : List X) (k : ℕ) → k < length xs → (x : X) ×
 get_some [] k lt = absurd (omega (arith, lt))
 get_some (x ∷ xs) zero lt = (x, refl)
 get_some (x ∷ xs) (suc k) lt = get_some xs k (omega (arith, lt))
-
-front_get : (a b : List (List ℕ)) (k : ℕ) → k < length a → get_or (a ++ b) k [] ≡ get_or a k []
-front_get [] b k lt = absurd (omega (arith, lt))
-front_get (x ∷ a) b zero lt = refl
-front_get (x ∷ a) b (suc k) lt = front_get a b k (omega (arith, lt))
 
 -- ---- words
 
@@ -104,18 +101,14 @@ zero_in_range Integer = refl
 zero_in_range Boolean = refl
 zero_in_range Character = refl
 
-zeros_in_range : (k : Kind) (n : ℕ) → list_all (is_in_range k) (replicate n (pos 0)) ≡ true
+pub zeros_in_range : (k : Kind) (n : ℕ) → list_all (is_in_range k) (replicate n (pos 0)) ≡ true
 zeros_in_range k zero = refl
 zeros_in_range k (suc n) = rw (zero_in_range k) (zeros_in_range k n)
-
-zeros_count : (n : ℕ) → length (replicate n (pos 0)) ≡ n
-zeros_count zero = refl
-zeros_count (suc n) = ap suc (zeros_count n)
 
 opening_fit : (shapes : List Shape) (x : List ValueOf) → Each (λ s. s.length ≤ 4096) shapes → Each ValueFits x → Each ValueFits (map zero_value shapes ++ x)
 opening_fit [] x h k = k
 opening_fit (s ∷ shapes) x h k =
-    (record { few = h.0; number = zeros_count (item_count s); items = zeros_in_range s.kind (item_count s) }, opening_fit shapes x h.1 k)
+    (record { few = h.0; number = length-replicate (item_count s) (pos 0); items = zeros_in_range s.kind (item_count s) }, opening_fit shapes x h.1 k)
 
 opening_shapes : (shapes : List Shape) (x : List ValueOf) → map (λ v. v.shape) (map zero_value shapes ++ x) ≡ shapes ++ map (λ v. v.shape) x
 opening_shapes [] x = refl
@@ -282,7 +275,7 @@ module _ (texts : TextsResolve) (src : SourceOf) (sizes : Words) (base : ℕ) (a
   main_place : first_of (program_names g) src.main.name ≡ Some q.main
   main_place =
       let name : get_or (program_texts src) q.main [] ≡ src.main.name =
-      front_get (procedure_names src) (map predef_name predefs) q.main main_below ∙ found_name src.main.name (procedure_names src) k.main in
+      front_at (procedure_names src) (map predef_name predefs) q.main main_below ∙ found_name src.main.name (procedure_names src) k.main in
       ap (λ ds. first_of ds src.main.name) names_are ∙ ap (first_of (declarations (program_texts src))) (sym name)
       ∙ found_at (program_texts src) q.main k.names (omega (arith, main_below, length-append (procedure_names src) (map predef_name predefs)))
 

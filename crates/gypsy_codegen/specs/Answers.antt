@@ -1,16 +1,19 @@
 -- What generating returns, and what is known of a generated system.
-use Rattle.std.specs.Prelude.{◌≡◌, ℕ, ◌^◌, List, Bool, not, ◌&&◌, nat_le, nat_lt, if◌then◌else◌, Option, Some, None, Result, Ok, Err}
+use Rattle.std.specs.Prelude.{◌≡◌, ℕ, ◌<◌, ◌^◌, List, length, Bool, not, ◌&&◌, nat_le, nat_lt, if◌then◌else◌}
+use Rattle.std.specs.Prelude.{Option, Some, None, Result, Ok, Err}
 use Rattle.stack_text.specs.Gives as common
 use Rattle.stack_text.specs.Values.{ValueOf}
 use Rattle.piton_syntax.specs.Systems.{SystemOf}
 use Rattle.piton_check.specs.Answers.{CheckedOf}
+use Rattle.piton_machine.specs.State as state
+use Rattle.piton_machine.specs.Placed.{program_size}
 use Rattle.piton_machine.specs.Fits.{system_in}
 use Rattle.piton_machine.specs.Seen.{started}
 use Rattle.gypsy_syntax.specs.Sources.{SourceOf}
 use Rattle.gypsy_syntax.specs.Programs.{Program, proc_at}
 use Rattle.gypsy_syntax.specs.Resolved.{program_of}
 use Rattle.gypsy_space.specs.Costs.{Tally}
-use Rattle.gypsy_space.specs.Needs.{Words, main_need}
+use Rattle.gypsy_space.specs.Needs.{Words, code_words, main_need}
 use Rattle.gypsy_meaning.specs.Calls.{Way, main_start}
 use Rattle.gypsy_meaning.specs.Meaning.{Done, meaning}
 use Rattle.gypsy_meaning.specs.Counted.{CountedDone, counted_meaning}
@@ -62,8 +65,14 @@ RunsAs s sizes checked =
     (t : Tally) × (counted_meaning q sizes v n ≡ CountedDone x c t) ×
     RunsTo (system_in checked) (started (system_in checked) (words_of_values (main_start q v))) x c t
 
+-- the program of each procedure takes as many words on the processor as are counted for it
+abbrev pub TakesCodeWords : SourceOf → CheckedOf → Type 0
+TakesCodeWords s checked =
+    let q = program_of s in
+    (p : ℕ) → p < length q.procs → program_size (state.program_of (system_in checked) p) ≡ code_words q p
+
 -- the checked system is the source's by places, it runs as the source means, and all sizes are within their limits
-pub record Implements (s : SourceOf) (sizes : Words) (base : ℕ) (checked : CheckedOf) : Type 0 where
+pub record SystemImplements (s : SourceOf) (sizes : Words) (base : ℕ) (checked : CheckedOf) : Type 0 where
   pub view : system_in checked ≡ generated_view (program_of s) sizes base
   pub runs : RunsAs s sizes checked
   pub limits : LimitsFit (program_of s) sizes base

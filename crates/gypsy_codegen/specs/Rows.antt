@@ -42,20 +42,20 @@ pub record IsShown (s : Top) (g : State) : Type 0 where
 abbrev pub at_work : Top → List Item → State
 at_work s w = At s.proc s.vars w s.waiting s.spent
 
--- from this work the system comes to a state that shows this one
-abbrev pub ComesTo : Top → List Item → State → Type 0
-ComesTo s w g = IsShown s (at_work s w) → Leads s.source (generated_view s.source s.sizes s.base) s.piton s.spent g
+-- from this work the system reaches a state that shows this one
+abbrev pub Reaches : Top → List Item → State → Type 0
+Reaches s w g = IsShown s (at_work s w) → Leads s.source (generated_view s.source s.sizes s.base) s.piton s.spent g
 
 -- the same activation goes on, with this much spent
 abbrev pub GoesOn : Top → List Item → List Item → ℕ → ℕ → Type 0
-GoesOn s w v cost steps = ComesTo s w (At s.proc s.vars v s.waiting (spend cost steps s.spent))
+GoesOn s w v cost steps = Reaches s w (At s.proc s.vars v s.waiting (spend cost steps s.spent))
 
 abbrev pub NoOpRow : Type 0
 NoOpRow = (s : Top) (place : ℕ) → GoesOn s (Do (NoOp place) ∷ s.work) (settle s.work) 1 1
 
 abbrev pub SignalRow : Type 0
 SignalRow = (s : Top) (place : ℕ) (c : Cond) →
-    ComesTo s (Do (Signal place c) ∷ s.work) (raise c s.proc s.vars s.work s.waiting (spend 4 3 s.spent))
+    Reaches s (Do (Signal place c) ∷ s.work) (raise c s.proc s.vars s.work s.waiting (spend 4 3 s.spent))
 
 abbrev pub LoopRow : Type 0
 LoopRow = (s : Top) (place : ℕ) (b : Stmt) → GoesOn s (Do (Loop place b) ∷ s.work) (open_on b (Back place b ∷ s.work)) 1 1
@@ -83,33 +83,33 @@ GuardRow = (s : Top) (place : ℕ) (cs : List Cond) (b : Stmt) → GoesOn s (Gua
 -- a call that has room
 abbrev pub CallRow : Type 0
 CallRow = (s : Top) (place c : ℕ) (xs : List ℕ) (cs : List Cond) → has_room s.source s.sizes c (used s.source s.proc s.waiting) ≡ true →
-    ComesTo s (Do (Call place c xs cs) ∷ s.work)
+    Reaches s (Do (Call place c xs cs) ∷ s.work)
     (At c (copied_in s.source c xs s.vars) (open_on (body_of s.source c) []) (Held s.proc s.vars s.work xs cs ∷ s.waiting)
     (call_spend s.source c s.spent))
 
 -- a predefined call that writes a variable, and one that raises routineerror
 abbrev pub WriteRow : Type 0
 WriteRow = (s : Top) (place : ℕ) (r : Predef) (args : List Arg) (v : ValueOf) → predef_effect r (values_of s.vars args) ≡ Normal v →
-    ComesTo s (Do (Apply place r args) ∷ s.work)
+    Reaches s (Do (Apply place r args) ∷ s.work)
     (At s.proc (slice_set s.vars (target_of args) v) (settle s.work) s.waiting (predef_spend r (Normal v) s.spent))
 
 abbrev pub FaultRow : Type 0
 FaultRow = (s : Top) (place : ℕ) (r : Predef) (args : List Arg) → predef_effect r (values_of s.vars args) ≡ Fault →
-    ComesTo s (Do (Apply place r args) ∷ s.work) (raise Routine s.proc s.vars s.work s.waiting (predef_spend r Fault s.spent))
+    Reaches s (Do (Apply place r args) ∷ s.work) (raise Routine s.proc s.vars s.work s.waiting (predef_spend r Fault s.spent))
 
 abbrev pub BeyondRow : Type 0
 BeyondRow = (s : Top) (place : ℕ) (r : Predef) (args : List Arg) → predef_effect r (values_of s.vars args) ≡ Beyond →
-    ComesTo s (Do (Apply place r args) ∷ s.work) (raise Routine s.proc s.vars s.work s.waiting (predef_spend r Beyond s.spent))
+    Reaches s (Do (Apply place r args) ∷ s.work) (raise Routine s.proc s.vars s.work s.waiting (predef_spend r Beyond s.spent))
 
 -- the end of a procedure for which another waits, in the normal condition and with a condition
 abbrev pub ReturnRow : Type 0
 ReturnRow = (s : Top) (c : ℕ) (x : List ValueOf) (w : List Item) (xs : List ℕ) (cs : List Cond) (fs : List Frame) →
-    s.waiting ≡ Held c x w xs cs ∷ fs → ComesTo s [] (At c (copied_out xs s.vars x) (settle w) fs (spend 12 6 s.spent))
+    s.waiting ≡ Held c x w xs cs ∷ fs → Reaches s [] (At c (copied_out xs s.vars x) (settle w) fs (spend 12 6 s.spent))
 
 abbrev pub OutRow : Type 0
 OutRow = (s : Top) (d : Cond) (c : ℕ) (x : List ValueOf) (w : List Item) (xs : List ℕ) (cs : List Cond) (fs : List Frame) →
     s.waiting ≡ Held c x w xs cs ∷ fs →
-    ComesTo s (Out d ∷ [])
+    Reaches s (Out d ∷ [])
     (raise (matching s.source s.proc cs d) c (copied_out xs s.vars x) w fs (out_spend (is_formal s.source s.proc d) s.spent))
 
 -- the end of main: the system has halted, at the last of the steps

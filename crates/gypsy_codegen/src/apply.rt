@@ -1,6 +1,6 @@
 //! The code of predefined calls.
 
-ghost use Rattle.std.specs.Prelude.{◌≡◌, ◌+◌, ◌++◌, ◌∷◌, [], ◌<◌, length, map, get_or, OnOk};
+ghost use Rattle.std.specs.Prelude.{◌≡◌, ◌++◌, ◌∷◌, [], map, get_or, OnOk};
 ghost use Rattle.gypsy_syntax.specs.Programs.{Var, Apply};
 ghost use Rattle.gypsy_syntax.specs.ProgramFits.{Each};
 ghost use Rattle.gypsy_space.specs.Nodes.{seen_arg};
@@ -8,7 +8,7 @@ ghost use Rattle.gypsy_predef.specs.Bodies.{predef_number};
 ghost use Rattle.gypsy_predef.specs.Calls.{test_code};
 ghost use Rattle.gypsy_predef.specs.Runs.{can_fail};
 ghost use Rattle.gypsy_codegen.specs.Generated.{arg_length, length_code, push_args};
-ghost use Rattle.gypsy_codegen.specs.Lines.{apply_code, label_to};
+ghost use Rattle.gypsy_codegen.specs.Lines.{apply_code};
 ghost use Rattle.gypsy_codegen.specs.Views.{ArgHasWord, code_in, env, IsReady, program_in};
 
 use crate::calls::{call_program, push_local};

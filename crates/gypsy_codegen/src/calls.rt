@@ -8,7 +8,7 @@ ghost use Rattle.gypsy_syntax.specs.ProgramFits.{Each};
 ghost use Rattle.gypsy_space.specs.Nodes.{seen_cond, seen_proc};
 ghost use Rattle.gypsy_space.specs.Needs.{local_words};
 ghost use Rattle.gypsy_predef.specs.Texts.{instruction};
-ghost use Rattle.gypsy_codegen.specs.Generated.{offset, push_actuals, push_indices};
+ghost use Rattle.gypsy_codegen.specs.Generated.{offset, push_actuals};
 ghost use Rattle.gypsy_codegen.specs.Lines.{after_lines, before_code, label_to, marked_raises, raise_labels};
 ghost use Rattle.gypsy_codegen.specs.Views.{code_in, env, HasWord, index_text, IsReady, local_constants, names_of};
 ghost use Rattle.gypsy_codegen.specs.Views.{program_in, raise_text, word_constant};

@@ -90,6 +90,9 @@ pub(crate) fn shape_at(shapes: &[Shape], variable: u32) -> Shape
     }
 }
 
+/// The number of the normal condition, between that of routineerror and those of the conditions that are declared.
+pub(crate) const NORMAL: i128 = 2;
+
 /// The number of a condition in a procedure.
 pub(crate) fn number_of(cond: Condition) -> u64
     ensures { result ≡ number_of (seen_cond cond) }

@@ -10,11 +10,12 @@ ghost use Rattle.gypsy_syntax.specs.SourceView.{source_of};
 ghost use Rattle.gypsy_space.specs.Events.{AreNeeds, AreSmall};
 ghost use Rattle.gypsy_space.specs.Needs.{stack_words};
 ghost use Rattle.gypsy_space.specs.Nodes.{seen_program};
-ghost use Rattle.gypsy_codegen.specs.Answers.{Gives, Implements, are_sizes, generation, size_fault};
+ghost use Rattle.gypsy_codegen.specs.Answers.{Gives, SystemImplements, TakesCodeWords};
+ghost use Rattle.gypsy_codegen.specs.Answers.{are_sizes, generation, size_fault};
 ghost use Rattle.gypsy_codegen.specs.Views.{AreModest, words_together};
 
 use crate::fault::GenFault;
-use crate::law::{generated_is_acceptable, source_runs};
+use crate::law::{generated_is_acceptable, procedures_take_words, source_runs};
 use crate::system::system;
 use gypsy_check::Accepted;
 use gypsy_meaning::{control_need, temporary_need};
@@ -95,8 +96,8 @@ fn checked(alloc: Global, system: System) -> Result<Checked, Memory>
 /// The system of Piton of an accepted source, for stacks of these sizes, from this base on.
 ///
 /// The system runs as the source means: where the meaning is done, the system, with the values' words at the bottom of its
-/// first stack, first halts with the same, in the counted steps and at the counted cost. It takes time and memory in
-/// proportion to what is generated.
+/// first stack, first halts with the same, in the counted steps and at the counted cost. Each procedure takes as many words
+/// of code as are counted for it. The call takes time and memory in proportion to what is generated.
 ///
 /// # Errors
 ///
@@ -115,7 +116,8 @@ pub fn generate(
     requires base { base ≤ 2 ^ 31 }
     ensures value { let s = source_of accepted.now in
         Gives (λ checked. checked.system) result (generation s (stack_words temp ctrl) base) }
-    ensures runs { IfOk result (Implements (source_of accepted.now) (stack_words temp ctrl) base) }
+    ensures runs { IfOk result (SystemImplements (source_of accepted.now) (stack_words temp ctrl) base) }
+    ensures words { IfOk result (TakesCodeWords (source_of accepted.now)) }
 {
     let program = resolve(alloc, accepted)?;
     if let Some(fault) = size_fault(&program, needs, ctrl, temp) {
@@ -123,6 +125,7 @@ pub fn generate(
     }
     generated_is_acceptable();
     source_runs();
+    procedures_take_words();
     let system = system(alloc, accepted.source(), &program, ctrl, temp, base)?;
     let made = checked(alloc, system)?;
     Ok(made)

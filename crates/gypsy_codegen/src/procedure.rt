@@ -13,10 +13,10 @@ ghost use Rattle.gypsy_codegen.specs.Views.{program_in};
 ghost use Rattle.gypsy_codegen.specs.WordsOf.{starts};
 ghost use Rattle.gypsy_codegen.specs.Written.{written};
 
-use crate::context::{Context, Scopes, procedure_at};
+use crate::context::{Context, Scopes, number_of, procedure_at};
 use crate::lines::{area, constant, jump, name_in, named, plain, unplaced};
 use crate::statement::statement;
-use gypsy_space::{Procedure, Program};
+use gypsy_space::{Condition, Procedure, Program};
 use gypsy_syntax::{Decl, Local, Proc};
 use piton_syntax::{InstrText, PitonOp, WordItem, WordText};
 use stack_text::{Memory, Name, Named, Shape, Value};
@@ -162,7 +162,8 @@ fn tail(alloc: Global, instrs: &mut Vec<InstrText>) -> Result<(), Memory>
     ensures { OnOk result (instrs.new.items ≡ instrs.old.items ++ map (written nameless) tail_lines) }
 {
     jump(alloc, instrs, 1)?;
-    constant(alloc, instrs, Some(0), WordItem::Nat(unplaced(1)))?;
+    let number = unplaced(number_of(Condition::Routine) as i128);
+    constant(alloc, instrs, Some(0), WordItem::Nat(number))?;
     area(alloc, instrs, PitonOp::PopGlobal)?;
     plain(alloc, instrs, Some(1), PitonOp::Ret)
 }

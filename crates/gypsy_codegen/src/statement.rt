@@ -17,7 +17,7 @@ ghost use Rattle.gypsy_codegen.specs.Written.{label_arg};
 
 use crate::apply::apply;
 use crate::calls::{after_call, before_call, push_local, raise};
-use crate::context::{Context, Scopes};
+use crate::context::{Context, NORMAL, Scopes};
 use crate::lines::{area, constant, jump, plain, test, unplaced};
 use gypsy_space::{CallSite, Node};
 use piton_syntax::{InstrText, PitonOp, TestKind, WordItem};
@@ -29,7 +29,7 @@ use std::rc::Rc;
 fn normal(alloc: Global, instrs: &mut Vec<InstrText>, label: u32) -> Result<(), Memory>
     ensures { OnOk result (instrs.new.items ≡ instrs.old.items ++ normal_text label) }
 {
-    constant(alloc, instrs, Some(label), WordItem::Nat(unplaced(2)))?;
+    constant(alloc, instrs, Some(label), WordItem::Nat(unplaced(NORMAL)))?;
     area(alloc, instrs, PitonOp::PopGlobal)
 }
 

@@ -12,7 +12,7 @@ ghost use Rattle.gypsy_codegen.specs.Text.{generated, procedures_with, program_t
 ghost use Rattle.gypsy_codegen.specs.Views.{AreWritable, area_text, opening_text};
 ghost use Rattle.gypsy_codegen.specs.Written.{number};
 
-use crate::context::procedure_at;
+use crate::context::{NORMAL, procedure_at};
 use crate::lines::{condition_area, named, unplaced};
 use crate::procedure::procedure;
 use crate::words::{formal_words, local_words};
@@ -91,7 +91,7 @@ fn opening(alloc: Global, main: &Procedure) -> Result<Vec<WordText>, Memory>
 fn area(alloc: Global) -> Result<Area, Memory>
     ensures { IfOk result (λ area. area ≡ area_text) }
 {
-    let item = WordItem::Nat(unplaced(2));
+    let item = WordItem::Nat(unplaced(NORMAL));
     Ok(Area {
         place: 0,
         name: condition_area(alloc)?,

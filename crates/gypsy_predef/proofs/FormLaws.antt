@@ -27,20 +27,20 @@ use Rattle.gypsy_predef.specs.Texts.{line_text, temporary, temporaries_text, nam
 
 -- ---- names
 
-pub program_names : (r : Predef) → IsTrue (is_name (predef_name r))
-program_names row.MgSimpleVariableAssignment = refl
-program_names row.MgSimpleConstantAssignment = refl
-program_names row.MgSimpleVariableEq = refl
-program_names row.MgSimpleConstantEq = refl
-program_names row.MgIntegerLe = refl
-program_names row.MgIntegerUnaryMinus = refl
-program_names row.MgIntegerAdd = refl
-program_names row.MgIntegerSubtract = refl
-program_names row.MgBooleanOr = refl
-program_names row.MgBooleanAnd = refl
-program_names row.MgBooleanNot = refl
-program_names row.MgIndexArray = refl
-program_names row.MgArrayElementAssignment = refl
+pub predef_named : (r : Predef) → IsTrue (is_name (predef_name r))
+predef_named row.MgSimpleVariableAssignment = refl
+predef_named row.MgSimpleConstantAssignment = refl
+predef_named row.MgSimpleVariableEq = refl
+predef_named row.MgSimpleConstantEq = refl
+predef_named row.MgIntegerLe = refl
+predef_named row.MgIntegerUnaryMinus = refl
+predef_named row.MgIntegerAdd = refl
+predef_named row.MgIntegerSubtract = refl
+predef_named row.MgBooleanOr = refl
+predef_named row.MgBooleanAnd = refl
+predef_named row.MgBooleanNot = refl
+predef_named row.MgIndexArray = refl
+predef_named row.MgArrayElementAssignment = refl
 
 local_names : (x : Local) → IsTrue (is_name (local_name x))
 local_names local.A = refl
@@ -149,7 +149,7 @@ pub fit : BodiesFit
 fit r =
     let few = are_few r in
     record {
-      name = program_names r;
+      name = predef_named r;
       formals = formals_fit (formals_of r);
       temporaries = temporaries_fit (has_temporary r);
       instrs = lines_fit (lines_of r) (table_fits r);

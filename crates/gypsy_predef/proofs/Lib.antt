@@ -5,5 +5,5 @@ mod NumberLaws
 mod RowLaws
 mod CallLaws
 mod ArgumentLaws
-mod FormLaws
+pub mod FormLaws
 mod ResolvingLaws

@@ -1,18 +1,19 @@
 -- The texts of the bodies keep the form and the rules, and mean the programs.
-use Rattle.std.proofs.Common.{◌≡◌, ◌+◌, List, map, length, Some, refl, ap, ◌∙◌}
+use Rattle.std.proofs.Common.{◌≡◌, ◌+◌, ◌++◌, List, map, length, Some, refl, ap, ◌∙◌}
 use Rattle.std.specs.Prelude.{slice_get}
 use Rattle.std.specs.Option.{option_map}
 use Rattle.std.proofs.lemmas.Option.{slice_get-map}
 use Rattle.piton_syntax.specs.Systems.{ProgramOf}
 use Rattle.piton_syntax.specs.Operations as operations
-use Rattle.piton_check.specs.Resolved.{resolved_program}
-use Rattle.piton_check.specs.Instruction.{program_view}
+use Rattle.piton_check.specs.Resolved.{resolved, resolved_program}
+use Rattle.piton_check.specs.Instruction.{program_view, system_view}
 use Rattle.gypsy_syntax.specs.declared.predef.Predef.{Predef}
 use Rattle.gypsy_syntax.specs.declared.predef.Predef.TheVariants as row
 use Rattle.gypsy_predef.specs.Bodies.{predef_number}
 use Rattle.gypsy_predef.specs.Texts.{body_text, body_texts}
-use Rattle.gypsy_predef.specs.Resolving.{BodiesResolve, BodiesStandResolved, BodiesKeepRules}
+use Rattle.gypsy_predef.specs.Resolving.{BodiesResolve, BodiesStandResolved, BodiesKeepRules, DoTheirRows}
 use Rattle.gypsy_predef.proofs.CallLaws.{get_after}
+use Rattle.gypsy_predef.proofs.RowLaws.{runs}
 
 pub resolve : BodiesResolve
 unfolding operations.row_of
@@ -53,6 +54,11 @@ stand_resolved s programs r e h =
     slice_get-map program_view (map (resolved_program s) s.programs) (length programs + predef_number r)
     ∙ ap (option_map program_view) (slice_get-map (resolved_program s) s.programs (length programs + predef_number r) ∙ ap (option_map (resolved_program s)) there)
     ∙ ap Some (resolve s r h)
+
+pub do_rows : (texts : List ProgramOf) → texts ≡ body_texts → DoTheirRows texts
+do_rows texts same s programs r k args stack f fs p ends area at fits =
+    let last : s.programs ≡ programs ++ body_texts = ends ∙ ap (λ (ps : List ProgramOf). programs ++ ps) same in
+    runs (system_view (resolved s)) (length programs) r k args stack f fs p (stand_resolved s programs r last area) at fits
 
 pub keep_rules : BodiesKeepRules
 unfolding operations.row_of

@@ -1,13 +1,19 @@
--- What is known of the texts of the bodies: they keep the form and the rules, and mean the programs.
+-- What is known of the texts of the bodies: they keep the form and the rules, mean the programs, and do their rows.
 use Rattle.std.specs.Prelude.{◌≡◌, ◌+◌, List, [], ◌++◌, length, slice_get, Some}
+use Rattle.stack_text.specs.declared.shape.Kind.{Kind}
+use Rattle.piton_words.specs.declared.word.Word.{Word}
 use Rattle.piton_syntax.specs.Systems.{ProgramOf, SystemOf}
 use Rattle.piton_check.specs.Declarations.{area_names, first_of}
 use Rattle.piton_check.specs.Violations.{program_breaches}
 use Rattle.piton_syntax.specs.Fits.{FitsProgram}
 use Rattle.piton_check.specs.Resolved.{resolved, resolved_program}
 use Rattle.piton_check.specs.Instruction.{program_view, system_view}
+use Rattle.piton_machine.specs.State.{Frame, PitonState}
 use Rattle.gypsy_syntax.specs.declared.predef.Predef.{Predef}
+use Rattle.gypsy_syntax.specs.Predefined.{slots_of}
+use Rattle.gypsy_syntax.specs.Effects.{predef_effect}
 use Rattle.gypsy_predef.specs.Bodies.{body_of, predef_number}
+use Rattle.gypsy_predef.specs.Runs.{Argument, ArgumentsFit, IsAtCall, Runs, values_of}
 use Rattle.gypsy_predef.specs.Texts.{body_text, body_texts, condition_area}
 
 -- in a system whose first area is `c-c`, the texts mean the programs
@@ -25,6 +31,16 @@ BodiesStandResolved = (s : SystemOf) (programs : List ProgramOf) (r : Predef) �
 abbrev pub BodiesKeepRules : Type 0
 BodiesKeepRules =
     (s : SystemOf) (r : Predef) → first_of (area_names s) condition_area ≡ Some 0 → program_breaches s (body_text r) ≡ []
+
+-- In a system whose last programs are these texts, and whose first area is `c-c`, the call of each row's program has the row's
+-- effect, in the steps and at the cost of the table.
+abbrev pub DoTheirRows : List ProgramOf → Type 0
+DoTheirRows texts = (s : SystemOf) (programs : List ProgramOf) (r : Predef) (k : Kind) (args : List Argument) (stack : List Word)
+    (f : Frame) (fs : List Frame) (p : PitonState) →
+    s.programs ≡ programs ++ texts → first_of (area_names s) condition_area ≡ Some 0 →
+    let system = system_view (resolved s) in
+    IsAtCall system (length programs + predef_number r) r args stack f fs p → ArgumentsFit stack k (slots_of r) args →
+    Runs system r args stack p (predef_effect r (values_of args))
 
 -- each text keeps the form of a program
 abbrev pub BodiesFit : Type 0

@@ -1,9 +1,10 @@
 //! The bodies as programs of Piton's text.
 
-ghost use Rattle.std.specs.Prelude.{◌≡◌, ◌++◌, IsTrue, IfOk, OnOk, [], ◌∷◌, map, Some};
+ghost use Rattle.std.specs.Prelude.{◌≡◌, ◌++◌, IsTrue, IfOk, OnOk, [], ◌∷◌, map};
 ghost use Rattle.std.specs.List.{flat_map};
 ghost use Rattle.stack_text.specs.Names.{is_name};
 ghost use Rattle.gypsy_predef.specs.declared.line.Line.TheVariants.{Get, Put, Fail};
+ghost use Rattle.gypsy_predef.specs.Resolving.{DoTheirRows};
 ghost use Rattle.gypsy_predef.specs.Texts.{body_text, body_texts, line_text, named_local, temporaries_text};
 ghost use Rattle.gypsy_predef.specs.Texts.{constant, named, of_name, plain, test_text};
 
@@ -13,6 +14,9 @@ use gypsy_syntax::Predef;
 use piton_syntax::{ArgText, InstrText, Number, PitonOp, Program, TestKind, WordItem, WordText};
 use stack_text::{Memory, Named, read_name};
 use std::alloc::Global;
+
+/// The number of routineerror, as the condition's area has it.
+const ROUTINE_ERROR: i128 = 1;
 
 /// A name.
 fn named(alloc: Global, bytes: &[u8]) -> Result<Named, Memory>
@@ -121,11 +125,11 @@ fn fail(alloc: Global, instrs: &mut Vec<InstrText>) -> Result<(), Memory>
     ensures { OnOk result (instrs.new.items ≡ instrs.old.items ++ line_text Fail) }
 {
     let label = named(alloc, b"L0".as_slice())?;
-    let one = Number {
+    let number = Number {
         place: 0,
-        number: 1,
+        number: ROUTINE_ERROR,
     };
-    constant(alloc, instrs, Some(label), WordItem::Nat(one))?;
+    constant(alloc, instrs, Some(label), WordItem::Nat(number))?;
     of_name(alloc, instrs, PitonOp::PopGlobal, b"c-c".as_slice())?;
     plain(alloc, instrs, PitonOp::Ret)
 }
@@ -237,9 +241,10 @@ static PREDEFS: [Predef; 13] = [
     Predef::MgArrayElementAssignment,
 ];
 
-/// The thirteen predefined programs, in the order of the table.
+/// The thirteen predefined programs, in the order of the table. Each does its row, where a system ends with them.
 pub fn bodies(alloc: Global) -> Result<Vec<Program>, Memory>
-    ensures { IfOk result (λ programs. programs.items ≡ body_texts) }
+    ensures texts { IfOk result (λ programs. programs.items ≡ body_texts) }
+    ensures rows { IfOk result (λ programs. DoTheirRows programs.items) }
 {
     programs(alloc, PREDEFS.as_slice())
 }

@@ -52,7 +52,7 @@ module _ (s : SourceOf) (sizes : Words) (base : ℕ) (accepted : IsAccepted s) (
       }
 
 -- what was made by generating and linking
-pub made_builds : (s : SourceOf) (sizes : Words) (base : ℕ) (piton : CheckedOf) (image : ImageOf) (bytes : List ℕ) → IsAccepted s → IsChecked piton → generating.Implements s sizes base piton →
+pub made_builds : (s : SourceOf) (sizes : Words) (base : ℕ) (piton : CheckedOf) (image : ImageOf) (bytes : List ℕ) → IsAccepted s → IsChecked piton → generating.SystemImplements s sizes base piton →
     RunsOnProcessor (system_in piton) → (placed (system_in piton)).size ≤ 2 ^ 20 → image ≡ image_with (shown_formals s) (shown_conditions s) (system_in piton) → bytes ≡ spelling image →
     Builds s sizes record { piton = piton; image = image; bytes = bytes }
 unfolding image_of

@@ -8,7 +8,7 @@ use Rattle.gypsy_space.specs.Needs.{stack_words}
 use Rattle.gypsy_space.specs.Nodes.{seen_program}
 use Rattle.gypsy_codegen.specs.Acceptable.{total_words}
 use Rattle.gypsy_codegen.specs.Text.{generated}
-use Rattle.gypsy_codegen.proofs.AnswerLaws.{are_few, are_modest, none_of, limits_fit, generation_is, implements}
+use Rattle.gypsy_codegen.proofs.AnswerLaws.{are_few, are_modest, none_of, limits_fit, generation_is, implements, takes_code_words}
 use Rattle.gypsy_codegen.proofs.generating.generate.Goals as goal
 
 pub size_fault-requires-clause-few : goal.size_fault-requires-clause-few
@@ -64,3 +64,15 @@ returns-clause-runs c =
     c.in_ok-system.ensures ∙ ap (λ (t : Source). generated (source_of t) sizes c.args.base) c.source.ensures.value in
     implements c.generated_is_acceptable.ensures c.source_runs.ensures s sizes c.args.base c.in_ok-made.made c.in_ok-program.ensures.accepted limits
     c.in_ok-made.ensures.known (c.in_ok-made.ensures.kept ∙ made)
+
+pub returns-clause-words : goal.returns-clause-words
+returns-clause-words c =
+    let s = source_of c.args.accepted.now in
+    let sizes = stack_words c.args.temp c.args.ctrl in
+    let none = none_of (seen_program c.in_ok-program.program) (program_of s) sizes c.size_fault.result c.in_ok-program.ensures.program c.size_fault.ensures c.in_default.not-Some in
+    let limits = limits_fit (program_of s) sizes c.args.base c.requires.base none in
+    let made : c.in_ok-system.system ≡ generated s sizes c.args.base =
+    c.in_ok-system.ensures ∙ ap (λ (t : Source). generated (source_of t) sizes c.args.base) c.source.ensures.value in
+    let meant = implements c.generated_is_acceptable.ensures c.source_runs.ensures s sizes c.args.base c.in_ok-made.made c.in_ok-program.ensures.accepted limits
+    c.in_ok-made.ensures.known (c.in_ok-made.ensures.kept ∙ made) in
+    takes_code_words c.procedures_take_words.ensures s sizes c.args.base c.in_ok-made.made c.in_ok-program.ensures.accepted meant.view
