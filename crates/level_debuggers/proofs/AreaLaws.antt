@@ -1,8 +1,7 @@
 -- The words of the areas of a state, one area after the other.
-use Rattle.std.proofs.Common.{◌≡◌, ◌<◌, ◌≤◌, ◌+◌, ℕ, List, [], ◌∷◌, ◌++◌, length, drop, sym, ap, ◌∙◌, append_assoc, subst}
-use Rattle.std.specs.Prelude.{slice_index_or}
+use Rattle.std.proofs.Common.{◌≡◌, ◌≤◌, List, [], ◌∷◌, length, sym, ap, ◌∙◌, subst}
 use Rattle.std.specs.List.{flat_map}
-use Rattle.std.proofs.lemmas.List.{drop_more, length-map}
+use Rattle.std.proofs.lemmas.List.{length-map}
 use Rattle.piton_words.specs.declared.word.Word.{Word}
 use Rattle.piton_check.specs.Answers.{CheckedOf, IsChecked}
 use Rattle.piton_check.specs.Resolved.{ResolvedOf}
@@ -11,15 +10,6 @@ use Rattle.piton_machine.specs.Fits.{Each, IsWordOf, system_in}
 use Rattle.piton_machine.specs.Seen.{Seen, IsSeen}
 use Rattle.piton_machine.proofs.EachLaws.{each_append}
 use Rattle.level_debuggers.specs.PitonReadings.{area_words}
-
--- the words of one area more
-pub area_next : (areas : List (List Word)) (area : ℕ) (old new all : List Word) → area < length areas
-    → new ≡ old ++ slice_index_or areas area []
-    → old ++ flat_map (λ ws. ws) (drop area areas) ≡ all → new ++ flat_map (λ ws. ws) (drop (area + 1) areas) ≡ all
-area_next areas area old new all lt now so_far =
-    rw now (append_assoc old (slice_index_or areas area []) (flat_map (λ ws. ws) (drop (area + 1) areas)))
-    ∙ ap (λ (ws : List Word). old ++ ws) (ap (flat_map (λ ws. ws)) (sym (drop_more areas area [] lt)))
-    ∙ so_far
 
 -- each of them exists
 known : (s : SystemView) (areas : List (List Word)) → Each (Each (IsWordOf s)) areas → Each (IsWordOf s) (flat_map (λ ws. ws) areas)
