@@ -1,6 +1,6 @@
 //! The words that procedures need, and what their runs cost.
 
-ghost use Rattle.std.specs.Prelude.{◌≡◌, ◌≤◌, ◌^◌, ◌<◌};
+ghost use Rattle.std.specs.Prelude.{◌≡◌, ◌^◌, ◌<◌};
 ghost use Rattle.gypsy_space.specs.Events.{AreSmall, has_room_by, event_count, need_at};
 ghost use Rattle.gypsy_space.specs.Needs.{stack_words};
 
