@@ -5,3 +5,4 @@ pub mod NodeLaws
 mod PositionLaws
 mod ResolveLaws
 pub mod SmallLaws
+mod AcceptedLaws

@@ -3,6 +3,7 @@ use Rattle.std.proofs.Common.{◌≡◌, ℕ, suc, ◌+◌, List, [], ◌∷◌,
 use Rattle.std.specs.List.{position, position_or_len}
 use Rattle.std.specs.Option.{unwrap_or}
 use Rattle.std.proofs.lemmas.List.{length-map}
+use Rattle.std.proofs.lemmas.Simd.{map-map}
 use Rattle.stack_text.specs.declared.name.Named.{Named}
 use Rattle.gypsy_syntax.specs.declared.literal.Decl.{Decl}
 use Rattle.gypsy_syntax.specs.declared.literal.Local.{Local}
@@ -61,10 +62,6 @@ position_two name key other xs ys =
     ∙ ap (λ (k : ℕ). place_or k (place_among name (map key xs)) (place_among name (map other ys))) (sym (length-map xs key))
     ∙ sym (place_among-append name (map key xs) (map other ys))
 
-map_again : {X Y Z : Type 0} (f : X → Y) (g : Y → Z) (xs : List X) → map (λ x. g (f x)) xs ≡ map g (map f xs)
-map_again f g [] = refl
-map_again f g (x ∷ xs) = ap (λ ys. g (f x) ∷ ys) (map_again f g xs)
-
 -- the position of a variable, of a condition and of a procedure
 pub variable_position : (p : Proc) (name : List ℕ) (m o : Option ℕ) → m ≡ position (λ (d : Decl). bytes_eq name d.name.name) p.formals.items → o ≡ position (λ (l : Local). bytes_eq name l.decl.name.name) p.locals.items →
     unwrap_or (place_or (length p.formals.items) m o) 0 ≡ position_of name (variable_names (proc_of p))
@@ -72,7 +69,7 @@ variable_position p name m o e f =
     ap (λ (i : Option ℕ). unwrap_or i 0)
     (ap₂ (place_or (length p.formals.items)) e f
     ∙ position_two name (λ (d : Decl). d.name.name) (λ (l : Local). l.decl.name.name) p.formals.items p.locals.items
-    ∙ ap (λ (ns : List (List ℕ)). place_among name (map (λ (d : Decl). d.name.name) p.formals.items ++ ns)) (map_again local_of (λ (l : LocalOf). l.decl.name.name) p.locals.items))
+    ∙ ap (λ (ns : List (List ℕ)). place_among name (map (λ (d : Decl). d.name.name) p.formals.items ++ ns)) (sym (map-map (λ (l : LocalOf). l.decl.name.name) local_of p.locals.items)))
 
 pub condition_position : (p : Proc) (name : List ℕ) (m o : Option ℕ) → m ≡ position (λ (n : Named). bytes_eq name n.name) p.conds.items → o ≡ position (λ (n : Named). bytes_eq name n.name) p.local_conds.items →
     unwrap_or (place_or (length p.conds.items) m o) 0 ≡ position_of name (condition_names (proc_of p))
@@ -83,4 +80,4 @@ condition_position p name m o e f =
 pub procedure_position : (s : Source) (name : List ℕ) (m : Option ℕ) → m ≡ position (λ (p : Proc). bytes_eq name p.name.name) s.procs.items → unwrap_or m 0 ≡ position_of name (procedure_names (source_of s))
 procedure_position s name m e =
     ap (λ (i : Option ℕ). unwrap_or i 0)
-    (e ∙ position-map name (λ (p : Proc). p.name.name) s.procs.items ∙ ap (place_among name) (map_again proc_of (λ (p : ProcOf). p.name.name) s.procs.items))
+    (e ∙ position-map name (λ (p : Proc). p.name.name) s.procs.items ∙ ap (place_among name) (sym (map-map (λ (p : ProcOf). p.name.name) proc_of s.procs.items)))

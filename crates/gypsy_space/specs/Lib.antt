@@ -7,3 +7,4 @@ pub mod Nodes
 -- Scaffold: what only private functions and lemmas say.
 pub mod StatementNeeds
 pub mod CallSites
+pub mod Resolvable

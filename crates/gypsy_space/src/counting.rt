@@ -20,7 +20,7 @@ use std::alloc::Global;
 use std::rc::Rc;
 
 /// Sums are exact up to this number, 2^60, and stay there. No source that keeps the form comes so far.
-const MOST: u64 = 1_152_921_504_606_846_976;
+const MOST: u64 = 1 << 60;
 
 /// The greatest words of predefined calls on both stacks, and the words of code.
 #[derive(Clone, Copy, Debug)]

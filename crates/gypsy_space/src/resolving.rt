@@ -1,10 +1,12 @@
 //! The program that an accepted source is: names become positions.
 
-ghost use Rattle.std.specs.Prelude.{◌≡◌, IfOk, map};
+ghost use Rattle.std.specs.Prelude.{◌≡◌, All, IfOk, IsTrue, map};
 ghost use Rattle.std.specs.Option.{unwrap_or};
-ghost use Rattle.std.specs.List.{position};
+ghost use Rattle.std.specs.List.{list_all, position};
 ghost use Rattle.std.specs.Str.{bytes_eq};
 ghost use Rattle.stack_text.specs.declared.shape.Kind.TheVariants as kinds;
+ghost use Rattle.gypsy_syntax.specs.Fits.{FitsForm, FitsProcedure};
+ghost use Rattle.gypsy_syntax.specs.ProgramFits.{ValueFits, is_in_range};
 ghost use Rattle.gypsy_syntax.specs.Resolved.{argument_of, cond_of, condition_names, item_of, items_of_all, literal_kind};
 ghost use Rattle.gypsy_syntax.specs.Resolved.{local_value, position_of, procedure_names, procedure_of, program_of, shape_of};
 ghost use Rattle.gypsy_syntax.specs.Resolved.{statement_of, statement_of_all, value_items, variable_names, variable_of};
@@ -12,7 +14,9 @@ ghost use Rattle.gypsy_syntax.specs.SourceView.{arg_of, items_of_list, literal_o
 ghost use Rattle.gypsy_syntax.specs.SourceView.{source_of, stmt_of};
 ghost use Rattle.gypsy_space.specs.Nodes.{seen_arg, seen_cond, seen_proc, seen_program, seen_statement, seen_statements};
 ghost use Rattle.gypsy_space.specs.CallSites.{IsCallSite};
+ghost use Rattle.gypsy_space.specs.Resolvable.{ConstantFits, ConstantsFit, IsResolvable, LocalFits};
 ghost use Rattle.gypsy_check.specs.Accepted.{IsAccepted};
+ghost use Rattle.gypsy_check.specs.Types.{has_length};
 
 use crate::program::{Application, Argument, CallSite, Condition, Node, Procedure, Program};
 use gypsy_check::Accepted;
@@ -20,16 +24,6 @@ use gypsy_syntax::{Arg, Decl, Literal, Local, Proc, Source, Stmt, TypeText};
 use stack_text::{Kind, Memory, Name, Named, Shape, Value};
 use std::alloc::Global;
 use std::rc::Rc;
-
-/// A position as 32 bits.
-fn position_word(position: usize) -> Result<u32, Memory>
-    ensures { IfOk result (λ p. p ≡ position) }
-{
-    match u32::try_from(position) {
-        Ok(position) => Ok(position),
-        Err(_) => Err(Memory),
-    }
-}
 
 /// Where the first formal of a name is.
 fn formal_place(proc: &Proc, name: &Name) -> Option<usize>
@@ -101,118 +95,133 @@ fn callee_place(source: &Source, name: &Name) -> usize
     procedure_place(source, name).unwrap_or(0)
 }
 
-/// A variable.
-fn variable(proc: &Proc, name: &Named) -> Result<u32, Memory>
-    ensures { IfOk result (λ v. v ≡ variable_of (proc_of proc.now) name.now) }
+/// A procedure that is named.
+fn callee(source: &Source, name: &Named) -> u32
+    requires { FitsForm (source_of source.now) }
+    ensures { result ≡ position_of name.now.name (procedure_names (source_of source.now)) }
 {
-    position_word(variable_place(proc, &name.name))
+    callee_place(source, &name.name) as u32
+}
+
+/// A variable.
+fn variable(proc: &Proc, name: &Named) -> u32
+    requires { FitsProcedure (proc_of proc.now) }
+    ensures { result ≡ variable_of (proc_of proc.now) name.now }
+{
+    variable_place(proc, &name.name) as u32
 }
 
 /// A condition.
-fn condition(proc: &Proc, name: &Named) -> Result<Condition, Memory>
-    ensures { IfOk result (λ c. seen_cond c ≡ cond_of (proc_of proc.now) name.now) }
+fn condition(proc: &Proc, name: &Named) -> Condition
+    requires { FitsProcedure (proc_of proc.now) }
+    ensures { seen_cond result ≡ cond_of (proc_of proc.now) name.now }
 {
     if name.name.bytes() == b"leave".as_slice() {
-        return Ok(Condition::Leave);
+        return Condition::Leave;
     }
     if name.name.bytes() == b"routineerror".as_slice() {
-        return Ok(Condition::Routine);
+        return Condition::Routine;
     }
-    Ok(Condition::Declared(position_word(condition_place(proc, &name.name))?))
+    Condition::Declared(condition_place(proc, &name.name) as u32)
 }
 
 /// Each variable.
 fn variables(alloc: Global, proc: &Proc, names: &[Named]) -> Result<Vec<u32>, Memory>
+    requires { FitsProcedure (proc_of proc.now) }
     ensures { IfOk result (λ vs. vs.items ≡ map (variable_of (proc_of proc.now)) names.now) }
 {
     let mut variables = Vec::new(alloc);
     for name in names {
-        variables.push(variable(proc, name)?)?;
+        variables.push(variable(proc, name))?;
     }
     Ok(variables)
 }
 
 /// Each condition.
 fn conditions(alloc: Global, proc: &Proc, names: &[Named]) -> Result<Vec<Condition>, Memory>
+    requires { FitsProcedure (proc_of proc.now) }
     ensures { IfOk result (λ cs. map seen_cond cs.items ≡ map (cond_of (proc_of proc.now)) names.now) }
 {
     let mut conditions = Vec::new(alloc);
     for name in names {
-        conditions.push(condition(proc, name)?)?;
+        conditions.push(condition(proc, name))?;
     }
     Ok(conditions)
 }
 
-/// A type as a shape. No accepted source has an array that is too long for one.
-fn shape(text: TypeText) -> Result<Shape, Memory>
-    ensures { IfOk result (λ s. s ≡ shape_of text) }
+/// A type as a shape.
+fn shape(text: TypeText) -> Shape
+    requires { IsTrue (has_length text.length) }
+    ensures { result ≡ shape_of text }
 {
     let length = match text.length {
         None => 0,
         Some(length) => match u32::try_from(length) {
             Ok(length) => length,
-            Err(_) => return Err(Memory),
+            Err(_) => unreachable!(),
         },
     };
-    Ok(Shape {
+    Shape {
         kind: text.kind,
         length,
-    })
+    }
 }
 
-/// A number as an item of a value. No accepted source has one that is too large.
-fn number_item(number: i128) -> Result<i32, Memory>
-    ensures { IfOk result (λ z. z ≡ number) }
+/// A number as an item of a value.
+fn number_item(number: i128) -> i32
+    requires { IsTrue (is_in_range kinds.Integer number) }
+    ensures { result ≡ number }
 {
     match i32::try_from(number) {
-        Ok(item) => Ok(item),
-        Err(_) => Err(Memory),
+        Ok(item) => item,
+        Err(_) => unreachable!(),
     }
 }
 
 /// The item that a simple literal stands for.
-fn item(literal: &Literal) -> Result<i32, Memory>
-    ensures { IfOk result (λ z. z ≡ item_of (literal_of literal.now)) }
+fn item(literal: &Literal) -> i32
+    requires { IsTrue (is_in_range kinds.Integer (item_of (literal_of literal.now))) }
+    ensures { result ≡ item_of (literal_of literal.now) }
 {
     match literal {
         Literal::Integer { place: _, number } => number_item(*number),
-        Literal::Truth { place: _, truth } => Ok(if *truth { 1 } else { 0 }),
+        Literal::Truth { place: _, truth } => if *truth { 1 } else { 0 },
         Literal::Character { place: _, code } => number_item(*code),
-        Literal::List { place: _, items: _ } => Ok(0),
+        Literal::List { place: _, items: _ } => 0,
     }
 }
 
 /// The items that the literals of a list stand for.
 fn list_items(alloc: Global, literals: &[Literal]) -> Result<Vec<i32>, Memory>
+    requires { All (λ l. IsTrue (is_in_range kinds.Integer (item_of (literal_of l)))) literals.now }
     ensures { IfOk result (λ v. v.items ≡ items_of_all (items_of_list literals.now)) }
 {
     let mut items = Vec::new(alloc);
     for literal in literals {
-        items.push(item(literal)?)?;
+        items.push(item(literal))?;
     }
     Ok(items)
 }
 
 /// The items of the value that a literal stands for.
 fn items(alloc: Global, literal: &Literal) -> Result<Vec<i32>, Memory>
+    requires { IsTrue (list_all (is_in_range kinds.Integer) (value_items (literal_of literal.now))) }
     ensures { IfOk result (λ v. v.items ≡ value_items (literal_of literal.now)) }
 {
     match literal {
         Literal::List { place: _, items } => list_items(alloc, items),
-        simple => {
-            let item = item(simple)?;
-            Ok(vec![in alloc; item]?)
-        }
+        simple => Ok(vec![in alloc; item(simple)]?),
     }
 }
 
-/// The value of a shape that a literal stands for. In an accepted source the literal is of the shape.
+/// The value of a shape that a literal stands for.
 fn value(alloc: Global, shape: Shape, literal: &Literal) -> Result<Value, Memory>
+    requires { ValueFits record { shape = shape; items = value_items (literal_of literal.now) } }
     ensures { IfOk result (λ v. v ≡ record { shape = shape; items = value_items (literal_of literal.now) }) }
 {
     match Value::new(shape, items(alloc, literal)?) {
         Some(value) => Ok(value),
-        None => Err(Memory),
+        None => unreachable!(),
     }
 }
 
@@ -233,10 +242,12 @@ fn kind(literal: &Literal) -> Kind
 
 /// An argument of a predefined call.
 fn argument(alloc: Global, proc: &Proc, arg: &Arg) -> Result<Argument, Memory>
+    requires form { FitsProcedure (proc_of proc.now) }
+    requires constant { ConstantFits (arg_of arg.now) }
     ensures { IfOk result (λ a. seen_arg a ≡ argument_of (proc_of proc.now) (arg_of arg.now)) }
 {
     match arg {
-        Arg::Variable(name) => Ok(Argument::Variable(variable(proc, name)?)),
+        Arg::Variable(name) => Ok(Argument::Variable(variable(proc, name))),
         Arg::Constant(literal) => {
             let shape = Shape {
                 kind: kind(literal),
@@ -249,6 +260,8 @@ fn argument(alloc: Global, proc: &Proc, arg: &Arg) -> Result<Argument, Memory>
 
 /// Each argument.
 fn arguments(alloc: Global, proc: &Proc, args: &[Arg]) -> Result<Vec<Argument>, Memory>
+    requires form { FitsProcedure (proc_of proc.now) }
+    requires constants { All (λ a. ConstantFits (arg_of a)) args.now }
     ensures { IfOk result (λ r. map seen_arg r.items ≡ map (argument_of (proc_of proc.now)) (map arg_of args.now)) }
 {
     let mut arguments = Vec::new(alloc);
@@ -260,22 +273,24 @@ fn arguments(alloc: Global, proc: &Proc, args: &[Arg]) -> Result<Vec<Argument>, 
 
 /// Each formal, with its name.
 fn formals(alloc: Global, decls: &[Decl]) -> Result<Vec<(Name, Shape)>, Memory>
+    requires { All (λ d. IsTrue (has_length d.shape.length)) decls.now }
     ensures { IfOk result (λ r. map (λ f. f.1) r.items ≡ map (λ d. shape_of d.shape) decls.now) }
 {
     let mut formals = Vec::new(alloc);
     for decl in decls {
-        formals.push((decl.name.name.clone()?, shape(decl.shape)?))?;
+        formals.push((decl.name.name.clone()?, shape(decl.shape)))?;
     }
     Ok(formals)
 }
 
 /// Each local, with its name and its initial value.
 fn locals(alloc: Global, locals: &[Local]) -> Result<Vec<(Name, Value)>, Memory>
+    requires { All (λ l. LocalFits (local_of l)) locals.now }
     ensures { IfOk result (λ r. map (λ l. l.1) r.items ≡ map local_value (map local_of locals.now)) }
 {
     let mut values = Vec::new(alloc);
     for local in locals {
-        let value = value(alloc, shape(local.decl.shape)?, &local.value)?;
+        let value = value(alloc, shape(local.decl.shape), &local.value)?;
         values.push((local.decl.name.name.clone()?, value))?;
     }
     Ok(values)
@@ -308,6 +323,8 @@ fn call_site(
     place: u32,
     call: CallText,
 ) -> Result<CallSite, Memory>
+    requires source { FitsForm (source_of source.now) }
+    requires form { FitsProcedure (proc_of proc.now) }
     ensures { let callee = position_of call.entry.callee.now.name (procedure_names (source_of source.now)) in
         let actuals = map (variable_of (proc_of proc.now)) call.entry.actuals.now in
         IfOk result (λ site. IsCallSite place callee actuals
@@ -315,7 +332,7 @@ fn call_site(
 {
     Ok(CallSite {
         place,
-        callee: position_word(callee_place(source, &call.callee.name))?,
+        callee: callee(source, call.callee),
         actuals: variables(alloc, proc, call.actuals)?,
         conds: conditions(alloc, proc, call.conds)?,
     })
@@ -324,12 +341,15 @@ fn call_site(
 /// A statement.
 #[cycle(statements)]
 fn statement(alloc: Global, source: &Source, proc: &Proc, stmt: &Stmt) -> Result<Node, Memory>
+    requires source { FitsForm (source_of source.now) }
+    requires form { FitsProcedure (proc_of proc.now) }
+    requires constants { ConstantsFit (stmt_of stmt.now) }
     ensures { IfOk result (λ n. seen_statement n
         ≡ statement_of (source_of source.now) (proc_of proc.now) (stmt_of stmt.now)) }
 {
     match stmt {
         Stmt::NoOp { place } => Ok(Node::NoOp(*place)),
-        Stmt::Signal { place, cond } => Ok(Node::Signal(*place, condition(proc, cond)?)),
+        Stmt::Signal { place, cond } => Ok(Node::Signal(*place, condition(proc, cond))),
         Stmt::Seq { place: _, parts } => {
             let nodes = statements(alloc, source, proc, parts.as_slice())?;
             Ok(Node::Seq(Rc::new(alloc, nodes)?))
@@ -344,7 +364,7 @@ fn statement(alloc: Global, source: &Source, proc: &Proc, stmt: &Stmt) -> Result
             yes,
             no,
         } => {
-            let test = variable(proc, test)?;
+            let test = variable(proc, test);
             let yes = shared(alloc, source, proc, yes)?;
             let no = shared(alloc, source, proc, no)?;
             Ok(Node::If(*place, test, yes, no))
@@ -391,6 +411,9 @@ fn statement(alloc: Global, source: &Source, proc: &Proc, stmt: &Stmt) -> Result
 /// A part of a statement, which is shared with the work that is made of it.
 #[cycle(statements)]
 fn shared(alloc: Global, source: &Source, proc: &Proc, stmt: &Stmt) -> Result<Rc<Node>, Memory>
+    requires source { FitsForm (source_of source.now) }
+    requires form { FitsProcedure (proc_of proc.now) }
+    requires constants { ConstantsFit (stmt_of stmt.now) }
     ensures { IfOk result (λ n. seen_statement n.value
         ≡ statement_of (source_of source.now) (proc_of proc.now) (stmt_of stmt.now)) }
 {
@@ -406,6 +429,9 @@ fn statements(
     proc: &Proc,
     parts: &[Stmt],
 ) -> Result<Vec<Rc<Node>>, Memory>
+    requires source { FitsForm (source_of source.now) }
+    requires form { FitsProcedure (proc_of proc.now) }
+    requires constants { All (λ s. ConstantsFit (stmt_of s)) parts.now }
     ensures { IfOk result (λ ns. seen_statements ns.items
         ≡ statement_of_all (source_of source.now) (proc_of proc.now) (parts_of_list parts.now)) }
 {
@@ -419,6 +445,8 @@ fn statements(
 
 /// A procedure.
 fn procedure(alloc: Global, source: &Source, proc: &Proc) -> Result<Procedure, Memory>
+    requires source { FitsForm (source_of source.now) }
+    requires resolvable { IsResolvable (proc_of proc.now) }
     ensures { IfOk result (λ p. seen_proc p ≡ procedure_of (source_of source.now) (proc_of proc.now)) }
 {
     Ok(Procedure {
@@ -433,6 +461,8 @@ fn procedure(alloc: Global, source: &Source, proc: &Proc) -> Result<Procedure, M
 
 /// Each procedure.
 fn procedures(alloc: Global, source: &Source) -> Result<Vec<Procedure>, Memory>
+    requires source { FitsForm (source_of source.now) }
+    requires resolvable { All (λ p. IsResolvable (proc_of p)) source.now.procs.items }
     ensures { IfOk result (λ ps. map seen_proc ps.items
         ≡ map (procedure_of (source_of source.now)) (source_of source.now).procs) }
 {
@@ -450,6 +480,8 @@ pub fn resolve(alloc: Global, accepted: &Accepted) -> Result<Program, Memory>
 {
     let source = accepted.source();
     let procedures = procedures(alloc, source)?;
-    let main = position_word(callee_place(source, &source.main.name))?;
-    Ok(Program { main, procedures })
+    Ok(Program {
+        main: callee(source, &source.main),
+        procedures,
+    })
 }

@@ -1,15 +1,35 @@
-use Rattle.std.proofs.Common.{◌≡◌, ◌+◌, List, [], ◌∷◌, ◌++◌, drop, sym, ap, subst, ◌∙◌, arith, rules}
+use Rattle.std.proofs.Common.{◌≡◌, ◌+◌, List, [], ◌∷◌, ◌++◌, drop, map, sym, ap, subst, ◌∙◌, arith, rules}
 use Rattle.std.specs.declared.alloc.Global.{Global}
 use Rattle.std.specs.declared.rc.Rc.{Rc}
+use Rattle.std.proofs.lemmas.List.Elements.{All-same}
+use Rattle.gypsy_syntax.specs.declared.statement.Arg.{Arg}
+use Rattle.gypsy_syntax.specs.declared.statement.Stmt.{Stmt as Text, the_lemmas}
 use Rattle.gypsy_syntax.specs.Resolved.{statement_of, statement_of_all}
-use Rattle.gypsy_syntax.specs.SourceView.{parts_of_list, proc_of, source_of, stmt_of}
+use Rattle.gypsy_syntax.specs.Sources.{StmtOf, predef, seq}
+use Rattle.gypsy_syntax.specs.SourceView.{arg_of, parts_of_list, proc_of, source_of, stmt_of}
 use Rattle.gypsy_syntax.proofs.ViewLaws.{stmt_of-seq}
 use Rattle.gypsy_space.specs.declared.program.Node.{Node}
 use Rattle.gypsy_space.specs.Nodes.{seen_statements}
 use Rattle.gypsy_space.specs.CallSites.{followed}
+use Rattle.gypsy_space.specs.Resolvable.{ConstantFits, ConstantsFit}
+use Rattle.gypsy_space.proofs.AcceptedLaws.{each_before, parts_fit}
 use Rattle.gypsy_space.proofs.NodeLaws.{seen_statement-seq}
 use Rattle.gypsy_space.proofs.ResolveLaws.{all_parts, next_part}
 use Rattle.gypsy_space.proofs.resolving.+statements.Goals as goal
+
+pub statement-statements-requires : goal.statement-statements-requires
+statement-statements-requires t c =
+    let parts = c.in-Seq.parts.items in
+    let k : stmt_of c.args.stmt.now ≡ seq c.in-Seq.place (parts_of_list parts) = ap stmt_of c.in-Seq.is ∙ stmt_of-seq c.in-Seq.place c.in-Seq.parts in
+    let constants = subst (λ (b : StmtOf). ConstantsFit b) k c.requires.constants in
+    (search (rules, the_lemmas), (c.requires.source, (c.requires.form, All-same (λ (s : Text). ConstantsFit (stmt_of s)) c.as_slice.result.now parts c.as_slice.ensures.value (parts_fit parts constants))))
+
+pub statement-arguments-requires-clause-constants : goal.statement-arguments-requires-clause-constants
+statement-arguments-requires-clause-constants t c =
+    let args = c.in-Predef.args.items in
+    let k : stmt_of c.args.stmt.now ≡ predef c.in-Predef.place c.in-Predef.which (map arg_of args) = ap stmt_of c.in-Predef.is in
+    let constants = subst (λ (b : StmtOf). ConstantsFit b) k c.requires.constants in
+    All-same (λ (a : Arg). ConstantFits (arg_of a)) c.as_slice-in-Predef.result.now args c.as_slice-in-Predef.ensures.value (each_before ConstantFits arg_of args constants)
 
 pub statement-returns-in_ok-new-in-Seq : goal.statement-returns-in_ok-new-in-Seq
 statement-returns-in_ok-new-in-Seq t c =

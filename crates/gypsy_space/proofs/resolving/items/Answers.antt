@@ -1,8 +1,22 @@
-use Rattle.std.proofs.Common.{◌≡◌, ap, ◌∙◌}
-use Rattle.gypsy_syntax.specs.Sources.{array}
+use Rattle.std.proofs.Common.{◌≡◌, true, ap, subst, ◌∙◌}
+use Rattle.std.specs.List.{list_all}
+use Rattle.std.proofs.lemmas.List.Elements.{All-same}
+use Rattle.stack_text.specs.declared.shape.Kind.TheVariants.{Integer}
+use Rattle.gypsy_syntax.specs.ProgramFits.{is_in_range}
+use Rattle.gypsy_syntax.specs.Resolved.{items_of_all, value_items}
+use Rattle.gypsy_syntax.specs.Sources.{LiteralOf, array}
 use Rattle.gypsy_syntax.specs.SourceView.{items_of_list, literal_of}
 use Rattle.gypsy_syntax.proofs.ViewLaws.{literal_of-list}
+use Rattle.gypsy_space.proofs.AcceptedLaws.{InRange, items_in}
 use Rattle.gypsy_space.proofs.resolving.items.Goals as goal
+
+pub list_items-requires : goal.list_items-requires
+list_items-requires c =
+    let items = c.in-List.items.items in
+    let k : literal_of c.args.literal.now ≡ array c.in-List.place (items_of_list items) = ap literal_of c.in-List.is ∙ literal_of-list c.in-List.place c.in-List.items in
+    let range : list_all (is_in_range Integer) (items_of_all (items_of_list items)) ≡ true =
+    subst (λ (l : LiteralOf). list_all (is_in_range Integer) (value_items l) ≡ true) k c.requires in
+    All-same InRange c.deref.result.now items c.deref.ensures.value (items_in items range)
 
 pub returns-in-List : goal.returns-in-List
 returns-in-List c =
