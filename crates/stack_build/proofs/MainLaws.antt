@@ -1,17 +1,14 @@
 -- What is known of the main procedure of an accepted source.
-use Rattle.std.proofs.Common.{◌≡◌, ◌<◌, ◌≤◌, ◌∙◌, ℕ, zero, suc, pos, true, false, List, [], ◌∷◌, length, map, flat_map, get_or, slice_get, Option, Some, None, refl, ap, subst, arith}
-use Rattle.std.specs.Prelude.{is_none, replicate, All}
-use Rattle.std.specs.List.{list_all}
+use Rattle.std.proofs.Common.{◌≡◌, ◌<◌, ◌≤◌, ◌∙◌, ℕ, zero, suc, pos, false, List, [], ◌∷◌, length, map, flat_map, get_or, slice_get, Option, Some, None, refl, ap, subst, arith}
+use Rattle.std.specs.Prelude.{is_none, All}
 use Rattle.std.specs.Option.{unwrap_or}
 use Rattle.std.proofs.lemmas.List.{length-map, length-replicate}
-use Rattle.stack_text.specs.declared.shape.Kind.{Kind}
-use Rattle.stack_text.specs.declared.shape.Kind.TheVariants.{Integer, Boolean, Character}
 use Rattle.stack_text.specs.declared.shape.Shape.{Shape}
 use Rattle.stack_text.specs.Values.{item_count}
 use Rattle.gypsy_syntax.specs.Sources.{ProcOf, SourceOf}
 use Rattle.gypsy_syntax.specs.Programs.{no_proc, proc_at}
 use Rattle.gypsy_syntax.specs.Resolved.{place_among, procedure_names, procedure_of, program_of}
-use Rattle.gypsy_syntax.specs.ProgramFits.{Each, is_in_range}
+use Rattle.gypsy_syntax.specs.ProgramFits.{Each}
 use Rattle.gypsy_syntax.specs.Fits.{FitsProcedure}
 use Rattle.gypsy_syntax.proofs.FitsLaws.{keeps_fits}
 use Rattle.piton_syntax.proofs.FitsLaws.{all_first, all_rest}
@@ -22,6 +19,7 @@ use Rattle.gypsy_check.proofs.CleanLaws.{two}
 use Rattle.gypsy_meaning.specs.Kept.{VarsFit}
 use Rattle.gypsy_codegen.specs.WordsOf.{zero_value}
 use Rattle.gypsy_codegen.proofs.SourceLaws.{kept}
+use Rattle.gypsy_codegen.proofs.SystemLaws.{zeros_in_range}
 use Rattle.stack_build.specs.Formals.{main_of}
 
 -- it is there, and keeps the form and the rules
@@ -73,16 +71,7 @@ main_is s accepted =
         )
 
 -- values of zeros fit
-zero_fits : (k : Kind) → is_in_range k (pos 0) ≡ true
-zero_fits Integer = refl
-zero_fits Boolean = refl
-zero_fits Character = refl
-
-zeros_fit : (k : Kind) (n : ℕ) → list_all (is_in_range k) (replicate n (pos 0)) ≡ true
-zeros_fit k zero = refl
-zeros_fit k (suc n) = rw (zero_fits k) (zeros_fit k n)
-
 pub zero_values : (shapes : List Shape) → Each (λ s. s.length ≤ 4096) shapes → VarsFit shapes (map zero_value shapes)
 zero_values [] h = tt
 zero_values (s ∷ shapes) h =
-    (refl, record { few = h.0; number = length-replicate (item_count s) (pos 0); items = zeros_fit s.kind (item_count s) }, zero_values shapes h.1)
+    (refl, record { few = h.0; number = length-replicate (item_count s) (pos 0); items = zeros_in_range s.kind (item_count s) }, zero_values shapes h.1)

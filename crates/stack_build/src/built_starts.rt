@@ -1,6 +1,6 @@
 //! Where the runs of what is built of a source begin.
 
-ghost use Rattle.std.specs.Prelude.{◌≡◌, ◌≤◌, ◌^◌, IfOk, length};
+ghost use Rattle.std.specs.Prelude.{◌≤◌, ◌^◌, IfOk, length};
 ghost use Rattle.gypsy_space.specs.Needs.{stack_words};
 ghost use Rattle.gypsy_syntax.specs.SourceView.{source_of};
 ghost use Rattle.fm_loader.specs.Loaded.{Fits};

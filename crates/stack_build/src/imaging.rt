@@ -1,6 +1,5 @@
 //! The image of a source whose system was generated.
 ghost use Rattle.std.specs.Prelude.{◌≡◌, ◌≤◌, ◌^◌, IfOk, IfErr, map};
-ghost use Rattle.stack_text.specs.Values.{item_count};
 ghost use Rattle.piton_check.specs.Answers.{IsChecked};
 ghost use Rattle.piton_machine.specs.Fits.{system_in};
 ghost use Rattle.piton_machine.specs.Placed.{placed};
@@ -36,13 +35,6 @@ fn shape_of(text: TypeText) -> Shape
     }
 }
 
-/// How many items a value of a shape has.
-fn item_count(shape: Shape) -> u32
-    ensures { result ≡ item_count shape }
-{
-    if shape.length == 0 { 1 } else { shape.length }
-}
-
 /// The formals, each with the address of its first item: the first at `address`, each further one below the items
 /// before it.
 pub fn slots_from(alloc: Global, address: u32, formals: &[Decl]) -> Result<Vec<Slot>, Memory>
@@ -59,7 +51,7 @@ pub fn slots_from(alloc: Global, address: u32, formals: &[Decl]) -> Result<Vec<S
             shape,
             address: next,
         })?;
-        next = next.saturating_sub(item_count(shape));
+        next = next.saturating_sub(shape.item_count() as u32);
     }
     Ok(slots)
 }

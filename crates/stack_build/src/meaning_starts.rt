@@ -1,7 +1,6 @@
 //! Where the runs of a source's own steps begin.
 
 ghost use Rattle.std.specs.Prelude.{◌≡◌, ◌≤◌, ◌^◌, IfOk, length};
-ghost use Rattle.gypsy_check.specs.Accepted.{IsAccepted};
 ghost use Rattle.gypsy_meaning.specs.Belongs.{BelongsTo};
 ghost use Rattle.gypsy_meaning.specs.Running.{seen};
 ghost use Rattle.gypsy_space.specs.Events.{AreNeeds, AreSmall};
