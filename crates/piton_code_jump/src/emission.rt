@@ -3,13 +3,12 @@
 ghost use Rattle.std.specs.Prelude.{◌≡◌, ◌+◌, ◌++◌, ◌^◌, ◌<◌, ◌≤◌, IfOk, map};
 ghost use Rattle.piton_check.specs.Instruction.{place_of};
 ghost use Rattle.piton_check.specs.declared.piece.Piece.TheVariants.{Place};
-ghost use Rattle.fm_code.specs.Templates.{no_op_code};
-ghost use Rattle.piton_machine.specs.Arguments.{instruction_by_argument};
 ghost use Rattle.piton_machine.specs.Fits.{system_in};
-ghost use Rattle.piton_machine.specs.Groups.{IsOfGroup, group_of, only_of};
+ghost use Rattle.piton_machine.specs.Groups.{IsOfGroup, only_of};
+ghost use Rattle.piton_machine.specs.PitonInstr.{decoded_view};
 ghost use Rattle.piton_machine.specs.Placed.{placed};
 ghost use Rattle.piton_machine.specs.Stands.{DoesStepsAt};
-ghost use Rattle.piton_machine.specs.Templates.{code_pieces, condition_of, jump_case_pieces, pieces_of, pieces_at};
+ghost use Rattle.piton_machine.specs.Templates.{condition_of, jump_case_pieces, pieces_of, pieces_at};
 ghost use Rattle.piton_machine.specs.declared.group.Group.TheVariants.{Jump};
 
 use crate::row::{
@@ -20,10 +19,9 @@ use fm_code::word::{literal_at, mov, reg};
 use fm_words::Cc;
 use piton_check::{Checked, Piece, ResolvedArg};
 use piton_machine::{
-    code_pieces, instruction, literal_pieces, piece_vec, place_argument, place_of,
-    program_argument, test_argument, variables,
+    PitonInstr, code_pieces, instruction, literal_pieces, piece_vec, place_of, variables,
 };
-use piton_syntax::{PitonOp, TestKind};
+use piton_syntax::TestKind;
 use stack_text::Memory;
 use std::alloc::{AllocError, Global};
 
@@ -47,14 +45,8 @@ pub fn emit(
     match instruction(resolved, program, place) {
         Some(instr) => {
             let locals = variables(resolved, program) as u32;
-            Ok(emitted(
-                alloc,
-                program,
-                place,
-                locals,
-                instr.op,
-                instr.args.as_slice(),
-            )?)
+            let decoded = PitonInstr::decode(instr);
+            Ok(emitted(alloc, program, place, locals, decoded)?)
         }
         None => Ok(Vec::new(alloc)),
     }
@@ -66,90 +58,44 @@ fn emitted(
     program: u32,
     place: u32,
     locals: u32,
-    op: PitonOp,
-    args: &[ResolvedArg],
+    instr: PitonInstr,
 ) -> Result<Vec<Piece>, AllocError>
     requires next { place + 1 < 2 ^ 32 }
     ensures { IfOk result (λ pieces.
         pieces.items ≡
-        only_of Jump (group_of op) (pieces_of program place locals (instruction_by_argument op args.now))) }
+        only_of Jump (decoded_view instr.entry) (pieces_of program place locals (decoded_view instr.entry))) }
 {
-    match op {
-        PitonOp::Jump => match place_argument(args) {
-            Some(to) => piece_vec(
-                alloc,
-                &literal_pieces(
-                    mov(reg(15), literal_at()),
-                    Piece::Place { program, place: to },
-                ),
-            ),
-            None => no_op(alloc),
-        },
-        PitonOp::JumpIfTempStkFull => match place_argument(args) {
-            Some(to) => piece_vec(alloc, &jump_if_top_pieces(Piece::TempStart, program, to)),
-            None => no_op(alloc),
-        },
-        PitonOp::JumpIfTempStkEmpty => match place_argument(args) {
-            Some(to) => piece_vec(
-                alloc,
-                &jump_if_top_pieces(Piece::TempEnd { minus: 0 }, program, to),
-            ),
-            None => no_op(alloc),
-        },
-        PitonOp::JumpCase => jump_case(alloc, program, args),
-        PitonOp::Pushj => match place_argument(args) {
-            Some(to) => piece_vec(
-                alloc,
-                &call_pieces(
-                    2,
-                    Piece::Place {
-                        program,
-                        place: place + 1,
-                    },
-                    Piece::Place { program, place: to },
-                ),
-            ),
-            None => no_op(alloc),
-        },
-        PitonOp::Popj => code_pieces(alloc, &popj_code()),
-        PitonOp::TestNatAndJump
-        | PitonOp::TestIntAndJump
-        | PitonOp::TestBoolAndJump
-        | PitonOp::TestBitvAndJump => match test_argument(args) {
-            Some(test) => piece_vec(alloc, &test_pieces(condition_of(test.0), program, test.1)),
-            None => no_op(alloc),
-        },
-        PitonOp::Call => match program_argument(args) {
-            Some(callee) => piece_vec(
-                alloc,
-                &call_pieces(
-                    1,
-                    Piece::Place {
-                        program,
-                        place: place + 1,
-                    },
-                    Piece::Entry { program: callee },
-                ),
-            ),
-            None => no_op(alloc),
-        },
-        PitonOp::PopCall => piece_vec(
-            alloc,
-            &pop_call_pieces(Piece::Place {
-                program,
-                place: place + 1,
-            }),
-        ),
-        PitonOp::Ret => piece_vec(alloc, &ret_pieces(locals)),
+    let after = Piece::Place {
+        program,
+        place: place + 1,
+    };
+    match instr {
+        PitonInstr::Jump(to) => {
+            let target = Piece::Place { program, place: to };
+            piece_vec(alloc, &literal_pieces(mov(reg(15), literal_at()), target))
+        }
+        PitonInstr::JumpIfTempStkFull(to) => {
+            jump_if_top_pieces(alloc, Piece::TempStart, program, to)
+        }
+        PitonInstr::JumpIfTempStkEmpty(to) => {
+            jump_if_top_pieces(alloc, Piece::TempEnd { minus: 0 }, program, to)
+        }
+        PitonInstr::JumpCase(labels) => jump_case(alloc, program, labels),
+        PitonInstr::Pushj(to) => {
+            call_pieces(alloc, 2, after, Piece::Place { program, place: to })
+        }
+        PitonInstr::Popj => code_pieces(alloc, &popj_code()),
+        PitonInstr::TestAndJump(_, kind, to) => {
+            test_pieces(alloc, condition_of(kind), program, to)
+        }
+        PitonInstr::Call(callee) => {
+            call_pieces(alloc, 1, after, Piece::Entry { program: callee })
+        }
+        PitonInstr::PopCall => pop_call_pieces(alloc, after),
+        PitonInstr::Ret => ret_pieces(alloc, locals),
+        PitonInstr::NoOp => code_pieces(alloc, &no_op_code()),
         _ => Ok(Vec::new(alloc)),
     }
-}
-
-/// An instruction that does nothing.
-fn no_op(alloc: Global) -> Result<Vec<Piece>, AllocError>
-    ensures { IfOk result (λ pieces. pieces.items ≡ code_pieces no_op_code) }
-{
-    code_pieces(alloc, &no_op_code())
 }
 
 /// A jump by a table of the places of these labels.
@@ -157,7 +103,7 @@ fn jump_case(alloc: Global, program: u32, args: &[ResolvedArg]) -> Result<Vec<Pi
     ensures { IfOk result (λ pieces.
         pieces.items ≡ jump_case_pieces ++ map (λ to. Place program to) (map place_of args.now)) }
 {
-    let mut pieces = piece_vec(alloc, &jump_case_pieces())?;
+    let mut pieces = jump_case_pieces(alloc)?;
     for arg in args {
         pieces.push(Piece::Place {
             program,

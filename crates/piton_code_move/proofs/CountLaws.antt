@@ -1,19 +1,11 @@
 -- The number that an instruction of a checked system names is small.
-use Rattle.std.proofs.Common.{◌≡◌, ℕ, ◌≤◌, Some, List, ap, ◌∙◌, subst}
-use Rattle.piton_syntax.specs.declared.op.PitonOp.{PitonOp}
-use Rattle.piton_syntax.specs.declared.op.PitonOp.TheVariants as op
-use Rattle.piton_check.specs.declared.resolved.ResolvedArg.{ResolvedArg}
+use Rattle.std.proofs.Common.{◌≡◌, ℕ, ◌≤◌, Some, subst}
 use Rattle.piton_check.specs.Instruction as i
 use Rattle.piton_check.specs.Instruction.{Instruction, SystemView}
 use Rattle.piton_check.specs.Sound.{IsSound, IsPlaced}
 use Rattle.piton_machine.specs.State.{program_of, instruction_at}
-use Rattle.piton_machine.specs.Arguments.{of, number_argument, instruction_by_argument}
 use Rattle.piton_machine.proofs.SoundLaws.{placed_at}
 
 pub few_at : (s : SystemView) → IsSound s → (program place : ℕ) (instruction : Instruction) → instruction_at s program place ≡ Some instruction → (n : ℕ) → instruction ≡ i.PushTempStkIndex n → n ≤ 65536
 few_at s sound program place instruction there n same =
     subst (IsPlaced s (program_of s program)) same (placed_at s sound program place instruction there).1
-
--- the instruction that pushes an element by its number
-pub index_of : (o : PitonOp) (args : List ResolvedArg) (n : ℕ) → o ≡ op.PushTempStkIndex → number_argument args ≡ Some n → instruction_by_argument o args ≡ i.PushTempStkIndex n
-index_of o args n e h = ap (λ p. instruction_by_argument p args) e ∙ ap (λ x. of x i.PushTempStkIndex) h

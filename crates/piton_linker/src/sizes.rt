@@ -2,7 +2,6 @@
 
 ghost use Rattle.std.specs.Prelude.{◌≡◌, ◌<◌, ◌^◌, map};
 ghost use Rattle.piton_check.specs.Instruction.{instruction_view, program_view};
-ghost use Rattle.piton_machine.specs.Arguments.{instruction_by_argument};
 ghost use Rattle.piton_machine.specs.Fits.{system_in};
 ghost use Rattle.piton_machine.specs.Stacked.{words_in};
 ghost use Rattle.piton_machine.specs.Placed.{instruction_size, instructions_size, prelude_size, program_size, programs_size, areas_size};
@@ -10,12 +9,8 @@ ghost use Rattle.piton_machine.specs.Step.{operation_cost};
 ghost use Rattle.piton_linker.specs.Layouts.{layout_of};
 
 use crate::placement::Layout;
-use piton_check::{Checked, ResolvedArg, ResolvedInstr, ResolvedProgram, word_operation};
-use piton_machine::{
-    area_argument, local_argument, number_argument, operation_cost, place_argument,
-    program_argument, test_argument, word_argument,
-};
-use piton_syntax::PitonOp;
+use piton_check::{Checked, ResolvedInstr, ResolvedProgram};
+use piton_machine::{PitonInstr, operation_cost};
 use piton_words::Word;
 
 /// Where the parts of a system are placed.
@@ -96,76 +91,35 @@ fn data_size(areas: &[Vec<Word>]) -> u64
 }
 
 /// The words of an instruction.
-#[tactic(auto, using(piton_machine::proofs::ArgumentLaws::view_word, piton_machine::proofs::ArgumentLaws::view_other))]
 pub(crate) fn instruction_size(instr: &ResolvedInstr) -> u64
     requires { instruction_size (instruction_view instr.now) < 2 ^ 40 }
     ensures { result ≡ instruction_size (instruction_view instr.now) }
 {
-    match word_operation(instr.op) {
-        Some(op) => operation_cost(op),
-        None => size_otherwise(instr.op, instr.args.as_slice()),
-    }
-}
-
-/// The words of a move, a jump, a call or a return.
-fn size_otherwise(op: PitonOp, args: &[ResolvedArg]) -> u64
-    requires { instruction_size (instruction_by_argument op args.now) < 2 ^ 40 }
-    ensures { result ≡ instruction_size (instruction_by_argument op args.now) }
-{
-    match op {
-        PitonOp::PushConstant => match word_argument(args) {
-            Some(_) => 2,
-            None => 1,
-        },
-        PitonOp::PushLocal | PitonOp::PopLocal | PitonOp::SetLocal => match local_argument(args) {
-            Some(_) => 4,
-            None => 1,
-        },
-        PitonOp::PushGlobal | PitonOp::PopGlobal | PitonOp::SetGlobal => {
-            match area_argument(args) {
-                Some(_) => 3,
-                None => 1,
-            }
-        }
-        PitonOp::PushTempStkIndex => match number_argument(args) {
-            Some(_) => 4,
-            None => 1,
-        },
-        PitonOp::PushTempStkFreeSize
-        | PitonOp::PushCtrlStkFreeSize
-        | PitonOp::FetchTempStk
-        | PitonOp::DepositTempStk
-        | PitonOp::PopCall => 4,
-        PitonOp::Fetch | PitonOp::Deposit | PitonOp::Popn => 2,
-        PitonOp::PopStar => match number_argument(args) {
-            Some(_) => 2,
-            None => 1,
-        },
-        PitonOp::Jump => match place_argument(args) {
-            Some(_) => 2,
-            None => 1,
-        },
-        PitonOp::JumpIfTempStkFull | PitonOp::JumpIfTempStkEmpty => match place_argument(args) {
-            Some(_) => 5,
-            None => 1,
-        },
-        PitonOp::JumpCase => 4 + args.len() as u64,
-        PitonOp::Pushj => match place_argument(args) {
-            Some(_) => 4,
-            None => 1,
-        },
-        PitonOp::TestNatAndJump
-        | PitonOp::TestIntAndJump
-        | PitonOp::TestBoolAndJump
-        | PitonOp::TestBitvAndJump => match test_argument(args) {
-            Some(_) => 3,
-            None => 1,
-        },
-        PitonOp::Call => match program_argument(args) {
-            Some(_) => 4,
-            None => 1,
-        },
-        PitonOp::Ret => 5,
-        _ => 1,
+    match PitonInstr::decode(instr) {
+        PitonInstr::Pop | PitonInstr::NoOp | PitonInstr::Popj => 1,
+        PitonInstr::PushConstant(_)
+        | PitonInstr::Fetch
+        | PitonInstr::Deposit
+        | PitonInstr::PopStar(_)
+        | PitonInstr::Popn
+        | PitonInstr::Jump(_) => 2,
+        PitonInstr::PushGlobal(_)
+        | PitonInstr::PopGlobal(_)
+        | PitonInstr::SetGlobal(_)
+        | PitonInstr::TestAndJump(_, _, _) => 3,
+        PitonInstr::PushLocal(_)
+        | PitonInstr::PopLocal(_)
+        | PitonInstr::SetLocal(_)
+        | PitonInstr::PushTempStkIndex(_)
+        | PitonInstr::PushTempStkFreeSize
+        | PitonInstr::PushCtrlStkFreeSize
+        | PitonInstr::FetchTempStk
+        | PitonInstr::DepositTempStk
+        | PitonInstr::Pushj(_)
+        | PitonInstr::Call(_)
+        | PitonInstr::PopCall => 4,
+        PitonInstr::JumpIfTempStkFull(_) | PitonInstr::JumpIfTempStkEmpty(_) | PitonInstr::Ret => 5,
+        PitonInstr::JumpCase(labels) => 4 + labels.len() as u64,
+        PitonInstr::Apply(op) => operation_cost(op),
     }
 }

@@ -4,6 +4,8 @@ use Rattle.piton_words.specs.declared.op.WordOp.{WordOp}
 use Rattle.piton_syntax.specs.declared.op.PitonOp.{PitonOp}
 use Rattle.piton_syntax.specs.declared.op.PitonOp.TheVariants as op
 use Rattle.piton_check.specs.Words.{word_operation}
+use Rattle.piton_check.specs.Instruction as i
+use Rattle.piton_check.specs.Instruction.{Instruction}
 use Rattle.piton_check.specs.Resolved.{ResolvedInstrOf, ResolvedOf}
 use Rattle.piton_check.specs.declared.piece.Piece.{Piece}
 use Rattle.piton_machine.specs.declared.group.Group.{Group}
@@ -44,9 +46,29 @@ resolved_at r program place =
 abbrev pub IsOfGroup : Group → ResolvedOf → ℕ → ℕ → Type 0
 IsOfGroup group r program place = IfSome (resolved_at r program place) (λ instr. group_of instr.op ≡ group)
 
+-- the table of an instruction with what it needs
+abbrev pub instruction_group : Instruction → Group
+instruction_group (i.Jump place) = Jump
+instruction_group (i.JumpIfTempStkFull place) = Jump
+instruction_group (i.JumpIfTempStkEmpty place) = Jump
+instruction_group (i.JumpCase places) = Jump
+instruction_group (i.Pushj place) = Jump
+instruction_group i.Popj = Jump
+instruction_group (i.TestAndJump family kind place) = Jump
+instruction_group (i.Call program) = Jump
+instruction_group i.PopCall = Jump
+instruction_group i.Ret = Jump
+instruction_group (i.Apply operation) = Word
+instruction_group instruction = Move
+
 -- scaffold: these pieces for an instruction of the group, and none for another
-abbrev pub only_of : Group → Group → List Piece → List Piece
-only_of Move Move pieces = pieces
-only_of Jump Jump pieces = pieces
-only_of Word Word pieces = pieces
-only_of group other pieces = []
+abbrev pub only_same : Group → Group → List Piece → List Piece
+only_same Move Move pieces = pieces
+only_same Jump Jump pieces = pieces
+only_same Word Word pieces = pieces
+only_same group other pieces = []
+
+-- scaffold: the same, where an operation without its argument does nothing, whichever group it is of
+abbrev pub only_of : Group → Instruction → List Piece → List Piece
+only_of group i.NoOp pieces = pieces
+only_of group instruction pieces = only_same group (instruction_group instruction) pieces

@@ -1,5 +1,6 @@
 -- What the crate promises. Piton's own run: states, the rows of the instructions, steps and runs with their costs, what
 -- states keep, what is seen of one.
+pub mod PitonInstr
 pub mod State
 pub mod Views
 pub mod Rows

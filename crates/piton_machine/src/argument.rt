@@ -9,7 +9,7 @@ use piton_syntax::TestKind;
 use piton_words::Word;
 
 /// The word that an operation wants, if that is its one argument.
-pub fn word_argument(args: &[ResolvedArg]) -> Option<Word>
+pub(crate) fn word_argument(args: &[ResolvedArg]) -> Option<Word>
     ensures { result ≡ word_argument args.now }
 {
     match args {
@@ -19,7 +19,7 @@ pub fn word_argument(args: &[ResolvedArg]) -> Option<Word>
 }
 
 /// The same of a number.
-pub fn number_argument(args: &[ResolvedArg]) -> Option<u32>
+pub(crate) fn number_argument(args: &[ResolvedArg]) -> Option<u32>
     ensures { result ≡ number_argument args.now }
 {
     match args {
@@ -29,7 +29,7 @@ pub fn number_argument(args: &[ResolvedArg]) -> Option<u32>
 }
 
 /// The same of a local.
-pub fn local_argument(args: &[ResolvedArg]) -> Option<u32>
+pub(crate) fn local_argument(args: &[ResolvedArg]) -> Option<u32>
     ensures { result ≡ local_argument args.now }
 {
     match args {
@@ -39,7 +39,7 @@ pub fn local_argument(args: &[ResolvedArg]) -> Option<u32>
 }
 
 /// The same of a label.
-pub fn place_argument(args: &[ResolvedArg]) -> Option<u32>
+pub(crate) fn place_argument(args: &[ResolvedArg]) -> Option<u32>
     ensures { result ≡ place_argument args.now }
 {
     match args {
@@ -49,7 +49,7 @@ pub fn place_argument(args: &[ResolvedArg]) -> Option<u32>
 }
 
 /// The same of an area.
-pub fn area_argument(args: &[ResolvedArg]) -> Option<u32>
+pub(crate) fn area_argument(args: &[ResolvedArg]) -> Option<u32>
     ensures { result ≡ area_argument args.now }
 {
     match args {
@@ -59,7 +59,7 @@ pub fn area_argument(args: &[ResolvedArg]) -> Option<u32>
 }
 
 /// The same of a program.
-pub fn program_argument(args: &[ResolvedArg]) -> Option<u32>
+pub(crate) fn program_argument(args: &[ResolvedArg]) -> Option<u32>
     ensures { result ≡ program_argument args.now }
 {
     match args {
@@ -69,7 +69,7 @@ pub fn program_argument(args: &[ResolvedArg]) -> Option<u32>
 }
 
 /// A test, and a place.
-pub fn test_argument(args: &[ResolvedArg]) -> Option<(TestKind, u32)>
+pub(crate) fn test_argument(args: &[ResolvedArg]) -> Option<(TestKind, u32)>
     ensures { result ≡ test_argument args.now }
 {
     match args {

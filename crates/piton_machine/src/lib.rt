@@ -16,19 +16,18 @@ mod jumps;
 mod law;
 mod moves;
 mod piece;
+mod piton_instr;
 mod stack;
 mod state;
 mod stepped;
 mod view;
 
 pub use act::{operation_cost, variables};
-pub use argument::{
-    area_argument, local_argument, number_argument, place_argument, place_of, program_argument,
-    test_argument, word_argument,
-};
+pub use argument::place_of;
 pub use error_kind::ErrorKind;
 pub use group::{Group, group_of};
 pub use law::{placed_laws, step_laws};
 pub use piece::{code_pieces, literal_pieces, piece_vec, word_piece};
+pub use piton_instr::PitonInstr;
 pub use state::{State, instruction};
 pub use stepped::{PitonRun, Stepped};

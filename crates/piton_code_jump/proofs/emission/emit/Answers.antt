@@ -1,14 +1,14 @@
 use Rattle.std.proofs.Common.{◌≡◌, ◌∙◌, Some, ap, sym}
 use Rattle.std.specs.Prelude.{option_map}
-use Rattle.piton_check.specs.Instruction.{system_view}
+use Rattle.piton_check.specs.Instruction.{instruction_view, system_view}
 use Rattle.piton_check.specs.Resolved.{ResolvedOf}
 use Rattle.piton_machine.specs.declared.group.Group.TheVariants.{Jump}
-use Rattle.piton_machine.specs.Arguments.{instruction_by_argument}
 use Rattle.piton_machine.specs.Fits.{system_in}
-use Rattle.piton_machine.specs.Groups.{group_of, resolved_at, only_of}
+use Rattle.piton_machine.specs.Groups.{resolved_at, only_of}
+use Rattle.piton_machine.specs.PitonInstr.{decoded_view}
 use Rattle.piton_machine.specs.State.{variables_of}
 use Rattle.piton_machine.specs.Templates.{pieces_of}
-use Rattle.piton_machine.proofs.GroupLaws.{instruction_here, other_pieces}
+use Rattle.piton_machine.proofs.GroupLaws.{instruction_here, pieces_here}
 use Rattle.piton_machine.proofs.StepLaws.{each_step_simulated}
 use Rattle.piton_code_jump.proofs.CountLaws.{next_fits}
 use Rattle.piton_code_jump.proofs.emission.emit.Goals as goal
@@ -19,19 +19,20 @@ emitted-requires c =
     let r = c.resolved-resolved.result.now in
     let instr = c.in-Some.instr.now in
     let there : resolved_at r c.args.program c.args.place ≡ Some instr = sym c.instruction.ensures.resolved ∙ ap (option_map (λ i. i.now)) c.in-Some.is in
-    let here = instruction_here checked r c.args.program c.args.place instr c.instr.inside.op (ap (λ i. i.op) c.instr.view_is) c.resolved-resolved.ensures.value there Jump c.as_slice.result.now (λ h. cc) (c.as_slice.ensures.value ∙ ap (λ i. i.args) c.instr.view_is) c.requires in
-    record { next = next_fits (system_in checked) c.resolved-resolved.ensures.checked.sound c.args.program c.args.place (instruction_by_argument c.instr.inside.op c.as_slice.result.now) here }
+    let here = instruction_here checked r c.args.program c.args.place instr c.resolved-resolved.ensures.value there in
+    record { next = next_fits (system_in checked) c.resolved-resolved.ensures.checked.sound c.args.program c.args.place (instruction_view instr) here }
 
 pub returns-in_ok-emitted-in-Some-clause-pieces : goal.returns-in_ok-emitted-in-Some-clause-pieces
 returns-in_ok-emitted-in-Some-clause-pieces c =
     let checked = c.args.checked.now in
     let r = c.resolved-resolved.result.now in
     let instr = c.in-Some.instr.now in
+    let decoded = decoded_view c.decode-decoded.result in
     let there : resolved_at r c.args.program c.args.place ≡ Some instr = sym c.instruction.ensures.resolved ∙ ap (option_map (λ i. i.now)) c.in-Some.is in
     let locals : c.variables-locals.result ≡ variables_of (system_in checked) c.args.program = c.variables-locals.ensures.value ∙ ap (λ (u : ResolvedOf). variables_of (system_view u) c.args.program) c.resolved-resolved.ensures.value in
     c.in_ok-emitted-in-Some.ensures
-    ∙ ap (λ n. only_of Jump (group_of c.instr.inside.op) (pieces_of c.args.program c.args.place n (instruction_by_argument c.instr.inside.op c.as_slice.result.now))) locals
-    ∙ other_pieces checked r c.args.program c.args.place instr c.instr.inside.op (ap (λ i. i.op) c.instr.view_is) c.resolved-resolved.ensures.value there Jump c.as_slice.result.now (λ h. cc) (c.as_slice.ensures.value ∙ ap (λ i. i.args) c.instr.view_is) c.requires
+    ∙ ap (λ n. only_of Jump decoded (pieces_of c.args.program c.args.place n decoded)) locals
+    ∙ pieces_here checked r c.args.program c.args.place instr c.resolved-resolved.ensures.value there Jump decoded c.decode-decoded.ensures c.requires
 
 pub returns-in_ok-emitted-in-Some-clause-steps : goal.returns-in_ok-emitted-in-Some-clause-steps
 returns-in_ok-emitted-in-Some-clause-steps c = λ small m p q at here. each_step_simulated (system_in c.args.checked.now) c.resolved-resolved.ensures.checked.sound small m p q

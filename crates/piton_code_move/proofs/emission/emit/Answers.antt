@@ -2,11 +2,11 @@ use Rattle.std.proofs.Common.{◌≡◌, ◌∙◌, Some, ap, sym}
 use Rattle.std.specs.Prelude.{option_map}
 use Rattle.piton_check.specs.Sound.{local_count}
 use Rattle.piton_machine.specs.declared.group.Group.TheVariants.{Move}
-use Rattle.piton_machine.specs.Arguments.{instruction_by_argument}
 use Rattle.piton_machine.specs.Fits.{system_in}
 use Rattle.piton_machine.specs.Groups.{resolved_at}
+use Rattle.piton_machine.specs.PitonInstr.{decoded_view}
 use Rattle.piton_machine.specs.State.{program_of}
-use Rattle.piton_machine.proofs.GroupLaws.{instruction_here, other_pieces}
+use Rattle.piton_machine.proofs.GroupLaws.{instruction_here, pieces_here}
 use Rattle.piton_machine.proofs.StepLaws.{each_step_simulated}
 use Rattle.piton_code_move.proofs.CountLaws.{few_at}
 use Rattle.piton_code_move.proofs.emission.emit.Goals as goal
@@ -17,8 +17,8 @@ emitted-requires c =
     let r = c.resolved.result.now in
     let instr = c.in-Some.instr.now in
     let there : resolved_at r c.args.program c.args.place ≡ Some instr = sym c.instruction.ensures.resolved ∙ ap (option_map (λ i. i.now)) c.in-Some.is in
-    let here = instruction_here checked r c.args.program c.args.place instr c.instr.inside.op (ap (λ i. i.op) c.instr.view_is) c.resolved.ensures.value there Move c.as_slice.result.now (λ h. cc) (c.as_slice.ensures.value ∙ ap (λ i. i.args) c.instr.view_is) c.requires in
-    record { counts = few_at (system_in checked) c.resolved.ensures.checked.sound c.args.program c.args.place (instruction_by_argument c.instr.inside.op c.as_slice.result.now) here }
+    let here = instruction_here checked r c.args.program c.args.place instr c.resolved.ensures.value there in
+    record { counts = few_at (system_in checked) c.resolved.ensures.checked.sound c.args.program c.args.place (decoded_view c.decode.result) (here ∙ ap Some (sym c.decode.ensures)) }
 
 pub returns-in_ok-emitted-in-Some-clause-pieces : goal.returns-in_ok-emitted-in-Some-clause-pieces
 returns-in_ok-emitted-in-Some-clause-pieces c =
@@ -27,7 +27,7 @@ returns-in_ok-emitted-in-Some-clause-pieces c =
     let instr = c.in-Some.instr.now in
     let there : resolved_at r c.args.program c.args.place ≡ Some instr = sym c.instruction.ensures.resolved ∙ ap (option_map (λ i. i.now)) c.in-Some.is in
     c.in_ok-emitted-in-Some.ensures c.args.program c.args.place (local_count (program_of (system_in checked) c.args.program))
-    ∙ other_pieces checked r c.args.program c.args.place instr c.instr.inside.op (ap (λ i. i.op) c.instr.view_is) c.resolved.ensures.value there Move c.as_slice.result.now (λ h. cc) (c.as_slice.ensures.value ∙ ap (λ i. i.args) c.instr.view_is) c.requires
+    ∙ pieces_here checked r c.args.program c.args.place instr c.resolved.ensures.value there Move (decoded_view c.decode.result) c.decode.ensures c.requires
 
 pub returns-in_ok-emitted-in-Some-clause-steps : goal.returns-in_ok-emitted-in-Some-clause-steps
 returns-in_ok-emitted-in-Some-clause-steps c = λ small m p q at here. each_step_simulated (system_in c.args.checked.now) c.resolved.ensures.checked.sound small m p q
