@@ -81,16 +81,10 @@ fn emitted(
             jump_if_top_pieces(alloc, Piece::TempEnd { minus: 0 }, program, to)
         }
         PitonInstr::JumpCase(labels) => jump_case(alloc, program, labels),
-        PitonInstr::Pushj(to) => {
-            call_pieces(alloc, 2, after, Piece::Place { program, place: to })
-        }
+        PitonInstr::Pushj(to) => call_pieces(alloc, 2, after, Piece::Place { program, place: to }),
         PitonInstr::Popj => code_pieces(alloc, &popj_code()),
-        PitonInstr::TestAndJump(_, kind, to) => {
-            test_pieces(alloc, condition_of(kind), program, to)
-        }
-        PitonInstr::Call(callee) => {
-            call_pieces(alloc, 1, after, Piece::Entry { program: callee })
-        }
+        PitonInstr::TestAndJump(_, kind, to) => test_pieces(alloc, condition_of(kind), program, to),
+        PitonInstr::Call(callee) => call_pieces(alloc, 1, after, Piece::Entry { program: callee }),
         PitonInstr::PopCall => pop_call_pieces(alloc, after),
         PitonInstr::Ret => ret_pieces(alloc, locals),
         PitonInstr::NoOp => code_pieces(alloc, &no_op_code()),

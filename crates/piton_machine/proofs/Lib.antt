@@ -11,7 +11,6 @@ pub mod RowLaws
 pub mod RunLaws
 pub mod ElementLaws
 pub mod SoundLaws
-pub mod ArgumentLaws
 pub mod PieceLaws
 pub mod SizeLaws
 pub mod AddressLaws

@@ -51,19 +51,18 @@ pub enum PitonInstr<'a> {
 
 impl<'a> PitonInstr<'a> {
     /// What an operation and its arguments make.
-    #[tactic(auto, using(crate::proofs::ArgumentLaws::view_word, crate::proofs::ArgumentLaws::view_other))]
     pub fn decode(instr: &'a ResolvedInstr) -> PitonInstr<'a>
         ensures { decoded_view result ≡ instruction_view instr.now }
     {
         match word_operation(instr.op) {
             Some(op) => PitonInstr::Apply(op),
-            None => decoded(instr.op, instr.args.as_slice()).unwrap_or(PitonInstr::NoOp),
+            None => other_instr(instr.op, instr.args.as_slice()).unwrap_or(PitonInstr::NoOp),
         }
     }
 }
 
 /// A move, a jump, a call or a return with what it needs; none where that is missing.
-fn decoded(op: PitonOp, args: &[ResolvedArg]) -> Option<PitonInstr<'_>>
+fn other_instr(op: PitonOp, args: &[ResolvedArg]) -> Option<PitonInstr<'_>>
     ensures { decoded_view (unwrap_or result PitonInstr.NoOp) ≡ other_instruction_of op args.now }
 {
     let instr = match op {
