@@ -57,18 +57,23 @@ stored a (pos i) z = if nat_lt i (length a.items) then Normal record { shape = a
 abbrev pub are_same : ValueOf → ValueOf → Bool
 are_same v w = same_int (item_of_value v) (item_of_value w)
 
+-- on the values of the arguments, by their positions
+unfoldable pub effect_by : Predef → (ℕ → ValueOf) → Effect
+effect_by row.MgSimpleVariableAssignment v = Normal (v 1)
+effect_by row.MgSimpleConstantAssignment v = Normal (v 1)
+effect_by row.MgSimpleVariableEq v = Normal (truth_value (are_same (v 1) (v 2)))
+effect_by row.MgSimpleConstantEq v = Normal (truth_value (are_same (v 1) (v 2)))
+effect_by row.MgIntegerLe v = Normal (truth_value (int_le (item_of_value (v 1)) (item_of_value (v 2))))
+effect_by row.MgIntegerUnaryMinus v = number_effect (neg_ℤ (item_of_value (v 1)))
+effect_by row.MgIntegerAdd v = number_effect (item_of_value (v 1) +ℤ item_of_value (v 2))
+effect_by row.MgIntegerSubtract v = number_effect (item_of_value (v 1) -ℤ item_of_value (v 2))
+effect_by row.MgBooleanOr v = Normal (truth_value (is_true_value (v 1) || is_true_value (v 2)))
+effect_by row.MgBooleanAnd v = Normal (truth_value (is_true_value (v 1) && is_true_value (v 2)))
+effect_by row.MgBooleanNot v = Normal (truth_value (not (is_true_value (v 1))))
+effect_by row.MgIndexArray v = indexed (v 1) (item_of_value (v 2))
+effect_by row.MgArrayElementAssignment v = stored (v 0) (item_of_value (v 1)) (item_of_value (v 2))
+
 -- on the values of all arguments, in their order
 unfoldable pub predef_effect : Predef → List ValueOf → Effect
-predef_effect row.MgSimpleVariableAssignment vs = Normal (value_at vs 1)
-predef_effect row.MgSimpleConstantAssignment vs = Normal (value_at vs 1)
-predef_effect row.MgSimpleVariableEq vs = Normal (truth_value (are_same (value_at vs 1) (value_at vs 2)))
-predef_effect row.MgSimpleConstantEq vs = Normal (truth_value (are_same (value_at vs 1) (value_at vs 2)))
-predef_effect row.MgIntegerLe vs = Normal (truth_value (int_le (item_of_value (value_at vs 1)) (item_of_value (value_at vs 2))))
-predef_effect row.MgIntegerUnaryMinus vs = number_effect (neg_ℤ (item_of_value (value_at vs 1)))
-predef_effect row.MgIntegerAdd vs = number_effect (item_of_value (value_at vs 1) +ℤ item_of_value (value_at vs 2))
-predef_effect row.MgIntegerSubtract vs = number_effect (item_of_value (value_at vs 1) -ℤ item_of_value (value_at vs 2))
-predef_effect row.MgBooleanOr vs = Normal (truth_value (is_true_value (value_at vs 1) || is_true_value (value_at vs 2)))
-predef_effect row.MgBooleanAnd vs = Normal (truth_value (is_true_value (value_at vs 1) && is_true_value (value_at vs 2)))
-predef_effect row.MgBooleanNot vs = Normal (truth_value (not (is_true_value (value_at vs 1))))
-predef_effect row.MgIndexArray vs = indexed (value_at vs 1) (item_of_value (value_at vs 2))
-predef_effect row.MgArrayElementAssignment vs = stored (value_at vs 0) (item_of_value (value_at vs 1)) (item_of_value (value_at vs 2))
+unfolding effect_by
+predef_effect r vs = effect_by r (value_at vs)

@@ -1,7 +1,9 @@
 //! Statements.
 
-ghost use Rattle.std.specs.Prelude.{◌≡◌, ◌++◌, ◌∷◌, OnOk};
+ghost use Rattle.std.specs.Prelude.{◌≡◌, ◌++◌, ◌∷◌, [], OnOk};
+ghost use Rattle.stack_text.specs.Grammar.Printed.{list_tree, name_tree};
 ghost use Rattle.stack_text.specs.TreeText.{spaced_text, tree_text};
+ghost use Rattle.stack_text.specs.TreeView.{nodes};
 ghost use Rattle.gypsy_syntax.specs.Keywords.{keyword_name};
 ghost use Rattle.gypsy_syntax.specs.Printed.{keyword_of, stmt_parts, stmt_tree, stmt_trees};
 ghost use Rattle.gypsy_syntax.specs.SourceView.{parts_of_list, stmt_of};
@@ -65,56 +67,56 @@ fn spaced_statements(out: &mut Vec<u8>, parts: &[Stmt]) -> Result<(), Memory>
     Ok(())
 }
 
+/// Appends what follows the first word of a call.
+fn spaced_call(
+    out: &mut Vec<u8>,
+    callee: &Named,
+    actuals: &[Named],
+    conds: &[Named],
+) -> Result<(), Memory>
+    ensures { let parts = name_tree callee.now ∷ list_tree name_tree actuals.now ∷ list_tree name_tree conds.now ∷ [] in
+        OnOk result (out.new.items ≡ out.old.items ++ spaced_text (nodes parts)) }
+{
+    spaced_name(out, callee)?;
+    spaced_list(out, actuals)?;
+    spaced_list(out, conds)
+}
+
 /// Appends what follows the first word of a statement, with a space before each part.
 #[cycle(statements)]
 fn spaced_parts(out: &mut Vec<u8>, stmt: &Stmt) -> Result<(), Memory>
     ensures { OnOk result (out.new.items ≡ out.old.items ++ spaced_text (stmt_parts (stmt_of stmt.now))) }
 {
     match stmt {
-        Stmt::NoOp { place: _ } => Ok(()),
-        Stmt::Signal { place: _, cond } => spaced_name(out, cond),
-        Stmt::Seq { place: _, parts } => {
+        Stmt::NoOp { .. } => Ok(()),
+        Stmt::Signal { cond, .. } => spaced_name(out, cond),
+        Stmt::Seq { parts, .. } => {
             spaced_statements(out, parts.as_slice())?;
             Ok(())
         }
-        Stmt::Loop { place: _, body } => spaced_statement(out, body),
-        Stmt::If {
-            place: _,
-            test,
-            yes,
-            no,
-        } => {
+        Stmt::Loop { body, .. } => spaced_statement(out, body),
+        Stmt::If { test, yes, no, .. } => {
             spaced_name(out, test)?;
             spaced_statement(out, yes)?;
             spaced_statement(out, no)
         }
         Stmt::Begin {
-            place: _,
             body,
             conds,
             arm,
+            ..
         } => {
             spaced_statement(out, body)?;
             spaced_list(out, conds.as_slice())?;
             spaced_statement(out, arm)
         }
         Stmt::Call {
-            place: _,
             callee,
-            actuals_place: _,
             actuals,
-            conds_place: _,
             conds,
-        } => {
-            spaced_name(out, callee)?;
-            spaced_list(out, actuals.as_slice())?;
-            spaced_list(out, conds.as_slice())
-        }
-        Stmt::Predef {
-            place: _,
-            which: _,
-            args,
-        } => {
+            ..
+        } => spaced_call(out, callee, actuals.as_slice(), conds.as_slice()),
+        Stmt::Predef { args, .. } => {
             spaced_items(out, args.as_slice())?;
             Ok(())
         }
