@@ -31,41 +31,32 @@ pub(crate) fn check_statement(
         OnOk result (Notes best.old (breaches (stmt_of stmt.now)) best.new) }
 {
     match stmt {
-        Stmt::NoOp { place: _ } => {}
-        Stmt::Signal { place: _, cond } => check_raised(best, proc, in_loop, cond),
-        Stmt::Seq { place: _, parts } => {
-            check_parts(alloc, best, callees, proc, in_loop, parts.as_slice())?;
-        }
-        Stmt::Loop { place: _, body } => {
-            check_statement(alloc, best, callees, proc, true, body)?;
-        }
-        Stmt::If {
-            place: _,
-            test,
-            yes,
-            no,
-        } => {
+        Stmt::NoOp { .. } => {}
+        Stmt::Signal { cond, .. } => check_raised(best, proc, in_loop, cond),
+        Stmt::Seq { parts, .. } => check_parts(alloc, best, callees, proc, in_loop, parts)?,
+        Stmt::Loop { body, .. } => check_statement(alloc, best, callees, proc, true, body)?,
+        Stmt::If { test, yes, no, .. } => {
             check_test(best, proc, test);
             check_statement(alloc, best, callees, proc, in_loop, yes)?;
             check_statement(alloc, best, callees, proc, in_loop, no)?;
         }
         Stmt::Begin {
-            place: _,
             body,
             conds,
             arm,
+            ..
         } => {
             check_statement(alloc, best, callees, proc, in_loop, body)?;
             check_handlers(alloc, best, proc, conds.as_slice())?;
             check_statement(alloc, best, callees, proc, in_loop, arm)?;
         }
         Stmt::Call {
-            place: _,
             callee,
             actuals_place,
             actuals,
             conds_place,
             conds,
+            ..
         } => {
             let call = CallText {
                 callee,
@@ -76,9 +67,7 @@ pub(crate) fn check_statement(
             };
             check_call(alloc, best, callees, proc, in_loop, call)?;
         }
-        Stmt::Predef { place, which, args } => {
-            check_predef(best, proc, *place, *which, args.as_slice());
-        }
+        Stmt::Predef { place, which, args } => check_predef(best, proc, *place, *which, args),
     }
     Ok(())
 }

@@ -20,7 +20,7 @@ check_statement-returns-in_ok-check_parts-in-Seq t c =
     let p = proc_of c.args.proc.now in
     let g : Stmt → List Breach = statement_breaks s p c.args.in_loop in
     c.in_ok-check_parts-in-Seq.ensures
-    ∙ ap (λ bs. noted c.args.best.now (flat_map g bs)) c.as_slice.ensures.value
+    ∙ ap (λ bs. noted c.args.best.now (flat_map g bs)) c.deref.ensures.value
     ∙ ap (noted c.args.best.now) (sym (seq_each s p c.args.in_loop c.in-Seq.place c.in-Seq.parts) ∙ ap g (sym c.in-Seq.is))
 
 pub check_statement-returns-in_ok-check_statement-in-If-2 : goal.check_statement-returns-in_ok-check_statement-in-If-2
@@ -48,7 +48,7 @@ check_statement-returns-in_ok-check_statement-in-Begin-2 t c =
     let f3 = c.check_statement-in-Begin-2.new.best in
     let handlers = handlers_breaches p c.in-Begin.conds.items in
     let body : Notes f0 (g c.in-Begin.body.value) f1 = c.in_ok-check_statement-in-Begin.ensures ∙ ap (λ b. noted f0 (g b)) c.deref-in-Begin.ensures in
-    let handled : Notes f1 handlers f2 = c.in_ok-check_handlers-in-Begin.ensures ∙ ap (λ cs. noted f1 (handlers_breaches p cs)) c.as_slice-in-Begin.ensures.value in
+    let handled : Notes f1 handlers f2 = c.in_ok-check_handlers-in-Begin.ensures ∙ ap (λ cs. noted f1 (handlers_breaches p cs)) c.as_slice.ensures.value in
     let arm : Notes f2 (g c.in-Begin.arm.value) f3 = c.in_ok-check_statement-in-Begin-2.ensures ∙ ap (λ b. noted f2 (g b)) c.deref-in-Begin-2.ensures in
     let two = noted_two f0 f1 f2 (g c.in-Begin.body.value) handlers body handled in
     noted_two f0 f2 f3 (g c.in-Begin.body.value ++ handlers) (g c.in-Begin.arm.value) two arm
