@@ -7,6 +7,7 @@ ghost use Rattle.std.specs.Str.{bytes_eq};
 ghost use Rattle.stack_text.specs.declared.shape.Kind.TheVariants as kinds;
 ghost use Rattle.gypsy_syntax.specs.Fits.{FitsForm, FitsProcedure};
 ghost use Rattle.gypsy_syntax.specs.ProgramFits.{ValueFits, is_in_range};
+ghost use Rattle.gypsy_syntax.specs.Programs.{Apply, Call};
 ghost use Rattle.gypsy_syntax.specs.Resolved.{argument_of, cond_of, condition_names, item_of, items_of_all, literal_kind};
 ghost use Rattle.gypsy_syntax.specs.Resolved.{local_value, position_of, procedure_names, procedure_of, program_of, shape_of};
 ghost use Rattle.gypsy_syntax.specs.Resolved.{statement_of, statement_of_all, value_items, variable_names, variable_of};
@@ -20,7 +21,7 @@ ghost use Rattle.gypsy_check.specs.Types.{has_length};
 
 use crate::program::{Application, Argument, CallSite, Condition, Node, Procedure, Program};
 use gypsy_check::Accepted;
-use gypsy_syntax::{Arg, Decl, Literal, Local, Proc, Source, Stmt, TypeText};
+use gypsy_syntax::{Arg, Decl, Literal, Local, Predef, Proc, Source, Stmt, TypeText};
 use stack_text::{Kind, Memory, Name, Named, Shape, Value};
 use std::alloc::Global;
 use std::rc::Rc;
@@ -338,6 +339,50 @@ fn call_site(
     })
 }
 
+/// A call of a procedure, as a node.
+fn call(
+    alloc: Global,
+    source: &Source,
+    proc: &Proc,
+    place: u32,
+    callee: &Named,
+    actuals: &[Named],
+    conds: &[Named],
+) -> Result<Node, Memory>
+    requires source { FitsForm (source_of source.now) }
+    requires form { FitsProcedure (proc_of proc.now) }
+    ensures { let callee = position_of callee.now.name (procedure_names (source_of source.now)) in
+        let actuals = map (variable_of (proc_of proc.now)) actuals.now in
+        let conds = map (cond_of (proc_of proc.now)) conds.now in
+        IfOk result (λ n. seen_statement n ≡ Call place callee actuals conds) }
+{
+    let text = CallText {
+        callee,
+        actuals,
+        conds,
+    };
+    let site = call_site(alloc, source, proc, place, text)?;
+    Ok(Node::Call(Rc::new(alloc, site)?))
+}
+
+/// A predefined call, as a node.
+fn application(
+    alloc: Global,
+    proc: &Proc,
+    place: u32,
+    which: Predef,
+    args: &[Arg],
+) -> Result<Node, Memory>
+    requires form { FitsProcedure (proc_of proc.now) }
+    requires constants { All (λ a. ConstantFits (arg_of a)) args.now }
+    ensures { let arguments = map (argument_of (proc_of proc.now)) (map arg_of args.now) in
+        IfOk result (λ n. seen_statement n ≡ Apply place which arguments) }
+{
+    let args = arguments(alloc, proc, args)?;
+    let application = Application { place, which, args };
+    Ok(Node::Apply(Rc::new(alloc, application)?))
+}
+
 /// A statement.
 #[cycle(statements)]
 fn statement(alloc: Global, source: &Source, proc: &Proc, stmt: &Stmt) -> Result<Node, Memory>
@@ -350,24 +395,20 @@ fn statement(alloc: Global, source: &Source, proc: &Proc, stmt: &Stmt) -> Result
     match stmt {
         Stmt::NoOp { place } => Ok(Node::NoOp(*place)),
         Stmt::Signal { place, cond } => Ok(Node::Signal(*place, condition(proc, cond))),
-        Stmt::Seq { place: _, parts } => {
+        Stmt::Seq { parts, .. } => {
             let nodes = statements(alloc, source, proc, parts.as_slice())?;
             Ok(Node::Seq(Rc::new(alloc, nodes)?))
         }
-        Stmt::Loop { place, body } => {
-            let body = shared(alloc, source, proc, body)?;
-            Ok(Node::Loop(*place, body))
-        }
+        Stmt::Loop { place, body } => { Ok(Node::Loop(*place, shared(alloc, source, proc, body)?)) }
         Stmt::If {
             place,
             test,
             yes,
             no,
         } => {
-            let test = variable(proc, test);
             let yes = shared(alloc, source, proc, yes)?;
             let no = shared(alloc, source, proc, no)?;
-            Ok(Node::If(*place, test, yes, no))
+            Ok(Node::If(*place, variable(proc, test), yes, no))
         }
         Stmt::Begin {
             place,
@@ -376,34 +417,19 @@ fn statement(alloc: Global, source: &Source, proc: &Proc, stmt: &Stmt) -> Result
             arm,
         } => {
             let body = shared(alloc, source, proc, body)?;
-            let conds = conditions(alloc, proc, conds.as_slice())?;
+            let conds = Rc::new(alloc, conditions(alloc, proc, conds.as_slice())?)?;
             let arm = shared(alloc, source, proc, arm)?;
-            Ok(Node::Begin(*place, body, Rc::new(alloc, conds)?, arm))
+            Ok(Node::Begin(*place, body, conds, arm))
         }
         Stmt::Call {
             place,
             callee,
-            actuals_place: _,
             actuals,
-            conds_place: _,
             conds,
-        } => {
-            let call = CallText {
-                callee,
-                actuals,
-                conds,
-            };
-            let site = call_site(alloc, source, proc, *place, call)?;
-            Ok(Node::Call(Rc::new(alloc, site)?))
-        }
+            ..
+        } => call(alloc, source, proc, *place, callee, actuals, conds),
         Stmt::Predef { place, which, args } => {
-            let args = arguments(alloc, proc, args.as_slice())?;
-            let application = Application {
-                place: *place,
-                which: *which,
-                args,
-            };
-            Ok(Node::Apply(Rc::new(alloc, application)?))
+            application(alloc, proc, *place, *which, args.as_slice())
         }
     }
 }

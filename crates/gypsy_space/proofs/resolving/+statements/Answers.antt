@@ -24,8 +24,8 @@ statement-statements-requires t c =
     let constants = subst (λ (b : StmtOf). ConstantsFit b) k c.requires.constants in
     (search (rules, the_lemmas), (c.requires.source, (c.requires.form, All-same (λ (s : Text). ConstantsFit (stmt_of s)) c.as_slice.result.now parts c.as_slice.ensures.value (parts_fit parts constants))))
 
-pub statement-arguments-requires-clause-constants : goal.statement-arguments-requires-clause-constants
-statement-arguments-requires-clause-constants t c =
+pub statement-application-requires-clause-constants : goal.statement-application-requires-clause-constants
+statement-application-requires-clause-constants t c =
     let args = c.in-Predef.args.items in
     let k : stmt_of c.args.stmt.now ≡ predef c.in-Predef.place c.in-Predef.which (map arg_of args) = ap stmt_of c.in-Predef.is in
     let constants = subst (λ (b : StmtOf). ConstantsFit b) k c.requires.constants in
