@@ -1,5 +1,5 @@
 -- Predefined calls by the positions of their arguments.
-use Rattle.std.proofs.Common.{◌≡◌, ℕ, zero, suc, List, [], ◌∷◌, map, get_or, slice_set, false, refl, sym, subst, ap, ap₂, ◌∙◌}
+use Rattle.std.proofs.Common.{◌≡◌, ℕ, zero, suc, List, [], ◌∷◌, map, get_or, slice_set, false, refl, sym, subst, ap, ◌∙◌}
 use Rattle.stack_text.specs.Values.{ValueOf}
 use Rattle.gypsy_syntax.specs.declared.predef.Predef.{Predef}
 use Rattle.gypsy_syntax.specs.declared.predef.Predef.TheVariants as row
@@ -20,11 +20,11 @@ use Rattle.gypsy_meaning.specs.Applied.{call_item, WritesOn, IsApplied}
 use Rattle.gypsy_meaning.specs.declared.applying.Applied.{Applied}
 use Rattle.gypsy_meaning.specs.declared.applying.Applied.TheVariants.{Writes, Fails}
 use Rattle.gypsy_meaning.specs.declared.turn.Advance.{Advance}
-use Rattle.gypsy_syntax.specs.Effects.{value_at, no_value, predef_effect}
+use Rattle.gypsy_syntax.specs.Effects.{value_at, no_value, effect_by, predef_effect}
 use Rattle.gypsy_space.specs.declared.program.Argument.{Argument}
 use Rattle.gypsy_space.specs.Nodes.{seen_arg}
 use Rattle.gypsy_meaning.specs.Calls.{value_of, values_of, target_of}
-use Rattle.gypsy_meaning.specs.Applying.{applied_effect, effect_by}
+use Rattle.gypsy_meaning.specs.Applying.{applied_effect}
 
 pub value_listed : (x : List ValueOf) (args : List Arg) (i : ℕ) → value_of x (get_or args i (Lit no_value)) ≡ value_at (values_of x args) i
 unfolding values_of
@@ -32,32 +32,9 @@ value_listed x [] i = refl
 value_listed x (a ∷ args) zero = refl
 value_listed x (a ∷ args) (suc i) = value_listed x args i
 
-abbrev at_most_three : ValueOf → ValueOf → ValueOf → ℕ → ValueOf
-at_most_three a b c zero = a
-at_most_three a b c (suc zero) = b
-at_most_three a b c (suc (suc n)) = c
-
-effects_alike : (r : Predef) (f : ℕ → ValueOf) (vs : List ValueOf) → ((i : ℕ) → f i ≡ value_at vs i) → effect_by r f ≡ predef_effect r vs
-unfolding effect_by predef_effect
-effects_alike row.MgSimpleVariableAssignment f vs e = ap (λ a. effect_by row.MgSimpleVariableAssignment (at_most_three no_value a no_value)) (e 1)
-effects_alike row.MgSimpleConstantAssignment f vs e = ap (λ a. effect_by row.MgSimpleConstantAssignment (at_most_three no_value a no_value)) (e 1)
-effects_alike row.MgSimpleVariableEq f vs e = ap₂ (λ a b. effect_by row.MgSimpleVariableEq (at_most_three no_value a b)) (e 1) (e 2)
-effects_alike row.MgSimpleConstantEq f vs e = ap₂ (λ a b. effect_by row.MgSimpleConstantEq (at_most_three no_value a b)) (e 1) (e 2)
-effects_alike row.MgIntegerLe f vs e = ap₂ (λ a b. effect_by row.MgIntegerLe (at_most_three no_value a b)) (e 1) (e 2)
-effects_alike row.MgIntegerUnaryMinus f vs e = ap (λ a. effect_by row.MgIntegerUnaryMinus (at_most_three no_value a no_value)) (e 1)
-effects_alike row.MgIntegerAdd f vs e = ap₂ (λ a b. effect_by row.MgIntegerAdd (at_most_three no_value a b)) (e 1) (e 2)
-effects_alike row.MgIntegerSubtract f vs e = ap₂ (λ a b. effect_by row.MgIntegerSubtract (at_most_three no_value a b)) (e 1) (e 2)
-effects_alike row.MgBooleanOr f vs e = ap₂ (λ a b. effect_by row.MgBooleanOr (at_most_three no_value a b)) (e 1) (e 2)
-effects_alike row.MgBooleanAnd f vs e = ap₂ (λ a b. effect_by row.MgBooleanAnd (at_most_three no_value a b)) (e 1) (e 2)
-effects_alike row.MgBooleanNot f vs e = ap (λ a. effect_by row.MgBooleanNot (at_most_three no_value a no_value)) (e 1)
-effects_alike row.MgIndexArray f vs e = ap₂ (λ a b. effect_by row.MgIndexArray (at_most_three no_value a b)) (e 1) (e 2)
-effects_alike row.MgArrayElementAssignment f vs e =
-    ap (λ a. effect_by row.MgArrayElementAssignment (at_most_three a (f 1) (f 2))) (e 0) ∙
-    ap₂ (λ a b. effect_by row.MgArrayElementAssignment (at_most_three (value_at vs 0) a b)) (e 1) (e 2)
-
 pub applied_is : (r : Predef) (x : List ValueOf) (args : List Argument) → applied_effect r x args ≡ predef_effect r (values_of x (map seen_arg args))
-unfolding applied_effect
-applied_is r x args = effects_alike r _ (values_of x (map seen_arg args)) (value_listed x (map seen_arg args))
+unfolding applied_effect predef_effect
+applied_is r x args = λ i. effect_by r (λ n. value_listed x (map seen_arg args) n i)
 
 normal_cost : (r : Predef) (v : ValueOf) → predef_cost r (Normal v) ≡ predef_cost r (Normal no_value)
 unfolding predef_cost

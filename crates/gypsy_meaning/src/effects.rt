@@ -219,7 +219,7 @@ fn store_in_array(
 }
 
 /// What a predefined call does.
-#[tactic(auto, unfolding(crate::specs::Applying::applied_effect, crate::specs::Applying::effect_by, crate::specs::Applying::Suits))]
+#[tactic(auto, unfolding(crate::specs::Applying::applied_effect, gypsy_syntax::specs::Effects::effect_by, crate::specs::Applying::Suits))]
 pub fn apply(
     alloc: Global,
     which: Predef,
