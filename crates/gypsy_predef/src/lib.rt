@@ -5,6 +5,7 @@ ghost use Rattle.gypsy_predef.specs.Runs.{PredefRuns, CountsAdd, WordsWritten};
 ghost use Rattle.gypsy_predef.specs.Calls.{PredefCallRuns, BodiesStand, ArgumentsHold, ValuesKept};
 ghost use Rattle.gypsy_predef.specs.Resolving.{BodiesFit, BodiesKeepRules, BodiesResolve, BodiesStandResolved};
 
+pub mod instruction_text;
 mod line;
 mod rows;
 mod writing;

@@ -1,137 +1,68 @@
 //! The bodies as programs of Piton's text.
 
-ghost use Rattle.std.specs.Prelude.{◌≡◌, ◌++◌, IsTrue, IfOk, OnOk, [], ◌∷◌, map};
+ghost use Rattle.std.specs.Prelude.{◌≡◌, ◌++◌, IfOk, OnOk, [], ◌∷◌, map};
 ghost use Rattle.std.specs.List.{flat_map};
-ghost use Rattle.stack_text.specs.Names.{is_name};
 ghost use Rattle.gypsy_predef.specs.declared.line.Line.TheVariants.{Get, Put, Fail};
 ghost use Rattle.gypsy_predef.specs.Resolving.{DoTheirRows};
 ghost use Rattle.gypsy_predef.specs.Texts.{body_text, body_texts, line_text, named_local, temporaries_text};
-ghost use Rattle.gypsy_predef.specs.Texts.{constant, named, of_name, plain, test_text};
+ghost use Rattle.gypsy_predef.specs.Texts.{fail_label, local_name, named, of_name};
 
+use crate::instruction_text::{constant, named, of_name, plain, test, unplaced};
 use crate::line::{Line, Local, local_name};
 use crate::rows::{formals_of, has_temporary, lines_of, program_name};
 use gypsy_syntax::Predef;
-use piton_syntax::{ArgText, InstrText, Number, PitonOp, Program, TestKind, WordItem, WordText};
-use stack_text::{Memory, Named, read_name};
+use piton_syntax::{InstrText, PitonOp, Program, WordItem, WordText};
+use stack_text::{Memory, Named};
 use std::alloc::Global;
 
 /// The number of routineerror, as the condition's area has it.
 const ROUTINE_ERROR: i128 = 1;
 
-/// A name.
-fn named(alloc: Global, bytes: &[u8]) -> Result<Named, Memory>
-    requires { IsTrue (is_name bytes.now) }
-    ensures { IfOk result (λ n. n ≡ named bytes.now) }
-{
-    match read_name(alloc, bytes)? {
-        Some(name) => Ok(Named { place: 0, name }),
-        None => unreachable!(),
-    }
-}
-
-/// An instruction without arguments.
-fn plain(alloc: Global, instrs: &mut Vec<InstrText>, op: PitonOp) -> Result<(), Memory>
-    ensures { OnOk result (instrs.new.items ≡ instrs.old.items ++ plain op ∷ []) }
-{
-    instrs.push(InstrText {
-        place: 0,
-        label: None,
-        op,
-        args: Vec::new(alloc),
-    })?;
-    Ok(())
-}
-
-/// An instruction of a name.
-fn of_name(
+/// An instruction of a local.
+fn of_local(
     alloc: Global,
     instrs: &mut Vec<InstrText>,
     op: PitonOp,
-    name: &[u8],
+    local: Local,
 ) -> Result<(), Memory>
-    requires { IsTrue (is_name name.now) }
-    ensures { OnOk result (instrs.new.items ≡ instrs.old.items ++ of_name op name.now ∷ []) }
+    ensures { OnOk result (instrs.new.items ≡ instrs.old.items ++ of_name op (local_name local) ∷ []) }
 {
-    let mut args = Vec::new(alloc);
-    args.push(ArgText::Name(named(alloc, name)?))?;
-    instrs.push(InstrText {
-        place: 0,
-        label: None,
-        op,
-        args,
-    })?;
-    Ok(())
+    of_name(alloc, instrs, op, named(alloc, local_name(local))?)
 }
 
-/// A `push-constant`.
-fn constant(
-    alloc: Global,
-    instrs: &mut Vec<InstrText>,
-    label: Option<Named>,
-    item: WordItem,
-) -> Result<(), Memory>
-    ensures { OnOk result (instrs.new.items ≡ instrs.old.items ++ constant label item ∷ []) }
+/// The label of `fail`.
+fn fail_label(alloc: Global) -> Result<Named, Memory>
+    ensures { IfOk result (λ name. name ≡ named fail_label) }
 {
-    let mut args = Vec::new(alloc);
-    args.push(ArgText::Word(WordText { place: 0, item }))?;
-    instrs.push(InstrText {
-        place: 0,
-        label,
-        op: PitonOp::PushConstant,
-        args,
-    })?;
-    Ok(())
-}
-
-/// A test, and the jump to `fail`.
-fn test(
-    alloc: Global,
-    instrs: &mut Vec<InstrText>,
-    op: PitonOp,
-    kind: TestKind,
-) -> Result<(), Memory>
-    ensures { OnOk result (instrs.new.items ≡ instrs.old.items ++ test_text op kind ∷ []) }
-{
-    let mut args = Vec::new(alloc);
-    args.push(ArgText::Test(kind))?;
-    args.push(ArgText::Name(named(alloc, b"L0".as_slice())?))?;
-    instrs.push(InstrText {
-        place: 0,
-        label: None,
-        op,
-        args,
-    })?;
-    Ok(())
+    named(alloc, b"L0".as_slice())
 }
 
 /// `get x`.
 fn get(alloc: Global, instrs: &mut Vec<InstrText>, local: Local) -> Result<(), Memory>
     ensures { OnOk result (instrs.new.items ≡ instrs.old.items ++ line_text (Get local)) }
 {
-    of_name(alloc, instrs, PitonOp::PushLocal, local_name(local))?;
-    plain(alloc, instrs, PitonOp::FetchTempStk)
+    of_local(alloc, instrs, PitonOp::PushLocal, local)?;
+    plain(alloc, instrs, None, PitonOp::FetchTempStk)
 }
 
 /// `put d`.
 fn put(alloc: Global, instrs: &mut Vec<InstrText>, local: Local) -> Result<(), Memory>
     ensures { OnOk result (instrs.new.items ≡ instrs.old.items ++ line_text (Put local)) }
 {
-    of_name(alloc, instrs, PitonOp::PushLocal, local_name(local))?;
-    plain(alloc, instrs, PitonOp::DepositTempStk)
+    of_local(alloc, instrs, PitonOp::PushLocal, local)?;
+    plain(alloc, instrs, None, PitonOp::DepositTempStk)
 }
 
 /// `fail`.
 fn fail(alloc: Global, instrs: &mut Vec<InstrText>) -> Result<(), Memory>
     ensures { OnOk result (instrs.new.items ≡ instrs.old.items ++ line_text Fail) }
 {
-    let label = named(alloc, b"L0".as_slice())?;
-    let number = Number {
-        place: 0,
-        number: ROUTINE_ERROR,
-    };
+    let label = fail_label(alloc)?;
+    let number = unplaced(ROUTINE_ERROR);
     constant(alloc, instrs, Some(label), WordItem::Nat(number))?;
-    of_name(alloc, instrs, PitonOp::PopGlobal, b"c-c".as_slice())?;
-    plain(alloc, instrs, PitonOp::Ret)
+    let area = named(alloc, b"c-c".as_slice())?;
+    of_name(alloc, instrs, PitonOp::PopGlobal, area)?;
+    plain(alloc, instrs, None, PitonOp::Ret)
 }
 
 /// A line.
@@ -141,16 +72,11 @@ fn line(alloc: Global, instrs: &mut Vec<InstrText>, line: Line) -> Result<(), Me
     match line {
         Line::Get(local) => get(alloc, instrs, local),
         Line::Put(local) => put(alloc, instrs, local),
-        Line::Local(op, local) => of_name(alloc, instrs, op, local_name(local)),
-        Line::Plain(op) => plain(alloc, instrs, op),
+        Line::Local(op, local) => of_local(alloc, instrs, op, local),
+        Line::Plain(op) => plain(alloc, instrs, None, op),
         Line::Truth(truth) => constant(alloc, instrs, None, WordItem::Bool(truth)),
-        Line::Integer(number) => constant(
-            alloc,
-            instrs,
-            None,
-            WordItem::Int(Number { place: 0, number }),
-        ),
-        Line::Test(op, kind) => test(alloc, instrs, op, kind),
+        Line::Integer(number) => constant(alloc, instrs, None, WordItem::Int(unplaced(number))),
+        Line::Test(op, kind) => test(alloc, instrs, op, kind, fail_label(alloc)?),
         Line::Fail => fail(alloc, instrs),
     }
 }
@@ -183,13 +109,9 @@ fn temporaries(alloc: Global, row: Predef) -> Result<Vec<(Named, WordText)>, Mem
 {
     let mut temporaries = Vec::new(alloc);
     if has_temporary(row) {
-        let zero = Number {
-            place: 0,
-            number: 0,
-        };
         let word = WordText {
             place: 0,
-            item: WordItem::Int(zero),
+            item: WordItem::Int(unplaced(0)),
         };
         temporaries.push((named(alloc, local_name(Local::T))?, word))?;
     }

@@ -1,0 +1,102 @@
+//! Instructions of a text, put one behind the other. All their places are 0.
+
+ghost use Rattle.std.specs.Prelude.{◌≡◌, ◌++◌, [], ◌∷◌, IfOk, IsTrue, None, OnOk};
+ghost use Rattle.stack_text.specs.Names.{is_name};
+ghost use Rattle.piton_syntax.specs.declared.argument.ArgText.TheVariants as arg;
+ghost use Rattle.gypsy_predef.specs.Texts.{constant, instruction, named, number};
+
+use piton_syntax::{ArgText, InstrText, Number, PitonOp, TestKind, WordItem, WordText};
+use stack_text::{Memory, Named, read_name};
+use std::alloc::Global;
+
+/// A number.
+pub fn unplaced(value: i128) -> Number
+    ensures { result ≡ number value }
+{
+    Number {
+        place: 0,
+        number: value,
+    }
+}
+
+/// A name of these bytes.
+pub fn named(alloc: Global, bytes: &[u8]) -> Result<Named, Memory>
+    requires { IsTrue (is_name bytes.now) }
+    ensures { IfOk result (λ name. name ≡ named bytes.now) }
+{
+    match read_name(alloc, bytes)? {
+        Some(name) => Ok(Named { place: 0, name }),
+        None => unreachable!(),
+    }
+}
+
+/// One more instruction.
+pub fn put(
+    instrs: &mut Vec<InstrText>,
+    label: Option<Named>,
+    op: PitonOp,
+    args: Vec<ArgText>,
+) -> Result<(), Memory>
+    ensures { OnOk result (instrs.new.items ≡ instrs.old.items ++ instruction label op args.items ∷ []) }
+{
+    instrs.push(InstrText {
+        place: 0,
+        label,
+        op,
+        args,
+    })?;
+    Ok(())
+}
+
+/// An instruction without arguments.
+pub fn plain(
+    alloc: Global,
+    instrs: &mut Vec<InstrText>,
+    label: Option<Named>,
+    op: PitonOp,
+) -> Result<(), Memory>
+    ensures { OnOk result (instrs.new.items ≡ instrs.old.items ++ instruction label op [] ∷ []) }
+{
+    put(instrs, label, op, Vec::new(alloc))
+}
+
+/// An instruction of a name.
+pub fn of_name(
+    alloc: Global,
+    instrs: &mut Vec<InstrText>,
+    op: PitonOp,
+    name: Named,
+) -> Result<(), Memory>
+    ensures { OnOk result (instrs.new.items ≡ instrs.old.items ++ instruction None op (arg.Name name ∷ []) ∷ []) }
+{
+    let args = vec![in alloc; ArgText::Name(name)]?;
+    put(instrs, None, op, args)
+}
+
+/// A `push-constant`.
+pub fn constant(
+    alloc: Global,
+    instrs: &mut Vec<InstrText>,
+    label: Option<Named>,
+    item: WordItem,
+) -> Result<(), Memory>
+    ensures { OnOk result (instrs.new.items ≡ instrs.old.items ++ constant label item ∷ []) }
+{
+    let args = vec![in alloc; ArgText::Word(WordText { place: 0, item })]?;
+    put(instrs, label, PitonOp::PushConstant, args)
+}
+
+/// A test, and the jump to a label.
+pub fn test(
+    alloc: Global,
+    instrs: &mut Vec<InstrText>,
+    op: PitonOp,
+    kind: TestKind,
+    to: Named,
+) -> Result<(), Memory>
+    ensures { let args = arg.Test kind ∷ arg.Name to ∷ [] in
+        OnOk result (instrs.new.items ≡ instrs.old.items ++ instruction None op args ∷ []) }
+{
+    let args = vec![in alloc; ArgText::Test(kind), ArgText::Name(to)]?;
+    put(instrs, None, op, args)
+}
