@@ -1,8 +1,10 @@
 -- What clauses see of nodes.
-use Rattle.std.specs.Prelude.{List, [], ◌∷◌, map, length}
+use Rattle.std.specs.Prelude.{ℕ, List, [], ◌∷◌, ◌++◌, map, length}
 use Rattle.std.specs.declared.rc.Rc.{Rc}
 use Rattle.std.specs.declared.alloc.Global.{Global}
 use Rattle.gypsy_syntax.specs.Programs.{Cond, Leave, Routine, Declared, Arg, Var, Lit, Stmt, Proc}
+use Rattle.gypsy_syntax.specs.Resolved.{condition_names, variable_names}
+use Rattle.gypsy_syntax.specs.Sources.{ProcOf}
 use Rattle.gypsy_space.specs.declared.program.Procedure.{Procedure}
 use Rattle.gypsy_space.specs.declared.program.Program.{Program}
 use Rattle.gypsy_syntax.specs.Programs as program
@@ -56,3 +58,18 @@ seen_proc p = record {
 
 abbrev pub seen_program : Program → program.Program
 seen_program q = record { main = q.main; procs = map seen_proc q.procedures.items }
+
+-- the names in a procedure: those of its formals and then its locals, and those of its formal conditions and then the local ones
+pub record ProcNames : Type 0 where
+  pub variables : List (List ℕ)
+  pub conditions : List (List ℕ)
+
+abbrev pub seen_proc_names : Procedure → ProcNames
+seen_proc_names p = record {
+  variables = map (λ f. f.0) p.formals.items ++ map (λ l. l.0) p.locals.items;
+  conditions = p.conds.items ++ p.local_conds.items;
+}
+
+-- the names that a procedure of a source declares
+abbrev pub declared_names : ProcOf → ProcNames
+declared_names p = record { variables = variable_names p; conditions = condition_names p }

@@ -14,6 +14,7 @@ ghost use Rattle.gypsy_syntax.specs.Resolved.{statement_of, statement_of_all, va
 ghost use Rattle.gypsy_syntax.specs.SourceView.{arg_of, items_of_list, literal_of, local_of, parts_of_list, proc_of};
 ghost use Rattle.gypsy_syntax.specs.SourceView.{source_of, stmt_of};
 ghost use Rattle.gypsy_space.specs.Nodes.{seen_arg, seen_cond, seen_proc, seen_program, seen_statement, seen_statements};
+ghost use Rattle.gypsy_space.specs.Nodes.{declared_names, seen_proc_names};
 ghost use Rattle.gypsy_space.specs.CallSites.{IsCallSite};
 ghost use Rattle.gypsy_space.specs.Resolvable.{ConstantFits, ConstantsFit, IsResolvable, LocalFits};
 ghost use Rattle.gypsy_check.specs.Accepted.{IsAccepted};
@@ -275,7 +276,8 @@ fn arguments(alloc: Global, proc: &Proc, args: &[Arg]) -> Result<Vec<Argument>, 
 /// Each formal, with its name.
 fn formals(alloc: Global, decls: &[Decl]) -> Result<Vec<(Name, Shape)>, Memory>
     requires { All (λ d. IsTrue (has_length d.shape.length)) decls.now }
-    ensures { IfOk result (λ r. map (λ f. f.1) r.items ≡ map (λ d. shape_of d.shape) decls.now) }
+    ensures shapes { IfOk result (λ r. map (λ f. f.1) r.items ≡ map (λ d. shape_of d.shape) decls.now) }
+    ensures names { IfOk result (λ r. map (λ f. f.0) r.items ≡ map (λ d. d.name.name) decls.now) }
 {
     let mut formals = Vec::new(alloc);
     for decl in decls {
@@ -287,7 +289,8 @@ fn formals(alloc: Global, decls: &[Decl]) -> Result<Vec<(Name, Shape)>, Memory>
 /// Each local, with its name and its initial value.
 fn locals(alloc: Global, locals: &[Local]) -> Result<Vec<(Name, Value)>, Memory>
     requires { All (λ l. LocalFits (local_of l)) locals.now }
-    ensures { IfOk result (λ r. map (λ l. l.1) r.items ≡ map local_value (map local_of locals.now)) }
+    ensures values { IfOk result (λ r. map (λ l. l.1) r.items ≡ map local_value (map local_of locals.now)) }
+    ensures names { IfOk result (λ r. map (λ l. l.0) r.items ≡ map (λ l. l.decl.name.name) (map local_of locals.now)) }
 {
     let mut values = Vec::new(alloc);
     for local in locals {
@@ -473,7 +476,8 @@ fn statements(
 fn procedure(alloc: Global, source: &Source, proc: &Proc) -> Result<Procedure, Memory>
     requires source { FitsForm (source_of source.now) }
     requires resolvable { IsResolvable (proc_of proc.now) }
-    ensures { IfOk result (λ p. seen_proc p ≡ procedure_of (source_of source.now) (proc_of proc.now)) }
+    ensures procedure { IfOk result (λ p. seen_proc p ≡ procedure_of (source_of source.now) (proc_of proc.now)) }
+    ensures names { IfOk result (λ p. seen_proc_names p ≡ declared_names (proc_of proc.now)) }
 {
     Ok(Procedure {
         place: proc.place,
@@ -489,8 +493,10 @@ fn procedure(alloc: Global, source: &Source, proc: &Proc) -> Result<Procedure, M
 fn procedures(alloc: Global, source: &Source) -> Result<Vec<Procedure>, Memory>
     requires source { FitsForm (source_of source.now) }
     requires resolvable { All (λ p. IsResolvable (proc_of p)) source.now.procs.items }
-    ensures { IfOk result (λ ps. map seen_proc ps.items
+    ensures procedures { IfOk result (λ ps. map seen_proc ps.items
         ≡ map (procedure_of (source_of source.now)) (source_of source.now).procs) }
+    ensures names { IfOk result (λ ps. map seen_proc_names ps.items
+        ≡ map declared_names (source_of source.now).procs) }
 {
     let mut procedures = Vec::new(alloc);
     for proc in source.procs.as_slice() {
@@ -499,9 +505,11 @@ fn procedures(alloc: Global, source: &Source) -> Result<Vec<Procedure>, Memory>
     Ok(procedures)
 }
 
-/// The program that a source is.
+/// The program that a source is, with the names of the source's variables and conditions.
 pub fn resolve(alloc: Global, accepted: &Accepted) -> Result<Program, Memory>
     ensures program { IfOk result (λ q. seen_program q ≡ program_of (source_of accepted.now)) }
+    ensures names { IfOk result (λ q. map seen_proc_names q.procedures.items
+        ≡ map declared_names (source_of accepted.now).procs) }
     ensures accepted { IfOk result (λ _. IsAccepted (source_of accepted.now)) }
 {
     let source = accepted.source();
