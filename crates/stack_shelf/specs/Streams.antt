@@ -24,3 +24,8 @@ abbrev pub WithWriter : {W E : Type 0} → Result W E → Result W E → (W → 
 WithWriter (Ok old) (Ok new) P = P old new
 WithWriter (Ok old) (Err e) P = ⊥
 WithWriter (Err e) new P = ⊥
+
+-- the same where there was a writer; where there was none, there is none
+abbrev pub WithWriterIfAny : {W E : Type 0} → Result W E → Result W E → (W → W → Type 0) → Type 0
+WithWriterIfAny (Ok old) new P = WithWriter (Ok old) new P
+WithWriterIfAny (Err e) new P = new ≡ Err e

@@ -3,7 +3,7 @@
 ghost use Rattle.std.specs.Prelude.{◌≡◌, ◌<◌, ℕ, take, IfOk, IfErr, OnOk, OnErr, IsErrOf};
 ghost use Rattle.std.specs.Io.KnownBytes.{Appends};
 ghost use Rattle.std.specs.IoError.{error_kind};
-ghost use Rattle.stack_shelf.specs.Streams.{opening_fault, ReadsWithin, WithWriter};
+ghost use Rattle.stack_shelf.specs.Streams.{opening_fault, ReadsWithin, WithWriter, WithWriterIfAny};
 
 use crate::{FetchFault, PutFault, StoreFault};
 use std::alloc::Global;
@@ -38,10 +38,12 @@ pub fn fetch_from<R: Read + Drop>(
     }
 }
 
-/// Writes all bytes to a file that was created.
+/// Writes all bytes to a file that was created. On an error the file has a prefix of them.
 pub fn store_into<W: Write>(created: &mut io::Result<W>, bytes: &[u8]) -> Result<(), StoreFault>
     ensures all { OnOk result (WithWriter created.old created.new
         (λ old new. Appends (W.contents old) (W.contents new) bytes.now)) }
+    ensures prefix { OnErr result (WithWriterIfAny created.old created.new
+        (λ old new. (count : ℕ) × Appends (W.contents old) (W.contents new) (take count bytes.now))) }
     ensures memory { ¬ IsErrOf result StoreFault.Memory }
 {
     match created {
