@@ -54,7 +54,7 @@ impl Model for Texts {
 }
 
 impl Texts {
-    ghost use Rattle.std.specs.Prelude.{◌≡◌, ◌≤◌, ◌^◌, ◌++◌, ◌∷◌, [], length, OnOk};
+    ghost use Rattle.std.specs.Prelude.{◌≡◌, ◌≤◌, ◌^◌, ◌++◌, ◌∷◌, [], length, OnOk, OnErr};
     ghost use Rattle.command_line.specs.Gathered.{text_of};
 
     /// No texts. It takes no memory.
@@ -66,9 +66,10 @@ impl Texts {
         }
     }
 
-    /// Puts a text after the others.
+    /// Puts a text after the others. Out of memory leaves them as they were.
     pub fn push(&mut self, role: Role, text: Text) -> Result<(), AllocFailed<(Role, Text)>>
-        ensures { OnOk result (self.new ≡ self.old ++ (role, text) ∷ []) }
+        ensures ok { OnOk result (self.new ≡ self.old ++ (role, text) ∷ []) }
+        ensures err { OnErr result (self.new ≡ self.old) }
     {
         self.texts.push((role, text))
     }
