@@ -1,12 +1,12 @@
 -- Scripts that are followed, line by line.
-use Rattle.std.proofs.Common.{◌≡◌, ◌+◌, ◌<◌, ◌≤◌, ℕ, suc, List, ◌∷◌, length, drop, get_or, Option, Some, None, sym, ap, ◌∙◌, arith}
+use Rattle.std.proofs.Common.{◌≡◌, ◌+◌, ◌<◌, ◌≤◌, ℕ, suc, List, ◌∷◌, length, drop, get_or, Option, Some, None, sym, ap, subst, ◌∙◌, arith, inl, inr}
 use Rattle.std.proofs.Math.Seq.{drop-cons}
 use Rattle.std.proofs.lemmas.List.{drop_all}
 use Rattle.debug_script.specs.declared.reading.Line.{Line}
 use Rattle.level_debuggers.specs.Walks.{SessionOf}
 use Rattle.level_debuggers.specs.declared.script_end.ScriptEnd.{ScriptEnd}
 use Rattle.level_debuggers.specs.declared.script_end.ScriptEnd.TheVariants as end
-use Rattle.level_debuggers.specs.Transcripts.{Followed, IsSaid, follow_on, followed, said_to}
+use Rattle.level_debuggers.specs.Transcripts.{Followed, IsLeftBy, IsLeftIn, IsSaid, follow_on, followed, said_to}
 
 -- a line after which the script goes on
 went_on : (text new : List ℕ) (line : Line) (lines : List Line) (s t : SessionOf) → IsSaid (said_to line s) text new None t → followed text (line ∷ lines) s ≡ followed new lines t
@@ -43,3 +43,17 @@ module _ (lines : List Line) (k : ℕ) (text : List ℕ) (s : SessionOf) (all : 
   pub no_line : length lines ≤ k → followed text (drop k lines) s ≡ all → all ≡ record { text = text; end = end.Done; session = s }
   unfolding followed
   no_line le is = sym is ∙ ap (λ (ls : List Line). followed text ls s) (drop_all k lines le)
+
+-- Where memory runs out at a later line, or at this one.
+module _ (lines : List Line) (k : ℕ) (s old : SessionOf) (before : (left : SessionOf) → IsLeftIn (drop k lines) s left → IsLeftIn lines old left) where
+  pub next_left : (text new : List ℕ) (t : SessionOf) (d : Line) → k < length lines → IsSaid (said_to (get_or lines k d) s) text new None t
+      → (left : SessionOf) → IsLeftIn (drop (k + 1) lines) t left → IsLeftIn lines old left
+  unfolding IsLeftIn
+  next_left text new t d lt said left later =
+      before left (subst (λ (ls : List Line). IsLeftIn ls s left) (sym (one_dropped lines k d lt))
+      (inr (sym said.1, subst (λ (z : SessionOf). IsLeftIn (drop (k + 1) lines) z left) said.2 later)))
+
+  pub left_here : (left : SessionOf) (d : Line) → k < length lines → IsLeftBy (get_or lines k d).line (get_or lines k d).command s left → IsLeftIn lines old left
+  unfolding IsLeftIn
+  left_here left d lt here =
+      before left (subst (λ (ls : List Line). IsLeftIn ls s left) (sym (one_dropped lines k d lt)) (inl here))

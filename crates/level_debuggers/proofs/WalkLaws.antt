@@ -174,3 +174,25 @@ pub step_failed : (m n : ℕ) (old middle : SessionOf) (after : LevelOf) → Mad
     → HasMadeSome n old (record middle { level = after })
 step_failed m n old middle after made le same =
     (m, le, made.whole, ap (λ (l : LevelOf). record middle { level = l }) same ∙ made.comes)
+
+-- A walk of n steps is one of as many as were made of them.
+made_from : (n : ℕ) (level : LevelOf) (next : Next LevelOf) → next_of level ≡ next
+    → ((start : LevelOf) → (length (walk n start).events ≤ n) × (walk (length (walk n start).events) start ≡ walk n start))
+    → (length (walk_on level (walk n) next).events ≤ suc n) × (walk (length (walk_on level (walk n) next).events) level ≡ walk_on level (walk n) next)
+unfolding walk
+made_from n level Over is later = (omega arith, refl)
+made_from n level (Stops stop) is later = (omega arith, refl)
+made_from n level (Makes event after) is later =
+    let rest = later after in
+    (omega (arith, rest.0), ap (walk_on level (walk (length (walk n after).events))) is ∙ ap (with_event event) rest.1)
+
+made_of : (n : ℕ) (level : LevelOf) → (length (walk n level).events ≤ n) × (walk (length (walk n level).events) level ≡ walk n level)
+unfolding walk
+made_of zero level = (omega arith, refl)
+made_of (suc n) level = made_from n level (next_of level) refl (made_of n)
+
+-- a call that was asked for n steps has made some of them
+pub stepped_some : (n : ℕ) (s : SessionOf) → HasMadeSome n s (stepped n s).session
+stepped_some n s =
+    let made = made_of n s.level in
+    (length (walk n s.level).events, made.0, ap (λ (w : Walk). length w.events) made.1, ap (after_walk s) (sym made.1))

@@ -1,5 +1,5 @@
 -- What a session says to a script.
-use Rattle.std.specs.Prelude.{◌≡◌, ℕ, ◌-◌, min, List, [], ◌∷◌, ◌++◌, drop, Option, Some, None, codes}
+use Rattle.std.specs.Prelude.{◌≡◌, ◌⊎◌, ℕ, ◌-◌, min, List, [], ◌∷◌, ◌++◌, drop, Option, Some, None, codes}
 use Rattle.std.specs.Fmt.{decimal}
 use Rattle.display_maps.specs.Report.{line}
 use Rattle.debug_script.specs.declared.command.Command.{Command}
@@ -14,7 +14,7 @@ use Rattle.level_debuggers.specs.declared.watch.Rule.TheVariants as rule
 use Rattle.level_debuggers.specs.declared.watch.Tally.{Tally}
 use Rattle.level_debuggers.specs.Levels.{show_text, up_text}
 use Rattle.level_debuggers.specs.Taken.{attached_by, detached_by}
-use Rattle.level_debuggers.specs.Walks.{SessionOf, Stepped, stepped}
+use Rattle.level_debuggers.specs.Walks.{SessionOf, Stepped, stepped, HasMadeSome}
 use Rattle.level_debuggers.specs.declared.script_end.ScriptEnd.{ScriptEnd}
 use Rattle.level_debuggers.specs.declared.script_end.ScriptEnd.TheVariants as end
 
@@ -119,3 +119,20 @@ followed text [] s = record { text = text; end = end.Done; session = s }
 followed text (line ∷ lines) s =
     let said = said_to line s in
     follow_on text said said.end (λ text s. followed text lines s)
+
+-- the session that is left where memory ran out at the command of a line: some of its steps were made, and any other command was
+-- carried out
+abbrev pub IsLeftBy : ℕ → Command → SessionOf → SessionOf → Type 0
+IsLeftBy number (command.Step count) old new = HasMadeSome count old new
+IsLeftBy number command.Show old new = new ≡ old
+IsLeftBy number command.Up old new = new ≡ old
+IsLeftBy number (command.Attach word) old new = new ≡ (attach_said number word old).session
+IsLeftBy number (command.Detach word) old new = new ≡ (detach_said number word old).session
+
+-- the session that is left where memory ran out at one of these lines: those before it were carried out, and none of them ended
+-- the script
+unfoldable pub IsLeftIn : List Line → SessionOf → SessionOf → Type 0
+IsLeftIn [] old new = ⊥
+IsLeftIn (line ∷ lines) old new =
+    IsLeftBy line.line line.command old new
+    ⊎ (((said_to line old).end ≡ None) × IsLeftIn lines (said_to line old).session new)

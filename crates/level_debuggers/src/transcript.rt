@@ -1,9 +1,9 @@
 //! Scripts, line by line.
 
-ghost use Rattle.std.specs.Prelude.{◌≡◌, ◌++◌, IfOk};
+ghost use Rattle.std.specs.Prelude.{◌≡◌, ◌++◌, IfOk, OnErr};
 ghost use Rattle.level_debuggers.specs.Sessions.{IsSession, session_of};
 ghost use Rattle.level_debuggers.specs.Tallies.{watching};
-ghost use Rattle.level_debuggers.specs.Transcripts.{IsSaid, attach_said, attached_word, detach_said, followed, rule_of_word, run_end, run_text, said_to};
+ghost use Rattle.level_debuggers.specs.Transcripts.{IsLeftBy, IsLeftIn, IsSaid, attach_said, attached_word, detach_said, followed, rule_of_word, run_end, run_text, said_to};
 
 use crate::script_end::ScriptEnd;
 use crate::session::{Session, SessionRun};
@@ -78,6 +78,8 @@ fn push_attach(
         (session_of (λ w. watching (rule_of w) (tally_of w)) session.old))
         text.old.items text.new.items end
         (session_of (λ w. watching (rule_of w) (tally_of w)) session.new)) }
+    ensures memory { OnErr result (session_of (λ w. watching (rule_of w) (tally_of w)) session.new
+        ≡ (attach_said line watch (session_of (λ w. watching (rule_of w) (tally_of w)) session.old)).session) }
     ensures is { IsSession session.new }
 {
     match session.attach(rule_of_word(watch)) {
@@ -103,6 +105,8 @@ fn push_detach(
         (session_of (λ w. watching (rule_of w) (tally_of w)) session.old))
         text.old.items text.new.items end
         (session_of (λ w. watching (rule_of w) (tally_of w)) session.new)) }
+    ensures memory { OnErr result (session_of (λ w. watching (rule_of w) (tally_of w)) session.new
+        ≡ (detach_said line watch (session_of (λ w. watching (rule_of w) (tally_of w)) session.old)).session) }
     ensures is { IsSession session.new }
 {
     let rule = rule_of_word(watch);
@@ -127,6 +131,9 @@ fn push_answer(
         IsSaid (said_to line
         (session_of (λ w. watching (rule_of w) (tally_of w)) session.old))
         text.old.items text.new.items end
+        (session_of (λ w. watching (rule_of w) (tally_of w)) session.new)) }
+    ensures memory { OnErr result (IsLeftBy line.line line.command
+        (session_of (λ w. watching (rule_of w) (tally_of w)) session.old)
         (session_of (λ w. watching (rule_of w) (tally_of w)) session.new)) }
     ensures is { IsSession session.new }
 {
@@ -171,6 +178,9 @@ pub fn follow(
           session =
               session_of (λ w. watching (rule_of w) (tally_of w)) session.new;
         }) }
+    ensures memory { OnErr result (IsLeftIn lines.now
+        (session_of (λ w. watching (rule_of w) (tally_of w)) session.old)
+        (session_of (λ w. watching (rule_of w) (tally_of w)) session.new)) }
     ensures is { IsSession session.new }
 {
     for line in lines {
