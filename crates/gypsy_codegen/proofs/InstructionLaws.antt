@@ -3,6 +3,7 @@ use Rattle.std.proofs.Common.{◌≡◌, ℕ, ◌<◌, ◌≤◌, ◌^◌, List,
 use Rattle.std.proofs.Common.{Option, Some, None, is_none, unwrap_or, refl, ap, sym, ◌∙◌, arith, ltb, subst, All, Contains, flat_map}
 use Rattle.std.specs.Prelude.{ℤ, pos, negsuc, option_map, IsTrue}
 use Rattle.std.proofs.lemmas.Bool.{lt-ltb, le-leb, ltb-true}
+use Rattle.std.proofs.lemmas.List.Elements.{All-nil, All-cons}
 use Rattle.fm_words.specs.Word.{is_int}
 use Rattle.piton_words.specs.declared.word.Word.{Word}
 use Rattle.piton_words.specs.declared.word.Word.TheVariants as word
@@ -17,7 +18,6 @@ use Rattle.piton_syntax.specs.declared.test_kind.TestKind.{TestKind}
 use Rattle.piton_syntax.specs.Systems.{InstrOf, ProgramOf, SystemOf}
 use Rattle.piton_syntax.specs.Operations.{op_arguments, tests_of, row_of}
 use Rattle.piton_syntax.specs.Fits.{FitsWord, FitsArgument, FitsArguments}
-use Rattle.piton_syntax.proofs.FitsLaws.{all_none, all_front}
 use Rattle.piton_check.specs.declared.resolved.ResolvedArg.{ResolvedArg}
 use Rattle.piton_check.specs.declared.resolved.ResolvedArg.TheVariants as arg
 use Rattle.stack_text.specs.Breaches.{when}
@@ -129,8 +129,8 @@ module _ (s : SystemOf) (p : ProgramOf) (n : Names) (f : ℕ → ℕ) (locals pr
   Says ins = Means s p (written n (Plain ins)) (with_places f ins)
 
   targets_fit : (tos : List ℕ) → Each (Known p f) tos → All (FitsArgument kind.Label) (map label_arg tos)
-  targets_fit [] h = all_none (FitsArgument kind.Label)
-  targets_fit (l ∷ tos) h = all_front (FitsArgument kind.Label) (label_arg l) (map label_arg tos) h.0.1 (targets_fit tos h.1)
+  targets_fit [] h = All-nil (FitsArgument kind.Label)
+  targets_fit (l ∷ tos) h = All-cons (FitsArgument kind.Label) (label_arg l) (map label_arg tos) h.0.1 (targets_fit tos h.1)
 
   targets_clean : (tos : List ℕ) → Each (Known p f) tos → flat_map (argument_breaches s p kind.Label) (map label_arg tos) ≡ []
   targets_clean [] h = refl

@@ -3,14 +3,15 @@ use Rattle.std.proofs.Common.{◌≡◌, ℕ, ◌+◌, ◌<◌, ◌≤◌, ◌^�
 use Rattle.std.proofs.Common.{Bool, true, false, cond, Some, refl, sym, ap, subst, ◌∙◌, arith, length-append, flat_map}
 use Rattle.std.specs.Prelude.{IsTrue, ◌==◌}
 use Rattle.std.proofs.lemmas.List.{length-map, append-nil}
+use Rattle.std.proofs.lemmas.List.Elements.{All-nil}
 use Rattle.stack_text.specs.declared.shape.Shape.{Shape}
 use Rattle.stack_text.specs.Values.{item_count}
 use Rattle.stack_text.specs.Names.{is_name}
 use Rattle.piton_words.specs.declared.word.Word.{Word}
 use Rattle.piton_words.specs.declared.word.Word.TheVariants.{Nat}
 use Rattle.piton_syntax.specs.Systems.{SystemOf}
-use Rattle.piton_syntax.specs.Fits.{IsNamed, FitsTemporary}
-use Rattle.piton_syntax.proofs.FitsLaws.{all_none}
+use Rattle.stack_text.specs.Grammar.Parts.{IsNamed}
+use Rattle.piton_syntax.specs.Fits.{FitsTemporary}
 use Rattle.piton_check.specs.Declarations.{formal_name, temporary_name}
 use Rattle.piton_check.specs.Violations.{temporary_breaches}
 use Rattle.piton_check.specs.Resolved.{resolved_temporary}
@@ -67,7 +68,7 @@ module _ (b : Bool) (n : Names) (frame : List (List ℕ)) (ws : List Word) (same
   formals_right h = by b
     where
       by : (b : Bool) → All IsNamed (cond b [] (map named frame))
-      by true = all_none IsNamed
+      by true = All-nil IsNamed
       by false = formals_fit frame h
 
   formals_count : (m : ℕ) → length frame ≡ m → length (cond b [] (map named frame)) ≡ cond b 0 m
@@ -82,7 +83,7 @@ module _ (b : Bool) (n : Names) (frame : List (List ℕ)) (ws : List Word) (same
     where
       by : (b : Bool) → All FitsTemporary (cond b (temporaries_of n frame ws) [])
       by true = temporaries_fit n frame ws h k
-      by false = all_none FitsTemporary
+      by false = All-nil FitsTemporary
 
   temporaries_keep : (s : SystemOf) → Each InRange ws → flat_map (temporary_breaches s) (cond b (temporaries_of n frame ws) []) ≡ []
   temporaries_keep s k = by b

@@ -3,11 +3,12 @@ use Rattle.std.proofs.Common.{◌≡◌, ℕ, suc, ◌+◌, ◌-◌, ◌<◌, �
 use Rattle.std.proofs.Common.{true, Option, Some, unwrap_or, refl, sym, ap, subst, ◌∙◌, arith, flat_map, length-append}
 use Rattle.std.specs.Prelude.{IsTrue, not}
 use Rattle.std.proofs.lemmas.List.{length-map}
+use Rattle.std.proofs.lemmas.List.Elements.{All-nil, All-cons}
 use Rattle.stack_text.specs.Names.{is_name}
 use Rattle.piton_words.specs.declared.word.Word.{Word}
 use Rattle.piton_syntax.specs.Systems.{ProgramOf, SystemOf}
-use Rattle.piton_syntax.specs.Fits.{IsNamed, FitsInstruction, FitsTemporary, FitsProgram}
-use Rattle.piton_syntax.proofs.FitsLaws.{all_none, all_front}
+use Rattle.stack_text.specs.Grammar.Parts.{IsNamed}
+use Rattle.piton_syntax.specs.Fits.{FitsInstruction, FitsTemporary, FitsProgram}
 use Rattle.stack_text.specs.Breaches.{when}
 use Rattle.piton_check.specs.Declarations.{label_name as label_of, local_names, label_names, formal_name, temporary_name, first_of, repeats}
 use Rattle.piton_check.specs.Violations.{temporary_breaches, instruction_breaches, end_breaches, program_breaches, is_end}
@@ -70,20 +71,20 @@ module _ (s : SystemOf) (t : ProgramOf) (n : Names) (f : ℕ → ℕ) (locals pr
       ap (λ z. z ∷ map instruction_view (map (resolved_instruction s t) (map (written n) ls))) (line_view l h.0) ∙ ap (λ z. line_with_places f l ∷ z) (lines_view ls h.1)
 
   pub lines_fit : (ls : List Line) → Each (FineLine t f locals programs) ls → All FitsInstruction (map (written n) ls)
-  lines_fit [] h = all_none FitsInstruction
-  lines_fit (l ∷ ls) h = all_front FitsInstruction (written n l) (map (written n) ls) (line_fits l h.0) (lines_fit ls h.1)
+  lines_fit [] h = All-nil FitsInstruction
+  lines_fit (l ∷ ls) h = All-cons FitsInstruction (written n l) (map (written n) ls) (line_fits l h.0) (lines_fit ls h.1)
 
 -- ---- formals and temporaries
 
 pub formals_fit : (names : List (List ℕ)) → Each (λ name. IsTrue (is_name name)) names → All IsNamed (map named names)
-formals_fit [] h = all_none IsNamed
-formals_fit (name ∷ names) h = all_front IsNamed (named name) (map named names) h.0 (formals_fit names h.1)
+formals_fit [] h = All-nil IsNamed
+formals_fit (name ∷ names) h = All-cons IsNamed (named name) (map named names) h.0 (formals_fit names h.1)
 
 pub temporaries_fit : (n : Names) (names : List (List ℕ)) (ws : List Word) → Each (λ name. IsTrue (is_name name)) names → Each InRange ws → All FitsTemporary (temporaries_of n names ws)
-temporaries_fit n [] ws h k = all_none FitsTemporary
-temporaries_fit n (name ∷ names) [] h k = all_none FitsTemporary
+temporaries_fit n [] ws h k = All-nil FitsTemporary
+temporaries_fit n (name ∷ names) [] h k = All-nil FitsTemporary
 temporaries_fit n (name ∷ names) (w ∷ ws) h k =
-    all_front FitsTemporary (named name, written_word n w) (temporaries_of n names ws) (h.0, word_fits n w k.0) (temporaries_fit n names ws h.1 k.1)
+    All-cons FitsTemporary (named name, written_word n w) (temporaries_of n names ws) (h.0, word_fits n w k.0) (temporaries_fit n names ws h.1 k.1)
 
 pub temporaries_clean : (s : SystemOf) (n : Names) (names : List (List ℕ)) (ws : List Word) → Each InRange ws → flat_map (temporary_breaches s) (temporaries_of n names ws) ≡ []
 temporaries_clean s n [] ws k = refl

@@ -2,10 +2,10 @@
 use Rattle.std.proofs.Common.{◌≡◌, ℕ, zero, suc, ◌+◌, ◌<◌, List, [], ◌∷◌, ◌++◌, map, length, get_or, bytes_eq}
 use Rattle.std.proofs.Common.{Bool, true, false, cond, ◌&&◌, not, is_none, true≢false, refl, ap, sym, subst, ◌∙◌, arith, flat_map, length-append}
 use Rattle.std.specs.Prelude.{IsTrue, ◌==◌, ◌≤◌, All}
-use Rattle.piton_syntax.proofs.FitsLaws.{all_first, all_rest}
 use Rattle.gypsy_syntax.specs.Fits.{FitsDecl, FitsLocal, FitsProcedure}
 use Rattle.std.specs.List.{list_all}
 use Rattle.std.proofs.lemmas.List.{length-map}
+use Rattle.std.proofs.lemmas.List.Elements.{All-head, All-tail}
 use Rattle.std.proofs.lemmas.Slice.Eq.{bytes_eq-Decides}
 use Rattle.std.proofs.lemmas.Bool.{and_parts}
 use Rattle.stack_text.specs.Names.{is_name}
@@ -181,7 +181,7 @@ pub record ProcForm (p : ProcOf) : Type 0 where
 
 each_named : {X : Type 0} (P : X → Type 0) (name : X → List ℕ) → ((x : X) → P x → IsTrue (is_name (name x))) → (xs : List X) → All P xs → Each (λ name. IsTrue (is_name name)) (map name xs)
 each_named P name h [] a = tt
-each_named P name h (x ∷ xs) a = (h x (all_first P x xs a), each_named P name h xs (all_rest P x xs a))
+each_named P name h (x ∷ xs) a = (h x (All-head P x xs a), each_named P name h xs (All-tail P x xs a))
 
 proc_form : (p : ProcOf) → FitsProcedure p → ProcForm p
 proc_form p f = record {
@@ -194,4 +194,4 @@ proc_form p f = record {
 
 pub procs_form : (procs : List ProcOf) → All FitsProcedure procs → Each ProcForm procs
 procs_form [] a = tt
-procs_form (p ∷ procs) a = (proc_form p (all_first FitsProcedure p procs a), procs_form procs (all_rest FitsProcedure p procs a))
+procs_form (p ∷ procs) a = (proc_form p (All-head FitsProcedure p procs a), procs_form procs (All-tail FitsProcedure p procs a))

@@ -4,6 +4,7 @@ use Rattle.std.proofs.Common.{Bool, true, cond, ltb, not, Some, unwrap_or, refl,
 use Rattle.std.specs.Prelude.{pos, IsTrue}
 use Rattle.std.specs.List.{list_all}
 use Rattle.std.proofs.lemmas.List.{length-map, length-replicate}
+use Rattle.std.proofs.lemmas.List.Elements.{All-nil, All-cons}
 use Rattle.std.proofs.lemmas.Bool.{le-leb, eq-eqb}
 use Rattle.stack_text.specs.declared.shape.Kind.{Kind}
 use Rattle.stack_text.specs.declared.shape.Kind.TheVariants.{Integer, Boolean, Character}
@@ -14,7 +15,6 @@ use Rattle.piton_words.specs.declared.word.Word.{Word}
 use Rattle.piton_words.specs.declared.word.Word.TheVariants.{Nat}
 use Rattle.piton_syntax.specs.Systems.{ProgramOf, SystemOf}
 use Rattle.piton_syntax.specs.Fits.{FitsWord, FitsProgram, FitsArea, FitsForm as TextForm}
-use Rattle.piton_syntax.proofs.FitsLaws.{all_none, all_front}
 use Rattle.stack_text.specs.Breaches.{when}
 use Rattle.piton_check.specs.Declarations.{area_names, program_names, program_name, first_of}
 use Rattle.stack_text.specs.Options.{◌>>=◌}
@@ -93,8 +93,8 @@ words_view s n [] h = refl
 words_view s n (w ∷ ws) h = ap (λ z. z ∷ map (resolved_word s) (map (written_word n) ws)) (word_resolves s n w h.0) ∙ ap (λ z. w ∷ z) (words_view s n ws h.1)
 
 words_fit : (n : Names) (ws : List Word) → Each InRange ws → All FitsWord (map (written_word n) ws)
-words_fit n [] h = all_none FitsWord
-words_fit n (w ∷ ws) h = all_front FitsWord (written_word n w) (map (written_word n) ws) (word_fits n w h.0) (words_fit n ws h.1)
+words_fit n [] h = All-nil FitsWord
+words_fit n (w ∷ ws) h = All-cons FitsWord (written_word n w) (map (written_word n) ws) (word_fits n w h.0) (words_fit n ws h.1)
 
 zero_in_range : (k : Kind) → is_in_range k (pos 0) ≡ true
 zero_in_range Integer = refl
@@ -134,9 +134,9 @@ all_clean s (t ∷ ts) [] h = absurd h
 all_clean s (t ∷ ts) (m ∷ ms) h = two_none _ _ h.0.clean (all_clean s ts ms h.1)
 
 all_fit : (s : SystemOf) (ts : List ProgramOf) (ms : List i.ProgramView) → CleanAll s ts ms → All FitsProgram ts
-all_fit s [] ms h = all_none FitsProgram
+all_fit s [] ms h = All-nil FitsProgram
 all_fit s (t ∷ ts) [] h = absurd h
-all_fit s (t ∷ ts) (m ∷ ms) h = all_front FitsProgram t ts h.0.fits (all_fit s ts ms h.1)
+all_fit s (t ∷ ts) (m ∷ ms) h = All-cons FitsProgram t ts h.0.fits (all_fit s ts ms h.1)
 
 all_view : (s : SystemOf) (ts : List ProgramOf) (ms : List i.ProgramView) → CleanAll s ts ms → map program_view (map (resolved_program s) ts) ≡ ms
 all_view s [] [] h = refl
@@ -348,7 +348,7 @@ module _ (texts : TextsResolve) (src : SourceOf) (sizes : Words) (base : ℕ) (a
     ctrl = let h = fit.few_ctrl in omega (arith, h);
     temp = let h = fit.sizes_fit.small in omega (arith, h);
     base = let h = fit.low_base in omega (arith, h);
-    areas = all_front FitsArea (written_area src) [] (record { name = refl; words = words_fit (names_with src []) (Nat 2 ∷ []) (two_right, tt); some_words = omega arith }) (all_none FitsArea);
+    areas = All-cons FitsArea (written_area src) [] (record { name = refl; words = words_fit (names_with src []) (Nat 2 ∷ []) (two_right, tt); some_words = omega arith }) (All-nil FitsArea);
     stack = words_fit (names_with src []) (opening_words q) opening_right;
     programs = all_fit g _ _ programs_all;
     few_areas = omega arith;

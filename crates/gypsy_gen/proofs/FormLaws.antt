@@ -1,26 +1,22 @@
 -- A large source keeps the form.
-use Rattle.std.proofs.Common.{◌≡◌, ◌+◌, ◌*◌, ◌<◌, ◌≤◌, ◌^◌, ◌%◌, ℕ, zero, suc, List, [], ◌∷◌, length, refl, arith}
+use Rattle.std.proofs.Common.{◌≡◌, ◌+◌, ◌*◌, ◌<◌, ◌≤◌, ◌^◌, ◌%◌, ℕ, zero, suc, [], ◌∷◌, length, refl, arith}
 use Rattle.std.specs.Prelude.{All, codes}
 use Rattle.std.specs.List.{sum_by}
 use Rattle.std.proofs.lemmas.Bool.{lt-ltb}
 use Rattle.std.proofs.lemmas.List.Sums.{sum_by-cons}
-use Rattle.gypsy_syntax.specs.Fits.{IsNamed, FitsDecl, FitsLocal, FitsStatement, FitsStatements, FitsProcedure, FitsForm, FitsArgument}
+use Rattle.std.proofs.lemmas.List.Elements.{All-nil, All-cons}
+use Rattle.stack_text.specs.Grammar.Printed.{unplaced}
+use Rattle.stack_text.specs.Grammar.Parts.{IsNamed}
+use Rattle.gypsy_syntax.specs.Fits.{FitsDecl, FitsLocal, FitsStatement, FitsStatements, FitsProcedure, FitsForm, FitsArgument}
 use Rattle.gypsy_syntax.specs.Made.{statements}
 use Rattle.gypsy_syntax.specs.Sizes.{nesting, deepest, statement_size, parts_size, procedure_size, text_size}
 use Rattle.gypsy_syntax.specs.Sources.{ArgOf}
 use Rattle.gypsy_gen.specs.declared.body.Body.{Body}
 use Rattle.gypsy_gen.specs.declared.body.Body.TheVariants.{Add, Subtract, Minus, Assign}
 use Rattle.gypsy_gen.specs.declared.parts.Variable.TheVariants.{X, C}
-use Rattle.gypsy_gen.specs.Parts.{named, argument, formal, local, body_of, body}
+use Rattle.gypsy_gen.specs.Parts.{argument, formal, local, body_of, body}
 use Rattle.gypsy_gen.specs.Large.{next_state, procedure, procedures_from, calls_from, main_procedure, large_of}
 use Rattle.gypsy_gen.proofs.NameLaws.{procedure_named}
-
-all_none : {X : Type 0} (P : X → Type 0) → All P []
-all_none P k d lt = absurd (omega arith)
-
-all_front : {X : Type 0} (P : X → Type 0) (x : X) (xs : List X) → P x → All P xs → All P (x ∷ xs)
-all_front P x xs p rest zero d lt = p
-all_front P x xs p rest (suc k) d lt = rest k d (omega arith)
 
 -- ---- each procedure
 
@@ -28,16 +24,16 @@ formal_fits : FitsDecl formal
 formal_fits = record { name = refl; length = tt }
 
 formals_fit : All FitsDecl (formal ∷ [])
-formals_fit = all_front FitsDecl formal [] formal_fits (all_none FitsDecl)
+formals_fit = All-cons FitsDecl formal [] formal_fits (All-nil FitsDecl)
 
 local_fits : (n : ℕ) → n < 1000 → FitsLocal (local n)
 local_fits n lt = record { decl = record { name = refl; length = tt }; value = lt-ltb n (2 ^ 127) (omega arith) }
 
 two_fit : (a b : ArgOf) → FitsArgument a → FitsArgument b → All FitsArgument (a ∷ b ∷ [])
-two_fit a b p q = all_front FitsArgument a (b ∷ []) p (all_front FitsArgument b [] q (all_none FitsArgument))
+two_fit a b p q = All-cons FitsArgument a (b ∷ []) p (All-cons FitsArgument b [] q (All-nil FitsArgument))
 
 three_fit : (a b c : ArgOf) → FitsArgument a → FitsArgument b → FitsArgument c → All FitsArgument (a ∷ b ∷ c ∷ [])
-three_fit a b c p q r = all_front FitsArgument a (b ∷ c ∷ []) p (two_fit b c q r)
+three_fit a b c p q r = All-cons FitsArgument a (b ∷ c ∷ []) p (two_fit b c q r)
 
 body_fits : (b : Body) → FitsStatement (body b)
 body_fits Add = three_fit (argument X) (argument X) (argument C) refl refl refl
@@ -55,9 +51,9 @@ procedure_fits : (index state : ℕ) → index < 2 ^ 32 → FitsProcedure (proce
 procedure_fits index state lt = record {
   name = procedure_named index lt;
   formals = formals_fit;
-  conds = all_none IsNamed;
-  locals = all_front FitsLocal (local (state % 1000)) [] (local_fits (state % 1000) (omega arith)) (all_none FitsLocal);
-  local_conds = all_none IsNamed;
+  conds = All-nil IsNamed;
+  locals = All-cons FitsLocal (local (state % 1000)) [] (local_fits (state % 1000) (omega arith)) (All-nil FitsLocal);
+  local_conds = All-nil IsNamed;
   body = body_fits (body_of state);
   few_variables = omega arith;
   few_conds = omega arith;
@@ -66,9 +62,9 @@ procedure_fits index state lt = record {
 
 procedures_fit : (index state count : ℕ) → index + count < 2 ^ 32 → All FitsProcedure (procedures_from index state count)
 unfolding procedures_from
-procedures_fit index state zero lt = all_none FitsProcedure
+procedures_fit index state zero lt = All-nil FitsProcedure
 procedures_fit index state (suc count) lt =
-    all_front FitsProcedure (procedure index (next_state state)) (procedures_from (index + 1) (next_state state) count)
+    All-cons FitsProcedure (procedure index (next_state state)) (procedures_from (index + 1) (next_state state) count)
     (procedure_fits index (next_state state) (omega arith)) (procedures_fit (index + 1) (next_state state) count (omega arith))
 
 -- ---- the main procedure
@@ -77,7 +73,7 @@ calls_fit : (index count : ℕ) → index + count < 2 ^ 32 → FitsStatements (s
 unfolding calls_from
 calls_fit index zero lt = tt
 calls_fit index (suc count) lt =
-    ((procedure_named index (omega arith), all_front IsNamed (named (codes "x")) [] refl (all_none IsNamed), all_none IsNamed), calls_fit (index + 1) count (omega arith))
+    ((procedure_named index (omega arith), All-cons IsNamed (unplaced (codes "x")) [] refl (All-nil IsNamed), All-nil IsNamed), calls_fit (index + 1) count (omega arith))
 
 main_body_fits : (size : ℕ) → 1 ≤ size → size < 2 ^ 31 → FitsStatement (main_procedure size).body
 unfolding calls_from
@@ -93,9 +89,9 @@ main_fits : (size : ℕ) → 1 ≤ size → size < 2 ^ 31 → FitsProcedure (mai
 main_fits size low high = record {
   name = refl;
   formals = formals_fit;
-  conds = all_none IsNamed;
-  locals = all_none FitsLocal;
-  local_conds = all_none IsNamed;
+  conds = All-nil IsNamed;
+  locals = All-nil FitsLocal;
+  local_conds = All-nil IsNamed;
   body = main_body_fits size low high;
   few_variables = omega arith;
   few_conds = omega arith;
@@ -111,7 +107,7 @@ pub large_fits : (number size : ℕ) → 1 ≤ size → size ≤ 900 → FitsFor
 large_fits number size low high = record {
   main = refl;
   procs =
-      all_front FitsProcedure (main_procedure size) (procedures_from 1 number size) (main_fits size low (omega arith)) (procedures_fit 1 number size (omega arith));
+      All-cons FitsProcedure (main_procedure size) (procedures_from 1 number size) (main_fits size low (omega arith)) (procedures_fit 1 number size (omega arith));
   some_procs = omega arith;
   few_procs = let count = procedure_count 1 number size in omega (arith, count);
 }

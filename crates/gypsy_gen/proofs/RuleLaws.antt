@@ -6,6 +6,7 @@ use Rattle.std.proofs.lemmas.Bool.{lt-ltb}
 use Rattle.std.proofs.lemmas.Bool.Decides.{eqb_tells}
 use Rattle.std.proofs.lemmas.Iterator.Adapters.{position_from-zero}
 use Rattle.stack_text.specs.Breaches.{when}
+use Rattle.stack_text.specs.Grammar.Printed.{unplaced}
 use Rattle.gypsy_syntax.specs.Made.{statements, new_proc}
 use Rattle.gypsy_syntax.specs.Keywords.{keyword_name, keywords}
 use Rattle.gypsy_syntax.specs.Resolved.{place_among, procedure_names}
@@ -14,7 +15,7 @@ use Rattle.gypsy_check.specs.Declarations.{repeats, is_among, is_predefined, pro
 use Rattle.gypsy_check.specs.Rules.{violations, name_breaches, procedure_breaches, statement_breaches, parts_breaches, main_breaches}
 use Rattle.gypsy_gen.specs.declared.body.Body.{Body}
 use Rattle.gypsy_gen.specs.declared.body.Body.TheVariants.{Add, Subtract, Minus, Assign}
-use Rattle.gypsy_gen.specs.Parts.{named, procedure_name, formal, local, call_of, body_of, body}
+use Rattle.gypsy_gen.specs.Parts.{procedure_name, formal, local, call_of, body_of, body}
 use Rattle.gypsy_gen.specs.Large.{next_state, procedure, procedures_from, calls_from, main_procedure, large_of}
 use Rattle.gypsy_gen.proofs.NameLaws.{name_itself, name_differs}
 
@@ -100,7 +101,7 @@ names_free i state zero = refl
 names_free i state (suc count) = rw (not_predefined i) (names_free (i + 1) (next_state state) count)
 
 made_of : ℕ → ℕ → Body → ProcOf
-made_of i n b = new_proc 0 (named (procedure_name i)) (formal ∷ []) [] (local n ∷ []) [] (body b)
+made_of i n b = new_proc 0 (unplaced (procedure_name i)) (formal ∷ []) [] (local n ∷ []) [] (body b)
 
 procedure_clean : (s : SourceOf) (i n : ℕ) (b : Body) → n < 1000 → procedure_breaches s (made_of i n b) ≡ []
 unfolding made_of place_among

@@ -1,8 +1,9 @@
 -- Large sources.
 use Rattle.std.specs.Prelude.{ℕ, zero, suc, ◌+◌, ◌*◌, ◌%◌, ◌^◌, List, [], ◌∷◌, codes}
+use Rattle.stack_text.specs.Grammar.Printed.{unplaced}
 use Rattle.gypsy_syntax.specs.Made.{new_seq, new_proc, new_source}
 use Rattle.gypsy_syntax.specs.Sources.{ProcOf, SourceOf, StmtOf}
-use Rattle.gypsy_gen.specs.Parts.{named, procedure_name, formal, local, call_of, body_of, body}
+use Rattle.gypsy_gen.specs.Parts.{procedure_name, formal, local, call_of, body_of, body}
 
 -- the state of the generator after this one
 unfoldable pub next_state : ℕ → ℕ
@@ -11,7 +12,7 @@ next_state state = (1664525 * state + 1013904223) % 2 ^ 32
 -- a procedure, by its number and the state of the generator
 abbrev pub procedure : ℕ → ℕ → ProcOf
 procedure index state =
-    new_proc 0 (named (procedure_name index)) (formal ∷ []) [] (local (state % 1000) ∷ []) [] (body (body_of state))
+    new_proc 0 (unplaced (procedure_name index)) (formal ∷ []) [] (local (state % 1000) ∷ []) [] (body (body_of state))
 
 -- so many procedures from a number on, where the state before the first of them is this
 unfoldable pub procedures_from : ℕ → ℕ → ℕ → List ProcOf
@@ -24,8 +25,8 @@ calls_from index zero = []
 calls_from index (suc count) = call_of index ∷ calls_from (index + 1) count
 
 abbrev pub main_procedure : ℕ → ProcOf
-main_procedure size = new_proc 0 (named (codes "main")) (formal ∷ []) [] [] [] (new_seq 0 (calls_from 1 size))
+main_procedure size = new_proc 0 (unplaced (codes "main")) (formal ∷ []) [] [] [] (new_seq 0 (calls_from 1 size))
 
 -- the source of a number and a size
 abbrev pub large_of : ℕ → ℕ → SourceOf
-large_of number size = new_source 0 (named (codes "main")) (main_procedure size ∷ procedures_from 1 number size)
+large_of number size = new_source 0 (unplaced (codes "main")) (main_procedure size ∷ procedures_from 1 number size)

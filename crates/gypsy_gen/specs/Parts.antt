@@ -1,20 +1,17 @@
 -- Parts of a large source, with 0 in all their places.
 use Rattle.std.specs.Prelude.{ℕ, pos, ◌/◌, ◌%◌, ◌==◌, if◌then◌else◌, List, [], ◌∷◌, codes}
 use Rattle.std.specs.Fmt.{decimal}
-use Rattle.stack_text.specs.declared.name.Named.{Named}
+use Rattle.stack_text.specs.Grammar.Printed.{unplaced}
 use Rattle.stack_text.specs.declared.shape.Kind.TheVariants.{Integer}
 use Rattle.gypsy_syntax.specs.declared.literal.Decl.{Decl}
 use Rattle.gypsy_syntax.specs.declared.predef.Predef.TheVariants.{MgIntegerAdd, MgIntegerSubtract}
 use Rattle.gypsy_syntax.specs.declared.predef.Predef.TheVariants.{MgIntegerUnaryMinus, MgSimpleVariableAssignment}
-use Rattle.gypsy_syntax.specs.Made.{new_name, new_simple, new_decl, new_local, new_seq, new_call, new_predef}
+use Rattle.gypsy_syntax.specs.Made.{new_simple, new_decl, new_local, new_seq, new_call, new_predef}
 use Rattle.gypsy_syntax.specs.Sources.{integer, ArgOf, variable, LocalOf, StmtOf, no_op}
 use Rattle.gypsy_gen.specs.declared.parts.Variable.{Variable}
 use Rattle.gypsy_gen.specs.declared.parts.Variable.TheVariants.{X, C}
 use Rattle.gypsy_gen.specs.declared.body.Body.{Body}
 use Rattle.gypsy_gen.specs.declared.body.Body.TheVariants.{Add, Subtract, Minus, Assign}
-
-abbrev pub named : List ℕ → Named
-named name = new_name 0 name
 
 -- `p7`
 abbrev pub procedure_name : ℕ → List ℕ
@@ -25,19 +22,19 @@ name_of X = codes "x"
 name_of C = codes "c"
 
 abbrev pub argument : Variable → ArgOf
-argument v = variable (named (name_of v))
+argument v = variable (unplaced (name_of v))
 
 -- `(x integer)`
 abbrev pub formal : Decl
-formal = new_decl (named (name_of X)) (new_simple 0 Integer)
+formal = new_decl (unplaced (name_of X)) (new_simple 0 Integer)
 
 -- `(c integer 748)`
 abbrev pub local : ℕ → LocalOf
-local number = new_local (named (name_of C)) (new_simple 0 Integer) (integer 0 (pos number))
+local number = new_local (unplaced (name_of C)) (new_simple 0 Integer) (integer 0 (pos number))
 
 -- `(call p7 (x) ())`
 abbrev pub call_of : ℕ → StmtOf
-call_of index = new_call 0 0 0 (named (procedure_name index)) (named (name_of X) ∷ []) []
+call_of index = new_call 0 0 0 (unplaced (procedure_name index)) (unplaced (name_of X) ∷ []) []
 
 -- what a state of the generator makes a procedure do
 unfoldable pub body_of : ℕ → Body

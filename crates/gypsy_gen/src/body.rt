@@ -6,9 +6,9 @@ ghost use Rattle.gypsy_syntax.specs.Sources.{no_op};
 ghost use Rattle.gypsy_syntax.specs.SourceView.{arg_of, stmt_of};
 ghost use Rattle.gypsy_gen.specs.Parts.{body_of, argument, body};
 
-use crate::parts::{Variable, named};
+use crate::parts::Variable;
 use gypsy_syntax::{Arg, Predef, Stmt};
-use stack_text::Memory;
+use stack_text::{Memory, Named};
 use std::alloc::Global;
 
 /// What a procedure does to its formal with its local.
@@ -41,7 +41,7 @@ fn arguments(alloc: Global, variables: &[Variable]) -> Result<Vec<Arg>, Memory>
 {
     let mut args = Vec::new(alloc);
     for variable in variables {
-        args.push(Arg::Variable(named(alloc, variable.name())?))?;
+        args.push(Arg::Variable(Named::unplaced(alloc, variable.name())?))?;
     }
     Ok(args)
 }

@@ -7,9 +7,9 @@ ghost use Rattle.gypsy_check.specs.Rules.{violations};
 ghost use Rattle.gypsy_gen.specs.Large.{next_state, procedure, calls_from, main_procedure, procedures_from, large_of};
 
 use crate::body::{body_of, sequence, statement};
-use crate::parts::{call, formals, locals, named, procedure_name};
+use crate::parts::{call, formals, locals, procedure_name};
 use gypsy_syntax::{Proc, Source, Stmt, plain_form};
-use stack_text::Memory;
+use stack_text::{Memory, Named};
 use std::alloc::Global;
 
 /// The state of the generator after this one.
@@ -54,7 +54,7 @@ fn main_procedure(alloc: Global, size: u32) -> Result<Proc, Memory>
 {
     Ok(Proc {
         place: 0,
-        name: named(alloc, b"main".as_slice())?,
+        name: Named::unplaced(alloc, b"main".as_slice())?,
         formals: formals(alloc)?,
         conds: Vec::new(alloc),
         locals: Vec::new(alloc),
@@ -92,7 +92,7 @@ pub fn large(alloc: Global, number: u32, size: u32) -> Result<Source, Memory>
     plain_form();
     Ok(Source {
         place: 0,
-        main: named(alloc, b"main".as_slice())?,
+        main: Named::unplaced(alloc, b"main".as_slice())?,
         procs: procedures(alloc, number, size)?,
     })
 }

@@ -1,13 +1,13 @@
 //! Names and declarations.
 
-ghost use Rattle.std.specs.Prelude.{◌≡◌, IfOk, IsTrue, map, [], ◌∷◌};
+ghost use Rattle.std.specs.Prelude.{◌≡◌, IfOk, map, [], ◌∷◌};
 ghost use Rattle.gypsy_syntax.specs.Made.{new_decl, new_simple};
-ghost use Rattle.stack_text.specs.Names.{is_name};
+ghost use Rattle.stack_text.specs.Grammar.Printed.{unplaced};
 ghost use Rattle.gypsy_syntax.specs.SourceView.{local_of, stmt_of};
-ghost use Rattle.gypsy_gen.specs.Parts.{named, name_of, procedure_name, formal, local, call_of};
+ghost use Rattle.gypsy_gen.specs.Parts.{name_of, procedure_name, formal, local, call_of};
 
 use gypsy_syntax::{Decl, Literal, Local, Stmt, TypeText};
-use stack_text::{Kind, Memory, Named, read_name};
+use stack_text::{Kind, Memory, Named};
 use std::alloc::Global;
 
 /// A variable of a procedure: its formal `x` or its local `c`.
@@ -33,32 +33,21 @@ impl Variable {
     }
 }
 
-/// A name.
-pub(crate) fn named(alloc: Global, bytes: &[u8]) -> Result<Named, Memory>
-    requires { IsTrue (is_name bytes.now) }
-    ensures { IfOk result (λ n. n ≡ named bytes.now) }
-{
-    match read_name(alloc, bytes)? {
-        Some(name) => Ok(Named { place: 0, name }),
-        None => unreachable!(),
-    }
-}
-
 /// The name of a procedure.
 #[tactic(auto, using(crate::proofs::NameLaws::procedure_named))]
 pub(crate) fn procedure_name(alloc: Global, index: u32) -> Result<Named, Memory>
-    ensures { IfOk result (λ n. n ≡ named (procedure_name index)) }
+    ensures { IfOk result (λ n. n ≡ unplaced (procedure_name index)) }
 {
     let name = format!(in alloc; "p{index}")?;
-    named(alloc, name.as_bytes())
+    Named::unplaced(alloc, name.as_bytes())
 }
 
 /// A variable that is an integer.
 fn declared(alloc: Global, variable: Variable) -> Result<Decl, Memory>
-    ensures { IfOk result (λ d. d ≡ new_decl (named (name_of variable)) (new_simple 0 Kind.Integer)) }
+    ensures { IfOk result (λ d. d ≡ new_decl (unplaced (name_of variable)) (new_simple 0 Kind.Integer)) }
 {
     Ok(Decl {
-        name: named(alloc, variable.name())?,
+        name: Named::unplaced(alloc, variable.name())?,
         shape: TypeText {
             place: 0,
             kind: Kind::Integer,
@@ -97,7 +86,7 @@ pub(crate) fn call(alloc: Global, index: u32) -> Result<Stmt, Memory>
 {
     let callee = procedure_name(alloc, index)?;
     let mut actuals = Vec::new(alloc);
-    actuals.push(named(alloc, Variable::X.name())?)?;
+    actuals.push(Named::unplaced(alloc, Variable::X.name())?)?;
     Ok(Stmt::Call {
         place: 0,
         callee,

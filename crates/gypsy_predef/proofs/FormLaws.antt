@@ -1,5 +1,6 @@
 -- The texts of the bodies keep the form.
-use Rattle.std.proofs.Common.{◌≡◌, ◌+◌, ◌<◌, ◌≤◌, Bool, true, false, List, [], ◌∷◌, ◌++◌, length, map, if◌then◌else◌, All, IsTrue, Some, pos, refl, sym, subst, lit<, lit≤, flat_map}
+use Rattle.std.proofs.Common.{◌≡◌, ◌+◌, ◌<◌, ◌≤◌, Bool, true, false, List, [], ◌∷◌, length, map, if◌then◌else◌, All, IsTrue, Some, pos, refl, sym, subst, lit<, lit≤, flat_map}
+use Rattle.std.proofs.lemmas.List.Elements.{All-nil, All-cons, All-append}
 use Rattle.stack_text.specs.Names.{is_name}
 use Rattle.stack_text.specs.Numerals.{fits_128_bits}
 use Rattle.piton_syntax.specs.declared.op.PitonOp.{PitonOp}
@@ -12,8 +13,8 @@ use Rattle.piton_syntax.specs.declared.word_text.WordItem.TheVariants as item
 use Rattle.piton_syntax.specs.Operations as operations
 use Rattle.piton_syntax.specs.Operations.{op_arguments}
 use Rattle.piton_syntax.specs.Systems.{InstrOf}
-use Rattle.piton_syntax.specs.Fits.{IsNamed, FitsArguments, FitsInstruction, FitsTemporary}
-use Rattle.piton_syntax.proofs.FitsLaws.{all_none, all_front, all_first, all_rest}
+use Rattle.stack_text.specs.Grammar.Parts.{IsNamed}
+use Rattle.piton_syntax.specs.Fits.{FitsArguments, FitsInstruction, FitsTemporary}
 use Rattle.gypsy_syntax.specs.declared.predef.Predef.{Predef}
 use Rattle.gypsy_syntax.specs.declared.predef.Predef.TheVariants as row
 use Rattle.gypsy_syntax.specs.Predefined.{predef_name}
@@ -54,12 +55,12 @@ local_names local.X = refl
 local_names local.Y = refl
 
 formals_fit : (xs : List Local) → All IsNamed (map named_local xs)
-formals_fit [] = all_none IsNamed
-formals_fit (x ∷ xs) = all_front IsNamed (named_local x) (map named_local xs) (local_names x) (formals_fit xs)
+formals_fit [] = All-nil IsNamed
+formals_fit (x ∷ xs) = All-cons IsNamed (named_local x) (map named_local xs) (local_names x) (formals_fit xs)
 
 temporaries_fit : (b : Bool) → All FitsTemporary (if b then temporary ∷ [] else [])
-temporaries_fit true = all_front FitsTemporary temporary [] (refl, refl) (all_none FitsTemporary)
-temporaries_fit false = all_none FitsTemporary
+temporaries_fit true = All-cons FitsTemporary temporary [] (refl, refl) (All-nil FitsTemporary)
+temporaries_fit false = All-nil FitsTemporary
 
 -- ---- lines
 
@@ -77,10 +78,10 @@ plain_fits : (o : PitonOp) → op_arguments o ≡ Zero → FitsInstruction (plai
 plain_fits o h = record { label = tt; args = subst (λ (a : Arguments). FitsArguments a []) (sym h) tt }
 
 alone : (i : InstrOf) → FitsInstruction i → All FitsInstruction (i ∷ [])
-alone i h = all_front FitsInstruction i [] h (all_none FitsInstruction)
+alone i h = All-cons FitsInstruction i [] h (All-nil FitsInstruction)
 
 both : (i j : InstrOf) → FitsInstruction i → FitsInstruction j → All FitsInstruction (i ∷ j ∷ [])
-both i j h k = all_front FitsInstruction i (j ∷ []) h (alone j k)
+both i j h k = All-cons FitsInstruction i (j ∷ []) h (alone j k)
 
 line_fits : (l : Line) → LineFits l → All FitsInstruction (line_text l)
 unfolding operations.row_of
@@ -92,20 +93,16 @@ line_fits (line.Truth b) h = alone _ (record { label = tt; args = tt })
 line_fits (line.Integer z) h = alone _ (record { label = tt; args = h })
 line_fits (line.Test o k) h = alone _ (record { label = tt; args = h })
 line_fits line.Fail h =
-    all_front FitsInstruction (constant (Some (named fail_label)) (item.Nat record { place = 0; number = pos 1 })) (of_name op.PopGlobal condition_area ∷ plain op.Ret ∷ []) (record { label = refl; args = lit< tt })
+    All-cons FitsInstruction (constant (Some (named fail_label)) (item.Nat record { place = 0; number = pos 1 })) (of_name op.PopGlobal condition_area ∷ plain op.Ret ∷ []) (record { label = refl; args = lit< tt })
     (both (of_name op.PopGlobal condition_area) (plain op.Ret) (record { label = tt; args = refl }) (plain_fits op.Ret refl))
 
 abbrev LinesFit : List Line → Type 0
 LinesFit [] = Unit {0}
 LinesFit (l ∷ ls) = LineFits l × LinesFit ls
 
-all_join : (is js : List InstrOf) → All FitsInstruction is → All FitsInstruction js → All FitsInstruction (is ++ js)
-all_join [] js h k = k
-all_join (i ∷ is) js h k = all_front FitsInstruction i (is ++ js) (all_first FitsInstruction i is h) (all_join is js (all_rest FitsInstruction i is h) k)
-
 lines_fit : (ls : List Line) → LinesFit ls → All FitsInstruction (flat_map line_text ls)
-lines_fit [] h = all_none FitsInstruction
-lines_fit (l ∷ ls) h = all_join (line_text l) (flat_map line_text ls) (line_fits l h.0) (lines_fit ls h.1)
+lines_fit [] h = All-nil FitsInstruction
+lines_fit (l ∷ ls) h = All-append FitsInstruction (line_text l) (flat_map line_text ls) (line_fits l h.0) (lines_fit ls h.1)
 
 table_fits : (r : Predef) → LinesFit (lines_of r)
 unfolding operations.row_of

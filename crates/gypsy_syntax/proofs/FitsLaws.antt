@@ -1,28 +1,28 @@
 -- What keeps the form fits it in plain words: what the grammar gives for a tree fits, nests no deeper than the tree, and places
 -- don't count.
-use Rattle.std.proofs.Common.{◌≡◌, ℕ, suc, ◌+◌, ◌<◌, ◌≤◌, ◌^◌, max, Bool, true, false, leb, List, [], ◌∷◌, length, map, Option, Some, None, Ok, All, refl, sym, subst, arith}
-use Rattle.std.specs.Prelude.{ℤ, pos, codes, drop, ◌&&◌, if◌then◌else◌}
+use Rattle.std.proofs.Common.{◌≡◌, ℕ, suc, ◌+◌, ◌<◌, ◌≤◌, max, Bool, true, false, leb, List, [], ◌∷◌, length, Option, Some, None, Ok, All, refl, subst, arith}
+use Rattle.std.specs.Prelude.{codes, drop, ◌&&◌, if◌then◌else◌}
 use Rattle.std.specs.Str.{bytes_eq}
-use Rattle.std.specs.Str.Parse.{digits_value, without_leading_plus}
-use Rattle.std.proofs.lemmas.Bool.{and_parts, ltb-true, leb-true}
+use Rattle.std.proofs.lemmas.Bool.{and_parts, leb-true}
 use Rattle.std.proofs.lemmas.List.{length-map}
-use Rattle.std.proofs.lemmas.List.Elements.{All-nil, All-cons, All-head, All-tail}
+use Rattle.std.proofs.lemmas.List.Elements.{All-nil, All-head, All-tail}
 use Rattle.stack_text.specs.declared.name.Named.{Named}
 use Rattle.stack_text.specs.declared.shape.Kind.{Kind}
 use Rattle.stack_text.specs.Names.{is_name, is_truth_word}
-use Rattle.stack_text.specs.Numerals.{is_digits, is_numeral, numeral_value, fits_128_bits}
+use Rattle.stack_text.specs.Numerals.{is_digits, is_numeral, numeral_value, fits_128_bits, IsNatural, IsNumber}
 use Rattle.stack_text.specs.Trees.{Node, Nodes, atom, list, none, more, place_of, depth, depths}
-use Rattle.stack_text.specs.Grammar.Judged.{Judged, judged, ◌⊛◌, front, each_of}
-use Rattle.stack_text.specs.Grammar.Parts.{count_of, is_atom_of, list_length, list_or}
+use Rattle.stack_text.specs.Grammar.Judged.{judged, ◌⊛◌, front, each_of}
+use Rattle.stack_text.specs.Grammar.Parts.{IsNamed, count_of, is_atom_of, list_length, list_or}
 use Rattle.stack_text.specs.Grammar.Printed.{unplaced_name}
-use Rattle.stack_text.proofs.NumeralTextLaws.{value-digits}
+use Rattle.stack_text.proofs.FitsLaws.{Fitting, FittingList, all_under, fits_each, fits_front, fits_list, fits_name, placed_names}
+use Rattle.stack_text.proofs.NumeralTextLaws.{natural_digits}
 use Rattle.stack_text.proofs.KeepsLaws.{Holds, holds_judged, holds_one, holds_two, holds_three, holds_six, holds_at, holds_more}
 use Rattle.gypsy_syntax.specs.declared.keyword.Keyword.{Keyword}
 use Rattle.gypsy_syntax.specs.declared.keyword.Keyword.TheVariants as word
 use Rattle.gypsy_syntax.specs.declared.literal.Decl.{Decl}
 use Rattle.gypsy_syntax.specs.declared.literal.TypeText.{TypeText}
 use Rattle.gypsy_syntax.specs.Answers.{KeepsForm}
-use Rattle.gypsy_syntax.specs.Fits.{IsNamed, IsNumber, IsCode, FitsLength, FitsSimple, AllSimple, FitsLiteral, FitsArgument, FitsDecl, FitsLocal, FitsStatement, FitsStatements, FitsProcedure, FitsForm}
+use Rattle.gypsy_syntax.specs.Fits.{FitsLength, FitsSimple, AllSimple, FitsLiteral, FitsArgument, FitsDecl, FitsLocal, FitsStatement, FitsStatements, FitsProcedure, FitsForm}
 use Rattle.gypsy_syntax.specs.Grammar.{named_in, names_in, is_word, number_at, number_in, kind_in, simple_type, array_type, type_in, is_character, simple_at, simple_in, literal_in, decl_in, local_in, arg_in, is_empty_list, statement_in, form_in, statements_in, are_few, procedure_in, source_in}
 use Rattle.gypsy_syntax.specs.Keywords.{keyword_named, kind_named}
 use Rattle.gypsy_syntax.specs.Made.{literals, statements, new_name, new_array, new_decl, new_local, new_list, new_seq, new_branch, new_begin, new_call, new_predef, new_proc, new_source}
@@ -33,38 +33,10 @@ use Rattle.gypsy_syntax.specs.Sources.{LiteralOf, LiteralsOf, integer, truth, ch
 use Rattle.gypsy_syntax.specs.Sources.{StmtOf, StmtsOf, no_op, signal, seq, loop, branch, begin, call, predef, no_parts, part, LocalOf, ProcOf, SourceOf}
 use Rattle.gypsy_syntax.proofs.KeepsLaws.{by_empty, character_digits}
 
--- ---- lists
-
--- each item, and as many as there are trees
-record Fitting {X : Type 0} (P : X → Type 0) (ts : Nodes) (xs : List X) : Type 0 where
-  all : All P xs
-  count : length xs ≡ count_of ts
-
-fits_each : {X : Type 0} (P : X → Type 0) (judge : Node → Judged X) → ((t : Node) → Holds P (judge t)) → (ts : Nodes) → Holds (Fitting P ts) (each_of judge ts)
-fits_each P judge fits none = record { of_value = record { all = All-nil P; count = refl } }
-fits_each P judge fits (more t ts) =
-    holds_two P (Fitting P ts) (Fitting P (more t ts)) front (judge t) (each_of judge ts)
-    (λ x h xs hs. record { all = All-cons P x xs h hs.all; count = let n : length xs ≡ count_of ts = hs.count in omega (arith, n) }) (fits t) (fits_each P judge fits ts)
-
--- the items of a tree that is a list
-record FittingList {X : Type 0} (P : X → Type 0) (t : Node) (xs : List X) : Type 0 where
-  all : All P xs
-  count : length xs ≡ list_length t
-  deep : 0 < depth t
-
-fits_list : {X : Type 0} (rule : ℕ) (P : X → Type 0) (judge : Node → Judged X) → ((t : Node) → Holds P (judge t)) → (t : Node) → Holds (FittingList P t) (list_or rule judge t)
-fits_list rule P judge fits (atom p w) = record { of_value = tt }
-fits_list rule P judge fits (list p ts) =
-    holds_more (Fitting P ts) (FittingList P (list p ts)) (each_of judge ts) (λ xs h. record { all = h.all; count = h.count; deep = omega arith }) (fits_each P judge fits ts)
-
 -- ---- names and numbers
 
-fits_name : (t : Node) → Holds IsNamed (named_in t)
-fits_name (atom p w) = holds_judged IsNamed p 3 (is_name w) _ (λ h. record { of_value = h })
-fits_name (list p ts) = record { of_value = tt }
-
 fits_names : (t : Node) → Holds (FittingList IsNamed t) (names_in t)
-fits_names = fits_list 5 IsNamed named_in fits_name
+fits_names = fits_list 5 IsNamed named_in (fits_name 3)
 
 -- one name or more
 record Handled (cs : Node) (ns : List Named) : Type 0 where
@@ -85,13 +57,8 @@ fits_number_in : (t : Node) → Holds IsNumber (number_in t)
 fits_number_in (atom p w) = fits_number p w
 fits_number_in (list p ts) = record { of_value = tt }
 
-code_of_digits : (w : List ℕ) → is_digits w ≡ true → fits_128_bits (numeral_value w) ≡ true → IsCode (numeral_value w)
-code_of_digits w digits fits =
-    let value : numeral_value w ≡ pos (digits_value 10 (without_leading_plus w)) = value-digits w digits in
-    subst IsCode (sym value) (ltb-true _ (2 ^ 127) (subst (λ (z : ℤ). fits_128_bits z ≡ true) value fits))
-
-fits_code : (p : ℕ) (w : List ℕ) → is_digits w ≡ true → Holds IsCode (number_at p w)
-fits_code p w digits = holds_judged IsCode p 11 (fits_128_bits (numeral_value w)) _ (λ h. record { of_value = code_of_digits w digits h })
+fits_code : (p : ℕ) (w : List ℕ) → is_digits w ≡ true → Holds IsNatural (number_at p w)
+fits_code p w digits = holds_judged IsNatural p 11 (fits_128_bits (numeral_value w)) _ (λ h. record { of_value = natural_digits w digits h })
 
 -- ---- values
 
@@ -101,7 +68,7 @@ fits_simple_at p w = pick (is_numeral w) (is_character w) refl
     pick : (n c : Bool) → is_character w ≡ c →
         Holds FitsSimple (if n then Ok (integer p) ⊛ number_at p w else if c then Ok (character p) ⊛ number_at p (drop 1 w) else judged p 8 (is_truth_word w) (Ok (truth p (bytes_eq w (codes "true")))))
     pick true c e = holds_one IsNumber FitsSimple (integer p) (number_at p w) (λ z h. h) (fits_number p w)
-    pick false true e = holds_one IsCode FitsSimple (character p) (number_at p (drop 1 w)) (λ z h. h) (fits_code p (drop 1 w) (character_digits w e))
+    pick false true e = holds_one IsNatural FitsSimple (character p) (number_at p (drop 1 w)) (λ z h. h) (fits_code p (drop 1 w) (character_digits w e))
     pick false false e = holds_judged FitsSimple p 8 (is_truth_word w) _ (λ h. record { of_value = tt })
 
 fits_simple : (t : Node) → Holds FitsSimple (simple_in t)
@@ -142,13 +109,13 @@ fits_type (atom p w) = fits_simple_type p (kind_named w)
 
 fits_decl : (t : Node) → Holds FitsDecl (decl_in t)
 fits_decl (list p (more v (more t none))) =
-    holds_two IsNamed FitsType FitsDecl new_decl (named_in v) (type_in t) (λ n g s h. record { name = g; length = h }) (fits_name v) (fits_type t)
+    holds_two IsNamed FitsType FitsDecl new_decl (named_in v) (type_in t) (λ n g s h. record { name = g; length = h }) (fits_name 3 v) (fits_type t)
 fits_decl t = record { of_value = tt }
 
 fits_local : (t : Node) → Holds FitsLocal (local_in t)
 fits_local (list p (more v (more t (more l none)))) =
     holds_three IsNamed FitsType FitsLiteral FitsLocal new_local (named_in v) (type_in t) (literal_in l)
-    (λ n g s h x k. record { decl = record { name = g; length = h }; value = k }) (fits_name v) (fits_type t) (fits_literal l)
+    (λ n g s h x k. record { decl = record { name = g; length = h }; value = k }) (fits_name 3 v) (fits_type t) (fits_literal l)
 fits_local t = record { of_value = tt }
 
 -- ---- statements
@@ -184,7 +151,7 @@ mutual
   fits_form None p q w ts = record { of_value = tt }
   fits_form (Some word.NoOp) p q w none = record { of_value = record { fits = tt; nested = omega arith } }
   fits_form (Some word.Signal) p q w (more c none) =
-      holds_one IsNamed (Fitted (depth (list p (more (atom q w) (more c none))))) (signal p) (named_in c) (λ n h. record { fits = h; nested = omega arith }) (fits_name c)
+      holds_one IsNamed (Fitted (depth (list p (more (atom q w) (more c none))))) (signal p) (named_in c) (λ n h. record { fits = h; nested = omega arith }) (fits_name 3 c)
   fits_form (Some word.Seq) p q w (more s ss) =
       holds_one (FittedAll (more s ss)) (Fitted (depth (list p (more (atom q w) (more s ss))))) (new_seq p) (Ok front ⊛ statement_in s ⊛ statements_in ss) (fitted_seq p q w s ss)
       (holds_two (Fitted (depth s)) (FittedAll ss) (FittedAll (more s ss)) front (statement_in s) (statements_in ss)
@@ -194,14 +161,14 @@ mutual
       holds_one (Fitted (depth s)) (Fitted (depth (list p (more (atom q w) (more s none))))) (loop p) (statement_in s) (λ x h. record { fits = h.fits; nested = omega (arith, h.nested) }) (fits_statement s)
   fits_form (Some word.If) p q w (more b (more s (more t none))) =
       holds_three IsNamed (Fitted (depth s)) (Fitted (depth t)) (Fitted (depth (list p (more (atom q w) (more b (more s (more t none))))))) (new_branch p) (named_in b) (statement_in s) (statement_in t)
-      (λ n g x h y k. record { fits = (g, h.fits, k.fits); nested = omega (arith, h.nested, k.nested) }) (fits_name b) (fits_statement s) (fits_statement t)
+      (λ n g x h y k. record { fits = (g, h.fits, k.fits); nested = omega (arith, h.nested, k.nested) }) (fits_name 3 b) (fits_statement s) (fits_statement t)
   fits_form (Some word.Begin) p q w (more s (more cs (more t none))) =
       by_empty (Fitted (depth (list p (more (atom q w) (more s (more cs (more t none))))))) p (is_empty_list cs) _
       (λ some_. holds_three (Fitted (depth s)) (Handled cs) (Fitted (depth t)) (Fitted (depth (list p (more (atom q w) (more s (more cs (more t none))))))) (new_begin p) (statement_in s) (names_in cs) (statement_in t)
       (λ x g ns h y k. record { fits = (g.fits, h.some, h.all, k.fits); nested = omega (arith, g.nested, k.nested) }) (fits_statement s) (fits_handled cs some_) (fits_statement t))
   fits_form (Some word.Call) p q w (more f (more vs (more cs none))) =
       holds_three IsNamed (FittingList IsNamed vs) (FittingList IsNamed cs) (Fitted (depth (list p (more (atom q w) (more f (more vs (more cs none))))))) (new_call p (place_of vs) (place_of cs)) (named_in f) (names_in vs) (names_in cs)
-      (λ n g xs h ys k. record { fits = (g, h.all, k.all); nested = omega (arith, h.deep) }) (fits_name f) (fits_names vs) (fits_names cs)
+      (λ n g xs h ys k. record { fits = (g, h.all, k.all); nested = omega (arith, h.deep) }) (fits_name 3 f) (fits_names vs) (fits_names cs)
   fits_form (Some (word.Predef which)) p q w ts =
       holds_one (Fitting FitsArgument ts) (Fitted (depth (list p (more (atom q w) ts)))) (new_predef p which) (each_of arg_in ts) (λ xs h. record { fits = h.all; nested = omega arith }) (fits_each FitsArgument arg_in fits_argument ts)
   fits_form (Some k) p q w ts = record { of_value = tt }
@@ -243,15 +210,14 @@ fits_procedure (list p (more w (more name (more formals (more conds (more locals
       few_conds = few_items conds local_conds (length cs) (length ds) both.1 hc.count hd.count;
       shallow = omega (arith, hs.nested, body_low);
     })
-    (fits_name name) (fits_list 4 FitsDecl decl_in fits_decl formals) (fits_names conds) (fits_list 6 FitsLocal local_in fits_local locals) (fits_names local_conds) (fits_statement body)))
+    (fits_name 3 name) (fits_list 4 FitsDecl decl_in fits_decl formals) (fits_names conds) (fits_list 6 FitsLocal local_in fits_local locals) (fits_names local_conds) (fits_statement body)))
 fits_procedure t low = record { of_value = tt }
 
 fits_procedures : (ts : Nodes) → depths ts ≤ 199 → Holds (Fitting FitsProcedure ts) (each_of procedure_in ts)
 fits_procedures none low = record { of_value = record { all = All-nil FitsProcedure; count = refl } }
 fits_procedures (more t ts) low =
     holds_two FitsProcedure (Fitting FitsProcedure ts) (Fitting FitsProcedure (more t ts)) front (procedure_in t) (each_of procedure_in ts)
-    (λ x h xs hs. record { all = All-cons FitsProcedure x xs h hs.all; count = let n : length xs ≡ count_of ts = hs.count in omega (arith, n) })
-    (fits_procedure t (omega (arith, low))) (fits_procedures ts (omega (arith, low)))
+    (fits_front FitsProcedure t ts) (fits_procedure t (omega (arith, low))) (fits_procedures ts (omega (arith, low)))
 
 fits_source : (t : Node) → depth t ≤ 200 → Holds FitsForm (source_in t)
 fits_source (list p (more w (more main (more r rs)))) low =
@@ -262,17 +228,10 @@ fits_source (list p (more w (more main (more r rs)))) low =
     let many : length ps ≡ 1 + count_of rs = hp.count in
     let le : 1 + count_of rs ≤ 1000 = leb-true (count_of (more r rs)) 1000 few in
     record { main = hn; procs = hp.all; some_procs = omega (arith, many); few_procs = omega (arith, many, le) })
-    (fits_name main) (fits_procedures (more r rs) (let le : suc (max (depth w) (max (depth main) (depths (more r rs)))) ≤ 200 = low in omega (arith, le)))))
+    (fits_name 3 main) (fits_procedures (more r rs) (let le : suc (max (depth w) (max (depth main) (depths (more r rs)))) ≤ 200 = low in omega (arith, le)))))
 fits_source t low = record { of_value = tt }
 
 -- ---- places don't count
-
-all_under : {X : Type 0} (P : X → Type 0) (f : X → X) → ((x : X) → P (f x) → P x) → (xs : List X) → All P (map f xs) → All P xs
-all_under P f back [] h = All-nil P
-all_under P f back (x ∷ xs) h = All-cons P x xs (back x (All-head P (f x) (map f xs) h)) (all_under P f back xs (All-tail P (f x) (map f xs) h))
-
-placed_names : (ns : List Named) → All IsNamed (map unplaced_name ns) → All IsNamed ns
-placed_names = all_under IsNamed unplaced_name (λ n h. h)
 
 placed_simple : (l : LiteralOf) → FitsSimple (unplaced_literal l) → FitsSimple l
 placed_simple (integer p z) h = h

@@ -1,5 +1,5 @@
 -- A source that was read keeps the form.
-use Rattle.std.proofs.Common.{◌≡◌, ℕ, ◌≤◌, Bool, true, false, cond, List, [], ◌∷◌, length, map, Option, Some, None, Ok, Err, refl, sym, ap, subst, ◌∙◌, arith}
+use Rattle.std.proofs.Common.{◌≡◌, ℕ, ◌≤◌, Bool, true, false, cond, List, [], ◌∷◌, length, map, Option, Some, None, Ok, refl, sym, ap, subst, ◌∙◌, arith}
 use Rattle.std.specs.Prelude.{ℤ, ◌&&◌, ◌==◌, codes, drop, nat_lt, nat_le, if◌then◌else◌}
 use Rattle.std.specs.List.{list_all}
 use Rattle.std.specs.Char.{is_ascii_digit, is_ascii_alphabetic}
@@ -11,7 +11,7 @@ use Rattle.stack_text.specs.declared.name.Named.{Named}
 use Rattle.stack_text.specs.declared.shape.Kind.{Kind}
 use Rattle.stack_text.specs.declared.shape.Kind.TheVariants.{Integer, Boolean, Character}
 use Rattle.stack_text.specs.Names.{is_name, is_truth_word}
-use Rattle.stack_text.specs.Numerals.{is_digits, is_numeral, numeral_value, fits_128_bits}
+use Rattle.stack_text.specs.Numerals.{is_digits, is_numeral, numeral_value, fits_128_bits, IsNumber}
 use Rattle.stack_text.specs.Trees.{Node, Nodes, atom, list, none, more, place_of, IsWellFormed}
 use Rattle.stack_text.specs.TreeView.{nodes}
 use Rattle.std.proofs.lemmas.Bool.{and_parts}
@@ -22,14 +22,13 @@ use Rattle.stack_text.specs.Grammar.Parts.{count_of, list_or}
 use Rattle.stack_text.specs.Grammar.Printed.{list_tree, name_tree, unplaced_name}
 use Rattle.stack_text.specs.Values.{kind_name}
 use Rattle.stack_text.proofs.NumeralTextLaws.{value-signed_decimal, numeral-signed_decimal, digits-signed_decimal}
-use Rattle.stack_text.proofs.KeepsLaws.{Alike, AllAlike, Holds, IsRun, Keeps, KeepsEach, KeepsName, alike_list_length, alike_items, holds_at, holds_judged, holds_one, holds_six, holds_three, holds_two, keeps_each, keeps_list, keeps_name, keeps_named, named_again, ok_one, ok_six, ok_three, ok_two, passes, well_formed}
+use Rattle.stack_text.proofs.KeepsLaws.{Alike, AllAlike, Holds, IsRun, Keeps, KeepsEach, KeepsName, alike_list_length, alike_items, holds_at, holds_judged, holds_more, holds_one, holds_six, holds_three, holds_two, keeps_each, keeps_list, keeps_name, keeps_named, named_again, ok_one, ok_six, ok_three, ok_two, passes, well_formed}
 use Rattle.gypsy_syntax.specs.declared.keyword.Keyword.{Keyword}
 use Rattle.gypsy_syntax.specs.declared.keyword.Keyword.TheVariants as word
 use Rattle.gypsy_syntax.specs.declared.literal.Decl.{Decl}
 use Rattle.gypsy_syntax.specs.declared.literal.TypeText.{TypeText}
 use Rattle.gypsy_syntax.specs.declared.predef.Predef.TheVariants as row
 use Rattle.gypsy_syntax.specs.Answers.{KeepsForm}
-use Rattle.gypsy_syntax.specs.Fits.{IsNumber}
 use Rattle.gypsy_syntax.specs.Grammar.{named_in, names_in, number_at, simple_type, array_type, type_in, is_character, simple_at, simple_in, literal_in, decl_in, local_in, arg_in, is_empty_list, statement_in, form_in, statements_in, are_few, procedure_in, source_in}
 use Rattle.gypsy_syntax.specs.Keywords.{keyword_name, keyword_named, keywords, kind_named}
 use Rattle.gypsy_syntax.specs.Made.{literals, statements, new_name, new_array, new_decl, new_local, new_list, new_seq, new_branch, new_begin, new_call, new_predef, new_proc, new_source}
@@ -142,10 +141,6 @@ KeepsItem = Keeps simple_in literal_tree unplaced_literal
 
 abbrev KeepsLiteral : Node → LiteralOf → Type 0
 KeepsLiteral = Keeps literal_in literal_tree unplaced_literal
-
-holds_more : {X : Type 0} (P Q : X → Type 0) (r : Judged X) → ((x : X) → P x → Q x) → Holds P r → Holds Q r
-holds_more P Q (Ok x) f h = record { of_value = f x h.of_value }
-holds_more P Q (Err fs) f h = record { of_value = tt }
 
 keeps_simple : (t : Node) → Holds (KeepsItem t) (simple_in t)
 keeps_simple (atom p w) =

@@ -1,26 +1,25 @@
 -- What fits the form keeps it, where its tree is not too large: the tree of each part is judged to be that part but for
 -- places, its atoms are runs, and it is shallow.
 use Rattle.std.proofs.Common.{◌∙◌, ◌≡◌, ℕ, suc, ◌+◌, ◌<◌, ◌≤◌, ◌^◌, max, true, false, leb, List, [], ◌∷◌, length, map, Option, Some, None, Ok, All, refl, sym, ap, subst, arith}
-use Rattle.std.specs.Prelude.{ℤ, pos, negsuc, ◌&&◌}
-use Rattle.std.proofs.lemmas.Bool.{lt-ltb, le-leb}
-use Rattle.std.proofs.lemmas.List.Elements.{All-head, All-tail}
+use Rattle.std.specs.Prelude.{ℤ, ◌&&◌}
+use Rattle.std.proofs.lemmas.Bool.{le-leb}
 use Rattle.stack_text.specs.declared.name.Named.{Named}
-use Rattle.stack_text.specs.Numerals.{fits_128_bits}
 use Rattle.stack_text.specs.Trees.{Node, Nodes, list, none, more, depth, depths, node_count, AtomsAreRuns, AllAtomsAreRuns}
 use Rattle.stack_text.specs.TreeView.{nodes}
-use Rattle.stack_text.specs.Grammar.Judged.{Judged, front, each_of}
+use Rattle.stack_text.specs.Grammar.Judged.{front, each_of}
 use Rattle.stack_text.specs.Grammar.Parts.{count_of}
 use Rattle.stack_text.specs.Grammar.Printed.{list_tree, name_tree, unplaced_name}
 use Rattle.stack_text.proofs.AtomLaws.{name_is_run}
-use Rattle.stack_text.proofs.NumeralTextLaws.{digits-pos}
+use Rattle.stack_text.proofs.NumeralTextLaws.{natural_written}
+use Rattle.stack_text.proofs.MadeLaws.{Made, made_each, made_names}
 use Rattle.stack_text.proofs.KeepsLaws.{and_true, named_again, ok_one, ok_two, ok_three, ok_six, passes}
 use Rattle.gypsy_syntax.specs.declared.keyword.Keyword.{Keyword}
 use Rattle.gypsy_syntax.specs.declared.keyword.Keyword.TheVariants as word
 use Rattle.gypsy_syntax.specs.declared.literal.Decl.{Decl}
 use Rattle.gypsy_syntax.specs.declared.literal.TypeText.{TypeText}
 use Rattle.gypsy_syntax.specs.Answers.{KeepsForm}
-use Rattle.gypsy_syntax.specs.Fits.{IsNamed, FitsLength, FitsSimple, AllSimple, FitsLiteral, FitsArgument, FitsDecl, FitsLocal, FitsStatement, FitsStatements, FitsProcedure, FitsForm}
-use Rattle.gypsy_syntax.specs.Grammar.{named_in, simple_type, type_in, simple_in, literal_in, decl_in, local_in, arg_in, is_empty_list, statement_in, form_in, statements_in, are_few, procedure_in, source_in}
+use Rattle.gypsy_syntax.specs.Fits.{FitsLength, FitsSimple, AllSimple, FitsLiteral, FitsArgument, FitsDecl, FitsLocal, FitsStatement, FitsStatements, FitsProcedure, FitsForm}
+use Rattle.gypsy_syntax.specs.Grammar.{simple_type, type_in, simple_in, literal_in, decl_in, local_in, arg_in, is_empty_list, statement_in, form_in, statements_in, are_few, procedure_in, source_in}
 use Rattle.gypsy_syntax.specs.Made.{literals, statements, new_decl, new_local, new_list, new_seq, new_branch, new_begin, new_call, new_predef, new_proc, new_source}
 use Rattle.gypsy_syntax.specs.Places.{unplaced_type, unplaced_literal, unplaced_literals, unplaced_arg, unplaced_decl, unplaced_local, unplaced_stmt, unplaced_stmts, unplaced_proc, without_places}
 use Rattle.gypsy_syntax.specs.Printed.{type_tree, literal_tree, literal_trees, arg_tree, decl_tree, local_tree, keyword_tree, stmt_tree, stmt_trees, proc_tree, tree_of}
@@ -29,52 +28,12 @@ use Rattle.gypsy_syntax.specs.Sources.{LiteralOf, LiteralsOf, integer, truth, ch
 use Rattle.gypsy_syntax.specs.Sources.{StmtOf, StmtsOf, no_op, signal, seq, loop, branch, begin, call, predef, no_parts, part, LocalOf, ProcOf, SourceOf}
 use Rattle.gypsy_syntax.proofs.KeepsLaws.{KeepsSimple, argument_again, array_again, begin_again, character_kept, integer_kept, keyword_run, kind_again, kind_run, number_run, statement_again, truth_kept, variable_again}
 
--- the tree of a part is that part but for places, its atoms are runs, and at most n of its lists nest
-record Made {X : Type 0} (judge : Node → Judged X) (tree : X → Node) (view : X → X) (n : ℕ) (x : X) : Type 0 where
-  reads : judge (tree x) ≡ Ok (view x)
-  runs : AtomsAreRuns (tree x)
-  low : depth (tree x) ≤ n
-
--- ---- lists
-
-record MadeEach {X : Type 0} (judge : Node → Judged X) (tree : X → Node) (view : X → X) (n : ℕ) (xs : List X) : Type 0 where
-  reads : each_of judge (nodes (map tree xs)) ≡ Ok (map view xs)
-  runs : AllAtomsAreRuns (nodes (map tree xs))
-  low : depths (nodes (map tree xs)) ≤ n
-  count : count_of (nodes (map tree xs)) ≡ length xs
-
-made_each : {X : Type 0} (P : X → Type 0) (judge : Node → Judged X) (tree : X → Node) (view : X → X) (n : ℕ) → ((x : X) → P x → Made judge tree view n x) → (xs : List X) → All P xs → MadeEach judge tree view n xs
-made_each P judge tree view n made [] h = record { reads = refl; runs = tt; low = omega arith; count = refl }
-made_each P judge tree view n made (x ∷ xs) h =
-    let one_ = made x (All-head P x xs h) in
-    let others = made_each P judge tree view n made xs (All-tail P x xs h) in
-    record {
-      reads = ok_two front (judge (tree x)) (each_of judge (nodes (map tree xs))) (view x) (map view xs) one_.reads others.reads;
-      runs = (one_.runs, others.runs);
-      low = omega (arith, one_.low, others.low);
-      count = let k : count_of (nodes (map tree xs)) ≡ length xs = others.count in omega (arith, k);
-    }
-
--- ---- names
-
-made_name : (n : Named) → IsNamed n → Made named_in name_tree unplaced_name 0 n
-made_name n h = record { reads = named_again 3 n h; runs = name_is_run n.name h; low = omega arith }
-
-abbrev MadeNames : List Named → Type 0
-MadeNames = MadeEach named_in name_tree unplaced_name 0
-
-made_names : (ns : List Named) → All IsNamed ns → MadeNames ns
-made_names = made_each IsNamed named_in name_tree unplaced_name 0 made_name
-
 -- ---- values
 
 made_simple : (l : LiteralOf) → FitsSimple l → KeepsSimple l
 made_simple (integer p z) h = integer_kept p z h
 made_simple (truth p b) h = truth_kept p b
-made_simple (character p (pos n)) h =
-    let fits : fits_128_bits (pos n) ≡ true = lt-ltb n (2 ^ 127) h in
-    character_kept p (pos n) (record { digits = digits-pos n fits; fits = fits })
-made_simple (character p (negsuc n)) h = absurd h
+made_simple (character p z) h = let k = natural_written z h in character_kept p z (record { digits = k.1; fits = k.0 })
 made_simple (array p ls) h = absurd h
 
 simple_runs : (l : LiteralOf) → KeepsSimple l → AtomsAreRuns (literal_tree l)
@@ -214,14 +173,14 @@ mutual
       (name_is_run b.name h.0, (one_.runs, (two_.runs, tt))) (omega (arith, one_.low, two_.low))
   made_statement (begin p s cs t) h =
       let one_ = made_statement s h.0 in
-      let names = made_names cs h.2 in
+      let names = made_names 3 cs h.2 in
       let two_ = made_statement t h.3 in
       made_form word.Begin (begin p s cs t) (more (stmt_tree s) (more (list_tree name_tree cs) (more (stmt_tree t) none))) refl
       (begin_again (list_tree name_tree cs) _ _ (some_names cs h.1) (ok_three (new_begin 0) _ _ _ (unplaced_stmt s) (map unplaced_name cs) (unplaced_stmt t) one_.reads names.reads two_.reads))
       (one_.runs, (names.runs, (two_.runs, tt))) (omega (arith, one_.low, names.low, two_.low, nested s))
   made_statement (call p f q xs r cs) h =
-      let actuals = made_names xs h.1 in
-      let conds = made_names cs h.2 in
+      let actuals = made_names 3 xs h.1 in
+      let conds = made_names 3 cs h.2 in
       made_form word.Call (call p f q xs r cs) (more (name_tree f) (more (list_tree name_tree xs) (more (list_tree name_tree cs) none))) refl
       (ok_three (new_call 0 0 0) _ _ _ (unplaced_name f) (map unplaced_name xs) (map unplaced_name cs) (named_again 3 f h.0) actuals.reads conds.reads)
       (name_is_run f.name h.0, (actuals.runs, (conds.runs, tt))) (omega (arith, actuals.low, conds.low))
@@ -251,9 +210,9 @@ few_of tree other xs ys e f le = let few : count_of (nodes (map tree xs)) + coun
 made_procedure : (p : ProcOf) → FitsProcedure p → Made procedure_in proc_tree unplaced_proc 199 p
 made_procedure p h =
     let formals = made_each FitsDecl decl_in decl_tree unplaced_decl 2 made_decl p.formals h.formals in
-    let conds = made_names p.conds h.conds in
+    let conds = made_names 3 p.conds h.conds in
     let locals = made_each FitsLocal local_in local_tree unplaced_local 2 made_local p.locals h.locals in
-    let local_conds = made_names p.local_conds h.local_conds in
+    let local_conds = made_names 3 p.local_conds h.local_conds in
     let body = made_statement p.body h.body in
     let few : (are_few (list_tree decl_tree p.formals) (list_tree local_tree p.locals) && are_few (list_tree name_tree p.conds) (list_tree name_tree p.local_conds)) ≡ true =
     and_true (are_few (list_tree decl_tree p.formals) (list_tree local_tree p.locals)) _ (few_of decl_tree local_tree p.formals p.locals formals.count locals.count h.few_variables)

@@ -1,35 +1,14 @@
 -- The tree of a source has no more atoms and lists than its plain counts allow.
-use Rattle.std.proofs.Common.{◌≡◌, ℕ, ◌+◌, ◌*◌, ◌≤◌, List, [], ◌∷◌, map, length, Option, Some, None, Bool, true, false, refl, arith}
+use Rattle.std.proofs.Common.{◌≡◌, ◌≤◌, length, Option, Some, None, Bool, true, false, refl, arith}
 use Rattle.std.specs.Prelude.{ℤ}
-use Rattle.std.specs.List.{sum_by}
-use Rattle.std.proofs.lemmas.List.Sums.{sum_by-cons}
-use Rattle.stack_text.specs.declared.name.Named.{Named}
 use Rattle.stack_text.specs.declared.shape.Kind.{Kind}
-use Rattle.stack_text.specs.Trees.{Node, node_count, node_counts}
-use Rattle.stack_text.specs.TreeView.{nodes}
-use Rattle.stack_text.specs.Grammar.Printed.{name_tree}
+use Rattle.stack_text.specs.Trees.{node_count, node_counts}
+use Rattle.stack_text.proofs.SizeLaws.{each_over, names_over, sum_over}
 use Rattle.gypsy_syntax.specs.declared.literal.Decl.{Decl}
 use Rattle.gypsy_syntax.specs.Printed.{type_tree_by, truth_tree, literal_tree, literal_trees, arg_tree, decl_tree, local_tree, stmt_tree, stmt_trees, proc_tree, tree_of}
 use Rattle.gypsy_syntax.specs.Sizes.{literal_size, items_size, argument_size, statement_size, parts_size, local_size, procedure_size, text_size}
 use Rattle.gypsy_syntax.specs.Sources.{LiteralOf, LiteralsOf, integer, truth, character, array, no_items, item, ArgOf, variable, constant}
 use Rattle.gypsy_syntax.specs.Sources.{StmtOf, StmtsOf, no_op, signal, seq, loop, branch, begin, call, predef, no_parts, part, LocalOf, ProcOf, SourceOf}
-
--- ---- lists
-
-sum_over : {X : Type 0} (f : X → ℕ) (tree : X → Node) → ((x : X) → node_count (tree x) ≤ f x) → (xs : List X) → node_counts (nodes (map tree xs)) ≤ sum_by f xs
-sum_over f tree over [] = omega arith
-sum_over f tree over (x ∷ xs) = let one = over x in let others = sum_over f tree over xs in omega (arith, sum_by-cons f x xs, one, others)
-
-each_over : {X : Type 0} (n : ℕ) (tree : X → Node) → ((x : X) → node_count (tree x) ≤ n) → (xs : List X) → node_counts (nodes (map tree xs)) ≤ n * length xs
-each_over n tree over [] = omega arith
-each_over n tree over (x ∷ xs) =
-    let one = over x in
-    let others = each_over n tree over xs in
-    let product : n * (1 + length xs) ≡ n + n * length xs = omega arith in
-    omega (arith, one, others, product)
-
-names_over : (ns : List Named) → node_counts (nodes (map name_tree ns)) ≤ length ns
-names_over ns = let over = each_over 1 name_tree (λ n. omega arith) ns in omega (arith, over)
 
 -- ---- parts
 

@@ -1,27 +1,14 @@
 -- The form of a source in plain words: names are names, what must not be empty isn't, a value is simple or a list of simple
 -- values, numbers have 128 bits, and all counts are within the limits.
-use Rattle.std.specs.Prelude.{◌+◌, ◌<◌, ◌≤◌, ◌^◌, ℤ, pos, negsuc, length, Option, Some, None, All, IsTrue}
-use Rattle.stack_text.specs.Names.{is_name}
-use Rattle.stack_text.specs.Numerals.{fits_128_bits}
-use Rattle.stack_text.specs.declared.name.Named.{Named}
+use Rattle.std.specs.Prelude.{◌+◌, ◌<◌, ◌≤◌, ℤ, length, Option, Some, None, All}
+use Rattle.stack_text.specs.Grammar.Parts.{IsNamed}
+use Rattle.stack_text.specs.Numerals.{IsNatural, IsNumber}
 use Rattle.gypsy_syntax.specs.declared.literal.Decl.{Decl}
 use Rattle.gypsy_syntax.specs.Sizes.{nesting}
 use Rattle.gypsy_syntax.specs.Sources.{LiteralOf, LiteralsOf, integer, truth, character, array, no_items, item}
 use Rattle.gypsy_syntax.specs.Sources.{ArgOf, variable, constant}
 use Rattle.gypsy_syntax.specs.Sources.{StmtOf, StmtsOf, no_op, signal, seq, loop, branch, begin, call, predef, no_parts, part}
 use Rattle.gypsy_syntax.specs.Sources.{LocalOf, ProcOf, SourceOf}
-
-abbrev pub IsNamed : Named → Type 0
-IsNamed n = IsTrue (is_name n.name)
-
--- a number of 128 bits
-abbrev pub IsNumber : ℤ → Type 0
-IsNumber z = IsTrue (fits_128_bits z)
-
--- a number of 128 bits that is not negative
-abbrev pub IsCode : ℤ → Type 0
-IsCode (pos n) = n < 2 ^ 127
-IsCode (negsuc n) = ⊥
 
 -- the length of an array, if there is one
 abbrev pub FitsLength : Option ℤ → Type 0
@@ -32,7 +19,7 @@ FitsLength (Some n) = IsNumber n
 abbrev pub FitsSimple : LiteralOf → Type 0
 FitsSimple (integer place number) = IsNumber number
 FitsSimple (truth place b) = Unit {0}
-FitsSimple (character place code) = IsCode code
+FitsSimple (character place code) = IsNatural code
 FitsSimple (array place items) = ⊥
 
 abbrev pub AllSimple : LiteralsOf → Type 0

@@ -5,6 +5,7 @@ use Rattle.std.specs.List.{flat_map}
 use Rattle.std.specs.Option.{is_none, option_map}
 use Rattle.std.proofs.lemmas.Bool.{ltb-true, ltb-false, leb-true, lt-ltb}
 use Rattle.std.proofs.lemmas.List.{length-map, length-append}
+use Rattle.std.proofs.lemmas.List.Elements.{All-nil, All-cons, All-map}
 use Rattle.std.proofs.lemmas.List.Quantifiers.{position-Some}
 use Rattle.stack_text.proofs.OptionLaws.{bind_some}
 use Rattle.stack_text.specs.declared.name.Named.{Named}
@@ -53,24 +54,13 @@ view_in s p = program_view (resolved_program s p)
 
 -- ---- lists
 
-all_front : {X : Type 0} (P : X → Type 0) (x : X) (xs : List X) → P x → All P xs → All P (x ∷ xs)
-all_front P x xs h hs zero d lt = h
-all_front P x xs h hs (suc k) d lt = hs k d (omega (arith, lt))
-
-all_none : {X : Type 0} (P : X → Type 0) → All P []
-all_none P = λ k d lt. absurd (omega (arith, lt))
-
-all_map : {X Y : Type 0} (P : Y → Type 0) (f : X → Y) (xs : List X) → All (λ x. P (f x)) xs → All P (map f xs)
-all_map P f [] h = all_none P
-all_map P f (x ∷ xs) h = all_front P (f x) (map f xs) (h 0 x (omega arith)) (all_map P f xs (λ k d lt. h (suc k) d (omega (arith, lt))))
-
 append_none : {X : Type 0} (xs ys : List X) → xs ++ ys ≡ [] → (xs ≡ []) × (ys ≡ [])
 append_none [] ys h = (refl, h)
 append_none (x ∷ xs) ys h = absurd cc
 
 none_each : {X : Type 0} (f : X → List Breach) (xs : List X) → flat_map f xs ≡ [] → All (λ x. f x ≡ []) xs
-none_each f [] h = all_none (λ x. f x ≡ [])
-none_each f (x ∷ xs) h = let p = append_none (f x) (flat_map f xs) h in all_front (λ y. f y ≡ []) x xs p.0 (none_each f xs p.1)
+none_each f [] h = All-nil (λ x. f x ≡ [])
+none_each f (x ∷ xs) h = let p = append_none (f x) (flat_map f xs) h in All-cons (λ y. f y ≡ []) x xs p.0 (none_each f xs p.1)
 
 get-map : {X Y : Type 0} (f : X → Y) (xs : List X) (i : ℕ) (x : X) → slice_get xs i ≡ Some x → slice_get (map f xs) i ≡ Some (f x)
 get-map f [] i x h = absurd cc
@@ -181,12 +171,12 @@ word_sound s w h =
     subst (λ (o : Option Word). Exists (view_of s) (unwrap_or o (word.Bool false))) (sym m.1) (word_exists s w.item m.0 m.1)
 
 words_sound : (s : SystemOf) (ws : List WordText) → flat_map (word_breaches s) ws ≡ [] → All (Exists (view_of s)) (map (resolved_word s) ws)
-words_sound s ws h = let each = none_each (word_breaches s) ws h in all_map (Exists (view_of s)) (resolved_word s) ws (λ k d lt. word_sound s (get_or ws k d) (each k d lt))
+words_sound s ws h = let each = none_each (word_breaches s) ws h in All-map (Exists (view_of s)) (resolved_word s) ws (λ k d lt. word_sound s (get_or ws k d) (each k d lt))
 
 temporaries_sound : (s : SystemOf) (ts : List (Named × WordText)) → flat_map (temporary_breaches s) ts ≡ [] → All (Exists (view_of s)) (map (resolved_temporary s) ts)
 temporaries_sound s ts h =
     let each = none_each (temporary_breaches s) ts h in
-    all_map (Exists (view_of s)) (resolved_temporary s) ts (λ k d lt. word_sound s (get_or ts k d).1 (each k d lt))
+    All-map (Exists (view_of s)) (resolved_temporary s) ts (λ k d lt. word_sound s (get_or ts k d).1 (each k d lt))
 
 -- ---- arguments
 
@@ -288,8 +278,8 @@ module _ (s : SystemOf) (p : ProgramOf) where
   some_labels (a ∷ args) fits h =
       let each = none_each (argument_breaches s p kind.Label) (a ∷ args) h in (
         omega arith,
-        all_map (IsPlace (view_in s p)) place_of (map (resolved_argument s p kind.Label) (a ∷ args))
-            (all_map (λ r. IsPlace (view_in s p) (place_of r)) (resolved_argument s p kind.Label) (a ∷ args) (λ k d lt. a_label (get_or (a ∷ args) k d) (fits k d lt) (each k d lt))),
+        All-map (IsPlace (view_in s p)) place_of (map (resolved_argument s p kind.Label) (a ∷ args))
+            (All-map (λ r. IsPlace (view_in s p) (place_of r)) (resolved_argument s p kind.Label) (a ∷ args) (λ k d lt. a_label (get_or (a ∷ args) k d) (fits k d lt) (each k d lt))),
       )
 
   -- an instruction that is made of what it names
@@ -345,8 +335,8 @@ module _ (s : SystemOf) (p : ProgramOf) where
       let each = none_each (instruction_breaches s p) p.instrs b.1 in
       record {
         temporaries = temporaries_sound s p.temporaries c.1;
-        instructions = all_map (IsPlaced (view_of s) (view_in s p)) instruction_view (map (resolved_instruction s p) p.instrs)
-            (all_map (λ i. IsPlaced (view_of s) (view_in s p) (instruction_view i)) (resolved_instruction s p) p.instrs
+        instructions = All-map (IsPlaced (view_of s) (view_in s p)) instruction_view (map (resolved_instruction s p) p.instrs)
+            (All-map (λ i. IsPlaced (view_of s) (view_in s p) (instruction_view i)) (resolved_instruction s p) p.instrs
             (λ k d lt. instruction_sound (get_or p.instrs k d).op (get_or p.instrs k d).args (fits.instrs k d lt).args (each k d lt)));
         some_instructions = omega (arith, fits.some_instrs, instructions_length s p);
         last = last_sound p.instrs fits.some_instrs a.1 fits.instrs each;
@@ -434,11 +424,11 @@ is_sound s fits few none =
       few_temp = temp.1;
       stack_fits = omega (arith, temp.0, length-map s.stack (resolved_word s));
       low_base = base.1;
-      areas = all_map (All (Exists (view_of s))) (resolved_area s) s.areas (λ k z lt. words_sound s (get_or s.areas k z).words (areas k z lt));
-      some_words = all_map (λ words. 0 < length words) (resolved_area s) s.areas (λ k z lt. omega (arith, (fits.areas k z lt).some_words, length-map (get_or s.areas k z).words (resolved_word s)));
+      areas = All-map (All (Exists (view_of s))) (resolved_area s) s.areas (λ k z lt. words_sound s (get_or s.areas k z).words (areas k z lt));
+      some_words = All-map (λ words. 0 < length words) (resolved_area s) s.areas (λ k z lt. omega (arith, (fits.areas k z lt).some_words, length-map (get_or s.areas k z).words (resolved_word s)));
       stack = words_sound s s.stack b.1;
-      programs = all_map (IsSoundProgram (view_of s)) program_view (map (resolved_program s) s.programs)
-          (all_map (λ p. IsSoundProgram (view_of s) (program_view p)) (resolved_program s) s.programs (λ k z lt. program_sound s (get_or s.programs k z) (fits.programs k z lt) (programs k z lt)));
+      programs = All-map (IsSoundProgram (view_of s)) program_view (map (resolved_program s) s.programs)
+          (All-map (λ p. IsSoundProgram (view_of s) (program_view p)) (resolved_program s) s.programs (λ k z lt. program_sound s (get_or s.programs k z) (fits.programs k z lt) (programs k z lt)));
       few_areas = omega (arith, fits.few_areas, length-map s.areas (resolved_area s));
       few_programs = omega (arith, fits.few_programs, length-map s.programs (resolved_program s), length-map (map (resolved_program s) s.programs) program_view);
       few_words = few_parts s few;

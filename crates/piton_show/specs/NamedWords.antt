@@ -2,7 +2,7 @@
 use Rattle.std.specs.Prelude.{ℕ, ℤ, pos, List, [], ◌∷◌, ◌++◌, unwrap_or, slice_get}
 use Rattle.std.specs.List.{flat_map}
 use Rattle.std.specs.Option.{option_map}
-use Rattle.stack_text.specs.declared.name.Named.{Named}
+use Rattle.stack_text.specs.Grammar.Printed.{unplaced}
 use Rattle.stack_text.specs.TreeText.{tree_text}
 use Rattle.piton_words.specs.declared.word.Word.{Word}
 use Rattle.piton_words.specs.declared.word.Word.TheVariants as word
@@ -26,17 +26,14 @@ program_name system program =
 abbrev pub number_item : ℤ → Number
 number_item number = record { place = 0; number = number }
 
-abbrev pub name_item : List ℕ → Named
-name_item name = record { place = 0; name = name }
-
 abbrev pub named_item : SystemOf → Word → WordItem
 named_item system (word.Int number) = item.Int (number_item number)
 named_item system (word.Nat number) = item.Nat (number_item (pos number))
 named_item system (word.Bitv number) = item.Bitv (number_item (pos number))
 named_item system (word.Bool truth) = item.Bool truth
-named_item system (word.Addr area offset) = item.Addr (name_item (area_name system area)) (number_item (pos offset))
-named_item system (word.Pc program place) = item.Pc (name_item (program_name system program)) (number_item (pos place))
-named_item system (word.Subr program) = item.Subr (name_item (program_name system program))
+named_item system (word.Addr area offset) = item.Addr (unplaced (area_name system area)) (number_item (pos offset))
+named_item system (word.Pc program place) = item.Pc (unplaced (program_name system program)) (number_item (pos place))
+named_item system (word.Subr program) = item.Subr (unplaced (program_name system program))
 
 abbrev pub named_word : SystemOf → Word → WordText
 named_word system word = record { place = 0; item = named_item system word }

@@ -1,12 +1,12 @@
 //! Words as the text of Piton has them, with names in place of positions.
 ghost use Rattle.std.specs.Prelude.{◌≡◌, ◌++◌, pos, IfOk, OnOk, slice_get};
 ghost use Rattle.std.specs.Option.{option_map};
-ghost use Rattle.piton_show.specs.NamedWords.{area_name, program_name, number_item, name_item, named_item, named_word, word_text, words_line};
+ghost use Rattle.piton_show.specs.NamedWords.{area_name, program_name, number_item, named_item, named_word, word_text, words_line};
 
 use piton_syntax::{Area, Number, Program, System, WordItem, WordText};
 use piton_words::Word;
 use stack_text::grammar::Print;
-use stack_text::{Memory, Name, Named};
+use stack_text::{Memory, Name};
 
 /// The name of the area at a position, if there is one.
 fn name_of_area(areas: &[Area], area: u32) -> Option<&Name>
@@ -56,16 +56,6 @@ fn natural_item(number: u32) -> Number
     number_item(i128::from(number))
 }
 
-/// A name of no place in a text.
-fn name_item(name: &Name) -> Result<Named, Memory>
-    ensures { IfOk result (λ named. named ≡ name_item name.now) }
-{
-    Ok(Named {
-        place: 0,
-        name: name.clone()?,
-    })
-}
-
 /// What a word is, with names in place of positions.
 fn named_item(system: &System, word: Word) -> Result<WordItem, Memory>
     ensures { IfOk result (λ item. item ≡ named_item system.now word) }
@@ -76,16 +66,16 @@ fn named_item(system: &System, word: Word) -> Result<WordItem, Memory>
         Word::Bitv(number) => Ok(WordItem::Bitv(natural_item(number))),
         Word::Bool(truth) => Ok(WordItem::Bool(truth)),
         Word::Addr { area, offset } => {
-            let area = name_item(area_name(system, area))?;
+            let area = area_name(system, area).unplaced()?;
             let offset = natural_item(offset);
             Ok(WordItem::Addr { area, offset })
         }
         Word::Pc { program, place } => {
-            let program = name_item(program_name(system, program))?;
+            let program = program_name(system, program).unplaced()?;
             let at = natural_item(place);
             Ok(WordItem::Pc { program, at })
         }
-        Word::Subr { program } => Ok(WordItem::Subr(name_item(program_name(system, program))?)),
+        Word::Subr { program } => Ok(WordItem::Subr(program_name(system, program).unplaced()?)),
     }
 }
 

@@ -1,11 +1,11 @@
 -- What keeps the form fits it in plain words: what the grammar gives for a tree fits, and places don't count.
-use Rattle.std.proofs.Common.{◌≡◌, ℕ, zero, suc, ◌+◌, ◌≤◌, ◌^◌, Bool, true, false, cond, leb, List, [], ◌∷◌, length, map, Option, Some, None, Ok, All, Contains, refl, sym, subst, arith}
-use Rattle.std.specs.Prelude.{ℤ, pos, codes, ◌&&◌, ◌||◌, option_map}
+use Rattle.std.proofs.Common.{◌≡◌, ℕ, suc, ◌+◌, ◌≤◌, Bool, true, false, cond, leb, List, [], ◌∷◌, length, map, Option, Some, None, Ok, Contains, refl, arith}
+use Rattle.std.specs.Prelude.{codes, ◌&&◌, ◌||◌, option_map}
 use Rattle.std.specs.List.{find}
 use Rattle.std.specs.Str.{bytes_eq}
-use Rattle.std.specs.Str.Parse.{digits_value, without_leading_plus}
-use Rattle.std.proofs.lemmas.Bool.{ltb-true, leb-true}
+use Rattle.std.proofs.lemmas.Bool.{leb-true}
 use Rattle.std.proofs.lemmas.List.{length-map}
+use Rattle.std.proofs.lemmas.List.Elements.{All-nil}
 use Rattle.stack_text.specs.declared.name.Named.{Named}
 use Rattle.stack_text.specs.Names.{is_name}
 use Rattle.stack_text.specs.Numerals.{is_digits, is_numeral, numeral_value, fits_128_bits}
@@ -28,65 +28,22 @@ use Rattle.piton_syntax.specs.declared.word_text.WordItem.{WordItem}
 use Rattle.piton_syntax.specs.declared.word_text.WordItem.TheVariants as item
 use Rattle.piton_syntax.specs.Answers.{KeepsForm}
 use Rattle.stack_text.specs.Grammar.Judged.{Judged, ◌⊛◌, front, each_of}
-use Rattle.stack_text.specs.Grammar.Parts.{count_of, list_length}
+use Rattle.stack_text.specs.Grammar.Parts.{IsNamed, count_of, list_length}
 use Rattle.piton_syntax.specs.Limits.{is_small_program, is_small_system}
 use Rattle.piton_syntax.specs.Operations.{op_arguments, operation_named, tag_named, tests_of, test_name}
 use Rattle.stack_text.specs.Grammar.Parts.{bytes_of, is_atom_of}
 use Rattle.piton_syntax.specs.Grammar.{named_of, number_of, is_true_word, is_false_word, address, program_place, item_of, word_of, is_of_kind, are_of_kind, argument_of, test_at, one, test_and_label, tested_of, pair, arguments_of, called_of, labelled_of, instruction_of, list_of, temporary_of, program_of, area_of, system_of}
 use Rattle.piton_syntax.specs.Systems.{InstrOf, ProgramOf, AreaOf, SystemOf, new_word, new_instruction, new_program, new_area, new_system, unplaced_item, unplaced_word, unplaced_argument, unplaced_instruction, unplaced_temporary, unplaced_program, unplaced_area, without_places}
 use Rattle.piton_syntax.specs.Printed.{tree_of}
-use Rattle.piton_syntax.specs.Fits.{IsNamed, IsSigned, IsNatural, IsUnsigned, FitsItem, FitsWord, FitsArgument, FitsArguments, FitsLabel, FitsInstruction, FitsTemporary, FitsProgram, FitsArea, FitsForm}
-use Rattle.stack_text.proofs.NumeralTextLaws.{value-digits}
+use Rattle.piton_syntax.specs.Fits.{IsSigned, IsUnsigned, FitsItem, FitsWord, FitsArgument, FitsArguments, FitsLabel, FitsInstruction, FitsTemporary, FitsProgram, FitsArea, FitsForm}
+use Rattle.stack_text.proofs.NumeralTextLaws.{natural_digits}
+use Rattle.stack_text.proofs.FitsLaws.{Fitting, FittingList, all_under, fits_each, fits_front, fits_list, fits_name, placed_names}
 use Rattle.stack_text.proofs.KeepsLaws.{Holds, holds_judged, holds_one, holds_two, holds_four, holds_seven, holds_at, holds_if, holds_more}
 
--- ---- lists
-
-pub all_none : {X : Type 0} (P : X → Type 0) → All P []
-all_none P = λ k d lt. absurd (omega (arith, lt))
-
-pub all_front : {X : Type 0} (P : X → Type 0) (x : X) (xs : List X) → P x → All P xs → All P (x ∷ xs)
-all_front P x xs h hs zero d lt = h
-all_front P x xs h hs (suc k) d lt = hs k d (omega (arith, lt))
-
-pub all_first : {X : Type 0} (P : X → Type 0) (x : X) (xs : List X) → All P (x ∷ xs) → P x
-all_first P x xs hs = hs 0 x (omega arith)
-
-pub all_rest : {X : Type 0} (P : X → Type 0) (x : X) (xs : List X) → All P (x ∷ xs) → All P xs
-all_rest P x xs hs = λ k d lt. hs (suc k) d (omega (arith, lt))
-
--- each item, and as many as there are trees
-record Fitting {X : Type 0} (P : X → Type 0) (ts : Nodes) (xs : List X) : Type 0 where
-  all : All P xs
-  count : length xs ≡ count_of ts
-
-fits_each : {X : Type 0} (P : X → Type 0) (judge : Node → Judged X) → ((t : Node) → Holds P (judge t)) → (ts : Nodes) → Holds (Fitting P ts) (each_of judge ts)
-fits_each P judge fits none = record { of_value = record { all = all_none P; count = refl } }
-fits_each P judge fits (more t ts) =
-    holds_two P (Fitting P ts) (Fitting P (more t ts)) front (judge t) (each_of judge ts)
-    (λ x h xs hs. record { all = all_front P x xs h hs.all; count = let n : length xs ≡ count_of ts = hs.count in omega (arith, n) }) (fits t) (fits_each P judge fits ts)
-
-record FittingList {X : Type 0} (P : X → Type 0) (t : Node) (xs : List X) : Type 0 where
-  all : All P xs
-  count : length xs ≡ list_length t
-
-fits_list : {X : Type 0} (P : X → Type 0) (judge : Node → Judged X) → ((t : Node) → Holds P (judge t)) → (t : Node) → Holds (FittingList P t) (list_of judge t)
-fits_list P judge fits (atom p w) = record { of_value = tt }
-fits_list P judge fits (list p ts) =
-    holds_more (Fitting P ts) (FittingList P (list p ts)) (each_of judge ts) (λ xs h. record { all = h.all; count = h.count }) (fits_each P judge fits ts)
-
--- ---- names and numbers
-
-fits_name : (t : Node) → Holds IsNamed (named_of t)
-fits_name (atom p w) = holds_judged IsNamed p 4 (is_name w) _ (λ h. record { of_value = h })
-fits_name (list p ts) = record { of_value = tt }
+-- ---- numbers
 
 fits_signed : (t : Node) → Holds IsSigned (number_of t)
 fits_signed t = holds_judged IsSigned (place_of t) 8 (fits_128_bits (numeral_value (bytes_of t))) _ (λ h. record { of_value = h })
-
-natural_digits : (w : List ℕ) → is_digits w ≡ true → fits_128_bits (numeral_value w) ≡ true → IsNatural (numeral_value w)
-natural_digits w digits fits =
-    let value : numeral_value w ≡ pos (digits_value 10 (without_leading_plus w)) = value-digits w digits in
-    subst IsNatural (sym value) (ltb-true _ (2 ^ 127) (subst (λ (z : ℤ). fits_128_bits z ≡ true) value fits))
 
 fits_unsigned : (t : Node) → is_atom_of is_digits t ≡ true → Holds IsUnsigned (number_of t)
 fits_unsigned (atom p w) digits = holds_judged IsUnsigned p 8 (fits_128_bits (numeral_value w)) _ (λ h. record { of_value = natural_digits w digits h })
@@ -101,11 +58,11 @@ fits_item (Some tag.Bitv) p (more n none) = holds_judged FitsItem p 5 (is_atom_o
 fits_item (Some tag.Bool) p (more b none) = holds_judged FitsItem p 5 (is_atom_of is_true_word b || is_atom_of is_false_word b) _ (λ pass. record { of_value = tt })
 fits_item (Some tag.Addr) p (more area (more n none)) =
     holds_judged FitsItem p 5 (is_atom_of is_name area && is_atom_of is_digits n) _
-    (λ pass. holds_two IsNamed IsUnsigned FitsItem address (named_of area) (number_of n) (λ a g m h. (g, h)) (fits_name area) (fits_unsigned n (and_parts (is_atom_of is_name area) (is_atom_of is_digits n) pass).1))
+    (λ pass. holds_two IsNamed IsUnsigned FitsItem address (named_of area) (number_of n) (λ a g m h. (g, h)) (fits_name 4 area) (fits_unsigned n (and_parts (is_atom_of is_name area) (is_atom_of is_digits n) pass).1))
 fits_item (Some tag.Pc) p (more program (more n none)) =
     holds_judged FitsItem p 5 (is_atom_of is_name program && is_atom_of is_digits n) _
-    (λ pass. holds_two IsNamed IsUnsigned FitsItem program_place (named_of program) (number_of n) (λ a g m h. (g, h)) (fits_name program) (fits_unsigned n (and_parts (is_atom_of is_name program) (is_atom_of is_digits n) pass).1))
-fits_item (Some tag.Subr) p (more program none) = holds_judged FitsItem p 5 (is_atom_of is_name program) _ (λ pass. holds_one IsNamed FitsItem item.Subr (named_of program) (λ a h. h) (fits_name program))
+    (λ pass. holds_two IsNamed IsUnsigned FitsItem program_place (named_of program) (number_of n) (λ a g m h. (g, h)) (fits_name 4 program) (fits_unsigned n (and_parts (is_atom_of is_name program) (is_atom_of is_digits n) pass).1))
+fits_item (Some tag.Subr) p (more program none) = holds_judged FitsItem p 5 (is_atom_of is_name program) _ (λ pass. holds_one IsNamed FitsItem item.Subr (named_of program) (λ a h. h) (fits_name 4 program))
 fits_item k p ts = record { of_value = tt }
 
 fits_word : (t : Node) → Holds FitsWord (word_of t)
@@ -128,22 +85,22 @@ fits_tested f (list q ts) label p (Some k) e = absurd cc
 fits_tested f (atom q w) label p (Some k) e =
     holds_judged (FitsArguments (TestAndLabel f)) p 7 (is_atom_of is_name label) _
     (λ pass. holds_one IsNamed (FitsArguments (TestAndLabel f)) (test_and_label k) (named_of label)
-    (λ n h. (found_among (λ j. bytes_eq w (test_name j)) k (tests_of f) e, h)) (fits_name label))
+    (λ n h. (found_among (λ j. bytes_eq w (test_name j)) k (tests_of f) e, h)) (fits_name 4 label))
 
 fits_argument : (k : ArgKind) (t : Node) → is_of_kind k t ≡ true → Holds (FitsArgument k) (argument_of k t)
 fits_argument kind.Word t pass = holds_one FitsWord (FitsArgument kind.Word) arg.Word (word_of t) (λ w h. h) (fits_word t)
 fits_argument kind.Count t pass = holds_one IsUnsigned (FitsArgument kind.Count) arg.Number (number_of t) (λ n h. h) (fits_unsigned t pass)
-fits_argument kind.Local t pass = holds_one IsNamed (FitsArgument kind.Local) arg.Name (named_of t) (λ n h. h) (fits_name t)
-fits_argument kind.Area t pass = holds_one IsNamed (FitsArgument kind.Area) arg.Name (named_of t) (λ n h. h) (fits_name t)
-fits_argument kind.Label t pass = holds_one IsNamed (FitsArgument kind.Label) arg.Name (named_of t) (λ n h. h) (fits_name t)
-fits_argument kind.Program t pass = holds_one IsNamed (FitsArgument kind.Program) arg.Name (named_of t) (λ n h. h) (fits_name t)
+fits_argument kind.Local t pass = holds_one IsNamed (FitsArgument kind.Local) arg.Name (named_of t) (λ n h. h) (fits_name 4 t)
+fits_argument kind.Area t pass = holds_one IsNamed (FitsArgument kind.Area) arg.Name (named_of t) (λ n h. h) (fits_name 4 t)
+fits_argument kind.Label t pass = holds_one IsNamed (FitsArgument kind.Label) arg.Name (named_of t) (λ n h. h) (fits_name 4 t)
+fits_argument kind.Program t pass = holds_one IsNamed (FitsArgument kind.Program) arg.Name (named_of t) (λ n h. h) (fits_name 4 t)
 
 fits_some : (k : ArgKind) (ts : Nodes) → are_of_kind k ts ≡ true → Holds (Fitting (FitsArgument k) ts) (each_of (argument_of k) ts)
-fits_some k none pass = record { of_value = record { all = all_none (FitsArgument k); count = refl } }
+fits_some k none pass = record { of_value = record { all = All-nil (FitsArgument k); count = refl } }
 fits_some k (more t ts) pass =
     let p = and_parts (is_of_kind k t) (are_of_kind k ts) pass in
     holds_two (FitsArgument k) (Fitting (FitsArgument k) ts) (Fitting (FitsArgument k) (more t ts)) front (argument_of k t) (each_of (argument_of k) ts)
-    (λ x h xs hs. record { all = all_front (FitsArgument k) x xs h hs.all; count = let n : length xs ≡ count_of ts = hs.count in omega (arith, n) }) (fits_argument k t p.0) (fits_some k ts p.1)
+    (fits_front (FitsArgument k) t ts) (fits_argument k t p.0) (fits_some k ts p.1)
 
 one_or_more : (k : ArgKind) (t : Node) (ts : Nodes) (xs : List ArgText) → Fitting (FitsArgument k) (more t ts) xs → FitsArguments (OneOrMore k) xs
 one_or_more k t ts [] h = absurd (let n : 0 ≡ 1 + count_of ts = h.count in omega (arith, n))
@@ -169,7 +126,7 @@ fits_called p l hl (Some o) q ts =
 
 fits_labelled : (p : ℕ) (ts : Nodes) → Holds FitsInstruction (labelled_of p ts)
 fits_labelled p (more l (more (list q none) (more (list r (more (atom s w) ts)) none))) =
-    fits_called p (Ok Some ⊛ named_of l) (holds_one IsNamed FitsLabel Some (named_of l) (λ n h. h) (fits_name l)) (operation_named w) r ts
+    fits_called p (Ok Some ⊛ named_of l) (holds_one IsNamed FitsLabel Some (named_of l) (λ n h. h) (fits_name 4 l)) (operation_named w) r ts
 fits_labelled p ts = record { of_value = tt }
 
 fits_instruction : (t : Node) → Holds FitsInstruction (instruction_of t)
@@ -180,7 +137,7 @@ fits_instruction t = record { of_value = tt }
 
 fits_temporary : (t : Node) → Holds FitsTemporary (temporary_of t)
 fits_temporary (list p (more name (more word none))) =
-    holds_two IsNamed FitsWord FitsTemporary pair (named_of name) (word_of word) (λ n g w h. (g, h)) (fits_name name) (fits_word word)
+    holds_two IsNamed FitsWord FitsTemporary pair (named_of name) (word_of word) (λ n g w h. (g, h)) (fits_name 4 name) (fits_word word)
 fits_temporary t = record { of_value = tt }
 
 small_locals : (a b : ℕ) (c d : ℕ) → (leb a 400 && leb b 1048576) ≡ true → c ≡ a → d ≡ b → (c ≤ 400) × (d ≤ 1048576)
@@ -204,14 +161,14 @@ fits_program (list p (more name (more formals (more temporaries (more i is))))) 
       some_instrs = let many : length js ≡ 1 + count_of is = hj.count in omega (arith, many);
       few_instrs = counts.1;
     })
-    (fits_name name) (fits_list IsNamed named_of fits_name formals) (fits_list FitsTemporary temporary_of fits_temporary temporaries) (fits_each FitsInstruction instruction_of fits_instruction (more i is)))
+    (fits_name 4 name) (fits_list 3 IsNamed named_of (fits_name 4) formals) (fits_list 3 FitsTemporary temporary_of fits_temporary temporaries) (fits_each FitsInstruction instruction_of fits_instruction (more i is)))
 fits_program t = record { of_value = tt }
 
 fits_area : (t : Node) → Holds FitsArea (area_of t)
 fits_area (list p (more name (more w ws))) =
     holds_two IsNamed (Fitting FitsWord (more w ws)) FitsArea (new_area p) (named_of name) (each_of word_of (more w ws))
     (λ n hn xs hx. record { name = hn; words = hx.all; some_words = let many : length xs ≡ 1 + count_of ws = hx.count in omega (arith, many) })
-    (fits_name name) (fits_each FitsWord word_of fits_word (more w ws))
+    (fits_name 4 name) (fits_each FitsWord word_of fits_word (more w ws))
 fits_area t = record { of_value = tt }
 
 small_counts : (a b c d : ℕ) → (leb a 1000 && leb b 1100) ≡ true → c ≡ a → d ≡ b → (c ≤ 1000) × (d ≤ 1100)
@@ -242,7 +199,7 @@ fits_system (list p (more (atom q w) (more main (more ctrl (more temp (more base
       some_programs = let many : length ps ≡ 1 + count_of is = hp.count in omega (arith, many);
       few_programs = counts.1;
     })
-    (fits_name main)
+    (fits_name 4 main)
     (fits_unsigned ctrl first_.1)
     (fits_unsigned temp middle.1)
     (fits_unsigned base last.1)
@@ -252,10 +209,6 @@ fits_system (list p (more (atom q w) (more main (more ctrl (more temp (more base
 fits_system t = record { of_value = tt }
 
 -- ---- places don't count
-
-all_under : {X : Type 0} (P : X → Type 0) (f : X → X) → ((x : X) → P (f x) → P x) → (xs : List X) → All P (map f xs) → All P xs
-all_under P f back [] h = all_none P
-all_under P f back (x ∷ xs) h = all_front P x xs (back x (all_first P (f x) (map f xs) h)) (all_under P f back xs (all_rest P (f x) (map f xs) h))
 
 placed_word : (w : WordText) → FitsWord (unplaced_word w) → FitsWord w
 placed_word w h = by_item w.item h
@@ -333,7 +286,7 @@ placed_temporary t h = (h.0, placed_word t.1 h.1)
 placed_program : (p : ProgramOf) → FitsProgram (unplaced_program p) → FitsProgram p
 placed_program p h = record {
   name = h.name;
-  formals = all_under IsNamed unplaced_name (λ n k. k) p.formals h.formals;
+  formals = placed_names p.formals h.formals;
   temporaries = all_under FitsTemporary unplaced_temporary placed_temporary p.temporaries h.temporaries;
   instrs = all_under FitsInstruction unplaced_instruction placed_instruction p.instrs h.instrs;
   few_locals = omega (arith, h.few_locals, length-map p.formals unplaced_name, length-map p.temporaries unplaced_temporary);

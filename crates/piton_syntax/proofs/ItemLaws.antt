@@ -1,22 +1,19 @@
 -- The items of a list by the first, and those that follow, as they are read and printed.
-use Rattle.std.proofs.Common.{◌≡◌, ◌≢◌, ◌<◌, ◌+◌, ℕ, List, [], ◌∷◌, ◌++◌, length, drop, get_or, map, refl, sym, ap, ◌∙◌, append_assoc, append-nil, arith}
-use Rattle.std.specs.Prelude.{Bool, true, false, ◌==◌, if◌then◌else◌}
+use Rattle.std.proofs.Common.{◌≡◌, ◌≢◌, ◌<◌, ◌+◌, ℕ, List, [], ◌∷◌, ◌++◌, length, drop, get_or, map, refl, sym, ap, ◌∙◌, arith}
+use Rattle.std.specs.Prelude.{◌==◌, if◌then◌else◌}
 use Rattle.std.proofs.lemmas.Bool.{ne_eqb}
 use Rattle.stack_text.specs.Trees.{Node, more}
 use Rattle.stack_text.specs.TreeText.{spaced_text, tree_text}
 use Rattle.stack_text.specs.TreeView.{node_of, nodes, nodes_of}
 use Rattle.stack_text.specs.Grammar.Printed.{items_after}
 use Rattle.stack_text.proofs.Loops.{drop-item}
+use Rattle.stack_text.proofs.PrintLaws.{apart_by}
 use Rattle.stack_text.specs.declared.tree.Tree.{Tree}
 use Rattle.stack_text.proofs.TreeListLaws.{rest, rest_is_drop}
 
 pub first_and_rest : (ts : List Tree) (first : Tree) → length ts ≢ 0 → first ≡ get_or ts 0 first → nodes_of ts ≡ more (node_of first) (nodes_of (rest 1 ts))
 first_and_rest [] first ne is = absurd (ne refl)
 first_and_rest (t ∷ ts) first ne is = rw (is, rest_is_drop 1 (t ∷ ts)) refl
-
-apart_by : (b : Bool) (out text others : List ℕ) → ((out ++ (if b then [] else 32 ∷ [])) ++ text) ++ others ≡ out ++ (if b then text ++ others else 32 ∷ (text ++ others))
-apart_by true out text others = rw (append-nil out) (append_assoc out text others)
-apart_by false out text others = append_assoc (out ++ 32 ∷ []) text others ∙ append_assoc out (32 ∷ []) (text ++ others)
 
 -- an item is printed behind a space where it is not the first: it, and what is left, after what is there
 pub items_next : {X : Type 0} (tree : X → Node) (xs : List X) (n : ℕ) (x : X) (out apart text all : List ℕ) → n < length xs → x ≡ get_or xs n x

@@ -1,13 +1,14 @@
 -- What fits the form keeps it, where its tree is not too large: the tree of each part is judged to be that part but for
 -- places, its atoms are runs, and it is shallow.
 use Rattle.std.proofs.Common.{◌∙◌, ◌≡◌, ℕ, zero, suc, ◌+◌, ◌<◌, ◌≤◌, ◌^◌, Bool, true, false, leb, List, [], ◌∷◌, length, map, get_or, Option, Some, None, Ok, All, Contains, refl, sym, ap, subst, arith}
-use Rattle.std.specs.Prelude.{ℤ, pos, negsuc, ◌&&◌}
+use Rattle.std.specs.Prelude.{◌&&◌}
 use Rattle.std.specs.Fmt.{signed_decimal}
-use Rattle.std.proofs.lemmas.Bool.{lt-ltb, le-leb}
+use Rattle.std.proofs.lemmas.Bool.{le-leb}
+use Rattle.std.proofs.lemmas.List.Elements.{All-head, All-tail}
 use Rattle.stack_text.specs.declared.name.Named.{Named}
 use Rattle.stack_text.specs.Names.{is_name}
 use Rattle.stack_text.specs.Numerals.{is_digits, is_numeral, fits_128_bits}
-use Rattle.stack_text.specs.Trees.{Node, depth, depths, node_count, AtomsAreRuns, AllAtomsAreRuns}
+use Rattle.stack_text.specs.Trees.{depth, depths, node_count, AtomsAreRuns, AllAtomsAreRuns}
 use Rattle.stack_text.specs.TreeView.{nodes}
 use Rattle.stack_text.proofs.AtomLaws.{name_is_run, numeral_is_run}
 use Rattle.stack_text.specs.Grammar.Printed.{name_tree, tree_of_all, unplaced_name}
@@ -26,49 +27,20 @@ use Rattle.piton_syntax.specs.declared.word_text.WordText.{WordText}
 use Rattle.piton_syntax.specs.declared.word_text.WordItem.{WordItem}
 use Rattle.piton_syntax.specs.declared.word_text.WordItem.TheVariants as item
 use Rattle.piton_syntax.specs.Answers.{KeepsForm}
-use Rattle.stack_text.specs.Grammar.Judged.{Judged, ◌⊛◌, front, each_of}
+use Rattle.stack_text.specs.Grammar.Judged.{◌⊛◌}
 use Rattle.stack_text.specs.Grammar.Parts.{count_of}
 use Rattle.piton_syntax.specs.Limits.{is_small_program, is_small_system}
 use Rattle.piton_syntax.specs.Operations.{op_arguments, tests_of, test_name, test_named}
 use Rattle.piton_syntax.specs.Grammar.{named_of, number_of, address, program_place, word_of, is_of_kind, are_of_kind, argument_of, one, test_and_label, tested_of, pair, arguments_of, instruction_of, temporary_of, program_of, area_of, system_of}
 use Rattle.piton_syntax.specs.Printed.{number_tree, truth_tree, item_tree, word_tree, argument_tree, instruction_tree, temporary_tree, program_tree, area_tree, tree_of}
 use Rattle.piton_syntax.specs.Systems.{InstrOf, ProgramOf, AreaOf, SystemOf, new_word, new_program, new_area, new_system, unplaced_number, unplaced_item, unplaced_word, unplaced_argument, unplaced_instruction, unplaced_temporary, unplaced_program, unplaced_area, without_places}
-use Rattle.piton_syntax.specs.Fits.{IsNamed, IsSigned, IsUnsigned, FitsItem, FitsWord, FitsArgument, FitsArguments, FitsLabel, FitsInstruction, FitsTemporary, FitsProgram, FitsArea, FitsForm}
-use Rattle.stack_text.proofs.NumeralTextLaws.{numeral-signed_decimal, digits-pos}
-use Rattle.piton_syntax.proofs.FitsLaws.{all_first, all_rest}
+use Rattle.piton_syntax.specs.Fits.{IsSigned, IsUnsigned, FitsItem, FitsWord, FitsArgument, FitsArguments, FitsLabel, FitsInstruction, FitsTemporary, FitsProgram, FitsArea, FitsForm}
+use Rattle.stack_text.proofs.NumeralTextLaws.{natural_written, numeral-signed_decimal}
+use Rattle.stack_text.proofs.MadeLaws.{Made, made_each, made_names}
 use Rattle.stack_text.proofs.KeepsLaws.{passes, ok_one, ok_two, ok_four, ok_seven, and_true}
 use Rattle.piton_syntax.proofs.KeepsLaws.{named_again, number_again, word_again, truth_again, named_and_numbered, called_again, unlabelled_again, op_run}
 
--- the tree of a part is that part but for places, its atoms are runs, and at most n of its lists nest
-record Made {X : Type 0} (judge : Node → Judged X) (tree : X → Node) (view : X → X) (n : ℕ) (x : X) : Type 0 where
-  reads : judge (tree x) ≡ Ok (view x)
-  runs : AtomsAreRuns (tree x)
-  low : depth (tree x) ≤ n
-
--- ---- lists
-
-record MadeEach {X : Type 0} (judge : Node → Judged X) (tree : X → Node) (view : X → X) (n : ℕ) (xs : List X) : Type 0 where
-  reads : each_of judge (nodes (map tree xs)) ≡ Ok (map view xs)
-  runs : AllAtomsAreRuns (nodes (map tree xs))
-  low : depths (nodes (map tree xs)) ≤ n
-  count : count_of (nodes (map tree xs)) ≡ length xs
-
-made_each : {X : Type 0} (P : X → Type 0) (judge : Node → Judged X) (tree : X → Node) (view : X → X) (n : ℕ) → ((x : X) → P x → Made judge tree view n x) → (xs : List X) → All P xs → MadeEach judge tree view n xs
-made_each P judge tree view n made [] h = record { reads = refl; runs = tt; low = omega arith; count = refl }
-made_each P judge tree view n made (x ∷ xs) h =
-    let one_ = made x (all_first P x xs h) in
-    let others = made_each P judge tree view n made xs (all_rest P x xs h) in
-    record {
-      reads = ok_two front (judge (tree x)) (each_of judge (nodes (map tree xs))) (view x) (map view xs) one_.reads others.reads;
-      runs = (one_.runs, others.runs);
-      low = omega (arith, one_.low, others.low);
-      count = let k : count_of (nodes (map tree xs)) ≡ length xs = others.count in omega (arith, k);
-    }
-
--- ---- names, numbers and words
-
-made_name : (n : Named) → IsNamed n → Made named_of name_tree unplaced_name 0 n
-made_name n h = record { reads = named_again n h; runs = name_is_run n.name h; low = omega arith }
+-- ---- numbers and words
 
 record MadeNumber (test : List ℕ → Bool) (n : Number) : Type 0 where
   reads : number_of (number_tree n) ≡ Ok (unplaced_number n)
@@ -81,12 +53,8 @@ made_signed n h = let numeral = numeral-signed_decimal n.number h in record { re
 
 made_unsigned : (n : Number) → IsUnsigned n → MadeNumber is_digits n
 made_unsigned n h =
-    let k = by_number n.number h in
+    let k = natural_written n.number h in
     record { reads = number_again n k.0; runs = numeral_is_run (signed_decimal n.number) (numeral-signed_decimal n.number k.0); is_written = k.1; fits = k.0 }
-  where
-    by_number : (z : ℤ) → IsUnsigned (record { place = 0; number = z }) → (fits_128_bits z ≡ true) × (is_digits (signed_decimal z) ≡ true)
-    by_number (pos m) lt = let fits : fits_128_bits (pos m) ≡ true = lt-ltb m (2 ^ 127) lt in (fits, digits-pos m fits)
-    by_number (negsuc m) lt = absurd lt
 
 truth_runs : (b : Bool) → AtomsAreRuns (truth_tree b)
 truth_runs true = (omega arith, refl)
@@ -189,7 +157,7 @@ made_argument k a h = absurd h
 
 are_kind : (k : ArgKind) (xs : List ArgText) → All (FitsArgument k) xs → are_of_kind k (nodes (map argument_tree xs)) ≡ true
 are_kind k [] h = refl
-are_kind k (x ∷ xs) h = and_true (is_of_kind k (argument_tree x)) _ (made_argument k x (all_first (FitsArgument k) x xs h)).is_kind (are_kind k xs (all_rest (FitsArgument k) x xs h))
+are_kind k (x ∷ xs) h = and_true (is_of_kind k (argument_tree x)) _ (made_argument k x (All-head (FitsArgument k) x xs h)).is_kind (are_kind k xs (All-tail (FitsArgument k) x xs h))
 
 record MadeArguments (row : Arguments) (xs : List ArgText) : Type 0 where
   reads : arguments_of row 0 (nodes (map argument_tree xs)) ≡ Ok (map unplaced_argument xs)
@@ -249,7 +217,7 @@ made_program p h = by_instrs p.instrs h.instrs h.some_instrs h.few_instrs
     by_instrs : (is : List InstrOf) → All FitsInstruction is → 0 < length is → length is ≤ 1048576 → Made program_of program_tree unplaced_program 4 (record p { instrs = is })
     by_instrs [] fits some_ few = absurd (omega (arith, some_))
     by_instrs (i ∷ is) fits some_ few =
-        let formals = made_each IsNamed named_of name_tree unplaced_name 0 made_name p.formals h.formals in
+        let formals = made_names 4 p.formals h.formals in
         let temporaries = made_each FitsTemporary temporary_of temporary_tree unplaced_temporary 2 made_temporary p.temporaries h.temporaries in
         let instrs = made_each FitsInstruction instruction_of instruction_tree unplaced_instruction 3 made_instruction (i ∷ is) fits in
         let formals_tree = tree_of_all (map name_tree p.formals) in

@@ -1,11 +1,9 @@
 -- The tree of a system has no more atoms and lists than its plain counts allow.
-use Rattle.std.proofs.Common.{◌≡◌, ℕ, ◌+◌, ◌*◌, ◌≤◌, List, [], ◌∷◌, map, length, Option, Some, None, Bool, true, false, refl, arith}
-use Rattle.std.specs.List.{sum_by}
-use Rattle.std.proofs.lemmas.List.Sums.{sum_by-cons}
+use Rattle.std.proofs.Common.{◌≡◌, ℕ, ◌+◌, ◌*◌, ◌≤◌, ◌∷◌, map, length, Option, Some, None, Bool, true, false, refl, arith}
 use Rattle.stack_text.specs.declared.name.Named.{Named}
-use Rattle.stack_text.specs.Trees.{Node, atom, node_count, node_counts}
-use Rattle.stack_text.specs.TreeView.{nodes}
-use Rattle.stack_text.specs.Grammar.Printed.{name_tree, tree_of_all}
+use Rattle.stack_text.specs.Trees.{Node, atom, node_count}
+use Rattle.stack_text.specs.Grammar.Printed.{tree_of_all}
+use Rattle.stack_text.proofs.SizeLaws.{each_over, names_over, sum_over}
 use Rattle.piton_syntax.specs.declared.argument.ArgText.{ArgText}
 use Rattle.piton_syntax.specs.declared.argument.ArgText.TheVariants as arg
 use Rattle.piton_syntax.specs.declared.word_text.WordText.{WordText}
@@ -15,20 +13,6 @@ use Rattle.piton_syntax.specs.Operations.{op_name}
 use Rattle.piton_syntax.specs.Systems.{InstrOf, ProgramOf, AreaOf, SystemOf}
 use Rattle.piton_syntax.specs.Printed.{truth_tree, item_tree, word_tree, argument_tree, labelled_tree, instruction_tree, temporary_tree, program_tree, area_tree, tree_of}
 use Rattle.piton_syntax.specs.Sizes.{instruction_size, program_size, area_size, text_size}
-
--- ---- lists
-
-sum_over : {X : Type 0} (f : X → ℕ) (tree : X → Node) → ((x : X) → node_count (tree x) ≤ f x) → (xs : List X) → node_counts (nodes (map tree xs)) ≤ sum_by f xs
-sum_over f tree over [] = omega arith
-sum_over f tree over (x ∷ xs) = let one = over x in let others = sum_over f tree over xs in omega (arith, sum_by-cons f x xs, one, others)
-
-each_over : {X : Type 0} (n : ℕ) (tree : X → Node) → ((x : X) → node_count (tree x) ≤ n) → (xs : List X) → node_counts (nodes (map tree xs)) ≤ n * length xs
-each_over n tree over [] = omega arith
-each_over n tree over (x ∷ xs) =
-    let one = over x in
-    let others = each_over n tree over xs in
-    let product : n * (1 + length xs) ≡ n + n * length xs = omega arith in
-    omega (arith, one, others, product)
 
 -- ---- parts
 
@@ -70,7 +54,7 @@ temporary_over t = omega (arith, word_over t.1)
 
 program_over : (p : ProgramOf) → node_count (program_tree p) ≤ program_size p
 program_over p =
-    let formals = each_over 1 name_tree (λ n. omega arith) p.formals in
+    let formals = names_over p.formals in
     let temporaries = each_over 6 temporary_tree temporary_over p.temporaries in
     let instrs = sum_over instruction_size instruction_tree instruction_over p.instrs in
     omega (arith, formals, temporaries, instrs)

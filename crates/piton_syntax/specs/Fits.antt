@@ -1,8 +1,8 @@
 -- The form of a system in plain words: names are names, arguments are those of the operation's row, what must not be empty
 -- isn't, numbers have a sign only where they may, and all counts are within the limits.
-use Rattle.std.specs.Prelude.{◌+◌, ◌<◌, ◌≤◌, ◌^◌, ℤ, pos, negsuc, List, [], ◌∷◌, length, Option, Some, None, All, Contains, IsTrue}
-use Rattle.stack_text.specs.Names.{is_name}
-use Rattle.stack_text.specs.Numerals.{fits_128_bits}
+use Rattle.std.specs.Prelude.{◌+◌, ◌<◌, ◌≤◌, List, [], ◌∷◌, length, Option, Some, None, All, Contains}
+use Rattle.stack_text.specs.Grammar.Parts.{IsNamed}
+use Rattle.stack_text.specs.Numerals.{IsNatural, IsNumber}
 use Rattle.stack_text.specs.declared.name.Named.{Named}
 use Rattle.piton_syntax.specs.declared.argument.ArgKind.{ArgKind}
 use Rattle.piton_syntax.specs.declared.argument.ArgKind.TheVariants as kind
@@ -17,16 +17,9 @@ use Rattle.piton_syntax.specs.declared.word_text.WordItem.TheVariants as item
 use Rattle.piton_syntax.specs.Operations.{op_arguments, tests_of}
 use Rattle.piton_syntax.specs.Systems.{InstrOf, ProgramOf, AreaOf, SystemOf}
 
-abbrev pub IsNamed : Named → Type 0
-IsNamed n = IsTrue (is_name n.name)
-
 -- a number of 128 bits, with or without a sign
 abbrev pub IsSigned : Number → Type 0
-IsSigned n = IsTrue (fits_128_bits n.number)
-
-abbrev pub IsNatural : ℤ → Type 0
-IsNatural (pos n) = n < 2 ^ 127
-IsNatural (negsuc n) = ⊥
+IsSigned n = IsNumber n.number
 
 -- a number of 128 bits without a sign
 abbrev pub IsUnsigned : Number → Type 0

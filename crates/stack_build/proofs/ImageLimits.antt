@@ -5,6 +5,7 @@ use Rattle.std.specs.List.{list_all, AllByRecursion, IsDistinct}
 use Rattle.std.specs.Str.{bytes_eq}
 use Rattle.std.proofs.lemmas.Bool.{and_parts, and_from, le-leb, lt-ltb}
 use Rattle.std.proofs.lemmas.List.{length-map, map-append}
+use Rattle.std.proofs.lemmas.List.Elements.{All-head, All-tail}
 use Rattle.stack_text.specs.Names.{is_name}
 use Rattle.stack_text.specs.declared.name.Named.{Named}
 use Rattle.stack_text.specs.declared.shape.Shape.{Shape}
@@ -34,8 +35,8 @@ use Rattle.gypsy_codegen.specs.WordsOf.{words_of_values, zero_value}
 use Rattle.gypsy_codegen.specs.Generated.{generated_view}
 use Rattle.gypsy_codegen.proofs.DeclareLaws.{Unlike, Differ, differ_source, like_sym}
 use Rattle.gypsy_meaning.proofs.Keeping.{vars_join, locals_fit}
-use Rattle.gypsy_syntax.specs.Fits.{IsNamed, FitsDecl}
-use Rattle.piton_syntax.proofs.FitsLaws.{all_first, all_rest}
+use Rattle.stack_text.specs.Grammar.Parts.{IsNamed}
+use Rattle.gypsy_syntax.specs.Fits.{FitsDecl}
 use Rattle.piton_linker.specs.Layouts.{trimmed}
 use Rattle.gypsy_codegen.proofs.StackLaws.{values_words}
 use Rattle.stack_build.specs.Formals.{formals_in, conditions_in, shown_formals, shown_conditions}
@@ -86,7 +87,7 @@ conditions_differ s p e =
 
 all_named : {X : Type 0} (P : X → Type 0) (name : X → List ℕ) → ((x : X) → P x → is_name (name x) ≡ true) → (xs : List X) → All P xs → list_all is_name (map name xs) ≡ true
 all_named P name fits [] h = refl
-all_named P name fits (x ∷ xs) h = and_from _ _ (fits x (all_first P x xs h)) (all_named P name fits xs (all_rest P x xs h))
+all_named P name fits (x ∷ xs) h = and_from _ _ (fits x (All-head P x xs h)) (all_named P name fits xs (All-tail P x xs h))
 
 -- ---- slots
 

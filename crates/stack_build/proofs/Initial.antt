@@ -1,11 +1,11 @@
 -- The words of values are an initial stack, where the system's stack has the words of values of the same shapes.
 use Rattle.std.proofs.Common.{◌≡◌, List, [], ◌∷◌, ◌++◌, length, map, sym, ap, ◌∙◌}
 use Rattle.std.specs.Prelude.{All}
+use Rattle.std.proofs.lemmas.List.Elements.{All-nil, All-cons}
 use Rattle.stack_text.specs.declared.shape.Shape.{Shape}
 use Rattle.stack_text.specs.Values.{ValueOf}
 use Rattle.piton_words.specs.declared.word.Word.{Word}
 use Rattle.piton_words.specs.declared.word.Word.TheVariants as word
-use Rattle.piton_syntax.proofs.FitsLaws.{all_front, all_none}
 use Rattle.piton_check.specs.Instruction.{SystemView}
 use Rattle.piton_check.specs.Sound.{Exists}
 use Rattle.piton_machine.specs.Fits.{IsInitialStack}
@@ -29,8 +29,8 @@ exists s (word.Pc program place) h = absurd h
 exists s (word.Subr program) h = absurd h
 
 all_exist : (s : SystemView) (ws : List Word) → Each InRange ws → All (Exists s) ws
-all_exist s [] h = all_none (Exists s)
-all_exist s (w ∷ ws) h = all_front (Exists s) w ws (exists s w h.0) (all_exist s ws h.1)
+all_exist s [] h = All-nil (Exists s)
+all_exist s (w ∷ ws) h = All-cons (Exists s) w ws (exists s w h.0) (all_exist s ws h.1)
 
 pub is_initial : (s : SystemView) (shapes : List Shape) (old new locals : List ValueOf) → VarsFit shapes old → VarsFit shapes new → Each ValueFits locals →
     s.stack ≡ words_of_values (old ++ locals) → IsInitialStack s (words_of_values (new ++ locals))

@@ -3,6 +3,7 @@ use Rattle.std.proofs.Common.{◌≡◌, ◌<◌, ◌≤◌, ◌∙◌, ℕ, zer
 use Rattle.std.specs.Prelude.{is_none, All}
 use Rattle.std.specs.Option.{unwrap_or}
 use Rattle.std.proofs.lemmas.List.{length-map, length-replicate}
+use Rattle.std.proofs.lemmas.List.Elements.{All-head, All-tail}
 use Rattle.stack_text.specs.declared.shape.Shape.{Shape}
 use Rattle.stack_text.specs.Values.{item_count}
 use Rattle.gypsy_syntax.specs.Sources.{ProcOf, SourceOf}
@@ -11,7 +12,6 @@ use Rattle.gypsy_syntax.specs.Resolved.{place_among, procedure_names, procedure_
 use Rattle.gypsy_syntax.specs.ProgramFits.{Each}
 use Rattle.gypsy_syntax.specs.Fits.{FitsProcedure}
 use Rattle.gypsy_syntax.proofs.FitsLaws.{keeps_fits}
-use Rattle.piton_syntax.proofs.FitsLaws.{all_first, all_rest}
 use Rattle.gypsy_check.specs.Accepted.{IsAccepted}
 use Rattle.gypsy_check.specs.Declarations.{procedure_at}
 use Rattle.gypsy_check.specs.Rules.{procedure_breaches}
@@ -36,8 +36,8 @@ proc_is s (p ∷ procs) (suc i) lt = proc_is s procs i (omega (arith, lt))
 
 form_is : (procs : List ProcOf) (i : ℕ) (p : ProcOf) → All FitsProcedure procs → slice_get procs i ≡ Some p → FitsProcedure p
 form_is [] i p h e = absurd cc
-form_is (q ∷ procs) zero p h e = let same : q ≡ p = cc in subst FitsProcedure same (all_first FitsProcedure q procs h)
-form_is (q ∷ procs) (suc i) p h e = form_is procs i p (all_rest FitsProcedure q procs h) e
+form_is (q ∷ procs) zero p h e = let same : q ≡ p = cc in subst FitsProcedure same (All-head FitsProcedure q procs h)
+form_is (q ∷ procs) (suc i) p h e = form_is procs i p (All-tail FitsProcedure q procs h) e
 
 rules_are : (s : SourceOf) (procs : List ProcOf) (i : ℕ) (p : ProcOf) → flat_map (procedure_breaches s) procs ≡ [] → slice_get procs i ≡ Some p → procedure_breaches s p ≡ []
 rules_are s [] i p h e = absurd cc

@@ -22,5 +22,8 @@ pub mod JudgedLaws
 pub mod PartLaws
 pub mod RiseLaws
 pub mod KeepsLaws
+pub mod FitsLaws
+pub mod MadeLaws
+pub mod SizeLaws
 pub mod PlacesLaws
 pub mod PartTextLaws

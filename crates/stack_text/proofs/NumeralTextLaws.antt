@@ -1,6 +1,6 @@
 -- The decimal digits of a number are a numeral of it, and without a sign where the number was read from digits alone.
 use Rattle.std.proofs.Common.{◌≡◌, ℕ, ◌^◌, Bool, true, false, ◌&&◌, cond, ltb, List, [], ◌∷◌, length, Some, None, refl, sym, subst, arith}
-use Rattle.std.specs.Prelude.{ℤ, pos}
+use Rattle.std.specs.Prelude.{ℤ, pos, negsuc}
 use Rattle.std.specs.List.{list_all}
 use Rattle.std.specs.Char.{is_ascii_digit}
 use Rattle.std.specs.Fmt.{decimal, signed_decimal}
@@ -8,7 +8,7 @@ use Rattle.std.specs.Str.Parse.{AllDigits, IsNumeral, digits_value, starts_with_
 use Rattle.std.proofs.lemmas.Bool.{ltb-true, lt-ltb, le-leb, ne_eqb}
 use Rattle.std.proofs.lemmas.Fmt.{decimal_is_IsNumeral_wide}
 use Rattle.std.proofs.lemmas.Str.Parse.{digit_from_value}
-use Rattle.stack_text.specs.Numerals.{is_digits, is_numeral, numeral_value, fits_128_bits}
+use Rattle.stack_text.specs.Numerals.{is_digits, is_numeral, numeral_value, fits_128_bits, IsNatural}
 use Rattle.stack_text.proofs.AtomLaws.{no_minus, numeral_passes, numeral_of-signed_decimal}
 
 numeral_found : (numeral fits : Bool) (v z : ℤ) → cond (numeral && fits) (Some v) None ≡ Some z → v ≡ z
@@ -39,3 +39,14 @@ pub digits-signed_decimal : (ds : List ℕ) → is_digits ds ≡ true → fits_1
 digits-signed_decimal ds h fits =
     let value : numeral_value ds ≡ pos (digits_value 10 (without_leading_plus ds)) = value-digits ds h in
     subst (λ (z : ℤ). is_digits (signed_decimal z) ≡ true) (sym value) (digits-pos _ (subst (λ (z : ℤ). fits_128_bits z ≡ true) value fits))
+
+-- the number of digits alone is not negative
+pub natural_digits : (ds : List ℕ) → is_digits ds ≡ true → fits_128_bits (numeral_value ds) ≡ true → IsNatural (numeral_value ds)
+natural_digits ds h fits =
+    let value : numeral_value ds ≡ pos (digits_value 10 (without_leading_plus ds)) = value-digits ds h in
+    subst IsNatural (sym value) (ltb-true _ (2 ^ 127) (subst (λ (z : ℤ). fits_128_bits z ≡ true) value fits))
+
+-- a number that is not negative fits 128 bits, and is printed with digits alone
+pub natural_written : (z : ℤ) → IsNatural z → (fits_128_bits z ≡ true) × (is_digits (signed_decimal z) ≡ true)
+natural_written (pos n) lt = let fits : fits_128_bits (pos n) ≡ true = lt-ltb n (2 ^ 127) lt in (fits, digits-pos n fits)
+natural_written (negsuc n) lt = absurd lt

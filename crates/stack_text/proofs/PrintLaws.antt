@@ -1,5 +1,6 @@
 -- What is printed spells the tree, so that it is read again.
 use Rattle.std.proofs.Common.{◌≡◌, Vec, Global, ℕ, suc, ◌+◌, ◌<◌, ◌≤◌, List, [], ◌∷◌, ◌++◌, map, length, get_or, take, cond, eqb, refl, sym, ap, subst, ◌∙◌, append_assoc, arith}
+use Rattle.std.specs.Prelude.{Bool, true, false, if◌then◌else◌}
 use Rattle.std.proofs.lemmas.List.{append-nil, map_push, take_more, length-take, length-map, take_all}
 use Rattle.std.proofs.lemmas.Bool.{ne_eqb}
 use Rattle.stack_text.specs.Trees.{Node, Nodes, atom, list, none, more, IsWellFormed, ReadsAs}
@@ -62,3 +63,8 @@ mutual
 
 pub tree_text_reads : (t : Node) → IsWellFormed t → ReadsAs (tree_text t) t
 tree_text_reads t form = subst (λ (text : List ℕ). ReadsAs text t) (append-nil (tree_text t)) (spelled_is_read t (tree_text t) [] form (Spells-tree_text t) tt)
+
+-- a text behind a space where it isn't the first, and what follows it
+pub apart_by : (b : Bool) (out text others : List ℕ) → ((out ++ (if b then [] else 32 ∷ [])) ++ text) ++ others ≡ out ++ (if b then text ++ others else 32 ∷ (text ++ others))
+apart_by true out text others = rw (append-nil out) (append_assoc out text others)
+apart_by false out text others = append_assoc (out ++ 32 ∷ []) text others ∙ append_assoc out (32 ∷ []) (text ++ others)

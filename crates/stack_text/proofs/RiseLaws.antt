@@ -1,13 +1,14 @@
 -- In a tree whose places go up, the faults of each part go up too.
-use Rattle.std.proofs.Common.{◌+◌, ◌<◌, ◌≤◌, ℕ, List, [], ◌∷◌, Ok, Err, arith}
+use Rattle.std.proofs.Common.{◌≡◌, ◌+◌, ◌<◌, ◌≤◌, ℕ, List, [], ◌∷◌, Ok, Err, subst, arith}
 use Rattle.std.specs.Prelude.{Bool, true, false}
 use Rattle.stack_text.specs.Names.{is_name}
-use Rattle.stack_text.specs.PlaceOrder.{AllInOrder, InOrder}
+use Rattle.stack_text.specs.Breaches.{least_of}
+use Rattle.stack_text.specs.PlaceOrder.{AllInOrder, InOrder, IsInOrder}
 use Rattle.stack_text.specs.Trees.{Node, Nodes, atom, list, none, more, place_of}
 use Rattle.stack_text.specs.declared.breach.Breach.{Breach}
 use Rattle.stack_text.specs.Grammar.Judged.{Judged, ◌⊛◌, each_of, fault, front, judged}
 use Rattle.stack_text.specs.Grammar.Parts.{name_or, list_or}
-use Rattle.stack_text.proofs.JudgedLaws.{JudgedRises, JudgedRises-apply, Rises, Rises-lower, Rises-higher}
+use Rattle.stack_text.proofs.JudgedLaws.{JudgedRises, JudgedRises-apply, Rises, Rises-lower, Rises-higher, first_is_least}
 
 -- the faults have places from low on and below high, and go up
 pub record Up {X : Type 0} (low : ℕ) (r : Judged X) (high : ℕ) : Type 0 where
@@ -99,3 +100,8 @@ list_up rule {judge = judge} rising = record { up = up }
     up : (low : ℕ) (t : Node) (high : ℕ) → InOrder low t high → Up low (list_or rule judge t) high
     up low (list p ts) high h = lower (each_up rising (p + 1) ts high h.2) low (omega (arith, h.0))
     up low (atom p bytes) high h = at_fault low p rule high h.0 h.1
+
+-- in a tree whose places go up, the first fault in reading order is the least of all
+pub first_is_judged : {X : Type 0} → {judge : Node → Judged X} → Rising judge → (t : Node) → IsInOrder t → (first : Breach) (others : List Breach) → judge t ≡ Err (first, others) → least_of first others ≡ first
+first_is_judged rising t order first others e =
+    first_is_least 0 order.0 first others (subst (λ r. JudgedRises 0 r order.0) e (rising.up 0 t order.0 order.1).rises)

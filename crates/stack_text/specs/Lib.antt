@@ -1,4 +1,4 @@
--- What the crate promises: texts, trees, names, numerals and values.
+-- What the crate promises: texts, trees, names, numerals, values and lines.
 pub mod Tokens
 pub mod Trees
 pub mod TextFaults
@@ -8,6 +8,7 @@ pub mod PlaceOrder
 pub mod Names
 pub mod Numerals
 pub mod Values
+pub mod Lines
 -- What is shared: what a call gives, steps that may fail, how clauses see a `Tree`, and the least breach of rules.
 pub mod Gives
 pub mod Results

@@ -1,5 +1,6 @@
 -- Numerals: decimal digits, with or without a `-` before them. They may begin with zeros.
-use Rattle.std.specs.Prelude.{ℕ, ℤ, pos, negsuc, ◌^◌, List, length, drop, Option, Some, None, Bool, ◌&&◌, nat_lt, if◌then◌else◌}
+use Rattle.std.specs.Prelude.{ℕ, ℤ, pos, negsuc, ◌<◌, ◌^◌, List, length, drop, Option, Some, None}
+use Rattle.std.specs.Prelude.{Bool, ◌&&◌, nat_lt, if◌then◌else◌, IsTrue}
 use Rattle.std.specs.List.{list_all}
 use Rattle.std.specs.Char.{is_ascii_digit}
 use Rattle.std.specs.Str.Parse.{starts_with_minus, signed_digits_value}
@@ -19,6 +20,15 @@ numeral_value bytes = signed_digits_value 10 bytes
 abbrev pub fits_128_bits : ℤ → Bool
 fits_128_bits (pos n) = nat_lt n (2 ^ 127)
 fits_128_bits (negsuc n) = nat_lt n (2 ^ 127)
+
+-- a number of 128 bits
+abbrev pub IsNumber : ℤ → Type 0
+IsNumber z = IsTrue (fits_128_bits z)
+
+-- a number of 128 bits that is not negative
+abbrev pub IsNatural : ℤ → Type 0
+IsNatural (pos n) = n < 2 ^ 127
+IsNatural (negsuc n) = ⊥
 
 -- the number of a numeral, if the bytes are one and it is in the 128-bit range
 abbrev pub numeral_of : List ℕ → Option ℤ

@@ -1,8 +1,9 @@
 //! Names.
 
-ghost use Rattle.std.specs.Prelude.{◌≡◌, IsTrue};
+ghost use Rattle.std.specs.Prelude.{◌≡◌, IfOk, IsTrue};
 ghost use Rattle.std.specs.List.{list_all};
 ghost use Rattle.stack_text.specs.Gives.{Returns};
+ghost use Rattle.stack_text.specs.Grammar.Printed.{unplaced};
 ghost use Rattle.stack_text.specs.Names.{begins_with_letter, is_mark, is_name, is_name_byte, is_truth_word, name_of};
 
 use crate::Memory;
@@ -41,6 +42,16 @@ impl Name {
         ensures name { IsTrue (is_name self.now) }
     {
         self.bytes.as_slice()
+    }
+
+    /// The name, with 0 for its place.
+    pub fn unplaced(&self) -> Result<Named, Memory>
+        ensures { IfOk result (λ named. named ≡ unplaced self.now) }
+    {
+        Ok(Named {
+            place: 0,
+            name: self.clone()?,
+        })
     }
 }
 
@@ -93,6 +104,19 @@ impl Hash for Name {
 pub struct Named {
     pub place: u32,
     pub name: Name,
+}
+
+impl Named {
+    /// The name that the bytes are, with 0 for its place.
+    pub fn unplaced(alloc: Global, bytes: &[u8]) -> Result<Named, Memory>
+        requires { IsTrue (is_name bytes.now) }
+        ensures { IfOk result (λ named. named ≡ unplaced bytes.now) }
+    {
+        match read_name(alloc, bytes)? {
+            Some(name) => Ok(Named { place: 0, name }),
+            None => unreachable!(),
+        }
+    }
 }
 
 /// Whether the byte is one of the marks that a name may have.

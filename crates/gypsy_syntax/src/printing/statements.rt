@@ -11,8 +11,8 @@ ghost use Rattle.gypsy_syntax.specs.SourceView.{parts_of_list, stmt_of};
 use crate::keyword::Keyword;
 use crate::printing::declaration::spaced_list;
 use crate::statement::Stmt;
-use stack_text::grammar::{print_name, spaced_items};
-use stack_text::{Memory, Named};
+use stack_text::Memory;
+use stack_text::grammar::{spaced_items, spaced_name};
 
 /// The first word of a statement.
 fn keyword_of(stmt: &Stmt) -> Keyword
@@ -37,14 +37,6 @@ fn open_statement(out: &mut Vec<u8>, keyword: Keyword) -> Result<(), Memory>
     out.push(b'(')?;
     out.extend_from_slice(keyword.name().as_bytes())?;
     Ok(())
-}
-
-/// Appends a space and a name.
-fn spaced_name(out: &mut Vec<u8>, name: &Named) -> Result<(), Memory>
-    ensures { OnOk result (out.new.items ≡ out.old.items ++ 32 ∷ name.now.name) }
-{
-    out.push(b' ')?;
-    print_name(out, name)
 }
 
 /// Appends a space and a statement.

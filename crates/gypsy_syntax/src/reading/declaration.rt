@@ -13,8 +13,8 @@ ghost use Rattle.gypsy_syntax.specs.SourceView.{local_of};
 use crate::keyword::kind_named;
 use crate::literal::{Decl, Local, TypeText};
 use crate::reading::literals::literal;
-use crate::reading::word::{is_array_word, is_numeral_atom, kind_in, named, number};
-use stack_text::grammar::{FormFault, Part, each_in};
+use crate::reading::word::{is_array_word, kind_in, named, number};
+use stack_text::grammar::{FormFault, Part, each_in, is_numeral_atom};
 use stack_text::{Breach, Kind, Tree};
 use std::alloc::Global;
 

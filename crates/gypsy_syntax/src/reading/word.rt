@@ -9,7 +9,7 @@ ghost use Rattle.gypsy_syntax.specs.Grammar.{is_word, kind_in, named_in, names_i
 
 use crate::keyword::kind_named;
 use stack_text::grammar::{self, FormFault};
-use stack_text::{Breach, Kind, Named, Tree, is_numeral, read_numeral};
+use stack_text::{Breach, Kind, Named, Tree, read_numeral};
 use std::alloc::Global;
 
 /// Whether the tree is the word `array`.
@@ -38,16 +38,6 @@ pub fn is_program_word(tree: &Tree) -> bool
 {
     match tree {
         Tree::Atom { place: _, text } => text.as_slice() == b"program".as_slice(),
-        Tree::List { place: _, items: _ } => false,
-    }
-}
-
-/// Whether the tree is a numeral's atom.
-pub fn is_numeral_atom(tree: &Tree) -> bool
-    ensures { result ≡ is_atom_of is_numeral (node_of tree.now) }
-{
-    match tree {
-        Tree::Atom { place: _, text } => is_numeral(text),
         Tree::List { place: _, items: _ } => false,
     }
 }

@@ -10,7 +10,7 @@ ghost use Rattle.piton_syntax.specs.Grammar.{named_of, number_of};
 
 use crate::word_text::Number;
 use stack_text::grammar::{FormFault, named};
-use stack_text::{Breach, Named, Tree, is_digits, is_name, is_numeral, read_numeral};
+use stack_text::{Breach, Named, Tree, is_digits, is_name, read_numeral};
 use std::alloc::Global;
 
 /// Whether the tree is an atom of digits alone.
@@ -19,16 +19,6 @@ pub fn is_digits_atom(tree: &Tree) -> bool
 {
     match tree {
         Tree::Atom { place: _, text } => is_digits(text),
-        Tree::List { place: _, items: _ } => false,
-    }
-}
-
-/// Whether the tree is a numeral's atom.
-pub fn is_numeral_atom(tree: &Tree) -> bool
-    ensures { result ≡ is_atom_of is_numeral (node_of tree.now) }
-{
-    match tree {
-        Tree::Atom { place: _, text } => is_numeral(text),
         Tree::List { place: _, items: _ } => false,
     }
 }

@@ -10,10 +10,10 @@ ghost use Rattle.stack_text.specs.TreeView.{node_of, nodes_of};
 ghost use Rattle.piton_syntax.specs.Grammar.{is_true_word, is_false_word, item_of, word_of};
 ghost use Rattle.piton_syntax.specs.declared.tag.Tag.TheVariants as tags;
 
-use crate::reading::atom::{is_digits_atom, is_name_atom, is_numeral_atom, name, number};
+use crate::reading::atom::{is_digits_atom, is_name_atom, name, number};
 use crate::tag::{Tag, tag_named};
 use crate::word_text::{WordItem, WordText};
-use stack_text::grammar::{FormFault, Part};
+use stack_text::grammar::{FormFault, Part, is_numeral_atom};
 use stack_text::{Breach, Tree};
 use std::alloc::Global;
 

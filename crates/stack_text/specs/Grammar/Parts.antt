@@ -1,5 +1,5 @@
 -- Parts that many grammars have.
-use Rattle.std.specs.Prelude.{ℕ, ◌+◌, List, [], Ok, Bool, false}
+use Rattle.std.specs.Prelude.{ℕ, ◌+◌, List, [], Ok, Bool, false, IsTrue}
 use Rattle.stack_text.specs.Names.{is_name}
 use Rattle.stack_text.specs.Trees.{Node, Nodes, atom, list, none, more}
 use Rattle.stack_text.specs.declared.name.Named.{Named}
@@ -14,6 +14,10 @@ is_atom_of test (list p ts) = false
 abbrev pub bytes_of : Node → List ℕ
 bytes_of (atom p bytes) = bytes
 bytes_of (list p ts) = []
+
+-- the bytes of a name with a place are a name
+abbrev pub IsNamed : Named → Type 0
+IsNamed n = IsTrue (is_name n.name)
 
 -- a name, or the rule broken at the tree
 abbrev pub name_or : ℕ → Node → Judged Named

@@ -18,6 +18,10 @@ list_tree tree xs = tree_of_all (map tree xs)
 abbrev pub name_tree : Named → Node
 name_tree n = atom 0 n.name
 
+-- the bytes of a name, with 0 for its place
+abbrev pub unplaced : List ℕ → Named
+unplaced name = record { place = 0; name = name }
+
 -- a name with 0 for its place
 abbrev pub unplaced_name : Named → Named
 unplaced_name n = record n { place = 0 }

@@ -1,6 +1,6 @@
 //! Parts, printed as the items of lists.
 
-ghost use Rattle.std.specs.Prelude.{◌≡◌, ◌++◌, map, OnOk};
+ghost use Rattle.std.specs.Prelude.{◌≡◌, ◌++◌, ◌∷◌, map, OnOk};
 ghost use Rattle.stack_text.specs.Trees.{Node};
 ghost use Rattle.stack_text.specs.TreeText.{items_text, spaced_text, tree_text};
 ghost use Rattle.stack_text.specs.TreeView.{nodes};
@@ -45,6 +45,14 @@ pub fn print_name(out: &mut Vec<u8>, name: &Named) -> Result<(), Memory>
 {
     out.extend_from_slice(name.name.bytes())?;
     Ok(())
+}
+
+/// Appends a space and a name.
+pub fn spaced_name(out: &mut Vec<u8>, name: &Named) -> Result<(), Memory>
+    ensures { OnOk result (out.new.items ≡ out.old.items ++ 32 ∷ name.now.name) }
+{
+    out.push(b' ')?;
+    print_name(out, name)
 }
 
 impl Print for Named {

@@ -1,10 +1,10 @@
 use Rattle.std.proofs.Common.{◌≡◌, ◌≤◌, ◌^◌, sym, subst, ap, ◌∙◌, arith}
 use Rattle.std.specs.Prelude.{codes}
+use Rattle.stack_text.specs.Grammar.Printed.{unplaced}
 use Rattle.stack_text.specs.Trees.{node_count}
 use Rattle.gypsy_check.specs.Rules.{violations}
 use Rattle.gypsy_syntax.specs.Answers.{KeepsForm}
 use Rattle.gypsy_syntax.specs.Printed.{tree_of}
-use Rattle.gypsy_gen.specs.Parts.{named}
 use Rattle.gypsy_gen.specs.Large.{large_of}
 use Rattle.gypsy_gen.proofs.FormLaws.{large_fits, large_small}
 use Rattle.gypsy_gen.proofs.RuleLaws.{large_clean}
@@ -14,12 +14,12 @@ pub returns-clause-form : goal.returns-clause-form
 returns-clause-form c =
     let s = large_of c.args.number c.args.size in
     let small : node_count (tree_of s) ≤ 2 ^ 31 = omega (arith, c.plain_form.ensures.counted s, large_small c.args.number c.args.size c.requires.high) in
-    let main : c.in_ok-named.field-0 ≡ named (codes "main") = c.in_ok-named.ensures ∙ ap named c.as_slice.ensures in
+    let main : c.in_ok-unplaced.field-0 ≡ unplaced (codes "main") = c.in_ok-unplaced.ensures ∙ ap unplaced c.as_slice.ensures in
     subst KeepsForm (sym (λ i. record { place = 0; main = main i; procs = c.in_ok-procedures.ensures i }))
     (c.plain_form.ensures.keeps s (large_fits c.args.number c.args.size c.requires.low c.requires.high) small)
 
 pub returns-clause-rules : goal.returns-clause-rules
 returns-clause-rules c =
-    let main : c.in_ok-named.field-0 ≡ named (codes "main") = c.in_ok-named.ensures ∙ ap named c.as_slice.ensures in
+    let main : c.in_ok-unplaced.field-0 ≡ unplaced (codes "main") = c.in_ok-unplaced.ensures ∙ ap unplaced c.as_slice.ensures in
     (λ i. violations record { place = 0; main = main i; procs = c.in_ok-procedures.ensures i })
     ∙ large_clean c.args.number c.args.size c.requires.high

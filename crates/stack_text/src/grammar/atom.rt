@@ -1,0 +1,18 @@
+//! Atoms by their bytes.
+
+ghost use Rattle.std.specs.Prelude.{◌≡◌};
+ghost use Rattle.stack_text.specs.Grammar.Parts.{is_atom_of};
+ghost use Rattle.stack_text.specs.Numerals.{is_numeral};
+ghost use Rattle.stack_text.specs.TreeView.{node_of};
+
+use crate::{Tree, is_numeral};
+
+/// Whether the tree is a numeral's atom.
+pub fn is_numeral_atom(tree: &Tree) -> bool
+    ensures { result ≡ is_atom_of is_numeral (node_of tree.now) }
+{
+    match tree {
+        Tree::Atom { place: _, text } => is_numeral(text),
+        Tree::List { place: _, items: _ } => false,
+    }
+}
