@@ -27,7 +27,7 @@ use Rattle.command_line.specs.declared.role.Role.TheVariants.{Source, Piton, Val
 use Rattle.command_line.specs.Roles.{limit_of}
 use Rattle.command_line.specs.Gathered.{text_or_end}
 use Rattle.command_line.specs.CommandFiles.{inputs_of, output_of}
-use Rattle.command_line.specs.Ends.{line}
+use Rattle.stack_text.specs.Lines.{line}
 use Rattle.command_line.proofs.FileLaws.{was_short}
 use Rattle.cli_stack.specs.declared.reply.Verdict.{Verdict}
 use Rattle.cli_stack.specs.Run.{outcome_reply, run_reply}

@@ -6,7 +6,7 @@ use Rattle.gypsy_syntax.specs.Sources.{SourceOf}
 use Rattle.gypsy_space.specs.Needs.{stack_words}
 use Rattle.gypsy_gen.specs.Large.{large_of}
 use Rattle.stack_build.specs.Build.{source_built}
-use Rattle.command_line.specs.Ends.{line}
+use Rattle.stack_text.specs.Lines.{line}
 use Rattle.cli_stack.specs.Replies.{ReplyOf}
 use Rattle.cli_stack.specs.Go.{go_reply}
 

@@ -14,7 +14,7 @@ use Rattle.piton_machine.specs.Step.{piton_run, run_cost}
 use Rattle.piton_linker.specs.Theorem.{ComesToStand}
 use Rattle.command_line.specs.declared.command.Command.{Command}
 use Rattle.command_line.specs.declared.role.Role.TheVariants.{Piton, Image}
-use Rattle.command_line.specs.Ends.{line}
+use Rattle.stack_text.specs.Lines.{line}
 use Rattle.cli_stack.specs.declared.reply.Verdict.TheVariants.{Done}
 use Rattle.cli_stack.specs.Run.{run_reply}
 use Rattle.cli_stack.specs.PitonText.{checked_in}

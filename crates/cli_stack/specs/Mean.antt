@@ -12,7 +12,7 @@ use Rattle.gypsy_meaning.specs.Shown.{condition_at, names_at}
 use Rattle.display_maps.specs.Running.{run_lines}
 use Rattle.stack_build.specs.declared.start_fault.StartFault.{StartFault}
 use Rattle.stack_build.specs.Starts.{gypsy_start}
-use Rattle.command_line.specs.Ends.{line}
+use Rattle.stack_text.specs.Lines.{line}
 use Rattle.cli_stack.specs.declared.reply.Verdict.{Verdict}
 use Rattle.cli_stack.specs.declared.reply.Verdict.TheVariants.{Unfinished, NoRoom}
 use Rattle.cli_stack.specs.Replies.{ReplyOf, verdict_alone, all_said}

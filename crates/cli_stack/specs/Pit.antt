@@ -3,7 +3,7 @@ use Rattle.std.specs.Prelude.{ℕ, List, ◌++◌, Option, Some, None, Result, O
 use Rattle.piton_syntax.specs.Printed.{piton_text}
 use Rattle.piton_syntax.specs.Systems.{SystemOf}
 use Rattle.stack_build.specs.declared.fault.BuildFault.{BuildFault}
-use Rattle.command_line.specs.Ends.{line}
+use Rattle.stack_text.specs.Lines.{line}
 use Rattle.cli_stack.specs.Replies.{ReplyOf, verdict_alone, all_said}
 use Rattle.cli_stack.specs.SourceText.{build_verdict}
 

@@ -10,7 +10,7 @@ use Rattle.piton_machine.specs.declared.stepped.PitonRun.TheVariants.{Halted, Sp
 use Rattle.piton_machine.specs.Fits.{system_in}
 use Rattle.piton_machine.specs.Seen.{Seen, Ran, run_of, opening}
 use Rattle.piton_show.specs.NamedWords.{program_name, words_line}
-use Rattle.command_line.specs.Ends.{line}
+use Rattle.stack_text.specs.Lines.{line}
 use Rattle.cli_stack.specs.declared.reply.Verdict.{Verdict}
 use Rattle.cli_stack.specs.declared.reply.Verdict.TheVariants as verdict
 use Rattle.cli_stack.specs.Replies.{ReplyOf, verdict_alone, all_said}

@@ -10,7 +10,7 @@ use Rattle.stack_text.specs.declared.text_fault.TextRule.{TextRule}
 use Rattle.stack_text.specs.declared.text_fault.TextRule.TheVariants as text
 use Rattle.command_line.specs.declared.status.Status.{Status}
 use Rattle.command_line.specs.declared.status.Status.TheVariants as status
-use Rattle.command_line.specs.Ends.{line}
+use Rattle.stack_text.specs.Lines.{line}
 use Rattle.cli_stack.specs.declared.reply.RuleLetter.{RuleLetter}
 use Rattle.cli_stack.specs.declared.reply.RuleLetter.TheVariants.{G, M, S, P, Q}
 use Rattle.cli_stack.specs.declared.reply.SizeOf.{SizeOf}

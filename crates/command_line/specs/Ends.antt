@@ -1,14 +1,11 @@
 -- Ends of a command before there is a reply, with their exit statuses and their lines.
-use Rattle.std.specs.Prelude.{ℕ, List, [], ◌∷◌, ◌++◌, codes}
+use Rattle.std.specs.Prelude.{ℕ, List, [], ◌++◌, codes}
 use Rattle.std.specs.Fmt.{decimal}
+use Rattle.stack_text.specs.Lines.{line}
 use Rattle.command_line.specs.declared.early_end.EarlyEnd.{EarlyEnd}
 use Rattle.command_line.specs.declared.early_end.EarlyEnd.TheVariants.{Missing, TooLong, ShelfFault, OutOfMemory}
 use Rattle.command_line.specs.declared.status.Status.{Status}
 use Rattle.command_line.specs.declared.status.Status.TheVariants as status
-
--- a line feed after a text
-abbrev pub line : List ℕ → List ℕ
-line text = text ++ 10 ∷ []
 
 abbrev pub end_status : EarlyEnd → Status
 end_status (Missing name) = status.Missing

@@ -3,6 +3,7 @@ use Rattle.std.specs.Prelude.{ℕ, List, [], ◌∷◌, ◌++◌, Option, Some, 
 use Rattle.std.specs.Fmt.{decimal, signed_decimal}
 use Rattle.std.specs.List.{flat_map}
 use Rattle.stack_text.specs.declared.shape.Shape.{Shape}
+use Rattle.stack_text.specs.Lines.{line}
 use Rattle.fm_image.specs.declared.slot.Slot.{Slot}
 use Rattle.fm_image.specs.Image.{ImageOf}
 use Rattle.display_maps.specs.declared.shown.Shown.{Shown}
@@ -20,10 +21,6 @@ shown_text (Truth true) = codes "true"
 shown_text (Truth false) = codes "false"
 shown_text (Code code) = codes "#" ++ decimal code
 shown_text (Odd word) = codes "?" ++ decimal word
-
--- a text and LF
-abbrev pub line : List ℕ → List ℕ
-line text = text ++ codes "\n"
 
 -- each with a space before it
 abbrev pub spaced : List Shown → List ℕ

@@ -1,7 +1,7 @@
 -- Runs of a source.
 use Rattle.std.specs.Prelude.{ℕ, List, ◌++◌, Bool, if◌then◌else◌, codes}
 use Rattle.std.specs.Fmt.{decimal}
-use Rattle.display_maps.specs.Report.{line}
+use Rattle.stack_text.specs.Lines.{line}
 use Rattle.display_maps.specs.Running.{run_lines}
 use Rattle.gypsy_syntax.specs.Sources.{SourceOf}
 use Rattle.gypsy_meaning.specs.declared.answers.Moved.{Moved}

@@ -3,7 +3,7 @@ use Rattle.std.specs.Prelude.{ℕ, ◌==◌, Bool, List, [], ◌∷◌, ◌++◌
 use Rattle.std.specs.Prelude.{slice_get, Option, Some, None, Result, Ok, Err, codes, if◌then◌else◌}
 use Rattle.std.specs.Fmt.{decimal}
 use Rattle.fm_image.specs.Image.{ImageOf}
-use Rattle.display_maps.specs.Report.{line}
+use Rattle.stack_text.specs.Lines.{line}
 use Rattle.piton_words.specs.declared.word.Word.{Word}
 use Rattle.piton_syntax.specs.Systems.{ProgramOf, SystemOf}
 use Rattle.piton_show.specs.NamedWords.{program_name, word_text, words_line}

@@ -1,7 +1,7 @@
 -- What a session says to a script.
 use Rattle.std.specs.Prelude.{◌≡◌, ◌⊎◌, ℕ, ◌-◌, min, List, [], ◌∷◌, ◌++◌, drop, Option, Some, None, codes}
 use Rattle.std.specs.Fmt.{decimal}
-use Rattle.display_maps.specs.Report.{line}
+use Rattle.stack_text.specs.Lines.{line}
 use Rattle.debug_script.specs.declared.command.Command.{Command}
 use Rattle.debug_script.specs.declared.command.Command.TheVariants as command
 use Rattle.debug_script.specs.declared.command.WatchWord.{WatchWord}
