@@ -100,11 +100,11 @@ flags_read : List ℕ → Flags
 flags_read text =
     record { c = list_any (λ b. b == 99) text; v = list_any (λ b. b == 118) text; n = list_any (λ b. b == 110) text; z = list_any (λ b. b == 122) text }
 
-record IsNamed (op : Op) : Type 0 where
+record IsSpelled (op : Op) : Type 0 where
   back : operation_read (operation_name op) ≡ op
   whole : all in_name (operation_name op) ≡ true
 
-operation_named : (op : Op) → IsNamed op
+operation_named : (op : Op) → IsSpelled op
 unfolding operation_read all in_name
 operation_named Move = record { back = refl; whole = refl }
 operation_named Inc = record { back = refl; whole = refl }
