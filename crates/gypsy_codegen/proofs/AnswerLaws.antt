@@ -83,7 +83,7 @@ limits_fit q sizes base low none = by_sizes (are_sizes sizes) refl none
         let third = and_parts (some_ctrl && few_ctrl) some_temp last.0 in
         let second = and_parts some_ctrl few_ctrl third.0 in
         record {
-          sizes_fit = record { temp = temp; ctrl = ctrl; small = leb-true sizes.temp 65536 last.1 };
+          sizes_fit = record { suffice = record { temp = temp; ctrl = ctrl }; small = leb-true sizes.temp 65536 last.1 };
           few_ctrl = leb-true sizes.ctrl 65536 second.1;
           low_base = low;
           few_words = few;

@@ -141,7 +141,7 @@ counted_runs bodies q sizes base v n x c t fits sz vf d =
     let S = generated_view q sizes base in
     let r = (agree q sizes v).done n x c t d in
     let h : Halts S (opened q sizes base v) start_tally x c t =
-    subst (HaltsAs S (opened q sizes base v) start_tally) r.1 (run_halts q sizes base bodies fits sz r.0 (opened q sizes base v) (start q v) (start_fits q sizes fits v vf) (start_room q sizes v sz.temp sz.ctrl) (start_shows q sizes base v fits)) in
+    subst (HaltsAs S (opened q sizes base v) start_tally) r.1 (run_halts q sizes base bodies fits sz r.0 (opened q sizes base v) (start q v) (start_fits q sizes fits v vf) (start_room q sizes v sz.suffice.temp sz.suffice.ctrl) (start_shows q sizes base v fits)) in
     let k = counts h.cost h.steps t h.tally in
     record {
       to = h.to;
@@ -173,7 +173,7 @@ limited_run_halts bodies q sizes base v n x c t k fits sz vf d =
 
 pub each_is_shown : PredefsRun → EachIsShown
 each_is_shown bodies q sizes base v g fits sz vf r =
-    reached q sizes base bodies fits sz (opened q sizes base v) (start q v) g (start_fits q sizes fits v vf) (start_room q sizes v sz.temp sz.ctrl) (start_shows q sizes base v fits) r
+    reached q sizes base bodies fits sz (opened q sizes base v) (start q v) g (start_fits q sizes fits v vf) (start_room q sizes v sz.suffice.temp sz.suffice.ctrl) (start_shows q sizes base v fits) r
 
 -- The mark.
 

@@ -320,8 +320,8 @@ module _ (texts : TextsResolve) (src : SourceOf) (sizes : Words) (base : ℕ) (a
   sizes_keep : size_breaches g ≡ []
   sizes_keep =
       let frame : first_frame (main_of g) ≡ 2 + vars_of (proc_at q q.main) = ap first_frame main_is ∙ ap (λ n. 2 + n) main_count in
-      let ctrl_least : 2 + vars_of (proc_at q q.main) ≤ sizes.ctrl = let h = fit.sizes_fit.ctrl in let e = need_ctrl q in omega (arith, h, e) in
-      let temp_least : max (length g.stack) 1 ≤ sizes.temp = let h = fit.sizes_fit.temp in let e = need_temp q in omega (arith, h, e, opening_count) in
+      let ctrl_least : 2 + vars_of (proc_at q q.main) ≤ sizes.ctrl = let h = fit.sizes_fit.suffice.ctrl in let e = need_ctrl q in omega (arith, h, e) in
+      let temp_least : max (length g.stack) 1 ≤ sizes.temp = let h = fit.sizes_fit.suffice.temp in let e = need_temp q in omega (arith, h, e, opening_count) in
       two_none _ _ (two_none _ _
       (no_breach (is_within (first_frame (main_of g)) 65536 (pos sizes.ctrl)) 0 14 (is_within_true (first_frame (main_of g)) 65536 sizes.ctrl (omega (arith, frame, ctrl_least)) fit.few_ctrl))
       (no_breach (is_within (max (length g.stack) 1) 65536 (pos sizes.temp)) 0 14 (is_within_true (max (length g.stack) 1) 65536 sizes.temp temp_least fit.sizes_fit.small)))
@@ -383,7 +383,7 @@ module _ (texts : TextsResolve) (src : SourceOf) (sizes : Words) (base : ℕ) (a
   nodes_few : node_count (tree_of g) ≤ 2 ^ 31
   nodes_few =
       let words : code_words_of q (count_from 0 (length src.procs)) ≤ 2 ^ 20 = subst (λ n. code_words_of q (count_from 0 n) ≤ 2 ^ 20) (length-map src.procs (procedure_of src)) fit.few_words in
-      let temp_least = fit.sizes_fit.temp in
+      let temp_least = fit.sizes_fit.suffice.temp in
       let need = need_temp q in
       let few = fit.sizes_fit.small in
       system_nodes src does_fit sizes base procs_fit form.few_procs words

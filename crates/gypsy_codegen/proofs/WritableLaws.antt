@@ -25,13 +25,13 @@ use Rattle.gypsy_syntax.specs.Resolved.{shape_of, local_value, procedure_of, pro
 use Rattle.gypsy_syntax.specs.Sources.{ProcOf, SourceOf}
 use Rattle.gypsy_space.specs.Needs.{Words, vars_of}
 use Rattle.gypsy_check.proofs.CleanLaws.{get_or_map}
-use Rattle.gypsy_predef.specs.Texts.{named, body_texts}
+use Rattle.gypsy_predef.specs.Texts.{named, body_texts, number}
 use Rattle.gypsy_codegen.specs.Acceptable.{total_words}
 use Rattle.gypsy_codegen.specs.Generated.{opening_words}
 use Rattle.gypsy_codegen.specs.Text.{procedure_with, procedures_with, program_texts, names_with, written_procedures, generated}
 use Rattle.gypsy_codegen.specs.Views.{HasWord, ArgHasWord, NamesAreThere, IsWritable, AreWritable, nameless, opening_text, area_text}
 use Rattle.gypsy_codegen.specs.WordsOf.{words_of_values, zero_value}
-use Rattle.gypsy_codegen.specs.Written.{number, written_word}
+use Rattle.gypsy_codegen.specs.Written.{written_word}
 use Rattle.gypsy_codegen.proofs.CallLaws.{values-split}
 use Rattle.gypsy_codegen.proofs.CodeLaws.{words_nameless}
 use Rattle.gypsy_codegen.proofs.CopyLaws.{get_below}

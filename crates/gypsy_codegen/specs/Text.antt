@@ -10,10 +10,10 @@ use Rattle.gypsy_syntax.specs.Programs.{Program, proc_at, shapes_of}
 use Rattle.gypsy_syntax.specs.Predefined.{predefs, predef_name}
 use Rattle.gypsy_syntax.specs.Resolved.{variable_names, procedure_names, program_of}
 use Rattle.gypsy_space.specs.Needs.{Words}
-use Rattle.gypsy_predef.specs.Texts.{named, condition_area, body_texts}
+use Rattle.gypsy_predef.specs.Texts.{named, condition_area, body_texts, number}
 use Rattle.gypsy_codegen.specs.WordsOf.{starts, number_of_way}
 use Rattle.gypsy_codegen.specs.Generated.{opening_words}
-use Rattle.gypsy_codegen.specs.Written.{Names, number, written_word, written}
+use Rattle.gypsy_codegen.specs.Written.{Names, written_word, written}
 use Rattle.gypsy_codegen.specs.Lines.{lines_of}
 
 -- the names of the programs, and of the one area

@@ -10,9 +10,8 @@ use Rattle.piton_syntax.specs.Systems.{InstrOf}
 use Rattle.gypsy_syntax.specs.declared.literal.Decl.{Decl}
 use Rattle.gypsy_syntax.specs.declared.predef.Predef.TheVariants as row
 use Rattle.gypsy_syntax.specs.Sources.{StmtOf, loop, signal, begin, call, predef, variable, constant, integer, ProcOf, SourceOf}
-use Rattle.gypsy_predef.specs.Texts.{named, instruction, of_name, condition_area}
+use Rattle.gypsy_predef.specs.Texts.{named, instruction, of_name, condition_area, number}
 use Rattle.gypsy_predef.specs.Texts as predefined
-use Rattle.gypsy_codegen.specs.Written.{number}
 use Rattle.gypsy_codegen.specs.Text.{written_procedures}
 
 -- the lines of each procedure

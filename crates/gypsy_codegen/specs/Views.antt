@@ -19,14 +19,14 @@ use Rattle.gypsy_syntax.specs.ProgramFits.{Each, ProgramFits}
 use Rattle.gypsy_space.specs.declared.need.Need.{Need}
 use Rattle.gypsy_space.specs.Needs.{vars_of}
 use Rattle.gypsy_space.specs.Nodes.{seen_cond, seen_program}
-use Rattle.gypsy_predef.specs.Texts.{instruction, constant, of_name, condition_area, named}
+use Rattle.gypsy_predef.specs.Texts.{instruction, constant, of_name, condition_area, named, number}
 use Rattle.gypsy_codegen.specs.declared.context.Context.{Context}
 use Rattle.gypsy_codegen.specs.declared.context.Scopes.{Scopes, Outside, InLoop', InBegin'}
 use Rattle.gypsy_codegen.specs.WordsOf.{words_of_values, number_of_way, zero_value}
 use Rattle.gypsy_codegen.specs.Generated.{Scope, InLoop, InBegin, offset, push_indices}
 use Rattle.gypsy_codegen.specs.Lines.{unmarked, labels, lines}
 use Rattle.gypsy_codegen.specs.Text.{names_by, frame_texts}
-use Rattle.gypsy_codegen.specs.Written.{Names, label_name, label_arg, number, written_word, written}
+use Rattle.gypsy_codegen.specs.Written.{Names, label_name, label_arg, written_word, written}
 
 -- the names with which a procedure is written
 abbrev pub names_of : Context → Names

@@ -14,7 +14,8 @@ use Rattle.gypsy_syntax.specs.Programs.{Cond, Program, proc_at, shapes_of, body_
 use Rattle.gypsy_syntax.specs.ProgramFits.{ProgramFits, Misses}
 use Rattle.gypsy_syntax.specs.Effects.{value_at}
 use Rattle.gypsy_space.specs.Costs.{Tally}
-use Rattle.gypsy_space.specs.Needs.{Words, main_need}
+use Rattle.gypsy_space.specs.Needs.{Words}
+use Rattle.gypsy_meaning.specs.Belongs.{Suffices}
 use Rattle.gypsy_meaning.specs.Calls.{Way, main_start}
 use Rattle.gypsy_meaning.specs.Meaning.{Done, meaning}
 use Rattle.gypsy_meaning.specs.Counted.{CountedDone, counted_meaning}
@@ -43,10 +44,9 @@ pub record RunsTo (s : SystemView) (a : PitonState) (x : List ValueOf) (c : Way)
   pub locals : List Word
   pub stack : to.stack ≡ reverse (words_of_values x ++ locals)
 
--- the sizes cover main's own need
+-- the sizes suffice, and the temporary stack's is one that Piton allows
 pub record SizesFit (q : Program) (sizes : Words) : Type 0 where
-  pub temp : (main_need q).temp ≤ sizes.temp
-  pub ctrl : (main_need q).ctrl ≤ sizes.ctrl
+  pub suffice : Suffices q sizes
   pub small : sizes.temp ≤ 2 ^ 16
 
 -- Where the counted meaning is done, the generated system halts with the same, in those steps and at that cost.

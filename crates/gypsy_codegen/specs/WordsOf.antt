@@ -1,9 +1,9 @@
 -- The words of values and conditions, and where the words of variables begin.
-use Rattle.std.specs.Prelude.{ℕ, zero, suc, ◌+◌, pos, List, [], ◌∷◌, ◌++◌, map, replicate, Some, None}
+use Rattle.std.specs.Prelude.{ℕ, suc, ◌+◌, pos, List, [], ◌∷◌, ◌++◌, map, replicate, take, Some, None}
 use Rattle.stack_text.specs.declared.shape.Shape.{Shape}
 use Rattle.stack_text.specs.Values.{ValueOf, item_count}
 use Rattle.piton_words.specs.declared.word.Word.{Word}
-use Rattle.gypsy_syntax.specs.Programs.{Cond, Leave, Routine, Declared, Proc}
+use Rattle.gypsy_syntax.specs.Programs.{Cond, Leave, Routine, Declared, Proc, words_of}
 use Rattle.gypsy_meaning.specs.Calls.{Way}
 use Rattle.gypsy_predef.specs.Runs.{words_of_value}
 
@@ -18,9 +18,7 @@ zero_value s = record { shape = s; items = replicate (item_count s) (pos 0) }
 
 -- the words that stand before variable b, where variables have these shapes
 abbrev pub words_before : List Shape → ℕ → ℕ
-words_before [] b = 0
-words_before (s ∷ shapes) zero = 0
-words_before (s ∷ shapes) (suc b) = item_count s + words_before shapes b
+words_before shapes b = words_of (take b shapes)
 
 -- the index of the first word of each, where the first one stands at this index
 abbrev pub starts : ℕ → List Shape → List ℕ

@@ -1,5 +1,5 @@
 -- Instructions as a text has them: with names in place of positions. A place in a jump is the number of a label.
-use Rattle.std.specs.Prelude.{ℕ, ℤ, pos, List, [], ◌∷◌, map, get_or, Some, None}
+use Rattle.std.specs.Prelude.{ℕ, pos, List, [], ◌∷◌, map, get_or, Some, None}
 use Rattle.std.specs.Fmt.{decimal}
 use Rattle.stack_text.specs.declared.name.Named.{Named}
 use Rattle.piton_words.specs.declared.word.Word.{Word}
@@ -12,12 +12,11 @@ use Rattle.piton_syntax.specs.declared.test_kind.TestFamily.{TestFamily}
 use Rattle.piton_syntax.specs.declared.test_kind.TestFamily.TheVariants as family
 use Rattle.piton_syntax.specs.declared.argument.ArgText.{ArgText}
 use Rattle.piton_syntax.specs.declared.argument.ArgText.TheVariants as text
-use Rattle.piton_syntax.specs.declared.word_text.Number.{Number}
 use Rattle.piton_syntax.specs.declared.word_text.WordText.{WordText}
 use Rattle.piton_syntax.specs.declared.word_text.WordItem.{WordItem}
 use Rattle.piton_syntax.specs.declared.word_text.WordItem.TheVariants as item
 use Rattle.piton_syntax.specs.Systems.{InstrOf, new_word, new_instruction}
-use Rattle.gypsy_predef.specs.Texts.{named}
+use Rattle.gypsy_predef.specs.Texts.{named, number}
 use Rattle.piton_check.specs.Instruction as i
 use Rattle.piton_check.specs.Instruction.{Instruction}
 
@@ -41,9 +40,6 @@ label_text l = 76 ∷ decimal l
 
 abbrev pub label_name : ℕ → Named
 label_name l = named (label_text l)
-
-abbrev pub number : ℤ → Number
-number z = record { place = 0; number = z }
 
 abbrev pub item_text : Names → Word → WordItem
 item_text n (word.Int z) = item.Int (number z)

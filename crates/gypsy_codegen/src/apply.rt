@@ -13,8 +13,9 @@ ghost use Rattle.gypsy_codegen.specs.Views.{ArgHasWord, code_in, env, IsReady, p
 
 use crate::calls::{call_program, push_local};
 use crate::context::{Context, Scopes, label_to, shape_at};
-use crate::lines::{area, constant, plain, test, unplaced};
+use crate::lines::{area, constant, plain, test};
 use crate::words::simple_word;
+use gypsy_predef::instruction_text::unplaced;
 use gypsy_space::{Application, Argument, Condition};
 use gypsy_syntax::Predef;
 use piton_syntax::{InstrText, PitonOp, TestKind, WordItem};

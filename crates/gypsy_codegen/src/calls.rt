@@ -16,10 +16,9 @@ ghost use Rattle.gypsy_codegen.specs.WordsOf.{local_shapes, number_of};
 ghost use Rattle.gypsy_codegen.specs.Written.{label_arg, written};
 
 use crate::context::{Context, Scopes, label_to, number_of, offset, procedure_at};
-use crate::lines::{
-    area, constant, jump, name_in, of_name, of_number, plain, push_label, put, unplaced,
-};
+use crate::lines::{area, constant, jump, name_in, of_number, plain, push_label, put};
 use crate::words::{local_count, local_words};
+use gypsy_predef::instruction_text::{of_name, unplaced};
 use gypsy_space::{CallSite, Condition, Procedure};
 use piton_syntax::{ArgText, InstrText, PitonOp, WordItem, WordText};
 use stack_text::{Memory, Name, Value};

@@ -4,23 +4,15 @@ ghost use Rattle.std.specs.Prelude.{◌≡◌, ◌++◌, [], ◌∷◌, ◌<◌,
 ghost use Rattle.piton_syntax.specs.declared.argument.ArgText.TheVariants as arg;
 ghost use Rattle.piton_syntax.specs.declared.op.PitonOp.TheVariants as op;
 ghost use Rattle.piton_syntax.specs.declared.word_text.WordItem.TheVariants as item;
-ghost use Rattle.gypsy_predef.specs.Texts.{instruction, constant, of_name, condition_area, named};
+ghost use Rattle.gypsy_predef.specs.Texts.{instruction, constant, of_name, condition_area, named, number};
 ghost use Rattle.gypsy_codegen.specs.Views.{labelled};
-ghost use Rattle.gypsy_codegen.specs.Written.{label_name, label_arg, name_in, number};
+ghost use Rattle.gypsy_codegen.specs.Written.{label_name, label_arg, name_in};
 
-use piton_syntax::{ArgText, InstrText, Number, PitonOp, TestKind, WordItem, WordText};
+use gypsy_predef::instruction_text;
+use gypsy_predef::instruction_text::{of_name, unplaced};
+use piton_syntax::{ArgText, InstrText, PitonOp, TestKind, WordItem, WordText};
 use stack_text::{Memory, Name, Named, read_name};
 use std::alloc::Global;
-
-/// A number that stands nowhere.
-pub(crate) fn unplaced(value: i128) -> Number
-    ensures { result ≡ number value }
-{
-    Number {
-        place: 0,
-        number: value,
-    }
-}
 
 /// The name of a label.
 pub(crate) fn label_named(alloc: Global, label: u32) -> Result<Named, Memory>
@@ -45,10 +37,7 @@ pub(crate) fn push_label(alloc: Global, args: &mut Vec<ArgText>, label: u32) -> 
 pub(crate) fn condition_area(alloc: Global) -> Result<Named, Memory>
     ensures { IfOk result (λ name. name ≡ named condition_area) }
 {
-    match read_name(alloc, b"c-c".as_slice())? {
-        Some(name) => Ok(Named { place: 0, name }),
-        None => unreachable!(),
-    }
+    instruction_text::named(alloc, b"c-c".as_slice())
 }
 
 /// A name that stands nowhere.
@@ -83,13 +72,7 @@ pub(crate) fn put(
         Some(label) => Some(label_named(alloc, label)?),
         None => None,
     };
-    instrs.push(InstrText {
-        place: 0,
-        label,
-        op,
-        args,
-    })?;
-    Ok(())
+    instruction_text::put(instrs, label, op, args)
 }
 
 /// An instruction without arguments.
@@ -102,19 +85,6 @@ pub(crate) fn plain(
     ensures { OnOk result (instrs.new.items ≡ instrs.old.items ++ labelled label op [] ∷ []) }
 {
     put(alloc, instrs, label, op, Vec::new(alloc))
-}
-
-/// An instruction of a name.
-pub(crate) fn of_name(
-    alloc: Global,
-    instrs: &mut Vec<InstrText>,
-    op: PitonOp,
-    name: Named,
-) -> Result<(), Memory>
-    ensures { OnOk result (instrs.new.items ≡ instrs.old.items ++ instruction None op (arg.Name name ∷ []) ∷ []) }
-{
-    let args = vec![in alloc; ArgText::Name(name)]?;
-    put(alloc, instrs, None, op, args)
 }
 
 /// An instruction of a number of words.
@@ -169,7 +139,5 @@ pub(crate) fn test(
     ensures { let args = arg.Test kind ∷ label_arg to ∷ [] in
         OnOk result (instrs.new.items ≡ instrs.old.items ++ instruction None op args ∷ []) }
 {
-    let mut args = vec![in alloc; ArgText::Test(kind)]?;
-    push_label(alloc, &mut args, to)?;
-    put(alloc, instrs, None, op, args)
+    instruction_text::test(alloc, instrs, op, kind, label_named(alloc, to)?)
 }

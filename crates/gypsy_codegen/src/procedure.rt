@@ -14,8 +14,9 @@ ghost use Rattle.gypsy_codegen.specs.WordsOf.{starts};
 ghost use Rattle.gypsy_codegen.specs.Written.{written};
 
 use crate::context::{Context, Scopes, number_of, procedure_at};
-use crate::lines::{area, constant, jump, name_in, named, plain, unplaced};
+use crate::lines::{area, constant, jump, name_in, named, plain};
 use crate::statement::statement;
+use gypsy_predef::instruction_text::unplaced;
 use gypsy_space::{Condition, Procedure, Program};
 use gypsy_syntax::{Decl, Local, Proc};
 use piton_syntax::{InstrText, PitonOp, WordItem, WordText};

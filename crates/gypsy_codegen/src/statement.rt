@@ -5,20 +5,21 @@ ghost use Rattle.piton_syntax.specs.declared.op.PitonOp.TheVariants as op;
 ghost use Rattle.piton_syntax.specs.declared.test_kind.TestFamily.TheVariants as family;
 ghost use Rattle.piton_syntax.specs.declared.test_kind.TestKind.TheVariants as test;
 ghost use Rattle.piton_check.specs.Instruction as i;
-ghost use Rattle.gypsy_syntax.specs.Programs.{Call};
+ghost use Rattle.gypsy_syntax.specs.Programs.{Call, Loop};
 ghost use Rattle.gypsy_syntax.specs.ProgramFits.{Each};
 ghost use Rattle.gypsy_space.specs.Nodes.{seen_cond, seen_statement, seen_statements};
 ghost use Rattle.gypsy_predef.specs.Texts.{instruction};
 ghost use Rattle.gypsy_codegen.specs.Generated.{offset};
-ghost use Rattle.gypsy_codegen.specs.Lines.{labels};
-ghost use Rattle.gypsy_codegen.specs.Views.{code_in, HasWord, IsReady, labelled, NamesAreThere, normal_text};
-ghost use Rattle.gypsy_codegen.specs.Views.{program_in, statement_text};
-ghost use Rattle.gypsy_codegen.specs.Written.{label_arg};
+ghost use Rattle.gypsy_codegen.specs.Lines.{labels, lines};
+ghost use Rattle.gypsy_codegen.specs.Views.{code_in, env, HasWord, IsReady, labelled, NamesAreThere, names_of};
+ghost use Rattle.gypsy_codegen.specs.Views.{normal_text, program_in, statement_text};
+ghost use Rattle.gypsy_codegen.specs.Written.{label_arg, Marked, written};
 
 use crate::apply::apply;
 use crate::calls::{after_call, before_call, push_local, raise};
 use crate::context::{Context, NORMAL, Scopes};
-use crate::lines::{area, constant, jump, plain, test, unplaced};
+use crate::lines::{area, constant, jump, plain, test};
+use gypsy_predef::instruction_text::unplaced;
 use gypsy_space::{CallSite, Node};
 use piton_syntax::{InstrText, PitonOp, TestKind, WordItem};
 use stack_text::Memory;
@@ -97,6 +98,55 @@ fn call(
     Ok(())
 }
 
+/// A loop of a body, and the next label behind it. Its place is not in its lines.
+#[cycle(statements)]
+fn repetition(
+    alloc: Global,
+    instrs: &mut Vec<InstrText>,
+    context: &Context,
+    body: &Rc<Node>,
+    scopes: &Scopes,
+    first: u32,
+) -> Result<u32, Memory>
+    requires ready { IsReady context.now }
+    requires names { NamesAreThere (program_in context.now) context.now.procedure (seen_statement body.now.value) }
+    requires labels { first + (labels (seen_statement body.now.value) + 2) < 2 ^ 32 }
+    ensures lines { let text = statement_text context.now scopes.now first (Loop 0 (seen_statement body.now.value)) in
+        OnOk result (instrs.new.items ≡ instrs.old.items ++ text) }
+    ensures next { IfOk result (λ next. next ≡ first + (labels (seen_statement body.now.value) + 2)) }
+{
+    plain(alloc, instrs, Some(first), PitonOp::NoOp)?;
+    let inner = Scopes::InLoop(first + 1, &*scopes);
+    let next = statement(alloc, instrs, context, body, &inner, first + 2)?;
+    jump_to_normal(alloc, instrs, first, first + 1)?;
+    Ok(next)
+}
+
+/// The second statement of two, and behind it the label where both go on.
+#[cycle(statements)]
+fn second(
+    alloc: Global,
+    instrs: &mut Vec<InstrText>,
+    context: &Context,
+    node: &Rc<Node>,
+    scopes: &Scopes,
+    first: u32,
+    label: u32,
+) -> Result<u32, Memory>
+    requires ready { IsReady context.now }
+    requires names { NamesAreThere (program_in context.now) context.now.procedure (seen_statement node.now.value) }
+    requires labels { first + labels (seen_statement node.now.value) < 2 ^ 32 }
+    ensures lines { let names = names_of context.now in
+        let code = lines (program_in context.now) context.now.procedure (env scopes.now) first in
+        let text = map (written names) (code (seen_statement node.now.value) ++ Marked label i.NoOp ∷ []) in
+        OnOk result (instrs.new.items ≡ instrs.old.items ++ text) }
+    ensures next { IfOk result (λ next. next ≡ first + labels (seen_statement node.now.value)) }
+{
+    let next = statement(alloc, instrs, context, node, scopes, first)?;
+    plain(alloc, instrs, Some(label), PitonOp::NoOp)?;
+    Ok(next)
+}
+
 /// A statement whose first label is this one, and the next label behind it.
 #[cycle(statements)]
 pub(crate) fn statement(
@@ -128,26 +178,21 @@ pub(crate) fn statement(
             Ok(next)
         }
         Node::Loop(_, body) => {
-            plain(alloc, instrs, Some(first), PitonOp::NoOp)?;
-            let inner = Scopes::InLoop(first + 1, &*scopes);
-            let next = statement(alloc, instrs, context, body, &inner, first + 2)?;
-            jump_to_normal(alloc, instrs, first, first + 1)?;
+            let next = repetition(alloc, instrs, context, body, scopes, first)?;
             Ok(next)
         }
         Node::If(_, variable, yes, no) => {
             branch(alloc, instrs, context, *variable, first)?;
             let behind = statement(alloc, instrs, context, yes, scopes, first + 2)?;
             jump_over(alloc, instrs, first + 1, first)?;
-            let next = statement(alloc, instrs, context, no, scopes, behind)?;
-            plain(alloc, instrs, Some(first + 1), PitonOp::NoOp)?;
+            let next = second(alloc, instrs, context, no, scopes, behind, first + 1)?;
             Ok(next)
         }
         Node::Begin(_, body, conds, arm) => {
             let inner = Scopes::InBegin(conds.as_slice(), first, &*scopes);
             let behind = statement(alloc, instrs, context, body, &inner, first + 2)?;
             jump_to_normal(alloc, instrs, first + 1, first)?;
-            let next = statement(alloc, instrs, context, arm, scopes, behind)?;
-            plain(alloc, instrs, Some(first + 1), PitonOp::NoOp)?;
+            let next = second(alloc, instrs, context, arm, scopes, behind, first + 1)?;
             Ok(next)
         }
         Node::Call(site) => {

@@ -8,7 +8,7 @@ ghost use Rattle.gypsy_codegen.specs.Views.{nameless, word_texts};
 ghost use Rattle.gypsy_codegen.specs.WordsOf.{words_of_values, zero_value};
 ghost use Rattle.gypsy_codegen.specs.Written.{item_text};
 
-use crate::lines::unplaced;
+use gypsy_predef::instruction_text::unplaced;
 use piton_syntax::{WordItem, WordText};
 use stack_text::{Kind, Memory, Name, Shape, Value};
 
