@@ -11,8 +11,8 @@ ghost use Rattle.gypsy_syntax.specs.SourceView.{parts_of_list, stmt_of};
 use crate::keyword::Keyword;
 use crate::printing::declaration::spaced_list;
 use crate::statement::Stmt;
-use stack_text::{Memory, Named};
 use stack_text::grammar::{spaced_items, spaced_name};
+use stack_text::{Memory, Named};
 
 /// The first word of a statement.
 fn keyword_of(stmt: &Stmt) -> Keyword
