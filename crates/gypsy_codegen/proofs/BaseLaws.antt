@@ -2,10 +2,10 @@
 use Rattle.std.proofs.Common.{◌≡◌, ℕ, ◌<◌, List, [], ◌∷◌, ◌++◌, length, get_or, Some, refl, ap, ◌∙◌}
 use Rattle.std.specs.Prelude.{IsTrue}
 use Rattle.stack_text.specs.Names.{is_name}
+use Rattle.stack_text.specs.Grammar.Printed.{unplaced}
 use Rattle.piton_syntax.specs.Systems.{ProgramOf, SystemOf}
 use Rattle.piton_check.specs.Declarations.{program_names, area_names, local_names, first_of}
 use Rattle.gypsy_syntax.specs.ProgramFits.{Each}
-use Rattle.gypsy_predef.specs.Texts.{named}
 use Rattle.gypsy_codegen.specs.Written.{Names}
 use Rattle.gypsy_codegen.proofs.InstructionLaws.{World}
 use Rattle.gypsy_codegen.proofs.DeclareLaws.{declarations, Differ, found_at}
@@ -31,4 +31,4 @@ world_of s t n programs base e d h = record {
 
 pub declared_both : (a b : List (List ℕ)) → declarations (a ++ b) ≡ declarations a ++ declarations b
 declared_both [] b = refl
-declared_both (x ∷ a) b = ap (λ z. Some (named x) ∷ z) (declared_both a b)
+declared_both (x ∷ a) b = ap (λ z. Some (unplaced x) ∷ z) (declared_both a b)

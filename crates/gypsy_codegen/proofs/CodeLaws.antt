@@ -7,10 +7,10 @@ use Rattle.stack_text.specs.declared.shape.Shape.{Shape}
 use Rattle.stack_text.specs.Values.{ValueOf, item_count}
 use Rattle.std.specs.Prelude.{ℤ, ◌==◌}
 use Rattle.stack_text.specs.declared.name.Named.{Named}
+use Rattle.stack_text.specs.Grammar.Printed.{unplaced}
 use Rattle.piton_words.specs.declared.word.Word.TheVariants.{Nat}
 use Rattle.piton_syntax.specs.declared.word_text.WordText.{WordText}
 use Rattle.gypsy_syntax.specs.Sources.{ProcOf}
-use Rattle.gypsy_predef.specs.Texts.{named}
 use Rattle.gypsy_codegen.specs.Text.{area_texts, frame_texts, procedure_with, temporaries_of}
 use Rattle.piton_words.specs.declared.word.Word.{Word}
 use Rattle.piton_check.specs.Instruction as i
@@ -100,19 +100,19 @@ temporaries_nameless : (n : Names) (names : List (List ℕ)) (indices : List ℕ
     temporaries_of nameless names (map (λ at. Nat at) indices) ≡ temporaries_of n names (map (λ at. Nat at) indices)
 temporaries_nameless n [] indices = refl
 temporaries_nameless n (name ∷ names) [] = refl
-temporaries_nameless n (name ∷ names) (k ∷ indices) = ap (λ z. (named name, written_word n (Nat k)) ∷ z) (temporaries_nameless n names indices)
+temporaries_nameless n (name ∷ names) (k ∷ indices) = ap (λ z. (unplaced name, written_word n (Nat k)) ∷ z) (temporaries_nameless n names indices)
 
 -- a program of its parts
 pub procedure_is : (q : Program) (programs : List (List ℕ)) (p : ℕ) (proc : ProcOf) (b : Bool) (frame : List (List ℕ)) (shapes : List Shape)
     (name : Named) (fs : List Named) (ts : List (Named × WordText)) (is : List InstrOf) →
-    b ≡ (p == q.main) → frame ≡ frame_texts q p proc → shapes ≡ shapes_of (proc_at q p) → name ≡ named proc.name.name →
-    fs ≡ cond b [] (map named frame) → ts ≡ cond b (temporaries_of nameless frame (map (λ at. Nat at) (starts 0 shapes))) [] →
+    b ≡ (p == q.main) → frame ≡ frame_texts q p proc → shapes ≡ shapes_of (proc_at q p) → name ≡ unplaced proc.name.name →
+    fs ≡ cond b [] (map unplaced frame) → ts ≡ cond b (temporaries_of nameless frame (map (λ at. Nat at) (starts 0 shapes))) [] →
     is ≡ map (written record { areas = area_texts; programs = programs; locals = frame }) (lines_of q p) →
     new_program 0 0 name fs ts is ≡ procedure_with q programs p proc
 procedure_is q programs p proc b frame shapes name fs ts is main_is frame_is shapes_are name_is fs_are ts_are is_are =
     let frames : Names = record { areas = area_texts; programs = programs; locals = frame_texts q p proc } in
-    let formals_are : fs ≡ cond (p == q.main) [] (map named (frame_texts q p proc)) =
-    fs_are ∙ ap (λ (c : Bool). cond c [] (map named frame)) main_is ∙ ap (λ (f : List (List ℕ)). cond (p == q.main) [] (map named f)) frame_is in
+    let formals_are : fs ≡ cond (p == q.main) [] (map unplaced (frame_texts q p proc)) =
+    fs_are ∙ ap (λ (c : Bool). cond c [] (map unplaced frame)) main_is ∙ ap (λ (f : List (List ℕ)). cond (p == q.main) [] (map unplaced f)) frame_is in
     let temporaries_are : ts ≡ cond (p == q.main) (temporaries_of frames (frame_texts q p proc) (map (λ at. Nat at) (starts 0 (shapes_of (proc_at q p))))) [] =
     ts_are ∙ ap (λ (c : Bool). cond c (temporaries_of nameless frame (map (λ at. Nat at) (starts 0 shapes))) []) main_is
     ∙ ap (λ (f : List (List ℕ)). cond (p == q.main) (temporaries_of nameless f (map (λ at. Nat at) (starts 0 shapes))) []) frame_is

@@ -6,13 +6,13 @@ use Rattle.std.proofs.lemmas.Slice.Eq.{bytes_eq-Decides}
 use Rattle.std.proofs.lemmas.Iterator.Adapters.{position_from-zero}
 use Rattle.stack_text.specs.declared.name.Named.{Named}
 use Rattle.stack_text.specs.Breaches.{when}
+use Rattle.stack_text.specs.Grammar.Printed.{unplaced}
 use Rattle.piton_check.specs.Declarations.{Declaration, is_named, first_of, repeats}
 use Rattle.piton_check.specs.Tables.{first_or}
 use Rattle.piton_check.proofs.TableLaws.{position-push}
 use Rattle.gypsy_syntax.specs.ProgramFits.{Each}
 use Rattle.gypsy_check.specs.Declarations.{is_among, repeats as repetitions}
 use Rattle.gypsy_check.proofs.CleanLaws.{two, fails}
-use Rattle.gypsy_predef.specs.Texts.{named}
 use Rattle.gypsy_codegen.specs.Written.{Names, Line, Plain, Marked, label_text}
 use Rattle.gypsy_codegen.proofs.LabelLaws.{Misses, Distinct, Ranged, declared, label_differs}
 
@@ -79,7 +79,7 @@ labels_apart n hi (Marked m i ∷ ls) le d r = (absent_label n m hi ls le r.1 d.
 -- ---- names
 
 abbrev pub declarations : List (List ℕ) → List Declaration
-declarations names = map (λ name. Some (named name)) names
+declarations names = map (λ name. Some (unplaced name)) names
 
 abbrev pub Unlike : List ℕ → List (List ℕ) → Type 0
 Unlike name names = Each (λ m. bytes_eq m name ≡ false) names

@@ -12,7 +12,7 @@ use Rattle.piton_words.specs.declared.op.WordOp.TheVariants as op
 use Rattle.piton_syntax.specs.declared.test_kind.TestFamily.TheVariants as family
 use Rattle.piton_syntax.specs.declared.test_kind.TestKind.TheVariants as test
 use Rattle.piton_syntax.specs.Operations.{op_name}
-use Rattle.stack_text.specs.Grammar.Printed.{tree_of_all, name_tree}
+use Rattle.stack_text.specs.Grammar.Printed.{tree_of_all, name_tree, unplaced}
 use Rattle.piton_syntax.specs.Printed.{word_tree, argument_tree, instruction_tree, temporary_tree, program_tree, tree_of}
 use Rattle.piton_check.specs.Instruction as i
 use Rattle.piton_check.specs.Instruction.{Instruction}
@@ -27,7 +27,7 @@ use Rattle.gypsy_space.specs.Needs.{Words, local_words, code_words}
 use Rattle.gypsy_codegen.specs.WordsOf.{starts, words_of_values, local_shapes}
 use Rattle.gypsy_predef.specs.Runs.{can_fail}
 use Rattle.gypsy_predef.specs.Calls.{test_code}
-use Rattle.gypsy_predef.specs.Texts.{named, body_texts}
+use Rattle.gypsy_predef.specs.Texts.{body_texts}
 use Rattle.gypsy_codegen.specs.Generated.{Scope, InLoop, InBegin, push_words, push_indices, push_actuals, push_args, length_code}
 use Rattle.gypsy_codegen.specs.Generated.{predef_position, size, opening_words, count_from}
 use Rattle.gypsy_codegen.specs.Written.{Names, Line, Plain, Marked, written_word, label_arg, written, op_of, args_of}
@@ -57,7 +57,7 @@ word_nodes n (word.Addr a k) = omega arith
 word_nodes n (word.Pc a k) = omega arith
 word_nodes n (word.Subr a) = omega arith
 
-names_nodes : (names : List (List ℕ)) → node_counts (nodes (map name_tree (map named names))) ≡ length names
+names_nodes : (names : List (List ℕ)) → node_counts (nodes (map name_tree (map unplaced names))) ≡ length names
 names_nodes [] = refl
 names_nodes (x ∷ names) = omega (arith, names_nodes names)
 
@@ -261,7 +261,7 @@ module _ (q : Program) (p : ℕ) where
 -- ---- programs
 
 heads_nodes : (b : Bool) (n : Names) (frame : List (List ℕ)) (ws : List Word) →
-    node_counts (nodes (map name_tree (cond b [] (map named frame)))) + node_counts (nodes (map temporary_tree (cond b (temporaries_of n frame ws) []))) ≤ 6 * length frame
+    node_counts (nodes (map name_tree (cond b [] (map unplaced frame)))) + node_counts (nodes (map temporary_tree (cond b (temporaries_of n frame ws) []))) ≤ 6 * length frame
 heads_nodes true n frame ws = let h = temporaries_nodes n frame ws in omega (arith, h)
 heads_nodes false n frame ws = omega (arith, names_nodes frame)
 

@@ -11,6 +11,7 @@ use Rattle.piton_words.specs.declared.word.Word.{Word}
 use Rattle.piton_words.specs.declared.word.Word.TheVariants.{Nat}
 use Rattle.piton_syntax.specs.Systems.{SystemOf}
 use Rattle.stack_text.specs.Grammar.Parts.{IsNamed}
+use Rattle.stack_text.specs.Grammar.Printed.{unplaced}
 use Rattle.piton_syntax.specs.Fits.{FitsTemporary}
 use Rattle.piton_check.specs.Declarations.{formal_name, temporary_name}
 use Rattle.piton_check.specs.Violations.{temporary_breaches}
@@ -25,7 +26,6 @@ use Rattle.gypsy_check.specs.Rules.{procedure_breaches}
 use Rattle.gypsy_check.proofs.CleanLaws.{get_or_map}
 use Rattle.gypsy_codegen.specs.WordsOf.{starts}
 use Rattle.gypsy_codegen.specs.Generated.{size, generated_program}
-use Rattle.gypsy_predef.specs.Texts.{named}
 use Rattle.gypsy_codegen.specs.Written.{Names, Line, Plain, Marked}
 use Rattle.gypsy_codegen.specs.Lines.{labels, lines, tail_lines, lines_of}
 use Rattle.gypsy_codegen.specs.Text.{frame_texts, names_with, temporaries_of, written_procedure}
@@ -50,33 +50,33 @@ starts_in_range at (s ∷ shapes) le = (omega (arith, le), starts_in_range (at +
 -- ---- main's variables are temporaries, those of others formals
 
 module _ (b : Bool) (n : Names) (frame : List (List ℕ)) (ws : List Word) (same : length frame ≡ length ws) where
-  frame_declared : map formal_name (cond b [] (map named frame)) ++ map temporary_name (cond b (temporaries_of n frame ws) []) ≡ declarations frame
+  frame_declared : map formal_name (cond b [] (map unplaced frame)) ++ map temporary_name (cond b (temporaries_of n frame ws) []) ≡ declarations frame
   frame_declared = by b
     where
-      by : (b : Bool) → map formal_name (cond b [] (map named frame)) ++ map temporary_name (cond b (temporaries_of n frame ws) []) ≡ declarations frame
+      by : (b : Bool) → map formal_name (cond b [] (map unplaced frame)) ++ map temporary_name (cond b (temporaries_of n frame ws) []) ≡ declarations frame
       by true = temporaries_declared n frame ws same
-      by false = append-nil (map formal_name (map named frame)) ∙ formals_declared frame
+      by false = append-nil (map formal_name (map unplaced frame)) ∙ formals_declared frame
 
-  frame_total : length (cond b [] (map named frame)) + length (cond b (temporaries_of n frame ws) []) ≡ length frame
+  frame_total : length (cond b [] (map unplaced frame)) + length (cond b (temporaries_of n frame ws) []) ≡ length frame
   frame_total = by b
     where
-      by : (b : Bool) → length (cond b [] (map named frame)) + length (cond b (temporaries_of n frame ws) []) ≡ length frame
+      by : (b : Bool) → length (cond b [] (map unplaced frame)) + length (cond b (temporaries_of n frame ws) []) ≡ length frame
       by true = omega (arith, temporaries_count n frame ws same)
-      by false = omega (arith, length-map frame (λ name. named name))
+      by false = omega (arith, length-map frame (λ name. unplaced name))
 
-  formals_right : Each (λ name. IsTrue (is_name name)) frame → All IsNamed (cond b [] (map named frame))
+  formals_right : Each (λ name. IsTrue (is_name name)) frame → All IsNamed (cond b [] (map unplaced frame))
   formals_right h = by b
     where
-      by : (b : Bool) → All IsNamed (cond b [] (map named frame))
+      by : (b : Bool) → All IsNamed (cond b [] (map unplaced frame))
       by true = All-nil IsNamed
       by false = formals_fit frame h
 
-  formals_count : (m : ℕ) → length frame ≡ m → length (cond b [] (map named frame)) ≡ cond b 0 m
+  formals_count : (m : ℕ) → length frame ≡ m → length (cond b [] (map unplaced frame)) ≡ cond b 0 m
   formals_count m e = by b
     where
-      by : (b : Bool) → length (cond b [] (map named frame)) ≡ cond b 0 m
+      by : (b : Bool) → length (cond b [] (map unplaced frame)) ≡ cond b 0 m
       by true = refl
-      by false = length-map frame (λ name. named name) ∙ e
+      by false = length-map frame (λ name. unplaced name) ∙ e
 
   temporaries_right : Each (λ name. IsTrue (is_name name)) frame → Each InRange ws → All FitsTemporary (cond b (temporaries_of n frame ws) [])
   temporaries_right h k = by b

@@ -10,6 +10,7 @@ use Rattle.piton_syntax.specs.Systems.{ProgramOf, SystemOf}
 use Rattle.stack_text.specs.Grammar.Parts.{IsNamed}
 use Rattle.piton_syntax.specs.Fits.{FitsInstruction, FitsTemporary, FitsProgram}
 use Rattle.stack_text.specs.Breaches.{when}
+use Rattle.stack_text.specs.Grammar.Printed.{unplaced}
 use Rattle.piton_check.specs.Declarations.{label_name as label_of, local_names, label_names, formal_name, temporary_name, first_of, repeats}
 use Rattle.piton_check.specs.Violations.{temporary_breaches, instruction_breaches, end_breaches, program_breaches, is_end}
 use Rattle.piton_check.specs.Resolved.{resolved_instruction, resolved_temporary, resolved_program}
@@ -17,7 +18,6 @@ use Rattle.piton_check.specs.Instruction as i
 use Rattle.piton_check.specs.Instruction.{Instruction, instruction_view, program_view}
 use Rattle.gypsy_syntax.specs.ProgramFits.{Each}
 use Rattle.gypsy_check.proofs.CleanLaws.{get_map}
-use Rattle.gypsy_predef.specs.Texts.{named}
 use Rattle.gypsy_codegen.specs.Written.{Names, Line, Plain, Marked, label_text, written_word, written, line_with_places}
 use Rattle.gypsy_codegen.specs.Text.{temporaries_of}
 use Rattle.gypsy_codegen.proofs.InstructionLaws.{InRange, World, Known, says, word_clean, word_fits, word_resolves}
@@ -76,15 +76,15 @@ module _ (s : SystemOf) (t : ProgramOf) (n : Names) (f : ℕ → ℕ) (locals pr
 
 -- ---- formals and temporaries
 
-pub formals_fit : (names : List (List ℕ)) → Each (λ name. IsTrue (is_name name)) names → All IsNamed (map named names)
+pub formals_fit : (names : List (List ℕ)) → Each (λ name. IsTrue (is_name name)) names → All IsNamed (map unplaced names)
 formals_fit [] h = All-nil IsNamed
-formals_fit (name ∷ names) h = All-cons IsNamed (named name) (map named names) h.0 (formals_fit names h.1)
+formals_fit (name ∷ names) h = All-cons IsNamed (unplaced name) (map unplaced names) h.0 (formals_fit names h.1)
 
 pub temporaries_fit : (n : Names) (names : List (List ℕ)) (ws : List Word) → Each (λ name. IsTrue (is_name name)) names → Each InRange ws → All FitsTemporary (temporaries_of n names ws)
 temporaries_fit n [] ws h k = All-nil FitsTemporary
 temporaries_fit n (name ∷ names) [] h k = All-nil FitsTemporary
 temporaries_fit n (name ∷ names) (w ∷ ws) h k =
-    All-cons FitsTemporary (named name, written_word n w) (temporaries_of n names ws) (h.0, word_fits n w k.0) (temporaries_fit n names ws h.1 k.1)
+    All-cons FitsTemporary (unplaced name, written_word n w) (temporaries_of n names ws) (h.0, word_fits n w k.0) (temporaries_fit n names ws h.1 k.1)
 
 pub temporaries_clean : (s : SystemOf) (n : Names) (names : List (List ℕ)) (ws : List Word) → Each InRange ws → flat_map (temporary_breaches s) (temporaries_of n names ws) ≡ []
 temporaries_clean s n [] ws k = refl
@@ -105,15 +105,15 @@ temporaries_count n [] (w ∷ ws) e = absurd (omega (arith, e))
 temporaries_count n (name ∷ names) [] e = absurd (omega (arith, e))
 temporaries_count n (name ∷ names) (w ∷ ws) e = ap suc (temporaries_count n names ws (omega (arith, e)))
 
-pub formals_declared : (names : List (List ℕ)) → map formal_name (map named names) ≡ declarations names
+pub formals_declared : (names : List (List ℕ)) → map formal_name (map unplaced names) ≡ declarations names
 formals_declared [] = refl
-formals_declared (name ∷ names) = ap (λ z. Some (named name) ∷ z) (formals_declared names)
+formals_declared (name ∷ names) = ap (λ z. Some (unplaced name) ∷ z) (formals_declared names)
 
 pub temporaries_declared : (n : Names) (names : List (List ℕ)) (ws : List Word) → length names ≡ length ws → map temporary_name (temporaries_of n names ws) ≡ declarations names
 temporaries_declared n [] [] e = refl
 temporaries_declared n [] (w ∷ ws) e = absurd (omega (arith, e))
 temporaries_declared n (name ∷ names) [] e = absurd (omega (arith, e))
-temporaries_declared n (name ∷ names) (w ∷ ws) e = ap (λ z. Some (named name) ∷ z) (temporaries_declared n names ws (omega (arith, e)))
+temporaries_declared n (name ∷ names) (w ∷ ws) e = ap (λ z. Some (unplaced name) ∷ z) (temporaries_declared n names ws (omega (arith, e)))
 
 -- ---- programs
 

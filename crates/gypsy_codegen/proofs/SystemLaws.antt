@@ -42,7 +42,6 @@ use Rattle.gypsy_predef.specs.Bodies as predefined
 use Rattle.gypsy_predef.specs.Texts.{condition_area, body_text, body_texts}
 use Rattle.gypsy_predef.specs.Resolving.{BodiesFit, BodiesKeepRules, BodiesResolve}
 use Rattle.gypsy_codegen.specs.Generated.{generated_program, count_from, opening_words, generated_view}
-use Rattle.gypsy_predef.specs.Texts.{named}
 use Rattle.gypsy_codegen.specs.Written.{Names, written_word}
 use Rattle.gypsy_codegen.specs.Text.{program_texts, area_texts, frame_texts, names_with, written_procedure, written_procedures, written_area, generated}
 use Rattle.piton_machine.specs.Seen.{started}
@@ -59,6 +58,7 @@ use Rattle.gypsy_codegen.proofs.CopyLaws.{get_below}
 use Rattle.gypsy_codegen.proofs.FineLaws.{values_in_range, all_words}
 use Rattle.gypsy_codegen.proofs.ProgramLaws.{Clean, two_none}
 use Rattle.stack_text.specs.Trees.{node_count}
+use Rattle.stack_text.specs.Grammar.Printed.{unplaced}
 use Rattle.piton_syntax.specs.Printed.{tree_of}
 use Rattle.piton_syntax.proofs.MadeLaws.{fits_keeps}
 use Rattle.piton_check.specs.Sound.{IsSound}
@@ -160,11 +160,11 @@ predefs_all texts s area (r ∷ rs) =
 module _ (src : SourceOf) where
   procs_named : (k : ℕ) (procs : List ProcOf) (rest : List ProgramOf) → map program_name (written_procedures src k procs ++ rest) ≡ declarations (map (λ p. p.name.name) procs) ++ map program_name rest
   procs_named k [] rest = refl
-  procs_named k (p ∷ procs) rest = ap (λ z. Some (named p.name.name) ∷ z) (procs_named (suc k) procs rest)
+  procs_named k (p ∷ procs) rest = ap (λ z. Some (unplaced p.name.name) ∷ z) (procs_named (suc k) procs rest)
 
   predefs_named : (rs : List Predef) → map program_name (map body_text rs) ≡ declarations (map predef_name rs)
   predefs_named [] = refl
-  predefs_named (r ∷ rs) = ap (λ z. Some (named (predef_name r)) ∷ z) (predefs_named rs)
+  predefs_named (r ∷ rs) = ap (λ z. Some (unplaced (predef_name r)) ∷ z) (predefs_named rs)
 
   procs_count : (k : ℕ) (procs : List ProcOf) → length (written_procedures src k procs) ≡ length procs
   procs_count k [] = refl
@@ -286,7 +286,7 @@ module _ (texts : TextsResolve) (src : SourceOf) (sizes : Words) (base : ℕ) (a
       ∙ ap (λ z. Some (written_procedure src z main_proc.0)) (omega arith)
 
   no_formals : length (written_procedure src q.main main_proc.0).formals ≡ 0
-  no_formals = ap (λ b. length (cond b [] (map named (frame_texts q q.main main_proc.0)))) (eq-eqb q.main q.main refl)
+  no_formals = ap (λ b. length (cond b [] (map unplaced (frame_texts q q.main main_proc.0)))) (eq-eqb q.main q.main refl)
 
   main_count : length (written_procedure src q.main main_proc.0).temporaries ≡ vars_of (proc_at q q.main)
   main_count =

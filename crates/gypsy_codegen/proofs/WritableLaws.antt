@@ -18,6 +18,7 @@ use Rattle.gypsy_syntax.specs.Programs.{Proc as Main}
 use Rattle.gypsy_syntax.specs.declared.proc.Proc.{Proc}
 use Rattle.gypsy_syntax.specs.SourceView.{proc_of}
 use Rattle.stack_text.proofs.Loops.{drop-item}
+use Rattle.stack_text.specs.Grammar.Printed.{unplaced}
 use Rattle.gypsy_syntax.specs.Programs.{Arg, Var, Lit, Program, no_proc, simple, proc_at, body_of, shapes_of, conds_of}
 use Rattle.gypsy_syntax.specs.Programs.{Stmt, Skip, NoOp, Signal, Seq, Loop, If, Begin, Call, Apply}
 use Rattle.gypsy_syntax.specs.ProgramFits.{Each, ActualsFit, ArgFits, ArgsFit, slot_kind, StmtFits, ProgramFits}
@@ -25,7 +26,7 @@ use Rattle.gypsy_syntax.specs.Resolved.{shape_of, local_value, procedure_of, pro
 use Rattle.gypsy_syntax.specs.Sources.{ProcOf, SourceOf}
 use Rattle.gypsy_space.specs.Needs.{Words, vars_of}
 use Rattle.gypsy_check.proofs.CleanLaws.{get_or_map}
-use Rattle.gypsy_predef.specs.Texts.{named, body_texts, number}
+use Rattle.gypsy_predef.specs.Texts.{body_texts, number}
 use Rattle.gypsy_codegen.specs.Acceptable.{total_words}
 use Rattle.gypsy_codegen.specs.Generated.{opening_words}
 use Rattle.gypsy_codegen.specs.Text.{procedure_with, procedures_with, program_texts, names_with, written_procedures, generated}
@@ -149,7 +150,7 @@ opening_is f x old a b empty e g =
 -- a system of its parts
 pub system_is : (s : SourceOf) (sizes : Words) (base : ℕ) (q : Program) (main : Named) (m : Main) (ctrl temp first : Number) (areas : List AreaOf)
     (stack : List WordText) (programs : List ProgramOf) → q ≡ program_of s → m ≡ proc_at q q.main →
-    main ≡ named s.main.name → ctrl ≡ number (pos sizes.ctrl) → temp ≡ number (pos sizes.temp) → first ≡ number (pos base) →
+    main ≡ unplaced s.main.name → ctrl ≡ number (pos sizes.ctrl) → temp ≡ number (pos sizes.temp) → first ≡ number (pos base) →
     areas ≡ area_text ∷ [] → stack ≡ opening_text m → programs ≡ procedures_with q (program_texts s) 0 s.procs ++ body_texts →
     new_system 0 main ctrl temp first areas stack programs ≡ generated s sizes base
 system_is s sizes base q main m ctrl temp first areas stack programs q_is m_is main_is ctrl_is temp_is base_is areas_are stack_is programs_are =

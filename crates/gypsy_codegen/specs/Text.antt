@@ -1,6 +1,7 @@
 -- The generated system, as a text has it.
 use Rattle.std.specs.Prelude.{ℕ, suc, ◌==◌, pos, List, [], ◌∷◌, ◌++◌, map, if◌then◌else◌, None}
 use Rattle.stack_text.specs.declared.name.Named.{Named}
+use Rattle.stack_text.specs.Grammar.Printed.{unplaced}
 use Rattle.piton_words.specs.declared.word.Word.{Word}
 use Rattle.piton_words.specs.declared.word.Word.TheVariants.{Nat}
 use Rattle.piton_syntax.specs.declared.word_text.WordText.{WordText}
@@ -10,7 +11,7 @@ use Rattle.gypsy_syntax.specs.Programs.{Program, proc_at, shapes_of}
 use Rattle.gypsy_syntax.specs.Predefined.{predefs, predef_name}
 use Rattle.gypsy_syntax.specs.Resolved.{variable_names, procedure_names, program_of}
 use Rattle.gypsy_space.specs.Needs.{Words}
-use Rattle.gypsy_predef.specs.Texts.{named, condition_area, body_texts, number}
+use Rattle.gypsy_predef.specs.Texts.{condition_area, body_texts, number}
 use Rattle.gypsy_codegen.specs.WordsOf.{starts, number_of_way}
 use Rattle.gypsy_codegen.specs.Generated.{opening_words}
 use Rattle.gypsy_codegen.specs.Written.{Names, written_word, written}
@@ -39,7 +40,7 @@ names_with s locals = names_by (program_texts s) locals
 
 -- temporaries of these names that hold these words
 abbrev pub temporaries_of : Names → List (List ℕ) → List Word → List (Named × WordText)
-temporaries_of n (name ∷ names) (w ∷ ws) = (named name, written_word n w) ∷ temporaries_of n names ws
+temporaries_of n (name ∷ names) (w ∷ ws) = (unplaced name, written_word n w) ∷ temporaries_of n names ws
 temporaries_of n _ _ = []
 
 -- the program of procedure p, where the programs have these names
@@ -47,7 +48,7 @@ abbrev pub procedure_with : Program → List (List ℕ) → ℕ → ProcOf → P
 procedure_with q programs p proc =
     let frame = frame_texts q p proc in
     let n = names_by programs frame in
-    new_program 0 0 (named proc.name.name) (if p == q.main then [] else map named frame)
+    new_program 0 0 (unplaced proc.name.name) (if p == q.main then [] else map unplaced frame)
     (if p == q.main then temporaries_of n frame (map (λ at. Nat at) (starts 0 (shapes_of (proc_at q p)))) else [])
     (map (written n) (lines_of q p))
 
@@ -64,11 +65,11 @@ written_procedures s p procs = procedures_with (program_of s) (program_texts s) 
 
 -- the one area, of one word: the number of the normal condition
 abbrev pub written_area : SourceOf → AreaOf
-written_area s = new_area 0 (named condition_area) (written_word (names_with s []) (Nat (number_of_way None)) ∷ [])
+written_area s = new_area 0 (unplaced condition_area) (written_word (names_with s []) (Nat (number_of_way None)) ∷ [])
 
 -- the system of a source, with these sizes of the stacks and this base
 abbrev pub generated : SourceOf → Words → ℕ → SystemOf
 generated s sizes base =
-    new_system 0 (named s.main.name) (number (pos sizes.ctrl)) (number (pos sizes.temp)) (number (pos base))
+    new_system 0 (unplaced s.main.name) (number (pos sizes.ctrl)) (number (pos sizes.temp)) (number (pos base))
     (written_area s ∷ []) (map (written_word (names_with s [])) (opening_words (program_of s)))
     (written_procedures s 0 s.procs ++ body_texts)

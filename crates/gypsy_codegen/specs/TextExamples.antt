@@ -2,6 +2,7 @@
 use Rattle.std.specs.Prelude.{◌≡◌, ℕ, pos, List, [], ◌∷◌, map, Option, Some, None, codes}
 use Rattle.stack_text.specs.declared.name.Named.{Named}
 use Rattle.stack_text.specs.declared.shape.Kind.TheVariants.{Integer}
+use Rattle.stack_text.specs.Grammar.Printed.{unplaced}
 use Rattle.piton_syntax.specs.declared.op.PitonOp.TheVariants as op
 use Rattle.piton_syntax.specs.declared.argument.ArgText.{ArgText}
 use Rattle.piton_syntax.specs.declared.argument.ArgText.TheVariants as arg
@@ -10,7 +11,7 @@ use Rattle.piton_syntax.specs.Systems.{InstrOf}
 use Rattle.gypsy_syntax.specs.declared.literal.Decl.{Decl}
 use Rattle.gypsy_syntax.specs.declared.predef.Predef.TheVariants as row
 use Rattle.gypsy_syntax.specs.Sources.{StmtOf, loop, signal, begin, call, predef, variable, constant, integer, ProcOf, SourceOf}
-use Rattle.gypsy_predef.specs.Texts.{named, instruction, of_name, condition_area, number}
+use Rattle.gypsy_predef.specs.Texts.{instruction, of_name, condition_area, number}
 use Rattle.gypsy_predef.specs.Texts as predefined
 use Rattle.gypsy_codegen.specs.Text.{written_procedures}
 
@@ -19,7 +20,7 @@ abbrev pub lines_of_text : SourceOf → List (List InstrOf)
 lines_of_text s = map (λ p. p.instrs) (written_procedures s 0 s.procs)
 
 abbrev pub label : List ℕ → Option Named
-label l = Some (named l)
+label l = Some (unplaced l)
 
 -- a condition's number, pushed and put into `c-c`
 abbrev pub natural_at : Option Named → ℕ → InstrOf
@@ -32,12 +33,12 @@ abbrev pub jump_to : List ℕ → InstrOf
 jump_to l = of_name op.Jump l
 
 abbrev pub name_arg : List ℕ → ArgText
-name_arg l = arg.Name (named l)
+name_arg l = arg.Name (unplaced l)
 
 abbrev pub procedure_text : List ℕ → List Decl → List Named → List Named → StmtOf → ProcOf
 procedure_text name formals conds local_conds body = record {
   place = 0;
-  name = named name;
+  name = unplaced name;
   formals = formals;
   conds = conds;
   locals = [];
@@ -49,8 +50,8 @@ procedure_text name formals conds local_conds body = record {
 abbrev pub leaving : SourceOf
 leaving = record {
   place = 0;
-  main = named (codes "main");
-  procs = procedure_text (codes "main") [] [] [] (loop 0 (signal 0 (named (codes "leave")))) ∷ [];
+  main = unplaced (codes "main");
+  procs = procedure_text (codes "main") [] [] [] (loop 0 (signal 0 (unplaced (codes "leave")))) ∷ [];
 }
 
 abbrev pub leaving_lines : List InstrOf
@@ -65,13 +66,13 @@ leaving_lines =
 abbrev pub passing_on : SourceOf
 passing_on = record {
   place = 0;
-  main = named (codes "main");
+  main = unplaced (codes "main");
   procs =
       procedure_text (codes "main")
-      (record { name = named (codes "x"); shape = record { place = 0; kind = Integer; length = None } } ∷ []) [] (named (codes "oops") ∷ [])
-      (begin 0 (call 0 (named (codes "p")) 0 [] 0 (named (codes "oops") ∷ [])) (named (codes "oops") ∷ [])
-      (predef 0 row.MgSimpleConstantAssignment (variable (named (codes "x")) ∷ constant (integer 0 (pos 5)) ∷ []))) ∷
-      procedure_text (codes "p") [] (named (codes "bad") ∷ []) [] (signal 0 (named (codes "bad"))) ∷ [];
+      (record { name = unplaced (codes "x"); shape = record { place = 0; kind = Integer; length = None } } ∷ []) [] (unplaced (codes "oops") ∷ [])
+      (begin 0 (call 0 (unplaced (codes "p")) 0 [] 0 (unplaced (codes "oops") ∷ [])) (unplaced (codes "oops") ∷ [])
+      (predef 0 row.MgSimpleConstantAssignment (variable (unplaced (codes "x")) ∷ constant (integer 0 (pos 5)) ∷ []))) ∷
+      procedure_text (codes "p") [] (unplaced (codes "bad") ∷ []) [] (signal 0 (unplaced (codes "bad"))) ∷ [];
 }
 
 abbrev pub passing_on_lines : List (List InstrOf)

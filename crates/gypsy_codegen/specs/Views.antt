@@ -2,6 +2,7 @@
 use Rattle.std.specs.Prelude.{◌≡◌, ℕ, suc, ◌+◌, ◌<◌, ◌≤◌, pos, List, [], ◌∷◌, ◌++◌, map, length, Option, Some, None, option_map, ◌^◌}
 use Rattle.stack_text.specs.declared.shape.Shape.{Shape}
 use Rattle.stack_text.specs.Values.{ValueOf}
+use Rattle.stack_text.specs.Grammar.Printed.{unplaced}
 use Rattle.piton_words.specs.declared.word.Word.{Word}
 use Rattle.piton_words.specs.declared.word.Word.TheVariants.{Nat}
 use Rattle.piton_syntax.specs.declared.argument.ArgText.{ArgText}
@@ -19,7 +20,7 @@ use Rattle.gypsy_syntax.specs.ProgramFits.{Each, ProgramFits}
 use Rattle.gypsy_space.specs.declared.need.Need.{Need}
 use Rattle.gypsy_space.specs.Needs.{vars_of}
 use Rattle.gypsy_space.specs.Nodes.{seen_cond, seen_program}
-use Rattle.gypsy_predef.specs.Texts.{instruction, constant, of_name, condition_area, named, number}
+use Rattle.gypsy_predef.specs.Texts.{instruction, constant, of_name, condition_area, number}
 use Rattle.gypsy_codegen.specs.declared.context.Context.{Context}
 use Rattle.gypsy_codegen.specs.declared.context.Scopes.{Scopes, Outside, InLoop', InBegin'}
 use Rattle.gypsy_codegen.specs.WordsOf.{words_of_values, number_of_way, zero_value}
@@ -130,7 +131,7 @@ opening_text p = word_texts (words_of_values (map zero_value p.formals ++ p.loca
 
 -- the one area
 abbrev pub area_text : AreaOf
-area_text = new_area 0 (named condition_area) (written_word nameless (Nat (number_of_way None)) ∷ [])
+area_text = new_area 0 (unplaced condition_area) (written_word nameless (Nat (number_of_way None)) ∷ [])
 
 -- the words of code of procedures together
 abbrev pub words_together : List Need → ℕ

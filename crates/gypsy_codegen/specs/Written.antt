@@ -2,6 +2,7 @@
 use Rattle.std.specs.Prelude.{ℕ, pos, List, [], ◌∷◌, map, get_or, Some, None}
 use Rattle.std.specs.Fmt.{decimal}
 use Rattle.stack_text.specs.declared.name.Named.{Named}
+use Rattle.stack_text.specs.Grammar.Printed.{unplaced}
 use Rattle.piton_words.specs.declared.word.Word.{Word}
 use Rattle.piton_words.specs.declared.word.Word.TheVariants as word
 use Rattle.piton_words.specs.declared.op.WordOp.{WordOp}
@@ -16,7 +17,7 @@ use Rattle.piton_syntax.specs.declared.word_text.WordText.{WordText}
 use Rattle.piton_syntax.specs.declared.word_text.WordItem.{WordItem}
 use Rattle.piton_syntax.specs.declared.word_text.WordItem.TheVariants as item
 use Rattle.piton_syntax.specs.Systems.{InstrOf, new_word, new_instruction}
-use Rattle.gypsy_predef.specs.Texts.{named, number}
+use Rattle.gypsy_predef.specs.Texts.{number}
 use Rattle.piton_check.specs.Instruction as i
 use Rattle.piton_check.specs.Instruction.{Instruction}
 
@@ -32,14 +33,14 @@ pub record Names : Type 0 where
   pub locals : List (List ℕ)
 
 abbrev pub name_in : List (List ℕ) → ℕ → Named
-name_in names n = named (get_or names n [])
+name_in names n = unplaced (get_or names n [])
 
 -- the name of a label: `L` and its number
 unfoldable pub label_text : ℕ → List ℕ
 label_text l = 76 ∷ decimal l
 
 abbrev pub label_name : ℕ → Named
-label_name l = named (label_text l)
+label_name l = unplaced (label_text l)
 
 abbrev pub item_text : Names → Word → WordItem
 item_text n (word.Int z) = item.Int (number z)

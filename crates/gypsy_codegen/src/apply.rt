@@ -15,7 +15,7 @@ use crate::calls::{call_program, push_local};
 use crate::context::{Context, Scopes, label_to, shape_at};
 use crate::lines::{area, constant, plain, test};
 use crate::words::simple_word;
-use gypsy_predef::instruction_text::unplaced;
+use gypsy_predef::instruction_text::number;
 use gypsy_space::{Application, Argument, Condition};
 use gypsy_syntax::Predef;
 use piton_syntax::{InstrText, PitonOp, TestKind, WordItem};
@@ -85,7 +85,7 @@ fn push_length(
         _ => return Ok(()),
     };
     let length = array_length(context.shapes, call.args.as_slice(), at);
-    let item = WordItem::Int(unplaced(length as i128));
+    let item = WordItem::Int(number(length as i128));
     constant(alloc, instrs, None, item)
 }
 

@@ -18,7 +18,7 @@ ghost use Rattle.gypsy_codegen.specs.Written.{label_arg, written};
 use crate::context::{Context, Scopes, label_to, number_of, offset, procedure_at};
 use crate::lines::{area, constant, jump, name_in, of_number, plain, push_label, put};
 use crate::words::{local_count, local_words};
-use gypsy_predef::instruction_text::{of_name, unplaced};
+use gypsy_predef::instruction_text::{number, of_name};
 use gypsy_space::{CallSite, Condition, Procedure};
 use piton_syntax::{ArgText, InstrText, PitonOp, WordItem, WordText};
 use stack_text::{Memory, Name, Value};
@@ -37,8 +37,8 @@ pub(crate) fn raise(
         let target = label_to (program_in context.now) context.now.procedure (env scopes.now) c in
         OnOk result (instrs.new.items ≡ instrs.old.items ++ raise_text label (number_of c) target) }
 {
-    let number = unplaced(number_of(cond) as i128);
-    constant(alloc, instrs, label, WordItem::Nat(number))?;
+    let item = WordItem::Nat(number(number_of(cond) as i128));
+    constant(alloc, instrs, label, item)?;
     area(alloc, instrs, PitonOp::PopGlobal)?;
     jump(alloc, instrs, label_to(context, scopes, cond))
 }

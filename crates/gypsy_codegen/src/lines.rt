@@ -4,12 +4,13 @@ ghost use Rattle.std.specs.Prelude.{◌≡◌, ◌++◌, [], ◌∷◌, ◌<◌,
 ghost use Rattle.piton_syntax.specs.declared.argument.ArgText.TheVariants as arg;
 ghost use Rattle.piton_syntax.specs.declared.op.PitonOp.TheVariants as op;
 ghost use Rattle.piton_syntax.specs.declared.word_text.WordItem.TheVariants as item;
-ghost use Rattle.gypsy_predef.specs.Texts.{instruction, constant, of_name, condition_area, named, number};
+ghost use Rattle.stack_text.specs.Grammar.Printed.{unplaced};
+ghost use Rattle.gypsy_predef.specs.Texts.{instruction, constant, of_name, condition_area, number};
 ghost use Rattle.gypsy_codegen.specs.Views.{labelled};
 ghost use Rattle.gypsy_codegen.specs.Written.{label_name, label_arg, name_in};
 
 use gypsy_predef::instruction_text;
-use gypsy_predef::instruction_text::{of_name, unplaced};
+use gypsy_predef::instruction_text::{number, of_name};
 use piton_syntax::{ArgText, InstrText, PitonOp, TestKind, WordItem, WordText};
 use stack_text::{Memory, Name, Named, read_name};
 use std::alloc::Global;
@@ -35,19 +36,9 @@ pub(crate) fn push_label(alloc: Global, args: &mut Vec<ArgText>, label: u32) -> 
 
 /// The name of the area that holds the condition.
 pub(crate) fn condition_area(alloc: Global) -> Result<Named, Memory>
-    ensures { IfOk result (λ name. name ≡ named condition_area) }
+    ensures { IfOk result (λ name. name ≡ unplaced condition_area) }
 {
-    instruction_text::named(alloc, b"c-c".as_slice())
-}
-
-/// A name that stands nowhere.
-pub(crate) fn named(name: &Name) -> Result<Named, Memory>
-    ensures { IfOk result (λ made. made ≡ named name.now) }
-{
-    Ok(Named {
-        place: 0,
-        name: name.clone()?,
-    })
+    Named::unplaced(alloc, b"c-c".as_slice())
 }
 
 /// A name of a table.
@@ -55,7 +46,7 @@ pub(crate) fn name_in(names: &[Name], at: usize) -> Result<Named, Memory>
     requires { at < length names.now }
     ensures { IfOk result (λ name. name ≡ name_in names.now at) }
 {
-    named(&names[at])
+    names[at].unplaced()
 }
 
 /// One more instruction.
@@ -97,7 +88,7 @@ pub(crate) fn of_number(
     ensures { OnOk result (instrs.new.items ≡
         instrs.old.items ++ instruction None op (arg.Number (number (pos count)) ∷ []) ∷ []) }
 {
-    let args = vec![in alloc; ArgText::Number(unplaced(count as i128))]?;
+    let args = vec![in alloc; ArgText::Number(number(count as i128))]?;
     put(alloc, instrs, None, op, args)
 }
 

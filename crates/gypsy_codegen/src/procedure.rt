@@ -5,7 +5,7 @@ ghost use Rattle.piton_words.specs.declared.word.Word.TheVariants.{Nat};
 ghost use Rattle.gypsy_syntax.specs.Programs.{body_of, shapes_of, words_of};
 ghost use Rattle.gypsy_syntax.specs.SourceView.{local_of, proc_of};
 ghost use Rattle.gypsy_space.specs.Nodes.{seen_proc, seen_program};
-ghost use Rattle.gypsy_predef.specs.Texts.{named};
+ghost use Rattle.stack_text.specs.Grammar.Printed.{unplaced};
 ghost use Rattle.gypsy_codegen.specs.Lines.{labels, lines_of, tail_lines};
 ghost use Rattle.gypsy_codegen.specs.Text.{frame_texts, procedure_with, temporaries_of};
 ghost use Rattle.gypsy_codegen.specs.Views.{IsReady, IsWritable, NamesAreThere, names_of, nameless};
@@ -14,9 +14,9 @@ ghost use Rattle.gypsy_codegen.specs.WordsOf.{starts};
 ghost use Rattle.gypsy_codegen.specs.Written.{written};
 
 use crate::context::{Context, Scopes, number_of, procedure_at};
-use crate::lines::{area, constant, jump, name_in, named, plain};
+use crate::lines::{area, constant, jump, name_in, plain};
 use crate::statement::statement;
-use gypsy_predef::instruction_text::unplaced;
+use gypsy_predef::instruction_text::number;
 use gypsy_space::{Condition, Procedure, Program};
 use gypsy_syntax::{Decl, Local, Proc};
 use piton_syntax::{InstrText, PitonOp, WordItem, WordText};
@@ -109,7 +109,7 @@ fn indexed(
     let mut temporaries = Vec::new(alloc);
     let mut first: u64 = 0;
     for (number, shape) in shapes.iter().enumerate() {
-        let item = WordItem::Nat(unplaced(first as i128));
+        let item = WordItem::Nat(number(first as i128));
         let name = name_in(names, number)?;
         temporaries.push((name, WordText { place: 0, item }))?;
         first += shape.item_count() as u64;
@@ -138,18 +138,18 @@ fn temporaries(
 
 /// The names as they stand in a text.
 fn named_all(alloc: Global, names: &[Name]) -> Result<Vec<Named>, Memory>
-    ensures { IfOk result (λ made. made.items ≡ map named names.now) }
+    ensures { IfOk result (λ made. made.items ≡ map unplaced names.now) }
 {
     let mut made = Vec::new(alloc);
     for name in names {
-        made.push(named(name)?)?;
+        made.push(name.unplaced()?)?;
     }
     Ok(made)
 }
 
 /// The formals: none of main, and elsewhere each variable.
 fn formals(alloc: Global, is_main: bool, names: &[Name]) -> Result<Vec<Named>, Memory>
-    ensures { IfOk result (λ formals. formals.items ≡ (if is_main then [] else map named names.now)) }
+    ensures { IfOk result (λ formals. formals.items ≡ (if is_main then [] else map unplaced names.now)) }
 {
     if is_main {
         Ok(Vec::new(alloc))
@@ -163,8 +163,8 @@ fn tail(alloc: Global, instrs: &mut Vec<InstrText>) -> Result<(), Memory>
     ensures { OnOk result (instrs.new.items ≡ instrs.old.items ++ map (written nameless) tail_lines) }
 {
     jump(alloc, instrs, 1)?;
-    let number = unplaced(number_of(Condition::Routine) as i128);
-    constant(alloc, instrs, Some(0), WordItem::Nat(number))?;
+    let item = WordItem::Nat(number(number_of(Condition::Routine) as i128));
+    constant(alloc, instrs, Some(0), item)?;
     area(alloc, instrs, PitonOp::PopGlobal)?;
     plain(alloc, instrs, Some(1), PitonOp::Ret)
 }
@@ -220,7 +220,7 @@ pub(crate) fn procedure(
     let temporaries = temporaries(alloc, is_main, frame.as_slice(), shapes.as_slice())?;
     Ok(piton_syntax::Program {
         place: 0,
-        name: named(&proc.name.name)?,
+        name: proc.name.name.unplaced()?,
         formals_place: 0,
         formals,
         temporaries,

@@ -19,7 +19,7 @@ use crate::apply::apply;
 use crate::calls::{after_call, before_call, push_local, raise};
 use crate::context::{Context, NORMAL, Scopes};
 use crate::lines::{area, constant, jump, plain, test};
-use gypsy_predef::instruction_text::unplaced;
+use gypsy_predef::instruction_text::number;
 use gypsy_space::{CallSite, Node};
 use piton_syntax::{InstrText, PitonOp, TestKind, WordItem};
 use stack_text::Memory;
@@ -30,7 +30,7 @@ use std::rc::Rc;
 fn normal(alloc: Global, instrs: &mut Vec<InstrText>, label: u32) -> Result<(), Memory>
     ensures { OnOk result (instrs.new.items ≡ instrs.old.items ++ normal_text label) }
 {
-    constant(alloc, instrs, Some(label), WordItem::Nat(unplaced(NORMAL)))?;
+    constant(alloc, instrs, Some(label), WordItem::Nat(number(NORMAL)))?;
     area(alloc, instrs, PitonOp::PopGlobal)
 }
 

@@ -12,11 +12,11 @@ ghost use Rattle.gypsy_codegen.specs.Text.{generated, procedures_with, program_t
 ghost use Rattle.gypsy_codegen.specs.Views.{AreWritable, area_text, opening_text};
 
 use crate::context::{NORMAL, procedure_at};
-use crate::lines::{condition_area, named};
+use crate::lines::condition_area;
 use crate::procedure::procedure;
 use crate::words::{formal_words, local_words};
 use gypsy_predef::bodies;
-use gypsy_predef::instruction_text::unplaced;
+use gypsy_predef::instruction_text::number;
 use gypsy_space::{Procedure, Program};
 use gypsy_syntax::{Proc, Source};
 use piton_syntax::{Area, Number, System, WordItem, WordText};
@@ -91,7 +91,7 @@ fn opening(alloc: Global, main: &Procedure) -> Result<Vec<WordText>, Memory>
 fn area(alloc: Global) -> Result<Area, Memory>
     ensures { IfOk result (λ area. area ≡ area_text) }
 {
-    let item = WordItem::Nat(unplaced(NORMAL));
+    let item = WordItem::Nat(number(NORMAL));
     Ok(Area {
         place: 0,
         name: condition_area(alloc)?,
@@ -103,7 +103,7 @@ fn area(alloc: Global) -> Result<Area, Memory>
 fn unplaced_size(size: u32) -> Number
     ensures { result ≡ number (pos size) }
 {
-    unplaced(size as i128)
+    number(size as i128)
 }
 
 /// The programs of a source, and the predefined ones behind them.
@@ -142,7 +142,7 @@ pub(crate) fn system(
 {
     Ok(System {
         place: 0,
-        main: named(&source.main.name)?,
+        main: source.main.name.unplaced()?,
         ctrl: unplaced_size(ctrl),
         temp: unplaced_size(temp),
         base: unplaced_size(base),

@@ -8,7 +8,7 @@ ghost use Rattle.gypsy_codegen.specs.Views.{nameless, word_texts};
 ghost use Rattle.gypsy_codegen.specs.WordsOf.{words_of_values, zero_value};
 ghost use Rattle.gypsy_codegen.specs.Written.{item_text};
 
-use gypsy_predef::instruction_text::unplaced;
+use gypsy_predef::instruction_text::number;
 use piton_syntax::{WordItem, WordText};
 use stack_text::{Kind, Memory, Name, Shape, Value};
 
@@ -18,7 +18,7 @@ pub(crate) fn word_item(kind: Kind, item: i32) -> WordItem
 {
     match kind {
         Kind::Boolean => WordItem::Bool(item == 1),
-        Kind::Integer | Kind::Character => WordItem::Int(unplaced(item as i128)),
+        Kind::Integer | Kind::Character => WordItem::Int(number(item as i128)),
     }
 }
 

@@ -14,6 +14,7 @@ use Rattle.piton_syntax.specs.Operations as operations
 use Rattle.piton_syntax.specs.Operations.{op_arguments}
 use Rattle.piton_syntax.specs.Systems.{InstrOf}
 use Rattle.stack_text.specs.Grammar.Parts.{IsNamed}
+use Rattle.stack_text.specs.Grammar.Printed.{unplaced}
 use Rattle.piton_syntax.specs.Fits.{FitsArguments, FitsInstruction, FitsTemporary}
 use Rattle.gypsy_syntax.specs.declared.predef.Predef.{Predef}
 use Rattle.gypsy_syntax.specs.declared.predef.Predef.TheVariants as row
@@ -23,7 +24,7 @@ use Rattle.gypsy_predef.specs.declared.line.Local.TheVariants as local
 use Rattle.gypsy_predef.specs.declared.line.Line.{Line}
 use Rattle.gypsy_predef.specs.declared.line.Line.TheVariants as line
 use Rattle.gypsy_predef.specs.Resolving.{BodiesFit}
-use Rattle.gypsy_predef.specs.Texts.{local_name, lines_of, formals_of, has_temporary, named, plain, of_name, constant, fail_label, condition_area}
+use Rattle.gypsy_predef.specs.Texts.{local_name, lines_of, formals_of, has_temporary, plain, of_name, constant, fail_label, condition_area}
 use Rattle.gypsy_predef.specs.Texts.{line_text, temporary, temporaries_text, named_local}
 
 -- ---- names
@@ -68,7 +69,7 @@ abbrev LineFits : Line → Type 0
 LineFits (line.Local o x) = op_arguments o ≡ One kind.Local
 LineFits (line.Plain o) = op_arguments o ≡ Zero
 LineFits (line.Integer z) = IsTrue (fits_128_bits z)
-LineFits (line.Test o k) = FitsArguments (op_arguments o) (arg.Test k ∷ arg.Name (named fail_label) ∷ [])
+LineFits (line.Test o k) = FitsArguments (op_arguments o) (arg.Test k ∷ arg.Name (unplaced fail_label) ∷ [])
 LineFits _ = Unit {0}
 
 local_fits : (o : PitonOp) (x : Local) → op_arguments o ≡ One kind.Local → FitsInstruction (of_name o (local_name x))
@@ -93,7 +94,7 @@ line_fits (line.Truth b) h = alone _ (record { label = tt; args = tt })
 line_fits (line.Integer z) h = alone _ (record { label = tt; args = h })
 line_fits (line.Test o k) h = alone _ (record { label = tt; args = h })
 line_fits line.Fail h =
-    All-cons FitsInstruction (constant (Some (named fail_label)) (item.Nat record { place = 0; number = pos 1 })) (of_name op.PopGlobal condition_area ∷ plain op.Ret ∷ []) (record { label = refl; args = lit< tt })
+    All-cons FitsInstruction (constant (Some (unplaced fail_label)) (item.Nat record { place = 0; number = pos 1 })) (of_name op.PopGlobal condition_area ∷ plain op.Ret ∷ []) (record { label = refl; args = lit< tt })
     (both (of_name op.PopGlobal condition_area) (plain op.Ret) (record { label = tt; args = refl }) (plain_fits op.Ret refl))
 
 abbrev LinesFit : List Line → Type 0

@@ -1,32 +1,20 @@
 //! Instructions of a text, put one behind the other. All their places are 0.
 
-ghost use Rattle.std.specs.Prelude.{◌≡◌, ◌++◌, [], ◌∷◌, IfOk, IsTrue, None, OnOk};
-ghost use Rattle.stack_text.specs.Names.{is_name};
+ghost use Rattle.std.specs.Prelude.{◌≡◌, ◌++◌, [], ◌∷◌, None, OnOk};
 ghost use Rattle.piton_syntax.specs.declared.argument.ArgText.TheVariants as arg;
-ghost use Rattle.gypsy_predef.specs.Texts.{constant, instruction, named, number};
+ghost use Rattle.gypsy_predef.specs.Texts.{constant, instruction, number};
 
 use piton_syntax::{ArgText, InstrText, Number, PitonOp, TestKind, WordItem, WordText};
-use stack_text::{Memory, Named, read_name};
+use stack_text::{Memory, Named};
 use std::alloc::Global;
 
 /// A number.
-pub fn unplaced(value: i128) -> Number
+pub fn number(value: i128) -> Number
     ensures { result ≡ number value }
 {
     Number {
         place: 0,
         number: value,
-    }
-}
-
-/// A name of these bytes.
-pub fn named(alloc: Global, bytes: &[u8]) -> Result<Named, Memory>
-    requires { IsTrue (is_name bytes.now) }
-    ensures { IfOk result (λ name. name ≡ named bytes.now) }
-{
-    match read_name(alloc, bytes)? {
-        Some(name) => Ok(Named { place: 0, name }),
-        None => unreachable!(),
     }
 }
 

@@ -2,12 +2,13 @@
 
 ghost use Rattle.std.specs.Prelude.{◌≡◌, ◌++◌, IfOk, OnOk, [], ◌∷◌, map};
 ghost use Rattle.std.specs.List.{flat_map};
+ghost use Rattle.stack_text.specs.Grammar.Printed.{unplaced};
 ghost use Rattle.gypsy_predef.specs.declared.line.Line.TheVariants.{Get, Put, Fail};
 ghost use Rattle.gypsy_predef.specs.Resolving.{DoTheirRows};
 ghost use Rattle.gypsy_predef.specs.Texts.{body_text, body_texts, line_text, named_local, temporaries_text};
-ghost use Rattle.gypsy_predef.specs.Texts.{fail_label, local_name, named, of_name};
+ghost use Rattle.gypsy_predef.specs.Texts.{fail_label, local_name, of_name};
 
-use crate::instruction_text::{constant, named, of_name, plain, test, unplaced};
+use crate::instruction_text::{constant, number, of_name, plain, test};
 use crate::line::{Line, Local, local_name};
 use crate::rows::{formals_of, has_temporary, lines_of, program_name};
 use gypsy_syntax::Predef;
@@ -27,14 +28,19 @@ fn of_local(
 ) -> Result<(), Memory>
     ensures { OnOk result (instrs.new.items ≡ instrs.old.items ++ of_name op (local_name local) ∷ []) }
 {
-    of_name(alloc, instrs, op, named(alloc, local_name(local))?)
+    of_name(
+        alloc,
+        instrs,
+        op,
+        Named::unplaced(alloc, local_name(local))?,
+    )
 }
 
 /// The label of `fail`.
 fn fail_label(alloc: Global) -> Result<Named, Memory>
-    ensures { IfOk result (λ name. name ≡ named fail_label) }
+    ensures { IfOk result (λ name. name ≡ unplaced fail_label) }
 {
-    named(alloc, b"L0".as_slice())
+    Named::unplaced(alloc, b"L0".as_slice())
 }
 
 /// `get x`.
@@ -58,9 +64,9 @@ fn fail(alloc: Global, instrs: &mut Vec<InstrText>) -> Result<(), Memory>
     ensures { OnOk result (instrs.new.items ≡ instrs.old.items ++ line_text Fail) }
 {
     let label = fail_label(alloc)?;
-    let number = unplaced(ROUTINE_ERROR);
-    constant(alloc, instrs, Some(label), WordItem::Nat(number))?;
-    let area = named(alloc, b"c-c".as_slice())?;
+    let item = WordItem::Nat(number(ROUTINE_ERROR));
+    constant(alloc, instrs, Some(label), item)?;
+    let area = Named::unplaced(alloc, b"c-c".as_slice())?;
     of_name(alloc, instrs, PitonOp::PopGlobal, area)?;
     plain(alloc, instrs, None, PitonOp::Ret)
 }
@@ -75,7 +81,7 @@ fn line(alloc: Global, instrs: &mut Vec<InstrText>, line: Line) -> Result<(), Me
         Line::Local(op, local) => of_local(alloc, instrs, op, local),
         Line::Plain(op) => plain(alloc, instrs, None, op),
         Line::Truth(truth) => constant(alloc, instrs, None, WordItem::Bool(truth)),
-        Line::Integer(number) => constant(alloc, instrs, None, WordItem::Int(unplaced(number))),
+        Line::Integer(value) => constant(alloc, instrs, None, WordItem::Int(number(value))),
         Line::Test(op, kind) => test(alloc, instrs, op, kind, fail_label(alloc)?),
         Line::Fail => fail(alloc, instrs),
     }
@@ -98,7 +104,7 @@ fn names(alloc: Global, locals: &[Local]) -> Result<Vec<Named>, Memory>
 {
     let mut names = Vec::new(alloc);
     for local in locals {
-        names.push(named(alloc, local_name(*local))?)?;
+        names.push(Named::unplaced(alloc, local_name(*local))?)?;
     }
     Ok(names)
 }
@@ -111,9 +117,9 @@ fn temporaries(alloc: Global, row: Predef) -> Result<Vec<(Named, WordText)>, Mem
     if has_temporary(row) {
         let word = WordText {
             place: 0,
-            item: WordItem::Int(unplaced(0)),
+            item: WordItem::Int(number(0)),
         };
-        temporaries.push((named(alloc, local_name(Local::T))?, word))?;
+        temporaries.push((Named::unplaced(alloc, local_name(Local::T))?, word))?;
     }
     Ok(temporaries)
 }
@@ -122,7 +128,7 @@ fn temporaries(alloc: Global, row: Predef) -> Result<Vec<(Named, WordText)>, Mem
 fn body(alloc: Global, row: Predef) -> Result<Program, Memory>
     ensures { IfOk result (λ program. program ≡ body_text row) }
 {
-    let name = named(alloc, program_name(row))?;
+    let name = Named::unplaced(alloc, program_name(row))?;
     let formals = names(alloc, formals_of(row))?;
     let temporaries = temporaries(alloc, row)?;
     let instrs = instructions(alloc, lines_of(row))?;

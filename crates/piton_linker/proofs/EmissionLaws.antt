@@ -15,7 +15,7 @@ use Rattle.piton_machine.specs.Templates.{pieces_of, pieces_by, pieces_at, prelu
 use Rattle.piton_machine.proofs.SizeLaws.{length-words_of, length-template, length-prelude_pieces, length-prelude_words, length-instructions_words, length-programs_words}
 use Rattle.piton_machine.proofs.AddressLaws.{program_there}
 use Rattle.piton_machine.proofs.ReadyLaws.{place_below, programs_end}
-use Rattle.piton_linker.specs.Tables.{TableOf, starts, table_of, words_at, IsNamed}
+use Rattle.piton_linker.specs.Tables.{TableOf, starts, table_of, words_at, PieceExists}
 use Rattle.piton_linker.proofs.NameLaws.{pieces_named, prelude_named}
 
 -- the instruction at a place
@@ -26,7 +26,7 @@ found_at (x ∷ is) (suc k) h = found_at is k (omega arith)
 
 -- the pieces at a place
 pub record PlaceKnown (s : SystemView) (program place : ℕ) : Type 0 where
-  pub named : Each (IsNamed s) (pieces_at s program place)
+  pub named : Each (PieceExists s) (pieces_at s program place)
   pub room : address_of_place s program place + length (pieces_at s program place) ≤ final_pc_of s
 
 sum_within : (is : List Instruction) (k : ℕ) (x : Instruction) → slice_get is k ≡ Some x → instructions_size (take k is) + instruction_size x ≤ instructions_size is
@@ -48,13 +48,13 @@ place_known s sound program place h =
     let inside = sum_within (program_of s program).instructions place x same in
     let end : at + length pieces ≤ final_pc_of s = omega arith in
     record {
-      named = subst (λ o. Each (IsNamed s) (pieces_by s program place o)) (sym same) (pieces_named s program place locals x ((known s sound).instructions program place x same));
+      named = subst (λ o. Each (PieceExists s) (pieces_by s program place o)) (sym same) (pieces_named s program place locals x ((known s sound).instructions program place x same));
       room = subst (λ o. at + length (pieces_by s program place o) ≤ final_pc_of s) (sym same) end;
     }
 
 -- the pieces of a prelude
 pub record PreludeKnown (s : SystemView) (program : ℕ) : Type 0 where
-  pub named : Each (IsNamed s) (prelude_pieces (program_of s program))
+  pub named : Each (PieceExists s) (prelude_pieces (program_of s program))
   pub room : entry_of s program + length (prelude_pieces (program_of s program)) ≤ final_pc_of s
 
 pub prelude_known : (s : SystemView) → IsSound s → (program : ℕ) → program < length s.programs → PreludeKnown s program

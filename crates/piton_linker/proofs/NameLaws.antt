@@ -15,9 +15,9 @@ use Rattle.piton_check.specs.declared.piece.Piece.{Piece}
 use Rattle.piton_check.specs.declared.piece.Piece.TheVariants.{Code, Place}
 use Rattle.piton_machine.specs.Templates.{word_piece, code_pieces, literal_pieces, jump_case_pieces, pieces_of, temporary_pieces, prelude_pieces}
 use Rattle.piton_machine.specs.Templates.{word_of, words_of}
-use Rattle.piton_linker.specs.Tables.{IsNamed}
+use Rattle.piton_linker.specs.Tables.{PieceExists}
 
-pub word_named : (s : SystemView) (w : Word) → IsWordOf s w → IsNamed s (word_piece w)
+pub word_named : (s : SystemView) (w : Word) → IsWordOf s w → PieceExists s (word_piece w)
 word_named s (Int z) h = tt
 word_named s (Nat n) h = tt
 word_named s (Bitv n) h = tt
@@ -26,15 +26,15 @@ word_named s (Addr area offset) h = h
 word_named s (Pc program place) h = h
 word_named s (Subr program) h = h
 
-codes_named : (s : SystemView) (words : List ℕ) → Each (IsNamed s) (code_pieces words)
+codes_named : (s : SystemView) (words : List ℕ) → Each (PieceExists s) (code_pieces words)
 codes_named s [] = tt
 codes_named s (w ∷ words) = (tt, codes_named s words)
 
-places_named : (s : SystemView) (program : ℕ) (places : List ℕ) → Each (IsPlace s program) places → Each (IsNamed s) (map (λ to. Place program to) places)
+places_named : (s : SystemView) (program : ℕ) (places : List ℕ) → Each (IsPlace s program) places → Each (PieceExists s) (map (λ to. Place program to) places)
 places_named s program [] h = tt
 places_named s program (to ∷ places) h = (h.0, places_named s program places h.1)
 
-pub pieces_named : (s : SystemView) (program place locals : ℕ) (instruction : Instruction) → IsInstructionOf s program place instruction → Each (IsNamed s) (pieces_of program place locals instruction)
+pub pieces_named : (s : SystemView) (program place locals : ℕ) (instruction : Instruction) → IsInstructionOf s program place instruction → Each (PieceExists s) (pieces_of program place locals instruction)
 pieces_named s program place locals (i.PushConstant w) h = (tt, (word_named s w h.0, tt))
 pieces_named s program place locals (i.PushLocal k) h = (tt, (tt, (tt, (tt, tt))))
 pieces_named s program place locals (i.PopLocal k) h = (tt, (tt, (tt, (tt, tt))))
@@ -65,19 +65,19 @@ pieces_named s program place locals i.PopCall h = (tt, (tt, (h, (tt, tt))))
 pieces_named s program place locals i.Ret h = (tt, (tt, (tt, (tt, (tt, tt)))))
 pieces_named s program place locals (i.Apply o) h = codes_named s (operation_code o)
 
-temporaries_named : (s : SystemView) (ws : List Word) → Each (IsWordOf s) ws → Each (IsNamed s) (temporary_pieces ws)
+temporaries_named : (s : SystemView) (ws : List Word) → Each (IsWordOf s) ws → Each (PieceExists s) (temporary_pieces ws)
 temporaries_named s [] h = tt
 temporaries_named s (w ∷ ws) h =
-    each_append (IsNamed s) (temporary_pieces ws) (literal_pieces (mov (push 1) literal) (word_piece w)) (temporaries_named s ws h.1) (tt, (word_named s w h.0, tt))
+    each_append (PieceExists s) (temporary_pieces ws) (literal_pieces (mov (push 1) literal) (word_piece w)) (temporaries_named s ws h.1) (tt, (word_named s w h.0, tt))
 
-formals_named : (s : SystemView) (n word : ℕ) → Each (IsNamed s) (replicate n (Code word))
+formals_named : (s : SystemView) (n word : ℕ) → Each (PieceExists s) (replicate n (Code word))
 formals_named s zero word = tt
 formals_named s (suc n) word = (tt, formals_named s n word)
 
-pub prelude_named : (s : SystemView) (p : ProgramView) → Each (IsWordOf s) p.temporaries → Each (IsNamed s) (prelude_pieces p)
+pub prelude_named : (s : SystemView) (p : ProgramView) → Each (IsWordOf s) p.temporaries → Each (PieceExists s) (prelude_pieces p)
 prelude_named s p h =
     let formals = replicate p.formals (Code (mov (push 1) (pop 2))) in
-    (tt, each_append (IsNamed s) (temporary_pieces p.temporaries) _ (temporaries_named s p.temporaries h) (each_append (IsNamed s) formals _ (formals_named s p.formals _) (tt, tt)))
+    (tt, each_append (PieceExists s) (temporary_pieces p.temporaries) _ (temporaries_named s p.temporaries h) (each_append (PieceExists s) formals _ (formals_named s p.formals _) (tt, tt)))
 
 -- one piece more
 pub words_more : (s : SystemView) (a k : ℕ) (ps : List Piece) (p : Piece) → slice_get ps k ≡ Some p → words_of (addresses_of s) a (take (k + 1) ps) ≡ words_of (addresses_of s) a (take k ps) ++ word_of (addresses_of s) (a + k) p ∷ []

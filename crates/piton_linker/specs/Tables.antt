@@ -42,11 +42,11 @@ table_of s = record {
 }
 
 -- what a piece names is in the system
-abbrev pub IsNamed : SystemView → Piece → Type 0
-IsNamed s (Place program place) = IsPlace s program place
-IsNamed s (Entry program) = program < length s.programs
-IsNamed s (Area area offset) = offset < get_or (map length s.areas) area 0
-IsNamed s piece = Unit {0}
+abbrev pub PieceExists : SystemView → Piece → Type 0
+PieceExists s (Place program place) = IsPlace s program place
+PieceExists s (Entry program) = program < length s.programs
+PieceExists s (Area area offset) = offset < get_or (map length s.areas) area 0
+PieceExists s piece = Unit {0}
 
 -- the address of a place in a table's rows
 abbrev pub place_by : Option (List ℕ) → ℕ → Option ℕ

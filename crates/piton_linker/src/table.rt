@@ -6,7 +6,7 @@ ghost use Rattle.piton_machine.specs.Fits.{IsPlace};
 ghost use Rattle.piton_machine.specs.Stacked.{words_in};
 ghost use Rattle.piton_machine.specs.Placed.{instruction_size, instructions_size, program_size, programs_size, areas_size, entry_of, address_of_place, address_of_area, end_of, addresses_of};
 ghost use Rattle.piton_linker.specs.Layouts.{layout_of};
-ghost use Rattle.piton_linker.specs.Tables.{starts, place_rows, table_of, place_in, IsNamed};
+ghost use Rattle.piton_linker.specs.Tables.{starts, place_rows, table_of, place_in, PieceExists};
 ghost use Rattle.piton_machine.specs.Templates.{word_of};
 
 use crate::placement::Layout;
@@ -143,7 +143,7 @@ fn area(table: &Table, area: u32) -> Option<u32>
 pub(crate) fn word(table: &Table, _checked: &Resolved, at: u32, piece: Piece) -> u32
     requires table { table.now ≡ table_of (system_view _checked.now) }
     requires fits { end_of (system_view _checked.now) < 2 ^ 32 }
-    requires named { IsNamed (system_view _checked.now) piece }
+    requires named { PieceExists (system_view _checked.now) piece }
     requires room { at + 2 < 2 ^ 32 }
     ensures { result ≡ word_of (addresses_of (system_view _checked.now)) at piece }
 {

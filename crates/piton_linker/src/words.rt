@@ -7,7 +7,7 @@ ghost use Rattle.piton_machine.specs.State.{program_of};
 ghost use Rattle.piton_machine.specs.Placed.{entry_of, address_of_place, end_of, addresses_of};
 ghost use Rattle.piton_machine.specs.Templates.{prelude_words, program_words, programs_words, pieces_at};
 ghost use Rattle.piton_machine.specs.Templates.{words_of, pieces_at};
-ghost use Rattle.piton_linker.specs.Tables.{table_of, words_at, IsNamed};
+ghost use Rattle.piton_linker.specs.Tables.{table_of, words_at, PieceExists};
 
 use crate::table::{Table, word};
 use piton_check::{Checked, Piece, Resolved};
@@ -25,7 +25,7 @@ pub(crate) fn append(
 ) -> Result<(), Memory>
     requires table { table.now ≡ table_of (system_view checked.now) }
     requires fits { end_of (system_view checked.now) < 2 ^ 32 }
-    requires named { Each (IsNamed (system_view checked.now)) pieces.now }
+    requires named { Each (PieceExists (system_view checked.now)) pieces.now }
     requires room { (system_view checked.now).base + length words.old.items + length pieces.now + 2 < 2 ^ 32 }
     ensures { OnOk result (words.new.items
         ≡ words.old.items ++ words_of (addresses_of (system_view checked.now))

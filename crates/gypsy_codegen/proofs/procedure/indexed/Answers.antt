@@ -3,10 +3,10 @@ use Rattle.stack_text.proofs.Loops.{drop-item}
 use Rattle.stack_text.specs.Values.{item_count}
 use Rattle.stack_text.specs.declared.name.Named.{Named}
 use Rattle.stack_text.specs.declared.shape.Shape.{Shape}
+use Rattle.stack_text.specs.Grammar.Printed.{unplaced}
 use Rattle.piton_syntax.specs.declared.word_text.WordText.{WordText}
 use Rattle.piton_words.specs.declared.word.Word.TheVariants.{Nat}
 use Rattle.gypsy_syntax.specs.Programs.{words_of}
-use Rattle.gypsy_predef.specs.Texts.{named}
 use Rattle.gypsy_codegen.specs.Text.{temporaries_of}
 use Rattle.gypsy_codegen.specs.Views.{nameless}
 use Rattle.gypsy_codegen.specs.WordsOf.{starts}
@@ -16,14 +16,14 @@ use Rattle.gypsy_codegen.proofs.procedure.indexed.Goals as goal
 
 next_one : (names : List (List ℕ)) (shapes : List Shape) (k at size : ℕ) (d : Shape) → k < length names → k < length shapes → size ≡ item_count (get_or shapes k d) →
     temporaries_of nameless (drop k names) (map (λ i. Nat i) (starts at (drop k shapes)))
-    ≡ (named (get_or names k []), written_word nameless (Nat at)) ∷ temporaries_of nameless (drop (k + 1) names) (map (λ i. Nat i) (starts (at + size) (drop (k + 1) shapes)))
+    ≡ (unplaced (get_or names k []), written_word nameless (Nat at)) ∷ temporaries_of nameless (drop (k + 1) names) (map (λ i. Nat i) (starts (at + size) (drop (k + 1) shapes)))
 next_one names shapes k at size d lt there is =
     let n : List ℕ = get_or names k [] in
     let s : Shape = get_or shapes k d in
     let left : List (List ℕ) = drop (k + 1) names in
     let rest : List Shape = drop (k + 1) shapes in
     ap₂ (λ (ns : List (List ℕ)) (ss : List Shape). temporaries_of nameless ns (map (λ i. Nat i) (starts at ss))) (drop-item names k n lt (item_is names k [] n lt)) (drop-item shapes k s there (item_is shapes k d s there))
-    ∙ ap (λ (m : ℕ). (named n, written_word nameless (Nat at)) ∷ temporaries_of nameless left (map (λ i. Nat i) (starts (at + m) rest))) (sym is)
+    ∙ ap (λ (m : ℕ). (unplaced n, written_word nameless (Nat at)) ∷ temporaries_of nameless left (map (λ i. Nat i) (starts (at + m) rest))) (sym is)
 
 fewer_words : (shapes : List Shape) (k size : ℕ) (d : Shape) → k < length shapes → size ≡ item_count (get_or shapes k d) →
     words_of (drop k shapes) ≡ size + words_of (drop (k + 1) shapes)
@@ -42,12 +42,12 @@ loop-number-preserved c =
     let lt : k < length names = omega (arith, there, c.requires.each) in
     let words : words_of (drop k shapes) ≡ size + words_of (drop (k + 1) shapes) = fewer_words shapes k size _ there c.item_count.ensures in
     let made = c.loop-number.temporaries.items in
-    let pushed : c.push.new.self.items ≡ made ++ (named (get_or names k []), written_word nameless (Nat at)) ∷ [] = search rules in
+    let pushed : c.push.new.self.items ≡ made ++ (unplaced (get_or names k []), written_word nameless (Nat at)) ∷ [] = search rules in
     let rest : List (Named × WordText) = temporaries_of nameless (drop (k + 1) names) (map (λ i. Nat i) (starts (at + size) (drop (k + 1) shapes))) in
     record {
       words = omega (arith, words, c.loop-number.invariant.words);
       made =
-          ap (λ (z : List (Named × WordText)). z ++ rest) pushed ∙ append_assoc made ((named (get_or names k []), written_word nameless (Nat at)) ∷ []) rest
+          ap (λ (z : List (Named × WordText)). z ++ rest) pushed ∙ append_assoc made ((unplaced (get_or names k []), written_word nameless (Nat at)) ∷ []) rest
           ∙ ap (λ (z : List (Named × WordText)). made ++ z) (sym (next_one names shapes k at size _ lt there c.item_count.ensures))
           ∙ c.loop-number.invariant.made;
     }

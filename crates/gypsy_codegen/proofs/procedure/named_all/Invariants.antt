@@ -1,6 +1,6 @@
 use Rattle.std.proofs.Common.{◌≡◌, ◌++◌, map, drop}
-use Rattle.gypsy_predef.specs.Texts.{named}
+use Rattle.stack_text.specs.Grammar.Printed.{unplaced}
 use Rattle.gypsy_codegen.proofs.procedure.named_all.Given as goal
 
 abbrev pub invariant-loop-name : goal.invariant-loop-name
-invariant-loop-name l = l.made.items ++ map named (drop l.name-index l.names) ≡ map named l.names
+invariant-loop-name l = l.made.items ++ map unplaced (drop l.name-index l.names) ≡ map unplaced l.names

@@ -13,7 +13,7 @@ returns c =
     let temporaries = c.in_ok-temporaries.ensures in
     let instrs = c.in_ok-instrs.ensures in
     procedure_is q c.args.programs.now c.args.number (proc_of c.args.proc.now) (c.args.number == q.main) c.in_ok-frame.frame.items c.in_ok-shapes.shapes.items
-    c.in_ok-named.field-0 c.in_ok-formals.formals.items c.in_ok-temporaries.temporaries.items c.in_ok-instrs.instrs.items
-    refl c.in_ok-frame.ensures (c.in_ok-shapes.ensures ∙ ap shapes_of c.procedure_at.ensures) c.in_ok-named.ensures
+    c.in_ok-unplaced.field-0 c.in_ok-formals.formals.items c.in_ok-temporaries.temporaries.items c.in_ok-instrs.instrs.items
+    refl c.in_ok-frame.ensures (c.in_ok-shapes.ensures ∙ ap shapes_of c.procedure_at.ensures) c.in_ok-unplaced.ensures
     (rw c.as_slice-3.ensures.value at formals) (rw (c.as_slice-4.ensures.value, c.as_slice-5.ensures.value) at temporaries)
     (rw c.as_slice-2.ensures.value at instrs)

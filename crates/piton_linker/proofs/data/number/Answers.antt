@@ -3,14 +3,14 @@ use Rattle.piton_machine.specs.Placed.{addresses_of}
 use Rattle.piton_check.specs.Instruction.{system_view}
 use Rattle.piton_machine.specs.Templates.{word_of}
 use Rattle.piton_machine.proofs.PieceLaws.{word_is}
-use Rattle.piton_linker.specs.Tables.{IsNamed}
+use Rattle.piton_linker.specs.Tables.{PieceExists}
 use Rattle.piton_linker.proofs.NameLaws.{word_named}
 use Rattle.piton_linker.proofs.data.number.Goals as goal
 
 pub word-requires-clause-named : goal.word-requires-clause-named
 word-requires-clause-named c =
     let s = system_view c.args.checked.now in
-    subst (IsNamed s) (sym c.word_piece.ensures) (word_named s c.args.item c.requires.there)
+    subst (PieceExists s) (sym c.word_piece.ensures) (word_named s c.args.item c.requires.there)
 
 pub returns : goal.returns
 returns c =

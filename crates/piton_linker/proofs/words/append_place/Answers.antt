@@ -7,7 +7,7 @@ use Rattle.piton_machine.specs.Placed.{address_of_place, addresses_of}
 use Rattle.piton_machine.specs.Templates.{pieces_at}
 use Rattle.piton_linker.proofs.EmissionLaws.{place_known}
 use Rattle.piton_machine.specs.Templates.{words_of}
-use Rattle.piton_linker.specs.Tables.{IsNamed}
+use Rattle.piton_linker.specs.Tables.{PieceExists}
 use Rattle.piton_linker.proofs.words.append_place.Goals as goal
 
 pub append-requires-clause-named : goal.append-requires-clause-named
@@ -16,7 +16,7 @@ append-requires-clause-named c =
     let value = c.resolved.ensures.value in
     let known = place_known s c.resolved.ensures.checked.sound c.args.program c.args.place c.requires.there in
     let pieces : c.as_slice.result.now ≡ pieces_at s c.args.program c.args.place = c.as_slice.ensures.value ∙ c.in_ok-pieces.ensures in
-    subst (λ (u : ResolvedOf). Each (IsNamed (system_view u)) c.as_slice.result.now) (sym value) (subst (Each (IsNamed s)) (sym pieces) known.named)
+    subst (λ (u : ResolvedOf). Each (PieceExists (system_view u)) c.as_slice.result.now) (sym value) (subst (Each (PieceExists s)) (sym pieces) known.named)
 
 pub append-requires-clause-room : goal.append-requires-clause-room
 append-requires-clause-room c =

@@ -8,7 +8,7 @@ use Rattle.piton_machine.specs.Placed.{entry_of, addresses_of}
 use Rattle.piton_machine.specs.Templates.{prelude_pieces}
 use Rattle.piton_linker.proofs.EmissionLaws.{prelude_known}
 use Rattle.piton_machine.specs.Templates.{words_of}
-use Rattle.piton_linker.specs.Tables.{IsNamed}
+use Rattle.piton_linker.specs.Tables.{PieceExists}
 use Rattle.piton_linker.proofs.words.append_prelude.Goals as goal
 
 pub append-requires-clause-named : goal.append-requires-clause-named
@@ -17,7 +17,7 @@ append-requires-clause-named c =
     let value = c.resolved.ensures.value in
     let known = prelude_known s c.resolved.ensures.checked.sound c.args.program c.requires.there in
     let pieces : c.as_slice.result.now ≡ prelude_pieces (program_of s c.args.program) = c.as_slice.ensures.value ∙ c.in_ok-pieces.ensures in
-    subst (λ (u : ResolvedOf). Each (IsNamed (system_view u)) c.as_slice.result.now) (sym value) (subst (Each (IsNamed s)) (sym pieces) known.named)
+    subst (λ (u : ResolvedOf). Each (PieceExists (system_view u)) c.as_slice.result.now) (sym value) (subst (Each (PieceExists s)) (sym pieces) known.named)
 
 pub append-requires-clause-room : goal.append-requires-clause-room
 append-requires-clause-room c =
