@@ -69,7 +69,8 @@ passing_on = record {
   main = unplaced (codes "main");
   procs =
       procedure_text (codes "main")
-      (record { name = unplaced (codes "x"); shape = record { place = 0; kind = Integer; length = None } } ∷ []) [] (unplaced (codes "oops") ∷ [])
+      (record { name = unplaced (codes "x"); shape = record { place = 0; kind = Integer; length = None } } ∷ []) []
+      (unplaced (codes "oops") ∷ [])
       (begin 0 (call 0 (unplaced (codes "p")) 0 [] 0 (unplaced (codes "oops") ∷ [])) (unplaced (codes "oops") ∷ [])
       (predef 0 row.MgSimpleConstantAssignment (variable (unplaced (codes "x")) ∷ constant (integer 0 (pos 5)) ∷ []))) ∷
       procedure_text (codes "p") [] (unplaced (codes "bad") ∷ []) [] (signal 0 (unplaced (codes "bad"))) ∷ [];
