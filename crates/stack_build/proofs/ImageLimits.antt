@@ -41,8 +41,7 @@ use Rattle.piton_linker.specs.Layouts.{trimmed}
 use Rattle.gypsy_codegen.proofs.StackLaws.{values_words}
 use Rattle.stack_build.specs.Formals.{formals_in, conditions_in, shown_formals, shown_conditions}
 use Rattle.stack_build.specs.Image.{slots_from, image_with}
-use Rattle.stack_build.specs.Showing.{AreShort, items_of, Shows}
-use Rattle.stack_build.proofs.Storing.{shapes_in}
+use Rattle.stack_build.specs.Showing.{AreShort, shapes_in, Shows}
 use Rattle.stack_build.proofs.Windows.{shorter}
 use Rattle.stack_build.proofs.MainLaws.{IsMain, main_is, zero_values}
 
@@ -101,7 +100,7 @@ names-slots_from a (d ∷ ds) = ap (λ (names : List (List ℕ)). d.name.name �
 
 -- slots from an address down fit a window that has all their items
 each_fits : (window : Window) (a : ℕ) (ds : List Decl) → list_all is_name (map (λ (d : Decl). d.name.name) ds) ≡ true → AreShort ds →
-    window.base + items_of ds ≤ a + 1 → a < window.base + window.size → list_all (fits_window window) (slots_from a ds) ≡ true
+    window.base + words_of (shapes_in ds) ≤ a + 1 → a < window.base + window.size → list_all (fits_window window) (slots_from a ds) ≡ true
 each_fits window a [] named few low high = refl
 each_fits window a (d ∷ ds) named few low high =
     let p = and_parts (is_name d.name.name) (list_all is_name (map (λ (d : Decl). d.name.name) ds)) named in
@@ -141,10 +140,6 @@ shorts : (ds : List Decl) → Each (λ (s : Shape). s.length ≤ 4096) (shapes_i
 shorts [] h = tt
 shorts (d ∷ ds) h = (h.0, shorts ds h.1)
 
-items_are : (ds : List Decl) → words_of (shapes_in ds) ≡ items_of ds
-items_are [] = refl
-items_are (d ∷ ds) = ap (λ (n : ℕ). item_count (shape_of d.shape) + n) (items_are ds)
-
 words_front : (a b : List Shape) → words_of a ≤ words_of (a ++ b)
 words_front [] b = omega arith
 words_front (s ∷ a) b = omega (arith, words_front a b)
@@ -165,8 +160,7 @@ main_shows s sizes base p accepted main =
       formals_differ = formals_differ s p main.rules;
       formals_few = omega arith;
       formals_short = shorts p.formals (subst (Each (λ (s : Shape). s.length ≤ 4096)) formals here.formals);
-      formals_stand = subst (λ (n : ℕ). n ≤ length (words_of_values (map zero_value c.formals ++ c.locals))) (items_are p.formals)
-          (subst (λ (shapes : List Shape). words_of shapes ≤ length (words_of_values (map zero_value c.formals ++ c.locals))) formals stand);
+      formals_stand = subst (λ (shapes : List Shape). words_of shapes ≤ length (words_of_values (map zero_value c.formals ++ c.locals))) formals stand;
       conditions_named = all_named IsNamed (λ (n : Named). n.name) (λ n h. h) p.conds main.form.conds;
       conditions_differ = conditions_differ s p main.rules;
       conditions_few = omega (arith, few_conds, length-map p.conds (λ (n : Named). n.name));

@@ -29,7 +29,7 @@ use Rattle.stack_build.specs.Formals.{formals_in, conditions_in, main_of}
 use Rattle.stack_build.specs.Image.{image_with, image_of}
 use Rattle.stack_build.specs.Implements.{variable_shown, way_shown, ComesTo, Implements}
 use Rattle.stack_build.specs.Joined.{GeneratedImageImplements}
-use Rattle.stack_build.proofs.Storing.{shapes_in}
+use Rattle.stack_build.specs.Showing.{shapes_in}
 use Rattle.stack_build.proofs.Ending.{ends_well, way_read}
 use Rattle.stack_build.proofs.Joining.{image_comes}
 use Rattle.stack_build.proofs.MainLaws.{IsMain, main_is, zero_values}

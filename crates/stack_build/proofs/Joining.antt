@@ -30,7 +30,8 @@ use Rattle.gypsy_codegen.specs.Whole.{RunsTo}
 use Rattle.stack_build.specs.Image.{slots_from, image_with}
 use Rattle.stack_build.specs.Implements.{variable_shown, way_shown, ComesTo}
 use Rattle.stack_build.proofs.Laying.{map-reversed, reversed_append, Holds-reversed}
-use Rattle.stack_build.proofs.Storing.{items_words, shapes_in}
+use Rattle.stack_build.proofs.Storing.{items_words}
+use Rattle.stack_build.specs.Showing.{shapes_in}
 use Rattle.stack_build.proofs.Numbers.{values_numbers, each_fits}
 use Rattle.stack_build.proofs.Loading.{image_loaded}
 use Rattle.stack_build.proofs.Initial.{is_initial}

@@ -22,7 +22,8 @@ use Rattle.gypsy_codegen.specs.WordsOf.{words_of_values}
 use Rattle.gypsy_codegen.proofs.CopyLaws.{each_both}
 use Rattle.stack_build.specs.Image.{slots_from, image_with}
 use Rattle.stack_build.proofs.Laying.{reversed_append, map-reversed}
-use Rattle.stack_build.proofs.Storing.{items_words, shapes_in, split, values_stored}
+use Rattle.stack_build.proofs.Storing.{items_words, split, values_stored}
+use Rattle.stack_build.specs.Showing.{shapes_in}
 use Rattle.stack_build.proofs.Numbers.{values_numbers, each_fits, words_both}
 use Rattle.stack_build.proofs.Windows.{all_stand}
 

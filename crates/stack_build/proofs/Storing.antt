@@ -5,7 +5,6 @@ use Rattle.std.proofs.Math.Seq.{set-append_seam}
 use Rattle.std.proofs.Math.ListN.{length-reverse_aux}
 use Rattle.std.proofs.lemmas.List.{length-map}
 use mathlib.Core.List.{reverse_aux}
-use Rattle.stack_text.specs.declared.shape.Shape.{Shape}
 use Rattle.stack_text.specs.Values.{ValueOf, item_count}
 use Rattle.fm_words.specs.Word.{word_of_int}
 use Rattle.fm_machine.specs.State.{with_word}
@@ -14,6 +13,7 @@ use Rattle.gypsy_syntax.specs.declared.literal.Decl.{Decl}
 use Rattle.gypsy_syntax.specs.Resolved.{shape_of}
 use Rattle.gypsy_meaning.specs.Kept.{VarsFit}
 use Rattle.stack_build.specs.Image.{slots_from}
+use Rattle.stack_build.specs.Showing.{shapes_in}
 use Rattle.stack_build.proofs.Laying.{reversed_append, reversed_front}
 
 -- the words of values, one after the other
@@ -45,9 +45,6 @@ items_stored base a (z ∷ items) front [] above e at = absurd (omega (arith, e)
 items_stored base a (z ∷ items) front (o ∷ olds) above e at =
     ap (λ (m : List ℕ). with_items base (a - 1) items m) (set_last front olds above o (word_of_int z) (a - base) (omega arith))
     ∙ items_stored base (a - 1) items front olds (word_of_int z ∷ above) (omega arith) (omega arith)
-
-abbrev pub shapes_in : List Decl → List Shape
-shapes_in ds = map (λ (d : Decl). shape_of d.shape) ds
 
 pub values_stored : (base a : ℕ) (ds : List Decl) (old new : List ValueOf) (front above : List ℕ) → VarsFit (shapes_in ds) old → VarsFit (shapes_in ds) new →
     a ≡ base + length front + length (items_words old) - 1 →

@@ -1,23 +1,23 @@
 -- Scaffold: what keeps the image of a system within the limits of images.
-use Rattle.std.specs.Prelude.{◌≡◌, ◌≤◌, ℕ, ◌+◌, List, [], ◌∷◌, length, map, true}
+use Rattle.std.specs.Prelude.{◌≡◌, ◌≤◌, ℕ, List, length, map, true}
 use Rattle.std.specs.List.{list_all, IsDistinct}
 use Rattle.std.specs.Str.{bytes_eq}
 use Rattle.stack_text.specs.Names.{is_name}
-use Rattle.stack_text.specs.Values.{item_count}
+use Rattle.stack_text.specs.declared.shape.Shape.{Shape}
 use Rattle.piton_check.specs.Instruction.{SystemView}
 use Rattle.piton_machine.specs.Placed.{areas_size}
 use Rattle.gypsy_syntax.specs.declared.literal.Decl.{Decl}
 use Rattle.gypsy_syntax.specs.ProgramFits.{Each}
+use Rattle.gypsy_syntax.specs.Programs.{words_of}
 use Rattle.gypsy_syntax.specs.Resolved.{shape_of}
 
 -- arrays of at most 4,096 items
 abbrev pub AreShort : List Decl → Type 0
 AreShort ds = Each (λ (d : Decl). (shape_of d.shape).length ≤ 4096) ds
 
--- how many items the variables have
-abbrev pub items_of : List Decl → ℕ
-items_of [] = 0
-items_of (d ∷ ds) = item_count (shape_of d.shape) + items_of ds
+-- the shapes of the variables
+abbrev pub shapes_in : List Decl → List Shape
+shapes_in ds = map (λ (d : Decl). shape_of d.shape) ds
 
 -- at most 200 formals and conditions of different names, and the stack and the first area of the system have their words
 pub record Shows (system : SystemView) (ds : List Decl) (conditions : List (List ℕ)) : Type 0 where
@@ -25,7 +25,7 @@ pub record Shows (system : SystemView) (ds : List Decl) (conditions : List (List
   pub formals_differ : IsDistinct bytes_eq (map (λ (d : Decl). d.name.name) ds)
   pub formals_few : length ds ≤ 200
   pub formals_short : AreShort ds
-  pub formals_stand : items_of ds ≤ length system.stack
+  pub formals_stand : words_of (shapes_in ds) ≤ length system.stack
   pub conditions_named : list_all is_name conditions ≡ true
   pub conditions_differ : IsDistinct bytes_eq conditions
   pub conditions_few : length conditions ≤ 200
