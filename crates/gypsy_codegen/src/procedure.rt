@@ -16,7 +16,7 @@ ghost use Rattle.gypsy_codegen.specs.Written.{written};
 use crate::context::{Context, Scopes, number_of, procedure_at};
 use crate::lines::{area, constant, jump, name_in, plain};
 use crate::statement::statement;
-use gypsy_predef::instruction_text::number;
+use gypsy_predef::instruction_text;
 use gypsy_space::{Condition, Procedure, Program};
 use gypsy_syntax::{Decl, Local, Proc};
 use piton_syntax::{InstrText, PitonOp, WordItem, WordText};
@@ -109,7 +109,7 @@ fn indexed(
     let mut temporaries = Vec::new(alloc);
     let mut first: u64 = 0;
     for (number, shape) in shapes.iter().enumerate() {
-        let item = WordItem::Nat(number(first as i128));
+        let item = WordItem::Nat(instruction_text::number(first as i128));
         let name = name_in(names, number)?;
         temporaries.push((name, WordText { place: 0, item }))?;
         first += shape.item_count() as u64;
@@ -163,7 +163,7 @@ fn tail(alloc: Global, instrs: &mut Vec<InstrText>) -> Result<(), Memory>
     ensures { OnOk result (instrs.new.items ≡ instrs.old.items ++ map (written nameless) tail_lines) }
 {
     jump(alloc, instrs, 1)?;
-    let item = WordItem::Nat(number(number_of(Condition::Routine) as i128));
+    let item = WordItem::Nat(instruction_text::number(number_of(Condition::Routine) as i128));
     constant(alloc, instrs, Some(0), item)?;
     area(alloc, instrs, PitonOp::PopGlobal)?;
     plain(alloc, instrs, Some(1), PitonOp::Ret)
