@@ -23,6 +23,12 @@ Reads view (Ok x) found = found ≡ Some (view x)
 Reads view (Err Usage) found = found ≡ None
 Reads view (Err Memory) found = Unit {0}
 
+-- the same of a reader that takes no memory, and so can't run out of it
+abbrev pub ReadsExactly : {X Y : Type 0} → (X → Y) → Result X WordsFault → Option Y → Type 0
+ReadsExactly view (Ok x) found = found ≡ Some (view x)
+ReadsExactly view (Err Usage) found = found ≡ None
+ReadsExactly view (Err Memory) found = ⊥
+
 -- what is read from words, and the words after it
 abbrev pub Reader : Type 0 → Type 0
 Reader A = Words → Option (A × Words)

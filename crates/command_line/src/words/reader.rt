@@ -1,6 +1,6 @@
 //! Reads words one after the other.
 ghost use Rattle.std.specs.Prelude.{◌≡◌};
-ghost use Rattle.command_line.specs.Words.{Reads, spelled, first, file, size, limit, seed, procedures, debug_level, level_named, end};
+ghost use Rattle.command_line.specs.Words.{Reads, ReadsExactly, spelled, first, file, size, limit, seed, procedures, debug_level, level_named, end};
 
 use crate::words::name::FileName;
 use crate::words::number::{ProcedureCount, StackSize, number_within};
@@ -12,7 +12,7 @@ use std::alloc::Global;
 pub enum WordsFault {
     /// They are too few, too many, or not of the kinds that are asked for.
     Usage,
-    /// There was no memory.
+    /// Memory ran out.
     Memory,
 }
 
@@ -41,7 +41,7 @@ pub enum Level {
 /// The first word, and the words after it.
 #[tactic(auto, unfolding(crate::specs::Words::first))]
 fn first(words: &[String]) -> Result<(&str, &[String]), WordsFault>
-    ensures { Reads (λ found. (found.0.now, spelled found.1.now)) result (first (spelled words.now)) }
+    ensures { ReadsExactly (λ found. (found.0.now, spelled found.1.now)) result (first (spelled words.now)) }
 {
     match words {
         [] => Err(WordsFault::Usage),
@@ -61,7 +61,7 @@ pub fn file(alloc: Global, words: &[String]) -> Result<(FileName, &[String]), Wo
 /// The size of a stack.
 #[tactic(auto, unfolding(crate::specs::Words::size))]
 pub fn size(words: &[String]) -> Result<(StackSize, &[String]), WordsFault>
-    ensures { Reads (λ found. (found.0, spelled found.1.now)) result (size (spelled words.now)) }
+    ensures { ReadsExactly (λ found. (found.0, spelled found.1.now)) result (size (spelled words.now)) }
 {
     let (word, rest) = first(words)?;
     match StackSize::read(word) {
@@ -73,7 +73,7 @@ pub fn size(words: &[String]) -> Result<(StackSize, &[String]), WordsFault>
 /// The most instructions or steps: at most 2^40.
 #[tactic(auto, unfolding(crate::specs::Words::limit))]
 pub fn limit(words: &[String]) -> Result<(u64, &[String]), WordsFault>
-    ensures { Reads (λ found. (found.0, spelled found.1.now)) result (limit (spelled words.now)) }
+    ensures { ReadsExactly (λ found. (found.0, spelled found.1.now)) result (limit (spelled words.now)) }
 {
     let (word, rest) = first(words)?;
     match number_within(0, 1 << 40, word) {
@@ -85,7 +85,7 @@ pub fn limit(words: &[String]) -> Result<(u64, &[String]), WordsFault>
 /// The number that a large source is made from: any of 32 bits.
 #[tactic(auto, unfolding(crate::specs::Words::seed))]
 pub fn seed(words: &[String]) -> Result<(u32, &[String]), WordsFault>
-    ensures { Reads (λ found. (found.0, spelled found.1.now)) result (seed (spelled words.now)) }
+    ensures { ReadsExactly (λ found. (found.0, spelled found.1.now)) result (seed (spelled words.now)) }
 {
     let (word, rest) = first(words)?;
     match number_within(0, 0xffff_ffff, word) {
@@ -97,7 +97,7 @@ pub fn seed(words: &[String]) -> Result<(u32, &[String]), WordsFault>
 /// How many procedures a large source calls: 1 to 900.
 #[tactic(auto, unfolding(crate::specs::Words::procedures))]
 pub fn procedures(words: &[String]) -> Result<(ProcedureCount, &[String]), WordsFault>
-    ensures { Reads (λ found. (found.0, spelled found.1.now)) result (procedures (spelled words.now)) }
+    ensures { ReadsExactly (λ found. (found.0, spelled found.1.now)) result (procedures (spelled words.now)) }
 {
     let (word, rest) = first(words)?;
     match ProcedureCount::read(word) {
@@ -122,7 +122,7 @@ fn level_named(word: &str) -> Option<Level>
 /// The level of a debug session.
 #[tactic(auto, unfolding(crate::specs::Words::debug_level))]
 pub fn debug_level(words: &[String]) -> Result<(Level, &[String]), WordsFault>
-    ensures { Reads (λ found. (found.0, spelled found.1.now)) result (debug_level (spelled words.now)) }
+    ensures { ReadsExactly (λ found. (found.0, spelled found.1.now)) result (debug_level (spelled words.now)) }
 {
     let (word, rest) = first(words)?;
     match level_named(word) {
@@ -134,7 +134,7 @@ pub fn debug_level(words: &[String]) -> Result<(Level, &[String]), WordsFault>
 /// No further word.
 #[tactic(auto, unfolding(crate::specs::Words::end))]
 pub fn end(words: &[String]) -> Result<(), WordsFault>
-    ensures { Reads (λ found. found) result (end (spelled words.now)) }
+    ensures { ReadsExactly (λ found. found) result (end (spelled words.now)) }
 {
     match words {
         [] => Ok(()),

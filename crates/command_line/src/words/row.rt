@@ -1,5 +1,5 @@
 //! The words of each command.
-ghost use Rattle.command_line.specs.Words.{Reads, spelled};
+ghost use Rattle.command_line.specs.Words.{Reads, ReadsExactly, spelled};
 ghost use Rattle.command_line.specs.Rows.{check_row, mean_row, pit_row, build_row, pcheck_row, prun_row, pbuild_row, run_row, go_row, show_row, debug_row, big_row, row_of, command_of};
 
 use crate::command::Command;
@@ -178,7 +178,7 @@ fn debug_row(alloc: Global, words: &[String]) -> Result<Command, WordsFault>
 /// `big NUMBER SIZE`
 #[tactic(auto, unfolding(crate::specs::Rows::big_row))]
 fn big_row(words: &[String]) -> Result<Command, WordsFault>
-    ensures { Reads (λ command. command) result (big_row (spelled words.now)) }
+    ensures { ReadsExactly (λ command. command) result (big_row (spelled words.now)) }
 {
     let (number, words) = seed(words)?;
     let (procedures, words) = procedures(words)?;
