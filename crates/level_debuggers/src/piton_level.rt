@@ -152,6 +152,9 @@ impl PitonLevel {
     pub(crate) fn up(&self, alloc: Global) -> Result<Vec<u8>, Memory>
         ensures { IfOk result (λ text. text.items ≡ piton_up self.now) }
     {
+        if !self.is_over() {
+            return no_mark(alloc);
+        }
         let elements = self.elements(alloc)?;
         if !self.is_readable(&elements) {
             return no_mark(alloc);
