@@ -1,6 +1,6 @@
 #!/usr/bin/env python3
-"""Runs the built program on the rows of command_tables.py, image_tables.py and the folder rows, each in a folder of its own, and compares
-its status, what it prints and what it stores with what the row wants.
+"""Runs the built program on the rows of command_tables.py, image_tables.py, limit_tables.py and the folder rows, each in a folder of its own,
+and compares its status, what it prints and what it stores with what the row wants.
 
     python3 .ci/tools/command_rows.py PROGRAM [FAILING_DEVICES]
 
@@ -17,6 +17,7 @@ from pathlib import Path
 
 import command_tables as tables
 import image_tables as images
+import limit_tables
 
 NEVER = tables.NEVER
 TOP = Path(__file__).resolve().parent.parent.parent
@@ -204,10 +205,10 @@ class Rows:
         for length in range(len(image)):
             self.show(length, image[:length], (3, length))
         self.show("a byte more", image + b"\0", (4, 144))
-        image = bytearray.fromhex(tables.IMAGE_OF_SEVEN)
-        image[116] = 59
-        ending = self.run("run i v 9", {"i": bytes(image), "v": "()"})
-        self.note("images that show judges", ending.says(4, "image I7 at 113\n"), "a slot at 59", ending)
+        for image, window in ((bytes.fromhex(tables.IMAGE_OF_SEVEN), 59), (self.run("build s 7 3 i", {"s": tables.SEVEN}).files["i"], 629)):
+            image = image[:113] + window.to_bytes(4, "big") + image[117:]
+            ending = self.run("run i v 9", {"i": image, "v": "()"})
+            self.note("images that show judges", ending.says(4, "image I7 at 113\n"), f"a slot at {window}", ending)
         ending = self.run("show i", {"i": images.returning()})
         self.note("images that show judges", ending.says(0, images.SMALL_LISTING), "the listing of a return", ending)
 
@@ -233,18 +234,28 @@ class Rows:
         for words, status, printed in (("run i v 7", 0, "finished 7\n"), ("run i v 6", 5, "unfinished 6\n")):
             ending = self.run(words, {"i": image, "v": "()"})
             self.note("linked texts", ending.says(status, printed), words, ending)
-        for source, sizes in ((tables.SEVEN, "7 3"), (tables.RECURSIVE, "24 10"), (tables.PASS, "22 37")):
-            built = self.run(f"build s {sizes} i", {"s": source}).files.get("i", b"")
-            text = self.run(f"pit s {sizes} t", {"s": source}).files.get("t", b"")
-            linked = self.run("pbuild t i", {"t": text}).files.get("i", b"")
-            same = len(built) > 2400 and built[:84] == linked[:84] and built[-2400:] == linked[-2400:]
-            self.note("linked texts", same, source)
+        for words, source, _values, status, _printed in tables.RUNS:
+            parts = words.split()
+            if parts[0] in ("go", "build") and status in (0, 3, 5, 6):
+                self.linked_again(source, " ".join(parts[3:5] if parts[0] == "go" else parts[2:4]))
+
+    def linked_again(self, source, sizes):
+        """What is built of a source has the words, the registers and the final address of what is linked of the text that is generated from it."""
+        built = self.run(f"build s {sizes} i", {"s": source}).files.get("i", b"")
+        text = self.run(f"pit s {sizes} t", {"s": source}).files.get("t", b"")
+        linked = self.run("pbuild t i", {"t": text}).files.get("i", b"")
+        # without conditions and slots the number of words stands at 100
+        same = len(linked) > 2400 and built[:84] == linked[:84] and built.endswith(linked[100:])
+        self.note("linked texts", same, (sizes, source))
 
     def stored_images(self):
         """An image that `go` stored runs on its own, on other values, and is the one that `build` stores; its bytes are those of its page."""
         files = {"s": tables.SEVEN, "v": "((x 0))"}
         stored, built = (self.run(words, files).files.get("i") for words in ("go s v 7 3 28 i", "build s 7 3 i"))
         self.note("stored images", stored == built and stored is not None, "go and build")
+        least = self.run("build s 2 1 i", {"s": tables.NOTHING}).files.get("i", b"")
+        holds = least[16:20] == (606).to_bytes(4, "big") and least[88:92] == (607).to_bytes(4, "big")
+        self.note("stored images", holds, "the final address and the condition's of NOTHING")
         ending = self.run("run i v 28", {"i": stored or b"", "v": "((x 9))"})
         self.note("stored images", ending.says(0, "finished 28\ncondition normal\nx = 7\n"), "run", ending)
         for place, content in documented_image():
@@ -267,6 +278,15 @@ class Rows:
             files = {name: text + byte * (lengths.get(name, 0) - len(text)) for name, (text, byte) in whole.items()}
             ending = self.run(words, files)
             self.note("files at their limits", ending.says(status, printed), row, ending)
+
+    def at_limits(self):
+        """Texts at the limits of each layer, and long runs."""
+        for layer, name, words, text, status, printed in limit_tables.TEXTS:
+            ending = self.run(words, {"t": text()})
+            self.note("texts at the limits of a layer", ending.says(status, f"{printed}\n"), (layer, name), ending)
+        for layer, name, words, text, values, printed in limit_tables.RUNS:
+            ending = self.run(words, {"t": text, "v": values})
+            self.note("long runs", ending.says(0, f"{printed}\n"), (layer, name), ending)
 
     def failing(self):
         """A call of a device fails: the status, what was printed by then, and the bytes that are stored."""
@@ -305,7 +325,7 @@ def main(program, failing_devices=None):
     rows = Rows(Path(program).resolve(), failing_devices and Path(failing_devices).resolve())
     themes = [rows.words, rows.runs, rows.sessions, rows.scripts, rows.texts, rows.judged, rows.systems]
     themes += [rows.meanings, rows.generated, rows.images, rows.judged_images, rows.judged_values, rows.largest_image]
-    themes += [rows.linked, rows.stored_images, rows.limits]
+    themes += [rows.linked, rows.stored_images, rows.limits, rows.at_limits]
     for theme in themes + [rows.failing] * (failing_devices is not None):
         theme()
     for theme, count in rows.counts.items():

@@ -146,6 +146,8 @@ RUNS = [
     ("go s v 100 100 0 i", NOTHING, "()", 5, "unfinished 0\n"),
     ("build s 2 1 i", NOTHING, "", 0, "built 611\n"),
     ("build s 1 1 i", NOTHING, "", 12, "size control 2\n"),
+    ("go s w 7 3 28 i", SEVEN, "", 9, "missing w\n"),
+    ("go s w 7 3 28 i", "", "", 9, "missing w\n"),
     ("go s v 100 100 1000000 i", SEVEN, "((x 0))", 0, "finished 28\ncondition normal\nx = 7\n"),
     ("go s v 7 3 28 i", SEVEN, "((x -2147483648))", 0, "finished 28\ncondition normal\nx = 7\n"),
     ("go s v 100 100 27 i", SEVEN, "((x 0))", 5, "unfinished 27\n"),
@@ -247,10 +249,17 @@ REGISTERS = (
     "r9 00000000\nr10 00000000\nr11 00000000\nr12 00000000\nr13 00000000\nr14 00000000\nr15 00000002\nflags ----\n"
 )
 
+# What it shows of SEVEN after its last instruction, with 7 and 3 words for the stacks.
+REGISTERS_AT_THE_END = (
+    "count 28\nr0 00000000\nr1 00000272\nr2 00000274\nr3 00000274\nr4 00000000\nr5 00000000\nr6 00000000\nr7 00000000\nr8 00000000\n"
+    "r9 00000000\nr10 00000000\nr11 00000000\nr12 00000000\nr13 00000000\nr14 00000000\nr15 00000269\nflags ----\n"
+)
+
 # The longest line.
 LONGEST_STEP = "step " + "0" * 250 + "1"
 
 SESSIONS = [
+    ("debug fm9001 s v 7 3 d", SEVEN, "((x 0))", "step 28\nshow", 0, "stepped 28 ended\n" + REGISTERS_AT_THE_END),
     ("debug gypsy s v 100 100 d", SEVEN, "((x 0))", LONGEST_STEP + "\r\nup", 0, "stepped 1\ntop\n"),
     ("debug gypsy s v 100 100 d", SEVEN, "((x 0))", LONGEST_STEP.replace(" ", " 0"), 13, "script D6 at line 1\n"),
     ("debug gypsy s v 100 100 d", SEVEN, "((x 0))", "~" * 256, 13, "script D1 at line 1\n"),
@@ -348,6 +357,7 @@ def long_area(count):
 
 # Commands on a text: the status and what is printed.
 TEXTS = [
+    ("pbuild t i", RETURN, 0, "built 11\n"),
     ("check t", SEVEN, 0, "ok\n"),
     ("check t", REPEATED, 2, "refused S20 at 59\n"),
     ("check t", LONG_ARRAY, 2, "refused S7 at 29\n"),

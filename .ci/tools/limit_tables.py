@@ -1,0 +1,225 @@
+"""Texts at the limits of each layer, long runs, and what becomes of them: rows that the built program is run on, and what docs/bench/limits.py
+times. A row is its layer, its name, the words of a command line, its text (a function, since texts have up to 16 MiB), the values, the exit
+status and what is printed. In the words `t` is the text and `v` the values; `i` is an image that is stored.
+"""
+
+NEVER_SPENT = 1 << 40
+
+
+def numbered(before, between, after, count):
+    """So many times a number, from 0 on, twice: what precedes it, is between, and follows it."""
+    return "".join(f"{before}{number}{between}{number}{after}" for number in range(count))
+
+
+def of_one_program(instructions):
+    return f"(piton main 2 1 0 () () (main () (){instructions}))"
+
+
+def of_calls(statements, procedures=""):
+    """A source whose first procedure does one statement after the other."""
+    return f"(program p (proc p () () () () (seq{statements})){procedures})"
+
+
+# Six steps a round.
+LOOP = """(program main
+(proc main ((n integer)) () ((b boolean false) (one integer 1)) ()
+(loop (seq (mg-simple-constant-eq b n 0) (if b (signal leave) (mg-integer-subtract n n one))))))
+"""
+
+# So many times, calls that are so many deep.
+RECURSION = """(program main
+(proc main ((times integer) (depth integer)) () ((b boolean false) (one integer 1) (n integer 0)) ()
+(loop (seq (mg-simple-constant-eq b times 0) (if b (signal leave) (no-op))
+(mg-simple-variable-assignment n depth) (call p (n) ()) (mg-integer-subtract times times one))))
+(proc p ((n integer)) () ((b boolean false) (one integer 1)) ()
+(seq (mg-simple-constant-eq b n 0) (if b (no-op) (seq (mg-integer-subtract n n one) (call p (n) ()))))))
+"""
+
+DEEP = numbered(" (proc p", " () () () () (call p", " () ()))", 999)
+
+# Lists of handlers inside one another, and in the innermost body conditions that none of them has.
+HANDLED = " ".join(f"c{number}" for number in range(199))
+SCOPES = (
+    f"(program main (proc main () () () ({HANDLED} z) "
+    + "(begin " * 195
+    + "(seq"
+    + " (call p () (z z z z z))" * 16000
+    + ")"
+    + f" ({HANDLED}) (no-op))" * 195
+    + ") (proc p () (a b c d e) () () (no-op)))"
+)
+
+TEXTS = [
+    # Trees.
+    ("trees", "`(` over and over", "check t", lambda: "(" * (1 << 20), 2, "refused G4 at 200"),
+    ("trees", "one list of 300,000 atoms", "check t", lambda: "(" + "a " * 300000 + ")", 2, "refused M1 at 0"),
+    ("trees", "one list of 500,000 empty lists", "check t", lambda: "(" + "()" * 500000 + ")", 2, "refused M1 at 0"),
+    ("trees", "one atom", "check t", lambda: "a" * (1 << 20), 2, "refused M1 at 0"),
+    ("trees", "one list of 349,000 comments", "check t", lambda: "(" + ";;\n" * 349000 + ")", 2, "refused M1 at 0"),
+    ("trees", "one comment after an atom", "check t", lambda: "a;" + "(" * ((1 << 20) - 2), 2, "refused M1 at 0"),
+    ("trees", "500,000 atoms inside 200 lists", "check t", lambda: "(" * 200 + " a" * 500000 + ")" * 200, 2, "refused M1 at 0"),
+    ("trees", "spaces after an atom", "pcheck t", lambda: "a" + " " * ((1 << 24) - 1), 2, "refused P1 at 0"),
+    # Piton.
+    ("piton", "a program of 1,048,576 instructions `(ret)`", "pbuild t i", lambda: of_one_program(" (ret)" * 1048576), 12, "size words 5242886"),
+    ("piton", "one instruction more", "pbuild t i", lambda: of_one_program(" (ret)" * 1048577), 2, "refused P9 at 24"),
+    (
+        "piton",
+        "671,087 times `(push-constant (int -7))`",
+        "pbuild t i",
+        lambda: of_one_program(" (push-constant (int -7))" * 671087),
+        2,
+        "refused Q12 at 16777186",
+    ),
+    ("piton", "883,009 times `(dl l () (jump l))`", "pbuild t i", lambda: of_one_program(" (dl l () (jump l))" * 883009), 2, "refused Q6 at 59"),
+    (
+        "piton",
+        "an initial stack of 1,398,097 words",
+        "pbuild t i",
+        lambda: "(piton main 2 1 0 () (" + "(nat 12345) " * 1398097 + ") (main () () (ret)))",
+        2,
+        "refused Q14 at 14",
+    ),
+    (
+        "piton",
+        "1,100 programs of one name",
+        "pbuild t i",
+        lambda: "(piton main 2 1 0 () ()" + " (p (x) ((y (bool t))) (push-local x) (ret))" * 1100 + ")",
+        2,
+        "refused Q3 at 7",
+    ),
+    ("piton", "one program more", "pbuild t i", lambda: "(piton main 2 1 0 () ()" + " (p () () (ret))" * 1101 + ")", 2, "refused P9 at 0"),
+    (
+        "piton",
+        "524,288 labels, each with a jump to it",
+        "pbuild t i",
+        lambda: of_one_program(numbered(" (dl l", " () (jump l", "))", 524288)),
+        12,
+        "size words 1048582",
+    ),
+    (
+        "piton",
+        "524,288 words in instructions",
+        "pbuild t i",
+        lambda: of_one_program(numbered(" (push-constant (nat ", ")) (push-constant (int -", "))", 262144) + " (ret)"),
+        12,
+        "size words 1048587",
+    ),
+    (
+        "piton",
+        "an area of 1,000,000 words",
+        "pbuild t i",
+        lambda: "(piton main 2 1 0 ((a" + numbered(" (nat ", ") (int ", ")", 500000) + ")) () (main () () (ret)))",
+        0,
+        "built 1000011",
+    ),
+    (
+        "piton",
+        "1,100 programs with a call each",
+        "pbuild t i",
+        lambda: "(piton p0 2 1 0 () ()" + numbered(" (p", " () () (call p", ") (ret))", 1100) + ")",
+        0,
+        "built 12104",
+    ),
+    ("piton", "a million instructions `(no-op)` and a return", "pbuild t i", lambda: of_one_program(" (no-op)" * 1000000 + " (ret)"), 0, "built 1000011"),
+    ("piton", "the most that can be linked", "pbuild t i", lambda: of_one_program(" (no-op)" * 1048565 + " (ret)"), 0, "built 1048576"),
+    ("piton", "one instruction more than that", "pbuild t i", lambda: of_one_program(" (no-op)" * 1048566 + " (ret)"), 12, "size words 1048577"),
+    # Micro-Gypsy.
+    (
+        "gypsy",
+        "a call with 300,000 actuals of one name",
+        "check t",
+        lambda: "(program p (proc p ((x integer)) () () () (call q (" + " x" * 300000 + ") ())))",
+        2,
+        "refused S16 at 48",
+    ),
+    (
+        "gypsy",
+        "a call with 150,000 different actuals",
+        "check t",
+        lambda: "(program p (proc p ((x integer)) () () () (call q (" + numbered(" x", " y", "", 75000) + ") ())))",
+        2,
+        "refused S16 at 48",
+    ),
+    (
+        "gypsy",
+        "a handler of 300,000 conditions of one name",
+        "check t",
+        lambda: "(program p (proc p () (c) () () (begin (no-op) (" + " c" * 300000 + ") (no-op))))",
+        2,
+        "refused S13 at 51",
+    ),
+    (
+        "gypsy",
+        "a handler of 150,000 different conditions",
+        "check t",
+        lambda: "(program p (proc p () (c) () () (begin (no-op) (" + numbered(" c", " d", "", 75000) + ") (no-op))))",
+        2,
+        "refused S12 at 49",
+    ),
+    (
+        "gypsy",
+        "the last of 200 variables as 250,000 actuals",
+        "check t",
+        lambda: "(program p (proc p (" + numbered(" (x", " integer) (y", " integer)", 100) + ") () () () (call q (" + " y99" * 250000 + ") ())))",
+        2,
+        "refused S16 at 2817",
+    ),
+    ("gypsy", "130,000 statements", "check t", lambda: of_calls(" (no-op)" * 130000), 0, "ok"),
+    (
+        "gypsy",
+        "45,000 predefined calls",
+        "check t",
+        lambda: "(program p (proc p ((x integer)) () () () (seq" + " (mg-integer-add x x x)" * 45000 + ")))",
+        0,
+        "ok",
+    ),
+    ("gypsy", "60,000 calls of a procedure that is missing", "check t", lambda: of_calls(" (call q (x) (c))" * 60000), 2, "refused S16 at 42"),
+    ("gypsy", "55,000 calls of the last of 1,000 procedures", "check t", lambda: of_calls(" (call p998 () ())" * 55000, DEEP), 0, "ok"),
+    (
+        "gypsy",
+        "1,000 procedures of one name",
+        "check t",
+        lambda: "(program p" + " (proc p () () () () (no-op))" * 1000 + ")",
+        2,
+        "refused S1 at 46",
+    ),
+    ("gypsy", "one procedure more", "check t", lambda: "(program p" + " (proc p () () () () (no-op))" * 1001 + ")", 2, "refused M12 at 0"),
+    ("gypsy", "40,000 of these calls, generated", "pit t 9 9 o", lambda: of_calls(" (call p998 () ())" * 40000, DEEP), 0, "written o"),
+    ("gypsy", "16,000 calls inside 195 lists of 199 handlers, generated", "pit t 999 9 o", lambda: SCOPES, 0, "written o"),
+]
+
+# Runs: the layer, the name, the words, the source, the values, and what is printed.
+RUNS = [
+    (
+        "meaning",
+        "a loop of 200,000 rounds",
+        f"mean t v 65536 65536 {NEVER_SPENT}",
+        LOOP,
+        "((n 200000))",
+        "steps 1200005\ncounted 21800058\ncondition normal\nn = 0",
+    ),
+    (
+        "meaning",
+        "calls 13,000 deep, 10 times",
+        f"mean t v 65536 65536 {NEVER_SPENT}",
+        RECURSION,
+        "((times 10) (depth 13000))",
+        "steps 780145\ncounted 17812218\ncondition normal\ntimes = 0\ndepth = 13000",
+    ),
+    (
+        "meaning",
+        "calls 13 deep, 10,000 times",
+        f"mean t v 65536 65536 {NEVER_SPENT}",
+        RECURSION,
+        "((times 10000) (depth 13))",
+        "steps 920005\ncounted 19970058\ncondition normal\ntimes = 0\ndepth = 13",
+    ),
+    (
+        "meaning",
+        "the first loop as an image",
+        f"go t v 65536 65536 {NEVER_SPENT} i",
+        LOOP,
+        "((n 200000))",
+        "finished 21800058\ncondition normal\nn = 0",
+    ),
+]

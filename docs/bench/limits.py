@@ -1,0 +1,50 @@
+#!/usr/bin/env python3
+"""Times the built program on the texts at the limits of each layer and on the long runs of .ci/tools/limit_tables.py.
+
+    python3 docs/bench/limits.py PROGRAM [LAYER]
+
+A layer is `trees`, `piton`, `gypsy` or `meaning`; without one all are timed. For each row: the bytes of its text, what is printed, the least
+time of some turns, the whole process's own and the system's, and the most memory that it had.
+"""
+import os
+import subprocess
+import sys
+import tempfile
+from pathlib import Path
+
+sys.path.insert(0, str(Path(__file__).resolve().parents[2] / ".ci/tools"))
+sys.dont_write_bytecode = True
+import limit_tables
+
+TURNS = 5
+
+
+def taken(program, words, folder):
+    """What a command prints, the least time of some turns, and the memory of that turn."""
+    turns = []
+    for _ in range(TURNS):
+        process = subprocess.Popen([program, *words.split()], cwd=folder, stdout=subprocess.PIPE)
+        printed = process.stdout.read().decode().strip().replace("\n", " / ")
+        _, _, usage = os.wait4(process.pid, 0)
+        turns.append((usage.ru_utime + usage.ru_stime, usage.ru_maxrss // 1024, printed))
+    return min(turns)
+
+
+def main(program, layer=None):
+    program = str(Path(program).resolve())
+    rows = [(row[0], row[1], row[2], row[3](), "") for row in limit_tables.TEXTS]
+    rows += [row[:5] for row in limit_tables.RUNS]
+    print("| Text | Command | Bytes | Printed | Time | Memory |\n|---|---|---|---|---|---|")
+    for of, name, words, text, values in rows:
+        if layer in (None, of):
+            with tempfile.TemporaryDirectory() as folder:
+                Path(folder, "t").write_text(text)
+                Path(folder, "v").write_text(values)
+                seconds, memory, printed = taken(program, words, folder)
+            print(f"| {name} | `{words.split()[0]}` | {len(text):,} | `{printed}` | {seconds:.2f} s | {memory} MB |", flush=True)
+
+
+if __name__ == "__main__":
+    if len(sys.argv) < 2:
+        sys.exit(__doc__)
+    main(*sys.argv[1:])
