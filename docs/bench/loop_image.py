@@ -1,5 +1,5 @@
 #!/usr/bin/env python3
-"""Writes loop.image: the loop of `stack_bench processor` with 50,000,000 rounds, which is 200 million steps.
+"""Writes loop.image: the loop of four instructions, with 50,000,000 rounds, which are 200 million steps.
 
 docs/image-file.md has the fields. Run it in this folder; another number of rounds can be given.
 """
