@@ -1,7 +1,6 @@
 -- Where the words of the code are.
-use Rattle.std.proofs.Common.{◌≡◌, ℕ, zero, suc, ◌+◌, ◌-◌, Some, List, [], ◌∷◌, ◌++◌, length, refl, subst, ap, arith}
+use Rattle.std.proofs.Common.{◌≡◌, ℕ, zero, suc, ◌+◌, ◌-◌, Some, List, [], ◌∷◌, ◌++◌, length, refl, subst, arith}
 use Rattle.std.specs.Prelude.{slice_get}
-use Rattle.fm_code.specs.Areas.{joined, words_before}
 use Rattle.fm_code.specs.Execution.{Parts, CodeAt, CodeWord}
 
 -- words that the code has from its k-th word on are at its k-th address and those after it
@@ -47,14 +46,3 @@ code_get P pc zero w (v ∷ ws) g code =
 code_get P pc (suc k) w (v ∷ ws) g code =
     let e : pc + 1 + k ≡ pc + suc k = omega arith in
     subst (λ a. CodeWord P a w) e (code_get P (pc + 1) k w ws g code.1)
-
--- of templates that follow one another, each is at the address after the words before it
-pub code_in : (P : Parts) (pc k : ℕ) (ts : List ℕ) (tss : List (List ℕ)) → slice_get tss k ≡ Some ts → CodeAt P pc (joined tss) → CodeAt P (pc + words_before tss k) ts
-code_in P pc k ts [] h code = cc
-code_in P pc zero ts (us ∷ tss) h code =
-    let e : us ≡ ts = cc in
-    let a : pc ≡ pc + 0 = omega arith in
-    subst (λ b. CodeAt P b ts) a (subst (CodeAt P pc) e (code_front P pc us (joined tss) code))
-code_in P pc (suc k) ts (us ∷ tss) h code =
-    let a : pc + length us + words_before tss k ≡ pc + (length us + words_before tss k) = omega arith in
-    subst (λ b. CodeAt P b ts) a (code_in P (pc + length us) k ts tss h (code_after P pc us (joined tss) code))

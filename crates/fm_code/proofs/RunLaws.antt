@@ -3,7 +3,6 @@ use Rattle.std.proofs.Common.{◌≡◌, ℕ, ◌+◌, Ok, List, length, refl, a
 use Rattle.std.specs.Prelude.{slice_index}
 use Rattle.fm_words.specs.declared.condition.Flags.{Flags}
 use Rattle.fm_machine.specs.State.{Fm}
-use Rattle.fm_machine.specs.Run.{IsFirst}
 use Rattle.fm_machine.proofs.RunLaws.{run_none, avoids_none, run_then, avoids_then}
 use Rattle.fm_code.specs.Execution.{Parts, AreParts, HasView, Arrives, View, view, Executes, CodeAt, final_pc}
 use Rattle.fm_code.proofs.RegisterLaws.{sixteen_are}
@@ -65,10 +64,6 @@ arrives_then {P} {j} {k} {s} h g =
 -- a run of no step
 pub arrives_at_once : {P : Parts} {s : Fm} {t : View} → HasView P s t → Arrives P 0 s t
 arrives_at_once {P} {s} h = record { state = s; runs = run_none s; avoids = avoids_none s (final_pc P); laid = h }
-
--- a run that arrives at the final pc is there for the first time
-pub ends : {P : Parts} {n : ℕ} {s : Fm} {t : View} (h : Arrives P n s t) → t.pc ≡ final_pc P → IsFirst s (final_pc P) n h.state
-ends h e = record { reached = h.runs; there = h.laid.r15_is ∙ e; before = h.avoids }
 
 -- a run of which only registers 0 and 15 are kept
 pub runs_to_view : {P : Parts} {n n' : ℕ} {s : Fm} {r : ℕ → ℕ} {fl : Flags} {f pc : ℕ} {ctrl temp areas : List ℕ} → RunsTo P n s r fl ctrl temp areas → n ≡ n' → r 0 ≡ f → r 15 ≡ pc → RunsToView P n' s f pc ctrl temp areas

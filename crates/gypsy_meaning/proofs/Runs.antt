@@ -1,4 +1,4 @@
--- The step machine follows the counted_meaning.
+-- The step machine follows the counted meaning.
 use Rattle.std.proofs.Common.{◌≡◌, ℕ, zero, suc, ◌≤◌, List, [], ◌∷◌, Bool, true, false, Some, None, refl, sym, ap, ◌∙◌, subst, ⊎_elim, arith}
 use Rattle.std.proofs.lemmas.Bool.{cases_lt}
 use Rattle.stack_text.specs.Values.{ValueOf}
@@ -36,7 +36,7 @@ module _ (q : Program) (sizes : Words) where
   Runs n p fs g w CountedUnfinished = (j : ℕ) × (n ≤ j) × (run q sizes j g ≡ Going)
   Runs n p fs g w CountedNoRoom = (j : ℕ) × (run q sizes j g ≡ Short)
 
-  -- what a counted_meaning says of the machine
+  -- what a counted meaning says of the machine
   abbrev Follows : ℕ → CountedMeans → Type 0
   Follows n m = (s : Stmt) (p : ℕ) (x : List ValueOf) (t : Tally) (w : List Item) (fs : List Frame) → Runs n p fs (At p x (open_on s w) fs t) w (m s (used q p fs) x t)
 
@@ -168,7 +168,7 @@ module _ (q : Program) (sizes : Words) where
   met : (v : List ValueOf) (n : ℕ) → IsMet (start q v) n (counted_meaning q sizes v n)
   met v n = main_met (start q v) n (counted_evaluate q sizes n (body_of q q.main) (main_used q) (main_start q v) start_tally) (evaluate_follows n (body_of q q.main) q.main (main_start q v) start_tally [] [])
 
-  -- a run of the machine that is over, and the counted_meaning at as many rounds
+  -- a run of the machine that is over, and the counted meaning at as many rounds
   over_too : (g : State) (j : ℕ) (x : List ValueOf) (c : Way) (t : Tally) (o : CountedOutcome) → run q sizes j g ≡ Over x c t → IsMet g (suc j) o → o ≡ CountedDone x c t
   over_too g j x c t (CountedDone y d u) e m = grind (arith, one_end j m.0 g (Over x c t) (Over y d u) tt tt e m.1)
   over_too g j x c t CountedUnfinished e m =

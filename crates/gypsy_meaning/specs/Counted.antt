@@ -104,7 +104,7 @@ counted_main_end q (CountedDone x (Some c) t) = CountedDone (main_formals q x) (
 counted_main_end q CountedUnfinished = CountedUnfinished
 counted_main_end q CountedNoRoom = CountedNoRoom
 
--- the counted_meaning of a program, with these values of main's formals
+-- the counted meaning of a program, with these values of main's formals
 abbrev pub counted_meaning : Program → Words → List ValueOf → ℕ → CountedOutcome
 counted_meaning q sizes v n = counted_main_end q (counted_evaluate q sizes n (body_of q q.main) (main_used q) (main_start q v) start_tally)
 

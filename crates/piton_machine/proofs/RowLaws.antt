@@ -1,9 +1,9 @@
 -- From such a stack a row goes on to such a state: one law for each row, by computation.
-use Rattle.std.proofs.Common.{◌≡◌, ℕ, ◌+◌, ◌-◌, ◌≤◌, ◌<◌, Result, Ok, Option, Some, Bool, true, false, List, ◌∷◌, length, map, drop, refl, ap, sym, ◌∙◌}
-use Rattle.std.specs.Prelude.{◌==◌, nat_lt, nat_le, slice_get, if◌then◌else◌}
-use Rattle.std.proofs.lemmas.Bool.{lt-ltb, le-leb, eq-eqb}
+use Rattle.std.proofs.Common.{◌≡◌, ℕ, ◌+◌, ◌-◌, ◌≤◌, ◌<◌, Result, Ok, Option, Some, Bool, true, false, List, ◌∷◌, length, map, drop, refl, ap, ◌∙◌}
+use Rattle.std.specs.Prelude.{nat_lt, nat_le, slice_get, if◌then◌else◌}
+use Rattle.std.proofs.lemmas.Bool.{lt-ltb, le-leb}
 use Rattle.piton_words.specs.declared.word.Word.{Word}
-use Rattle.piton_words.specs.declared.word.Word.TheVariants.{Nat, Addr, Pc, Subr}
+use Rattle.piton_words.specs.declared.word.Word.TheVariants.{Nat}
 use Rattle.piton_words.specs.declared.op.WordOp.{WordOp}
 use Rattle.piton_words.specs.declared.outcome.Outcome.{Outcome}
 use Rattle.piton_words.specs.Rows as words
@@ -13,10 +13,9 @@ use Rattle.piton_machine.specs.declared.error_kind.ErrorKind.{ErrorKind}
 use Rattle.piton_machine.specs.declared.error_kind.ErrorKind.TheVariants.{TempEmpty, Range, TempFull, CtrlFull}
 use Rattle.piton_check.specs.Instruction.{Instruction, ProgramView, SystemView}
 use Rattle.piton_machine.specs.State.{Frame, PitonState, instruction_at, ctrl_used, locals_of, with_local, word_at, with_word, element, with_element}
-use Rattle.piton_machine.specs.Views.{◌>>=◌, then_on, where_true, found, one_of, two_of, Operands, words_taken, operands_of, test_of, lifted}
-use Rattle.piton_machine.specs.Rows.{Row, to_place, to_next, with_room, pushed, push_local, pop_local, set_local_row, set_local, push_global, pop_global, set_global, set_word, push_temp_stk_index, fetch_temp_stk, deposit_temp_stk, fetch, deposit, pop, pop_star, popn, jump_where, jump_case, pushj, popj, test_and_jump, entered, call, pop_call, does_grow, results_on, apply, row_of}
+use Rattle.piton_machine.specs.Views.{◌>>=◌, then_on, where_true, found, one_of, Operands, words_taken, operands_of, test_of, lifted}
+use Rattle.piton_machine.specs.Rows.{Row, to_place, to_next, with_room, pushed, push_local, pop_local, set_local_row, set_local, push_global, pop_global, set_word, push_temp_stk_index, fetch_temp_stk, deposit_temp_stk, pop_star, jump_where, jump_case, test_and_jump, entered, call, does_grow, results_on, apply, row_of}
 use Rattle.piton_machine.specs.Step.{step_from, piton_step}
-use Rattle.piton_machine.proofs.ViewLaws.{went_on, found_is}
 
 -- The step of a state with a frame is the row of the instruction at its place, forward and back.
 pub step_is : (s : SystemView) (p : PitonState) (f : Frame) (fs : List Frame) (instruction : Instruction) →
@@ -24,11 +23,6 @@ pub step_is : (s : SystemView) (p : PitonState) (f : Frame) (fs : List Frame) (i
 unfolding then_on
 step_is s p f fs instruction e h =
     ap (step_from s p) e ∙ ap (λ o. found o Range >>= row_of s p) h
-
-pub record StepFound (s : SystemView) (p q : PitonState) : Type 0 where
-  pub instruction : Instruction
-  pub there : instruction_at s p.program p.place ≡ Some instruction
-  pub goes : row_of s p instruction ≡ Ok q
 
 pub where_holds : {A : Type 0} (b : Bool) (kind : ErrorKind) (answer : Result A ErrorKind) → b ≡ true → where_true b kind answer ≡ answer
 unfolding where_true

@@ -8,12 +8,12 @@ use Rattle.piton_machine.specs.Views.{◌>>=◌, then_on}
 use Rattle.piton_machine.specs.Step.{piton_step, piton_run, step_cost, cost_after, run_cost}
 use Rattle.piton_machine.specs.Fits.{IsWellFormed, IsState}
 use Rattle.piton_machine.specs.Law.{Steps, none, more, advanced}
-use Rattle.piton_machine.specs.Seen.{Ran, Seen, end_by, run_of, saturated, seen_after, seen_from}
+use Rattle.piton_machine.specs.Seen.{Seen, run_of, saturated, seen_after, seen_from}
 use Rattle.piton_machine.proofs.ViewLaws.{went_on}
 use Rattle.piton_machine.proofs.WordViewLaws.{same_Ok}
 use Rattle.piton_machine.proofs.KeepLaws.{step_kept}
 use Rattle.piton_machine.specs.declared.stepped.PitonRun.TheVariants as ran
-use Rattle.piton_machine.proofs.SeenLaws.{first_step, stays, ran_none}
+use Rattle.piton_machine.proofs.SeenLaws.{first_step, stays}
 
 -- one step first
 pub run_first : (s : SystemView) (k : ℕ) (p q : PitonState) → piton_step s p ≡ Ok q → piton_run s (suc k) p ≡ piton_run s k q
@@ -42,15 +42,6 @@ pub cost_none : (s : SystemView) (p : PitonState) → run_cost s 0 p ≡ 0
 unfolding run_cost
 cost_none s p = refl
 
--- a run and then another
-pub run_add : (s : SystemView) (j k : ℕ) (p q : PitonState) → piton_run s j p ≡ Ok q → piton_run s (j + k) p ≡ piton_run s k q
-run_add s zero k p q h =
-    let same : p ≡ q = same_Ok (sym (run_none s p) ∙ h) in
-    ap (λ n. piton_run s n p) (omega arith) ∙ ap (piton_run s k) same
-run_add s (suc j) k p q h =
-    let f = first_of_run s j p q h in
-    ap (λ n. piton_run s n p) (omega arith) ∙ run_first s (j + k) p f.next f.step ∙ run_add s j k f.next q f.rest
-
 -- what each state of a run keeps
 pub run_kept : (s : SystemView) (k : ℕ) (p q : PitonState) → IsWellFormed s → IsState s p → piton_run s k p ≡ Ok q → IsState s q
 run_kept s zero p q sound is h = subst (IsState s) (same_Ok (sym (run_none s p) ∙ h)) is
@@ -67,9 +58,6 @@ seen_next_by s v q f fs (g ∷ gs) e h = ap (λ r. r >>= λ q. Ok (seen_after s 
 pub seen_next : (s : SystemView) (k : ℕ) (v : Seen) (q : PitonState) (f : Frame) (fs : List Frame) → v.state.frames ≡ f ∷ fs →
     piton_step s v.state ≡ Ok q → run_of s (suc k) v ≡ run_of s k (seen_after s v q)
 seen_next s k v q f fs e h = first_step s k v (Ok (seen_after s v q)) (seen_next_by s v q f fs v.state.frames e h)
-
-twice : (a b c : ℕ) → saturated (saturated (a + b) + c) ≡ saturated (a + (b + c))
-twice a b c = omega arith
 
 -- a run goes on behind steps, and both counts tell them
 along_from : (s : SystemView) (j n k : ℕ) (p q : PitonState) → Steps s j n p q → (v : Seen) → v.state ≡ p → v.steps < 2 ^ 64 → v.counted < 2 ^ 64 →
@@ -110,19 +98,6 @@ steps_cost s i n x y (more {j = j} {n = m} {p = p} {q = p'} {r = q} f fs here st
 pub halts : (s : SystemView) (j n k : ℕ) (v : Seen) (q : PitonState) → Steps s j n v.state q → v.steps < 2 ^ 64 → v.counted < 2 ^ 64 →
     q.frames ≡ [] → run_of s (j + k) v ≡ record { run = ran.Halted; seen = advanced v j n q }
 halts s j n k v q steps a b e = along s j n k v q steps a b ∙ stays s k (advanced v j n q) e
-
-spent_by : (v : Seen) (f : Frame) (fs fs' : List Frame) → fs' ≡ f ∷ fs →
-    ◌≡◌ {A = Ran} (record { run = end_by fs'; seen = v }) (record { run = ran.Spent; seen = v })
-spent_by v f fs [] e = cc
-spent_by v f fs (g ∷ gs) e = refl
-
-pub spends : (s : SystemView) (j n : ℕ) (v : Seen) (q : PitonState) (f : Frame) (fs : List Frame) → Steps s j n v.state q → v.steps < 2 ^ 64 →
-    v.counted < 2 ^ 64 → q.frames ≡ f ∷ fs → run_of s j v ≡ record { run = ran.Spent; seen = advanced v j n q }
-spends s j n v q f fs steps a b e =
-    ap (λ i. run_of s i v) (omega arith)
-    ∙ along s j n 0 v q steps a b
-    ∙ ran_none s (advanced v j n q)
-    ∙ spent_by (advanced v j n q) f fs q.frames e
 
 refused_by : (s : SystemView) (v : Seen) (kind : ErrorKind) (f : Frame) (fs fs' : List Frame) → fs' ≡ f ∷ fs → piton_step s v.state ≡ Err kind →
     seen_from s v fs' ≡ Err kind

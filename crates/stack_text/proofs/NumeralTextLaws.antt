@@ -1,13 +1,10 @@
 -- The decimal digits of a number are a numeral of it, and without a sign where the number was read from digits alone.
-use Rattle.std.proofs.Common.{◌≡◌, ℕ, ◌^◌, Bool, true, false, ◌&&◌, cond, ltb, List, [], ◌∷◌, length, Some, None, refl, sym, subst, arith}
+use Rattle.std.proofs.Common.{◌≡◌, ℕ, ◌^◌, Bool, true, false, ◌&&◌, cond, List, Some, None, refl, sym, subst, arith}
 use Rattle.std.specs.Prelude.{ℤ, pos, negsuc}
-use Rattle.std.specs.List.{list_all}
-use Rattle.std.specs.Char.{is_ascii_digit}
 use Rattle.std.specs.Fmt.{decimal, signed_decimal}
-use Rattle.std.specs.Str.Parse.{AllDigits, IsNumeral, digits_value, starts_with_minus, without_leading_plus}
-use Rattle.std.proofs.lemmas.Bool.{ltb-true, lt-ltb, le-leb, ne_eqb}
+use Rattle.std.specs.Str.Parse.{digits_value, without_leading_plus}
+use Rattle.std.proofs.lemmas.Bool.{ltb-true, lt-ltb}
 use Rattle.std.proofs.lemmas.Fmt.{decimal_is_IsNumeral_wide}
-use Rattle.std.proofs.lemmas.Str.Parse.{digit_from_value}
 use Rattle.stack_text.specs.Numerals.{is_digits, is_numeral, numeral_value, fits_128_bits, IsNatural}
 use Rattle.stack_text.proofs.AtomLaws.{no_minus, numeral_passes, numeral_of-signed_decimal}
 
@@ -26,10 +23,6 @@ numeral-signed_decimal z fits = (numeral_of-signed_decimal z fits).0
 
 pub value-digits : (ds : List ℕ) → is_digits ds ≡ true → numeral_value ds ≡ pos (digits_value 10 (without_leading_plus ds))
 value-digits ds h = rw (no_minus ds h) refl
-
--- digits alone are a numeral
-pub digits_are_numeral : (ds : List ℕ) → is_digits ds ≡ true → is_numeral ds ≡ true
-digits_are_numeral ds h = rw (no_minus ds h) h
 
 pub digits-pos : (n : ℕ) → fits_128_bits (pos n) ≡ true → is_digits (signed_decimal (pos n)) ≡ true
 digits-pos n fits = let h = ltb-true n (2 ^ 127) fits in numeral_passes (decimal n) (decimal_is_IsNumeral_wide n (omega (arith, h))).0

@@ -6,7 +6,7 @@ use Rattle.stack_text.specs.Tokens.{Token, opens_at, closes_at, atom_at, between
 use Rattle.stack_text.specs.Trees.{Node, tokens_of, tokens_of_all, as_kept}
 use Rattle.stack_text.specs.TreeView.{nodes, node_of, nodes_of}
 use Rattle.stack_text.specs.TextFaults.{Context, before, within, after, open_lists, after_tree, first_fault, text_fault}
-use Rattle.stack_text.specs.OpenLists.{opened, context_from, context, Puts, Steps, ReadsText, Finishes}
+use Rattle.stack_text.specs.OpenLists.{opened, context_from, context, Puts, Steps, ReadsText, ReturnsAlone}
 use Rattle.stack_text.specs.declared.reader.OpenList.{OpenList}
 use Rattle.stack_text.specs.declared.tree.Tree.{Tree}
 use Rattle.stack_text.specs.declared.tree.Tree.TheBlock.{Atom}
@@ -109,7 +109,7 @@ pub text_ends : (text : List ℕ) (old new : List OpenList) (tok : Token) (e : T
 text_ends text old new tok (Fault r p) ts h is = is ∙ h (length text) ts
 text_ends text old new tok Memory ts h is = tt
 
-pub text_finishes : (text : List ℕ) (old new : List OpenList) (tok : Token) (t : Tree) (ts : List Token) (r : Result Tree TextFault) → Steps old tok (Ok (Some t)) new → Finishes (length text) t ts r →
+pub text_finishes : (text : List ℕ) (old new : List OpenList) (tok : Token) (t : Tree) (ts : List Token) (r : Result Tree TextFault) → Steps old tok (Ok (Some t)) new → ReturnsAlone (length text) t ts r →
     map as_kept (tokens between 0 text) ≡ opened old ++ map as_kept (tok ∷ ts) → text_fault text ≡ first_fault (length text) (context old) (tok ∷ ts) → ReadsText text r
 text_finishes text old new tok t ts (Ok u) h f kept_is fault_is = (
   fault_is ∙ h.1 (length text) ts ∙ ap (λ (us : List Token). first_fault (length text) after us) f.0,

@@ -41,10 +41,10 @@ Steps old t (Err (Fault rule place)) new = (end : ℕ) (ts : List Token) → fir
 Steps old t (Err Memory) new = Unit {0}
 
 -- The tree is returned, if none of these tokens follows it.
-abbrev pub Finishes : ℕ → Tree → List Token → Result Tree TextFault → Type 0
-Finishes end t ts (Ok u) = (ts ≡ []) × (u ≡ t)
-Finishes end t ts (Err (Fault rule place)) = first_fault end after ts ≡ Some (rule, place)
-Finishes end t ts (Err Memory) = ⊥
+abbrev pub ReturnsAlone : ℕ → Tree → List Token → Result Tree TextFault → Type 0
+ReturnsAlone end t ts (Ok u) = (ts ≡ []) × (u ≡ t)
+ReturnsAlone end t ts (Err (Fault rule place)) = first_fault end after ts ≡ Some (rule, place)
+ReturnsAlone end t ts (Err Memory) = ⊥
 
 -- What was read of a whole text: a tree with the text's tokens and no fault, or the first fault.
 abbrev pub ReadsText : List ℕ → Result Tree TextFault → Type 0

@@ -8,7 +8,7 @@ ghost use Rattle.stack_text.specs.TextFaults.{ReportsFault};
 ghost use Rattle.stack_text.specs.TreeIn.{tree_in, GivesTree};
 ghost use Rattle.stack_text.specs.PlaceOrder.{IsInOrder};
 ghost use Rattle.stack_text.specs.TokenSpans.{token_in};
-ghost use Rattle.stack_text.specs.OpenLists.{Puts, Steps, Finishes, ReadsText};
+ghost use Rattle.stack_text.specs.OpenLists.{Puts, Steps, ReturnsAlone, ReadsText};
 ghost use Rattle.stack_text.specs.declared.text_fault.TextFault.TheVariants.{Fault, Memory};
 
 use crate::lexer::{TokenKind, TokenSpan, next_token};
@@ -89,7 +89,7 @@ fn step(
 fn finish(text: &[u8], from: usize, tree: Tree) -> Result<Tree, TextFault>
     requires small { length text.now ≤ 2 ^ 31 }
     requires within { from ≤ length text.now }
-    ensures { Finishes (length text.now) tree (tokens between from (drop from text.now)) result }
+    ensures { ReturnsAlone (length text.now) tree (tokens between from (drop from text.now)) result }
 {
     match next_token(text, from) {
         None => Ok(tree),
