@@ -11,8 +11,8 @@ use Rattle.gypsy_syntax.specs.declared.predef.Predef.{Predef}
 use Rattle.gypsy_syntax.specs.declared.predef.Predef.TheVariants as row
 use Rattle.gypsy_predef.specs.Bodies.{predef_number}
 use Rattle.gypsy_predef.specs.Texts.{body_text, body_texts}
-use Rattle.gypsy_predef.specs.Resolving.{BodiesResolve, BodiesStandResolved, BodiesKeepRules, DoTheirRows}
-use Rattle.gypsy_predef.proofs.CallLaws.{get_after}
+use Rattle.gypsy_predef.specs.Resolving.{BodiesResolve, BodiesStandResolved, BodiesKeepRules, DoTheirCalls, DoTheirRows}
+use Rattle.gypsy_predef.proofs.CallLaws.{calls, get_after}
 use Rattle.gypsy_predef.proofs.RowLaws.{runs}
 
 pub resolve : BodiesResolve
@@ -59,6 +59,11 @@ pub do_rows : (texts : List ProgramOf) → texts ≡ body_texts → DoTheirRows 
 do_rows texts same s programs r k args stack f fs p ends area at fits =
     let last : s.programs ≡ programs ++ body_texts = ends ∙ ap (λ (ps : List ProgramOf). programs ++ ps) same in
     runs (system_view (resolved s)) (length programs) r k args stack f fs p (stand_resolved s programs r last area) at fits
+
+pub do_calls : (texts : List ProgramOf) → texts ≡ body_texts → DoTheirCalls texts
+do_calls texts same s programs target r k args f fs p ends area at =
+    let last : s.programs ≡ programs ++ body_texts = ends ∙ ap (λ (ps : List ProgramOf). programs ++ ps) same in
+    calls (system_view (resolved s)) (length programs) target r k args f fs p (stand_resolved s programs r last area) at
 
 pub keep_rules : BodiesKeepRules
 unfolding operations.row_of

@@ -1,5 +1,5 @@
 -- What is known of the texts of the bodies: they keep the form and the rules, mean the programs, and do their rows.
-use Rattle.std.specs.Prelude.{◌≡◌, ◌+◌, List, [], ◌++◌, length, slice_get, Some}
+use Rattle.std.specs.Prelude.{◌≡◌, ℕ, ◌+◌, List, [], ◌++◌, length, slice_get, Some}
 use Rattle.stack_text.specs.declared.shape.Kind.{Kind}
 use Rattle.piton_words.specs.declared.word.Word.{Word}
 use Rattle.piton_syntax.specs.Systems.{ProgramOf, SystemOf}
@@ -9,10 +9,13 @@ use Rattle.piton_syntax.specs.Fits.{FitsProgram}
 use Rattle.piton_check.specs.Resolved.{resolved, resolved_program}
 use Rattle.piton_check.specs.Instruction.{program_view, system_view}
 use Rattle.piton_machine.specs.State.{Frame, PitonState}
+use Rattle.piton_machine.specs.Law.{Steps}
 use Rattle.gypsy_syntax.specs.declared.predef.Predef.{Predef}
 use Rattle.gypsy_syntax.specs.Predefined.{slots_of}
 use Rattle.gypsy_syntax.specs.Effects.{predef_effect}
+use Rattle.gypsy_syntax.specs.PredefinedCosts.{predef_cost}
 use Rattle.gypsy_predef.specs.Bodies.{body_of, predef_number}
+use Rattle.gypsy_predef.specs.Calls.{IsAtCode, after_code, predef_code}
 use Rattle.gypsy_predef.specs.Runs.{Argument, ArgumentsFit, IsAtCall, Runs, values_of}
 use Rattle.gypsy_predef.specs.Texts.{body_text, body_texts, condition_area}
 
@@ -41,6 +44,18 @@ DoTheirRows texts = (s : SystemOf) (programs : List ProgramOf) (r : Predef) (k :
     let system = system_view (resolved s) in
     IsAtCall system (length programs + predef_number r) r args stack f fs p → ArgumentsFit stack k (slots_of r) args →
     Runs system r args stack p (predef_effect r (values_of args))
+
+-- The same from the code of a statement on: the arguments pushed, the call, and the test for a fault.
+abbrev pub DoTheirCalls : List ProgramOf → Type 0
+DoTheirCalls texts = (s : SystemOf) (programs : List ProgramOf) (target : ℕ) (r : Predef) (k : Kind) (args : List Argument)
+    (f : Frame) (fs : List Frame) (p : PitonState) →
+    s.programs ≡ programs ++ texts → first_of (area_names s) condition_area ≡ Some 0 →
+    let system = system_view (resolved s) in
+    let program = length programs + predef_number r in
+    IsAtCode system program target r k args f fs p →
+    let e = predef_effect r (values_of args) in
+    Steps system (predef_cost r e).1 (predef_cost r e).0 p
+    (after_code p target (length (predef_code r program target args)) args e)
 
 -- each text keeps the form of a program
 abbrev pub BodiesFit : Type 0

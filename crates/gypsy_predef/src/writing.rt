@@ -4,7 +4,7 @@ ghost use Rattle.std.specs.Prelude.{◌≡◌, ◌++◌, IfOk, OnOk, [], ◌∷�
 ghost use Rattle.std.specs.List.{flat_map};
 ghost use Rattle.stack_text.specs.Grammar.Printed.{unplaced};
 ghost use Rattle.gypsy_predef.specs.declared.line.Line.TheVariants.{Get, Put, Fail};
-ghost use Rattle.gypsy_predef.specs.Resolving.{DoTheirRows};
+ghost use Rattle.gypsy_predef.specs.Resolving.{DoTheirCalls, DoTheirRows};
 ghost use Rattle.gypsy_predef.specs.Texts.{body_text, body_texts, line_text, named_local, temporaries_text};
 ghost use Rattle.gypsy_predef.specs.Texts.{fail_label, local_name, of_name};
 
@@ -169,10 +169,12 @@ static PREDEFS: [Predef; 13] = [
     Predef::MgArrayElementAssignment,
 ];
 
-/// The thirteen predefined programs, in the order of the table. Each does its row, where a system ends with them.
+/// The thirteen predefined programs, in the order of the table. Where a system ends with them and its first area is `c-c`,
+/// each does its row: from the call itself, and from the first push of a statement's code until after the test for a fault.
 pub fn bodies(alloc: Global) -> Result<Vec<Program>, Memory>
     ensures texts { IfOk result (λ programs. programs.items ≡ body_texts) }
     ensures rows { IfOk result (λ programs. DoTheirRows programs.items) }
+    ensures calls { IfOk result (λ programs. DoTheirCalls programs.items) }
 {
     programs(alloc, PREDEFS.as_slice())
 }
