@@ -37,17 +37,16 @@ RECURSION = """(program main
 
 DEEP = numbered(" (proc p", " () () () () (call p", " () ()))", 999)
 
-# Lists of handlers inside one another, and in the innermost body conditions that none of them has.
+# The conditions that each list of handlers has.
 HANDLED = " ".join(f"c{number}" for number in range(199))
-SCOPES = (
-    f"(program main (proc main () () () ({HANDLED} z) "
-    + "(begin " * 195
-    + "(seq"
-    + " (call p () (z z z z z))" * 16000
-    + ")"
-    + f" ({HANDLED}) (no-op))" * 195
-    + ") (proc p () (a b c d e) () () (no-op)))"
-)
+
+
+def inside_handlers(statement, count):
+    """A source with so many of these statements inside lists of handlers that have none of their conditions."""
+    opened, closed = "(begin " * 195, f" ({HANDLED}) (no-op))" * 195
+    body = f"{opened}(seq{statement * count}){closed}"
+    return f"(program main (proc main () () () ({HANDLED} z) {body}) (proc p () (a b c d e) () () (no-op)))"
+
 
 TEXTS = [
     # Trees.
@@ -185,7 +184,7 @@ TEXTS = [
     ),
     ("gypsy", "one procedure more", "check t", lambda: "(program p" + " (proc p () () () () (no-op))" * 1001 + ")", 2, "refused M12 at 0"),
     ("gypsy", "40,000 of these calls, generated", "pit t 9 9 o", lambda: of_calls(" (call p998 () ())" * 40000, DEEP), 0, "written o"),
-    ("gypsy", "16,000 calls inside 195 lists of 199 handlers, generated", "pit t 999 9 o", lambda: SCOPES, 0, "written o"),
+    ("gypsy", "16,000 calls inside 195 lists of 199 handlers, generated", "pit t 999 9 o", lambda: inside_handlers(" (call p () (z z z z z))", 16000), 0, "written o"),
 ]
 
 # Runs: the layer, the name, the words, the source, the values, and what is printed.

@@ -19,6 +19,15 @@ import limit_tables
 TURNS = 5
 
 
+def write(number, folder):
+    """Writes the text and the values of a row. It is done by a process of its own, since a process begins with the most memory of its parent."""
+    rows = limit_tables.TEXTS + limit_tables.RUNS
+    row = rows[int(number)]
+    is_text = callable(row[3])
+    Path(folder, "t").write_text(row[3]() if is_text else row[3])
+    Path(folder, "v").write_text("" if is_text else row[4])
+
+
 def taken(program, words, folder):
     """What a command prints, the least time of some turns, and the memory of that turn."""
     turns = []
@@ -32,19 +41,21 @@ def taken(program, words, folder):
 
 def main(program, layer=None):
     program = str(Path(program).resolve())
-    rows = [(row[0], row[1], row[2], row[3](), "") for row in limit_tables.TEXTS]
-    rows += [row[:5] for row in limit_tables.RUNS]
     print("| Text | Command | Bytes | Printed | Time | Memory |\n|---|---|---|---|---|---|")
-    for of, name, words, text, values in rows:
+    for number, row in enumerate(limit_tables.TEXTS + limit_tables.RUNS):
+        of, name, words = row[:3]
         if layer in (None, of):
             with tempfile.TemporaryDirectory() as folder:
-                Path(folder, "t").write_text(text)
-                Path(folder, "v").write_text(values)
+                subprocess.run([sys.executable, __file__, "--write", str(number), folder], check=True)
+                length = Path(folder, "t").stat().st_size
                 seconds, memory, printed = taken(program, words, folder)
-            print(f"| {name} | `{words.split()[0]}` | {len(text):,} | `{printed}` | {seconds:.2f} s | {memory} MB |", flush=True)
+            print(f"| {name} | `{words.split()[0]}` | {length:,} | `{printed}` | {seconds:.2f} s | {memory} MB |", flush=True)
 
 
 if __name__ == "__main__":
     if len(sys.argv) < 2:
         sys.exit(__doc__)
-    main(*sys.argv[1:])
+    if sys.argv[1] == "--write":
+        write(*sys.argv[2:])
+    else:
+        main(*sys.argv[1:])
