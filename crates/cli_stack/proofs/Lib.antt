@@ -1,3 +1,4 @@
+pub mod CompletesLaws
 pub mod ImplementsLaws
 pub mod KnownLaws
 pub mod LinkedLaws

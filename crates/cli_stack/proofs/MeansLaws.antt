@@ -209,11 +209,11 @@ abbrev first_role : List (Role × List ℕ) → Role
 first_role [] = Piton
 first_role (f ∷ fs) = f.0
 
-abbrev first_name : List (Role × List ℕ) → List ℕ
+abbrev pub first_name : List (Role × List ℕ) → List ℕ
 first_name [] = []
 first_name (f ∷ fs) = f.1
 
-abbrev others : List (Role × List ℕ) → List (Role × List ℕ)
+abbrev pub others : List (Role × List ℕ) → List (Role × List ℕ)
 others [] = []
 others (f ∷ fs) = fs
 

@@ -11,8 +11,8 @@ use Rattle.command_line.specs.declared.command.Command.{Command}
 use Rattle.command_line.specs.declared.early_end.EarlyEnd.{EarlyEnd}
 use Rattle.command_line.specs.declared.early_end.EarlyEnd.TheVariants as early
 use Rattle.command_line.specs.declared.status.Status.{Status}
-use Rattle.command_line.specs.declared.status.Status.TheVariants.{Missing, ShelfFault, SinkFault, Size, OutOfMemory}
-use Rattle.command_line.specs.Ends.{end_line}
+use Rattle.command_line.specs.declared.status.Status.TheVariants.{Missing, ShelfFault, SinkFault, Size, OutOfMemory, NoWords}
+use Rattle.command_line.specs.Ends.{end_status, end_line}
 use Rattle.command_line.specs.CommandFiles.{input_names, file_names}
 use Rattle.command_line.proofs.PrintLaws.{nothing_printed}
 use Rattle.cli_stack.specs.declared.driver.conclude.Conclusion.{Conclusion}
@@ -27,6 +27,7 @@ use Rattle.cli_stack.specs.Correct.{Compiles, Tells}
 use Rattle.cli_stack.specs.Means.{Means}
 use Rattle.cli_stack.specs.Linked.{Links}
 use Rattle.cli_stack.specs.Driver.{HasReason, IsReplyTo, LeavesAs, Leaves, machine_kept, conclusion_of, Stopped, NotBegun, Concludes}
+use Rattle.cli_stack.proofs.CompletesLaws.{completes}
 use Rattle.cli_stack.proofs.MachineLaws.{only_runs}
 use Rattle.cli_stack.proofs.SizeLaws.{sizes_alone, size_refused}
 
@@ -57,6 +58,19 @@ plain_verdict v = refl
 own_verdict : (v : Verdict) → is_own (status_of v) ≡ true
 own_verdict verdict.Done = refl
 own_verdict v = refl
+
+-- one that a call which has its words ends with
+abbrev is_after_words : Status → Bool
+is_after_words NoWords = false
+is_after_words status = true
+
+verdict_after_words : (v : Verdict) → is_after_words (status_of v) ≡ true
+verdict_after_words verdict.Done = refl
+verdict_after_words v = refl
+
+end_after_words : (e : EarlyEnd) → is_after_words (end_status e) ≡ true
+end_after_words early.OutOfMemory = refl
+end_after_words e = refl
 
 -- 2. Where the files are known.
 
@@ -229,7 +243,21 @@ caused command watches before after (Err (early.ShelfFault name)) status reason 
 }
 caused command watches before after (Err early.OutOfMemory) status reason to (inr none) = absurd none
 
--- 4. Together.
+-- 4. The words were read.
+
+ends_after_words : (c : Conclusion) (status : Status) (before after : World) → is_after_words c.status ≡ true → Concludes (Some c) status before.out after.out → status ≢ NoWords
+ends_after_words c status before after own (inl n) = λ h. apart is_after_words OutOfMemory NoWords refl refl (sym n.ends ∙ h)
+ends_after_words c status before after own (inr (inl p)) = λ h. apart is_after_words c.status NoWords own refl (sym p.ends ∙ h)
+ends_after_words c status before after own (inr (inr s)) = λ h.
+    ⊎_elim (λ (failed : (status ≡ SinkFault) × Rose before.out.faults after.out.faults). apart is_after_words SinkFault NoWords refl refl (sym failed.0 ∙ h)) (λ memory. apart is_after_words OutOfMemory NoWords refl refl (sym memory ∙ h)) s.cause
+
+words_read : (ran : Result Reply EarlyEnd) (status : Status) (before after : World) → Concludes (conclusion_of ran) status before.out after.out → status ≢ NoWords
+words_read (Ok reply) status before after ends = ends_after_words _ status before after (verdict_after_words reply.verdict) ends
+words_read (Err early.OutOfMemory) status before after (inl n) = λ h. apart is_after_words OutOfMemory NoWords refl refl (sym n.ends ∙ h)
+words_read (Err early.OutOfMemory) status before after (inr none) = absurd none
+words_read (Err e) status before after ends = ends_after_words _ status before after (end_after_words e) ends
+
+-- 5. Together.
 
 -- where the files are known
 if_known : (o : Option Files) (P Q : Files → Type 0) → ((files : Files) → P files → Q files) → IfSome o P → IfSome o Q
@@ -250,12 +278,16 @@ promises command watches before after ran status leaves reason to ends implement
     if_known before.shelf.files (λ files. Leaves command watches files before.shelf after.shelf ran) (λ files. Known (answer_by command watches files) (file_names command) files before after status)
     (λ files l. known command (answer_by command watches files) files before after ran status l reason ends) leaves in
     let causes = caused command watches before after ran status reason to ends in
+    let agrees : IfSome before.shelf.files (λ files. status ≢ ShelfFault → status ≢ SinkFault → status ≢ OutOfMemory → Agrees (answer_by command watches files) files before after status) =
+    if_known before.shelf.files (λ files. Known (answer_by command watches files) (file_names command) files before after status) _ (λ files k. k.answers) all in
     record {
-      answers = if_known before.shelf.files (λ files. Known (answer_by command watches files) (file_names command) files before after status) _ (λ files k. k.answers) all;
+      answers = agrees;
       implements = implements;
       tells = tells;
       means = means;
       links = links;
+      completes = completes watches before after status command before.shelf.files agrees causes.shelf_fault causes.sink_fault tells;
+      words_read = words_read ran status before after ends;
       missing = causes.missing;
       shelf_fault = causes.shelf_fault;
       sink_fault = causes.sink_fault;

@@ -3,6 +3,7 @@ pub mod Promises
 pub mod Correct
 pub mod Means
 pub mod Linked
+pub mod Completes
 pub mod Answer
 pub mod World
 pub mod Replies

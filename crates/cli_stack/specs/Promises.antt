@@ -11,7 +11,7 @@ use Rattle.command_line.specs.declared.early_end.EarlyEnd.TheVariants as end
 use Rattle.command_line.specs.declared.role.Role.TheVariants.{Image}
 use Rattle.command_line.specs.declared.status.Status.{Status}
 use Rattle.command_line.specs.declared.status.Status.TheVariants.{Done, Unfinished, Outside}
-use Rattle.command_line.specs.declared.status.Status.TheVariants.{Missing, ShelfFault, SinkFault, Size, OutOfMemory}
+use Rattle.command_line.specs.declared.status.Status.TheVariants.{Missing, ShelfFault, SinkFault, Size, OutOfMemory, NoWords}
 use Rattle.command_line.specs.Status.{status_code}
 use Rattle.command_line.specs.Rows.{command_of}
 use Rattle.command_line.specs.Ends.{end_line}
@@ -25,6 +25,7 @@ use Rattle.cli_stack.specs.World.{World}
 use Rattle.cli_stack.specs.Correct.{StoresFile, sizes_of, Compiles, Tells}
 use Rattle.cli_stack.specs.Means.{Means}
 use Rattle.cli_stack.specs.Linked.{Links}
+use Rattle.cli_stack.specs.Completes.{Completes}
 use Rattle.cli_stack.specs.Big.{source_line}
 
 -- 1. What no failure spoils.
@@ -128,6 +129,10 @@ pub record PromisesOf (command : Option Command) (watches : List Watching) (answ
   pub means : IfSome before.shelf.files (λ files. Means command files (answer files))
   -- who reads a Piton text and stores an image stores what does as the text's system
   pub links : IfSome before.shelf.files (λ files. Links command files (answer files).output)
+  -- who stores a source's image and runs it does both, where nothing is wrong and no device fails
+  pub completes : IfSome before.shelf.files (λ files. Completes command files before after status)
+  -- words that couldn't be read are no end of a call that has them
+  pub words_read : status ≢ NoWords
   -- why a device's failure is the status, and at which name
   pub missing : status ≡ Missing
       → RoseAndPrinted (λ c. c.absences) (λ name. end_line (end.Missing name)) (input_names command) before after

@@ -1,0 +1,183 @@
+-- Where nothing is wrong, `go` stores the image and tells the meaning.
+use Rattle.std.proofs.Common.{◌≡◌, ◌≤◌, ◌⊎◌, inl, inr, ⊎_elim, ℕ, List, [], ◌∷◌, true, Option, Some, None, IfSome, Result, Ok, refl, sym, ap, ◌∙◌, subst, arith}
+use Rattle.std.specs.Prelude.{◌≢◌, nat_le}
+use Rattle.std.proofs.lemmas.Bool.{le-leb}
+use Rattle.stack_text.specs.Values.{ValueOf}
+use Rattle.fm_image.specs.Spelling.{spelling}
+use Rattle.fm_loader.specs.Values.{values_in}
+use Rattle.stack_shelf.specs.Files.{Files}
+use Rattle.stack_shelf.specs.Causes.{Rose}
+use Rattle.stack_shelf.specs.Shelf.{appended}
+use Rattle.level_debuggers.specs.Tallies.{Watching}
+use Rattle.gypsy_syntax.specs.Programs.{Program}
+use Rattle.gypsy_syntax.specs.Sources.{SourceOf}
+use Rattle.gypsy_syntax.specs.Resolved.{program_of}
+use Rattle.gypsy_space.specs.Needs.{Words, stack_words, main_used, main_need}
+use Rattle.gypsy_meaning.specs.Calls.{Way}
+use Rattle.gypsy_codegen.specs.declared.fault.GenFault.{GenFault}
+use Rattle.gypsy_codegen.specs.Acceptable.{total_words, LimitsFit}
+use Rattle.gypsy_codegen.specs.Answers.{are_sizes, size_fault, unless_fault, generation}
+use Rattle.gypsy_codegen.specs.Text.{generated}
+use Rattle.gypsy_codegen.proofs.AnswerLaws.{no_fault}
+use Rattle.stack_build.specs.declared.fault.BuildFault.{BuildFault}
+use Rattle.stack_build.specs.Build.{BuiltOf, built, built_with}
+use Rattle.stack_build.specs.Image.{image_of}
+use Rattle.stack_build.specs.Implements.{Finishes}
+use Rattle.stack_build.proofs.BuildLaws.{built_small, text_builds}
+use Rattle.command_line.specs.declared.command.Command.{Command}
+use Rattle.command_line.specs.declared.command.Command.TheVariants as command
+use Rattle.command_line.specs.declared.early_end.EarlyEnd.{EarlyEnd}
+use Rattle.command_line.specs.declared.early_end.EarlyEnd.TheVariants as early
+use Rattle.command_line.specs.declared.role.Role.{Role}
+use Rattle.command_line.specs.declared.role.Role.TheVariants.{Source, Values, Image}
+use Rattle.command_line.specs.declared.status.Status.{Status}
+use Rattle.command_line.specs.declared.status.Status.TheVariants.{ShelfFault, SinkFault, OutOfMemory}
+use Rattle.command_line.specs.CommandFiles.{inputs_of, output_of, file_names}
+use Rattle.command_line.specs.Ends.{end_line}
+use Rattle.command_line.specs.Gathered.{Texts}
+use Rattle.cli_stack.specs.Answer.{set_file, stored_by, answer_on, answer_to, answer_by, files_after}
+use Rattle.cli_stack.specs.Build.{image_stored}
+use Rattle.cli_stack.specs.Correct.{IsReadable, IsBuilt, TellsMeaning, Tells}
+use Rattle.cli_stack.specs.Completes.{HasSource, Completed, CompletesRun, CompletesCommand, Completes}
+use Rattle.cli_stack.specs.Promises.{Agrees, RoseAndPrinted}
+use Rattle.cli_stack.specs.World.{World}
+use Rattle.cli_stack.proofs.MeansLaws.{first_name, others}
+use Rattle.cli_stack.proofs.TellsLaws.{both_there}
+
+-- 1. What is within the limits is built.
+
+-- main itself needs a word of each stack
+needs_control : (q : Program) → 1 ≤ (main_need q).ctrl
+unfolding main_need main_used
+needs_control q = omega arith
+
+needs_temporary : (q : Program) → 1 ≤ (main_need q).temp
+unfolding main_need main_used
+needs_temporary q = omega arith
+
+sizes_are : (q : Program) (sizes : Words) → LimitsFit q sizes 0 → are_sizes sizes ≡ true
+sizes_are q sizes limits =
+    let some_control = needs_control q in
+    let some_temporary = needs_temporary q in
+    let ctrl : (main_need q).ctrl ≤ sizes.ctrl = limits.sizes_fit.suffice.ctrl in
+    let temp : (main_need q).temp ≤ sizes.temp = limits.sizes_fit.suffice.temp in
+    let first : nat_le 1 sizes.ctrl ≡ true = le-leb 1 sizes.ctrl (omega (arith, some_control, ctrl)) in
+    let second : nat_le sizes.ctrl 65536 ≡ true = le-leb sizes.ctrl 65536 limits.few_ctrl in
+    let third : nat_le 1 sizes.temp ≡ true = le-leb 1 sizes.temp (omega (arith, some_temporary, temp)) in
+    let fourth : nat_le sizes.temp 65536 ≡ true = le-leb sizes.temp 65536 limits.sizes_fit.small in
+    rw (first, second, third, fourth) refl
+
+-- what is built of a source
+abbrev parts_of : SourceOf → Words → BuiltOf
+parts_of source sizes = built_with source sizes 0 (generated source sizes 0)
+
+is_generated : (source : SourceOf) (sizes : Words) → LimitsFit (program_of source) sizes 0 → generation source sizes 0 ≡ Ok (generated source sizes 0)
+is_generated source sizes limits =
+    let q = program_of source in
+    let none : size_fault q sizes ≡ None = sym (no_fault q sizes (total_words q) (sizes_are q sizes limits) limits.sizes_fit.suffice.ctrl limits.sizes_fit.suffice.temp refl limits.few_words) in
+    ap (λ (o : Option GenFault). unless_fault o (generated source sizes 0)) none
+
+is_built : (files : Files) (name : List ℕ) (control temporary : ℕ) (source : SourceOf) (has : HasSource files name (stack_words temporary control) source)
+    → built has.text control temporary 0 ≡ Ok (parts_of source (stack_words temporary control))
+is_built files name control temporary source has =
+    let sizes = stack_words temporary control in
+    text_builds has.text control temporary 0 source has.read
+    ∙ built_small source sizes 0 (generated source sizes 0) (is_generated source sizes has.fits.limits) has.fits.image
+
+-- 2. What is stored.
+
+module _ (watches : List Watching) (files : Files) (source_name values_name name : List ℕ) (control temporary budget : ℕ) (source : SourceOf) (values_text : List ℕ)
+    (has : HasSource files source_name (stack_words temporary control) source) (there : IsReadable files Values values_name values_text) where
+  is_stored : (answer_to (command.Go source_name values_name control temporary budget name) watches files).output ≡ Some (name, spelling (image_of source (stack_words temporary control) 0))
+  unfolding inputs_of output_of stored_by
+  is_stored =
+      ap (λ (r : Result Texts EarlyEnd). (answer_on (command.Go source_name values_name control temporary budget name) watches r).output)
+      (both_there files (Source, source_name) (Values, values_name) has.text values_text has.readable there)
+      ∙ ap (λ (b : Result BuiltOf BuildFault). set_file (Some (Image, name)) (image_stored b)) (is_built files source_name control temporary source has)
+
+  -- 3. What is told.
+
+  made : IsBuilt files source_name (stack_words temporary control) source (image_of source (stack_words temporary control) 0)
+  made = record {
+    text = has.text;
+    readable = has.readable;
+    read = has.read;
+    found = parts_of source (stack_words temporary control);
+    made = is_built files source_name control temporary source has;
+    same = refl;
+  }
+
+  is_told : Tells (Some (command.Go source_name values_name control temporary budget name)) files (answer_to (command.Go source_name values_name control temporary budget name) watches files)
+      → (values finals : List ValueOf) (way : Way) (count : ℕ) → values_in (image_of source (stack_words temporary control) 0).slots values_text ≡ Ok values
+      → Finishes source (stack_words temporary control) values finals way count → count ≤ budget
+      → TellsMeaning source (image_of source (stack_words temporary control) 0) finals way count (answer_to (command.Go source_name values_name control temporary budget name) watches files)
+  unfolding inputs_of output_of
+  is_told tells values finals way count gives done enough =
+      let run = tells values_name (1, omega arith, refl) (inr (name, refl)) in
+      run.1 (stack_words temporary control) source (image_of source (stack_words temporary control) 0) values_text values finals way count (refl, made) there gives done enough
+
+  -- the command comes to its answer
+  module _ (before after : World) (status : Status) where
+    agreeing : Agrees (answer_to (command.Go source_name values_name control temporary budget name) watches files) files before after status
+        → Tells (Some (command.Go source_name values_name control temporary budget name)) files (answer_to (command.Go source_name values_name control temporary budget name) watches files)
+        → Completed files name source (stack_words temporary control) values_text budget before after status
+    agreeing agrees tells = record {
+      stored = agrees.files_left ∙ ap (λ (o : Option (List ℕ × List ℕ)). Some (files_after o files)) is_stored;
+      told = λ values finals way count gives done enough.
+          let tell = is_told tells values finals way count gives done enough in
+          record { ends = agrees.ends ∙ tell.status; printed = agrees.text ∙ ap (appended before.out.taken) tell.text };
+    }
+
+-- 4. All commands.
+
+-- the name of a file that is written
+abbrev written_name : Option (Role × List ℕ) → List ℕ
+written_name None = []
+written_name (Some file) = file.1
+
+-- memory ran out or it didn't
+memory_or_not : (status : Status) → (status ≡ OutOfMemory) ⊎ (status ≢ OutOfMemory)
+memory_or_not OutOfMemory = inl refl
+memory_or_not status = inr (λ e. cc)
+
+module _ (watches : List Watching) (before after : World) (status : Status) where
+  -- `go`, of its own files
+  completes_go : (source_name values_name name : List ℕ) (control temporary budget : ℕ) (files : Files)
+      → (status ≢ ShelfFault → status ≢ SinkFault → status ≢ OutOfMemory → Agrees (answer_to (command.Go source_name values_name control temporary budget name) watches files) files before after status)
+      → (status ≡ ShelfFault → RoseAndPrinted (λ c. c.faults) (λ n. end_line (early.ShelfFault n)) (file_names (Some (command.Go source_name values_name control temporary budget name))) before after)
+      → (status ≡ SinkFault → Rose before.out.faults after.out.faults)
+      → Tells (Some (command.Go source_name values_name control temporary budget name)) files (answer_to (command.Go source_name values_name control temporary budget name) watches files)
+      → CompletesRun (command.Go source_name values_name control temporary budget name) files source_name values_name name (stack_words temporary control) budget before after status
+  completes_go source_name values_name name control temporary budget files answers shelf_fault sink_fault tells source values_text has there none =
+      ⊎_elim (λ memory. inl memory) (λ lasts. inr (agreeing watches files source_name values_name name control temporary budget source values_text has there before after status
+      (answers (λ e. let failed = shelf_fault e in none.shelf failed.0 failed.1 failed.2) (λ e. none.sink (sink_fault e)) lasts) tells)) (memory_or_not status)
+
+  completes_on : (c : Command) (files : Files) → (status ≢ ShelfFault → status ≢ SinkFault → status ≢ OutOfMemory → Agrees (answer_to c watches files) files before after status)
+      → (status ≡ ShelfFault → RoseAndPrinted (λ c. c.faults) (λ name. end_line (early.ShelfFault name)) (file_names (Some c)) before after) → (status ≡ SinkFault → Rose before.out.faults after.out.faults)
+      → Tells (Some c) files (answer_to c watches files) → CompletesCommand c files before after status
+  unfolding inputs_of output_of
+  completes_on (command.Go source_name values_name control temporary budget name) files answers shelf_fault sink_fault tells = λ source values image reads writes.
+      let first : source_name ≡ source = ap first_name reads in
+      let second : values_name ≡ values = ap (λ (fs : List (Role × List ℕ)). first_name (others fs)) reads in
+      let written : name ≡ image = ap written_name writes in
+      let go = command.Go source_name values_name control temporary budget name in
+      let sizes = stack_words temporary control in
+      subst (λ (n : List ℕ). CompletesRun go files n values image sizes budget before after status) first
+      (subst (λ (n : List ℕ). CompletesRun go files source_name n image sizes budget before after status) second
+      (subst (λ (n : List ℕ). CompletesRun go files source_name values_name n sizes budget before after status) written
+      (completes_go source_name values_name name control temporary budget files answers shelf_fault sink_fault tells)))
+  completes_on (command.Mean source_name values_name control temporary limit) files answers shelf_fault sink_fault tells = λ source values image reads writes. absurd (let e : None ≡ Some (Image, image) = writes in cc)
+  completes_on (command.Run image_name values_name budget) files answers shelf_fault sink_fault tells = λ source values image reads writes. absurd (let e : None ≡ Some (Image, image) = writes in cc)
+  completes_on (command.Show image_name) files answers shelf_fault sink_fault tells = λ source values image reads writes. absurd (let e : None ≡ Some (Image, image) = writes in cc)
+  completes_on (command.Check source_name) files answers shelf_fault sink_fault tells = λ source values image reads writes. absurd (let e : None ≡ Some (Image, image) = writes in cc)
+  completes_on (command.Pit source_name control temporary piton) files answers shelf_fault sink_fault tells = λ source values image reads writes. absurd (let e : [] ≡ (Values, values) ∷ [] = ap others reads in cc)
+  completes_on (command.Build source_name control temporary name) files answers shelf_fault sink_fault tells = λ source values image reads writes. absurd (let e : [] ≡ (Values, values) ∷ [] = ap others reads in cc)
+  completes_on (command.Pbuild piton name) files answers shelf_fault sink_fault tells = λ source values image reads writes. absurd (let e : [] ≡ (Values, values) ∷ [] = ap others reads in cc)
+  completes_on c files answers shelf_fault sink_fault tells = λ source values image reads writes. absurd (let e : None ≡ Some (Image, image) = writes in cc)
+
+  pub completes : (command : Option Command) (o : Option Files) → IfSome o (λ files. status ≢ ShelfFault → status ≢ SinkFault → status ≢ OutOfMemory → Agrees (answer_by command watches files) files before after status)
+      → (status ≡ ShelfFault → RoseAndPrinted (λ c. c.faults) (λ name. end_line (early.ShelfFault name)) (file_names command) before after) → (status ≡ SinkFault → Rose before.out.faults after.out.faults)
+      → IfSome o (λ files. Tells command files (answer_by command watches files)) → IfSome o (λ files. Completes command files before after status)
+  completes command None answers shelf_fault sink_fault tells = tt
+  completes None (Some files) answers shelf_fault sink_fault tells = tt
+  completes (Some c) (Some files) answers shelf_fault sink_fault tells = completes_on c files answers shelf_fault sink_fault tells
