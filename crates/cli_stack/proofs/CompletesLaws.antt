@@ -21,7 +21,7 @@ use Rattle.gypsy_codegen.specs.Text.{generated}
 use Rattle.gypsy_codegen.proofs.AnswerLaws.{no_fault}
 use Rattle.stack_build.specs.declared.fault.BuildFault.{BuildFault}
 use Rattle.stack_build.specs.Build.{BuiltOf, built, built_with}
-use Rattle.stack_build.specs.Image.{image_of}
+use Rattle.stack_build.specs.Image.{formal_slots, image_of}
 use Rattle.stack_build.specs.Implements.{Finishes}
 use Rattle.stack_build.proofs.BuildLaws.{built_small, text_builds}
 use Rattle.command_line.specs.declared.command.Command.{Command}
@@ -42,6 +42,7 @@ use Rattle.cli_stack.specs.Completes.{HasSource, Completed, CompletesRun, Comple
 use Rattle.cli_stack.specs.Promises.{Agrees, RoseAndPrinted}
 use Rattle.cli_stack.specs.World.{World}
 use Rattle.cli_stack.proofs.MeansLaws.{first_name, others}
+use Rattle.cli_stack.proofs.SlotLaws.{image_takes}
 use Rattle.cli_stack.proofs.TellsLaws.{both_there}
 
 -- 1. What is within the limits is built.
@@ -108,13 +109,13 @@ module _ (watches : List Watching) (files : Files) (source_name values_name name
   }
 
   is_told : Tells (Some (command.Go source_name values_name control temporary budget name)) files (answer_to (command.Go source_name values_name control temporary budget name) watches files)
-      → (values finals : List ValueOf) (way : Way) (count : ℕ) → values_in (image_of source (stack_words temporary control) 0).slots values_text ≡ Ok values
+      → (values finals : List ValueOf) (way : Way) (count : ℕ) → values_in (formal_slots source) values_text ≡ Ok values
       → Finishes source (stack_words temporary control) values finals way count → count ≤ budget
       → TellsMeaning source (image_of source (stack_words temporary control) 0) finals way count (answer_to (command.Go source_name values_name control temporary budget name) watches files)
   unfolding inputs_of output_of
   is_told tells values finals way count gives done enough =
       let run = tells values_name (1, omega arith, refl) (inr (name, refl)) in
-      run.1 (stack_words temporary control) source (image_of source (stack_words temporary control) 0) values_text values finals way count (refl, made) there gives done enough
+      run.1 (stack_words temporary control) source (image_of source (stack_words temporary control) 0) values_text values finals way count (refl, made) there (image_takes source (stack_words temporary control) values_text ∙ gives) done enough
 
   -- the command comes to its answer
   module _ (before after : World) (status : Status) where

@@ -11,4 +11,5 @@ pub mod PerformLaws
 pub mod PitonTextLaws
 pub mod PromisesLaws
 pub mod SizeLaws
+pub mod SlotLaws
 pub mod TellsLaws

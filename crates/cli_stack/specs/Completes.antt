@@ -13,7 +13,7 @@ use Rattle.gypsy_space.specs.Needs.{Words}
 use Rattle.gypsy_meaning.specs.Calls.{Way}
 use Rattle.gypsy_codegen.specs.Acceptable.{LimitsFit}
 use Rattle.stack_build.specs.Build.{source_in, placed_size}
-use Rattle.stack_build.specs.Image.{image_of}
+use Rattle.stack_build.specs.Image.{formal_slots, image_of}
 use Rattle.stack_build.specs.Implements.{meaning_shown, Finishes}
 use Rattle.command_line.specs.declared.command.Command.{Command}
 use Rattle.command_line.specs.declared.role.Role.TheVariants.{Source, Values, Image}
@@ -33,7 +33,7 @@ pub record IsWithinLimits (source : SourceOf) (sizes : Words) : Type 0 where
   pub limits : LimitsFit (program_of source) sizes 0
   pub image : placed_size source sizes 0 ≤ 2 ^ 20
 
--- the file is there, and is a source that breaks no rule, which has an image for stacks of these sizes
+-- the file is there, and has a source that breaks no rule, whose needs and sizes are within the limits
 pub record HasSource (files : Files) (name : List ℕ) (sizes : Words) (source : SourceOf) : Type 0 where
   pub text : List ℕ
   pub readable : IsReadable files Source name text
@@ -45,13 +45,13 @@ pub record EndsWell (text : List ℕ) (before after : World) (status : Status) :
   pub ends : status ≡ Done
   pub printed : after.out.taken ≡ appended before.out.taken text
 
--- The image of the source, for stacks of these sizes, is under its name, and all other files are as before. Where the values are
--- accepted and the meaning is done within the budget, its variables and its condition were told after the count.
+-- The image of the source, for stacks of these sizes, is under its name, and all other files are as before. Where main's formals
+-- take the values and the meaning is done within the budget, its variables and its condition were told after the count.
 pub record Completed (files : Files) (name : List ℕ) (source : SourceOf) (sizes : Words) (values_text : List ℕ) (budget : ℕ)
     (before after : World) (status : Status) : Type 0 where
   pub stored : after.shelf.files ≡ Some (put_file files name (spelling (image_of source sizes 0)))
   pub told : (values finals : List ValueOf) (way : Way) (count : ℕ)
-      → values_in (image_of source sizes 0).slots values_text ≡ Ok values
+      → values_in (formal_slots source) values_text ≡ Ok values
       → Finishes source sizes values finals way count → count ≤ budget
       → EndsWell (report_text (image_of source sizes 0) (meaning_shown source finals way) count) before after status
 

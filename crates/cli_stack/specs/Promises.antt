@@ -129,9 +129,9 @@ pub record PromisesOf (command : Option Command) (watches : List Watching) (answ
   pub means : IfSome before.shelf.files (λ files. Means command files (answer files))
   -- who reads a Piton text and stores an image stores what does as the text's system
   pub links : IfSome before.shelf.files (λ files. Links command files (answer files).output)
-  -- who stores a source's image and runs it does both, where nothing is wrong and no device fails
+  -- who reads a source and values and stores an image does all that it is for, where nothing is wrong and no device fails
   pub completes : IfSome before.shelf.files (λ files. Completes command files before after status)
-  -- words that couldn't be read are no end of a call that has them
+  -- a call that has its words never ends for want of them
   pub words_read : status ≢ NoWords
   -- why a device's failure is the status, and at which name
   pub missing : status ≡ Missing
