@@ -1,10 +1,11 @@
--- The image of a linked system keeps the limits of images.
+-- The image of a linked system keeps the limits of images, and its file those of files.
 use Rattle.std.proofs.Common.{◌≡◌, ◌≤◌, ◌+◌, ℕ, List, [], length, None, refl, sym, subst, arith}
 use Rattle.std.specs.Prelude.{◌^◌, IsTrue}
 use Rattle.std.proofs.lemmas.Bool.{and_from, le-leb, lt-ltb}
 use Rattle.fm_words.specs.Code.{no_flags}
 use Rattle.fm_image.specs.declared.slot.Slot.{Slot}
 use Rattle.fm_image.specs.Image.{ImageOf, all_after, is_image}
+use Rattle.fm_image.specs.Spelling.{spelling, Spelled}
 use Rattle.fm_image.proofs.LimitLaws.{from_limits}
 use Rattle.piton_check.specs.Answers.{CheckedOf, IsChecked}
 use Rattle.piton_check.specs.Instruction.{SystemView}
@@ -13,7 +14,11 @@ use Rattle.piton_machine.specs.Placed.{placed, final_pc_of}
 use Rattle.piton_machine.proofs.SizeLaws.{length-placed}
 use Rattle.piton_machine.proofs.SoundLaws.{known}
 use Rattle.piton_linker.specs.Layouts.{trimmed}
+use Rattle.stack_build.specs.PlacedWords.{PlacedAreWords}
+use Rattle.stack_build.proofs.ImageBytes.{fields_few}
 use Rattle.stack_build.proofs.Windows.{shorter}
+use Rattle.command_line.specs.declared.role.Role.TheVariants.{Image}
+use Rattle.command_line.specs.Roles.{limit_of}
 use Rattle.cli_stack.specs.Pbuild.{linked_image}
 
 -- the image keeps the limits of images
@@ -52,3 +57,18 @@ parts_fit c is small base size final_pc registers conditions slots words b n f r
     let whole : linked_image (system_in c) ≡ image =
     λ i. record { base = b' i; size = n' i; final_pc = f' i; registers = r' i; flags = no_flags; condition_address = None; conditions = o' i; slots = l' i; words = w' i } in
     subst (λ (m : ImageOf). IsTrue (is_image m)) whole (image_fits c is small)
+
+-- its file is short enough to be read
+pub image_short : (c : CheckedOf) → IsChecked c → (placed (system_in c)).size ≤ 2 ^ 20 → length (spelling (linked_image (system_in c))) ≤ limit_of Image
+image_short c is small =
+    let s : SystemView = system_in c in
+    let long = length-placed s (known s is.sound) in
+    let words : length (trimmed (placed s).words) ≤ 1048576 = omega (arith, shorter (placed s).words) in
+    let all = fields_few (linked_image s) 0 0 1048576 refl (omega arith) (omega arith) words in
+    omega arith
+
+-- and is the one spelling of it
+pub image_spelled : PlacedAreWords → (c : CheckedOf) → IsChecked c → (placed (system_in c)).size ≤ 2 ^ 20 → Spelled (spelling (linked_image (system_in c))) (linked_image (system_in c))
+image_spelled placed_are_words c is small =
+    let words = placed_are_words (system_in c) is.sound small in
+    record { limits = image_fits c is small; registers = words.0; words = words.1; fields = refl }

@@ -10,8 +10,11 @@ use Rattle.stack_shelf.specs.Shelf.{fetched}
 use Rattle.fm_machine.specs.Run.{Outcome, outcome}
 use Rattle.fm_machine.specs.declared.processor.Run.TheVariants.{Ended}
 use Rattle.fm_machine.proofs.RunLaws.{outcome_only}
-use Rattle.fm_image.specs.Spelling.{spelling}
+use Rattle.fm_image.specs.Image.{ImageOf}
+use Rattle.fm_image.specs.Spelling.{spelling, Spelled}
+use Rattle.fm_image.proofs.ImageLaws.{spelled_reads}
 use Rattle.fm_loader.specs.Loaded as loader
+use Rattle.fm_loader.specs.Values.{values_in}
 use Rattle.piton_check.specs.Answers.{CheckedOf, IsChecked}
 use Rattle.piton_machine.specs.Fits.{IsInitialStack, system_in}
 use Rattle.piton_machine.specs.Placed.{placed}
@@ -19,6 +22,7 @@ use Rattle.piton_linker.specs.Theorem.{ComesToStand}
 use Rattle.piton_linker.proofs.ProcessorLaws.{checked_runs}
 use Rattle.fm_machine.specs.State.{Fm}
 use Rattle.display_maps.specs.Report.{shaped}
+use Rattle.stack_build.specs.PlacedWords.{PlacedAreWords}
 use Rattle.command_line.specs.declared.command.Command.{Command}
 use Rattle.command_line.specs.declared.command.Command.TheVariants as command
 use Rattle.command_line.specs.declared.early_end.EarlyEnd.{EarlyEnd}
@@ -30,17 +34,22 @@ use Rattle.command_line.specs.CommandFiles.{inputs_of, output_of}
 use Rattle.stack_text.specs.Lines.{line}
 use Rattle.command_line.proofs.FileLaws.{was_short}
 use Rattle.cli_stack.specs.declared.reply.Verdict.{Verdict}
-use Rattle.cli_stack.specs.Run.{outcome_reply, run_reply}
+use Rattle.cli_stack.specs.Replies.{ReplyOf}
+use Rattle.cli_stack.specs.Run.{outcome_reply, run_reply, image_file_reply}
 use Rattle.cli_stack.specs.PitonText.{checked_in}
 use Rattle.cli_stack.specs.Pbuild.{linked_image, is_large, checked_stored}
 use Rattle.cli_stack.specs.Answer.{set_file, stored_by, answer_on, answer_to, answer_by}
 use Rattle.cli_stack.specs.Linked.{cost_of, RunsAs, TellsCosts, HoldsLinked, StoresLinked, Links}
 use Rattle.cli_stack.proofs.ImplementsLaws.{set_bytes}
 use Rattle.cli_stack.proofs.KnownLaws.{text_is_checked}
-use Rattle.cli_stack.proofs.LinkedLaws.{image_fits}
+use Rattle.cli_stack.proofs.LinkedLaws.{image_short, image_spelled}
 use Rattle.cli_stack.proofs.LoadedLaws.{image_loaded}
 
 -- 1. The image of a checked system.
+
+-- `run` of the file of an image, on a text whose values are none
+file_replies : (image : ImageOf) (bytes values : List ℕ) (budget : ℕ) → Spelled bytes image → values_in image.slots values ≡ Ok [] → image_file_reply bytes values budget ≡ run_reply image [] budget
+file_replies image bytes values budget spells gives = rw (spelled_reads bytes image spells, gives) refl
 
 module _ (c : CheckedOf) (is : IsChecked c) (small : (placed (system_in c)).size ≤ 2 ^ 20) where
   image_runs : RunsAs (linked_image (system_in c)) (system_in c)
@@ -48,22 +57,23 @@ module _ (c : CheckedOf) (is : IsChecked c) (small : (placed (system_in c)).size
       let initial : IsInitialStack (system_in c) (system_in c).stack = record { as_long = refl; words = is.sound.stack } in
       subst (λ (m : Fm). ComesToStand (system_in c) m (cost_of (system_in c) j) state) (sym (image_loaded c is)) (checked_runs c is small (system_in c).stack j state initial comes)
 
-  image_tells : TellsCosts (linked_image (system_in c)) (system_in c)
+  image_tells : (bytes : List ℕ) → Spelled bytes (linked_image (system_in c)) → TellsCosts bytes (system_in c)
   unfolding run_reply shaped
-  image_tells j state budget comes halts enough =
+  image_tells bytes spells j state values budget comes halts gives enough =
       let image = linked_image (system_in c) in
       let end = image_runs j state comes in
       let count : ℕ = cost_of (system_in c) j in
       let ends : outcome budget image.final_pc (loader.loaded image []) ≡ record { run = Ended count; state = end.state } =
       outcome_only (loader.loaded image []) image.final_pc budget (Ended count) end.state (enough, record { reached = end.runs; there = end.halted.0 halts; before = end.before }) in
+      let replies : image_file_reply bytes values budget ≡ run_reply image [] budget = file_replies image bytes values budget spells gives in
       record {
-        verdict = ap (λ (o : Outcome). (outcome_reply image budget o).verdict) ends;
-        said = ap (λ (o : Outcome). (outcome_reply image budget o).said) ends ∙ append-nil (line (codes "finished " ++ decimal count));
+        verdict = ap (λ (r : ReplyOf). r.verdict) replies ∙ ap (λ (o : Outcome). (outcome_reply image budget o).verdict) ends;
+        said = ap (λ (r : ReplyOf). r.said) replies ∙ (ap (λ (o : Outcome). (outcome_reply image budget o).said) ends ∙ append-nil (line (codes "finished " ++ decimal count)));
       }
 
 -- 2. The text in a file.
 
-module _ (files : Files) (piton text stored bytes : List ℕ) (there : file_at files piton ≡ Some text) (short : length text ≤ 2 ^ 31) where
+module _ (words : PlacedAreWords) (files : Files) (piton text stored bytes : List ℕ) (there : file_at files piton ≡ Some text) (short : length text ≤ 2 ^ 31) where
   linked_holds : (image : Role × List ℕ) (found : Result CheckedOf Verdict) → checked_in text ≡ found → set_file (Some image) (checked_stored found) ≡ Some (stored, bytes) → HoldsLinked files piton bytes
   linked_holds image (Err verdict) is sets = absurd (let e : None ≡ Some (stored, bytes) = sets in cc)
   linked_holds image (Ok c) is sets = by_size (is_large (system_in c)) refl sets
@@ -74,27 +84,29 @@ module _ (files : Files) (piton text stored bytes : List ℕ) (there : file_at f
           let known = text_is_checked text short c is in
           let small : (placed (system_in c)).size ≤ 2 ^ 20 = ltb-false (2 ^ 20) (placed (system_in c)).size fits in
           let same : spelling (linked_image (system_in c)) ≡ bytes = ap set_bytes sets in
+          let spells : Spelled bytes (linked_image (system_in c)) = subst (λ (b : List ℕ). Spelled b (linked_image (system_in c))) same (image_spelled words c known small) in
           record {
             text = text;
             there = there;
             checked = c;
             read = is;
             image = linked_image (system_in c);
-            limits = image_fits c known small;
-            fields = sym same;
+            short = subst (λ (b : List ℕ). length b ≤ limit_of Image) same (image_short c known small);
+            spells = spells;
+            slots = refl;
             runs = image_runs c known small;
-            tells = image_tells c known small;
+            tells = image_tells c known small bytes spells;
           }
 
-pbuild_holds : (watches : List Watching) (files : Files) (piton image : List ℕ) (first : Result (List ℕ) EarlyEnd) (stored bytes : List ℕ)
+pbuild_holds : PlacedAreWords → (watches : List Watching) (files : Files) (piton image : List ℕ) (first : Result (List ℕ) EarlyEnd) (stored bytes : List ℕ)
     → text_or_end (Piton, piton) (fetched files piton (limit_of Piton)) ≡ first
     → (answer_on (command.Pbuild piton image) watches (first >>= λ text. Ok ((Piton, text) ∷ []))).output ≡ Some (stored, bytes)
     → HoldsLinked files piton bytes
 unfolding output_of stored_by
-pbuild_holds watches files piton image (Err early) stored bytes got sets = absurd cc
-pbuild_holds watches files piton image (Ok text) stored bytes got sets =
+pbuild_holds words watches files piton image (Err early) stored bytes got sets = absurd cc
+pbuild_holds words watches files piton image (Ok text) stored bytes got sets =
     let file = was_short files (Piton, piton) text got in
-    linked_holds files piton text stored bytes file.0 (omega (arith, file.1)) (Image, image) (checked_in text) refl sets
+    linked_holds words files piton text stored bytes file.0 (omega (arith, file.1)) (Image, image) (checked_in text) refl sets
 
 -- 3. All commands.
 
@@ -114,17 +126,17 @@ no_piton source values name (zero, lt, is) = let e : Source ≡ Piton = ap (λ (
 no_piton source values name (suc zero, lt, is) = let e : Values ≡ Piton = ap (λ (f : Role × List ℕ). f.0) is in cc
 no_piton source values name (suc (suc i), lt, is) = omega arith
 
-links_by : (c : Command) (watches : List Watching) (files : Files) → StoresLinked c files (answer_to c watches files).output
+links_by : PlacedAreWords → (c : Command) (watches : List Watching) (files : Files) → StoresLinked c files (answer_to c watches files).output
 unfolding inputs_of output_of
-links_by (command.Pbuild piton image) watches files = λ name own stored bytes reads writes sets.
-    subst (λ (n : List ℕ). HoldsLinked files n bytes) (only_file Piton piton name reads) (pbuild_holds watches files piton image _ stored bytes refl sets)
-links_by (command.Build source control temporary image) watches files = λ name own stored bytes reads writes sets. absurd (one_source source name reads)
-links_by (command.Pit source control temporary piton) watches files = λ name own stored bytes reads writes sets. absurd (one_source source name reads)
-links_by (command.Go source values control temporary budget image) watches files = λ name own stored bytes reads writes sets. absurd (no_piton source values name reads)
-links_by c watches files = λ name own stored bytes reads writes sets. absurd (let e : None ≡ Some (Image, own) = writes in cc)
+links_by words (command.Pbuild piton image) watches files = λ name own stored bytes reads writes sets.
+    subst (λ (n : List ℕ). HoldsLinked files n bytes) (only_file Piton piton name reads) (pbuild_holds words watches files piton image _ stored bytes refl sets)
+links_by words (command.Build source control temporary image) watches files = λ name own stored bytes reads writes sets. absurd (one_source source name reads)
+links_by words (command.Pit source control temporary piton) watches files = λ name own stored bytes reads writes sets. absurd (one_source source name reads)
+links_by words (command.Go source values control temporary budget image) watches files = λ name own stored bytes reads writes sets. absurd (no_piton source values name reads)
+links_by words c watches files = λ name own stored bytes reads writes sets. absurd (let e : None ≡ Some (Image, own) = writes in cc)
 
 -- whatever the command and the files are
-pub links : (c : Option Command) (watches : List Watching) (o : Option Files) → IfSome o (λ files. Links c files (answer_by c watches files).output)
-links c watches None = tt
-links None watches (Some files) = tt
-links (Some c) watches (Some files) = links_by c watches files
+pub links : PlacedAreWords → (c : Option Command) (watches : List Watching) (o : Option Files) → IfSome o (λ files. Links c files (answer_by c watches files).output)
+links words c watches None = tt
+links words None watches (Some files) = tt
+links words (Some c) watches (Some files) = links_by words c watches files

@@ -1,10 +1,11 @@
 -- That the image which is stored of a Piton text does on the processor what the system does on Piton's machine.
-use Rattle.std.specs.Prelude.{◌≡◌, ◌≤◌, ℕ, List, [], Option, Some, None, Ok, IsTrue, codes, ◌++◌}
+use Rattle.std.specs.Prelude.{◌≡◌, ◌≤◌, ℕ, List, [], length, Option, Some, None, Ok, codes, ◌++◌}
 use Rattle.std.specs.Fmt.{decimal}
 use Rattle.stack_shelf.specs.Files.{Files, file_at}
-use Rattle.fm_image.specs.Image.{ImageOf, is_image}
-use Rattle.fm_image.specs.Spelling.{spelling}
+use Rattle.fm_image.specs.Image.{ImageOf}
+use Rattle.fm_image.specs.Spelling.{Spelled}
 use Rattle.fm_loader.specs.Loaded.{loaded}
+use Rattle.fm_loader.specs.Values.{values_in}
 use Rattle.piton_check.specs.Answers.{CheckedOf}
 use Rattle.piton_check.specs.Instruction.{SystemView}
 use Rattle.piton_machine.specs.Fits.{system_in}
@@ -14,9 +15,10 @@ use Rattle.piton_machine.specs.Step.{piton_run, run_cost}
 use Rattle.piton_linker.specs.Theorem.{ComesToStand}
 use Rattle.command_line.specs.declared.command.Command.{Command}
 use Rattle.command_line.specs.declared.role.Role.TheVariants.{Piton, Image}
+use Rattle.command_line.specs.Roles.{limit_of}
 use Rattle.stack_text.specs.Lines.{line}
 use Rattle.cli_stack.specs.declared.reply.Verdict.TheVariants.{Done}
-use Rattle.cli_stack.specs.Run.{run_reply}
+use Rattle.cli_stack.specs.Run.{image_file_reply}
 use Rattle.cli_stack.specs.PitonText.{checked_in}
 use Rattle.cli_stack.specs.Correct.{ReadsFile, StoresFile}
 
@@ -34,27 +36,30 @@ abbrev pub RunsAs : ImageOf → SystemView → Type 0
 RunsAs image system =
     (j : ℕ) (state : PitonState) → ReachesState system j state → ComesToStand system (loaded image []) (cost_of system j) state
 
--- what `run` replies, where the system halts and the budget is enough: that it finished, and the count
-pub record TellsCost (image : ImageOf) (budget count : ℕ) : Type 0 where
-  pub verdict : (run_reply image [] budget).verdict ≡ Done
-  pub said : (run_reply image [] budget).said ≡ line (codes "finished " ++ decimal count)
+-- what `run` replies to the file of an image: that it finished, and the count
+pub record TellsCost (bytes values : List ℕ) (budget count : ℕ) : Type 0 where
+  pub verdict : (image_file_reply bytes values budget).verdict ≡ Done
+  pub said : (image_file_reply bytes values budget).said ≡ line (codes "finished " ++ decimal count)
 
-abbrev pub TellsCosts : ImageOf → SystemView → Type 0
-TellsCosts image system =
-    (j : ℕ) (state : PitonState) (budget : ℕ) → ReachesState system j state → state.frames ≡ [] → cost_of system j ≤ budget
-    → TellsCost image budget (cost_of system j)
+-- so it replies, on a text of no values, where the system halts and the budget is enough
+abbrev pub TellsCosts : List ℕ → SystemView → Type 0
+TellsCosts bytes system =
+    (j : ℕ) (state : PitonState) (values : List ℕ) (budget : ℕ) → ReachesState system j state → state.frames ≡ []
+    → values_in [] values ≡ Ok [] → cost_of system j ≤ budget → TellsCost bytes values budget (cost_of system j)
 
--- the bytes are the fields of an image within the limits, which does what the system of the Piton text in a file does
+-- the bytes are an image file that can be read again, whose image has no variables and does what the system of the Piton text in
+-- a file does
 pub record HoldsLinked (files : Files) (name bytes : List ℕ) : Type 0 where
   pub text : List ℕ
   pub there : file_at files name ≡ Some text
   pub checked : CheckedOf
   pub read : checked_in text ≡ Ok checked
   pub image : ImageOf
-  pub limits : IsTrue (is_image image)
-  pub fields : bytes ≡ spelling image
+  pub short : length bytes ≤ limit_of Image
+  pub spells : Spelled bytes image
+  pub slots : image.slots ≡ []
   pub runs : RunsAs image (system_in checked)
-  pub tells : TellsCosts image (system_in checked)
+  pub tells : TellsCosts bytes (system_in checked)
 
 -- who reads a Piton text and stores an image stores one that does what the text's system does
 abbrev pub StoresLinked : Command → Files → Option (List ℕ × List ℕ) → Type 0

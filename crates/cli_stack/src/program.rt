@@ -8,7 +8,7 @@ ghost use Rattle.cli_stack.specs.Promises.{Promises};
 use crate::driver::{conclude, run_words};
 use fm_machine::Machine;
 use level_debuggers::Watch;
-use stack_build::builds_implement;
+use stack_build::{builds_implement, placed_are_words};
 use stack_shelf::{Shelf, Sink};
 use std::alloc::Global;
 
@@ -36,6 +36,7 @@ pub fn cli<S: Shelf, K: Sink>(
         result }
 {
     builds_implement();
+    placed_are_words();
     let ran = run_words(alloc, words, shelf, watches);
     conclude(alloc, ran, out, kept).code()
 }

@@ -50,7 +50,8 @@ slots_few address (d ∷ ds) h =
     let others : List Slot = slots_from (address - item_count (shape_of d.shape)) ds in
     omega (arith, slot_few slot (name_few d.name.name parts.0), slots_few (address - item_count (shape_of d.shape)) ds parts.1, length-append (slot_bytes slot) (flat_map slot_bytes others))
 
-fields_few : (image : ImageOf) (conditions slots words : ℕ) → length image.registers ≡ 16 → length (flat_map name_bytes image.conditions) ≤ conditions → length (flat_map slot_bytes image.slots) ≤ slots →
+-- the bytes are few where the fields of variable length are
+pub fields_few : (image : ImageOf) (conditions slots words : ℕ) → length image.registers ≡ 16 → length (flat_map name_bytes image.conditions) ≤ conditions → length (flat_map slot_bytes image.slots) ≤ slots →
     length image.words ≤ words → length (spelling image) ≤ 104 + conditions + slots + 4 * words
 unfolding spelling
 fields_few image conditions slots words sixteen c s w =

@@ -2,6 +2,7 @@
 pub mod Formals
 pub mod Implements
 pub mod Image
+pub mod PlacedWords
 pub mod Build
 pub mod Joined
 pub mod Starts

@@ -1,6 +1,7 @@
-//! Laws. The functions do nothing: their clauses hold of all sources, sizes and texts.
+//! Laws. The functions do nothing: their clauses hold of all sources, sizes, texts and systems.
 
 ghost use Rattle.stack_build.specs.Joined.{GeneratedImageImplements, BuiltImplements, BuiltTakesValues};
+ghost use Rattle.stack_build.specs.PlacedWords.{PlacedAreWords};
 
 /// The image of each accepted source, at sizes and a base within the limits, does what the source means: loaded with
 /// any values that fit main's formals, where the meaning is done, the machine first comes to the final program counter
@@ -20,3 +21,9 @@ pub fn builds_implement()
     gypsy_codegen::meaning_runs();
     gypsy_codegen::generated_is_acceptable();
 }
+
+/// The registers and the words of each sound system that fits a window are numbers of 32 bits. So the file of an image that
+/// has them is read again as that image.
+pub fn placed_are_words()
+    ensures { PlacedAreWords }
+{}

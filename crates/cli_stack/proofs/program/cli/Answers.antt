@@ -18,5 +18,5 @@ returns g c =
       c.conclude.result,
       c.code.ensures,
       promises command watches _ _ c.run_words-ran.result c.conclude.result c.run_words-ran.ensures.leaves c.run_words-ran.ensures.reason c.run_words-ran.ensures.reply c.conclude.ensures
-          (implements built.implements command watches files) (tells built.implements built.values command watches files) (means command watches files) (links command watches files),
+          (implements built.implements command watches files) (tells built.implements built.values command watches files) (means command watches files) (links c.placed_are_words.ensures command watches files),
     )

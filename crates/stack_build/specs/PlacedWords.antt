@@ -1,0 +1,12 @@
+-- The words of placed systems.
+use Rattle.std.specs.Prelude.{◌≤◌, ◌^◌, IsTrue}
+use Rattle.fm_image.specs.Spelling.{are_words}
+use Rattle.piton_check.specs.Instruction.{SystemView}
+use Rattle.piton_check.specs.Sound.{IsSound}
+use Rattle.piton_machine.specs.Placed.{placed}
+use Rattle.piton_linker.specs.Layouts.{trimmed}
+
+-- the registers and the words that an image of a sound system has are numbers of 32 bits
+abbrev pub PlacedAreWords : Type 0
+PlacedAreWords = (system : SystemView) → IsSound system → (placed system).size ≤ 2 ^ 20 →
+    IsTrue (are_words (placed system).registers) × IsTrue (are_words (trimmed (placed system).words))
