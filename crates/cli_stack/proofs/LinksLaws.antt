@@ -29,27 +29,40 @@ use Rattle.command_line.specs.declared.early_end.EarlyEnd.{EarlyEnd}
 use Rattle.command_line.specs.declared.role.Role.{Role}
 use Rattle.command_line.specs.declared.role.Role.TheVariants.{Source, Piton, Values, Image}
 use Rattle.command_line.specs.Roles.{limit_of}
-use Rattle.command_line.specs.Gathered.{text_or_end}
+use Rattle.command_line.specs.Gathered.{Texts, text_or_end}
 use Rattle.command_line.specs.CommandFiles.{inputs_of, output_of}
 use Rattle.stack_text.specs.Lines.{line}
 use Rattle.command_line.proofs.FileLaws.{was_short}
 use Rattle.cli_stack.specs.declared.reply.Verdict.{Verdict}
-use Rattle.cli_stack.specs.Replies.{ReplyOf}
+use Rattle.cli_stack.specs.declared.reply.Verdict.TheVariants.{Done}
+use Rattle.cli_stack.specs.Replies.{ReplyOf, status_of, verdict_line}
 use Rattle.cli_stack.specs.Run.{outcome_reply, run_reply, image_file_reply}
 use Rattle.cli_stack.specs.PitonText.{checked_in}
 use Rattle.cli_stack.specs.Pbuild.{linked_image, is_large, checked_stored}
-use Rattle.cli_stack.specs.Answer.{set_file, stored_by, answer_on, answer_to, answer_by}
-use Rattle.cli_stack.specs.Linked.{cost_of, RunsAs, TellsCosts, HoldsLinked, StoresLinked, Links}
+use Rattle.cli_stack.specs.Answer.{set_file, stored_by, reply_by, answer_on, answer_to, answer_by}
+use Rattle.cli_stack.specs.Correct.{IsReadable}
+use Rattle.cli_stack.specs.Linked.{cost_of, RunsAs, TellsCost, TellsCosts, HoldsLinked, StoresLinked, Links}
 use Rattle.cli_stack.proofs.ImplementsLaws.{set_bytes}
 use Rattle.cli_stack.proofs.KnownLaws.{text_is_checked}
 use Rattle.cli_stack.proofs.LinkedLaws.{image_short, image_spelled}
 use Rattle.cli_stack.proofs.LoadedLaws.{image_loaded}
+use Rattle.cli_stack.proofs.TellsLaws.{both_there}
 
 -- 1. The image of a checked system.
 
--- `run` of the file of an image, on a text whose values are none
-file_replies : (image : ImageOf) (bytes values : List ℕ) (budget : ℕ) → Spelled bytes image → values_in image.slots values ≡ Ok [] → image_file_reply bytes values budget ≡ run_reply image [] budget
-file_replies image bytes values budget spells gives = rw (spelled_reads bytes image spells, gives) refl
+-- the answer of `run`, where a file spells the image and another gives no values
+run_tells : (image : ImageOf) (bytes values_text : List ℕ) (files : Files) (image_name values_name : List ℕ) (budget count : ℕ) (watches : List Watching) → Spelled bytes image → values_in image.slots values_text ≡ Ok []
+    → IsReadable files Image image_name bytes → IsReadable files Values values_name values_text → (run_reply image [] budget).verdict ≡ Done → (run_reply image [] budget).said ≡ line (codes "finished " ++ decimal count)
+    → TellsCost count (answer_to (command.Run image_name values_name budget) watches files)
+unfolding inputs_of reply_by
+run_tells image bytes values_text files image_name values_name budget count watches spells gives there there' ends says =
+    let reply : ReplyOf = image_file_reply bytes values_text budget in
+    let is : image_file_reply bytes values_text budget ≡ run_reply image [] budget = rw (spelled_reads bytes image spells, gives) refl in
+    let verdict : reply.verdict ≡ Done = ap (λ (r : ReplyOf). r.verdict) is ∙ ends in
+    let said : reply.said ≡ line (codes "finished " ++ decimal count) = ap (λ (r : ReplyOf). r.said) is ∙ says in
+    subst (λ (r : Result Texts EarlyEnd). TellsCost count (answer_on (command.Run image_name values_name budget) watches r))
+    (sym (both_there files (Image, image_name) (Values, values_name) bytes values_text there there'))
+    (record { status = ap status_of verdict; text = ap (λ (v : Verdict). reply.said ++ verdict_line v) verdict ∙ append-nil reply.said ∙ said })
 
 module _ (c : CheckedOf) (is : IsChecked c) (small : (placed (system_in c)).size ≤ 2 ^ 20) where
   image_runs : RunsAs (linked_image (system_in c)) (system_in c)
@@ -59,17 +72,15 @@ module _ (c : CheckedOf) (is : IsChecked c) (small : (placed (system_in c)).size
 
   image_tells : (bytes : List ℕ) → Spelled bytes (linked_image (system_in c)) → TellsCosts bytes (system_in c)
   unfolding run_reply shaped
-  image_tells bytes spells j state values budget comes halts gives enough =
+  image_tells bytes spells files image_name values_name values_text budget watches j state there there' gives comes halts enough =
       let image = linked_image (system_in c) in
       let end = image_runs j state comes in
       let count : ℕ = cost_of (system_in c) j in
       let ends : outcome budget image.final_pc (loader.loaded image []) ≡ record { run = Ended count; state = end.state } =
       outcome_only (loader.loaded image []) image.final_pc budget (Ended count) end.state (enough, record { reached = end.runs; there = end.halted.0 halts; before = end.before }) in
-      let replies : image_file_reply bytes values budget ≡ run_reply image [] budget = file_replies image bytes values budget spells gives in
-      record {
-        verdict = ap (λ (r : ReplyOf). r.verdict) replies ∙ ap (λ (o : Outcome). (outcome_reply image budget o).verdict) ends;
-        said = ap (λ (r : ReplyOf). r.said) replies ∙ (ap (λ (o : Outcome). (outcome_reply image budget o).said) ends ∙ append-nil (line (codes "finished " ++ decimal count)));
-      }
+      run_tells image bytes values_text files image_name values_name budget count watches spells gives there there'
+      (ap (λ (o : Outcome). (outcome_reply image budget o).verdict) ends)
+      (ap (λ (o : Outcome). (outcome_reply image budget o).said) ends ∙ append-nil (line (codes "finished " ++ decimal count)))
 
 -- 2. The text in a file.
 

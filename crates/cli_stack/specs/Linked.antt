@@ -13,14 +13,16 @@ use Rattle.piton_machine.specs.Seen.{started}
 use Rattle.piton_machine.specs.State.{PitonState}
 use Rattle.piton_machine.specs.Step.{piton_run, run_cost}
 use Rattle.piton_linker.specs.Theorem.{ComesToStand}
+use Rattle.level_debuggers.specs.Tallies.{Watching}
 use Rattle.command_line.specs.declared.command.Command.{Command}
-use Rattle.command_line.specs.declared.role.Role.TheVariants.{Piton, Image}
+use Rattle.command_line.specs.declared.command.Command.TheVariants.{Run}
+use Rattle.command_line.specs.declared.role.Role.TheVariants.{Piton, Image, Values}
+use Rattle.command_line.specs.declared.status.Status.TheVariants.{Done}
 use Rattle.command_line.specs.Roles.{limit_of}
 use Rattle.stack_text.specs.Lines.{line}
-use Rattle.cli_stack.specs.declared.reply.Verdict.TheVariants.{Done}
-use Rattle.cli_stack.specs.Run.{image_file_reply}
 use Rattle.cli_stack.specs.PitonText.{checked_in}
-use Rattle.cli_stack.specs.Correct.{ReadsFile, StoresFile}
+use Rattle.cli_stack.specs.Answer.{Answer, answer_to}
+use Rattle.cli_stack.specs.Correct.{ReadsFile, StoresFile, IsReadable}
 
 -- the system reaches this state in so many steps from its opening state, none of which is an error
 abbrev pub ReachesState : SystemView → ℕ → PitonState → Type 0
@@ -36,16 +38,18 @@ abbrev pub RunsAs : ImageOf → SystemView → Type 0
 RunsAs image system =
     (j : ℕ) (state : PitonState) → ReachesState system j state → ComesToStand system (loaded image []) (cost_of system j) state
 
--- what `run` replies to the file of an image: that it finished, and the count
-pub record TellsCost (bytes values : List ℕ) (budget count : ℕ) : Type 0 where
-  pub verdict : (image_file_reply bytes values budget).verdict ≡ Done
-  pub said : (image_file_reply bytes values budget).said ≡ line (codes "finished " ++ decimal count)
+-- the answer is that all went well, after so many instructions
+pub record TellsCost (count : ℕ) (answer : Answer) : Type 0 where
+  pub status : answer.status ≡ Done
+  pub text : answer.text ≡ line (codes "finished " ++ decimal count)
 
--- so it replies, on a text of no values, where the system halts and the budget is enough
+-- so `run` answers, wherever a file has these bytes and another gives no values, if the system halts and the budget is enough
 abbrev pub TellsCosts : List ℕ → SystemView → Type 0
 TellsCosts bytes system =
-    (j : ℕ) (state : PitonState) (values : List ℕ) (budget : ℕ) → ReachesState system j state → state.frames ≡ []
-    → values_in [] values ≡ Ok [] → cost_of system j ≤ budget → TellsCost bytes values budget (cost_of system j)
+    (files : Files) (image values values_text : List ℕ) (budget : ℕ) (watches : List Watching) (j : ℕ) (state : PitonState)
+    → IsReadable files Image image bytes → IsReadable files Values values values_text → values_in [] values_text ≡ Ok []
+    → ReachesState system j state → state.frames ≡ [] → cost_of system j ≤ budget
+    → TellsCost (cost_of system j) (answer_to (Run image values budget) watches files)
 
 -- the bytes are an image file that can be read again, whose image has no variables and does what the system of the Piton text in
 -- a file does
