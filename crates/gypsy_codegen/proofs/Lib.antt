@@ -14,7 +14,6 @@ pub mod TextExampleLaws
 pub mod SizeLaws
 pub mod InstructionLaws
 pub mod LabelLaws
-pub mod LabelNameLaws
 pub mod WriteLaws
 pub mod CodeLaws
 pub mod WritableLaws

@@ -12,18 +12,16 @@ ghost use Rattle.gypsy_codegen.specs.Written.{label_name, label_arg, name_in};
 use gypsy_predef::instruction_text;
 use gypsy_predef::instruction_text::{number, of_name};
 use piton_syntax::{ArgText, InstrText, PitonOp, TestKind, WordItem, WordText};
-use stack_text::{Memory, Name, Named, read_name};
+use stack_text::{Memory, Name, Named};
 use std::alloc::Global;
 
 /// The name of a label.
+#[tactic(auto, using(crate::proofs::LabelLaws::label_named), unfolding(crate::specs::Written::label_text))]
 pub(crate) fn label_named(alloc: Global, label: u32) -> Result<Named, Memory>
     ensures { IfOk result (λ name. name ≡ label_name label) }
 {
     let text = format!(in alloc; "L{label}")?;
-    match read_name(alloc, text.as_bytes())? {
-        Some(name) => Ok(Named { place: 0, name }),
-        None => unreachable!(),
-    }
+    Named::unplaced(alloc, text.as_bytes())
 }
 
 /// Appends a label to the arguments of an instruction.
