@@ -1,4 +1,4 @@
-use Rattle.std.proofs.Common.{◌≡◌, ℕ, ◌++◌, [], ◌∷◌, List, get_or, refl, subst}
+use Rattle.std.proofs.Common.{◌≡◌, ℕ, [], ◌∷◌, List, get_or, refl, subst}
 use Rattle.stack_text.proofs.Loops.{drop-item}
 use Rattle.piton_check.specs.Instruction as i
 use Rattle.gypsy_syntax.specs.ProgramFits.{Each}
