@@ -56,7 +56,7 @@ code_in c code = map (written (names_of c)) (unmarked code)
 abbrev pub env : Scopes → List Scope
 env Outside = []
 env (InLoop' behind p outer) = InLoop behind ∷ env outer
-env (InBegin' conds handler p outer) = InBegin (map seen_cond conds.now) handler ∷ env outer
+env (InBegin' handled handler p outer) = InBegin (map seen_cond handled.now.conds.now) handler ∷ env outer
 
 -- the lines of a statement whose first label is this one, as the text of a context's procedure has them
 abbrev pub statement_text : Context → Scopes → ℕ → Stmt → List InstrOf

@@ -9,7 +9,8 @@ ghost use Rattle.gypsy_codegen.specs.Lines.{label_to};
 ghost use Rattle.gypsy_codegen.specs.Views.{env, program_in};
 ghost use Rattle.gypsy_codegen.specs.WordsOf.{number_of};
 
-use gypsy_meaning::{is_among, is_formal, is_leave};
+use crate::handled::Handled;
+use gypsy_meaning::{is_formal, is_leave};
 use gypsy_space::{Condition, Procedure, Program};
 use stack_text::{Kind, Name, Shape};
 
@@ -30,7 +31,7 @@ pub(crate) struct Context<'a, 'b, 'c, 'd> {
 pub(crate) enum Scopes<'a> {
     Outside,
     InLoop(u32, &'a Scopes<'a>),
-    InBegin(&'a [Condition], u32, &'a Scopes<'a>),
+    InBegin(&'a Handled<'a>, u32, &'a Scopes<'a>),
 }
 
 /// A procedure of a program.
@@ -95,7 +96,8 @@ pub(crate) const NORMAL: i128 = 2;
 
 /// The number of a condition in a procedure.
 pub(crate) fn number_of(cond: Condition) -> u64
-    ensures { result ≡ number_of (seen_cond cond) }
+    ensures exact { result ≡ number_of (seen_cond cond) }
+    ensures small { result < 2 ^ 33 }
 {
     match cond {
         Condition::Leave => 0,
@@ -123,8 +125,8 @@ pub(crate) fn label_to(context: &Context, scopes: &Scopes, cond: Condition) -> u
                 label_to(context, outer, cond)
             }
         }
-        Scopes::InBegin(conds, handler, outer) => {
-            if is_among(cond, conds) {
+        Scopes::InBegin(handled, handler, outer) => {
+            if handled.has(cond) {
                 *handler
             } else {
                 label_to(context, outer, cond)

@@ -97,7 +97,11 @@ fn checked(alloc: Global, system: System) -> Result<Checked, Memory>
 ///
 /// The system runs as the source means: where the meaning is done, the system, with the values' words at the bottom of its
 /// first stack, first halts with the same, in the counted steps and at the counted cost. Each procedure takes as many words
-/// of code as are counted for it. The call takes time and memory in proportion to what is generated.
+/// of code as are counted for it.
+///
+/// The memory is in proportion to what is generated. So is the time, with factors that the form bounds: a name is sought
+/// among those that are declared, a handler's table has at most an entry for each condition of its procedure, and a raise
+/// asks the loops and the handlers round it.
 ///
 /// # Errors
 ///

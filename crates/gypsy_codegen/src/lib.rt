@@ -9,6 +9,7 @@ mod calls;
 mod context;
 mod fault;
 mod generating;
+mod handled;
 mod law;
 mod lines;
 mod procedure;

@@ -9,7 +9,7 @@ ghost use Rattle.gypsy_syntax.specs.Programs.{Call, Loop};
 ghost use Rattle.gypsy_syntax.specs.ProgramFits.{Each};
 ghost use Rattle.gypsy_space.specs.Nodes.{seen_cond, seen_statement, seen_statements};
 ghost use Rattle.gypsy_predef.specs.Texts.{instruction};
-ghost use Rattle.gypsy_codegen.specs.Generated.{offset};
+ghost use Rattle.gypsy_codegen.specs.Generated.{InBegin, offset};
 ghost use Rattle.gypsy_codegen.specs.Lines.{labels, lines};
 ghost use Rattle.gypsy_codegen.specs.Views.{code_in, env, HasWord, IsReady, labelled, NamesAreThere, names_of};
 ghost use Rattle.gypsy_codegen.specs.Views.{normal_text, program_in, statement_text};
@@ -18,9 +18,10 @@ ghost use Rattle.gypsy_codegen.specs.Written.{label_arg, Marked, written};
 use crate::apply::apply;
 use crate::calls::{after_call, before_call, push_local, raise};
 use crate::context::{Context, NORMAL, Scopes};
+use crate::handled::Handled;
 use crate::lines::{area, constant, jump, plain, test};
 use gypsy_predef::instruction_text::number;
-use gypsy_space::{CallSite, Node};
+use gypsy_space::{CallSite, Condition, Node};
 use piton_syntax::{InstrText, PitonOp, TestKind, WordItem};
 use stack_text::Memory;
 use std::alloc::Global;
@@ -122,6 +123,32 @@ fn repetition(
     Ok(next)
 }
 
+/// The body of a `begin` with these conditions, whose handler has the first label.
+#[cycle(statements)]
+fn guarded(
+    alloc: Global,
+    instrs: &mut Vec<InstrText>,
+    context: &Context,
+    body: &Rc<Node>,
+    conds: &Rc<Vec<Condition>>,
+    scopes: &Scopes,
+    first: u32,
+) -> Result<u32, Memory>
+    requires ready { IsReady context.now }
+    requires names { NamesAreThere (program_in context.now) context.now.procedure (seen_statement body.now.value) }
+    requires labels { first + 2 + labels (seen_statement body.now.value) < 2 ^ 32 }
+    ensures lines { let inside = InBegin (map seen_cond conds.now.value.items) first ∷ env scopes.now in
+        let code = lines (program_in context.now) context.now.procedure inside (first + 2) in
+        let text = map (written (names_of context.now)) (code (seen_statement body.now.value)) in
+        OnOk result (instrs.new.items ≡ instrs.old.items ++ text) }
+    ensures next { IfOk result (λ next. next ≡ first + 2 + labels (seen_statement body.now.value)) }
+{
+    let handled = Handled::new(alloc, conds.as_slice())?;
+    let inner = Scopes::InBegin(&handled, first, &*scopes);
+    let next = statement(alloc, instrs, context, body, &inner, first + 2)?;
+    Ok(next)
+}
+
 /// The second statement of two, and behind it the label where both go on.
 #[cycle(statements)]
 fn second(
@@ -189,8 +216,7 @@ pub(crate) fn statement(
             Ok(next)
         }
         Node::Begin(_, body, conds, arm) => {
-            let inner = Scopes::InBegin(conds.as_slice(), first, &*scopes);
-            let behind = statement(alloc, instrs, context, body, &inner, first + 2)?;
+            let behind = guarded(alloc, instrs, context, body, conds, scopes, first)?;
             jump_to_normal(alloc, instrs, first + 1, first)?;
             let next = second(alloc, instrs, context, arm, scopes, behind, first + 1)?;
             Ok(next)

@@ -108,7 +108,9 @@ pub fn compile(
 /// Builds the image of a source, for a control stack of `ctrl` words, a temporary stack of `temp` words, and a window
 /// that begins at `base`.
 ///
-/// The time is linear in the text, in the words of the code that is generated, and in the sizes of the two stacks.
+/// The time is linear in the text, in the words of the code that is generated, and in the sizes of the two stacks, with
+/// factors that the form bounds: a name is sought among those that are declared, and a raise asks the loops and the
+/// handlers round it.
 ///
 /// # Errors
 ///

@@ -1,5 +1,4 @@
 use Rattle.std.proofs.Common.{rules, ◌≡◌, ◌+◌, ◌++◌, ◌∷◌, [], List, map, None, ap, sym, ◌∙◌}
-use Rattle.std.specs.Global.{Vec}
 use Rattle.piton_words.specs.declared.word.Word.TheVariants.{Nat}
 use Rattle.piton_syntax.specs.declared.test_kind.TestFamily.TheVariants as family
 use Rattle.piton_syntax.specs.declared.test_kind.TestKind.TheVariants as test
@@ -9,7 +8,6 @@ use Rattle.gypsy_codegen.specs.Generated.{InLoop, InBegin, offset}
 use Rattle.gypsy_codegen.specs.WordsOf.{number_of_way}
 use Rattle.gypsy_codegen.proofs.CodeLaws.{both_are}
 use Rattle.gypsy_space.specs.Nodes.{seen_cond, seen_program, seen_statement, seen_statements}
-use Rattle.gypsy_space.specs.declared.program.Condition.{Condition}
 use Rattle.gypsy_space.specs.declared.program.Node.{the_lemmas}
 use Rattle.gypsy_space.proofs.NodeLaws.{seen_statement-seq}
 use Rattle.gypsy_codegen.specs.Lines.{labels, lines}
@@ -85,8 +83,7 @@ statement-returns-in_ok-next-in-Begin-clause-lines t c =
     let arm = seen_statement c.in-Begin.arm.value in
     let conds = c.in-Begin.conds.value.items in
     let k : seen_statement c.args.node.now.value ≡ Begin c.in-Begin.field-0 body (map seen_cond conds) arm = ap seen_statement (sym c.deref.ensures ∙ c.in-Begin.is) in
-    let same : c.as_slice.result.now ≡ conds = c.as_slice.ensures.value ∙ ap (λ (v : Vec Condition). v.items) c.deref-in-Begin.ensures in
-    let first_part = rw same at c.in_ok-behind-in-Begin.ensures.lines in
+    let first_part = c.in_ok-behind-in-Begin.ensures.lines in
     let second_part = rw c.in_ok-behind-in-Begin.ensures.next at c.in_ok-next-in-Begin.ensures.lines in
     let inside : List Line = lines q p (InBegin (map seen_cond conds) l ∷ scopes) (l + 2) body in
     let between : List Line = Plain (i.Jump (l + 1)) ∷ Marked l (i.PushConstant (Nat (number_of_way None))) ∷ Plain (i.PopGlobal 0) ∷ [] in

@@ -1,0 +1,57 @@
+//! The conditions that a `begin` handles.
+
+ghost use Rattle.std.specs.Prelude.{◌≡◌, ◌==◌, ◌<◌, ◌^◌, ℕ, map, get_or, false, OnOk, IfOk, if◌then◌else◌, true};
+ghost use Rattle.gypsy_syntax.specs.Programs.{Cond};
+ghost use Rattle.gypsy_space.specs.Nodes.{seen_cond};
+ghost use Rattle.gypsy_meaning.specs.Calls.{has_cond};
+ghost use Rattle.gypsy_codegen.specs.WordsOf.{number_of};
+
+use crate::context::number_of;
+use gypsy_space::Condition;
+use stack_text::Memory;
+use std::alloc::Global;
+
+/// The conditions that a `begin` handles, and a table that tells, by a condition's number, whether it is one of them.
+#[derive(Drop)]
+pub(crate) struct Handled<'a> {
+    pub conds: &'a [Condition],
+    table: Vec<bool>,
+    ghost tells: { (c : Cond) → get_or table.items (number_of c) false ≡ has_cond c (map seen_cond conds.now) },
+}
+
+/// Makes one entry of a table true. Those that it doesn't have yet are false.
+fn mark(table: &mut Vec<bool>, number: u64) -> Result<(), Memory>
+    requires { number < 2 ^ 33 }
+    ensures { OnOk result ((k : ℕ) → get_or table.new.items k false ≡
+        (if k == number then true else get_or table.old.items k false)) }
+{
+    let at = number as usize;
+    if table.len() <= at {
+        table.resize(at + 1, false)?;
+    }
+    table[at] = true;
+    Ok(())
+}
+
+impl<'a> Handled<'a> {
+    /// The conditions, with their table.
+    pub(crate) fn new(alloc: Global, conds: &'a [Condition]) -> Result<Self, Memory>
+        ensures { IfOk result (λ handled. handled.conds.now ≡ conds.now) }
+    {
+        let mut table = Vec::new(alloc);
+        for cond in conds {
+            mark(&mut table, number_of(*cond))?;
+        }
+        Ok(Handled { conds, table })
+    }
+
+    /// Whether a condition is one of them.
+    pub(crate) fn has(&self, cond: Condition) -> bool
+        ensures { result ≡ has_cond (seen_cond cond) (map seen_cond self.now.conds.now) }
+    {
+        match self.table.get(number_of(cond) as usize) {
+            Some(found) => *found,
+            None => false,
+        }
+    }
+}
