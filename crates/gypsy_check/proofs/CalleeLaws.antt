@@ -16,7 +16,7 @@ abbrev first_of : {V : Type 0} → List ℕ → List (Key × V) → Option V
 first_of name entries = lookup (sought name) entries
 
 -- a name that was not there is entered after the others
-entered_last : {V : Type 0} (eq : Key → Key → Bool) → ((a b : Key) → eq a b ≡ bytes_eq a.now b.now) → (es : List (Key × V)) (key : Key) (v : V) → is_some (lookup (sought key.now) es) ≡ false →
+pub entered_last : {V : Type 0} (eq : Key → Key → Bool) → ((a b : Key) → eq a b ≡ bytes_eq a.now b.now) → (es : List (Key × V)) (key : Key) (v : V) → is_some (lookup (sought key.now) es) ≡ false →
     (other : List ℕ) → lookup (sought other) (insert_entry eq es key v) ≡ first_or (lookup (sought other) es) (bytes_eq other key.now) v
 entered_last {V} eq is [] key v absent other = by_test (bytes_eq other key.now)
   where

@@ -21,7 +21,7 @@ use Rattle.gypsy_syntax.specs.Fits.{FitsForm, FitsProcedure}
 use Rattle.gypsy_syntax.specs.Predefined.{slots_of}
 use Rattle.gypsy_syntax.specs.Programs.{no_proc}
 use Rattle.gypsy_syntax.specs.ProgramFits.{ArgFits, ArgsFit, Each, ProcFits, StmtFits, ValueFits, is_in_range, slot_kind}
-use Rattle.gypsy_syntax.specs.Resolved.{argument_of, condition_names, item_of, items_of_all, local_value, place_among, position_of, procedure_names, procedure_of, program_of, statement_of, statement_of_all, value_items, variable_names, variable_types}
+use Rattle.gypsy_syntax.specs.Resolved.{argument_of, condition_names, item_of, items_of_all, local_value, place_among, position_of, procedure_of, program_of, statement_of, statement_of_all, value_items, variable_names, variable_types}
 use Rattle.gypsy_syntax.specs.Sources.{LiteralOf, integer, truth, character, array, ArgOf, variable, constant, LocalOf, ProcOf, SourceOf}
 use Rattle.gypsy_syntax.specs.Sources.{StmtOf, StmtsOf, no_op, signal, seq, loop, branch, begin, call, predef, no_parts, part}
 use Rattle.gypsy_syntax.specs.SourceView.{items_of_list, literal_of, parts_of_list, stmt_of}
@@ -61,11 +61,6 @@ condition_small p name f =
     let le : position_of name (condition_names p) ≤ length (condition_names p) = position_below name (condition_names p) in
     let number : length (condition_names p) ≡ length formals + length locals = length-append formals locals in
     omega (arith, le, number, length-map p.conds (λ (n : Named). n.name), length-map p.local_conds (λ (n : Named). n.name), f.few_conds)
-
-pub procedure_small : (s : SourceOf) (name : List ℕ) → FitsForm s → position_of name (procedure_names s) < 2 ^ 32
-procedure_small s name f =
-    let le : position_of name (procedure_names s) ≤ length (procedure_names s) = position_below name (procedure_names s) in
-    omega (arith, le, length-map s.procs (λ (p : ProcOf). p.name.name), f.few_procs)
 
 -- ---- values
 

@@ -3,6 +3,7 @@ mod CappedLaws
 pub mod EventLaws
 pub mod NodeLaws
 mod PositionLaws
+mod CalleeLaws
 mod ResolveLaws
 pub mod SmallLaws
 mod AcceptedLaws

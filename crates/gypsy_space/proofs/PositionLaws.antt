@@ -8,10 +8,9 @@ use Rattle.stack_text.specs.declared.name.Named.{Named}
 use Rattle.gypsy_syntax.specs.declared.literal.Decl.{Decl}
 use Rattle.gypsy_syntax.specs.declared.literal.Local.{Local}
 use Rattle.gypsy_syntax.specs.declared.proc.Proc.{Proc}
-use Rattle.gypsy_syntax.specs.declared.proc.Source.{Source}
-use Rattle.gypsy_syntax.specs.Resolved.{condition_names, place_among, position_of, procedure_names, variable_names}
-use Rattle.gypsy_syntax.specs.SourceView.{local_of, proc_of, source_of}
-use Rattle.gypsy_syntax.specs.Sources.{LocalOf, ProcOf}
+use Rattle.gypsy_syntax.specs.Resolved.{condition_names, place_among, position_of, variable_names}
+use Rattle.gypsy_syntax.specs.SourceView.{local_of, proc_of}
+use Rattle.gypsy_syntax.specs.Sources.{LocalOf}
 use Rattle.gypsy_check.proofs.LookupLaws.{place_cons}
 
 position_or_len-map : {X Y : Type 0} (p : Y → Bool) (f : X → Y) (xs : List X) → position_or_len (λ x. p (f x)) xs ≡ position_or_len p (map f xs)
@@ -24,7 +23,7 @@ unfolding place_among
 position-map name key xs =
     ap₂ (λ (n l : ℕ). cond (nat_lt n l) (Some n) None) (position_or_len-map (bytes_eq name) key xs) (sym (length-map xs key))
 
-place_none : (name : List ℕ) → place_among name [] ≡ None
+pub place_none : (name : List ℕ) → place_among name [] ≡ None
 unfolding place_among
 place_none name = refl
 
@@ -62,7 +61,7 @@ position_two name key other xs ys =
     ∙ ap (λ (k : ℕ). place_or k (place_among name (map key xs)) (place_among name (map other ys))) (sym (length-map xs key))
     ∙ sym (place_among-append name (map key xs) (map other ys))
 
--- the position of a variable, of a condition and of a procedure
+-- the position of a variable and of a condition
 pub variable_position : (p : Proc) (name : List ℕ) (m o : Option ℕ) → m ≡ position (λ (d : Decl). bytes_eq name d.name.name) p.formals.items → o ≡ position (λ (l : Local). bytes_eq name l.decl.name.name) p.locals.items →
     unwrap_or (place_or (length p.formals.items) m o) 0 ≡ position_of name (variable_names (proc_of p))
 variable_position p name m o e f =
@@ -76,8 +75,3 @@ pub condition_position : (p : Proc) (name : List ℕ) (m o : Option ℕ) → m �
 condition_position p name m o e f =
     ap (λ (i : Option ℕ). unwrap_or i 0)
     (ap₂ (place_or (length p.conds.items)) e f ∙ position_two name (λ (n : Named). n.name) (λ (n : Named). n.name) p.conds.items p.local_conds.items)
-
-pub procedure_position : (s : Source) (name : List ℕ) (m : Option ℕ) → m ≡ position (λ (p : Proc). bytes_eq name p.name.name) s.procs.items → unwrap_or m 0 ≡ position_of name (procedure_names (source_of s))
-procedure_position s name m e =
-    ap (λ (i : Option ℕ). unwrap_or i 0)
-    (e ∙ position-map name (λ (p : Proc). p.name.name) s.procs.items ∙ ap (place_among name) (sym (map-map (λ (p : ProcOf). p.name.name) proc_of s.procs.items)))

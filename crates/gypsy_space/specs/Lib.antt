@@ -7,4 +7,5 @@ pub mod Nodes
 -- Scaffold: what only private functions and lemmas say.
 pub mod StatementNeeds
 pub mod CallSites
+pub mod Callees
 pub mod Resolvable

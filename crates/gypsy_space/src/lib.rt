@@ -3,6 +3,7 @@
 //! `specs/` has the definitions over programs with positions in place of names; such programs as code are here too.
 #![tactic(auto)]
 
+mod callees;
 mod counting;
 mod event;
 mod laws;

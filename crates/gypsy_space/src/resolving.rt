@@ -5,7 +5,7 @@ ghost use Rattle.std.specs.Option.{unwrap_or};
 ghost use Rattle.std.specs.List.{list_all, position};
 ghost use Rattle.std.specs.Str.{bytes_eq};
 ghost use Rattle.stack_text.specs.declared.shape.Kind.TheVariants as kinds;
-ghost use Rattle.gypsy_syntax.specs.Fits.{FitsForm, FitsProcedure};
+ghost use Rattle.gypsy_syntax.specs.Fits.{FitsProcedure};
 ghost use Rattle.gypsy_syntax.specs.ProgramFits.{ValueFits, is_in_range};
 ghost use Rattle.gypsy_syntax.specs.Programs.{Apply, Call};
 ghost use Rattle.gypsy_syntax.specs.Resolved.{argument_of, cond_of, condition_names, item_of, items_of_all, literal_kind};
@@ -15,14 +15,16 @@ ghost use Rattle.gypsy_syntax.specs.SourceView.{arg_of, items_of_list, literal_o
 ghost use Rattle.gypsy_syntax.specs.SourceView.{source_of, stmt_of};
 ghost use Rattle.gypsy_space.specs.Nodes.{seen_arg, seen_cond, seen_proc, seen_program, seen_statement, seen_statements};
 ghost use Rattle.gypsy_space.specs.Nodes.{declared_names, seen_proc_names};
+ghost use Rattle.gypsy_space.specs.Callees.{KnowsCallees};
 ghost use Rattle.gypsy_space.specs.CallSites.{IsCallSite};
 ghost use Rattle.gypsy_space.specs.Resolvable.{ConstantFits, ConstantsFit, IsResolvable, LocalFits};
 ghost use Rattle.gypsy_check.specs.Accepted.{IsAccepted};
 ghost use Rattle.gypsy_check.specs.Types.{has_length};
 
+use crate::callees::{Callees, callees_of};
 use crate::program::{Application, Argument, CallSite, Condition, Node, Procedure, Program};
 use gypsy_check::Accepted;
-use gypsy_syntax::{Arg, Decl, Literal, Local, Predef, Proc, Source, Stmt, TypeText};
+use gypsy_syntax::{Arg, Decl, Literal, Local, Predef, Proc, Stmt, TypeText};
 use stack_text::{Kind, Memory, Name, Named, Shape, Value};
 use std::alloc::Global;
 use std::rc::Rc;
@@ -57,13 +59,6 @@ fn local_condition_place(proc: &Proc, name: &Name) -> Option<usize>
     proc.local_conds.iter().position(|cond| *name == cond.name)
 }
 
-/// Where the first procedure of a name is.
-fn procedure_place(source: &Source, name: &Name) -> Option<usize>
-    ensures { result ≡ position (λ p. bytes_eq name.now p.name.name) source.now.procs.items }
-{
-    source.procs.iter().position(|proc| *name == proc.name.name)
-}
-
 /// The position of a variable, formals before locals.
 fn variable_place(proc: &Proc, name: &Name) -> usize
     ensures { result ≡ position_of name.now (variable_names (proc_of proc.now)) }
@@ -88,21 +83,6 @@ fn condition_place(proc: &Proc, name: &Name) -> usize
             None => 0,
         },
     }
-}
-
-/// The position of a procedure.
-fn callee_place(source: &Source, name: &Name) -> usize
-    ensures { result ≡ position_of name.now (procedure_names (source_of source.now)) }
-{
-    procedure_place(source, name).unwrap_or(0)
-}
-
-/// A procedure that is named.
-fn callee(source: &Source, name: &Named) -> u32
-    requires { FitsForm (source_of source.now) }
-    ensures { result ≡ position_of name.now.name (procedure_names (source_of source.now)) }
-{
-    callee_place(source, &name.name) as u32
 }
 
 /// A variable.
@@ -322,21 +302,22 @@ struct CallText<'a> {
 /// A call of a procedure.
 fn call_site(
     alloc: Global,
-    source: &Source,
+    callees: &Callees,
     proc: &Proc,
     place: u32,
     call: CallText,
 ) -> Result<CallSite, Memory>
-    requires source { FitsForm (source_of source.now) }
+    requires callees { KnowsCallees callees.now }
     requires form { FitsProcedure (proc_of proc.now) }
-    ensures { let callee = position_of call.entry.callee.now.name (procedure_names (source_of source.now)) in
+    ensures { let procedures = procedure_names (source_of callees.now.source.now) in
+        let callee = position_of call.entry.callee.now.name procedures in
         let actuals = map (variable_of (proc_of proc.now)) call.entry.actuals.now in
         IfOk result (λ site. IsCallSite place callee actuals
         (map (cond_of (proc_of proc.now)) call.entry.conds.now) site) }
 {
     Ok(CallSite {
         place,
-        callee: callee(source, call.callee),
+        callee: callees.position(&call.callee.name),
         actuals: variables(alloc, proc, call.actuals)?,
         conds: conditions(alloc, proc, call.conds)?,
     })
@@ -345,16 +326,17 @@ fn call_site(
 /// A call of a procedure, as a node.
 fn call(
     alloc: Global,
-    source: &Source,
+    callees: &Callees,
     proc: &Proc,
     place: u32,
     callee: &Named,
     actuals: &[Named],
     conds: &[Named],
 ) -> Result<Node, Memory>
-    requires source { FitsForm (source_of source.now) }
+    requires callees { KnowsCallees callees.now }
     requires form { FitsProcedure (proc_of proc.now) }
-    ensures { let callee = position_of callee.now.name (procedure_names (source_of source.now)) in
+    ensures { let procedures = procedure_names (source_of callees.now.source.now) in
+        let callee = position_of callee.now.name procedures in
         let actuals = map (variable_of (proc_of proc.now)) actuals.now in
         let conds = map (cond_of (proc_of proc.now)) conds.now in
         IfOk result (λ n. seen_statement n ≡ Call place callee actuals conds) }
@@ -364,7 +346,7 @@ fn call(
         actuals,
         conds,
     };
-    let site = call_site(alloc, source, proc, place, text)?;
+    let site = call_site(alloc, callees, proc, place, text)?;
     Ok(Node::Call(Rc::new(alloc, site)?))
 }
 
@@ -388,29 +370,31 @@ fn application(
 
 /// A statement.
 #[cycle(statements)]
-fn statement(alloc: Global, source: &Source, proc: &Proc, stmt: &Stmt) -> Result<Node, Memory>
-    requires source { FitsForm (source_of source.now) }
+fn statement(alloc: Global, callees: &Callees, proc: &Proc, stmt: &Stmt) -> Result<Node, Memory>
+    requires callees { KnowsCallees callees.now }
     requires form { FitsProcedure (proc_of proc.now) }
     requires constants { ConstantsFit (stmt_of stmt.now) }
     ensures { IfOk result (λ n. seen_statement n
-        ≡ statement_of (source_of source.now) (proc_of proc.now) (stmt_of stmt.now)) }
+        ≡ statement_of (source_of callees.now.source.now) (proc_of proc.now) (stmt_of stmt.now)) }
 {
     match stmt {
         Stmt::NoOp { place } => Ok(Node::NoOp(*place)),
         Stmt::Signal { place, cond } => Ok(Node::Signal(*place, condition(proc, cond))),
         Stmt::Seq { parts, .. } => {
-            let nodes = statements(alloc, source, proc, parts.as_slice())?;
+            let nodes = statements(alloc, callees, proc, parts.as_slice())?;
             Ok(Node::Seq(Rc::new(alloc, nodes)?))
         }
-        Stmt::Loop { place, body } => { Ok(Node::Loop(*place, shared(alloc, source, proc, body)?)) }
+        Stmt::Loop { place, body } => {
+            Ok(Node::Loop(*place, shared(alloc, callees, proc, body)?))
+        }
         Stmt::If {
             place,
             test,
             yes,
             no,
         } => {
-            let yes = shared(alloc, source, proc, yes)?;
-            let no = shared(alloc, source, proc, no)?;
+            let yes = shared(alloc, callees, proc, yes)?;
+            let no = shared(alloc, callees, proc, no)?;
             Ok(Node::If(*place, variable(proc, test), yes, no))
         }
         Stmt::Begin {
@@ -419,9 +403,9 @@ fn statement(alloc: Global, source: &Source, proc: &Proc, stmt: &Stmt) -> Result
             conds,
             arm,
         } => {
-            let body = shared(alloc, source, proc, body)?;
+            let body = shared(alloc, callees, proc, body)?;
             let conds = Rc::new(alloc, conditions(alloc, proc, conds.as_slice())?)?;
-            let arm = shared(alloc, source, proc, arm)?;
+            let arm = shared(alloc, callees, proc, arm)?;
             Ok(Node::Begin(*place, body, conds, arm))
         }
         Stmt::Call {
@@ -430,7 +414,7 @@ fn statement(alloc: Global, source: &Source, proc: &Proc, stmt: &Stmt) -> Result
             actuals,
             conds,
             ..
-        } => call(alloc, source, proc, *place, callee, actuals, conds),
+        } => call(alloc, callees, proc, *place, callee, actuals, conds),
         Stmt::Predef { place, which, args } => {
             application(alloc, proc, *place, *which, args.as_slice())
         }
@@ -439,14 +423,14 @@ fn statement(alloc: Global, source: &Source, proc: &Proc, stmt: &Stmt) -> Result
 
 /// A part of a statement, which is shared with the work that is made of it.
 #[cycle(statements)]
-fn shared(alloc: Global, source: &Source, proc: &Proc, stmt: &Stmt) -> Result<Rc<Node>, Memory>
-    requires source { FitsForm (source_of source.now) }
+fn shared(alloc: Global, callees: &Callees, proc: &Proc, stmt: &Stmt) -> Result<Rc<Node>, Memory>
+    requires callees { KnowsCallees callees.now }
     requires form { FitsProcedure (proc_of proc.now) }
     requires constants { ConstantsFit (stmt_of stmt.now) }
     ensures { IfOk result (λ n. seen_statement n.value
-        ≡ statement_of (source_of source.now) (proc_of proc.now) (stmt_of stmt.now)) }
+        ≡ statement_of (source_of callees.now.source.now) (proc_of proc.now) (stmt_of stmt.now)) }
 {
-    let node = statement(alloc, source, proc, stmt)?;
+    let node = statement(alloc, callees, proc, stmt)?;
     Ok(Rc::new(alloc, node)?)
 }
 
@@ -454,29 +438,30 @@ fn shared(alloc: Global, source: &Source, proc: &Proc, stmt: &Stmt) -> Result<Rc
 #[cycle(statements)]
 fn statements(
     alloc: Global,
-    source: &Source,
+    callees: &Callees,
     proc: &Proc,
     parts: &[Stmt],
 ) -> Result<Vec<Rc<Node>>, Memory>
-    requires source { FitsForm (source_of source.now) }
+    requires callees { KnowsCallees callees.now }
     requires form { FitsProcedure (proc_of proc.now) }
     requires constants { All (λ s. ConstantsFit (stmt_of s)) parts.now }
     ensures { IfOk result (λ ns. seen_statements ns.items
-        ≡ statement_of_all (source_of source.now) (proc_of proc.now) (parts_of_list parts.now)) }
+        ≡ statement_of_all (source_of callees.now.source.now) (proc_of proc.now) (parts_of_list parts.now)) }
 {
     let mut nodes = Vec::new(alloc);
     for part in parts {
-        let node = shared(alloc, source, proc, part)?;
+        let node = shared(alloc, callees, proc, part)?;
         nodes.push(node)?;
     }
     Ok(nodes)
 }
 
 /// A procedure.
-fn procedure(alloc: Global, source: &Source, proc: &Proc) -> Result<Procedure, Memory>
-    requires source { FitsForm (source_of source.now) }
+fn procedure(alloc: Global, callees: &Callees, proc: &Proc) -> Result<Procedure, Memory>
+    requires callees { KnowsCallees callees.now }
     requires resolvable { IsResolvable (proc_of proc.now) }
-    ensures procedure { IfOk result (λ p. seen_proc p ≡ procedure_of (source_of source.now) (proc_of proc.now)) }
+    ensures procedure { IfOk result (λ p. seen_proc p
+        ≡ procedure_of (source_of callees.now.source.now) (proc_of proc.now)) }
     ensures names { IfOk result (λ p. seen_proc_names p ≡ declared_names (proc_of proc.now)) }
 {
     Ok(Procedure {
@@ -485,22 +470,23 @@ fn procedure(alloc: Global, source: &Source, proc: &Proc) -> Result<Procedure, M
         locals: locals(alloc, proc.locals.as_slice())?,
         conds: names(alloc, proc.conds.as_slice())?,
         local_conds: names(alloc, proc.local_conds.as_slice())?,
-        body: shared(alloc, source, proc, &proc.body)?,
+        body: shared(alloc, callees, proc, &proc.body)?,
     })
 }
 
 /// Each procedure.
-fn procedures(alloc: Global, source: &Source) -> Result<Vec<Procedure>, Memory>
-    requires source { FitsForm (source_of source.now) }
-    requires resolvable { All (λ p. IsResolvable (proc_of p)) source.now.procs.items }
+fn procedures(alloc: Global, callees: &Callees) -> Result<Vec<Procedure>, Memory>
+    requires callees { KnowsCallees callees.now }
+    requires resolvable { All (λ p. IsResolvable (proc_of p)) callees.now.source.now.procs.items }
     ensures procedures { IfOk result (λ ps. map seen_proc ps.items
-        ≡ map (procedure_of (source_of source.now)) (source_of source.now).procs) }
+        ≡ map (procedure_of (source_of callees.now.source.now)) (source_of callees.now.source.now).procs) }
     ensures names { IfOk result (λ ps. map seen_proc_names ps.items
-        ≡ map declared_names (source_of source.now).procs) }
+        ≡ map declared_names (source_of callees.now.source.now).procs) }
 {
+    let source = callees.source;
     let mut procedures = Vec::new(alloc);
     for proc in source.procs.as_slice() {
-        procedures.push(procedure(alloc, source, proc)?)?;
+        procedures.push(procedure(alloc, callees, proc)?)?;
     }
     Ok(procedures)
 }
@@ -513,9 +499,10 @@ pub fn resolve(alloc: Global, accepted: &Accepted) -> Result<Program, Memory>
     ensures accepted { IfOk result (λ _. IsAccepted (source_of accepted.now)) }
 {
     let source = accepted.source();
-    let procedures = procedures(alloc, source)?;
+    let callees = callees_of(alloc, source)?;
+    let procedures = procedures(alloc, &callees)?;
     Ok(Program {
-        main: callee(source, &source.main),
+        main: callees.position(&source.main.name),
         procedures,
     })
 }

@@ -22,7 +22,7 @@ statement-statements-requires t c =
     let parts = c.in-Seq.parts.items in
     let k : stmt_of c.args.stmt.now ≡ seq c.in-Seq.place (parts_of_list parts) = ap stmt_of c.in-Seq.is ∙ stmt_of-seq c.in-Seq.place c.in-Seq.parts in
     let constants = subst (λ (b : StmtOf). ConstantsFit b) k c.requires.constants in
-    (search (rules, the_lemmas), (c.requires.source, (c.requires.form, All-same (λ (s : Text). ConstantsFit (stmt_of s)) c.as_slice.result.now parts c.as_slice.ensures.value (parts_fit parts constants))))
+    (search (rules, the_lemmas), (c.requires.callees, (c.requires.form, All-same (λ (s : Text). ConstantsFit (stmt_of s)) c.as_slice.result.now parts c.as_slice.ensures.value (parts_fit parts constants))))
 
 pub statement-application-requires-clause-constants : goal.statement-application-requires-clause-constants
 statement-application-requires-clause-constants t c =
@@ -33,7 +33,7 @@ statement-application-requires-clause-constants t c =
 
 pub statement-returns-in_ok-new-in-Seq : goal.statement-returns-in_ok-new-in-Seq
 statement-returns-in_ok-new-in-Seq t c =
-    let s = source_of c.args.source.now in
+    let s = source_of c.args.callees.now.source.now in
     let p = proc_of c.args.proc.now in
     seen_statement-seq c.in_ok-new-in-Seq.field-0
     ∙ ap (λ v. seen_statements v.items) c.in_ok-new-in-Seq.ensures.ok
@@ -43,7 +43,7 @@ statement-returns-in_ok-new-in-Seq t c =
 
 pub statements-loop-part-preserved : goal.statements-loop-part-preserved
 statements-loop-part-preserved t c =
-    let s = source_of c.args.source.now in
+    let s = source_of c.args.callees.now.source.now in
     let p = proc_of c.args.proc.now in
     let pushed : c.push.new.self.items ≡ c.loop-part.nodes.items ++ c.in_ok-node.node ∷ [] = search rules in
     let whole = statement_of_all s p (parts_of_list c.args.parts.now) in
@@ -52,6 +52,6 @@ statements-loop-part-preserved t c =
 
 pub statements-returns : goal.statements-returns
 statements-returns t c =
-    let s = source_of c.args.source.now in
+    let s = source_of c.args.callees.now.source.now in
     let p = proc_of c.args.proc.now in
     all_parts s p c.loop-part.nodes.items c.args.parts.now c.loop-part.part-index (statement_of_all s p (parts_of_list c.args.parts.now)) c.loop-part.invariant (omega (arith, c.loop-part-test.false))

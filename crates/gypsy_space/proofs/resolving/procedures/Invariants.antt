@@ -7,9 +7,9 @@ use Rattle.gypsy_space.proofs.resolving.procedures.Given as goal
 abbrev pub invariant-loop-proc : goal.invariant-loop-proc
 invariant-loop-proc l = record {
   procedures :
-      map seen_proc l.procedures.items ++ map (procedure_of (source_of l.source)) (map proc_of (drop l.proc-index l.source.procs.items)) ≡
-      map (procedure_of (source_of l.source)) (map proc_of l.source.procs.items);
+      map seen_proc l.procedures.items ++ map (procedure_of (source_of l.callees.source.now)) (map proc_of (drop l.proc-index l.proc-items)) ≡
+      map (procedure_of (source_of l.callees.source.now)) (map proc_of l.callees.source.now.procs.items);
   names :
-      map seen_proc_names l.procedures.items ++ map declared_names (map proc_of (drop l.proc-index l.source.procs.items)) ≡
-      map declared_names (map proc_of l.source.procs.items);
+      map seen_proc_names l.procedures.items ++ map declared_names (map proc_of (drop l.proc-index l.proc-items)) ≡
+      map declared_names (map proc_of l.callees.source.now.procs.items);
 }

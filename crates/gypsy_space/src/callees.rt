@@ -1,0 +1,54 @@
+//! The procedures of a source, found by their names.
+
+ghost use Rattle.std.specs.Prelude.{◌≡◌, ◌≤◌, IfOk, length};
+ghost use Rattle.gypsy_syntax.specs.Fits.{FitsForm};
+ghost use Rattle.gypsy_syntax.specs.Resolved.{position_of, procedure_names};
+ghost use Rattle.gypsy_syntax.specs.SourceView.{source_of};
+ghost use Rattle.gypsy_space.specs.Callees.{KnowsCallees, KnowsPositions, names_of};
+
+use gypsy_syntax::{Proc, Source};
+use indexmap::IndexMap;
+use stack_text::{Memory, Name};
+use std::alloc::Global;
+
+/// A source, with the position of the first procedure of each name.
+#[derive(Drop)]
+pub(crate) struct Callees<'a> {
+    pub source: &'a Source,
+    pub positions: IndexMap<&'a [u8], u32>,
+}
+
+impl<'a> Callees<'a> {
+    /// The position of a procedure, or 0 where none has the name.
+    pub(crate) fn position(&self, name: &Name) -> u32
+        requires { KnowsCallees self.now }
+        ensures { result ≡ position_of name.now (procedure_names (source_of self.now.source.now)) }
+    {
+        self.positions.get(name.bytes()).copied().unwrap_or(0)
+    }
+}
+
+/// The position of the first procedure of each name.
+fn positions_of<'a>(alloc: Global, procs: &'a [Proc]) -> Result<IndexMap<&'a [u8], u32>, Memory>
+    requires { length procs.now ≤ 1000 }
+    ensures { IfOk result (λ positions. KnowsPositions positions (names_of procs.now)) }
+{
+    let mut positions = IndexMap::new(alloc);
+    for (index, proc) in procs.iter().enumerate() {
+        let name = proc.name.name.bytes();
+        if !positions.contains_key(name) {
+            positions.insert(name, index as u32)?;
+        }
+    }
+    Ok(positions)
+}
+
+/// The procedures of a source, found by their names.
+pub(crate) fn callees_of<'a>(alloc: Global, source: &'a Source) -> Result<Callees<'a>, Memory>
+    requires { FitsForm (source_of source.now) }
+    ensures of { IfOk result (λ callees. callees.source.now ≡ source.now) }
+    ensures known { IfOk result KnowsCallees }
+{
+    let positions = positions_of(alloc, source.procs.as_slice())?;
+    Ok(Callees { source, positions })
+}
