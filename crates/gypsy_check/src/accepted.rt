@@ -52,7 +52,8 @@ impl Accepted {
 ///
 /// # Errors
 ///
-/// The least breach, place before rule, of all that there are; or out of memory. The time is linear in the text.
+/// The least breach, place before rule, of all that there are; or out of memory. The time is linear in the text, but for
+/// names that were picked so that they meet in a hash table, whose seed is fixed.
 pub fn check(alloc: Global, source: Source) -> Result<Accepted, CheckFault>
     requires { KeepsForm (source_of source) }
     ensures accepted { IfOk result (λ accepted. IsAccepted (source_of accepted)) }

@@ -17,7 +17,7 @@ pub enum CheckFault {
     /// | S5 | a condition's name was used earlier in the procedure | the later name |
     /// | S6 | a condition is declared as `normal`, `leave`, `routineerror` or `spaceerror` | the name |
     /// | S7 | an array's length isn't 1 to 4,096 | the type |
-    /// | S8 | an initial value isn't of its type's kind, or not of its length | the value |
+    /// | S8 | an initial value isn't of its type's kind, or not of its length, or a list stands for a simple type or the reverse | the value |
     /// | S9 | an integer has no 32 bits, or a character's number is over 127 | the literal |
     /// | S10 | a condition that is signalled or given isn't `leave`, `routineerror` or a declared one | the name |
     /// | S11 | `leave` is signalled or given with no loop round it | the name |

@@ -56,9 +56,11 @@ pub enum Crossing {
 /// and the needs that a call is handed are those with which the run was started, as `BelongsTo` says: `start` gives it,
 /// and each call keeps it.
 ///
-/// A step's time doesn't grow with the work or with the activations that wait, and nothing calls itself by the nesting
-/// of calls. A list of work is no longer than twice the depth at which its procedure's statements nest, so it is dropped
-/// in as few nested calls; activations stand in a vector.
+/// A step's time doesn't grow with the activations that wait, and nothing calls itself by the nesting of calls. A
+/// condition that is raised passes over the work of its procedure and the lists of its handlers, and a call copies the
+/// callee's variables, arrays whole: memory grows by the words of all variables for each call that is going on. A list
+/// of work is no longer than twice the depth at which its procedure's statements nest, so it is dropped in as few nested
+/// calls; activations stand in a vector.
 #[derive(Drop)]
 pub struct Meaning {
     pub(crate) program: Program,

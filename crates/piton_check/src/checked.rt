@@ -53,7 +53,8 @@ impl Checked {
 ///
 /// # Errors
 ///
-/// The least breach, place before rule, of all that there are; or out of memory. The time is linear in the text.
+/// The least breach, place before rule, of all that there are; or out of memory. The time is linear in the text, but for
+/// names that were picked so that they meet in a hash table, whose seed is fixed.
 pub fn check(alloc: Global, system: System) -> Result<Checked, CheckFault>
     requires { KeepsForm system }
     ensures checked { IfOk result IsChecked }

@@ -28,7 +28,7 @@ use std::alloc::{AllocError, Global};
 /// The pieces of the jump, call or return at a place of a program; none where there is no such place.
 ///
 /// By its condition what stands there is one of these. The code then does the steps from there, once it is placed with the
-/// rest of the system.
+/// rest of the system, in at most 2^20 words.
 #[tactic(auto, using(crate::proofs::CountLaws::checked_few))]
 pub fn emit(
     alloc: Global,

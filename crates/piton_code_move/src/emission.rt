@@ -21,7 +21,7 @@ use std::alloc::{AllocError, Global};
 /// The pieces of the move at a place of a program; none where there is no such place.
 ///
 /// By its condition what stands there is a move. The code then does the steps from there, once it is placed with the rest
-/// of the system.
+/// of the system, in at most 2^20 words.
 pub fn emit(
     alloc: Global,
     checked: &Checked,

@@ -33,12 +33,12 @@ pub struct Linked {
 
 /// Links a system: gives each program, area and stack its place in memory, and each instruction its words.
 ///
-/// Whatever the system does on Piton's machine, its words then do on the processor, in as many instructions as the steps
-/// cost. The time is linear in the words.
+/// Each run of the system without an error is then one of its words on the processor, in as many instructions as the
+/// steps cost. The time is linear in the words.
 ///
 /// # Errors
 ///
-/// Its placed words are over 1,048,576, or there is no memory.
+/// Its placed words are over 1,048,576, or memory runs out.
 pub fn link(alloc: Global, checked: &Checked) -> Result<Linked, LinkFault>
     ensures small { IfOk result (λ linked. (placed (system_in checked.now)).size ≤ 2 ^ 20) }
     ensures fault { IfErr result (IsFault (system_in checked.now)) }

@@ -13,7 +13,7 @@ use Rattle.piton_syntax.specs.declared.word_text.WordText.{WordText}
 use Rattle.piton_syntax.specs.Printed.{word_tree}
 use Rattle.piton_syntax.specs.Systems.{AreaOf, ProgramOf, SystemOf}
 
--- The name of the area or the program at a position. Where there is none, as there always is in a run, the main program's name
+-- The name of the area or the program at a position. Where there is none, which no word of a run names, the main program's name
 -- stands for it.
 abbrev pub area_name : SystemOf → ℕ → List ℕ
 area_name system area = unwrap_or (option_map (λ (a : AreaOf). a.name.name) (slice_get system.areas area)) system.main.name

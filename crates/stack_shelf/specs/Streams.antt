@@ -11,7 +11,8 @@ abbrev pub opening_fault : ErrorKind → FetchFault
 opening_fault NotFound = Missing
 opening_fault kind = Failed
 
--- what reading a stream of known bytes within a limit returns: all of them, or that they are more; other faults are the stream's
+-- what reading a stream of known bytes within a limit returns: all of them, or that they are more; it may also fail, or run out of
+-- memory, which is left open
 abbrev pub ReadsWithin : Option (List ℕ) → ℕ → Result (Vec ℕ) FetchFault → Type 0
 ReadsWithin known limit (Ok bytes) = (length bytes.items ≤ limit) × IfSome known (λ all. bytes.items ≡ all)
 ReadsWithin known limit (Err TooLong) = IfSome known (λ all. limit < length all)

@@ -17,8 +17,9 @@
 //! # The edge
 //!
 //! `FolderShelf` and `StdoutSink` open a stream and hand it to a function that is generic over `Read`
-//! or `Write`, whose contract names the bytes: which fault an error is, and that all bytes are read or
-//! written, is proved there. What is left to trust is that the stream is opened at the right path and that the
+//! or `Write`, whose contract names the bytes: which fault an error of opening or writing is, and that all
+//! bytes are read or written, is proved there. That a read which breaks is a fault is tested, since std's
+//! `Read` doesn't say when a read fails. What is left to trust is that the stream is opened at the right path and that the
 //! call's own arguments are handed on.
 //!
 //! # Another shelf
