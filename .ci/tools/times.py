@@ -1,7 +1,10 @@
 #!/usr/bin/env python3
 """Runs a command of the kit, and prints what the prover took for each crate: processor minutes and the most memory of one process.
 
-    python3 .ci/tools/times.py .ci/run
+    python3 .ci/tools/times.py COMMAND ..
+    python3 .ci/tools/times.py --beside PROCESS
+
+With `--beside` it looks at what a process that runs already does, until it is stopped; so `.ci/run` has it beside the kit.
 
 It looks at the prover's processes among the command's descendants a few times a second. One that lives shorter than that isn't seen. What
 else runs on the machine isn't counted, but makes the rest take longer. The table has a row for each crate, the dearest first, and the sums;
@@ -105,24 +108,40 @@ def stop(*_):
     raise KeyboardInterrupt
 
 
-def main(command):
-    if not command:
-        sys.exit(__doc__)
-    begun, running = time.time(), subprocess.Popen(command)
-    seen = Seen(os.getpid())
+def watch(seen, is_going):
+    """Looks as long as there is something to see, or until it is stopped; returns whether it was stopped."""
     signal.signal(signal.SIGTERM, stop)
     try:
-        while running.poll() is None:
+        while is_going():
             seen.look()
             time.sleep(PAUSE)
     except KeyboardInterrupt:
-        running.terminate()
+        return True
+    return False
+
+
+def print_table(seen, begun):
     rows = seen.table()
     print("| Crate | Proof | Tests | Edits | Together | Gigabytes |\n|---|---|---|---|---|---|")
     for crate, *minutes, memory in rows:
         print(f"| `{crate}` | " + " | ".join(f"{it:.1f}" for it in minutes) + f" | {memory:.1f} |")
     print("| all | " + " | ".join(f"{sum(row[at] for row in rows):.0f}" for at in (1, 2, 3, 4)) + " | |")
-    print(f"{(time.time() - begun) / 60:.0f} minutes by the clock, at most {seen.memory / 2**30:.1f} GB at once")
+    print(f"{(time.time() - begun) / 60:.0f} minutes by the clock, at most {seen.memory / 2**30:.1f} GB at once", flush=True)
+
+
+def main(command):
+    begun = time.time()
+    if len(command) == 2 and command[0] == "--beside":
+        seen = Seen(int(command[1]))
+        watch(seen, lambda: os.path.exists(f"/proc/{command[1]}"))
+        print_table(seen, begun)
+        return 0
+    if not command or command[0].startswith("--"):
+        sys.exit(__doc__)
+    running, seen = subprocess.Popen(command), Seen(os.getpid())
+    if watch(seen, lambda: running.poll() is None):
+        running.terminate()
+    print_table(seen, begun)
     return 1 if running.poll() is None else running.returncode
 
 
