@@ -1,9 +1,11 @@
 //! The command `big`.
-ghost use Rattle.std.specs.Prelude.{◌≡◌, [], None, IfOk};
+ghost use Rattle.std.specs.Prelude.{◌≡◌, ◌^◌, [], None, IfOk, codes};
 ghost use Rattle.gypsy_syntax.specs.Answers.{KeepsForm};
 ghost use Rattle.gypsy_syntax.specs.SourceView.{source_of};
 ghost use Rattle.gypsy_check.specs.Rules.{violations};
 ghost use Rattle.gypsy_gen.specs.Large.{large_of};
+ghost use Rattle.fm_loader.specs.Values.{values_in};
+ghost use Rattle.cli_stack.specs.Run.{values_reply};
 ghost use Rattle.cli_stack.specs.Big.{after_text, source_line, go_on_source, big_reply};
 ghost use Rattle.cli_stack.specs.Plans.{pending_reply};
 ghost use Rattle.cli_stack.specs.Replies.{reply_of};
@@ -14,10 +16,11 @@ use crate::commands::run::begin;
 use crate::commands::source_text::verdict_of;
 use crate::reply::Reply;
 use command_line::ProcedureCount;
+use fm_image::Image;
 use gypsy_check::{Accepted, CheckFault, check};
 use gypsy_gen::large;
 use gypsy_syntax::{Source, print_gypsy};
-use stack_build::{Built, build_accepted};
+use stack_build::build_accepted;
 use stack_text::{Memory, Seq};
 use std::alloc::Global;
 
@@ -30,17 +33,13 @@ const WORDS: u32 = 64;
 /// The most instructions.
 const BUDGET: u64 = 1 << 40;
 
-/// A source that breaks no rule, accepted.
-fn accepted(alloc: Global, source: Source) -> Result<Accepted, Memory>
-    requires form { KeepsForm (source_of source) }
-    requires rules { violations (source_of source) ≡ [] }
-    ensures kept { IfOk result (λ accepted. accepted ≡ source) }
+/// Runs an image of the source on the value 0.
+fn run_on_value(alloc: Global, image: Image) -> Result<Reply, Memory>
+    ensures { IfOk result (λ reply. reply_of reply
+        ≡ values_reply image (2 ^ 40) (values_in image.slots (codes "((x 0))"))) }
 {
-    match check(alloc, source) {
-        Ok(accepted) => Ok(accepted),
-        Err(CheckFault::Memory) => Err(Memory),
-        Err(CheckFault::Violation { rule: _, place: _ }) => unreachable!(),
-    }
+    let pending = begin(alloc, image, VALUES, BUDGET)?;
+    finish(alloc, pending)
 }
 
 /// Builds a source, and runs it on the value 0.
@@ -49,17 +48,21 @@ fn run_accepted(alloc: Global, accepted: &Accepted) -> Result<Reply, Memory>
     ensures { IfOk result (λ reply. reply_of reply ≡ go_on_source (source_of accepted.now)) }
 {
     match build_accepted(alloc, accepted, WORDS, WORDS, 0) {
-        Ok(
-            Built {
-                image,
-                bytes: _,
-                piton: _,
-            },
-        ) => {
-            let pending = begin(alloc, image, VALUES, BUDGET)?;
-            finish(alloc, pending)
-        }
+        Ok(built) => run_on_value(alloc, built.image),
         Err(fault) => Ok(Reply::verdict_alone(alloc, verdict_of(fault)?)),
+    }
+}
+
+/// Builds and runs a source that breaks no rule.
+fn run_source(alloc: Global, source: Source) -> Result<Reply, Memory>
+    requires form { KeepsForm (source_of source) }
+    requires rules { violations (source_of source) ≡ [] }
+    ensures { IfOk result (λ reply. reply_of reply ≡ go_on_source (source_of source)) }
+{
+    match check(alloc, source) {
+        Ok(accepted) => run_accepted(alloc, &accepted),
+        Err(CheckFault::Memory) => Err(Memory),
+        Err(CheckFault::Violation { rule: _, place: _ }) => unreachable!(),
     }
 }
 
@@ -101,8 +104,7 @@ pub fn prepare(alloc: Global, number: u32, procedures: &ProcedureCount) -> Resul
     let procedures = procedures.procedures();
     let source = large(alloc, number, procedures)?;
     let first = source_line(alloc, &source, number, procedures)?;
-    let accepted = accepted(alloc, source)?;
-    let reply = after_text(first, run_accepted(alloc, &accepted)?)?;
+    let reply = after_text(first, run_source(alloc, source)?)?;
     Ok(Plan {
         stored: None,
         pending: Pending::Reply(reply),

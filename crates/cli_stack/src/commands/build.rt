@@ -5,7 +5,7 @@ ghost use Rattle.cli_stack.specs.Build.{image_stored, build_reply};
 ghost use Rattle.cli_stack.specs.Plans.{pending_reply};
 
 use crate::commands::plan::Plan;
-use crate::commands::source_text::verdict_of;
+use crate::commands::source_text::refused;
 use command_line::StackSize;
 use stack_build::{Built, build};
 use stack_text::{Memory, Seq};
@@ -32,6 +32,6 @@ pub fn prepare(
                 piton: _,
             },
         ) => { Plan::stores_image(alloc, image.size, Seq::from_vec(bytes)) }
-        Err(fault) => Ok(Plan::verdict_alone(alloc, verdict_of(fault)?)),
+        Err(fault) => refused(alloc, fault),
     }
 }

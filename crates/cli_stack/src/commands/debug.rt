@@ -1,18 +1,18 @@
 //! The command `debug`.
-ghost use Rattle.std.specs.Prelude.{◌≡◌, ◌≤◌, ◌^◌, [], None, Some, IfOk, length, map};
+ghost use Rattle.std.specs.Prelude.{◌≡◌, ◌≤◌, ◌^◌, List, [], None, Some, IfOk, length, map};
 ghost use Rattle.gypsy_space.specs.Needs.{stack_words};
 ghost use Rattle.gypsy_syntax.specs.SourceView.{source_of};
-ghost use Rattle.level_debuggers.specs.Levels.{IsRunner, level_of};
+ghost use Rattle.level_debuggers.specs.Levels.{IsRunner, LevelOf, level_of};
 ghost use Rattle.level_debuggers.specs.Sessions.{IsSession, session_of};
 ghost use Rattle.level_debuggers.specs.Transcripts.{followed};
-ghost use Rattle.level_debuggers.specs.Tallies.{watching};
+ghost use Rattle.level_debuggers.specs.Tallies.{Watching, watching};
 ghost use Rattle.stack_build.specs.Starts.{GivesStart};
 ghost use Rattle.debug_script.specs.Scripts.{fault_of, script_of};
 ghost use Rattle.command_line.specs.declared.role.Role.TheVariants as Role;
 ghost use Rattle.command_line.specs.declared.words.reader.Level.TheVariants as Level;
 ghost use Rattle.command_line.specs.Gathered.{text_of};
 ghost use Rattle.cli_stack.specs.Replies.{verdict_alone};
-ghost use Rattle.cli_stack.specs.Debug.{run_at, run_in, found_run, end_verdict, followed_reply, lines_reply, script_verdict, script_reply, debug_reply};
+ghost use Rattle.cli_stack.specs.Debug.{run_at, run_in, found_run, session_on, end_verdict, followed_reply, script_verdict, script_reply, debug_reply};
 ghost use Rattle.cli_stack.specs.Plans.{pending_reply};
 
 use crate::commands::plan::{Pending, Plan};
@@ -50,7 +50,7 @@ pub fn prepare(
         control.words(),
         temporary.words(),
     )? {
-        Ok(runner) => play(alloc, runner, texts.of(Role::Script), watches),
+        Ok(runner) => play_from(alloc, runner, texts.of(Role::Script), watches),
         Err(verdict) => Ok(Plan::verdict_alone(alloc, verdict)),
     }
 }
@@ -151,27 +151,6 @@ fn refused_script(alloc: Global, fault: ScriptFault) -> Result<Plan, Memory>
     }
 }
 
-/// Reads a script, and follows it in a session of a runner.
-fn play(
-    alloc: Global,
-    runner: Runner,
-    script: &[u8],
-    watches: Vec<Box<dyn Watch>>,
-) -> Result<Plan, Memory>
-    requires script { length script.now ≤ 2 ^ 31 }
-    requires runner { IsRunner runner }
-    ensures stored { IfOk result (λ plan. plan.stored ≡ None) }
-    ensures reply { IfOk result (λ plan. pending_reply plan.pending
-        ≡ script_reply (level_of runner) (map (λ w. watching (rule_of w) (tally_of w)) watches.items)
-        (script_of script.now)) }
-{
-    let lines = match read_script(alloc, script) {
-        Ok(lines) => lines,
-        Err(fault) => return refused_script(alloc, fault),
-    };
-    follow_lines(alloc, runner, &lines, watches)
-}
-
 /// How the command ends with its script.
 fn end_verdict(session: &Session, end: ScriptEnd) -> Result<Verdict, Memory>
     ensures { let session = session_of
@@ -229,19 +208,37 @@ fn reply_of_session(alloc: Global, session: &mut Session, lines: &[Line]) -> Res
     })
 }
 
-/// Follows the lines of a script in a session of a runner.
+/// Reads a script, and follows it in a session that has made no step.
 #[tactic(auto, unfolding(crate::specs::Debug::lines_reply))]
-fn follow_lines(
+fn play(alloc: Global, session: &mut Session, script: &[u8]) -> Result<Plan, Memory>
+    requires script { length script.now ≤ 2 ^ 31 }
+    requires is { IsSession session.old }
+    ensures stored { IfOk result (λ plan. plan.stored ≡ None) }
+    ensures reply { let session = session_of
+        (λ w. watching (rule_of (w.vtable, w.value)) (tally_of (w.vtable, w.value))) session.old in
+        IfOk result (λ plan. (run : LevelOf) (watches : List Watching) → session ≡ session_on run watches
+        → pending_reply plan.pending ≡ script_reply run watches (script_of script.now)) }
+{
+    match read_script(alloc, script) {
+        Ok(lines) => reply_of_session(alloc, session, &lines),
+        Err(fault) => refused_script(alloc, fault),
+    }
+}
+
+/// Follows a script in a session of a runner.
+fn play_from(
     alloc: Global,
     runner: Runner,
-    lines: &[Line],
+    script: &[u8],
     watches: Vec<Box<dyn Watch>>,
 ) -> Result<Plan, Memory>
-    requires { IsRunner runner }
+    requires script { length script.now ≤ 2 ^ 31 }
+    requires runner { IsRunner runner }
     ensures stored { IfOk result (λ plan. plan.stored ≡ None) }
     ensures reply { IfOk result (λ plan. pending_reply plan.pending
-        ≡ lines_reply (level_of runner) (map (λ w. watching (rule_of w) (tally_of w)) watches.items) lines.now) }
+        ≡ script_reply (level_of runner) (map (λ w. watching (rule_of w) (tally_of w)) watches.items)
+        (script_of script.now)) }
 {
     let mut session = Session::new(alloc, runner, watches)?;
-    reply_of_session(alloc, &mut session, lines)
+    play(alloc, &mut session, script)
 }

@@ -1,14 +1,17 @@
 //! The command `go`: builds a program, stores its image, and runs it.
-ghost use Rattle.std.specs.Prelude.{◌≡◌, ◌≤◌, ◌^◌, IfOk, length};
+ghost use Rattle.std.specs.Prelude.{◌≡◌, ◌≤◌, ◌^◌, Some, IfOk, length};
+ghost use Rattle.fm_loader.specs.Values.{values_in};
 ghost use Rattle.stack_build.specs.Build.{built};
 ghost use Rattle.cli_stack.specs.Build.{image_stored};
 ghost use Rattle.cli_stack.specs.Go.{go_reply};
+ghost use Rattle.cli_stack.specs.Run.{values_reply};
 ghost use Rattle.cli_stack.specs.Plans.{pending_reply};
 
 use crate::commands::plan::Plan;
 use crate::commands::run::begin;
-use crate::commands::source_text::verdict_of;
+use crate::commands::source_text::refused;
 use command_line::StackSize;
+use fm_image::Image;
 use stack_build::{Built, build};
 use stack_text::{Memory, Seq};
 use std::alloc::Global;
@@ -38,10 +41,27 @@ pub fn prepare(
                 bytes,
                 piton: _,
             },
-        ) => Ok(Plan {
-            stored: Some(Seq::from_vec(bytes)),
-            pending: begin(alloc, image, values, budget)?,
-        }),
-        Err(fault) => Ok(Plan::verdict_alone(alloc, verdict_of(fault)?)),
+        ) => store_and_begin(alloc, bytes, image, values, budget),
+        Err(fault) => refused(alloc, fault),
     }
+}
+
+/// Stores an image's file, and begins the image's run on the values of a text.
+fn store_and_begin(
+    alloc: Global,
+    bytes: Vec<u8>,
+    image: Image,
+    values: &[u8],
+    budget: u64,
+) -> Result<Plan, Memory>
+    requires { length values.now ≤ 2 ^ 31 }
+    ensures stored { IfOk result (λ plan. plan.stored ≡ Some bytes.items) }
+    ensures reply { IfOk result (λ plan.
+        pending_reply plan.pending ≡ values_reply image budget (values_in image.slots values.now)) }
+{
+    let pending = begin(alloc, image, values, budget)?;
+    Ok(Plan {
+        stored: Some(Seq::from_vec(bytes)),
+        pending,
+    })
 }

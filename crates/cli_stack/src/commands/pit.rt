@@ -7,7 +7,7 @@ ghost use Rattle.cli_stack.specs.Pit.{written_reply, pit_stored, pit_reply};
 ghost use Rattle.cli_stack.specs.Plans.{pending_reply};
 
 use crate::commands::plan::{Pending, Plan};
-use crate::commands::source_text::verdict_of;
+use crate::commands::source_text::refused;
 use crate::reply::{Reply, Verdict};
 use command_line::{FileName, StackSize};
 use piton_syntax::{System, print_piton};
@@ -31,7 +31,7 @@ pub fn prepare(
 {
     match compile(alloc, source, control.words(), temporary.words(), 0) {
         Ok(checked) => store(alloc, checked.system(), name),
-        Err(fault) => Ok(Plan::verdict_alone(alloc, verdict_of(fault)?)),
+        Err(fault) => refused(alloc, fault),
     }
 }
 

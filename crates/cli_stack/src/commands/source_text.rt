@@ -1,9 +1,12 @@
 //! Texts of sources, read and judged.
-ghost use Rattle.std.specs.Prelude.{◌≡◌, ◌≤◌, ◌^◌, Some, IfOk, length};
+ghost use Rattle.std.specs.Prelude.{◌≡◌, ◌≤◌, ◌^◌, Some, None, IfOk, length};
 ghost use Rattle.stack_build.specs.Build.{fault_of};
 ghost use Rattle.stack_build.specs.Starts.{start_fault_of};
+ghost use Rattle.cli_stack.specs.Plans.{pending_reply};
+ghost use Rattle.cli_stack.specs.Replies.{verdict_alone};
 ghost use Rattle.cli_stack.specs.SourceText.{build_verdict, start_verdict, accepted_in, found_source};
 
+use crate::commands::plan::Plan;
 use crate::reply::{RuleLetter, SizeOf, Verdict, text_rule_number};
 use gypsy_check::Accepted;
 use stack_build::{BuildFault, StartFault, accept};
@@ -52,6 +55,15 @@ pub fn verdict_of(fault: BuildFault) -> Result<Verdict, Memory>
         }),
         BuildFault::Memory => Err(Memory),
     }
+}
+
+/// The plan of a command for which nothing was built.
+pub fn refused(alloc: Global, fault: BuildFault) -> Result<Plan, Memory>
+    ensures known { IfOk result (λ _. fault_of fault ≡ Some fault) }
+    ensures stored { IfOk result (λ plan. plan.stored ≡ None) }
+    ensures reply { IfOk result (λ plan. pending_reply plan.pending ≡ verdict_alone (build_verdict fault)) }
+{
+    Ok(Plan::verdict_alone(alloc, verdict_of(fault)?))
 }
 
 /// How a command ends where a run of a source does not begin.

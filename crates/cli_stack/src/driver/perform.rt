@@ -30,8 +30,7 @@ fn perform<S: Shelf>(
         (map (λ w. watching (rule_of w) (tally_of w)) watches.items)) }
     ensures counts { NoneFell (S.counts shelf.old) (S.counts shelf.new) }
 {
-    let inputs = command.inputs(alloc)?;
-    let texts = gather(alloc, shelf, &inputs)?;
+    let texts = gather(alloc, shelf, &command.inputs(alloc)?)?;
     let Plan { stored, pending } = prepare(alloc, command, &texts, watches)?;
     if let (Some(output), Some(bytes)) = (command.output(), stored) {
         save(alloc, shelf, output.name.as_str(), bytes.as_slice())?;
