@@ -5,7 +5,7 @@ ghost use Rattle.cli_stack.specs.Plans.{pending_reply};
 
 use crate::commands::plan::Plan;
 use crate::commands::source_text::read_accepted;
-use stack_text::{Memory, Seq};
+use stack_text::Memory;
 use std::alloc::Global;
 
 /// What is left of `check` once its text is there.
@@ -15,7 +15,7 @@ pub fn prepare(alloc: Global, source: &[u8]) -> Result<Plan, Memory>
     ensures reply { IfOk result (λ plan. pending_reply plan.pending ≡ check_reply source.now) }
 {
     match read_accepted(alloc, source)? {
-        Ok(_) => Ok(Plan::all_said(Seq::from_vec(b"ok\n".to_vec(alloc)?))),
+        Ok(_) => Plan::says_ok(alloc),
         Err(verdict) => Ok(Plan::verdict_alone(alloc, verdict)),
     }
 }

@@ -77,6 +77,47 @@ fn gypsy_runner(
     })
 }
 
+/// A runner of the system that an accepted source compiles to.
+fn piton_runner(
+    alloc: Global,
+    accepted: &Accepted,
+    values: &[u8],
+    control: u32,
+    temporary: u32,
+) -> Result<Runner, StartFault>
+    requires { length values.now ≤ 2 ^ 31 }
+    ensures run { GivesStart level_of result
+        (run_at Level.Piton (source_of accepted.now) (stack_words temporary control) values.now) }
+    ensures is { IfOk result IsRunner }
+{
+    let start = start_system(alloc, accepted, control, temporary, values)?;
+    Ok(Runner::Piton {
+        checked: start.checked,
+        image: start.image,
+        state: start.state,
+    })
+}
+
+/// A runner of the image that is built of an accepted source.
+fn image_runner(
+    alloc: Global,
+    accepted: &Accepted,
+    values: &[u8],
+    control: u32,
+    temporary: u32,
+) -> Result<Runner, StartFault>
+    requires { length values.now ≤ 2 ^ 31 }
+    ensures run { GivesStart level_of result
+        (run_at Level.Fm9001 (source_of accepted.now) (stack_words temporary control) values.now) }
+    ensures is { IfOk result IsRunner }
+{
+    let start = start_image(alloc, accepted, control, temporary, values)?;
+    Ok(Runner::Fm {
+        image: start.image,
+        machine: start.machine,
+    })
+}
+
 /// The runner of an accepted source, at a level.
 fn run_at(
     alloc: Global,
@@ -93,21 +134,8 @@ fn run_at(
 {
     match level {
         Level::Gypsy => gypsy_runner(alloc, accepted, values, control, temporary),
-        Level::Piton => {
-            let start = start_system(alloc, &accepted, control, temporary, values)?;
-            Ok(Runner::Piton {
-                checked: start.checked,
-                image: start.image,
-                state: start.state,
-            })
-        }
-        Level::Fm9001 => {
-            let start = start_image(alloc, &accepted, control, temporary, values)?;
-            Ok(Runner::Fm {
-                image: start.image,
-                machine: start.machine,
-            })
-        }
+        Level::Piton => piton_runner(alloc, &accepted, values, control, temporary),
+        Level::Fm9001 => image_runner(alloc, &accepted, values, control, temporary),
     }
 }
 

@@ -5,7 +5,7 @@ ghost use Rattle.cli_stack.specs.Plans.{pending_reply};
 
 use crate::commands::piton_text::read_checked;
 use crate::commands::plan::Plan;
-use stack_text::{Memory, Seq};
+use stack_text::Memory;
 use std::alloc::Global;
 
 /// What is left of `pcheck` once its text is there.
@@ -15,7 +15,7 @@ pub fn prepare(alloc: Global, piton: &[u8]) -> Result<Plan, Memory>
     ensures reply { IfOk result (λ plan. pending_reply plan.pending ≡ pcheck_reply piton.now) }
 {
     match read_checked(alloc, piton)? {
-        Ok(_) => Ok(Plan::all_said(Seq::from_vec(b"ok\n".to_vec(alloc)?))),
+        Ok(_) => Plan::says_ok(alloc),
         Err(verdict) => Ok(Plan::verdict_alone(alloc, verdict)),
     }
 }

@@ -20,7 +20,8 @@ pub struct Plan {
 }
 
 impl Plan {
-    ghost use Rattle.std.specs.Prelude.{◌≡◌, Some, None, IfOk};
+    ghost use Rattle.std.specs.Prelude.{◌≡◌, Some, None, IfOk, codes};
+    ghost use Rattle.stack_text.specs.Lines.{line};
     ghost use Rattle.cli_stack.specs.Pbuild.{built_reply};
     ghost use Rattle.cli_stack.specs.Replies.{verdict_alone, all_said};
     ghost use Rattle.cli_stack.specs.Plans.{pending_reply};
@@ -65,5 +66,13 @@ impl Plan {
                 machine: None,
             }),
         }
+    }
+
+    /// Stores nothing, and replies that a text was accepted.
+    pub fn says_ok(alloc: Global) -> Result<Plan, Memory>
+        ensures stored { IfOk result (λ plan. plan.stored ≡ None) }
+        ensures reply { IfOk result (λ plan. pending_reply plan.pending ≡ all_said (line (codes "ok"))) }
+    {
+        Ok(Plan::all_said(Seq::from_vec(b"ok\n".to_vec(alloc)?)))
     }
 }
