@@ -1,47 +1,25 @@
 -- Labels: their names, how they differ, and where they stand.
-use Rattle.std.proofs.Common.{◌≡◌, ◌≢◌, ℕ, suc, ◌+◌, ◌<◌, ◌≤◌, ◌^◌, List, [], ◌∷◌, map, length, drop, bytes_eq}
-use Rattle.std.proofs.Common.{Bool, true, false, cond, Option, Some, refl, ap, sym, ◌∙◌, arith}
+use Rattle.std.proofs.Common.{◌≡◌, ◌≢◌, ℕ, ◌+◌, ◌<◌, ◌≤◌, ◌^◌, List, [], ◌∷◌, map, bytes_eq}
+use Rattle.std.proofs.Common.{true, false, cond, Option, Some, refl, ap, ◌∙◌, arith}
 use Rattle.std.specs.Prelude.{IsTrue}
-use Rattle.std.specs.List.{position_from, list_all}
-use Rattle.std.specs.Fmt.{decimal}
-use Rattle.std.specs.Str.Parse.{AllDigits, digits_value}
-use Rattle.std.proofs.lemmas.Bool.{le-leb}
-use Rattle.std.proofs.lemmas.Fmt.{decimal_is_IsNumeral_wide, length-decimal-le}
-use Rattle.std.proofs.lemmas.Str.Parse.{digit_from_value}
+use Rattle.std.specs.List.{position_from}
 use Rattle.std.proofs.lemmas.Slice.Eq.{bytes_eq-Decides}
 use Rattle.std.proofs.lemmas.Iterator.Adapters.{position_from-zero}
-use Rattle.stack_text.specs.Names.{is_name, is_name_byte}
+use Rattle.stack_text.specs.Names.{is_name}
+use Rattle.stack_text.proofs.NumberedNameLaws.{numbered_named, numbered_differs}
 use Rattle.piton_check.specs.Declarations.{Declaration, is_named, label_name as label_of, first_of}
 use Rattle.gypsy_codegen.specs.Written.{Names, Line, Plain, Marked, label_text, written}
 
-all_digits_pass : (ds : List ℕ) → AllDigits 10 ds → list_all is_name_byte ds ≡ true
-all_digits_pass [] h = refl
-all_digits_pass (d ∷ ds) h =
-    let r = digit_from_value d h.0 in
-    rw (le-leb 48 d r.0, le-leb d 57 r.1) (all_digits_pass ds h.1)
-
 pub label_named : (l : ℕ) → l < 2 ^ 32 → IsTrue (is_name (label_text l))
 unfolding label_text
-label_named l lt =
-    let digits = all_digits_pass (decimal l) (decimal_is_IsNumeral_wide l (omega (arith, lt))).0.1 in
-    let short : length (decimal l) ≤ 10 = length-decimal-le 10 l (omega (arith, lt)) (omega (arith, lt)) (omega arith) in
-    rw (digits, le-leb (suc (length (decimal l))) 64 (omega (arith, short))) refl
+label_named l lt = numbered_named 76 l refl (λ bytes. refl) lt
 
 pub label_itself : (l : ℕ) → bytes_eq (label_text l) (label_text l) ≡ true
 label_itself l = (bytes_eq-Decides (label_text l) (label_text l)).1 refl
 
-same_label : (l m : ℕ) → l < 2 ^ 32 → m < 2 ^ 32 → label_text l ≡ label_text m → l ≡ m
-unfolding label_text
-same_label l m low lower e =
-    let digits : decimal l ≡ decimal m = ap (drop 1) e in
-    sym (decimal_is_IsNumeral_wide l (omega (arith, low))).1 ∙ ap (digits_value 10) digits ∙ (decimal_is_IsNumeral_wide m (omega (arith, lower))).1
-
 pub label_differs : (l m : ℕ) → l < 2 ^ 32 → m < 2 ^ 32 → l ≢ m → bytes_eq (label_text l) (label_text m) ≡ false
-label_differs l m low lower differs = by_test (bytes_eq (label_text l) (label_text m)) refl
-  where
-    by_test : (b : Bool) → bytes_eq (label_text l) (label_text m) ≡ b → b ≡ false
-    by_test true e = absurd (differs (same_label l m low lower ((bytes_eq-Decides (label_text l) (label_text m)).0 e)))
-    by_test false e = refl
+unfolding label_text
+label_differs l m low lower differs = numbered_differs 76 l m low lower differs
 
 -- ---- the labels of lines
 

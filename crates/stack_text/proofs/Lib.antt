@@ -16,6 +16,7 @@ pub mod PrintLaws
 pub mod NumeralLaws
 pub mod AtomLaws
 pub mod NumeralTextLaws
+pub mod NumberedNameLaws
 pub mod BreachLaws
 pub mod TreeListLaws
 pub mod JudgedLaws
