@@ -1,7 +1,7 @@
--- The image of a linked system keeps the limits of images, and its file those of files.
-use Rattle.std.proofs.Common.{◌≡◌, ◌≤◌, ◌+◌, ℕ, List, [], length, Some, None, false, refl, sym, subst, arith}
+-- The image of a linked system keeps the limits of images, and its file those of files; where the words are too many, there is none.
+use Rattle.std.proofs.Common.{◌≡◌, ◌≤◌, ◌+◌, ℕ, List, [], length, None, true, refl, sym, subst, arith}
 use Rattle.std.specs.Prelude.{◌^◌, IsTrue}
-use Rattle.std.proofs.lemmas.Bool.{and_from, le-leb, le-ltb, lt-ltb}
+use Rattle.std.proofs.lemmas.Bool.{and_from, le-leb, lt-ltb}
 use Rattle.fm_words.specs.Code.{no_flags}
 use Rattle.fm_image.specs.declared.slot.Slot.{Slot}
 use Rattle.fm_image.specs.Image.{ImageOf, all_after, is_image}
@@ -13,13 +13,17 @@ use Rattle.piton_machine.specs.Fits.{system_in}
 use Rattle.piton_machine.specs.Placed.{placed, final_pc_of}
 use Rattle.piton_machine.proofs.SizeLaws.{length-placed}
 use Rattle.piton_machine.proofs.SoundLaws.{known}
-use Rattle.piton_linker.specs.Layouts.{trimmed}
+use Rattle.piton_linker.specs.declared.fault.LinkFault.TheVariants.{Large}
+use Rattle.piton_linker.specs.Layouts.{trimmed, IsFault}
 use Rattle.stack_build.specs.PlacedWords.{PlacedAreWords}
 use Rattle.stack_build.proofs.ImageBytes.{fields_few}
 use Rattle.stack_build.proofs.Windows.{shorter}
 use Rattle.command_line.specs.declared.role.Role.TheVariants.{Image}
 use Rattle.command_line.specs.Roles.{limit_of}
-use Rattle.cli_stack.specs.Pbuild.{linked_image, is_large, linked_stored, linked_reply, built_reply}
+use Rattle.cli_stack.specs.declared.reply.SizeOf.TheVariants.{Words}
+use Rattle.cli_stack.specs.declared.reply.Verdict.TheVariants.{Size}
+use Rattle.cli_stack.specs.Replies.{verdict_alone}
+use Rattle.cli_stack.specs.Pbuild.{linked_image, is_large, linked_stored, linked_reply}
 
 -- the image keeps the limits of images
 pub image_fits : (c : CheckedOf) → IsChecked c → (placed (system_in c)).size ≤ 2 ^ 20 → IsTrue (is_image (linked_image (system_in c)))
@@ -73,14 +77,14 @@ image_spelled placed_are_words c is small =
     let words = placed_are_words (system_in c) is.sound small in
     record { limits = image_fits c is small; registers = words.0; words = words.1; fields = refl }
 
--- what is stored where the words are not too many
-pub small_stored : (s : SystemView) (image : ImageOf) → image ≡ linked_image s → (placed s).size ≤ 2 ^ 20 → linked_stored s ≡ Some (spelling image)
-small_stored s image is small =
-    let fits : is_large s ≡ false = le-ltb (2 ^ 20) (placed s).size small in
-    rw (fits, is) refl
+-- where the words are too many, nothing is stored
+pub large_stored : (s : SystemView) (need : ℕ) → IsFault s (Large need) → linked_stored s ≡ None
+large_stored s need fault =
+    let large : is_large s ≡ true = lt-ltb (2 ^ 20) (placed s).size fault.1 in
+    rw large refl
 
--- and what is replied
-pub small_reply : (s : SystemView) (image : ImageOf) → image ≡ linked_image s → (placed s).size ≤ 2 ^ 20 → linked_reply s ≡ built_reply image.size
-small_reply s image is small =
-    let fits : is_large s ≡ false = le-ltb (2 ^ 20) (placed s).size small in
-    rw (fits, is) refl
+-- and it is said how many they are
+pub large_reply : (s : SystemView) (need : ℕ) → IsFault s (Large need) → linked_reply s ≡ verdict_alone (Size Words need)
+large_reply s need fault =
+    let large : is_large s ≡ true = lt-ltb (2 ^ 20) (placed s).size fault.1 in
+    rw (large, fault.0) refl

@@ -38,10 +38,13 @@ fn link_system(alloc: Global, checked: &Checked) -> Result<Plan, Memory>
 {
     match linked_image(alloc, checked) {
         Ok(image) => store(alloc, &image),
-        Err(LinkFault::Large { words: need }) => {
-            let of = SizeOf::Words;
-            Ok(Plan::verdict_alone(alloc, Verdict::Size { of, need }))
-        }
+        Err(LinkFault::Large { words: need }) => Ok(Plan::verdict_alone(
+            alloc,
+            Verdict::Size {
+                of: SizeOf::Words,
+                need,
+            },
+        )),
         Err(LinkFault::Memory) => Err(Memory),
     }
 }

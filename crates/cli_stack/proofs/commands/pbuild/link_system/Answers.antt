@@ -1,13 +1,17 @@
+use Rattle.std.proofs.Common.{◌∙◌, sym, subst}
 use Rattle.piton_machine.specs.Fits.{system_in}
-use Rattle.cli_stack.proofs.LinkedLaws.{small_stored, small_reply}
+use Rattle.piton_linker.specs.Layouts.{IsFault}
+use Rattle.cli_stack.proofs.LinkedLaws.{large_stored, large_reply}
 use Rattle.cli_stack.proofs.commands.pbuild.link_system.Goals as goal
 
-pub returns-in-Ok-clause-stored : goal.returns-in-Ok-clause-stored
-returns-in-Ok-clause-stored c =
-    let e = small_stored (system_in c.args.checked.now) _ c.in-Ok.ensures.image c.in-Ok.ensures.small in
-    rw e c.store.ensures.stored
+pub returns-in-Err-Large-clause-stored : goal.returns-in-Err-Large-clause-stored
+returns-in-Err-Large-clause-stored c =
+    let system = system_in c.args.checked.now in
+    let fault = subst (IsFault system) c.in-Err-Large.field-0-is c.in-Err-Large.ensures.fault in
+    c.verdict_alone.ensures.stored ∙ sym (large_stored system c.in-Err-Large.need fault)
 
-pub returns-in-Ok-clause-reply : goal.returns-in-Ok-clause-reply
-returns-in-Ok-clause-reply c =
-    let e = small_reply (system_in c.args.checked.now) _ c.in-Ok.ensures.image c.in-Ok.ensures.small in
-    rw e c.store.ensures.reply
+pub returns-in-Err-Large-clause-reply : goal.returns-in-Err-Large-clause-reply
+returns-in-Err-Large-clause-reply c =
+    let system = system_in c.args.checked.now in
+    let fault = subst (IsFault system) c.in-Err-Large.field-0-is c.in-Err-Large.ensures.fault in
+    c.verdict_alone.ensures.reply ∙ sym (large_reply system c.in-Err-Large.need fault)
