@@ -1,7 +1,5 @@
 //! Runs of images on values, and the command `run`.
 ghost use Rattle.std.specs.Prelude.{◌≡◌, ◌≤◌, ◌^◌, None, IfOk, length};
-ghost use Rattle.display_maps.specs.Reading.{reading};
-ghost use Rattle.display_maps.specs.Report.{report_text};
 ghost use Rattle.fm_loader.specs.Values.{values_in};
 ghost use Rattle.cli_stack.specs.Replies.{reply_of};
 ghost use Rattle.cli_stack.specs.Run.{end_reply, run_reply, values_reply, image_file_reply};
@@ -65,15 +63,6 @@ pub fn run_image(alloc: Global, run: &ImageRun) -> Result<Reply, Memory>
     reply_to(alloc, &run.image, run.budget, end, machine)
 }
 
-/// What is said of a machine that came to the image's final program counter.
-fn report_on(alloc: Global, image: &Image, machine: &Machine, count: u64) -> Result<Vec<u8>, Memory>
-    ensures { IfOk result (λ text. text.items
-        ≡ report_text image.now (reading image.now machine.now.state) count) }
-{
-    let reading = read_up(alloc, machine, image)?;
-    report(alloc, image, &reading, count)
-}
-
 /// The reply to a run that ended in this way.
 fn reply_to(
     alloc: Global,
@@ -86,7 +75,8 @@ fn reply_to(
 {
     let (said, verdict) = match end {
         Run::Ended { count } => {
-            let report = report_on(alloc, image, &machine, count)?;
+            let reading = read_up(alloc, &machine, image)?;
+            let report = report(alloc, image, &reading, count)?;
             (Seq::from_vec(report), Verdict::Done)
         }
         Run::Spent => (Seq::new(alloc), Verdict::Unfinished { limit: budget }),
