@@ -1,6 +1,6 @@
 """Texts at the limits of each layer, long runs, and what becomes of them: rows that the built program is run on, and what docs/bench/limits.py
-times. A row is its layer, its name, the words of a command line, its text (a function, since texts have up to 16 MiB), the values, the exit
-status and what is printed. In the words `t` is the text and `v` the values; `i` is an image that is stored.
+times. A text is a function, since some have 16 MiB. In the words of a command line `t` is the text and `v` the values; `i` and `o` are files
+that are stored.
 """
 
 NEVER_SPENT = 1 << 40
@@ -13,6 +13,19 @@ def numbered(before, between, after, count):
 
 def of_one_program(instructions):
     return f"(piton main 2 1 0 () () (main () (){instructions}))"
+
+
+def of_programs(programs, main="main", areas="", stack=""):
+    return f"(piton {main} 2 1 0 ({areas}) ({stack}){programs})"
+
+
+def of_one_call(actuals, variables="(x integer)"):
+    """A source of one procedure with these variables, which calls one that is missing."""
+    return f"(program p (proc p ({variables}) () () () (call q ({actuals}) ())))"
+
+
+def of_one_handler(conditions):
+    return f"(program p (proc p () (c) () () (begin (no-op) ({conditions}) (no-op))))"
 
 
 def of_calls(statements, procedures=""):
@@ -35,7 +48,14 @@ RECURSION = """(program main
 (seq (mg-simple-constant-eq b n 0) (if b (no-op) (seq (mg-integer-subtract n n one) (call p (n) ()))))))
 """
 
-DEEP = numbered(" (proc p", " () () () () (call p", " () ()))", 999)
+# 200 integers.
+VARIABLES = numbered(" (x", " integer) (y", " integer)", 100)
+
+# 999 procedures, each of which calls itself.
+CALLEES = numbered(" (proc p", " () () () () (call p", " () ()))", 999)
+
+# A call that raises one condition for each of five.
+RAISES = " (call p () (z z z z z))"
 
 # The conditions that each list of handlers has.
 HANDLED = " ".join(f"c{number}" for number in range(199))
@@ -48,143 +68,71 @@ def inside_handlers(statement, count):
     return f"(program main (proc main () () () ({HANDLED} z) {body}) (proc p () (a b c d e) () () (no-op)))"
 
 
+# What is no text of either language, with the words of the command that reads it.
+TREES = [
+    ("`(` over and over", "check t", lambda: "(" * (1 << 20), 2, "refused G4 at 200"),
+    ("one list of 300,000 atoms", "check t", lambda: "(" + "a " * 300000 + ")", 2, "refused M1 at 0"),
+    ("one list of 500,000 empty lists", "check t", lambda: "(" + "()" * 500000 + ")", 2, "refused M1 at 0"),
+    ("one atom", "check t", lambda: "a" * (1 << 20), 2, "refused M1 at 0"),
+    ("one list of 349,000 comments", "check t", lambda: "(" + ";;\n" * 349000 + ")", 2, "refused M1 at 0"),
+    ("one comment after an atom", "check t", lambda: "a;" + "(" * ((1 << 20) - 2), 2, "refused M1 at 0"),
+    ("500,000 atoms inside 200 lists", "check t", lambda: "(" * 200 + " a" * 500000 + ")" * 200, 2, "refused M1 at 0"),
+    ("spaces after an atom", "pcheck t", lambda: "a" + " " * ((1 << 24) - 1), 2, "refused P1 at 0"),
+]
+
+def pushes():
+    return numbered(" (push-constant (nat ", ")) (push-constant (int -", "))", 262144)
+
+
+def area():
+    return "(a" + numbered(" (nat ", ") (int ", ")", 500000) + ")"
+
+
+# Texts of Piton, which `pbuild` checks and links.
+PITON = [
+    ("a program of 1,048,576 instructions `(ret)`", lambda: of_one_program(" (ret)" * 1048576), 12, "size words 5242886"),
+    ("one instruction more", lambda: of_one_program(" (ret)" * 1048577), 2, "refused P9 at 24"),
+    ("671,087 times `(push-constant (int -7))`", lambda: of_one_program(" (push-constant (int -7))" * 671087), 2, "refused Q12 at 16777186"),
+    ("883,009 times `(dl l () (jump l))`", lambda: of_one_program(" (dl l () (jump l))" * 883009), 2, "refused Q6 at 59"),
+    ("an initial stack of 1,398,097 words", lambda: of_programs(" (main () () (ret))", stack="(nat 12345) " * 1398097), 2, "refused Q14 at 14"),
+    ("1,100 programs of one name", lambda: of_programs(" (p (x) ((y (bool t))) (push-local x) (ret))" * 1100), 2, "refused Q3 at 7"),
+    ("one program more", lambda: of_programs(" (p () () (ret))" * 1101), 2, "refused P9 at 0"),
+    ("524,288 labels, each with a jump to it", lambda: of_one_program(numbered(" (dl l", " () (jump l", "))", 524288)), 12, "size words 1048582"),
+    ("524,288 words in instructions", lambda: of_one_program(pushes() + " (ret)"), 12, "size words 1048587"),
+    ("an area of 1,000,000 words", lambda: of_programs(" (main () () (ret))", areas=area()), 0, "built 1000011"),
+    ("1,100 programs with a call each", lambda: of_programs(numbered(" (p", " () () (call p", ") (ret))", 1100), main="p0"), 0, "built 12104"),
+    ("a million instructions `(no-op)` and a return", lambda: of_one_program(" (no-op)" * 1000000 + " (ret)"), 0, "built 1000011"),
+    ("the most that can be linked", lambda: of_one_program(" (no-op)" * 1048565 + " (ret)"), 0, "built 1048576"),
+    ("one instruction more than that", lambda: of_one_program(" (no-op)" * 1048566 + " (ret)"), 12, "size words 1048577"),
+]
+
+# Sources, which `check` judges.
+SOURCES = [
+    ("a call with 300,000 actuals of one name", lambda: of_one_call(" x" * 300000), 2, "refused S16 at 48"),
+    ("a call with 150,000 different actuals", lambda: of_one_call(numbered(" x", " y", "", 75000)), 2, "refused S16 at 48"),
+    ("a handler of 300,000 conditions of one name", lambda: of_one_handler(" c" * 300000), 2, "refused S13 at 51"),
+    ("a handler of 150,000 different conditions", lambda: of_one_handler(numbered(" c", " d", "", 75000)), 2, "refused S12 at 49"),
+    ("the last of 200 variables as 250,000 actuals", lambda: of_one_call(" y99" * 250000, VARIABLES), 2, "refused S16 at 2817"),
+    ("130,000 statements", lambda: of_calls(" (no-op)" * 130000), 0, "ok"),
+    ("45,000 predefined calls", lambda: "(program p (proc p ((x integer)) () () () (seq" + " (mg-integer-add x x x)" * 45000 + ")))", 0, "ok"),
+    ("60,000 calls of a procedure that is missing", lambda: of_calls(" (call q (x) (c))" * 60000), 2, "refused S16 at 42"),
+    ("55,000 calls of the last of 1,000 procedures", lambda: of_calls(" (call p998 () ())" * 55000, CALLEES), 0, "ok"),
+    ("1,000 procedures of one name", lambda: "(program p" + " (proc p () () () () (no-op))" * 1000 + ")", 2, "refused S1 at 46"),
+    ("one procedure more", lambda: "(program p" + " (proc p () () () () (no-op))" * 1001 + ")", 2, "refused M12 at 0"),
+]
+
+# Sources from which a text is generated, with the words.
+GENERATED = [
+    ("40,000 calls of the last of 1,000 procedures, generated", "pit t 9 9 o", lambda: of_calls(" (call p998 () ())" * 40000, CALLEES), 0, "written o"),
+    ("16,000 calls inside 195 lists of 199 handlers, generated", "pit t 999 9 o", lambda: inside_handlers(RAISES, 16000), 0, "written o"),
+]
+
+# All of them: the layer, the name, the words, the text, the exit status and what is printed.
 TEXTS = [
-    # Trees.
-    ("trees", "`(` over and over", "check t", lambda: "(" * (1 << 20), 2, "refused G4 at 200"),
-    ("trees", "one list of 300,000 atoms", "check t", lambda: "(" + "a " * 300000 + ")", 2, "refused M1 at 0"),
-    ("trees", "one list of 500,000 empty lists", "check t", lambda: "(" + "()" * 500000 + ")", 2, "refused M1 at 0"),
-    ("trees", "one atom", "check t", lambda: "a" * (1 << 20), 2, "refused M1 at 0"),
-    ("trees", "one list of 349,000 comments", "check t", lambda: "(" + ";;\n" * 349000 + ")", 2, "refused M1 at 0"),
-    ("trees", "one comment after an atom", "check t", lambda: "a;" + "(" * ((1 << 20) - 2), 2, "refused M1 at 0"),
-    ("trees", "500,000 atoms inside 200 lists", "check t", lambda: "(" * 200 + " a" * 500000 + ")" * 200, 2, "refused M1 at 0"),
-    ("trees", "spaces after an atom", "pcheck t", lambda: "a" + " " * ((1 << 24) - 1), 2, "refused P1 at 0"),
-    # Piton.
-    ("piton", "a program of 1,048,576 instructions `(ret)`", "pbuild t i", lambda: of_one_program(" (ret)" * 1048576), 12, "size words 5242886"),
-    ("piton", "one instruction more", "pbuild t i", lambda: of_one_program(" (ret)" * 1048577), 2, "refused P9 at 24"),
-    (
-        "piton",
-        "671,087 times `(push-constant (int -7))`",
-        "pbuild t i",
-        lambda: of_one_program(" (push-constant (int -7))" * 671087),
-        2,
-        "refused Q12 at 16777186",
-    ),
-    ("piton", "883,009 times `(dl l () (jump l))`", "pbuild t i", lambda: of_one_program(" (dl l () (jump l))" * 883009), 2, "refused Q6 at 59"),
-    (
-        "piton",
-        "an initial stack of 1,398,097 words",
-        "pbuild t i",
-        lambda: "(piton main 2 1 0 () (" + "(nat 12345) " * 1398097 + ") (main () () (ret)))",
-        2,
-        "refused Q14 at 14",
-    ),
-    (
-        "piton",
-        "1,100 programs of one name",
-        "pbuild t i",
-        lambda: "(piton main 2 1 0 () ()" + " (p (x) ((y (bool t))) (push-local x) (ret))" * 1100 + ")",
-        2,
-        "refused Q3 at 7",
-    ),
-    ("piton", "one program more", "pbuild t i", lambda: "(piton main 2 1 0 () ()" + " (p () () (ret))" * 1101 + ")", 2, "refused P9 at 0"),
-    (
-        "piton",
-        "524,288 labels, each with a jump to it",
-        "pbuild t i",
-        lambda: of_one_program(numbered(" (dl l", " () (jump l", "))", 524288)),
-        12,
-        "size words 1048582",
-    ),
-    (
-        "piton",
-        "524,288 words in instructions",
-        "pbuild t i",
-        lambda: of_one_program(numbered(" (push-constant (nat ", ")) (push-constant (int -", "))", 262144) + " (ret)"),
-        12,
-        "size words 1048587",
-    ),
-    (
-        "piton",
-        "an area of 1,000,000 words",
-        "pbuild t i",
-        lambda: "(piton main 2 1 0 ((a" + numbered(" (nat ", ") (int ", ")", 500000) + ")) () (main () () (ret)))",
-        0,
-        "built 1000011",
-    ),
-    (
-        "piton",
-        "1,100 programs with a call each",
-        "pbuild t i",
-        lambda: "(piton p0 2 1 0 () ()" + numbered(" (p", " () () (call p", ") (ret))", 1100) + ")",
-        0,
-        "built 12104",
-    ),
-    ("piton", "a million instructions `(no-op)` and a return", "pbuild t i", lambda: of_one_program(" (no-op)" * 1000000 + " (ret)"), 0, "built 1000011"),
-    ("piton", "the most that can be linked", "pbuild t i", lambda: of_one_program(" (no-op)" * 1048565 + " (ret)"), 0, "built 1048576"),
-    ("piton", "one instruction more than that", "pbuild t i", lambda: of_one_program(" (no-op)" * 1048566 + " (ret)"), 12, "size words 1048577"),
-    # Micro-Gypsy.
-    (
-        "gypsy",
-        "a call with 300,000 actuals of one name",
-        "check t",
-        lambda: "(program p (proc p ((x integer)) () () () (call q (" + " x" * 300000 + ") ())))",
-        2,
-        "refused S16 at 48",
-    ),
-    (
-        "gypsy",
-        "a call with 150,000 different actuals",
-        "check t",
-        lambda: "(program p (proc p ((x integer)) () () () (call q (" + numbered(" x", " y", "", 75000) + ") ())))",
-        2,
-        "refused S16 at 48",
-    ),
-    (
-        "gypsy",
-        "a handler of 300,000 conditions of one name",
-        "check t",
-        lambda: "(program p (proc p () (c) () () (begin (no-op) (" + " c" * 300000 + ") (no-op))))",
-        2,
-        "refused S13 at 51",
-    ),
-    (
-        "gypsy",
-        "a handler of 150,000 different conditions",
-        "check t",
-        lambda: "(program p (proc p () (c) () () (begin (no-op) (" + numbered(" c", " d", "", 75000) + ") (no-op))))",
-        2,
-        "refused S12 at 49",
-    ),
-    (
-        "gypsy",
-        "the last of 200 variables as 250,000 actuals",
-        "check t",
-        lambda: "(program p (proc p (" + numbered(" (x", " integer) (y", " integer)", 100) + ") () () () (call q (" + " y99" * 250000 + ") ())))",
-        2,
-        "refused S16 at 2817",
-    ),
-    ("gypsy", "130,000 statements", "check t", lambda: of_calls(" (no-op)" * 130000), 0, "ok"),
-    (
-        "gypsy",
-        "45,000 predefined calls",
-        "check t",
-        lambda: "(program p (proc p ((x integer)) () () () (seq" + " (mg-integer-add x x x)" * 45000 + ")))",
-        0,
-        "ok",
-    ),
-    ("gypsy", "60,000 calls of a procedure that is missing", "check t", lambda: of_calls(" (call q (x) (c))" * 60000), 2, "refused S16 at 42"),
-    ("gypsy", "55,000 calls of the last of 1,000 procedures", "check t", lambda: of_calls(" (call p998 () ())" * 55000, DEEP), 0, "ok"),
-    (
-        "gypsy",
-        "1,000 procedures of one name",
-        "check t",
-        lambda: "(program p" + " (proc p () () () () (no-op))" * 1000 + ")",
-        2,
-        "refused S1 at 46",
-    ),
-    ("gypsy", "one procedure more", "check t", lambda: "(program p" + " (proc p () () () () (no-op))" * 1001 + ")", 2, "refused M12 at 0"),
-    ("gypsy", "40,000 of these calls, generated", "pit t 9 9 o", lambda: of_calls(" (call p998 () ())" * 40000, DEEP), 0, "written o"),
-    ("gypsy", "16,000 calls inside 195 lists of 199 handlers, generated", "pit t 999 9 o", lambda: inside_handlers(" (call p () (z z z z z))", 16000), 0, "written o"),
+    *(("trees", *row) for row in TREES),
+    *(("piton", name, "pbuild t i", *row) for name, *row in PITON),
+    *(("gypsy", name, "check t", *row) for name, *row in SOURCES),
+    *(("gypsy", *row) for row in GENERATED),
 ]
 
 # Runs: the layer, the name, the words, the source, the values, and what is printed.
