@@ -1,0 +1,238 @@
+#!/usr/bin/env bash
+# What the script `stack` says and does until the program is built, in copies of this repository without anything built, with a kit that is played
+# (.ci/tools/stub_kit.sh): so it takes no proof.
+set -u
+top=$(cd "$(dirname "${BASH_SOURCE[0]}")/../.." && pwd)
+folder=$(mktemp -d)
+trap 'rm -rf "$folder"' EXIT
+copy=$folder/copy
+caller=$folder/caller
+export STUB=$folder/stub TMPDIR=$folder/tmp
+unset RATTLE_KIT STACK_TRIAL
+mkdir -p "$copy" "$folder/kit/bin" "$folder/empty"
+(cd "$top" && git ls-files -z stack crates.txt crates examples | xargs -0 cp --parents -t "$copy") || exit 1
+cp "$top/.ci/tools/stub_kit.sh" "$folder/kit/bin/rt"
+bare_path=$(tr : '\n' <<<"$PATH" | while read -r one; do [ -x "$one/rt" ] || echo "$one"; done | paste -sd :)
+crates=$(grep -c '^[a-z]' "$copy/crates.txt")
+failed=0
+
+says() {
+    echo "start, $theme: $1"
+    failed=1
+}
+
+# begins THEME [BUILT]: a copy in which nothing is built, or else what the last theme built, and a caller's folder with three files.
+begins() {
+    theme=$1
+    rm -rf "$STUB" "$caller" "$TMPDIR"
+    [ "${2-}" = built ] || rm -rf "$copy"/crates/*/out
+    mkdir -p "$STUB" "$caller/below" "$TMPDIR"
+    echo source >"$caller/a.gypsy"
+    echo values >"$caller/below/a.values"
+    echo number >"$caller/100"
+    find "$caller" -type f -exec cksum {} + | sort >"$folder/before"
+}
+
+# starts WORD..: the script on these words in the caller's folder. It leaves its output in the files `out` and `err`, and its status in `status`.
+starts() {
+    (cd "$caller" && PATH=$folder/kit/bin:$PATH exec "$copy/stack" "$@") >"$folder/out" 2>"$folder/err" </dev/null
+    status=$?
+}
+
+# ends STATUS OUT: so the script ended and so it printed; the caller's files are as before, and no temporary file is left.
+ends() {
+    [ "$status" = "$1" ] || says "status $status, wanted $1"
+    [ "$(<"$folder/out")" = "$2" ] || says "printed $(<"$folder/out"), wanted $2"
+    find "$caller" -type f -exec cksum {} + | sort | cmp -s - "$folder/before" || says "the caller's files were changed"
+    [ -z "$(ls -A "$TMPDIR")" ] || says "temporary files are left: $(ls -A "$TMPDIR")"
+}
+
+# errs TEXT: what was said on standard error is this. Runs of digits before "seconds" and "min" may differ, and how many are proved at a time.
+errs() {
+    local said
+    said=$(sed -E 's/[0-9]+ (seconds|min)/N \1/g; s/[0-9]+ at a time/N at a time/; s/[0-9]+ minutes/N minutes/' "$folder/err")
+    [ "$said" = "$1" ] || { says "the messages differ, < is wanted:"; diff <(echo "$1") <(echo "$said"); }
+}
+
+# calls LINE..: the kit was called so, and not otherwise.
+calls() {
+    local called
+    called=$(sed -E 's/--jobs [0-9]+/--jobs N/; s/=[^ ]*/=FILE/g' "$STUB/calls" 2>/dev/null)
+    [ "$called" = "$(printf '%s\n' "$@")" ] || says "the kit was called otherwise:"$'\n'"$called"
+}
+
+# handed NAME TEXT: the trial had a file of this name and content.
+handed() { [ "$(cat "$STUB/handed/$1" 2>&1)" = "$2" ] || says "handed in as $1: $(cat "$STUB/handed/$1" 2>&1), wanted $2"; }
+
+# proves [CRATE]: what the proof says, where all crates are proved but this one.
+proves() {
+    echo "stack: proves all $crates crates, N at a time, with rattle-kit-13f of the check. README.md says how long this takes. It may be stopped, and goes on at the next start"
+    sed -n 's/^\([a-z0-9_]*\):.*/\1/p' "$copy/crates.txt" | grep -vx "${1-}" | while read -r crate; do
+        left=$((${left:-$crates} - 1))
+        echo "stack: $crate is proved, $left of $crates are left, N min so far"
+    done
+}
+
+proof=$(proves)
+compiled=$'stack: all crates are proved; the program is compiled\nstack: the program is built after N minutes, and runs'
+tried="stack: the program isn't built yet, or was changed since. First comes a trial, which takes a minute or two: the program runs unproved on copies of the files. Nothing is stored, and nothing is proved yet"
+proof_calls=("all check --jobs N" run)
+
+begins "without words, before the program is built"
+starts
+ends 1 usage
+errs "$(grep -o '"the program isn.t built yet, or was changed since. Words.*"\|"    ./stack go .*"' "$copy/stack" | tr -d '"' | sed 's/^/stack: /')"
+calls ""
+
+begins "without a kit"
+for kit in "$folder/empty" "$folder/nowhere"; do
+    (cd "$caller" && PATH=$bare_path RATTLE_KIT=$kit "$copy/stack" check a.gypsy) >"$folder/out" 2>"$folder/err"
+    status=$?
+    ends 70 ""
+    errs "stack: the kit isn't there, so nothing is tried and nothing is proved. Wanted is rattle-kit-13f, or rattle-kit-13b
+stack: its command rt, which needs Python 3, is looked for on the PATH, and then in $kit/bin (the folder RATTLE_KIT, or else /opt/rattle)"
+    [ -z "$(find "$copy/crates" -name out)" ] || says "something was built"
+done
+
+begins "with the kit of RATTLE_KIT, and without a trial"
+(cd "$caller" && STACK_TRIAL=0 PATH=$bare_path RATTLE_KIT=$folder/kit "$copy/stack" check a.gypsy) >"$folder/out" 2>"$folder/err"
+status=$?
+ends 7 "printed by the program: check a.gypsy"
+errs "$proof"$'\n'"$compiled"
+calls "${proof_calls[@]}"
+
+begins "what is built" built
+starts check a.gypsy
+ends 7 "printed by the program: check a.gypsy"
+errs ""
+starts
+ends 1 usage
+errs ""
+calls ""
+
+begins "what was changed since" built
+touch "$copy/crates/stack_text/src/lib.rt"
+starts
+ends 1 usage
+calls ""
+starts check a.gypsy
+calls "try --data word-1.file=FILE -- check word-1.file" "${proof_calls[@]}"
+
+begins "a trial, and then the proof"
+starts go a.gypsy below/a.values 100 7 28 "$caller/below/a.image"
+ends 7 "printed by the program: go a.gypsy below/a.values 100 7 28 $caller/below/a.image"
+errs "$tried
+trial: printed by the trial: go a.gypsy below/a.values 100 7 28 $caller/below/a.image
+stack: the trial ended with status 5 after N seconds. It proves nothing
+$proof
+$compiled"
+calls "try --data word-1.file=FILE --data word-2.file=FILE --data 100=FILE -- go word-1.file word-2.file 100 7 28 word-6.file" "${proof_calls[@]}"
+handed word-1.file source
+handed word-2.file values
+handed 100 number
+
+# Names that lead out of the folder, that are the kit's own, that aren't there, whose folder isn't there, or that are a folder's.
+begins "the names that a trial gets"
+starts debug piton ../copy/crates.txt stdout src/main.rt none/a.image below
+calls "try --data word-2.file=FILE --data word-6.file/nothing=FILE -- debug piton word-2.file word-3.file nowhere/word-4.file nowhere/word-5.file word-6.file" "${proof_calls[@]}"
+handed word-2.file "$(<"$copy/crates.txt")"
+grep -qx "trial: printed by the trial: debug piton ../copy/crates.txt stdout src/main.rt none/a.image below" "$folder/err" || says "other names are shown"
+
+begins "a trial without an answer"
+touch "$STUB/silent"
+starts check a.gypsy
+ends 7 "printed by the program: check a.gypsy"
+errs "$tried
+stack: the trial found no answer (run=none proved=no). The proof goes on without it
+$proof
+$compiled"
+
+begins "a crate that isn't proved"
+echo fm_show >"$STUB/fails"
+starts check a.gypsy
+ends 70 ""
+errs "$tried
+trial: printed by the trial: check a.gypsy
+stack: the trial ended with status 5 after N seconds. It proves nothing
+$(proves fm_show)
+stack: not proved: fm_show. The end of the log:
+$(seq -f 'line %g of fm_show' 11 30)"
+calls "try --data word-1.file=FILE -- check word-1.file" "all check --jobs N"
+rm "$STUB/fails" "$STUB/calls"
+starts check a.gypsy
+ends 7 "printed by the program: check a.gypsy"
+
+# Starts a program in a process group of its own, in which no signal is ignored.
+in_a_group='
+import os, signal, sys
+os.setpgid(0, 0)
+for number in signal.SIGINT, signal.SIGTERM, signal.SIGHUP:
+    signal.signal(number, signal.SIG_DFL)
+os.execv(sys.argv[1], sys.argv[1:])'
+
+# stops SIGNAL WHOM WHEN: starts, and sends the signal once the kit waits: to the script alone, or to its group, as Ctrl-C does.
+stops() {
+    local process held
+    echo "$3" >"$STUB/holds"
+    (cd "$caller" && PATH=$folder/kit/bin:$PATH exec python3 -c "$in_a_group" "$copy/stack" check a.gypsy) >"$folder/out" 2>"$folder/err" </dev/null &
+    process=$!
+    for _ in $(seq 100); do
+        [ ! -s "$STUB/held" ] || break
+        sleep 0.2
+    done
+    # So that the script looks at it once more.
+    sleep 1
+    case $2 in
+    group) kill "-$1" -- "-$process" ;;
+    alone) kill "-$1" "$process" ;;
+    esac
+    wait "$process"
+    status=$?
+    while read -r held; do
+        ! kill -0 "$held" 2>/dev/null || says "a process of the kit still runs: $(ps -o stat,args -p "$held")"
+    done <"$STUB/held"
+    rm -f "$STUB/holds" "$STUB/held"
+}
+
+begins "stopped by Ctrl-C in the proof, and started again"
+stops INT group fm_show
+ends 130 ""
+[ "$(tail -n 1 "$folder/err")" = "stack: stopped. What was proved is kept, and the next start goes on from there" ] || says "said $(tail -n 1 "$folder/err")"
+grep -q "stack: fm_loader is proved" "$folder/err" || says "nothing was proved before"
+! grep -q "stack: fm_show is proved" "$folder/err" || says "said to be proved: the crate that the kit was at"
+rm "$STUB/calls"
+starts check a.gypsy
+ends 7 "printed by the program: check a.gypsy"
+errs "$tried
+trial: printed by the trial: check a.gypsy
+stack: the trial ended with status 5 after N seconds. It proves nothing
+$proof
+$compiled"
+
+begins "ended in the trial"
+stops TERM alone try
+ends 143 ""
+[ "$(<"$folder/err")" = "$tried
+stack: stopped. What was proved is kept, and the next start goes on from there" ] || says "said $(<"$folder/err")"
+
+begins "ended while the program is compiled"
+stops HUP alone run
+ends 129 ""
+[ -x "$copy/crates/cli_stack/out/cli_stack" ] || says "there is no part of a program"
+rm "$STUB/calls"
+STACK_TRIAL=0 starts check a.gypsy
+ends 7 "printed by the program: check a.gypsy"
+calls "${proof_calls[@]}"
+
+# On a terminal the progress is one line, which is written anew.
+begins "on a terminal"
+spawn='import os, pty, sys; sys.exit(os.WEXITSTATUS(pty.spawn(sys.argv[1:])))'
+(cd "$caller" && TERM=xterm PATH=$folder/kit/bin:$PATH python3 -c "$spawn" bash -c '"$0" check a.gypsy >"$1"' "$copy/stack" "$folder/out" </dev/null) >"$folder/err"
+status=$?
+ends 7 "printed by the program: check a.gypsy"
+! grep -q " is proved, " "$folder/err" || says "each crate has a line"
+grep -q $'\r\e\\[Kstack: [0-9]* of '"$crates crates are proved, [0-9]* are left, 0 min so far" "$folder/err" || says "no line is written anew"
+[ "$(wc -l <"$folder/err")" = 6 ] || says "$(wc -l <"$folder/err") lines, wanted 6"
+
+[ "$failed" = 0 ] && echo "start: ok"
+exit "$failed"

@@ -1,0 +1,74 @@
+#!/usr/bin/env bash
+# Plays the kit's command `rt` for .ci/checks/start.sh, in the folder STUB: it proves nothing, and takes no time.
+# STUB/calls has a line for each call but `version`. STUB/proved has a file for each crate that was "proved".
+# Further files tell it what to do: `silent`, the trial finds no answer; `fails`, the crate named in it isn't proved; `holds`, it waits in what
+# is named in it, a crate or `try` or `run`, until it is ended.
+set -u
+
+# What the program prints on these words: the check looks for it. Without words it is `usage`.
+program='[ $# -gt 0 ] || { echo usage; exit 1; }; echo "printed by the program: $*"; exit 7'
+
+# A trial on the words: keeps what each file handed in has, spoils the file itself, and prints the words.
+play_try() {
+    local name file
+    while [ "$1" != -- ]; do
+        name=$STUB/handed/${2%%=*} file=${2#*=}
+        mkdir -p "${name%/*}" && cp "$file" "$name" && echo spoiled >"$file"
+        shift 2
+    done
+    shift
+    hold_at try
+    [ ! -e "$STUB/silent" ] || { echo "run=none proved=no" >&2; exit 6; }
+    echo "printed by the trial: $*"
+    echo "run=ended status=5 runners=1 proved=no" >&2
+    exit 5
+}
+
+# Waits where `holds` names this place, with a child, as the kit has them, until this process is ended. It ends the child then.
+hold_at() {
+    [ "$1" = "$(cat "$STUB/holds" 2>/dev/null)" ] || return
+    sleep 600 &
+    trap 'kill "$!"; wait "$!"; exit 143' INT TERM
+    printf '%s\n' "$$" "$!" >"$STUB/held"
+    wait
+}
+
+play_check() {
+    local crate failed=
+    while IFS=: read -r crate _; do
+        [[ $crate =~ ^[a-z] ]] || continue
+        hold_at "$crate"
+        echo "== $crate"
+        if [ "$crate" = "$(cat "$STUB/fails" 2>/dev/null)" ]; then
+            seq -f "line %g of $crate" 30
+            failed=$crate
+        elif [ ! -e "$STUB/proved/$crate" ]; then
+            echo "fn $crate::f: proved"
+            echo "logic=proved functions=1"
+            touch "$STUB/proved/$crate"
+        fi
+    done <crates.txt
+    echo "== summary"
+    [ -z "$failed" ] || { echo "$failed: failed (1)"; exit 1; }
+}
+
+play_run() {
+    mkdir -p out
+    { echo '#!/usr/bin/env bash'; echo "$program"; } >out/cli_stack
+    chmod +x out/cli_stack
+    hold_at run
+    echo "rt: running out/cli_stack" >&2
+    out/cli_stack
+}
+
+if [ "$1" = version ]; then
+    echo "rattle-kit-13f of the check"
+    exit
+fi
+echo "$*" >>"$STUB/calls"
+mkdir -p "$STUB/proved"
+case "$1" in
+try) play_try "${@:2}" ;;
+all) play_check ;;
+run) play_run ;;
+esac
