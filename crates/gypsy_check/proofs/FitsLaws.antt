@@ -12,9 +12,9 @@ use Rattle.gypsy_syntax.specs.declared.literal.TypeText.{TypeText}
 use Rattle.gypsy_syntax.specs.declared.literal.Decl.{Decl}
 use Rattle.gypsy_syntax.specs.Sources.{StmtOf, StmtsOf, no_op, signal, seq, loop, branch, begin, call, predef, no_parts, part, ProcOf, SourceOf, LocalOf}
 use Rattle.gypsy_syntax.specs.Resolved.{place_among, position_of, variable_names, variable_types, condition_names, procedure_names, shape_of, local_value}
-use Rattle.gypsy_syntax.specs.Resolved.{is_leave_name, is_routine_name, cond_of, variable_of, statement_of, statement_of_all, procedure_of, program_of}
+use Rattle.gypsy_syntax.specs.Resolved.{is_leave_name, is_routine_name, is_space_name, cond_of, variable_of, statement_of, statement_of_all, procedure_of, program_of}
 use Rattle.gypsy_syntax.specs.Predefined.{slots_of}
-use Rattle.gypsy_syntax.specs.Programs.{Cond, Leave, Routine, Declared, simple, shapes_of, words_of, Proc, Program, no_proc, proc_at}
+use Rattle.gypsy_syntax.specs.Programs.{Cond, Leave, Routine, Space, Declared, simple, shapes_of, words_of, Proc, Program, no_proc, proc_at}
 use Rattle.gypsy_syntax.specs.ProgramFits.{ValueFits, Each, CondFits, HandlerFits, ActualsFit, CallFits, StmtFits, ProcFits, ProgramFits}
 use Rattle.stack_text.specs.Breaches.{when}
 use Rattle.gypsy_check.specs.Declarations.{type_of, procedure_at, procedure_named, is_condition, variables_of, conditions_of, repeats}
@@ -27,20 +27,23 @@ use Rattle.gypsy_check.proofs.ArgumentLaws.{predef_fits}
 
 -- Conditions.
 
-abbrev chosen_cond : Bool → Bool → ℕ → Cond
-chosen_cond l r i = if l then Leave else if r then Routine else Declared i
+abbrev chosen_cond : Bool → Bool → Bool → ℕ → Cond
+chosen_cond l r s i = if l then Leave else if r then Routine else if s then Space else Declared i
 
-raised_fits : (l r k in_loop : Bool) (n i : ℕ) → (k ≡ true → i < n) → (l || r || k) ≡ true → (l && not in_loop) ≡ false → CondFits in_loop n (chosen_cond l r i)
-raised_fits true r k true n i h e f = refl
-raised_fits true r k false n i h e f = cc
-raised_fits false true k in_loop n i h e f = tt
-raised_fits false false k in_loop n i h e f = h e
+raised_fits : (l r s k in_loop : Bool) (n i : ℕ) → (k ≡ true → i < n) → (l || r || k) ≡ true → (l && not in_loop) ≡ false → (s ≡ true → k ≡ false) → CondFits in_loop n (chosen_cond l r s i)
+raised_fits true r s k true n i h e f g = refl
+raised_fits true r s k false n i h e f g = cc
+raised_fits false true s k in_loop n i h e f g = tt
+raised_fits false false true k in_loop n i h e f g = let a = g refl in cc
+raised_fits false false false k in_loop n i h e f g = h e
 
-handled_fits : (l r k : Bool) (n i : ℕ) → (k ≡ true → i < n) → (r || k) ≡ true → (l ≡ true → k ≡ false) → (l ≡ true → r ≡ false) → HandlerFits n (chosen_cond l r i)
-handled_fits true true k n i h e f g = let a = g refl in cc
-handled_fits true false k n i h e f g = let a = f refl in cc
-handled_fits false true k n i h e f g = tt
-handled_fits false false k n i h e f g = h e
+handled_fits : (l r s k : Bool) (n i : ℕ) → (k ≡ true → i < n) → (r || s || k) ≡ true → (l ≡ true → k ≡ false) → (l ≡ true → r ≡ false) → (l ≡ true → s ≡ false) → HandlerFits n (chosen_cond l r s i)
+handled_fits true true s k n i h e f g u = let a = g refl in cc
+handled_fits true false true k n i h e f g u = let a = u refl in cc
+handled_fits true false false k n i h e f g u = let a = f refl in cc
+handled_fits false true s k n i h e f g u = tt
+handled_fits false false true k n i h e f g u = tt
+handled_fits false false false k n i h e f g u = h e
 
 not_none : (b : Bool) → not b ≡ true → b ≡ false
 not_none true e = cc
@@ -55,18 +58,15 @@ condition_below : (p : ProcOf) (name : List ℕ) → is_condition p name ≡ tru
 condition_below p name e =
     omega (arith, found_below name (condition_names p) (not_none (is_none (place_among name (condition_names p))) e), number_of_names p)
 
-cond_fits : (p : ProcOf) (in_loop : Bool) (c : Named) → raised_breaches p in_loop c ≡ [] → CondFits in_loop (length p.conds + length p.local_conds) (cond_of p c)
-cond_fits p in_loop c e =
-    let l = is_leave_name c.name in
-    let r = is_routine_name c.name in
-    let k = is_condition p c.name in
-    let h = two (when (not (l || r || k)) c.place 10) (when (l && not in_loop) c.place 11) e in
-    raised_fits l r k in_loop (length p.conds + length p.local_conds) (position_of c.name (condition_names p)) (condition_below p c.name) (holds (l || r || k) c.place 10 h.0) (fails (l && not in_loop) c.place 11 h.1)
-
 leave_not_routine : (name : List ℕ) → is_leave_name name ≡ true → is_routine_name name ≡ false
 leave_not_routine name e =
     let same : name ≡ codes "leave" = (bytes_eq-Decides name (codes "leave")).0 e in
     subst (λ m. is_routine_name m ≡ false) (sym same) refl
+
+leave_not_space : (name : List ℕ) → is_leave_name name ≡ true → is_space_name name ≡ false
+leave_not_space name e =
+    let same : name ≡ codes "leave" = (bytes_eq-Decides name (codes "leave")).0 e in
+    subst (λ m. is_space_name m ≡ false) (sym same) refl
 
 not_reserved : (cs : List Named) (i : ℕ) → flat_map condition_breaches cs ≡ [] → i < length cs → is_reserved (get_or (map (λ (n : Named). n.name) cs) i []) ≡ false
 not_reserved [] i e h = absurd (omega (arith, h))
@@ -77,12 +77,17 @@ names_join : (xs ys : List Named) → map (λ (n : Named). n.name) xs ++ map (λ
 names_join [] ys = refl
 names_join (x ∷ xs) ys = ap (λ ns. x.name ∷ ns) (names_join xs ys)
 
-reserved_leave : (name : List ℕ) → is_leave_name name ≡ true → is_reserved name ≡ false → ⊥
-reserved_leave name e f = true≢false (sym (rw e refl) ∙ f)
+leave_reserved : (name : List ℕ) → is_leave_name name ≡ true → is_reserved name ≡ true
+leave_reserved name e = rw e refl
 
-leave_not_declared : (p : ProcOf) (name : List ℕ) → flat_map condition_breaches (p.conds ++ p.local_conds) ≡ [] → is_leave_name name ≡ true → is_condition p name ≡ false
-leave_not_declared p name e is =
-    false_from_ne_true (is_condition p name) (λ k. reserved_leave name is (kept k))
+space_reserved : (name : List ℕ) → is_space_name name ≡ true → is_reserved name ≡ true
+space_reserved name e =
+    let same : name ≡ codes "spaceerror" = (bytes_eq-Decides name (codes "spaceerror")).0 e in
+    subst (λ m. is_reserved m ≡ true) (sym same) refl
+
+reserved_not_declared : (p : ProcOf) (name : List ℕ) → flat_map condition_breaches (p.conds ++ p.local_conds) ≡ [] → is_reserved name ≡ true → is_condition p name ≡ false
+reserved_not_declared p name e is =
+    false_from_ne_true (is_condition p name) (λ k. true≢false (sym is ∙ kept k))
   where
     kept : is_condition p name ≡ true → is_reserved name ≡ false
     kept k =
@@ -92,12 +97,22 @@ leave_not_declared p name e is =
         let at : get_or (map (λ (n : Named). n.name) (p.conds ++ p.local_conds)) i [] ≡ name = ap (λ ns. get_or ns i []) (sym (names_join p.conds p.local_conds)) ∙ found_name name (condition_names p) found in
         ap is_reserved (sym at) ∙ not_reserved (p.conds ++ p.local_conds) i e below
 
+cond_fits : (p : ProcOf) → flat_map condition_breaches (p.conds ++ p.local_conds) ≡ [] → (in_loop : Bool) (c : Named) → raised_breaches p in_loop c ≡ [] → CondFits in_loop (length p.conds + length p.local_conds) (cond_of p c)
+cond_fits p reserved in_loop c e =
+    let l = is_leave_name c.name in
+    let r = is_routine_name c.name in
+    let s = is_space_name c.name in
+    let k = is_condition p c.name in
+    let h = two (when (not (l || r || k)) c.place 10) (when (l && not in_loop) c.place 11) e in
+    raised_fits l r s k in_loop (length p.conds + length p.local_conds) (position_of c.name (condition_names p)) (condition_below p c.name) (holds (l || r || k) c.place 10 h.0) (fails (l && not in_loop) c.place 11 h.1) (λ is. reserved_not_declared p c.name reserved (space_reserved c.name is))
+
 handler_fits : (p : ProcOf) → flat_map condition_breaches (p.conds ++ p.local_conds) ≡ [] → (c : Named) → handled_breaches p c ≡ [] → HandlerFits (length p.conds + length p.local_conds) (cond_of p c)
 handler_fits p reserved c e =
     let l = is_leave_name c.name in
     let r = is_routine_name c.name in
+    let s = is_space_name c.name in
     let k = is_condition p c.name in
-    handled_fits l r k (length p.conds + length p.local_conds) (position_of c.name (condition_names p)) (condition_below p c.name) (holds (r || k) c.place 12 e) (leave_not_declared p c.name reserved) (leave_not_routine c.name)
+    handled_fits l r s k (length p.conds + length p.local_conds) (position_of c.name (condition_names p)) (condition_below p c.name) (holds (r || s || k) c.place 12 e) (λ is. reserved_not_declared p c.name reserved (leave_reserved c.name is)) (leave_not_routine c.name) (leave_not_space c.name)
 
 -- Variables.
 
@@ -146,8 +161,8 @@ callee_fits s p c xs_place xs cs_place cs e h =
       eqb-true (length cs) (length c.conds) (holds (length cs == length c.conds) cs_place 19 a.1),
     )
 
-call_fits : (s : SourceOf) (p : ProcOf) (in_loop : Bool) (callee : Named) (xs_place : ℕ) (xs : List Named) (cs_place : ℕ) (cs : List Named) → is_none (procedure_named s s.main.name) ≡ false → call_breaches s p in_loop callee xs_place xs cs_place cs ≡ [] → CallFits (program_of s) (shapes_of (procedure_of s p)) (length p.conds + length p.local_conds) in_loop (position_of callee.name (procedure_names s)) (map (variable_of p) xs) (map (cond_of p) cs)
-call_fits s p in_loop callee xs_place xs cs_place cs main e =
+call_fits : (s : SourceOf) (p : ProcOf) (in_loop : Bool) (callee : Named) (xs_place : ℕ) (xs : List Named) (cs_place : ℕ) (cs : List Named) → is_none (procedure_named s s.main.name) ≡ false → flat_map condition_breaches (p.conds ++ p.local_conds) ≡ [] → call_breaches s p in_loop callee xs_place xs cs_place cs ≡ [] → CallFits (program_of s) (shapes_of (procedure_of s p)) (length p.conds + length p.local_conds) in_loop (position_of callee.name (procedure_names s)) (map (variable_of p) xs) (map (cond_of p) cs)
+call_fits s p in_loop callee xs_place xs cs_place cs main reserved e =
     let v10 = flat_map (raised_breaches p in_loop) cs in
     let v18 = callee_breaches p (procedure_named s callee.name) xs_place xs cs_place cs in
     let parts = four (callee_name_breaches s callee) (actual_name_breaches p xs) v10 v18 e in
@@ -167,7 +182,7 @@ call_fits s p in_loop callee xs_place xs cs_place cs main e =
       actuals = subst (λ (r : Proc). ActualsFit shapes r.formals (map (variable_of p) xs)) (sym at) good.0;
       distinct = distinct (variable_names p) 20 [] xs b.1 (each_of (undeclared p) (λ (n : Named). Found (variable_names p) n.name) xs (λ n u. variable_found p n.name (fails (is_none (type_of p n.name)) n.place 14 u)) b.0);
       number = length-map cs (cond_of p) ∙ good.1 ∙ ap (λ (r : Proc). r.conds) (sym at);
-      conds = each_map (cond_of p) (CondFits in_loop (length p.conds + length p.local_conds)) (λ n. raised_breaches p in_loop n ≡ []) cs (cond_fits p in_loop) (each_of (raised_breaches p in_loop) (λ n. raised_breaches p in_loop n ≡ []) cs (λ n u. u) parts.2);
+      conds = each_map (cond_of p) (CondFits in_loop (length p.conds + length p.local_conds)) (λ n. raised_breaches p in_loop n ≡ []) cs (cond_fits p reserved in_loop) (each_of (raised_breaches p in_loop) (λ n. raised_breaches p in_loop n ≡ []) cs (λ n u. u) parts.2);
     }
 
 -- Statements.
@@ -176,7 +191,7 @@ module _ (s : SourceOf) (p : ProcOf) (main : is_none (procedure_named s s.main.n
   mutual
     statement_fits : (in_loop : Bool) (b : StmtOf) → statement_breaches s p in_loop b ≡ [] → StmtFits (program_of s) (shapes_of (procedure_of s p)) (length p.conds + length p.local_conds) in_loop (statement_of s p b)
     statement_fits in_loop (no_op place) e = tt
-    statement_fits in_loop (signal place c) e = cond_fits p in_loop c e
+    statement_fits in_loop (signal place c) e = cond_fits p reserved in_loop c e
     statement_fits in_loop (seq place parts) e = parts_fit in_loop parts e
     statement_fits in_loop (loop place body) e = statement_fits true body e
     statement_fits in_loop (branch place test b c) e =
@@ -186,7 +201,7 @@ module _ (s : SourceOf) (p : ProcOf) (main : is_none (procedure_named s s.main.n
         let h = three (statement_breaches s p in_loop body) (handlers_breaches p conds) (statement_breaches s p in_loop arm) e in
         let k = two (flat_map (handled_breaches p) conds) (repeats 13 [] conds) h.1 in
         (each_map (cond_of p) (HandlerFits (length p.conds + length p.local_conds)) (λ n. handled_breaches p n ≡ []) conds (handler_fits p reserved) (each_of (handled_breaches p) (λ n. handled_breaches p n ≡ []) conds (λ n u. u) k.0), statement_fits in_loop body h.0, statement_fits in_loop arm h.2)
-    statement_fits in_loop (call place callee xs_place xs cs_place cs) e = call_fits s p in_loop callee xs_place xs cs_place cs main e
+    statement_fits in_loop (call place callee xs_place xs cs_place cs) e = call_fits s p in_loop callee xs_place xs cs_place cs main reserved e
     statement_fits in_loop (predef place which args) e =
         predef_fits s p place (slots_of which) args types e
 

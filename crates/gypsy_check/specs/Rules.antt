@@ -12,7 +12,7 @@ use Rattle.gypsy_syntax.specs.declared.literal.TypeText.{TypeText}
 use Rattle.gypsy_syntax.specs.declared.slot.Slot.{Slot}
 use Rattle.gypsy_syntax.specs.ProgramFits.{is_in_range}
 use Rattle.gypsy_syntax.specs.Predefined.{slots_of}
-use Rattle.gypsy_syntax.specs.Resolved.{variable_types, is_leave_name, is_routine_name}
+use Rattle.gypsy_syntax.specs.Resolved.{variable_types, is_leave_name, is_routine_name, is_space_name}
 use Rattle.gypsy_syntax.specs.Sources.{LiteralOf, LiteralsOf, integer, truth, character, array, no_items, item, literal_place}
 use Rattle.gypsy_syntax.specs.Sources.{ArgOf, variable, constant, arg_place, LocalOf, ProcOf, SourceOf}
 use Rattle.gypsy_syntax.specs.Sources.{StmtOf, StmtsOf, no_op, signal, seq, loop, branch, begin, call, predef, no_parts, part}
@@ -38,9 +38,9 @@ raised_breaches p in_loop c =
     when (not (is_leave_name c.name || is_routine_name c.name || is_condition p c.name)) c.place 10 ++
     when (is_leave_name c.name && not in_loop) c.place 11
 
--- S12: a condition that is handled isn't declared
+-- S12: a condition that is handled is neither raised by the language nor declared
 abbrev pub handled_breaches : ProcOf → Named → List Breach
-handled_breaches p c = when (not (is_routine_name c.name || is_condition p c.name)) c.place 12
+handled_breaches p c = when (not (is_routine_name c.name || is_space_name c.name || is_condition p c.name)) c.place 12
 
 -- S12, and S13: a condition stands earlier in the same list
 abbrev pub handlers_breaches : ProcOf → List Named → List Breach
@@ -137,7 +137,7 @@ abbrev mutual
 -- S6: a declared condition has a name with a meaning of its own
 abbrev pub is_reserved : List ℕ → Bool
 is_reserved name =
-    is_leave_name name || is_routine_name name || bytes_eq name (codes "normal") || bytes_eq name (codes "spaceerror")
+    is_leave_name name || is_routine_name name || bytes_eq name (codes "normal") || is_space_name name
 
 abbrev pub condition_breaches : Named → List Breach
 condition_breaches n = when (is_reserved n.name) n.place 6

@@ -4,7 +4,7 @@ ghost use Rattle.std.specs.Prelude.{◌≡◌, OnOk};
 ghost use Rattle.std.specs.List.{flat_map, list_any};
 ghost use Rattle.std.specs.Str.{bytes_eq};
 ghost use Rattle.stack_text.specs.Breaches.{Notes};
-ghost use Rattle.gypsy_syntax.specs.Resolved.{is_leave_name, is_routine_name};
+ghost use Rattle.gypsy_syntax.specs.Resolved.{is_leave_name, is_routine_name, is_space_name};
 ghost use Rattle.gypsy_syntax.specs.SourceView.{proc_of};
 ghost use Rattle.gypsy_check.specs.Declarations.{is_condition};
 ghost use Rattle.gypsy_check.specs.Rules.{condition_breaches, handled_breaches, handlers_breaches, is_reserved, raised_breaches};
@@ -28,6 +28,13 @@ fn is_routine(name: &Name) -> bool
     name.bytes() == b"routineerror".as_slice()
 }
 
+/// Whether it is the condition that a call without room raises.
+fn is_space(name: &Name) -> bool
+    ensures { result ≡ is_space_name name.now }
+{
+    name.bytes() == b"spaceerror".as_slice()
+}
+
 /// Whether the name is among these.
 fn is_among(name: &Name, names: &[Named]) -> bool
     ensures { result ≡ list_any (λ n. bytes_eq name.now n.name) names.now }
@@ -46,11 +53,7 @@ fn is_condition(proc: &Proc, name: &Name) -> bool
 fn is_reserved(name: &Name) -> bool
     ensures { result ≡ is_reserved name.now }
 {
-    let bytes = name.bytes();
-    is_leave(name)
-        || is_routine(name)
-        || bytes == b"normal".as_slice()
-        || bytes == b"spaceerror".as_slice()
+    is_leave(name) || is_routine(name) || name.bytes() == b"normal".as_slice() || is_space(name)
 }
 
 /// Notes a declared condition whose name has a meaning of its own.
@@ -94,13 +97,14 @@ pub(crate) fn check_all_raised(
     }
 }
 
-/// Notes a condition that is handled and isn't declared.
+/// Notes a condition that is handled and neither declared nor raised by the language.
 fn check_handled(best: &mut Option<Breach>, proc: &Proc, cond: &Named)
     ensures { Notes best.old (handled_breaches (proc_of proc.now) cond.now) best.new }
 {
     let routine = is_routine(&cond.name);
+    let space = is_space(&cond.name);
     let declared = is_condition(proc, &cond.name);
-    note_if(best, !(routine || declared), cond.place, 12);
+    note_if(best, !(routine || space || declared), cond.place, 12);
 }
 
 /// The same of each.

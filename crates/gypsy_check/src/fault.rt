@@ -21,7 +21,7 @@ pub enum CheckFault {
     /// | S9 | an integer has no 32 bits, or a character's number is over 127 | the literal |
     /// | S10 | a condition that is signalled or given isn't `leave`, `routineerror` or a declared one | the name |
     /// | S11 | `leave` is signalled or given with no loop round it | the name |
-    /// | S12 | a condition that is handled isn't `routineerror` or a declared one | the name |
+    /// | S12 | a condition that is handled isn't `routineerror`, `spaceerror` or a declared one | the name |
     /// | S13 | a condition that is handled stands earlier in the same list | the later name |
     /// | S14 | a variable isn't declared | the name |
     /// | S15 | the declared variable of an `if` is no simple Boolean | the name |

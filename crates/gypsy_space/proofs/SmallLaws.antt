@@ -93,6 +93,7 @@ predef_words-few row.MgBooleanAnd = omega arith
 predef_words-few row.MgBooleanNot = omega arith
 predef_words-few row.MgIndexArray = omega arith
 predef_words-few row.MgArrayElementAssignment = omega arith
+predef_words-few row.MgIntegerMultiply = omega arith
 
 module _ (s : SourceOf) (p : ProcOf) (few : (i : ℕ) → AreFew (proc_at (program_of s) i)) where
   mutual

@@ -20,7 +20,7 @@ unfoldable pub predef_spend : Predef → Effect → Tally → Tally
 unfolding predef_cost spend
 predef_spend r e t = spend (predef_cost r e).0 (predef_cost r e).1 t
 
--- of what follows a call whose callee ends with a condition: a formal one or not
+-- of what follows a call whose callee ends with a condition: a formal one or spaceerror, or another
 unfoldable pub out_spend : Bool → Tally → Tally
 unfolding spend
 out_spend true t = spend 14 7 t

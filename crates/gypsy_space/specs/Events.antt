@@ -1,5 +1,5 @@
 -- The table of costs by events, and needs as a list.
-use Rattle.std.specs.Prelude.{◌≡◌, ℕ, ◌+◌, ◌*◌, ◌^◌, ◌<◌, ◌≤◌, List, length, max, get_or, nat_le, Bool, ◌&&◌}
+use Rattle.std.specs.Prelude.{◌≡◌, ℕ, ◌+◌, ◌*◌, ◌^◌, ◌<◌, ◌≤◌, List, length, max, get_or, nat_le, Bool, not, ◌&&◌, if◌then◌else◌}
 use Rattle.gypsy_syntax.specs.declared.predef.Predef.{Predef}
 use Rattle.gypsy_syntax.specs.Programs.{Program, proc_at}
 use Rattle.gypsy_syntax.specs.Effects.{Effect, no_value}
@@ -12,6 +12,8 @@ use Rattle.gypsy_space.specs.declared.event.Outcome.TheVariants.{Normal, Fault, 
 use Rattle.gypsy_space.specs.declared.event.CostEvent.{CostEvent}
 use Rattle.gypsy_space.specs.declared.event.CostEvent.TheVariants as event
 use Rattle.gypsy_space.specs.declared.need.Need.{Need}
+use Rattle.gypsy_space.specs.declared.need.Lack.{Lack}
+use Rattle.gypsy_space.specs.declared.need.Lack.TheVariants.{Nothing, Temporary, Control}
 
 -- an effect that ends so
 abbrev pub effect_of : Outcome → Effect
@@ -51,11 +53,23 @@ pub record IsSmall (n : Need) : Type 0 where
 abbrev pub AreSmall : List Need → Type 0
 AreSmall ns = (p : ℕ) → IsSmall (need_at ns p)
 
+-- whether a call has room on each stack, by its size and the words in use
+abbrev pub has_temp_room_by : Need → ℕ → ℕ → Bool
+has_temp_room_by n size used = nat_le (used + max (n.locals_words + n.vars) (n.locals_words + n.temp)) size
+
+abbrev pub has_ctrl_room_by : Need → ℕ → ℕ → Bool
+has_ctrl_room_by n size used = nat_le (used + (2 + n.vars + n.ctrl)) size
+
 -- whether a call has room
 unfoldable pub has_room_by : Need → Words → Words → Bool
-has_room_by n sizes used =
-    nat_le (used.temp + max (n.locals_words + n.vars) (n.locals_words + n.temp)) sizes.temp &&
-    nat_le (used.ctrl + (2 + n.vars + n.ctrl)) sizes.ctrl
+has_room_by n sizes used = has_temp_room_by n sizes.temp used.temp && has_ctrl_room_by n sizes.ctrl used.ctrl
+
+-- which stack lacks room for a call; the temporary one is looked at first
+unfoldable pub lack_by : Need → Words → Words → Lack
+lack_by n sizes used =
+    if not (has_temp_room_by n sizes.temp used.temp) then Temporary else
+    if not (has_ctrl_room_by n sizes.ctrl used.ctrl) then Control else
+    Nothing
 
 -- instructions
 unfoldable pub event_count : List Need → CostEvent → ℕ
@@ -69,7 +83,9 @@ event_count ns event.IfFalse = 9
 event_count ns event.JoinThen = 2
 event_count ns event.JoinOne = 1
 event_count ns event.GuardNormal = 2
-event_count ns (event.Call callee) = (need_at ns callee).locals_words + 4 * (need_at ns callee).vars + 4
+event_count ns event.LackTemporary = 15
+event_count ns event.LackControl = 26
+event_count ns (event.Call callee) = 22 + (need_at ns callee).locals_words + 4 * (need_at ns callee).vars + 4
 event_count ns event.EndMain = 5
 event_count ns event.EndProc = 12
 event_count ns event.OutFormal = 4
@@ -89,6 +105,8 @@ event_spend q event.IfFalse t = spend 9 4 t
 event_spend q event.JoinThen t = spend 2 2 t
 event_spend q event.JoinOne t = spend 1 1 t
 event_spend q event.GuardNormal t = spend 2 2 t
+event_spend q event.LackTemporary t = spend 15 7 t
+event_spend q event.LackControl t = spend 26 11 t
 event_spend q (event.Call callee) t = call_spend q callee t
 event_spend q event.EndMain t = spend 5 2 t
 event_spend q event.EndProc t = spend 12 6 t

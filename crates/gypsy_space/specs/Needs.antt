@@ -1,10 +1,12 @@
 -- The words that programs need: of both stacks, and of code.
-use Rattle.std.specs.Prelude.{ℕ, ◌+◌, ◌*◌, List, [], ◌∷◌, map, length, max, nat_le, Bool, ◌&&◌, ◌==◌, if◌then◌else◌}
+use Rattle.std.specs.Prelude.{ℕ, ◌+◌, ◌*◌, List, [], ◌∷◌, map, length, max, nat_le, Bool, true, false, not, ◌&&◌, ◌==◌, if◌then◌else◌}
 use Rattle.gypsy_syntax.specs.declared.predef.Predef.{Predef}
 use Rattle.gypsy_syntax.specs.PredefinedCosts.{predef_temp, predef_ctrl, predef_words}
 use Rattle.gypsy_syntax.specs.Programs.{Arg, Var, Lit, Proc, Program, proc_at, shapes_of, words_of}
 use Rattle.gypsy_syntax.specs.Programs.{Stmt, Skip, NoOp, Signal, Seq, Loop, If, Begin, Call, Apply}
 use Rattle.gypsy_space.specs.Costs.{Tally, spend}
+use Rattle.gypsy_space.specs.declared.need.Lack.{Lack}
+use Rattle.gypsy_space.specs.declared.need.Lack.TheVariants.{Nothing, Temporary, Control}
 
 -- the sizes of the two stacks, and the words in use of each
 pub record Words : Type 0 where
@@ -14,23 +16,32 @@ pub record Words : Type 0 where
 abbrev pub stack_words : ℕ → ℕ → Words
 stack_words temp ctrl = record { temp = temp; ctrl = ctrl }
 
--- the greatest of a measure over the predefined calls of a statement, and 0 without any
-abbrev pub greatest : (Predef → ℕ) → Stmt → ℕ
-greatest f Skip = 0
-greatest f (NoOp place) = 0
-greatest f (Signal place c) = 0
-greatest f (Seq a b) = max (greatest f a) (greatest f b)
-greatest f (Loop place s) = greatest f s
-greatest f (If place b s w) = max (greatest f s) (greatest f w)
-greatest f (Begin place s cs w) = max (greatest f s) (greatest f w)
-greatest f (Call place p xs cs) = 0
-greatest f (Apply place r args) = f r
+-- the greatest of a measure over the calls of a statement, and 0 without any: so much at each call of a procedure, and by its
+-- row at a predefined call
+abbrev pub greatest : ℕ → (Predef → ℕ) → Stmt → ℕ
+greatest each f Skip = 0
+greatest each f (NoOp place) = 0
+greatest each f (Signal place c) = 0
+greatest each f (Seq a b) = max (greatest each f a) (greatest each f b)
+greatest each f (Loop place s) = greatest each f s
+greatest each f (If place b s w) = max (greatest each f s) (greatest each f w)
+greatest each f (Begin place s cs w) = max (greatest each f s) (greatest each f w)
+greatest each f (Call place p xs cs) = each
+greatest each f (Apply place r args) = f r
+
+-- the words of each stack that the calls of a statement take beside those of their callees: a call of a procedure compares two
+-- words on the temporary stack before it has room
+abbrev pub statement_temp : Stmt → ℕ
+statement_temp s = greatest 2 predef_temp s
+
+abbrev pub statement_ctrl : Stmt → ℕ
+statement_ctrl s = greatest 0 predef_ctrl s
 
 abbrev pub temp_need : Proc → ℕ
-temp_need p = max 1 (greatest predef_temp p.body)
+temp_need p = max 1 (statement_temp p.body)
 
 abbrev pub ctrl_need : Proc → ℕ
-ctrl_need p = greatest predef_ctrl p.body
+ctrl_need p = statement_ctrl p.body
 
 -- the words of the locals
 abbrev pub local_words : Proc → ℕ
@@ -51,13 +62,37 @@ main_used q = let p = proc_at q q.main in record { temp = words_of (shapes_of p)
 unfoldable pub with_call : Program → ℕ → Words → Words
 with_call q p u = let c = proc_at q p in record { temp = u.temp + local_words c; ctrl = u.ctrl + frame_of c }
 
--- whether a call of p has room
-unfoldable pub has_room : Program → Words → ℕ → Words → Bool
-has_room q sizes p u =
+-- the words that a call of p wants beside those in use: of the temporary stack its locals, and what is pushed for it or what
+-- its own calls take, whichever is more; of the control stack its frame and the greatest of its predefined calls
+unfoldable pub call_need : Program → ℕ → Words
+call_need q p =
     let c = proc_at q p in
     let l = local_words c in
-    nat_le (u.temp + max (l + length c.locals + length c.formals) (l + temp_need c)) sizes.temp &&
-    nat_le (u.ctrl + frame_of c + ctrl_need c) sizes.ctrl
+    record { temp = max (l + length c.locals + length c.formals) (l + temp_need c); ctrl = frame_of c + ctrl_need c }
+
+-- whether a call of p has room on each stack
+abbrev pub has_temp_room : Program → Words → ℕ → Words → Bool
+has_temp_room q sizes p u = nat_le (u.temp + (call_need q p).temp) sizes.temp
+
+abbrev pub has_ctrl_room : Program → Words → ℕ → Words → Bool
+has_ctrl_room q sizes p u = nat_le (u.ctrl + (call_need q p).ctrl) sizes.ctrl
+
+-- whether a call of p has room
+unfoldable pub has_room : Program → Words → ℕ → Words → Bool
+has_room q sizes p u = has_temp_room q sizes p u && has_ctrl_room q sizes p u
+
+-- whether a call has room, by what it lacks
+abbrev pub is_nothing : Lack → Bool
+is_nothing Nothing = true
+is_nothing Temporary = false
+is_nothing Control = false
+
+-- which stack lacks room for a call of p; the temporary one is looked at first
+unfoldable pub lack_of : Program → Words → ℕ → Words → Lack
+lack_of q sizes p u =
+    if not (has_temp_room q sizes p u) then Temporary else
+    if not (has_ctrl_room q sizes p u) then Control else
+    Nothing
 
 -- what main itself needs
 unfoldable pub main_need : Program → Words
@@ -67,7 +102,7 @@ main_need q =
     let u = main_used q in
     record { temp = u.temp + temp_need p; ctrl = u.ctrl + ctrl_need p }
 
--- what a call of p costs, up to its callee's body
+-- what a call of p with room costs, up to its callee's body
 unfoldable pub call_spend : Program → ℕ → Tally → Tally
 unfolding spend
 call_spend q p t =
@@ -75,7 +110,7 @@ call_spend q p t =
     let l = local_words c in
     let m = length c.locals in
     let k = length c.formals in
-    spend (l + 3 * m + 3 * k + 4 + (m + k)) (l + m + k + 1) t
+    spend (22 + l + 3 * m + 3 * k + 4 + (m + k)) (l + m + k + 9) t
 
 -- Words of code.
 
@@ -96,7 +131,7 @@ statement_words q (Loop place s) = 8 + statement_words q s
 statement_words q (If place b s w) = 15 + statement_words q s + statement_words q w
 statement_words q (Begin place s cs w) = 8 + statement_words q s + statement_words q w
 statement_words q (Call place p xs cs) =
-    let c = proc_at q p in 2 * local_words c + 4 * vars_of c + 24 + 8 * length cs
+    let c = proc_at q p in 2 * local_words c + 4 * vars_of c + 60 + 8 * length cs
 statement_words q (Apply place r args) = 4 + args_words args + predef_words r
 
 -- the words of a procedure, its prelude with them

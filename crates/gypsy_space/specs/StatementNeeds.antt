@@ -1,8 +1,7 @@
 -- What the code counts for statements and procedures: sums are exact up to 2^60, and stay there.
 use Rattle.std.specs.Prelude.{◌≡◌, ℕ, ◌+◌, ◌^◌, ◌<◌, ◌≤◌, max, min, List, length}
-use Rattle.gypsy_syntax.specs.PredefinedCosts.{predef_temp, predef_ctrl}
 use Rattle.gypsy_syntax.specs.Programs.{Program, Stmt}
-use Rattle.gypsy_space.specs.Needs.{greatest, statement_words}
+use Rattle.gypsy_space.specs.Needs.{statement_temp, statement_ctrl, statement_words}
 use Rattle.gypsy_space.specs.Events.{need_at, need_of, IsSmall}
 use Rattle.gypsy_space.specs.declared.need.Need.{Need}
 use Rattle.gypsy_space.specs.declared.counting.StatementNeed.{StatementNeed}
@@ -22,20 +21,20 @@ joined words first second = record {
 }
 
 pub record IsStatementNeed (q : Program) (s : Stmt) (n : StatementNeed) : Type 0 where
-  pub temp : n.temp ≡ greatest predef_temp s
-  pub ctrl : n.ctrl ≡ greatest predef_ctrl s
+  pub temp : n.temp ≡ statement_temp s
+  pub ctrl : n.ctrl ≡ statement_ctrl s
   pub words : n.words ≡ capped (statement_words q s)
   pub low_temp : n.temp ≤ 4
-  pub low_ctrl : n.ctrl ≤ 7
+  pub low_ctrl : n.ctrl ≤ 10
 
 -- what was counted, and what this rest needs, make the need of the whole
 pub record HasMore (q : Program) (n : StatementNeed) (rest whole : Stmt) : Type 0 where
-  pub temp : max n.temp (greatest predef_temp rest) ≡ greatest predef_temp whole
-  pub ctrl : max n.ctrl (greatest predef_ctrl rest) ≡ greatest predef_ctrl whole
+  pub temp : max n.temp (statement_temp rest) ≡ statement_temp whole
+  pub ctrl : max n.ctrl (statement_ctrl rest) ≡ statement_ctrl whole
   pub words : capped (n.words + statement_words q rest) ≡ capped (statement_words q whole)
   pub small : n.words ≤ 2 ^ 60
   pub low_temp : n.temp ≤ 4
-  pub low_ctrl : n.ctrl ≤ 7
+  pub low_ctrl : n.ctrl ≤ 10
 
 -- the words so far, and those of the rest, are those of all
 pub record HasMoreWords (n rest whole : ℕ) : Type 0 where

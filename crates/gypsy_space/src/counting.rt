@@ -22,7 +22,10 @@ use std::rc::Rc;
 /// Sums are exact up to this number, 2^60, and stay there. No source that keeps the form comes so far.
 const MOST: u64 = 1 << 60;
 
-/// The greatest words of predefined calls on both stacks, and the words of code.
+/// The words of the temporary stack that a call compares before it has room.
+const CALL_TEMP: u64 = 2;
+
+/// The greatest words of calls on both stacks, those of callees apart, and the words of code.
 #[derive(Clone, Copy, Debug)]
 pub struct StatementNeed {
     pub temp: u64,
@@ -30,7 +33,7 @@ pub struct StatementNeed {
     pub words: u64,
 }
 
-/// What takes no predefined call, and these words of code.
+/// What has no call, and these words of code.
 fn plain_need(words: u64) -> StatementNeed
     ensures { result ≡ record { temp = 0; ctrl = 0; words = words } }
 {
@@ -63,6 +66,7 @@ fn predef_temp(which: Predef) -> u64
         | Predef::MgIntegerLe
         | Predef::MgIntegerAdd
         | Predef::MgIntegerSubtract
+        | Predef::MgIntegerMultiply
         | Predef::MgBooleanOr
         | Predef::MgBooleanAnd => 3,
         Predef::MgIndexArray | Predef::MgArrayElementAssignment => 4,
@@ -72,7 +76,7 @@ fn predef_temp(which: Predef) -> u64
 /// The frame of a predefined call.
 fn predef_ctrl(which: Predef) -> u64
     ensures exact { result ≡ predef_ctrl which }
-    ensures bounded { result ≤ 7 }
+    ensures bounded { result ≤ 10 }
 {
     match which {
         Predef::MgSimpleVariableAssignment
@@ -86,6 +90,7 @@ fn predef_ctrl(which: Predef) -> u64
         | Predef::MgBooleanAnd => 5,
         Predef::MgIntegerAdd | Predef::MgIntegerSubtract => 6,
         Predef::MgIndexArray | Predef::MgArrayElementAssignment => 7,
+        Predef::MgIntegerMultiply => 10,
     }
 }
 
@@ -94,7 +99,10 @@ fn predef_words(which: Predef) -> u64
     ensures { result ≡ predef_words which }
 {
     match which {
-        Predef::MgIntegerUnaryMinus | Predef::MgIntegerAdd | Predef::MgIntegerSubtract => 7,
+        Predef::MgIntegerUnaryMinus
+        | Predef::MgIntegerAdd
+        | Predef::MgIntegerSubtract
+        | Predef::MgIntegerMultiply => 7,
         Predef::MgIndexArray | Predef::MgArrayElementAssignment => 9,
         _ => 0,
     }
@@ -158,12 +166,12 @@ fn vars_of(program: &Program, procedure: u32) -> u64
 /// The words of code of a call.
 fn call_words(program: &Program, call: &CallSite) -> u64
     ensures { let callee = proc_at (seen_program program.now) call.now.callee in
-        result ≡ capped (2 * local_words callee + 4 * vars_of callee + 24 + 8 * length call.now.conds.items) }
+        result ≡ capped (2 * local_words callee + 4 * vars_of callee + 60 + 8 * length call.now.conds.items) }
 {
     let locals = local_words_of(program, call.callee);
     let vars = vars_of(program, call.callee);
     let conds = sum(call.conds.len() as u64, 0);
-    sum(sum(sum(2 * locals, 4 * vars), 24), 8 * conds)
+    sum(sum(sum(2 * locals, 4 * vars), 60), 8 * conds)
 }
 
 /// The need of two statements, and these words of code.
@@ -197,7 +205,11 @@ fn statement_need(program: &Program, node: &Rc<Node>) -> StatementNeed
             statement_need(program, body),
             statement_need(program, arm),
         ),
-        Node::Call(call) => plain_need(call_words(program, call)),
+        Node::Call(call) => StatementNeed {
+            temp: CALL_TEMP,
+            ctrl: 0,
+            words: call_words(program, call),
+        },
         Node::Apply(call) => StatementNeed {
             temp: predef_temp(call.which),
             ctrl: predef_ctrl(call.which),

@@ -27,10 +27,15 @@ pub enum CostEvent {
     JoinThen,
     JoinOne,
     GuardNormal,
+    /// A call without room on the temporary stack, where spaceerror is raised.
+    LackTemporary,
+    /// A call without room on the control stack alone, where spaceerror is raised.
+    LackControl,
+    /// A call with room.
     Call { callee: u32 },
     EndMain,
     EndProc,
-    /// A formal condition leaves a procedure.
+    /// A formal condition, or spaceerror, leaves a procedure.
     OutFormal,
     /// Another condition leaves a procedure.
     OutOther,
@@ -43,7 +48,7 @@ pub enum CostEvent {
 #[tactic(auto, unfolding(crate::specs::Events::predef_count, gypsy_syntax::specs::PredefinedCosts::predef_cost))]
 pub fn predef_count(which: Predef, outcome: Outcome) -> u64
     ensures count { result ≡ predef_count which outcome }
-    ensures bounded { result ≤ 69 }
+    ensures bounded { result ≤ 2599 }
 {
     match which {
         Predef::MgSimpleVariableAssignment => 28,
@@ -65,6 +70,10 @@ pub fn predef_count(which: Predef, outcome: Outcome) -> u64
             Outcome::Normal => 69,
             Outcome::Fault => 42,
             Outcome::Beyond => 55,
+        },
+        Predef::MgIntegerMultiply => match outcome {
+            Outcome::Normal => 2599,
+            Outcome::Fault | Outcome::Beyond => 2593,
         },
     }
 }

@@ -14,6 +14,6 @@ mod resolving;
 pub use counting::needs;
 pub use event::{CostEvent, Outcome};
 pub use laws::{calls_cost, room_is_room};
-pub use need::{Need, Needs};
+pub use need::{Lack, Need, Needs};
 pub use program::{Application, Argument, CallSite, Condition, Node, Procedure, Program};
 pub use resolving::resolve;

@@ -1,7 +1,7 @@
 //! The words that procedures need, and what their runs cost.
 
 ghost use Rattle.std.specs.Prelude.{◌≡◌, ◌^◌, ◌<◌};
-ghost use Rattle.gypsy_space.specs.Events.{AreSmall, has_room_by, event_count, need_at};
+ghost use Rattle.gypsy_space.specs.Events.{AreSmall, IsSmall, event_count, has_ctrl_room_by, has_room_by, has_temp_room_by, lack_by, need_at};
 ghost use Rattle.gypsy_space.specs.Needs.{stack_words};
 
 use crate::event::{CostEvent, predef_count};
@@ -9,7 +9,7 @@ use crate::event::{CostEvent, predef_count};
 /// What a procedure needs.
 #[derive(Clone, Copy, Debug, PartialEq, Eq)]
 pub struct Need {
-    /// The most words of the temporary stack that its predefined calls take, and at least 1.
+    /// The most words of the temporary stack that its calls take, those of their callees apart, and at least 1.
     pub temp: u64,
     /// The greatest frame of its predefined calls.
     pub ctrl: u64,
@@ -21,10 +21,40 @@ pub struct Need {
     pub code_words: u64,
 }
 
+impl Need {
+    /// Whether a call has room on a temporary stack of this size, with these words in use.
+    fn has_temp_room(self, size: u32, used: u64) -> bool
+        requires { IsSmall self }
+        ensures { result ≡ has_temp_room_by self size used }
+    {
+        let above = (self.locals_words + self.vars).max(self.locals_words + self.temp);
+        used.saturating_add(above) <= size as u64
+    }
+
+    /// Whether a call has room on a control stack of this size, with these words in use.
+    fn has_ctrl_room(self, size: u32, used: u64) -> bool
+        requires { IsSmall self }
+        ensures { result ≡ has_ctrl_room_by self size used }
+    {
+        let frame = 2 + self.vars + self.ctrl;
+        used.saturating_add(frame) <= size as u64
+    }
+}
+
 /// What each procedure of a source needs, in the order of the source.
 #[derive(Debug, Drop)]
 pub struct Needs {
     pub procedures: Vec<Need>,
+}
+
+/// Which stack lacks room for a call.
+#[derive(Clone, Copy, Debug, PartialEq, Eq)]
+pub enum Lack {
+    /// The call has room.
+    Nothing,
+    Temporary,
+    /// The control stack alone.
+    Control,
 }
 
 impl Needs {
@@ -52,10 +82,25 @@ impl Needs {
             result ≡ has_room_by need (stack_words temp ctrl) (stack_words used_temp used_ctrl) }
     {
         let need = self.need_of(callee);
-        let above = (need.locals_words + need.vars).max(need.locals_words + need.temp);
-        let frame = 2 + need.vars + need.ctrl;
-        used_temp.saturating_add(above) <= temp as u64
-            && used_ctrl.saturating_add(frame) <= ctrl as u64
+        need.has_temp_room(temp, used_temp) && need.has_ctrl_room(ctrl, used_ctrl)
+    }
+
+    /// Which stack lacks room for a call, with these words in use, on stacks of these sizes; the temporary one is looked
+    /// at first.
+    #[tactic(auto, unfolding(crate::specs::Events::lack_by))]
+    pub fn lack(&self, callee: u32, used_temp: u64, used_ctrl: u64, temp: u32, ctrl: u32) -> Lack
+        requires { AreSmall self.now.procedures.items }
+        ensures { let need = need_at self.now.procedures.items callee in
+            result ≡ lack_by need (stack_words temp ctrl) (stack_words used_temp used_ctrl) }
+    {
+        let need = self.need_of(callee);
+        if !need.has_temp_room(temp, used_temp) {
+            Lack::Temporary
+        } else if !need.has_ctrl_room(ctrl, used_ctrl) {
+            Lack::Control
+        } else {
+            Lack::Nothing
+        }
     }
 
     /// What a step costs, in instructions.
@@ -76,9 +121,11 @@ impl Needs {
             CostEvent::IfFalse => 9,
             CostEvent::ReturnRaised => 10,
             CostEvent::EndProc => 12,
+            CostEvent::LackTemporary => 15,
+            CostEvent::LackControl => 26,
             CostEvent::Call { callee } => {
                 let need = self.need_of(callee);
-                need.locals_words + 4 * need.vars + 4
+                22 + need.locals_words + 4 * need.vars + 4
             }
             CostEvent::Predef { which, outcome } => predef_count(which, outcome),
         }

@@ -104,6 +104,9 @@ fn condition(proc: &Proc, name: &Named) -> Condition
     if name.name.bytes() == b"routineerror".as_slice() {
         return Condition::Routine;
     }
+    if name.name.bytes() == b"spaceerror".as_slice() {
+        return Condition::Space;
+    }
     Condition::Declared(condition_place(proc, &name.name) as u32)
 }
 

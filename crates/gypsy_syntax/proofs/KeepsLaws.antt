@@ -302,6 +302,7 @@ keyword_run (word.Predef row.MgBooleanAnd) = (omega arith, refl)
 keyword_run (word.Predef row.MgBooleanNot) = (omega arith, refl)
 keyword_run (word.Predef row.MgIndexArray) = (omega arith, refl)
 keyword_run (word.Predef row.MgArrayElementAssignment) = (omega arith, refl)
+keyword_run (word.Predef row.MgIntegerMultiply) = (omega arith, refl)
 
 pub keyword_again : (k : Keyword) → keyword_named (keyword_name k) ≡ Some k
 unfolding keyword_name keywords
@@ -325,6 +326,7 @@ keyword_again (word.Predef row.MgBooleanAnd) = refl
 keyword_again (word.Predef row.MgBooleanNot) = refl
 keyword_again (word.Predef row.MgIndexArray) = refl
 keyword_again (word.Predef row.MgArrayElementAssignment) = refl
+keyword_again (word.Predef row.MgIntegerMultiply) = refl
 
 abbrev KeepsStmt : Node → StmtOf → Type 0
 KeepsStmt = Keeps statement_in stmt_tree unplaced_stmt

@@ -1,5 +1,5 @@
 -- What each predefined procedure does with the values of its arguments.
-use Rattle.std.specs.Prelude.{ℕ, ℤ, pos, negsuc, ◌+ℤ◌, ◌-ℤ◌, neg_ℤ, int_le, List, [], ◌∷◌, length, get_or, slice_set}
+use Rattle.std.specs.Prelude.{ℕ, ℤ, pos, negsuc, ◌+ℤ◌, ◌-ℤ◌, ◌*ℤ◌, neg_ℤ, int_le, List, [], ◌∷◌, length, get_or, slice_set}
 use Rattle.std.specs.Prelude.{Bool, not, ◌&&◌, ◌||◌, nat_lt, if◌then◌else◌}
 use Rattle.std.specs.Ordering.{int_eq}
 use Rattle.stack_text.specs.declared.shape.Kind.TheVariants.{Integer, Boolean}
@@ -72,6 +72,7 @@ effect_by row.MgBooleanAnd v = Normal (truth_value (is_true_value (v 1) && is_tr
 effect_by row.MgBooleanNot v = Normal (truth_value (not (is_true_value (v 1))))
 effect_by row.MgIndexArray v = indexed (v 1) (item_of_value (v 2))
 effect_by row.MgArrayElementAssignment v = stored (v 0) (item_of_value (v 1)) (item_of_value (v 2))
+effect_by row.MgIntegerMultiply v = number_effect (item_of_value (v 1) *ℤ item_of_value (v 2))
 
 -- on the values of all arguments, in their order
 unfoldable pub predef_effect : Predef → List ValueOf → Effect

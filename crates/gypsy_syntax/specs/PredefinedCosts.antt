@@ -26,6 +26,8 @@ predef_cost row.MgIndexArray Beyond = (55, 19)
 predef_cost row.MgArrayElementAssignment (Normal v) = (69, 24)
 predef_cost row.MgArrayElementAssignment Fault = (42, 15)
 predef_cost row.MgArrayElementAssignment Beyond = (55, 19)
+predef_cost row.MgIntegerMultiply (Normal v) = (2599, 927)
+predef_cost row.MgIntegerMultiply e = (2593, 926)
 
 -- words of the temporary stack
 abbrev pub predef_temp : Predef → ℕ
@@ -42,6 +44,7 @@ predef_temp row.MgBooleanAnd = 3
 predef_temp row.MgBooleanNot = 2
 predef_temp row.MgIndexArray = 4
 predef_temp row.MgArrayElementAssignment = 4
+predef_temp row.MgIntegerMultiply = 3
 
 -- words of the frame on the control stack
 abbrev pub predef_ctrl : Predef → ℕ
@@ -58,6 +61,7 @@ predef_ctrl row.MgBooleanAnd = 5
 predef_ctrl row.MgBooleanNot = 4
 predef_ctrl row.MgIndexArray = 7
 predef_ctrl row.MgArrayElementAssignment = 7
+predef_ctrl row.MgIntegerMultiply = 10
 
 -- words of code beside the pushes and the call itself: the array's length, and the test for a fault
 abbrev pub predef_words : Predef → ℕ
@@ -66,4 +70,5 @@ predef_words row.MgIntegerAdd = 7
 predef_words row.MgIntegerSubtract = 7
 predef_words row.MgIndexArray = 9
 predef_words row.MgArrayElementAssignment = 9
+predef_words row.MgIntegerMultiply = 7
 predef_words r = 0

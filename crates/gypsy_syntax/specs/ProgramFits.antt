@@ -10,7 +10,7 @@ use Rattle.gypsy_syntax.specs.declared.slot.Form.{Form}
 use Rattle.gypsy_syntax.specs.declared.slot.Form.TheVariants.{Simple, Array, Literal}
 use Rattle.gypsy_syntax.specs.declared.slot.Slot.{Slot}
 use Rattle.gypsy_syntax.specs.Predefined.{slots_of}
-use Rattle.gypsy_syntax.specs.Programs.{Cond, Leave, Routine, Declared, Arg, Var, Lit}
+use Rattle.gypsy_syntax.specs.Programs.{Cond, Leave, Routine, Space, Declared, Arg, Var, Lit}
 use Rattle.gypsy_syntax.specs.Programs.{Proc, Program, simple, proc_at, shapes_of, conds_of, words_of}
 use Rattle.gypsy_syntax.specs.Programs.{Stmt, Skip, NoOp, Signal, Seq, Loop, If, Begin, Call, Apply}
 
@@ -44,16 +44,18 @@ abbrev pub Each : {X : Type 0} → (X → Type 0) → List X → Type 0
 Each P [] = Unit {0}
 Each P (x ∷ xs) = P x × Each P xs
 
--- a condition that is raised, inside a loop or not, where so many are declared
+-- a condition that is signalled or given, inside a loop or not, where so many are declared: never spaceerror
 abbrev pub CondFits : Bool → ℕ → Cond → Type 0
 CondFits in_loop n Leave = in_loop ≡ true
 CondFits in_loop n Routine = Unit {0}
+CondFits in_loop n Space = ⊥
 CondFits in_loop n (Declared i) = i < n
 
 -- a condition that is handled
 abbrev pub HandlerFits : ℕ → Cond → Type 0
 HandlerFits n Leave = ⊥
 HandlerFits n Routine = Unit {0}
+HandlerFits n Space = Unit {0}
 HandlerFits n (Declared i) = i < n
 
 -- the data actuals are variables of the formals' shapes

@@ -207,7 +207,7 @@ fn form(alloc: Global, keyword: Keyword, place: u32, parts: &[Tree]) -> Result<S
     }
 }
 
-/// The statement that a tree is: M9 where it begins with none of the twenty words, M10 where it has a wrong number of
+/// The statement that a tree is: M9 where it begins with none of the twenty-one words, M10 where it has a wrong number of
 /// items.
 #[cycle(statements)]
 pub fn statement(alloc: Global, tree: &Tree) -> Result<Stmt, FormFault>
