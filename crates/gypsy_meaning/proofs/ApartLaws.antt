@@ -3,14 +3,16 @@ use Rattle.std.proofs.Common.{◌≡◌, ℕ, ◌+◌, List, [], ◌∷◌, slic
 use Rattle.stack_text.specs.Values.{ValueOf}
 use Rattle.gypsy_syntax.specs.declared.predef.Predef.{Predef}
 use Rattle.gypsy_syntax.specs.PredefinedCosts.{predef_cost}
-use Rattle.gypsy_syntax.specs.Programs.{Cond, Routine, Arg, Program, body_of}
+use Rattle.gypsy_syntax.specs.Programs.{Cond, Routine, Space, Arg, Program, body_of}
 use Rattle.gypsy_syntax.specs.Programs.{Stmt, Skip, NoOp, Signal, Seq, Loop, If, Begin, Call, Apply}
 use Rattle.gypsy_syntax.specs.Effects.{Effect, Normal, Fault, Beyond, predef_effect, value_at, is_true_value}
 use Rattle.gypsy_space.specs.Costs.{Tally, spend, start_tally, predef_spend, out_spend, main_spend}
-use Rattle.gypsy_space.specs.Needs.{Words, has_room, call_spend}
-use Rattle.gypsy_meaning.specs.Calls.{has_cond, is_leave, is_formal, matching, main_way, values_of, target_of, copied_in, copied_out, main_formals}
-use Rattle.gypsy_meaning.specs.Machine.{Item, Do, Back, JoinThen, JoinOne, Guard, Out, Frame, Held, State, At, Move, Next, Ended, Full}
-use Rattle.gypsy_meaning.specs.Machine.{open_on, settle, stop_if, raise, either_move, apply_step, used, full_or, do_step, end_step, out_step, gypsy_step}
+use Rattle.gypsy_space.specs.Needs.{Words, lack_of, call_spend}
+use Rattle.gypsy_space.specs.declared.need.Lack.{Lack}
+use Rattle.gypsy_space.specs.declared.need.Lack.TheVariants.{Nothing, Temporary, Control}
+use Rattle.gypsy_meaning.specs.Calls.{has_cond, is_leave, is_passed_on, matching, main_way, values_of, target_of, copied_in, copied_out, main_formals}
+use Rattle.gypsy_meaning.specs.Machine.{Item, Do, Back, JoinThen, JoinOne, Guard, Out, Frame, Held, State, At, Move, Next, Ended}
+use Rattle.gypsy_meaning.specs.Machine.{open_on, settle, stop_if, raise, either_move, apply_step, used, call_step, do_step, end_step, out_step, gypsy_step}
 
 -- both together
 abbrev pub plus : Tally → Tally → Tally
@@ -22,7 +24,6 @@ add t (At p x w fs u) = At p x w fs (plus t u)
 abbrev pub add_to : Tally → Move → Move
 add_to t (Next g) = Next (add t g)
 add_to t (Ended x c u) = Ended x c (plus t u)
-add_to t Full = Full
 
 pub plus-nothing : (t : Tally) → plus t start_tally ≡ t
 plus-nothing t = λ i. record { count = add-zero t.count i; steps = add-zero t.steps i }
@@ -88,9 +89,10 @@ module _ (t : Tally) where
   either_apart true a r a' r' e f = ap Next e
   either_apart false a r a' r' e f = ap Next f
 
-  full_apart : (b : Bool) (g h : State) → g ≡ add t h → full_or b g ≡ add_to t (full_or b h)
-  full_apart true g h e = ap Next e
-  full_apart false g h e = refl
+  called_apart : (q : Program) (l : Lack) (c : ℕ) (xs : List ℕ) (cs : List Cond) (p : ℕ) (x : List ValueOf) (w : List Item) (fs : List Frame) (u : Tally) → call_step q l c xs cs p x w fs (plus t u) ≡ add_to t (call_step q l c xs cs p x w fs u)
+  called_apart q Nothing c xs cs p x w fs u = next_apart c (copied_in q c xs x) (open_on (body_of q c) []) (Held p x w xs cs ∷ fs) (call_spend q c (plus t u)) (call_spend q c u) (call_apart q c t u)
+  called_apart q Temporary c xs cs p x w fs u = raised_apart Space p x w fs (spend 15 7 (plus t u)) (spend 15 7 u) (spend_apart 15 7 t u)
+  called_apart q Control c xs cs p x w fs u = raised_apart Space p x w fs (spend 26 11 (plus t u)) (spend 26 11 u) (spend_apart 26 11 t u)
 
   module _ (q : Program) (sizes : Words) where
     do_apart : (s : Stmt) (p : ℕ) (x : List ValueOf) (w : List Item) (fs : List Frame) (u : Tally) → do_step q sizes s p x w fs (plus t u) ≡ add_to t (do_step q sizes s p x w fs u)
@@ -104,9 +106,7 @@ module _ (t : Tally) where
         (at_apart p x (open_on s (JoinThen place v ∷ w)) fs (spend 8 3 (plus t u)) (spend 8 3 u) (spend_apart 8 3 t u))
         (at_apart p x (open_on v (JoinOne place ∷ w)) fs (spend 9 4 (plus t u)) (spend 9 4 u) (spend_apart 9 4 t u))
     do_apart (Begin place s cs v) p x w fs u = refl
-    do_apart (Call place c xs cs) p x w fs u =
-        full_apart (has_room q sizes c (used q p fs)) _ (At c (copied_in q c xs x) (open_on (body_of q c) []) (Held p x w xs cs ∷ fs) (call_spend q c u))
-        (at_apart c (copied_in q c xs x) (open_on (body_of q c) []) (Held p x w xs cs ∷ fs) (call_spend q c (plus t u)) (call_spend q c u) (call_apart q c t u))
+    do_apart (Call place c xs cs) p x w fs u = called_apart q (lack_of q sizes c (used q p fs)) c xs cs p x w fs u
     do_apart (Apply place r args) p x w fs u = apply_apart r args (predef_effect r (values_of x args)) p x w fs u
 
     end_apart : (p : ℕ) (y : List ValueOf) (fs : List Frame) (u : Tally) → end_step q p y fs (plus t u) ≡ add_to t (end_step q p y fs u)
@@ -114,9 +114,9 @@ module _ (t : Tally) where
     end_apart p y (Held c x w xs cs ∷ fs) u = next_apart c (copied_out xs y x) (settle w) fs (spend 12 6 (plus t u)) (spend 12 6 u) (spend_apart 12 6 t u)
 
     out_from_apart : (d : Cond) (p : ℕ) (y : List ValueOf) (fs : List Frame) (u : Tally) → out_step q d p y fs (plus t u) ≡ add_to t (out_step q d p y fs u)
-    out_from_apart d p y [] u = ap (Ended (main_formals q y) (Some (main_way q d))) (main_apart (is_formal q q.main d) t u)
+    out_from_apart d p y [] u = ap (Ended (main_formals q y) (Some (main_way q d))) (main_apart (is_passed_on q q.main d) t u)
     out_from_apart d p y (Held c x w xs cs ∷ fs) u =
-        raised_apart (matching q p cs d) c (copied_out xs y x) w fs (out_spend (is_formal q p d) (plus t u)) (out_spend (is_formal q p d) u) (out_apart (is_formal q p d) t u)
+        raised_apart (matching q p cs d) c (copied_out xs y x) w fs (out_spend (is_passed_on q p d) (plus t u)) (out_spend (is_passed_on q p d) u) (out_apart (is_passed_on q p d) t u)
 
     pub step_apart : (g : State) → gypsy_step q sizes (add t g) ≡ add_to t (gypsy_step q sizes g)
     step_apart (At p x [] fs u) = end_apart p x fs u

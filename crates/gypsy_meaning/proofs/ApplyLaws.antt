@@ -51,6 +51,7 @@ normal_cost row.MgBooleanAnd v = refl
 normal_cost row.MgBooleanNot v = refl
 normal_cost row.MgIndexArray v = refl
 normal_cost row.MgArrayElementAssignment v = refl
+normal_cost row.MgIntegerMultiply v = refl
 
 normal_spend : (r : Predef) (v : ValueOf) (t : Tally) → predef_spend r (Normal v) t ≡ predef_spend r (Normal no_value) t
 unfolding predef_spend

@@ -1,26 +1,28 @@
 -- The call of a procedure.
-use Rattle.std.proofs.Common.{◌≡◌, ℕ, ◌+◌, ◌^◌, ◌<◌, ◌≤◌, max, nat_le, List, [], ◌∷◌, length, map, Bool, true, false, refl, sym, ap, ap₂, ◌∙◌, subst, reverse, arith}
+use Rattle.std.proofs.Common.{◌≡◌, ℕ, ◌+◌, ◌^◌, ◌<◌, ◌≤◌, max, List, [], ◌∷◌, length, map, refl, sym, ap, ap₂, ◌∙◌, subst, reverse, arith}
 use Rattle.std.specs.declared.alloc.Global.{Global}
 use Rattle.std.specs.declared.rc.Rc.{Rc}
 use Rattle.std.specs.Global.{Vec}
-use Rattle.std.proofs.lemmas.Bool.{and_parts, leb-true}
+use Rattle.std.proofs.lemmas.Bool.{leb-true}
 use Rattle.std.proofs.lemmas.List.{reverse-append}
 use Rattle.stack_text.specs.Values.{ValueOf}
 use Rattle.stack_text.specs.declared.name.Name.{Name}
 use Rattle.stack_text.specs.declared.value.Value.{Value}
 use Rattle.gypsy_syntax.specs.Programs.{Program, body_of}
 use Rattle.gypsy_space.specs.Costs.{Tally, start_tally}
-use Rattle.gypsy_space.specs.Needs.{call_spend, has_room, stack_words, with_call}
+use Rattle.gypsy_space.specs.Needs.{call_spend, lack_of, stack_words, with_call}
 use Rattle.gypsy_space.specs.Nodes.{seen_cond, seen_program}
-use Rattle.gypsy_space.specs.Events.{AreNeeds, event_count, has_room_by, need_at, need_of}
+use Rattle.gypsy_space.specs.Events.{AreNeeds, event_count, has_ctrl_room_by, has_temp_room_by, lack_by, need_at, need_of}
 use Rattle.gypsy_space.specs.declared.event.CostEvent.TheVariants as event
+use Rattle.gypsy_space.specs.declared.need.Lack.{Lack}
+use Rattle.gypsy_space.specs.declared.need.Lack.TheVariants.{Nothing, Temporary, Control}
 use Rattle.gypsy_space.specs.declared.need.Need.{Need}
 use Rattle.gypsy_space.specs.declared.program.CallSite.{CallSite}
-use Rattle.gypsy_space.proofs.EventLaws.{call_table, room_same}
-use Rattle.gypsy_meaning.specs.Calling.{IsFull, Waits, call_top, with_words}
+use Rattle.gypsy_space.proofs.EventLaws.{call_table, lack_same}
+use Rattle.gypsy_meaning.specs.Calling.{RaisesSpace, Waits, call_top, with_words}
 use Rattle.gypsy_meaning.specs.Calls.{copied_in}
 use Rattle.gypsy_meaning.specs.Held.{AreActivations, IsHeld, Moves}
-use Rattle.gypsy_meaning.specs.Machine.{Item, At, Next, State, full_or, gypsy_step, open_on, used}
+use Rattle.gypsy_meaning.specs.Machine.{Item, At, Next, call_step, gypsy_step, open_on, used}
 use Rattle.gypsy_meaning.specs.Machine as machine
 use Rattle.gypsy_meaning.specs.Named.{variables_of}
 use Rattle.gypsy_meaning.specs.Running.{Goes, frames_of, sizes_of, state_of, paid}
@@ -31,6 +33,7 @@ use Rattle.gypsy_meaning.specs.declared.running.Frame.{Frame}
 use Rattle.gypsy_meaning.specs.declared.running.Meaning.{Meaning}
 use Rattle.gypsy_meaning.specs.declared.work.Work.{Work}
 use Rattle.gypsy_meaning.proofs.ReturningLaws.{frames_of-push, same_state}
+use Rattle.gypsy_meaning.proofs.Rooms.{rooms}
 
 module _ (m : Meaning) (ns : List Need) (site : CallSite) (below : List Item) (needs : AreNeeds (seen_program m.program) ns) (there : site.callee < length (seen_program m.program).procs)
     (turn : work_of m.work.value ≡ call_top site ∷ below) (counts : used (seen_program m.program) m.procedure (frames_of m.waiting.items) ≡ stack_words m.used_temp m.used_ctrl) where
@@ -40,32 +43,31 @@ module _ (m : Meaning) (ns : List Need) (site : CallSite) (below : List Item) (n
   abbrev x : List ValueOf
   x = map (λ v. v.1) m.variables.items
 
-  -- the callee's activation
-  abbrev entered : State
-  entered =
-      At site.callee (copied_in q site.callee site.actuals.items x) (open_on (body_of q site.callee) [])
-      (machine.Held m.procedure x below site.actuals.items (map seen_cond site.conds.items) ∷ frames_of m.waiting.items) (call_spend q site.callee start_tally)
+  pub lack_is : lack_of q (sizes_of m) site.callee (used q m.procedure (frames_of m.waiting.items)) ≡ lack_by (need_at ns site.callee) (sizes_of m) (stack_words m.used_temp m.used_ctrl)
+  lack_is =
+      ap (lack_of q (sizes_of m) site.callee) counts
+      ∙ lack_same q (sizes_of m) site.callee (stack_words m.used_temp m.used_ctrl)
+      ∙ ap (λ (n : Need). lack_by n (sizes_of m) (stack_words m.used_temp m.used_ctrl)) (sym (needs.each site.callee there))
 
-  pub room_is : has_room q (sizes_of m) site.callee (used q m.procedure (frames_of m.waiting.items)) ≡ has_room_by (need_at ns site.callee) (sizes_of m) (stack_words m.used_temp m.used_ctrl)
-  room_is =
-      ap (has_room q (sizes_of m) site.callee) counts
-      ∙ room_same q (sizes_of m) site.callee (stack_words m.used_temp m.used_ctrl)
-      ∙ ap (λ (n : Need). has_room_by n (sizes_of m) (stack_words m.used_temp m.used_ctrl)) (sym (needs.each site.callee there))
-
-  pub call_step : (b : Bool) → has_room_by (need_at ns site.callee) (sizes_of m) (stack_words m.used_temp m.used_ctrl) ≡ b → gypsy_step q (sizes_of m) (state_of m) ≡ full_or b entered
-  call_step b h =
+  -- the step by what the call lacks
+  pub call_steps : (l : Lack) → lack_by (need_at ns site.callee) (sizes_of m) (stack_words m.used_temp m.used_ctrl) ≡ l →
+      gypsy_step q (sizes_of m) (state_of m) ≡ call_step q l site.callee site.actuals.items (map seen_cond site.conds.items) m.procedure x below (frames_of m.waiting.items) start_tally
+  call_steps l h =
       ap (λ (w : List Item). gypsy_step q (sizes_of m) (At m.procedure x w (frames_of m.waiting.items) start_tally)) turn
-      ∙ ap (λ (c : Bool). full_or c entered) (room_is ∙ h)
+      ∙ ap (λ (k : Lack). call_step q k site.callee site.actuals.items (map seen_cond site.conds.items) m.procedure x below (frames_of m.waiting.items) start_tally) (lack_is ∙ h)
 
-  pub is_full : has_room_by (need_at ns site.callee) (sizes_of m) (stack_words m.used_temp m.used_ctrl) ≡ false → IsFull m
-  is_full h = call_step false h
+  pub lacks_temporary : lack_by (need_at ns site.callee) (sizes_of m) (stack_words m.used_temp m.used_ctrl) ≡ Temporary → RaisesSpace m below event.LackTemporary
+  lacks_temporary h = call_steps Temporary h
+
+  pub lacks_control : lack_by (need_at ns site.callee) (sizes_of m) (stack_words m.used_temp m.used_ctrl) ≡ Control → RaisesSpace m below event.LackControl
+  lacks_control h = call_steps Control h
 
 -- the state after the step, from the one in which the caller waits
 abbrev pub after_call : List Need → ℕ → Rc Work Global → Meaning → Meaning
 after_call ns callee w a = paid (event_count ns (event.Call callee)) (with_words (need_at ns callee) (record a { procedure = callee; work = w }))
 
 module _ (m a : Meaning) (ns : List Need) (site : Rc CallSite Global) (below w : Rc Work Global) (vars : Vec (Name × Value)) (needs : AreNeeds (seen_program m.program) ns) (there : site.value.callee < length (seen_program m.program).procs)
-    (turn : work_of m.work.value ≡ call_top site.value ∷ work_of below.value) (held : IsHeld m) (room : has_room_by (need_at ns site.value.callee) (sizes_of m) (stack_words m.used_temp m.used_ctrl) ≡ true)
+    (turn : work_of m.work.value ≡ call_top site.value ∷ work_of below.value) (held : IsHeld m) (room : lack_by (need_at ns site.value.callee) (sizes_of m) (stack_words m.used_temp m.used_ctrl) ≡ Nothing)
     (values : map (λ v. v.1) vars.items ≡ copied_in (seen_program m.program) site.value.callee site.value.actuals.items (map (λ v. v.1) m.variables.items))
     (named : map (λ v. v.0) vars.items ≡ variables_of m.names.items site.value.callee)
     (body : work_of w.value ≡ open_on (body_of (seen_program m.program) site.value.callee) []) (waits : Waits m vars below site a) where
@@ -91,7 +93,7 @@ module _ (m a : Meaning) (ns : List Need) (site : Rc CallSite Global) (below w :
       let cost : event_count ns (event.Call c) ≡ u.count = omega (arith, spent) in
       let held_values : map (λ v. v.1) a.variables.items ≡ map (λ v. v.1) vars.items = ap (λ (k : Meaning). map (λ v. v.1) k.variables.items) waits.others in (
         u,
-        call_step m ns site.value (work_of below.value) needs there turn held.top.used_words true room
+        call_steps m ns site.value (work_of below.value) needs there turn held.top.used_words Nothing room
             ∙ same_state c c (copied_in r c site.value.actuals.items (map (λ v. v.1) m.variables.items)) (map (λ v. v.1) a.variables.items) (open_on (body_of r c) []) (work_of w.value)
             (machine.Held m.procedure (map (λ v. v.1) m.variables.items) (work_of below.value) site.value.actuals.items (map seen_cond site.value.conds.items) ∷ frames_of m.waiting.items) (frames_of a.waiting.items) u
             refl (sym values ∙ sym held_values) (sym body) (sym frames_are),
@@ -99,12 +101,12 @@ module _ (m a : Meaning) (ns : List Need) (site : Rc CallSite Global) (below w :
       )
 
   enter_uses : m.temp < 2 ^ 32 → m.ctrl < 2 ^ 32 → used (seen_program a.program) site.value.callee (frames_of a.waiting.items) ≡ stack_words after.used_temp after.used_ctrl
-  unfolding has_room_by with_call
+  unfolding lack_by with_call
   enter_uses lt_temp lt_ctrl =
       let n = need_at ns site.value.callee in
       let c = site.value.callee in
       let r = seen_program m.program in
-      let parts = and_parts (nat_le (m.used_temp + max (n.locals_words + n.vars) (n.locals_words + n.temp)) m.temp) (nat_le (m.used_ctrl + (2 + n.vars + n.ctrl)) m.ctrl) room in
+      let parts = rooms (has_temp_room_by n m.temp m.used_temp) (has_ctrl_room_by n m.ctrl m.used_ctrl) room in
       let temp : m.used_temp + max (n.locals_words + n.vars) (n.locals_words + n.temp) ≤ m.temp = leb-true _ _ parts.0 in
       let ctrl : m.used_ctrl + (2 + n.vars + n.ctrl) ≤ m.ctrl = leb-true _ _ parts.1 in
       let same_temp : a.used_temp ≡ m.used_temp = ap (λ (k : Meaning). k.used_temp) waits.others in

@@ -1,15 +1,16 @@
 -- Counting changes no meaning.
-use Rattle.std.proofs.Common.{◌≡◌, ℕ, zero, suc, List, Bool, true, false, Some, None, refl, ap, ◌∙◌}
+use Rattle.std.proofs.Common.{◌≡◌, ℕ, zero, suc, List, Bool, true, false, not, ◌&&◌, if◌then◌else◌, Some, None, refl, ap, ◌∙◌}
 use Rattle.stack_text.specs.Values.{ValueOf}
 use Rattle.gypsy_syntax.specs.declared.predef.Predef.{Predef}
 use Rattle.gypsy_syntax.specs.Programs.{Cond, Arg, Program, body_of}
 use Rattle.gypsy_syntax.specs.Programs.{Stmt, Skip, NoOp, Signal, Seq, Loop, If, Begin, Call, Apply}
 use Rattle.gypsy_syntax.specs.Effects.{Effect, Normal, Fault, Beyond, predef_effect, value_at, is_true_value}
 use Rattle.gypsy_space.specs.Costs.{Tally, spend, start_tally}
-use Rattle.gypsy_space.specs.Needs.{Words, main_used, with_call, has_room, call_spend}
+use Rattle.gypsy_space.specs.Needs.{Words, main_used, with_call, has_temp_room, has_ctrl_room, has_room, lack_of, call_spend}
+use Rattle.gypsy_space.specs.declared.need.Lack.TheVariants.{Nothing, Temporary, Control}
 use Rattle.gypsy_meaning.specs.Calls.{has_cond, is_leave, values_of, copied_in, main_start}
 use Rattle.gypsy_meaning.specs.Meaning.{Outcome, then_do, either_way, caught, round_end, applied, returned, if_room, evaluate, main_end, meaning}
-use Rattle.gypsy_meaning.specs.Counted.{CountedOutcome, CountedDone, CountedUnfinished, CountedNoRoom, counted_then, counted_part, counted_either, counted_caught, counted_round_end, counted_applied, counted_returned, counted_if_room, counted_evaluate, counted_main_end, counted_meaning, uncounted}
+use Rattle.gypsy_meaning.specs.Counted.{CountedOutcome, CountedDone, CountedUnfinished, counted_then, counted_part, counted_either, counted_caught, counted_round_end, counted_applied, counted_returned, counted_if_room, counted_evaluate, counted_main_end, counted_meaning, uncounted}
 
 either-uncounted : (b : Bool) (o r : CountedOutcome) → uncounted (counted_either b o r) ≡ either_way b (uncounted o) (uncounted r)
 either-uncounted true o r = refl
@@ -19,13 +20,11 @@ part-uncounted : (o : CountedOutcome) (pay : Tally → Tally) → uncounted (cou
 part-uncounted (CountedDone x None t) pay = refl
 part-uncounted (CountedDone x (Some c) t) pay = refl
 part-uncounted CountedUnfinished pay = refl
-part-uncounted CountedNoRoom pay = refl
 
 then-uncounted : (o : CountedOutcome) (go : List ValueOf → Tally → CountedOutcome) (next : List ValueOf → Outcome) → ((x : List ValueOf) (t : Tally) → uncounted (go x t) ≡ next x) → uncounted (counted_then o go) ≡ then_do (uncounted o) next
 then-uncounted (CountedDone x None t) go next e = e x t
 then-uncounted (CountedDone x (Some c) t) go next e = refl
 then-uncounted CountedUnfinished go next e = refl
-then-uncounted CountedNoRoom go next e = refl
 
 caught-uncounted : (o : CountedOutcome) (cs : List Cond) (go : List ValueOf → Tally → CountedOutcome) (arm : List ValueOf → Outcome) → ((x : List ValueOf) (t : Tally) → uncounted (go x t) ≡ arm x) →
     uncounted (counted_caught o cs go) ≡ caught (uncounted o) cs arm
@@ -34,13 +33,11 @@ caught-uncounted (CountedDone x (Some c) t) cs go arm e =
     either-uncounted (has_cond c cs) (counted_part (go x (spend 3 2 t)) (spend 1 1)) (CountedDone x (Some c) t)
     ∙ ap (λ (o : Outcome). either_way (has_cond c cs) o (uncounted (CountedDone x (Some c) t))) (part-uncounted (go x (spend 3 2 t)) (spend 1 1) ∙ e x (spend 3 2 t))
 caught-uncounted CountedUnfinished cs go arm e = refl
-caught-uncounted CountedNoRoom cs go arm e = refl
 
 round-uncounted : (o : CountedOutcome) (go : List ValueOf → Tally → CountedOutcome) (again : List ValueOf → Outcome) → ((x : List ValueOf) (t : Tally) → uncounted (go x t) ≡ again x) → uncounted (counted_round_end o go) ≡ round_end (uncounted o) again
 round-uncounted (CountedDone x None t) go again e = e x (spend 1 1 t)
 round-uncounted (CountedDone x (Some c) t) go again e = either-uncounted (is_leave c) (CountedDone x None (spend 3 2 t)) (CountedDone x (Some c) t)
 round-uncounted CountedUnfinished go again e = refl
-round-uncounted CountedNoRoom go again e = refl
 
 applied-uncounted : (r : Predef) (args : List Arg) (e : Effect) (x : List ValueOf) (t : Tally) → uncounted (counted_applied r args e x t) ≡ applied args e x
 applied-uncounted r args (Normal v) x t = refl
@@ -51,11 +48,15 @@ returned-uncounted : (q : Program) (p : ℕ) (xs : List ℕ) (cs : List Cond) (x
 returned-uncounted q p xs cs x (CountedDone y None t) = refl
 returned-uncounted q p xs cs x (CountedDone y (Some c) t) = refl
 returned-uncounted q p xs cs x CountedUnfinished = refl
-returned-uncounted q p xs cs x CountedNoRoom = refl
 
-room-uncounted : (b : Bool) (o : CountedOutcome) → uncounted (counted_if_room b o) ≡ if_room b (uncounted o)
-room-uncounted true o = refl
-room-uncounted false o = refl
+rooms-uncounted : (temp ctrl : Bool) (x : List ValueOf) (t : Tally) (o : CountedOutcome) → uncounted (counted_if_room (if not temp then Temporary else if not ctrl then Control else Nothing) x t o) ≡ if_room (temp && ctrl) x (uncounted o)
+rooms-uncounted true true x t o = refl
+rooms-uncounted true false x t o = refl
+rooms-uncounted false ctrl x t o = refl
+
+room-uncounted : (q : Program) (sizes : Words) (p : ℕ) (u : Words) (x : List ValueOf) (t : Tally) (o : CountedOutcome) → uncounted (counted_if_room (lack_of q sizes p u) x t o) ≡ if_room (has_room q sizes p u) x (uncounted o)
+unfolding lack_of has_room
+room-uncounted q sizes p u x t o = rooms-uncounted (has_temp_room q sizes p u) (has_ctrl_room q sizes p u) x t o
 
 evaluate-uncounted : (q : Program) (sizes : Words) (n : ℕ) (s : Stmt) (u : Words) (x : List ValueOf) (t : Tally) → uncounted (counted_evaluate q sizes n s u x t) ≡ evaluate q sizes n s u x
 evaluate-uncounted q sizes zero s u x t = refl
@@ -79,8 +80,8 @@ evaluate-uncounted q sizes (suc n) (Begin place s cs w) u x t =
     ∙ ap (λ (o : Outcome). caught o cs (evaluate q sizes (suc n) w u)) (evaluate-uncounted q sizes (suc n) s u x t)
 evaluate-uncounted q sizes (suc n) (Call place p xs cs) u x t =
     let inner = counted_evaluate q sizes n (body_of q p) (with_call q p u) (copied_in q p xs x) (call_spend q p t) in
-    room-uncounted (has_room q sizes p u) (counted_returned q p xs cs x inner)
-    ∙ ap (if_room (has_room q sizes p u))
+    room-uncounted q sizes p u x t (counted_returned q p xs cs x inner)
+    ∙ ap (if_room (has_room q sizes p u) x)
     (returned-uncounted q p xs cs x inner ∙ ap (returned q p xs cs x) (evaluate-uncounted q sizes n (body_of q p) (with_call q p u) (copied_in q p xs x) (call_spend q p t)))
 evaluate-uncounted q sizes (suc n) (Apply place r args) u x t = applied-uncounted r args (predef_effect r (values_of x args)) x t
 
@@ -88,7 +89,6 @@ main-uncounted : (q : Program) (o : CountedOutcome) → uncounted (counted_main_
 main-uncounted q (CountedDone x None t) = refl
 main-uncounted q (CountedDone x (Some c) t) = refl
 main-uncounted q CountedUnfinished = refl
-main-uncounted q CountedNoRoom = refl
 
 pub meaning-uncounted : (q : Program) (sizes : Words) (v : List ValueOf) (n : ℕ) → uncounted (counted_meaning q sizes v n) ≡ meaning q sizes v n
 meaning-uncounted q sizes v n =

@@ -1,5 +1,5 @@
 -- What a predefined procedure writes has the shape of its first argument.
-use Rattle.std.proofs.Common.{◌≡◌, ℕ, zero, suc, ◌<◌, ℤ, pos, negsuc, ◌+ℤ◌, ◌-ℤ◌, neg_ℤ, List, [], ◌∷◌, map, length, get_or, slice_get, slice_set, nat_lt, if◌then◌else◌}
+use Rattle.std.proofs.Common.{◌≡◌, ℕ, zero, suc, ◌<◌, ℤ, pos, negsuc, ◌+ℤ◌, ◌-ℤ◌, ◌*ℤ◌, neg_ℤ, List, [], ◌∷◌, map, length, get_or, slice_get, slice_set, nat_lt, if◌then◌else◌}
 use Rattle.std.proofs.Common.{Bool, true, false, Some, refl, ap, sym, ◌∙◌, subst, arith, true≢false, ltb-true, length-set}
 use Rattle.std.specs.List.{list_all}
 use Rattle.std.proofs.lemmas.Bool.{and_parts, and_from}
@@ -181,6 +181,8 @@ effect_fits row.MgIntegerAdd k vs h =
     number_of k (integer_slot ∷ integer_slot ∷ []) vs (item_of_value (value_at vs 1) +ℤ item_of_value (value_at vs 2)) h
 effect_fits row.MgIntegerSubtract k vs h =
     number_of k (integer_slot ∷ integer_slot ∷ []) vs (item_of_value (value_at vs 1) -ℤ item_of_value (value_at vs 2)) h
+effect_fits row.MgIntegerMultiply k vs h =
+    number_of k (integer_slot ∷ integer_slot ∷ []) vs (item_of_value (value_at vs 1) *ℤ item_of_value (value_at vs 2)) h
 effect_fits row.MgBooleanOr k vs h = truth_effect k boolean_slot (boolean_slot ∷ boolean_slot ∷ []) vs _ h
 effect_fits row.MgBooleanAnd k vs h = truth_effect k boolean_slot (boolean_slot ∷ boolean_slot ∷ []) vs _ h
 effect_fits row.MgBooleanNot k vs h = truth_effect k boolean_slot (boolean_slot ∷ []) vs _ h
@@ -233,6 +235,7 @@ first_slot row.MgBooleanAnd = (boolean_slot, boolean_slot ∷ boolean_slot ∷ [
 first_slot row.MgBooleanNot = (boolean_slot, boolean_slot ∷ [], refl, refl)
 first_slot row.MgIndexArray = (shared Simple, shared Array ∷ integer_slot ∷ [], refl, refl)
 first_slot row.MgArrayElementAssignment = (shared Array, integer_slot ∷ shared Simple ∷ [], refl, refl)
+first_slot row.MgIntegerMultiply = (integer_slot, integer_slot ∷ integer_slot ∷ [], refl, refl)
 
 -- a predefined call keeps the variables' shapes
 pub apply_fits : (shapes : List Shape) (x : List ValueOf) (k : Kind) (r : Predef) (args : List Arg) (v : ValueOf) → VarsFit shapes x → ArgsFit shapes k (slots_of r) args → predef_effect r (values_of x args) ≡ Normal v → VarsFit shapes (slice_set x (target_of args) v)

@@ -11,7 +11,7 @@ use Rattle.gypsy_space.specs.Events.{event_count}
 use Rattle.gypsy_space.specs.declared.event.CostEvent.TheVariants as event
 use Rattle.gypsy_space.specs.declared.need.Need.{Need}
 use Rattle.gypsy_space.specs.declared.program.Condition.{Condition}
-use Rattle.gypsy_meaning.specs.Calls.{is_formal, main_formals, main_way}
+use Rattle.gypsy_meaning.specs.Calls.{is_passed_on, main_formals, main_way}
 use Rattle.gypsy_meaning.specs.Finishing.{IsFinished, end_price}
 use Rattle.gypsy_meaning.specs.Held.{EndsRun, Keeps}
 use Rattle.gypsy_meaning.specs.Machine.{Item, Out, At, Ended, gypsy_step}
@@ -68,18 +68,18 @@ end_finishes ns m n nothing alone f =
     (ap (λ (w : List Item). gypsy_step q (sizes_of m) (At m.procedure x w (frames_of m.waiting.items) start_tally)) nothing
     ∙ ap (λ (fs : List machine.Frame). gypsy_step q (sizes_of m) (At m.procedure x [] fs start_tally)) (ap frames_of alone))
 
-price_is : (formal : Bool) → (main_spend formal start_tally).count ≡ end_price formal
+price_is : (passed : Bool) → (main_spend passed start_tally).count ≡ end_price passed
 unfolding spend main_spend
 price_is true = refl
 price_is false = refl
 
 pub leave_finishes : (m n : Meaning) (c d : Condition) (below : List Item) → work_of m.work.value ≡ Out (seen_cond c) ∷ below → m.waiting.items ≡ [] → seen_cond d ≡ main_way (seen_program m.program) (seen_cond c) →
-    IsFinished (ending.Raised d) (end_price (is_formal (seen_program m.program) m.program.main (seen_cond c))) m n → EndsRun m n
+    IsFinished (ending.Raised d) (end_price (is_passed_on (seen_program m.program) m.program.main (seen_cond c))) m n → EndsRun m n
 leave_finishes m n c d below out alone way f =
     let q = seen_program m.program in
     let x = map (λ v. v.1) m.variables.items in
-    let formal = is_formal q q.main (seen_cond c) in
-    finishes (ending.Raised d) (end_price formal) m n (main_spend formal start_tally) alone f (price_is formal)
+    let passed = is_passed_on q q.main (seen_cond c) in
+    finishes (ending.Raised d) (end_price passed) m n (main_spend passed start_tally) alone f (price_is passed)
     (ap (λ (w : List Item). gypsy_step q (sizes_of m) (At m.procedure x w (frames_of m.waiting.items) start_tally)) out
     ∙ ap (λ (fs : List machine.Frame). gypsy_step q (sizes_of m) (At m.procedure x (Out (seen_cond c) ∷ below) fs start_tally)) (ap frames_of alone)
-    ∙ ap (λ (k : Cond). Ended (main_formals q x) (Some k) (main_spend formal start_tally)) (sym way))
+    ∙ ap (λ (k : Cond). Ended (main_formals q x) (Some k) (main_spend passed start_tally)) (sym way))

@@ -4,15 +4,17 @@ use Rattle.std.proofs.Common.{Bool, true, false, Some, refl, ap, sym, ◌∙◌,
 use Rattle.stack_text.specs.declared.shape.Shape.{Shape}
 use Rattle.stack_text.specs.Values.{ValueOf}
 use Rattle.gypsy_syntax.specs.declared.predef.Predef.{Predef}
-use Rattle.gypsy_syntax.specs.Programs.{Cond, Leave, Routine, Declared, Arg, Proc, Program, proc_at, body_of, shapes_of, conds_of}
+use Rattle.gypsy_syntax.specs.Programs.{Cond, Leave, Routine, Space, Declared, Arg, Proc, Program, proc_at, body_of, shapes_of, conds_of}
 use Rattle.gypsy_syntax.specs.Programs.{Stmt, Skip, NoOp, Signal, Seq, Loop, If, Begin, Call, Apply}
 use Rattle.gypsy_syntax.specs.ProgramFits.{ValueFits, Each, CondFits, ActualsFit, CallFits, StmtFits, ProgramFits}
 use Rattle.gypsy_syntax.specs.Effects.{Effect, Normal, Fault, Beyond, predef_effect, value_at, is_true_value}
 use Rattle.gypsy_space.specs.Costs.{Tally, spend, predef_spend, out_spend}
-use Rattle.gypsy_space.specs.Needs.{Words, has_room, call_spend}
-use Rattle.gypsy_meaning.specs.Calls.{has_cond, is_formal, matching, main_way, values_of, copied_in, copied_out, main_start, main_formals}
-use Rattle.gypsy_meaning.specs.Machine.{Item, Do, Back, JoinThen, JoinOne, Guard, Out, Frame, Held, State, At, Next, opens, open_on, settle, stop_if, raise, either_move, apply_step, used, full_or, do_step, end_step, out_step, gypsy_step, start}
-use Rattle.gypsy_meaning.specs.Kept.{VarsFit, in_loop, WorkFits, FramesFit, StateFits, EndFits, MoveFits}
+use Rattle.gypsy_space.specs.Needs.{Words, lack_of}
+use Rattle.gypsy_space.specs.declared.need.Lack.{Lack}
+use Rattle.gypsy_space.specs.declared.need.Lack.TheVariants.{Nothing, Temporary, Control}
+use Rattle.gypsy_meaning.specs.Calls.{has_cond, is_passed_on, matching, main_way, values_of, copied_in, copied_out, main_start, main_formals}
+use Rattle.gypsy_meaning.specs.Machine.{Item, Do, Back, JoinThen, JoinOne, Guard, Out, Frame, Held, State, At, Next, opens, open_on, settle, stop_if, raise, either_move, apply_step, used, call_step, do_step, end_step, out_step, gypsy_step, start}
+use Rattle.gypsy_meaning.specs.Kept.{VarsFit, in_loop, RaisedFits, WorkFits, FramesFit, StateFits, EndFits, MoveFits}
 use Rattle.gypsy_meaning.proofs.EffectLaws.{value_fits, set_fits, apply_fits}
 
 -- Variables.
@@ -50,25 +52,34 @@ front_fits (s ∷ formals) rest (v ∷ x) h = (h.0, h.1, front_fits formals rest
 
 -- Conditions.
 
-each_or : (P : Cond → Type 0) (cs : List Cond) (i : ℕ) → P Routine → Each P cs → P (get_or cs i Routine)
-each_or P [] i r h = r
-each_or P (c ∷ cs) zero r h = h.0
-each_or P (c ∷ cs) (suc i) r h = each_or P cs i r h.1
+-- what a statement may raise is raised
+raised_of : (b : Bool) (n : ℕ) (c : Cond) → CondFits b n c → RaisedFits b n c
+raised_of b n Leave h = h
+raised_of b n Routine h = h
+raised_of b n Space h = absurd h
+raised_of b n (Declared i) h = h
 
-matched : (q : Program) (p : ℕ) (b : Bool) (n : ℕ) (cs : List Cond) (d : Cond) → Each (CondFits b n) cs → CondFits b n (matching q p cs d)
+actual_raised : (b : Bool) (n : ℕ) (cs : List Cond) (i : ℕ) → Each (CondFits b n) cs → RaisedFits b n (get_or cs i Routine)
+actual_raised b n [] i h = tt
+actual_raised b n (c ∷ cs) zero h = raised_of b n c h.0
+actual_raised b n (c ∷ cs) (suc i) h = actual_raised b n cs i h.1
+
+matched : (q : Program) (p : ℕ) (b : Bool) (n : ℕ) (cs : List Cond) (d : Cond) → Each (CondFits b n) cs → RaisedFits b n (matching q p cs d)
 unfolding matching
 matched q p b n cs Leave h = tt
 matched q p b n cs Routine h = tt
+matched q p b n cs Space h = tt
 matched q p b n cs (Declared i) h = pick (nat_lt i (proc_at q p).conds)
   where
-    pick : (t : Bool) → CondFits b n (if t then get_or cs i Routine else Routine)
-    pick true = each_or (CondFits b n) cs i tt h
+    pick : (t : Bool) → RaisedFits b n (if t then get_or cs i Routine else Routine)
+    pick true = actual_raised b n cs i h
     pick false = tt
 
 main_ends : (q : Program) (d : Cond) → EndFits q (Some (main_way q d))
-unfolding main_way is_formal
+unfolding main_way is_passed_on
 main_ends q Leave = tt
 main_ends q Routine = tt
+main_ends q Space = tt
 main_ends q (Declared i) = pick (nat_lt i (proc_at q q.main).conds) refl
   where
     pick : (t : Bool) → nat_lt i (proc_at q q.main).conds ≡ t → EndFits q (Some (if t then Declared i else Routine))
@@ -102,11 +113,12 @@ module _ (q : Program) (sizes : Words) (fits : ProgramFits q) where
   open_fits : (p : Proc) (s : Stmt) (w : List Item) → StmtFits q (shapes_of p) (conds_of p) (in_loop w) s → WorkFits q p w → WorkFits q p (open_on s w)
   open_fits p s w f h = opens_fits p s w (settle w) f h (settle_fits p w h)
 
-  raise_fits : (c : Cond) (p : ℕ) (x : List ValueOf) (w : List Item) (fs : List Frame) (t : Tally) → CondFits (in_loop w) (conds_of (proc_at q p)) c → VarsFit (shapes_of (proc_at q p)) x → WorkFits q (proc_at q p) w → FramesFit q p fs → StateFits q (raise c p x w fs t)
+  raise_fits : (c : Cond) (p : ℕ) (x : List ValueOf) (w : List Item) (fs : List Frame) (t : Tally) → RaisedFits (in_loop w) (conds_of (proc_at q p)) c → VarsFit (shapes_of (proc_at q p)) x → WorkFits q (proc_at q p) w → FramesFit q p fs → StateFits q (raise c p x w fs t)
   raise_fits c p x [] fs t f v h g = (v, (f, refl), g)
   raise_fits c p x (Do s ∷ w) fs t f v h g = raise_fits c p x w fs t f v h.1 g
   raise_fits Leave p x (Back place s ∷ w) fs t f v h g = (v, settle_fits (proc_at q p) w h.1, g)
   raise_fits Routine p x (Back place s ∷ w) fs t f v h g = raise_fits Routine p x w fs t tt v h.1 g
+  raise_fits Space p x (Back place s ∷ w) fs t f v h g = raise_fits Space p x w fs t tt v h.1 g
   raise_fits (Declared i) p x (Back place s ∷ w) fs t f v h g = raise_fits (Declared i) p x w fs t f v h.1 g
   raise_fits c p x (JoinThen place u ∷ w) fs t f v h g = raise_fits c p x w fs t f v h g
   raise_fits c p x (JoinOne place ∷ w) fs t f v h g = raise_fits c p x w fs t f v h g
@@ -131,15 +143,16 @@ module _ (q : Program) (sizes : Words) (fits : ProgramFits q) where
       let c = proc_at q p in
       vars_join c.formals (map (λ (u : ValueOf). u.shape) c.locals) (map (value_at x) xs) c.locals (actuals_copied shapes c.formals xs x f v) (locals_fit c.locals (fits.procs p).locals)
 
-  call_keeps : (b : Bool) (place c : ℕ) (xs : List ℕ) (cs : List Cond) (p : ℕ) (x : List ValueOf) (w : List Item) (fs : List Frame) (t : Tally) → CallFits q (shapes_of (proc_at q p)) (conds_of (proc_at q p)) (in_loop w) c xs cs → VarsFit (shapes_of (proc_at q p)) x → WorkFits q (proc_at q p) w → FramesFit q p fs → MoveFits q (full_or b (At c (copied_in q c xs x) (open_on (body_of q c) []) (Held p x w xs cs ∷ fs) (call_spend q c t)))
-  call_keeps true place c xs cs p x w fs t f v h g =
+  call_keeps : (l : Lack) (c : ℕ) (xs : List ℕ) (cs : List Cond) (p : ℕ) (x : List ValueOf) (w : List Item) (fs : List Frame) (t : Tally) → CallFits q (shapes_of (proc_at q p)) (conds_of (proc_at q p)) (in_loop w) c xs cs → VarsFit (shapes_of (proc_at q p)) x → WorkFits q (proc_at q p) w → FramesFit q p fs → MoveFits q (call_step q l c xs cs p x w fs t)
+  call_keeps Nothing c xs cs p x w fs t f v h g =
       (callee_vars c (shapes_of (proc_at q p)) xs x f.actuals v, open_fits (proc_at q c) (body_of q c) [] (fits.procs c).body tt, (f, v, h, g))
-  call_keeps false place c xs cs p x w fs t f v h g = tt
+  call_keeps Temporary c xs cs p x w fs t f v h g = raise_fits Space p x w fs (spend 15 7 t) tt v h g
+  call_keeps Control c xs cs p x w fs t f v h g = raise_fits Space p x w fs (spend 26 11 t) tt v h g
 
   do_keeps : (s : Stmt) (p : ℕ) (x : List ValueOf) (w : List Item) (fs : List Frame) (t : Tally) → StmtFits q (shapes_of (proc_at q p)) (conds_of (proc_at q p)) (in_loop w) s → VarsFit (shapes_of (proc_at q p)) x → WorkFits q (proc_at q p) w → FramesFit q p fs → MoveFits q (do_step q sizes s p x w fs t)
   do_keeps Skip p x w fs t f v h g = (v, settle_fits (proc_at q p) w h, g)
   do_keeps (NoOp place) p x w fs t f v h g = (v, settle_fits (proc_at q p) w h, g)
-  do_keeps (Signal place c) p x w fs t f v h g = raise_fits c p x w fs (spend 4 3 t) f v h g
+  do_keeps (Signal place c) p x w fs t f v h g = raise_fits c p x w fs (spend 4 3 t) (raised_of (in_loop w) (conds_of (proc_at q p)) c f) v h g
   do_keeps (Seq a b) p x w fs t f v h g = (v, open_fits (proc_at q p) (Seq a b) w f h, g)
   do_keeps (Loop place s) p x w fs t f v h g = (v, open_fits (proc_at q p) s (Back place s ∷ w) f (f, h), g)
   do_keeps (If place b s u) p x w fs t f v h g = pick (is_true_value (value_at x b))
@@ -148,7 +161,7 @@ module _ (q : Program) (sizes : Words) (fits : ProgramFits q) where
       pick true = (v, open_fits (proc_at q p) s (JoinThen place u ∷ w) f.1 h, g)
       pick false = (v, open_fits (proc_at q p) u (JoinOne place ∷ w) f.2 h, g)
   do_keeps (Begin place s cs u) p x w fs t f v h g = (v, open_fits (proc_at q p) (Begin place s cs u) w f h, g)
-  do_keeps (Call place c xs cs) p x w fs t f v h g = call_keeps (has_room q sizes c (used q p fs)) place c xs cs p x w fs t f v h g
+  do_keeps (Call place c xs cs) p x w fs t f v h g = call_keeps (lack_of q sizes c (used q p fs)) c xs cs p x w fs t f v h g
   do_keeps (Apply place r args) p x w fs t f v h g = apply_keeps place 0 r args (predef_effect r (values_of x args)) p x w fs t refl f v h g
 
   main_vars : (p : ℕ) (x : List ValueOf) → p ≡ q.main → VarsFit (shapes_of (proc_at q p)) x → VarsFit (proc_at q q.main).formals (main_formals q x)
@@ -165,7 +178,7 @@ module _ (q : Program) (sizes : Words) (fits : ProgramFits q) where
   out_keeps : (d : Cond) (p : ℕ) (y : List ValueOf) (fs : List Frame) (t : Tally) → VarsFit (shapes_of (proc_at q p)) y → FramesFit q p fs → MoveFits q (out_step q d p y fs t)
   out_keeps d p y [] t v g = (main_vars p y g v, main_ends q d)
   out_keeps d p y (Held c x w xs cs ∷ fs) t v g =
-      raise_fits (matching q p cs d) c (copied_out xs y x) w fs (out_spend (is_formal q p d) t) (matched q p (in_loop w) (conds_of (proc_at q c)) cs d g.0.conds) (copies_back (shapes_of (proc_at q c)) (proc_at q p).formals (map (λ (u : ValueOf). u.shape) (proc_at q p).locals) xs y x g.0.actuals v g.1) g.2 g.3
+      raise_fits (matching q p cs d) c (copied_out xs y x) w fs (out_spend (is_passed_on q p d) t) (matched q p (in_loop w) (conds_of (proc_at q c)) cs d g.0.conds) (copies_back (shapes_of (proc_at q c)) (proc_at q p).formals (map (λ (u : ValueOf). u.shape) (proc_at q p).locals) xs y x g.0.actuals v g.1) g.2 g.3
 
   pub step_keeps : (g : State) → StateFits q g → MoveFits q (gypsy_step q sizes g)
   step_keeps (At p x [] fs t) h = end_keeps p x fs t h.0 h.2

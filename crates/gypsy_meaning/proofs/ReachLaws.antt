@@ -7,10 +7,10 @@ use Rattle.gypsy_space.specs.Costs.{Tally, start_tally}
 use Rattle.gypsy_space.specs.Needs.{Words}
 use Rattle.gypsy_meaning.specs.Calls.{Way}
 use Rattle.gypsy_meaning.specs.Meaning.{Done, meaning}
-use Rattle.gypsy_meaning.specs.Counted.{CountedDone, CountedNoRoom, CountedOutcome, CountedUnfinished, counted_meaning, tally_of, uncounted}
-use Rattle.gypsy_meaning.specs.Machine.{At, Ended, Full, Going, Move, Next, Over, Short, State, go_on, gypsy_step, place_of, run, start}
+use Rattle.gypsy_meaning.specs.Counted.{CountedDone, CountedOutcome, CountedUnfinished, counted_meaning, tally_of, uncounted}
+use Rattle.gypsy_meaning.specs.Machine.{At, Ended, Going, Move, Next, Over, State, go_on, gypsy_step, run, start}
 use Rattle.gypsy_meaning.specs.Seen.{Finished, IsEnd, Running, Seen, Shows, Stage, added, after, after_move, answer_by, answer_from, answer_of, bare, end_by, left_from, left_of, opening, ran_on, run_of}
-use Rattle.gypsy_meaning.specs.Agreed.{MeansEnd, MeansNoRoom}
+use Rattle.gypsy_meaning.specs.Agreed.{MeansEnd}
 use Rattle.gypsy_meaning.proofs.ApartLaws.{add, add_to, plus, plus-nothing, step_apart}
 use Rattle.gypsy_meaning.proofs.CountLaws.{meaning-uncounted}
 use Rattle.gypsy_meaning.proofs.Runs.{agree, longer, one_end}
@@ -68,7 +68,6 @@ move_reached v g made t (Ended x c u) r steps counted at e = record {
   counted = added_shows v.counted t.count u.count counted;
   at = at 1 ∙ stepped v.program v.sizes g t (Ended x c u) 0 e;
 }
-move_reached v g made t Full r steps counted at e = r
 
 from_reached : (v : Seen) (s : Stage) (r : Reached v) → IsAt v s r.made r.spent → Reached (left_from v s)
 from_reached v (Running g) r at = move_reached v g r.made r.spent (gypsy_step v.program v.sizes g) r r.steps r.counted at refl
@@ -101,27 +100,10 @@ end_agrees v x c r e =
       count_is = ap (λ o. option_map (λ t. t.count) (tally_of o)) done;
     }
 
--- where the next step is a call without room
-pub no_room_agrees : (v : Seen) (g : State) → Reached v → v.stage ≡ Running g → gypsy_step v.program v.sizes g ≡ Full → MeansNoRoom v
-no_room_agrees v g r e full =
-    let q = v.program in
-    let P : Stage → Type 0 = λ s. IsAt v s r.made r.spent in
-    let at : IsAt v (Running g) r.made r.spent = subst P e r.at in
-    let one_more : suc r.made ≡ r.made + 1 = omega arith in
-    let short : run q v.sizes (suc r.made) (start q v.values) ≡ Short =
-    ap (λ n. run q v.sizes n (start q v.values)) one_more ∙ at 1 ∙ stepped q v.sizes g r.spent Full 0 full in
-    record {
-      made = r.made;
-      steps = r.steps;
-      meaning_is =
-          sym (meaning-uncounted q v.sizes v.values (suc r.made)) ∙ ap uncounted ((agree q v.sizes v.values).short r.made short);
-    }
-
 -- what is done without counts is done with them
 counted_too : (o : CountedOutcome) (x : List ValueOf) (c : Way) → uncounted o ≡ Done x c → (t : Tally) × (o ≡ CountedDone x c t)
 counted_too (CountedDone y d t) x c e = (t, grind arith)
 counted_too CountedUnfinished x c e = absurd cc
-counted_too CountedNoRoom x c e = absurd cc
 
 -- the machine ends within so many steps
 abbrev EndsWithin : Seen → Stage → ℕ → List ValueOf → Way → Type 0
@@ -132,20 +114,19 @@ same_end : (x y : List ValueOf) (c d : Way) (t u : Tally) → Over x c t ≡ Ove
 same_end x y c d t u e = (cc, cc)
 
 module _ (x : List ValueOf) (c : Way) where
-  move_ends : (k place : ℕ) (v : Seen) (t u : Tally) (a : Move) → ((w : Seen) → EndsWithin w w.stage k x c → IsEnd (run_of k w) x c) → go_on (add_to t a) (run v.program v.sizes k) ≡ Over x c u →
-      IsEnd (ran_on (answer_by place a) (after_move v a) (run_of k)) x c
-  move_ends k place v t u (Next (At p y w fs s)) rest h =
+  move_ends : (k : ℕ) (v : Seen) (t u : Tally) (a : Move) → ((w : Seen) → EndsWithin w w.stage k x c → IsEnd (run_of k w) x c) → go_on (add_to t a) (run v.program v.sizes k) ≡ Over x c u →
+      IsEnd (ran_on (answer_by a) (after_move v a) (run_of k)) x c
+  move_ends k v t u (Next (At p y w fs s)) rest h =
       rest (after_move v (Next (At p y w fs s))) (plus t s, u, ap (run v.program v.sizes k) (sym (bare_add t p y w fs s)) ∙ h)
-  move_ends k place v t u (Ended y d s) rest h =
+  move_ends k v t u (Ended y d s) rest h =
       let same = same_end y x d c (plus t s) u h in
       record { run = refl; stage = ap₂ Finished same.0 same.1 }
-  move_ends k place v t u Full rest h = absurd cc
 
   from_ends : (k : ℕ) (v : Seen) (s : Stage) → ((w : Seen) → EndsWithin w w.stage k x c → IsEnd (run_of k w) x c) → v.stage ≡ s → EndsWithin v s (suc k) x c →
       IsEnd (ran_on (answer_from v s) (left_from v s) (run_of k)) x c
   from_ends k v (Running g) rest e h =
       let q = v.program in
-      move_ends k (place_of q g) v h.0 h.1 (gypsy_step q v.sizes g) rest (sym (stepped q v.sizes g h.0 (gypsy_step q v.sizes g) k refl) ∙ h.2)
+      move_ends k v h.0 h.1 (gypsy_step q v.sizes g) rest (sym (stepped q v.sizes g h.0 (gypsy_step q v.sizes g) k refl) ∙ h.2)
   from_ends k v (Finished y d) rest e h = record { run = refl; stage = e ∙ ap₂ Finished h.0 h.1 }
 
   here_ends : (v : Seen) (s : Stage) → v.stage ≡ s → EndsWithin v s 0 x c → IsEnd (record { run = end_by s; seen = v }) x c

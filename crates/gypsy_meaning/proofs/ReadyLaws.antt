@@ -59,6 +59,7 @@ suits row.MgBooleanOr shapes k x args h f = tt
 suits row.MgBooleanAnd shapes k x args h f = tt
 suits row.MgBooleanNot shapes k x args h f = tt
 suits row.MgIndexArray shapes k x args h f = tt
+suits row.MgIntegerMultiply shapes k x args h f = tt
 suits row.MgArrayElementAssignment shapes k x args h f =
     let vs = values_of x (map seen_arg args) in
     let item : is_item (value_at vs 0).shape.kind (item_of_value (value_at vs 2)) ≡ true =

@@ -10,7 +10,7 @@ use Rattle.gypsy_space.specs.Nodes.{seen_program}
 use Rattle.gypsy_space.specs.Events.{event_count}
 use Rattle.gypsy_space.specs.declared.event.CostEvent.TheVariants as event
 use Rattle.gypsy_space.specs.declared.need.Need.{Need}
-use Rattle.gypsy_meaning.specs.Calls.{copied_out, is_formal}
+use Rattle.gypsy_meaning.specs.Calls.{copied_out, is_passed_on}
 use Rattle.gypsy_meaning.specs.Held.{AreActivations, IsActivation, IsHeld, Keeps, Moves}
 use Rattle.gypsy_meaning.specs.Machine.{Item, Out, At, Next, Move, gypsy_step, settle, raise, used}
 use Rattle.gypsy_meaning.specs.Machine as machine
@@ -110,7 +110,7 @@ end_moves ns m n w nothing last resumed =
       held = resume_held w (event_count ns event.EndProc) m n gs f last.2 both.0 r;
     }
 
-out_paid : (formal caught : Bool) (t : Tally) → (caught_spend caught (out_spend formal t)).count ≡ t.count + out_price formal caught
+out_paid : (passed caught : Bool) (t : Tally) → (caught_spend caught (out_spend passed t)).count ≡ t.count + out_price passed caught
 unfolding spend out_spend
 out_paid true true t = omega arith
 out_paid true false t = refl
@@ -118,7 +118,7 @@ out_paid false true t = omega arith
 out_paid false false t = refl
 
 pub leave_moves : (m n : Meaning) (w : Work) (caught : Bool) (d : Cond) (below : List Item) → work_of m.work.value ≡ Out d ∷ below → IsLast m.waiting.items (RaisesTo (seen_program m.program) m.procedure d w caught) → HasResumed w m n →
-    Moves m (paid (out_price (is_formal (seen_program m.program) m.procedure d) caught) n)
+    Moves m (paid (out_price (is_passed_on (seen_program m.program) m.procedure d) caught) n)
 leave_moves m n w caught d below out last resumed =
     let q = seen_program m.program in
     let sizes = sizes_of m in
@@ -127,16 +127,16 @@ leave_moves m n w caught d below out last resumed =
     let both = resumed gs f last.2 in
     let r = both.1 in
     let x = map (λ v. v.1) m.variables.items in
-    let formal = is_formal q m.procedure d in
-    let left : Tally = out_spend formal start_tally in
+    let passed = is_passed_on q m.procedure d in
+    let left : Tally = out_spend passed start_tally in
     let u : Tally = caught_spend caught left in
     let y = copied_out f.call.value.actuals.items x (map (λ v. v.1) f.variables.items) in
     let step : gypsy_step q sizes (state_of m) ≡ Next (At f.procedure y (work_of w) (frames_of gs) u) =
     ap (λ (v : List Item). gypsy_step q sizes (At m.procedure x v (frames_of m.waiting.items) start_tally)) out
     ∙ ap (λ (fs : List machine.Frame). gypsy_step q sizes (At m.procedure x (Out d ∷ below) fs start_tally)) (ap frames_of last.2 ∙ frames_of-push gs f)
     ∙ ap Next (last.3 f.procedure y (frames_of gs) left) in
-    let spent : u.count ≡ 0 + out_price formal caught = out_paid formal caught start_tally in
-    let cost : out_price formal caught ≡ u.count = omega (arith, spent) in
+    let spent : u.count ≡ 0 + out_price passed caught = out_paid passed caught start_tally in
+    let cost : out_price passed caught ≡ u.count = omega (arith, spent) in
     record {
       goes = (
         u,
@@ -144,7 +144,7 @@ leave_moves m n w caught d below out last resumed =
             (sym r.procedure) (sym r.values) (sym r.work) (ap frames_of (sym both.0)),
         record { counted = ap₂ added r.counted cost; last = cost },
       );
-      keeps = resume_keeps w (out_price formal caught) m n f r;
+      keeps = resume_keeps w (out_price passed caught) m n f r;
       ending = r.ending;
-      held = resume_held w (out_price formal caught) m n gs f last.2 both.0 r;
+      held = resume_held w (out_price passed caught) m n gs f last.2 both.0 r;
     }

@@ -1,12 +1,12 @@
 -- Runs of several steps.
 use Rattle.std.proofs.Common.{◌≡◌, ℕ, zero, suc, ◌+◌, ◌-◌, ◌<◌, ◌≤◌, Bool, true, false, refl, sym, ap, subst, ◌∙◌, arith}
 use Rattle.gypsy_meaning.specs.Agreed.{EndAgrees, RunAgrees}
-use Rattle.gypsy_meaning.specs.Machine.{Ended, Full, Move, Next, State, gypsy_step, place_of}
+use Rattle.gypsy_meaning.specs.Machine.{Ended, Move, Next, State, gypsy_step}
 use Rattle.gypsy_meaning.specs.Seen.{Finished, Ran, Running, Seen, Stage, after_move, answer_by, answer_from, answer_of, end_by, is_over, left_from, left_of, ran_on, run_of}
 use Rattle.gypsy_meaning.specs.declared.answers.MeanRun.{MeanRun}
 use Rattle.gypsy_meaning.specs.declared.answers.MeanRun.TheVariants as ran
 use Rattle.gypsy_meaning.specs.declared.answers.Moved.{Moved}
-use Rattle.gypsy_meaning.proofs.ReachLaws.{IsAt, Reached, end_agrees, move_reached, no_room_agrees}
+use Rattle.gypsy_meaning.proofs.ReachLaws.{IsAt, Reached, end_agrees, move_reached}
 
 abbrev pub over_answer : Bool → MeanRun
 over_answer true = ran.Ended
@@ -29,17 +29,16 @@ run_done limit made v r le e = let none : limit - made ≡ 0 = omega (arith, le)
 -- The answer of a run agrees with the meaning.
 
 module _ (k : ℕ) (rest : (w : Seen) → Reached w → RunAgrees (run_of k w).seen (run_of k w).run) where
-  move_agrees : (place : ℕ) (v : Seen) (g : State) (a : Move) → (r : Reached v) → v.stage ≡ Running g → IsAt v (Running g) r.made r.spent → gypsy_step v.program v.sizes g ≡ a →
-      let b = ran_on (answer_by place a) (after_move v a) (run_of k) in RunAgrees b.seen b.run
-  move_agrees place v g (Next h) r e at step = rest (after_move v (Next h)) (move_reached v g r.made r.spent (Next h) r r.steps r.counted at step)
-  move_agrees place v g (Ended x c u) r e at step =
+  move_agrees : (v : Seen) (g : State) (a : Move) → (r : Reached v) → v.stage ≡ Running g → IsAt v (Running g) r.made r.spent → gypsy_step v.program v.sizes g ≡ a →
+      let b = ran_on (answer_by a) (after_move v a) (run_of k) in RunAgrees b.seen b.run
+  move_agrees v g (Next h) r e at step = rest (after_move v (Next h)) (move_reached v g r.made r.spent (Next h) r r.steps r.counted at step)
+  move_agrees v g (Ended x c u) r e at step =
       end_agrees (after_move v (Ended x c u)) x c (move_reached v g r.made r.spent (Ended x c u) r r.steps r.counted at step) refl
-  move_agrees place v g Full r e at step = no_room_agrees v g r e step
 
   from_agrees : (v : Seen) (s : Stage) → (r : Reached v) → v.stage ≡ s → let b = ran_on (answer_from v s) (left_from v s) (run_of k) in RunAgrees b.seen b.run
   from_agrees v (Running g) r e =
       let P : Stage → Type 0 = λ s. IsAt v s r.made r.spent in
-      move_agrees (place_of v.program g) v g (gypsy_step v.program v.sizes g) r e (subst P e r.at) refl
+      move_agrees v g (gypsy_step v.program v.sizes g) r e (subst P e r.at) refl
   from_agrees v (Finished x c) r e = let P : Stage → Type 0 = EndAgrees v in subst P (sym e) (end_agrees v x c r e)
 
 here_agrees : (v : Seen) (s : Stage) → Reached v → v.stage ≡ s → RunAgrees v (end_by s)

@@ -11,13 +11,13 @@ use Rattle.gypsy_space.specs.Events.{event_count, event_spend, predef_count}
 use Rattle.gypsy_space.specs.declared.event.CostEvent.{CostEvent}
 use Rattle.gypsy_space.specs.declared.event.CostEvent.TheVariants as event
 use Rattle.gypsy_space.specs.declared.need.Need.{Need}
-use Rattle.gypsy_meaning.specs.Machine.{At, Next}
+use Rattle.gypsy_meaning.specs.Machine.{At, Next, gypsy_step}
 use Rattle.gypsy_meaning.specs.Work.{work_of, caught_spend}
 use Rattle.gypsy_meaning.specs.Turns.{IsPlain, GoesOn, OpensTo}
 use Rattle.gypsy_meaning.specs.Applied.{WritesOn}
 use Rattle.gypsy_meaning.specs.Seen.{added}
 use Rattle.gypsy_meaning.specs.Held.{Moves}
-use Rattle.gypsy_meaning.specs.Running.{price, advanced, Goes, frames_of, sizes_of, paid}
+use Rattle.gypsy_meaning.specs.Running.{price, advanced, Goes, frames_of, sizes_of, state_of, paid}
 use Rattle.gypsy_meaning.specs.declared.turn.Advance.{Advance}
 use Rattle.gypsy_meaning.specs.declared.running.Meaning.{Meaning}
 use Rattle.gypsy_meaning.specs.declared.work.Work.{Work}
@@ -39,6 +39,8 @@ plain_table q ns event.IfFalse p t = refl
 plain_table q ns event.JoinThen p t = refl
 plain_table q ns event.JoinOne p t = refl
 plain_table q ns event.GuardNormal p t = refl
+plain_table q ns event.LackTemporary p t = refl
+plain_table q ns event.LackControl p t = refl
 plain_table q ns (event.Call callee) p t = absurd p
 plain_table q ns event.EndMain p t = refl
 plain_table q ns event.EndProc p t = refl
@@ -48,20 +50,26 @@ plain_table q ns event.ReturnRaised p t = refl
 plain_table q ns (event.Predef which outcome) p t = refl
 
 -- a step that changes the work alone
-advance_goes : (q : Program) (sizes : Words) (ns : List Need) (a : Advance) (m : Meaning) → GoesOn (map (λ v. v.1) m.variables.items) (work_of m.work.value) a → Goes q sizes m (advanced ns a m)
-advance_goes q sizes ns a m goes =
+advance_goes : (q : Program) (sizes : Words) (ns : List Need) (a : Advance) (m : Meaning) → IsPlain a.event →
+    gypsy_step q sizes (state_of m) ≡ Next (At m.procedure (map (λ v. v.1) m.variables.items) (work_of a.work.value) (frames_of m.waiting.items) (caught_spend a.caught (event_spend q a.event start_tally))) → Goes q sizes m (advanced ns a m)
+advance_goes q sizes ns a m plain step =
     let u = event_spend q a.event start_tally in
-    let paid : (caught_spend a.caught u).count ≡ 0 + price ns a.event a.caught = caught_is a.caught ns a.event start_tally u (plain_table q ns a.event goes.0 start_tally) in
+    let paid : (caught_spend a.caught u).count ≡ 0 + price ns a.event a.caught = caught_is a.caught ns a.event start_tally u (plain_table q ns a.event plain start_tally) in
     let cost : price ns a.event a.caught ≡ (caught_spend a.caught u).count = omega (arith, paid) in
-    (caught_spend a.caught u, goes.1 q sizes m.procedure (frames_of m.waiting.items) start_tally, record { counted = ap (added m.counted) cost; last = cost })
+    (caught_spend a.caught u, step, record { counted = ap (added m.counted) cost; last = cost })
 
-pub advance_moves : (ns : List Need) (a : Advance) (m : Meaning) → GoesOn (map (λ v. v.1) m.variables.items) (work_of m.work.value) a → Moves m (advanced ns a m)
-advance_moves ns a m goes = record {
-  goes = advance_goes (seen_program m.program) (sizes_of m) ns a m goes;
+pub step_moves : (ns : List Need) (a : Advance) (m : Meaning) → IsPlain a.event →
+    gypsy_step (seen_program m.program) (sizes_of m) (state_of m) ≡ Next (At m.procedure (map (λ v. v.1) m.variables.items) (work_of a.work.value) (frames_of m.waiting.items) (caught_spend a.caught (event_spend (seen_program m.program) a.event start_tally))) →
+    Moves m (advanced ns a m)
+step_moves ns a m plain step = record {
+  goes = advance_goes (seen_program m.program) (sizes_of m) ns a m plain step;
   keeps = record { program = refl; temp = refl; ctrl = refl; values = refl; names = refl; unnamed = refl; steps = refl };
   ending = refl;
   held = λ h. record { top = h.top; waiting = h.waiting };
 }
+
+pub advance_moves : (ns : List Need) (a : Advance) (m : Meaning) → GoesOn (map (λ v. v.1) m.variables.items) (work_of m.work.value) a → Moves m (advanced ns a m)
+advance_moves ns a m goes = step_moves ns a m goes.0 (goes.1 (seen_program m.program) (sizes_of m) m.procedure (frames_of m.waiting.items) start_tally)
 
 -- a step that writes a variable, where the state in between is known by its values and names
 pub write_moves : (ns : List Need) (i : ℕ) (v : ValueOf) (a : Advance) (m n : Meaning) → WritesOn (map (λ w. w.1) m.variables.items) (work_of m.work.value) i v a → map (λ w. w.1) n.variables.items ≡ slice_set (map (λ w. w.1) m.variables.items) i v → map (λ w. w.0) n.variables.items ≡ map (λ w. w.0) m.variables.items → Moves m (advanced ns a (record m { variables = n.variables }))

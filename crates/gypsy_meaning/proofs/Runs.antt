@@ -7,22 +7,22 @@ use Rattle.gypsy_syntax.specs.Programs.{Cond, Arg, Program, body_of}
 use Rattle.gypsy_syntax.specs.Programs.{Stmt, Skip, NoOp, Signal, Seq, Loop, If, Begin, Call, Apply}
 use Rattle.gypsy_syntax.specs.Effects.{Effect, Normal, Fault, Beyond, predef_effect, value_at, is_true_value}
 use Rattle.gypsy_space.specs.Costs.{Tally, spend, start_tally}
-use Rattle.gypsy_space.specs.Needs.{Words, main_used, with_call, has_room, call_spend}
+use Rattle.gypsy_space.specs.Needs.{Words, main_used, with_call, lack_of, call_spend}
+use Rattle.gypsy_space.specs.declared.need.Lack.{Lack}
+use Rattle.gypsy_space.specs.declared.need.Lack.TheVariants.{Nothing, Temporary, Control}
 use Rattle.gypsy_meaning.specs.Calls.{Way, has_cond, is_leave, values_of, copied_in, main_start}
-use Rattle.gypsy_meaning.specs.Counted.{CountedOutcome, CountedDone, CountedUnfinished, CountedNoRoom, CountedMeans, counted_then, counted_part, counted_either, counted_caught, counted_round_end, counted_applied, counted_returned, counted_if_room, counted_evaluate, counted_main_end, counted_meaning}
-use Rattle.gypsy_meaning.specs.Machine.{Item, Do, Back, JoinThen, JoinOne, Guard, Frame, Held, State, At, Move, Next, Ended, Full, open_on, settle, stop_if, raise, either_move, apply_step, used, full_or, gypsy_step, Ending, Over, Going, Short, go_on, run, start}
+use Rattle.gypsy_meaning.specs.Counted.{CountedOutcome, CountedDone, CountedUnfinished, CountedMeans, counted_then, counted_part, counted_either, counted_caught, counted_round_end, counted_applied, counted_returned, counted_if_room, counted_evaluate, counted_main_end, counted_meaning}
+use Rattle.gypsy_meaning.specs.Machine.{Item, Do, Back, JoinThen, JoinOne, Guard, Frame, Held, State, At, Move, Next, Ended, open_on, settle, stop_if, raise, either_move, apply_step, used, call_step, gypsy_step, Ending, Over, Going, go_on, run, start}
 use Rattle.gypsy_meaning.specs.Agree.{Agree}
 
 -- a run that is over
 abbrev pub IsOver : Ending → Type 0
 IsOver (Over x c t) = Unit {0}
 IsOver Going = ⊥
-IsOver Short = Unit {0}
 
 go_longer : (f h : State → Ending) → ((g : State) (o : Ending) → IsOver o → f g ≡ o → h g ≡ o) → (a : Move) (o : Ending) → IsOver o → go_on a f ≡ o → go_on a h ≡ o
 go_longer f h l (Next g) o over e = l g o over e
 go_longer f h l (Ended x c t) o over e = e
-go_longer f h l Full o over e = e
 
 module _ (q : Program) (sizes : Words) where
   -- the machine goes from one state to another, in no step or more
@@ -34,7 +34,6 @@ module _ (q : Program) (sizes : Words) where
   Runs n p fs g w (CountedDone x None t) = Comes g (At p x (settle w) fs t)
   Runs n p fs g w (CountedDone x (Some c) t) = Comes g (raise c p x w fs t)
   Runs n p fs g w CountedUnfinished = (j : ℕ) × (n ≤ j) × (run q sizes j g ≡ Going)
-  Runs n p fs g w CountedNoRoom = (j : ℕ) × (run q sizes j g ≡ Short)
 
   -- what a counted meaning says of the machine
   abbrev Follows : ℕ → CountedMeans → Type 0
@@ -53,27 +52,23 @@ module _ (q : Program) (sizes : Words) where
   after n p fs g h w (CountedDone x None t) a r = comes_on g h _ a r
   after n p fs g h w (CountedDone x (Some c) t) a r = comes_on g h _ a r
   after n p fs g h w CountedUnfinished a r = let l = a.by r.0 in (l.0, omega (arith, l.1, r.1), l.2 ∙ r.2)
-  after n p fs g h w CountedNoRoom a r = let l = a.by r.0 in (l.0, l.2 ∙ r.1)
 
   -- a step counts as a round
   after_step : (n p : ℕ) (fs : List Frame) (g h : State) (w : List Item) (o : CountedOutcome) → gypsy_step q sizes g ≡ Next h → Runs n p fs h w o → Runs (suc n) p fs g w o
   after_step n p fs g h w (CountedDone x None t) e r = comes_on g h _ (one_step g h e) r
   after_step n p fs g h w (CountedDone x (Some c) t) e r = comes_on g h _ (one_step g h e) r
   after_step n p fs g h w CountedUnfinished e r = (suc r.0, omega (arith, r.1), ap (λ m. go_on m (run q sizes r.0)) e ∙ r.2)
-  after_step n p fs g h w CountedNoRoom e r = (suc r.0, ap (λ m. go_on m (run q sizes r.0)) e ∙ r.1)
 
   seq_runs : (n p : ℕ) (fs : List Frame) (g : State) (b : Stmt) (w : List Item) (o : CountedOutcome) (m : List ValueOf → Tally → CountedOutcome) → ((x : List ValueOf) (t : Tally) → Runs n p fs (At p x (open_on b w) fs t) w (m x t)) → Runs n p fs g (Do b ∷ w) o → Runs n p fs g w (counted_then o m)
   seq_runs n p fs g b w (CountedDone x None t) m rb r = after n p fs g _ w (m x t) r (rb x t)
   seq_runs n p fs g b w (CountedDone x (Some c) t) m rb r = r
   seq_runs n p fs g b w CountedUnfinished m rb r = r
-  seq_runs n p fs g b w CountedNoRoom m rb r = r
 
   -- an item that only costs
   join_runs : (n p : ℕ) (fs : List Frame) (g : State) (i : Item) (w : List Item) (pay : Tally → Tally) (o : CountedOutcome) → ((x : List ValueOf) (t : Tally) → gypsy_step q sizes (At p x (settle (i ∷ w)) fs t) ≡ Next (At p x (settle w) fs (pay t))) → ((c : Cond) (x : List ValueOf) (t : Tally) → raise c p x (i ∷ w) fs t ≡ raise c p x w fs t) → Runs n p fs g (i ∷ w) o → Runs n p fs g w (counted_part o pay)
   join_runs n p fs g i w pay (CountedDone x None t) st up r = comes_on g _ _ r (one_step _ _ (st x t))
   join_runs n p fs g i w pay (CountedDone x (Some c) t) st up r = subst (Comes g) (up c x t) r
   join_runs n p fs g i w pay CountedUnfinished st up r = r
-  join_runs n p fs g i w pay CountedNoRoom st up r = r
 
   if_runs : (n p : ℕ) (b : Bool) (fs : List Frame) (g ga gb : State) (w : List Item) (oa ob : CountedOutcome) → gypsy_step q sizes g ≡ either_move b (Next ga) (Next gb) → Runs n p fs ga w oa → Runs n p fs gb w ob → Runs n p fs g w (counted_either b oa ob)
   if_runs n p true fs g ga gb w oa ob e ra rb = after n p fs g ga w oa (one_step g ga e) ra
@@ -87,7 +82,6 @@ module _ (q : Program) (sizes : Words) where
       pick true l = after n p fs g _ w _ l (join_runs n p fs _ (JoinOne place) w (spend 1 1) (arm x (spend 3 2 t)) (λ y u. refl) (λ d y u. refl) (ra x (spend 3 2 t)))
       pick false l = l
   guard_runs n p fs g place cs v w arm CountedUnfinished ra r = r
-  guard_runs n p fs g place cs v w arm CountedNoRoom ra r = r
 
   -- a round, and the loop again at the next lower bound
   round_runs : (n p : ℕ) (fs : List Frame) (g : State) (place : ℕ) (s : Stmt) (w : List Item) (again : List ValueOf → Tally → CountedOutcome) (o : CountedOutcome) → ((x : List ValueOf) (t : Tally) → Runs n p fs (At p x (open_on (Loop place s) w) fs t) w (again x t)) → Runs (suc n) p fs g (Back place s ∷ w) o → Runs (suc n) p fs g w (counted_round_end o again)
@@ -98,7 +92,6 @@ module _ (q : Program) (sizes : Words) where
       pick true l = l
       pick false l = l
   round_runs n p fs g place s w again CountedUnfinished ra r = r
-  round_runs n p fs g place s w again CountedNoRoom ra r = r
 
   apply_runs : (n p : ℕ) (r : Predef) (args : List Arg) (fs : List Frame) (g : State) (e : Effect) (x : List ValueOf) (w : List Item) (t : Tally) → gypsy_step q sizes g ≡ apply_step r args e p x w fs t → Runs n p fs g w (counted_applied r args e x t)
   apply_runs n p r args fs g (Normal v) x w t is = one_step g _ is
@@ -110,11 +103,12 @@ module _ (q : Program) (sizes : Words) where
   return_runs n p c fs x w xs cs h (CountedDone y None t) r = comes_on h _ _ r (one_step _ _ refl)
   return_runs n p c fs x w xs cs h (CountedDone y (Some d) t) r = comes_on h _ _ r (one_step _ _ refl)
   return_runs n p c fs x w xs cs h CountedUnfinished r = r
-  return_runs n p c fs x w xs cs h CountedNoRoom r = r
 
-  call_runs : (n p : ℕ) (fs : List Frame) (g h : State) (w : List Item) (o : CountedOutcome) (b : Bool) → gypsy_step q sizes g ≡ full_or b h → Runs n p fs h w o → Runs (suc n) p fs g w (counted_if_room b o)
-  call_runs n p fs g h w o true e r = after_step n p fs g h w o e r
-  call_runs n p fs g h w o false e r = (1, ap (λ m. go_on m (run q sizes 0)) e)
+  call_runs : (n p c : ℕ) (xs : List ℕ) (cs : List Cond) (fs : List Frame) (g : State) (x : List ValueOf) (w : List Item) (t : Tally) (o : CountedOutcome) (l : Lack) → gypsy_step q sizes g ≡ call_step q l c xs cs p x w fs t →
+      Runs n p fs (At c (copied_in q c xs x) (open_on (body_of q c) []) (Held p x w xs cs ∷ fs) (call_spend q c t)) w o → Runs (suc n) p fs g w (counted_if_room l x t o)
+  call_runs n p c xs cs fs g x w t o Nothing e r = after_step n p fs g _ w o e r
+  call_runs n p c xs cs fs g x w t o Temporary e r = one_step g _ e
+  call_runs n p c xs cs fs g x w t o Control e r = one_step g _ e
 
   evaluate_follows : (n : ℕ) → Follows n (counted_evaluate q sizes n)
   evaluate_follows zero s p x t w fs = (0, omega arith, refl)
@@ -136,7 +130,7 @@ module _ (q : Program) (sizes : Words) where
       guard_runs (suc n) p fs _ place cs v w (counted_evaluate q sizes (suc n) v u) (counted_evaluate q sizes (suc n) s u x t) (λ y z. evaluate_follows (suc n) v p y z (JoinOne place ∷ w) fs) (evaluate_follows (suc n) s p x t (Guard place cs v ∷ w) fs)
   evaluate_follows (suc n) (Call place c xs cs) p x t w fs =
       let u = used q p fs in
-      call_runs n p fs _ _ w _ (has_room q sizes c u) refl (return_runs n p c fs x w xs cs _ (counted_evaluate q sizes n (body_of q c) (with_call q c u) (copied_in q c xs x) (call_spend q c t)) (evaluate_follows n (body_of q c) c (copied_in q c xs x) (call_spend q c t) [] (Held p x w xs cs ∷ fs)))
+      call_runs n p c xs cs fs _ x w t _ (lack_of q sizes c u) refl (return_runs n p c fs x w xs cs _ (counted_evaluate q sizes n (body_of q c) (with_call q c u) (copied_in q c xs x) (call_spend q c t)) (evaluate_follows n (body_of q c) c (copied_in q c xs x) (call_spend q c t) [] (Held p x w xs cs ∷ fs)))
   evaluate_follows (suc n) (Apply place r args) p x t w fs = apply_runs (suc n) p r args fs _ (predef_effect r (values_of x args)) x w t refl
 
   -- more steps change nothing of a run that is over
@@ -157,13 +151,11 @@ module _ (q : Program) (sizes : Words) where
   abbrev IsMet : State → ℕ → CountedOutcome → Type 0
   IsMet g n (CountedDone x c t) = (j : ℕ) × (run q sizes j g ≡ Over x c t)
   IsMet g n CountedUnfinished = (j : ℕ) × (n ≤ j) × (run q sizes j g ≡ Going)
-  IsMet g n CountedNoRoom = (j : ℕ) × (run q sizes j g ≡ Short)
 
   main_met : (g : State) (n : ℕ) (o : CountedOutcome) → Runs n q.main [] g [] o → IsMet g n (counted_main_end q o)
   main_met g n (CountedDone x None t) r = let l = r.by 1 in (l.0, l.2)
   main_met g n (CountedDone x (Some c) t) r = let l = r.by 1 in (l.0, l.2)
   main_met g n CountedUnfinished r = r
-  main_met g n CountedNoRoom r = r
 
   met : (v : List ValueOf) (n : ℕ) → IsMet (start q v) n (counted_meaning q sizes v n)
   met v n = main_met (start q v) n (counted_evaluate q sizes n (body_of q q.main) (main_used q) (main_start q v) start_tally) (evaluate_follows n (body_of q q.main) q.main (main_start q v) start_tally [] [])
@@ -173,17 +165,9 @@ module _ (q : Program) (sizes : Words) where
   over_too g j x c t (CountedDone y d u) e m = grind (arith, one_end j m.0 g (Over x c t) (Over y d u) tt tt e m.1)
   over_too g j x c t CountedUnfinished e m =
       absurd (subst IsOver (sym (longer j m.0 (omega (arith, m.1)) g (Over x c t) tt e) ∙ m.2) tt)
-  over_too g j x c t CountedNoRoom e m = grind (arith, one_end j m.0 g (Over x c t) Short tt tt e m.1)
-
-  short_too : (g : State) (j : ℕ) (o : CountedOutcome) → run q sizes (suc j) g ≡ Short → IsMet g (suc j) o → o ≡ CountedNoRoom
-  short_too g j (CountedDone y d u) e m = grind (arith, one_end (suc j) m.0 g Short (Over y d u) tt tt e m.1)
-  short_too g j CountedUnfinished e m =
-      absurd (subst IsOver (sym (longer (suc j) m.0 (omega (arith, m.1)) g Short tt e) ∙ m.2) tt)
-  short_too g j CountedNoRoom e m = refl
 
 pub agree : (q : Program) (sizes : Words) (v : List ValueOf) → Agree q sizes v
 agree q sizes v = record {
   ended = λ j x c t e. over_too q sizes (start q v) j x c t (counted_meaning q sizes v (suc j)) e (met q sizes v (suc j));
-  short = λ j e. short_too q sizes (start q v) j (counted_meaning q sizes v (suc j)) e (met q sizes v (suc j));
   done = λ n x c t e. subst (IsMet q sizes (start q v) n) e (met q sizes v n);
 }

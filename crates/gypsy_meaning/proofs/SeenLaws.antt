@@ -7,7 +7,7 @@ use Rattle.gypsy_space.specs.Needs.{Words, main_need}
 use Rattle.gypsy_meaning.specs.Belongs.{StageFits}
 use Rattle.gypsy_meaning.specs.Kept.{MoveFits, VarsFit}
 use Rattle.gypsy_meaning.specs.Room.{MoveRoom, StateRoom}
-use Rattle.gypsy_meaning.specs.Machine.{At, Ended, Full, Move, Next, gypsy_step}
+use Rattle.gypsy_meaning.specs.Machine.{At, Ended, Move, Next, gypsy_step}
 use Rattle.gypsy_meaning.specs.Seen.{Finished, IsOfRun, Running, Seen, Stage, after, after_move, answer_of, left_from, left_of, opening, ran_on, run_of}
 use Rattle.gypsy_meaning.specs.declared.answers.Moved.{Moved}
 use Rattle.gypsy_meaning.specs.declared.answers.Moved.TheVariants as moved
@@ -23,7 +23,6 @@ after_last (suc k) v = after_last k (left_of v)
 move_same : (v : Seen) (a : Move) → IsOfRun v (after_move v a)
 move_same v (Next g) = record { program = refl; sizes = refl; values = refl }
 move_same v (Ended x c t) = record { program = refl; sizes = refl; values = refl }
-move_same v Full = record { program = refl; sizes = refl; values = refl }
 
 from_same : (v : Seen) (s : Stage) → IsOfRun v (left_from v s)
 from_same v (Running g) = move_same v (gypsy_step v.program v.sizes g)
@@ -44,7 +43,6 @@ after_same (suc k) v =
 by_same : (k : ℕ) (a : Moved) (v : Seen) → ((w : Seen) → IsOfRun w (run_of k w).seen) → IsOfRun v (ran_on a v (run_of k)).seen
 by_same k moved.Moved v rest = rest v
 by_same k moved.Ended v rest = record { program = refl; sizes = refl; values = refl }
-by_same k (moved.NoRoom place) v rest = record { program = refl; sizes = refl; values = refl }
 
 pub run_same : (k : ℕ) (v : Seen) → IsOfRun v (run_of k v).seen
 unfolding run_of
@@ -66,7 +64,6 @@ Fits v = StageFits v.program v.stage × StageRoom v.program v.sizes v.stage
 move_fits : (v : Seen) (a : Move) → Fits v → MoveFits v.program a → MoveRoom v.program v.sizes a → Fits (after_move v a)
 move_fits v (Next (At p x w fs t)) h f r = (f, r)
 move_fits v (Ended x c t) h f r = (f, tt)
-move_fits v Full h f r = h
 
 from_fits : (v : Seen) (s : Stage) → ProgramFits v.program → Fits v → StageFits v.program s → StageRoom v.program v.sizes s → Fits (left_from v s)
 from_fits v (Running g) fits h f r =

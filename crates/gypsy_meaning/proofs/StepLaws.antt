@@ -12,9 +12,9 @@ use Rattle.gypsy_space.specs.Costs.{start_tally}
 use Rattle.gypsy_space.specs.Needs.{Words, stack_words}
 use Rattle.gypsy_space.specs.Nodes.{seen_program}
 use Rattle.gypsy_space.specs.declared.need.Need.{Need}
-use Rattle.gypsy_meaning.specs.Calling.{IsFull, IsUnchanged}
+use Rattle.gypsy_meaning.specs.Calling.{IsUnchanged}
 use Rattle.gypsy_meaning.specs.Held.{AreActivations, EndsRun, IsActivation, Keeps, Moves}
-use Rattle.gypsy_meaning.specs.Machine.{At, Ended, Full, Move, Next, gypsy_step, place_of}
+use Rattle.gypsy_meaning.specs.Machine.{At, Ended, Move, Next, gypsy_step}
 use Rattle.gypsy_meaning.specs.Named.{seen_names, variables_of}
 use Rattle.gypsy_meaning.specs.Running.{Costs, frames_of, seen, sizes_of, stage_by, state_of, way_of}
 use Rattle.gypsy_meaning.specs.Seen.{Finished, Running, Seen, Stage, added, after, after_move, answer_by, answer_from, answer_of, is_over, left_from, left_of, opening}
@@ -90,13 +90,13 @@ module _ (m : Meaning) (e : m.ending ≡ None) where
   at = seen_at m (Running (state_of m))
 
   by_move : (n : Meaning) (answer : Moved) (a : Move) → gypsy_step (seen_program m.program) (sizes_of m) (state_of m) ≡ a →
-      answer ≡ answer_by (place_of (seen_program m.program) (state_of m)) a → seen n ≡ after_move (seen_at m (Running (state_of m))) a → IsStep m n answer
+      answer ≡ answer_by a → seen n ≡ after_move (seen_at m (Running (state_of m))) a → IsStep m n answer
   unfolding answer_of left_of
   by_move n answer a step is left =
       let v = seen_at m (Running (state_of m)) in
       record {
         answer_is =
-            is ∙ ap (answer_by (place_of (seen_program m.program) (state_of m))) (sym step) ∙ ap (λ w. answer_from w w.stage) (sym (running m e));
+            is ∙ ap answer_by (sym step) ∙ ap (λ w. answer_from w w.stage) (sym (running m e));
         left = left ∙ ap (after_move v) (sym step) ∙ ap (λ w. left_from w w.stage) (sym (running m e));
       }
 
@@ -113,9 +113,6 @@ module _ (m : Meaning) (e : m.ending ≡ None) where
       let c = way_of h.ended_by in
       let stage : stage_by n.ending n ≡ Finished x c = ap (λ o. stage_by o n) h.ending in
       by_move n moved.Ended (Ended x c h.spent) h.ends refl (alike m n (Finished x c) h.spent.count h.keeps stage h.costs)
-
-  pub full_step : (place : ℕ) → IsFull m → place ≡ place_of (seen_program m.program) (state_of m) → IsStep m m (moved.NoRoom place)
-  full_step place full is = by_move m (moved.NoRoom place) Full full (ap moved.NoRoom is) (running m e)
 
 -- A run that belongs to a source.
 
@@ -209,14 +206,10 @@ module _ (s : SourceOf) (ns : List Need) (m : Meaning) (b : BelongsTo s ns m) wh
   pub does_step : m.ending ≡ None → (n : Meaning) (answer : Moved) → Does m n answer → IsStep m n answer
   does_step e n moved.Moved h = moves_step m e n h
   does_step e n moved.Ended h = finishes_step m e n h
-  does_step e n (moved.NoRoom place) h =
-      let P : Meaning → Type 0 = λ k. IsStep m k (moved.NoRoom place) in
-      subst P (sym h.0) (full_step m e place h.1 h.2)
 
   pub does_belongs : m.ending ≡ None → (n : Meaning) (answer : Moved) → Does m n answer → BelongsTo s ns n
   does_belongs e n moved.Moved h = moves_belongs e n h
   does_belongs e n moved.Ended h = finishes_belongs e n h
-  does_belongs e n (moved.NoRoom place) h = let P : Meaning → Type 0 = BelongsTo s ns in subst P (sym h.0) b
 
   kept_waiting : (o : Option Ending) (ws : Vec Frame) → ws.items ≡ m.waiting.items → IsKept m o → IsKept (record m { waiting = ws }) o
   kept_waiting None ws e h =

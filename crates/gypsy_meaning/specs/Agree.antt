@@ -5,14 +5,13 @@ use Rattle.gypsy_syntax.specs.Programs.{Program}
 use Rattle.gypsy_space.specs.Costs.{Tally}
 use Rattle.gypsy_space.specs.Needs.{Words}
 use Rattle.gypsy_meaning.specs.Calls.{Way}
-use Rattle.gypsy_meaning.specs.Counted.{CountedDone, CountedNoRoom, counted_meaning}
-use Rattle.gypsy_meaning.specs.Machine.{Over, Short, run, start}
+use Rattle.gypsy_meaning.specs.Counted.{CountedDone, counted_meaning}
+use Rattle.gypsy_meaning.specs.Machine.{Over, run, start}
 
--- a run that ends in j steps, or is without room after j steps, is the meaning at j + 1; and a meaning that is done is a run.
+-- a run that ends in j steps is the meaning at j + 1; and a meaning that is done is a run.
 -- The instructions and the steps of Piton that the machine counts are those counted along the meaning.
 pub record Agree (q : Program) (sizes : Words) (v : List ValueOf) : Type 0 where
   pub ended : (j : ℕ) (x : List ValueOf) (c : Way) (t : Tally) →
       run q sizes j (start q v) ≡ Over x c t → counted_meaning q sizes v (suc j) ≡ CountedDone x c t
-  pub short : (j : ℕ) → run q sizes (suc j) (start q v) ≡ Short → counted_meaning q sizes v (suc j) ≡ CountedNoRoom
   pub done : (n : ℕ) (x : List ValueOf) (c : Way) (t : Tally) →
       counted_meaning q sizes v n ≡ CountedDone x c t → (j : ℕ) × (run q sizes j (start q v) ≡ Over x c t)

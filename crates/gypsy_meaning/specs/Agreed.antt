@@ -2,7 +2,7 @@
 use Rattle.std.specs.Prelude.{◌≡◌, ℕ, suc, List, Some}
 use Rattle.stack_text.specs.Values.{ValueOf}
 use Rattle.gypsy_meaning.specs.Calls.{Way}
-use Rattle.gypsy_meaning.specs.Meaning.{Done, NoRoom, meaning}
+use Rattle.gypsy_meaning.specs.Meaning.{Done, meaning}
 use Rattle.gypsy_meaning.specs.Counted.{instruction_count}
 use Rattle.gypsy_meaning.specs.Seen.{Seen, Stage, Running, Finished, Shows}
 use Rattle.gypsy_meaning.specs.declared.answers.MeanRun.{MeanRun}
@@ -17,12 +17,6 @@ pub record MeansEnd (v : Seen) (x : List ValueOf) (c : Way) : Type 0 where
   pub meaning_is : meaning v.program v.sizes v.values (suc made) ≡ Done x c
   pub count_is : instruction_count v.program v.sizes v.values (suc made) ≡ Some count
 
--- after so many steps, before a call without room, the meaning at one more has no room
-pub record MeansNoRoom (v : Seen) : Type 0 where
-  pub made : ℕ
-  pub steps : Shows v.steps made
-  pub meaning_is : meaning v.program v.sizes v.values (suc made) ≡ NoRoom
-
 abbrev pub EndAgrees : Seen → Stage → Type 0
 EndAgrees v (Running g) = ⊥
 EndAgrees v (Finished x c) = MeansEnd v x c
@@ -31,4 +25,3 @@ EndAgrees v (Finished x c) = MeansEnd v x c
 abbrev pub RunAgrees : Seen → MeanRun → Type 0
 RunAgrees v ran.Ended = EndAgrees v v.stage
 RunAgrees v ran.Spent = Unit {0}
-RunAgrees v (ran.NoRoom place) = MeansNoRoom v

@@ -1,17 +1,20 @@
 -- The call of a procedure, as the code has it.
-use Rattle.std.specs.Prelude.{◌≡◌, ◌∷◌, [], ◌++◌, map}
+use Rattle.std.specs.Prelude.{◌≡◌, List, ◌∷◌, [], ◌++◌, map}
 use Rattle.std.specs.declared.alloc.Global.{Global}
 use Rattle.std.specs.declared.rc.Rc.{Rc}
 use Rattle.std.specs.Global.{Vec}
 use Rattle.stack_text.specs.declared.name.Name.{Name}
 use Rattle.stack_text.specs.declared.value.Value.{Value}
-use Rattle.gypsy_syntax.specs.Programs.{Call}
+use Rattle.gypsy_syntax.specs.Programs.{Call, Space}
+use Rattle.gypsy_space.specs.Costs.{start_tally}
+use Rattle.gypsy_space.specs.Events.{event_spend}
 use Rattle.gypsy_space.specs.Nodes.{seen_cond, seen_program}
+use Rattle.gypsy_space.specs.declared.event.CostEvent.{CostEvent}
 use Rattle.gypsy_space.specs.declared.need.Need.{Need}
 use Rattle.gypsy_space.specs.declared.program.CallSite.{CallSite}
-use Rattle.gypsy_meaning.specs.Machine.{Item, Do, Full, gypsy_step}
+use Rattle.gypsy_meaning.specs.Machine.{Item, Do, Next, gypsy_step, raise}
+use Rattle.gypsy_meaning.specs.Running.{frames_of, sizes_of, state_of}
 use Rattle.gypsy_meaning.specs.Seen.{added}
-use Rattle.gypsy_meaning.specs.Running.{sizes_of, state_of}
 use Rattle.gypsy_meaning.specs.declared.running.Meaning.{Meaning}
 use Rattle.gypsy_meaning.specs.declared.work.Work.{Work}
 
@@ -19,9 +22,12 @@ use Rattle.gypsy_meaning.specs.declared.work.Work.{Work}
 abbrev pub call_top : CallSite → Item
 call_top site = Do (Call site.place site.callee site.actuals.items (map seen_cond site.conds.items))
 
--- the step is a call without room
-abbrev pub IsFull : Meaning → Type 0
-IsFull m = gypsy_step (seen_program m.program) (sizes_of m) (state_of m) ≡ Full
+-- the step is a call without room, which raises spaceerror over this work, at the cost of this event
+abbrev pub RaisesSpace : Meaning → List Item → CostEvent → Type 0
+RaisesSpace m w e =
+    gypsy_step (seen_program m.program) (sizes_of m) (state_of m) ≡
+    Next (raise Space m.procedure (map (λ v. v.1) m.variables.items) w (frames_of m.waiting.items)
+    (event_spend (seen_program m.program) e start_tally))
 
 -- all that is seen is as it was
 pub record IsUnchanged (m n : Meaning) : Type 0 where

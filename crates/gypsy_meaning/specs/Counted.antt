@@ -2,21 +2,22 @@
 use Rattle.std.specs.Prelude.{ℕ, zero, suc, List, Bool, true, false, Option, Some, None, option_map, slice_set}
 use Rattle.stack_text.specs.Values.{ValueOf}
 use Rattle.gypsy_syntax.specs.declared.predef.Predef.{Predef}
-use Rattle.gypsy_syntax.specs.Programs.{Cond, Routine, Arg, Program, body_of}
+use Rattle.gypsy_syntax.specs.Programs.{Cond, Routine, Space, Arg, Program, body_of}
 use Rattle.gypsy_syntax.specs.Programs.{Stmt, Skip, NoOp, Signal, Seq, Loop, If, Begin, Call, Apply}
 use Rattle.gypsy_syntax.specs.Effects.{Effect, Normal, Fault, Beyond, predef_effect, value_at, is_true_value}
 use Rattle.gypsy_space.specs.Costs.{Tally, spend, start_tally, predef_spend, out_spend, main_spend}
-use Rattle.gypsy_space.specs.Needs.{Words, main_used, with_call, has_room, call_spend}
-use Rattle.gypsy_meaning.specs.Calls.{Way, has_cond, is_leave, is_formal, matching}
+use Rattle.gypsy_space.specs.Needs.{Words, main_used, with_call, lack_of, call_spend}
+use Rattle.gypsy_space.specs.declared.need.Lack.{Lack}
+use Rattle.gypsy_space.specs.declared.need.Lack.TheVariants.{Nothing, Temporary, Control}
+use Rattle.gypsy_meaning.specs.Calls.{Way, has_cond, is_leave, is_passed_on, matching}
 use Rattle.gypsy_meaning.specs.Calls.{main_way, values_of, target_of, copied_in, copied_out}
 use Rattle.gypsy_meaning.specs.Calls.{main_start, main_formals}
-use Rattle.gypsy_meaning.specs.Meaning.{Outcome, Done, Unfinished, NoRoom}
+use Rattle.gypsy_meaning.specs.Meaning.{Outcome, Done, Unfinished}
 
--- done, with the variables, the condition and what is spent in all; not done within the bound; or a call without room
+-- done, with the variables, the condition and what is spent in all; or not done within the bound
 pub data CountedOutcome : Type 0 where
   CountedDone : (x : List ValueOf) (c : Way) (t : Tally) → CountedOutcome
   CountedUnfinished : CountedOutcome
-  CountedNoRoom : CountedOutcome
 
 -- a statement in the normal condition, with these words in use, from these variables, when so much was spent
 abbrev pub CountedMeans : Type 0
@@ -27,14 +28,12 @@ abbrev pub counted_then : CountedOutcome → (List ValueOf → Tally → Counted
 counted_then (CountedDone x None t) go = go x t
 counted_then (CountedDone x (Some c) t) go = CountedDone x (Some c) t
 counted_then CountedUnfinished go = CountedUnfinished
-counted_then CountedNoRoom go = CountedNoRoom
 
 -- a part that a join follows
 abbrev pub counted_part : CountedOutcome → (Tally → Tally) → CountedOutcome
 counted_part (CountedDone x None t) pay = CountedDone x None (pay t)
 counted_part (CountedDone x (Some c) t) pay = CountedDone x (Some c) t
 counted_part CountedUnfinished pay = CountedUnfinished
-counted_part CountedNoRoom pay = CountedNoRoom
 
 abbrev pub counted_either : Bool → CountedOutcome → CountedOutcome → CountedOutcome
 counted_either true a b = a
@@ -46,7 +45,6 @@ counted_caught (CountedDone x None t) cs arm = CountedDone x None (spend 2 2 t)
 counted_caught (CountedDone x (Some c) t) cs arm =
     counted_either (has_cond c cs) (counted_part (arm x (spend 3 2 t)) (spend 1 1)) (CountedDone x (Some c) t)
 counted_caught CountedUnfinished cs arm = CountedUnfinished
-counted_caught CountedNoRoom cs arm = CountedNoRoom
 
 -- a round's end
 abbrev pub counted_round_end : CountedOutcome → (List ValueOf → Tally → CountedOutcome) → CountedOutcome
@@ -54,7 +52,6 @@ counted_round_end (CountedDone x None t) again = again x (spend 1 1 t)
 counted_round_end (CountedDone x (Some c) t) again =
     counted_either (is_leave c) (CountedDone x None (spend 3 2 t)) (CountedDone x (Some c) t)
 counted_round_end CountedUnfinished again = CountedUnfinished
-counted_round_end CountedNoRoom again = CountedNoRoom
 
 -- a predefined call
 abbrev pub counted_applied : Predef → List Arg → Effect → List ValueOf → Tally → CountedOutcome
@@ -66,13 +63,14 @@ counted_applied r args Beyond x t = CountedDone x (Some Routine) (predef_spend r
 abbrev pub counted_returned : Program → ℕ → List ℕ → List Cond → List ValueOf → CountedOutcome → CountedOutcome
 counted_returned q p xs cs x (CountedDone y None t) = CountedDone (copied_out xs y x) None (spend 12 6 t)
 counted_returned q p xs cs x (CountedDone y (Some c) t) =
-    CountedDone (copied_out xs y x) (Some (matching q p cs c)) (out_spend (is_formal q p c) t)
+    CountedDone (copied_out xs y x) (Some (matching q p cs c)) (out_spend (is_passed_on q p c) t)
 counted_returned q p xs cs x CountedUnfinished = CountedUnfinished
-counted_returned q p xs cs x CountedNoRoom = CountedNoRoom
 
-abbrev pub counted_if_room : Bool → CountedOutcome → CountedOutcome
-counted_if_room true o = o
-counted_if_room false o = CountedNoRoom
+-- a call without room, by what it lacks
+abbrev pub counted_if_room : Lack → List ValueOf → Tally → CountedOutcome → CountedOutcome
+counted_if_room Nothing x t o = o
+counted_if_room Temporary x t o = CountedDone x (Some Space) (spend 15 7 t)
+counted_if_room Control x t o = CountedDone x (Some Space) (spend 26 11 t)
 
 -- at a bound, which falls at each further round of a loop and at each call
 abbrev pub counted_evaluate : Program → Words → ℕ → CountedMeans
@@ -93,16 +91,18 @@ counted_evaluate q sizes (suc n) (Begin place s cs w) u x t =
     counted_caught (counted_evaluate q sizes (suc n) s u x t) cs (counted_evaluate q sizes (suc n) w u)
 counted_evaluate q sizes (suc n) (Call place p xs cs) u x t =
     counted_if_room
-    (has_room q sizes p u)
+    (lack_of q sizes p u)
+    x
+    t
     (counted_returned q p xs cs x (counted_evaluate q sizes n (body_of q p) (with_call q p u) (copied_in q p xs x) (call_spend q p t)))
 counted_evaluate q sizes (suc n) (Apply place r args) u x t = counted_applied r args (predef_effect r (values_of x args)) x t
 
 -- main's body, from its end on
 abbrev pub counted_main_end : Program → CountedOutcome → CountedOutcome
 counted_main_end q (CountedDone x None t) = CountedDone (main_formals q x) None (spend 5 2 t)
-counted_main_end q (CountedDone x (Some c) t) = CountedDone (main_formals q x) (Some (main_way q c)) (main_spend (is_formal q q.main c) t)
+counted_main_end q (CountedDone x (Some c) t) =
+    CountedDone (main_formals q x) (Some (main_way q c)) (main_spend (is_passed_on q q.main c) t)
 counted_main_end q CountedUnfinished = CountedUnfinished
-counted_main_end q CountedNoRoom = CountedNoRoom
 
 -- the counted meaning of a program, with these values of main's formals
 abbrev pub counted_meaning : Program → Words → List ValueOf → ℕ → CountedOutcome
@@ -112,13 +112,11 @@ counted_meaning q sizes v n = counted_main_end q (counted_evaluate q sizes n (bo
 abbrev pub uncounted : CountedOutcome → Outcome
 uncounted (CountedDone x c t) = Done x c
 uncounted CountedUnfinished = Unfinished
-uncounted CountedNoRoom = NoRoom
 
 -- what was spent, where the meaning is done
 abbrev pub tally_of : CountedOutcome → Option Tally
 tally_of (CountedDone x c t) = Some t
 tally_of CountedUnfinished = None
-tally_of CountedNoRoom = None
 
 -- the instructions of the processor that a meaning takes, and the steps of Piton
 abbrev pub instruction_count : Program → Words → List ValueOf → ℕ → Option ℕ

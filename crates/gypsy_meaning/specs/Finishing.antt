@@ -7,7 +7,7 @@ use Rattle.gypsy_meaning.specs.Running.{paid}
 use Rattle.gypsy_meaning.specs.declared.running.Ending.{Ending}
 use Rattle.gypsy_meaning.specs.declared.running.Meaning.{Meaning}
 
--- of a condition that leaves main: a formal one or not
+-- of a condition that leaves main: a formal one or spaceerror, or another
 abbrev pub end_price : Bool → ℕ
 end_price true = 4
 end_price false = 7

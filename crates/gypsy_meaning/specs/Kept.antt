@@ -2,10 +2,10 @@
 use Rattle.std.specs.Prelude.{◌≡◌, ℕ, ◌<◌, List, [], ◌∷◌, Bool, true, false, Some, None}
 use Rattle.stack_text.specs.declared.shape.Shape.{Shape}
 use Rattle.stack_text.specs.Values.{ValueOf}
-use Rattle.gypsy_syntax.specs.Programs.{Leave, Routine, Declared, Proc, Program, proc_at, shapes_of, conds_of}
-use Rattle.gypsy_syntax.specs.ProgramFits.{ValueFits, Each, CondFits, HandlerFits, CallFits, StmtFits}
+use Rattle.gypsy_syntax.specs.Programs.{Cond, Leave, Routine, Space, Declared, Proc, Program, proc_at, shapes_of, conds_of}
+use Rattle.gypsy_syntax.specs.ProgramFits.{ValueFits, Each, HandlerFits, CallFits, StmtFits}
 use Rattle.gypsy_meaning.specs.Calls.{Way}
-use Rattle.gypsy_meaning.specs.Machine.{Item, Do, Back, JoinThen, JoinOne, Guard, Out, Frame, Held, State, At, Move, Next, Ended, Full}
+use Rattle.gypsy_meaning.specs.Machine.{Item, Do, Back, JoinThen, JoinOne, Guard, Out, Frame, Held, State, At, Move, Next, Ended}
 
 -- values of these shapes
 abbrev pub VarsFit : List Shape → List ValueOf → Type 0
@@ -24,6 +24,13 @@ in_loop (JoinOne place ∷ w) = in_loop w
 in_loop (Guard place cs v ∷ w) = in_loop w
 in_loop (Out c ∷ w) = in_loop w
 
+-- a condition that is raised, inside a loop or not, where so many are declared
+abbrev pub RaisedFits : Bool → ℕ → Cond → Type 0
+RaisedFits in_loop n Leave = in_loop ≡ true
+RaisedFits in_loop n Routine = Unit {0}
+RaisedFits in_loop n Space = Unit {0}
+RaisedFits in_loop n (Declared i) = i < n
+
 -- the work of procedure p; a condition on its way out is alone, and isn't leave
 abbrev pub WorkFits : Program → Proc → List Item → Type 0
 WorkFits q p [] = Unit {0}
@@ -33,7 +40,7 @@ WorkFits q p (JoinThen place v ∷ w) = WorkFits q p w
 WorkFits q p (JoinOne place ∷ w) = WorkFits q p w
 WorkFits q p (Guard place cs v ∷ w) =
     Each (HandlerFits (conds_of p)) cs × StmtFits q (shapes_of p) (conds_of p) (in_loop w) v × WorkFits q p w
-WorkFits q p (Out c ∷ w) = CondFits false (conds_of p) c × (w ≡ [])
+WorkFits q p (Out c ∷ w) = RaisedFits false (conds_of p) c × (w ≡ [])
 
 -- the activations that wait below one of procedure p
 abbrev pub FramesFit : Program → ℕ → List Frame → Type 0
@@ -47,14 +54,14 @@ FramesFit q p (Held c x w xs cs ∷ fs) =
 abbrev pub StateFits : Program → State → Type 0
 StateFits q (At p x w fs t) = VarsFit (shapes_of (proc_at q p)) x × WorkFits q (proc_at q p) w × FramesFit q p fs
 
--- what main ends with: normal, routineerror or a formal condition
+-- what main ends with: normal, routineerror, spaceerror or a formal condition
 abbrev pub EndFits : Program → Way → Type 0
 EndFits q None = Unit {0}
 EndFits q (Some Leave) = ⊥
 EndFits q (Some Routine) = Unit {0}
+EndFits q (Some Space) = Unit {0}
 EndFits q (Some (Declared i)) = i < (proc_at q q.main).conds
 
 abbrev pub MoveFits : Program → Move → Type 0
 MoveFits q (Next g) = StateFits q g
 MoveFits q (Ended x c t) = VarsFit (proc_at q q.main).formals x × EndFits q c
-MoveFits q Full = Unit {0}

@@ -2,21 +2,20 @@
 --
 -- A loop and a recursive call may go on for ever. So a meaning has a bound on the rounds of loops and the nesting of calls; a
 -- statement means what it is done with at some bound. It has the words in use of both stacks, too: a call for which they have
--- no room ends the meaning.
+-- no room sets the condition spaceerror.
 use Rattle.std.specs.Prelude.{ℕ, zero, suc, List, Bool, true, false, Some, None, slice_set}
 use Rattle.stack_text.specs.Values.{ValueOf}
-use Rattle.gypsy_syntax.specs.Programs.{Cond, Routine, Arg, Program, body_of}
+use Rattle.gypsy_syntax.specs.Programs.{Cond, Routine, Space, Arg, Program, body_of}
 use Rattle.gypsy_syntax.specs.Programs.{Stmt, Skip, NoOp, Signal, Seq, Loop, If, Begin, Call, Apply}
 use Rattle.gypsy_syntax.specs.Effects.{Effect, Normal, Fault, Beyond, predef_effect, value_at, is_true_value}
 use Rattle.gypsy_space.specs.Needs.{Words, main_used, with_call, has_room}
 use Rattle.gypsy_meaning.specs.Calls.{Way, has_cond, is_leave, matching, main_way, values_of, target_of}
 use Rattle.gypsy_meaning.specs.Calls.{copied_in, copied_out, main_start, main_formals}
 
--- done, with these variables and this condition; not done within the bound; or a call without room
+-- done, with these variables and this condition; or not done within the bound
 pub data Outcome : Type 0 where
   Done : (x : List ValueOf) (c : Way) → Outcome
   Unfinished : Outcome
-  NoRoom : Outcome
 
 -- what a statement does from these variables, with these words in use
 abbrev pub Means : Type 0
@@ -27,7 +26,6 @@ abbrev pub then_do : Outcome → (List ValueOf → Outcome) → Outcome
 then_do (Done x None) next = next x
 then_do (Done x (Some c)) next = Done x (Some c)
 then_do Unfinished next = Unfinished
-then_do NoRoom next = NoRoom
 
 abbrev pub either_way : Bool → Outcome → Outcome → Outcome
 either_way true a b = a
@@ -38,14 +36,12 @@ abbrev pub caught : Outcome → List Cond → (List ValueOf → Outcome) → Out
 caught (Done x None) cs arm = Done x None
 caught (Done x (Some c)) cs arm = either_way (has_cond c cs) (arm x) (Done x (Some c))
 caught Unfinished cs arm = Unfinished
-caught NoRoom cs arm = NoRoom
 
 -- after a round the next one, but `leave` ends the loop in the normal condition, and another condition passes on
 abbrev pub round_end : Outcome → (List ValueOf → Outcome) → Outcome
 round_end (Done x None) again = again x
 round_end (Done x (Some c)) again = either_way (is_leave c) (Done x None) (Done x (Some c))
 round_end Unfinished again = Unfinished
-round_end NoRoom again = NoRoom
 
 -- a predefined call writes its first argument; where it fails, no variable changes and the condition is routineerror
 abbrev pub applied : List Arg → Effect → List ValueOf → Outcome
@@ -58,11 +54,11 @@ abbrev pub returned : Program → ℕ → List ℕ → List Cond → List ValueO
 returned q p xs cs x (Done y None) = Done (copied_out xs y x) None
 returned q p xs cs x (Done y (Some c)) = Done (copied_out xs y x) (Some (matching q p cs c))
 returned q p xs cs x Unfinished = Unfinished
-returned q p xs cs x NoRoom = NoRoom
 
-abbrev pub if_room : Bool → Outcome → Outcome
-if_room true o = o
-if_room false o = NoRoom
+-- a call without room changes no variable
+abbrev pub if_room : Bool → List ValueOf → Outcome → Outcome
+if_room true x o = o
+if_room false x o = Done x (Some Space)
 
 -- the bound falls at each further round of a loop and at each call
 abbrev pub evaluate : Program → Words → ℕ → Means
@@ -78,15 +74,15 @@ evaluate q sizes (suc n) (Begin place s cs w) u x = caught (evaluate q sizes (su
 evaluate q sizes (suc n) (Call place p xs cs) u x =
     if_room
     (has_room q sizes p u)
+    x
     (returned q p xs cs x (evaluate q sizes n (body_of q p) (with_call q p u) (copied_in q p xs x)))
 evaluate q sizes (suc n) (Apply place r args) u x = applied args (predef_effect r (values_of x args)) x
 
--- main ends with its formals, and with normal, a formal condition or routineerror
+-- main ends with its formals, and with normal, a formal condition, spaceerror or routineerror
 abbrev pub main_end : Program → Outcome → Outcome
 main_end q (Done x None) = Done (main_formals q x) None
 main_end q (Done x (Some c)) = Done (main_formals q x) (Some (main_way q c))
 main_end q Unfinished = Unfinished
-main_end q NoRoom = NoRoom
 
 -- the meaning of a program, with these values of main's formals
 abbrev pub meaning : Program → Words → List ValueOf → ℕ → Outcome

@@ -34,4 +34,4 @@ current_or other None = other
 current_or other (Some c) = c
 
 abbrev pub unnamed : Unnamed
-unnamed = record { normal = current.Normal; routine = current.Routine; leave = current.Leave }
+unnamed = record { normal = current.Normal; routine = current.Routine; leave = current.Leave; space = current.Space }

@@ -16,7 +16,7 @@ use Rattle.gypsy_meaning.specs.declared.work.Work.{Work}
 abbrev pub IsLast : List Frame → (Frame → Type 0) → Type 0
 IsLast fs P = (gs : List Frame) × (f : Frame) × (fs ≡ gs ++ f ∷ []) × P f
 
--- what a condition costs that leaves a procedure: a formal one or not, and where it was caught or not
+-- what a condition costs that leaves a procedure: a formal one or spaceerror, or another, and where it was caught or not
 abbrev pub out_price : Bool → Bool → ℕ
 out_price true true = 17
 out_price true false = 14

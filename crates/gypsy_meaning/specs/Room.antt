@@ -1,14 +1,13 @@
 -- What every state of the step machine keeps of the words that are left, whatever the program.
 use Rattle.std.specs.Prelude.{ℕ, ◌+◌, ◌≤◌, List, [], ◌∷◌}
 use Rattle.gypsy_syntax.specs.Programs.{Proc, Program, proc_at, Stmt}
-use Rattle.gypsy_space.specs.Needs.{Words, greatest, temp_need, ctrl_need}
-use Rattle.gypsy_syntax.specs.PredefinedCosts.{predef_temp, predef_ctrl}
+use Rattle.gypsy_space.specs.Needs.{Words, statement_temp, statement_ctrl, temp_need, ctrl_need}
 use Rattle.gypsy_meaning.specs.Machine.{Item, Do, Back, JoinThen, JoinOne, Guard, Out, Frame}
-use Rattle.gypsy_meaning.specs.Machine.{Held, State, At, Move, Next, Ended, Full, used}
+use Rattle.gypsy_meaning.specs.Machine.{Held, State, At, Move, Next, Ended, used}
 
--- the procedure's needs cover the predefined calls of the statement
+-- the procedure's needs cover the calls of the statement
 abbrev pub Covers : Proc → Stmt → Type 0
-Covers p s = (greatest predef_temp s ≤ temp_need p) × (greatest predef_ctrl s ≤ ctrl_need p)
+Covers p s = (statement_temp s ≤ temp_need p) × (statement_ctrl s ≤ ctrl_need p)
 
 -- and those of its work
 abbrev pub CoversWork : Proc → List Item → Type 0
@@ -20,7 +19,7 @@ CoversWork p (JoinOne place ∷ w) = CoversWork p w
 CoversWork p (Guard place cs v ∷ w) = Covers p v × CoversWork p w
 CoversWork p (Out c ∷ w) = CoversWork p w
 
--- with the words in use, both stacks have room for what predefined calls need
+-- with the words in use, both stacks have room for what the procedure's own calls need
 abbrev pub HasWords : Program → Words → ℕ → Words → Type 0
 HasWords q sizes p u = (u.temp + temp_need (proc_at q p) ≤ sizes.temp) × (u.ctrl + ctrl_need (proc_at q p) ≤ sizes.ctrl)
 
@@ -36,4 +35,3 @@ StateRoom q sizes (At p x w fs t) = CoversWork (proc_at q p) w × HaveWords q si
 abbrev pub MoveRoom : Program → Words → Move → Type 0
 MoveRoom q sizes (Next g) = StateRoom q sizes g
 MoveRoom q sizes (Ended x c t) = Unit {0}
-MoveRoom q sizes Full = Unit {0}

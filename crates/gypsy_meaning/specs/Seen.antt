@@ -5,7 +5,7 @@ use Rattle.gypsy_syntax.specs.Programs.{Program, proc_at}
 use Rattle.gypsy_space.specs.Costs.{start_tally}
 use Rattle.gypsy_space.specs.Needs.{Words}
 use Rattle.gypsy_meaning.specs.Calls.{Way}
-use Rattle.gypsy_meaning.specs.Machine.{Item, Do, Back, JoinThen, JoinOne, Guard, Out, State, At, Move, Next, Ended, Full}
+use Rattle.gypsy_meaning.specs.Machine.{Item, Do, Back, JoinThen, JoinOne, Guard, Out, State, At, Move, Next, Ended}
 use Rattle.gypsy_meaning.specs.Machine.{gypsy_step, place_of, start}
 use Rattle.gypsy_meaning.specs.declared.answers.Moved.{Moved}
 use Rattle.gypsy_meaning.specs.declared.answers.Moved.TheVariants as moved
@@ -54,23 +54,21 @@ after_move v (Next g) =
     record v { stage = Running (bare g); steps = added v.steps 1; counted = added v.counted (spent_at g); cost = spent_at g }
 after_move v (Ended x c t) =
     record v { stage = Finished x c; steps = added v.steps 1; counted = added v.counted t.count; cost = t.count }
-after_move v Full = v
 
 abbrev pub left_from : Seen → Stage → Seen
 left_from v (Running g) = after_move v (gypsy_step v.program v.sizes g)
 left_from v (Finished x c) = v
 
--- what a step leaves: a call without room changes nothing, and neither does a step after the end
+-- what a step leaves; a step after the end changes nothing
 unfoldable pub left_of : Seen → Seen
 left_of v = left_from v v.stage
 
-abbrev pub answer_by : ℕ → Move → Moved
-answer_by place (Next g) = moved.Moved
-answer_by place (Ended x c t) = moved.Ended
-answer_by place Full = moved.NoRoom place
+abbrev pub answer_by : Move → Moved
+answer_by (Next g) = moved.Moved
+answer_by (Ended x c t) = moved.Ended
 
 abbrev pub answer_from : Seen → Stage → Moved
-answer_from v (Running g) = answer_by (place_of v.program g) (gypsy_step v.program v.sizes g)
+answer_from v (Running g) = answer_by (gypsy_step v.program v.sizes g)
 answer_from v (Finished x c) = moved.Ended
 
 -- what a step answers
@@ -100,7 +98,6 @@ end_by (Finished x c) = ran.Ended
 abbrev pub ran_on : Moved → Seen → (Seen → Ran) → Ran
 ran_on moved.Moved v go = go v
 ran_on moved.Ended v go = record { run = ran.Ended; seen = v }
-ran_on (moved.NoRoom place) v go = record { run = ran.NoRoom place; seen = v }
 
 -- a run of at most so many steps
 unfoldable pub run_of : ℕ → Seen → Ran

@@ -1,7 +1,7 @@
 -- The names that are shown: those of the accepted source.
 use Rattle.std.specs.Prelude.{ℕ, List, [], map, length, take, get_or, slice_get, Option, Some, None}
 use Rattle.gypsy_syntax.specs.Sources.{SourceOf}
-use Rattle.gypsy_syntax.specs.Programs.{Leave, Routine, Declared, proc_at}
+use Rattle.gypsy_syntax.specs.Programs.{Leave, Routine, Space, Declared, proc_at}
 use Rattle.gypsy_syntax.specs.Resolved.{condition_names, program_of, variable_names}
 use Rattle.gypsy_meaning.specs.Calls.{Way}
 use Rattle.gypsy_meaning.specs.Seen.{Stage, Running, Finished, procedure_at, way_at}
@@ -17,6 +17,7 @@ abbrev pub current_by : List (List ℕ) → Way → Current
 current_by names None = current.Normal
 current_by names (Some Leave) = current.Leave
 current_by names (Some Routine) = current.Routine
+current_by names (Some Space) = current.Space
 current_by names (Some (Declared i)) = named_or (slice_get names i)
 
 -- the names of a procedure's conditions and of its variables

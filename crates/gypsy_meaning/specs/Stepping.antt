@@ -4,10 +4,8 @@ use Rattle.gypsy_syntax.specs.Programs.{proc_at}
 use Rattle.gypsy_space.specs.Events.{AreNeeds, AreSmall}
 use Rattle.gypsy_space.specs.Nodes.{seen_program}
 use Rattle.gypsy_space.specs.declared.need.Need.{Need}
-use Rattle.gypsy_meaning.specs.Calling.{IsFull}
 use Rattle.gypsy_meaning.specs.Held.{EndsRun, IsHeld, Moves}
 use Rattle.gypsy_meaning.specs.Kept.{StateFits}
-use Rattle.gypsy_meaning.specs.Machine.{place_of}
 use Rattle.gypsy_meaning.specs.Named.{variables_of}
 use Rattle.gypsy_meaning.specs.Running.{state_of}
 use Rattle.gypsy_meaning.specs.declared.answers.Moved.{Moved}
@@ -28,4 +26,3 @@ pub record IsReady (needs : List Need) (m : Meaning) : Type 0 where
 abbrev pub Does : Meaning → Meaning → Moved → Type 0
 Does m n moved.Moved = Moves m n
 Does m n moved.Ended = EndsRun m n
-Does m n (moved.NoRoom place) = (n ≡ m) × IsFull m × (place ≡ place_of (seen_program m.program) (state_of m))

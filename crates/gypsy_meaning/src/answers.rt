@@ -7,8 +7,6 @@ pub enum Moved {
     Moved,
     /// The step ended the run, or the run had ended.
     Ended,
-    /// The step is a call for which there is no room, at this place; nothing was changed.
-    NoRoom { place: u32 },
 }
 
 /// How a run of so many steps ended.
@@ -18,6 +16,4 @@ pub enum MeanRun {
     Ended,
     /// As many steps were made as were allowed, and the end isn't reached.
     Spent,
-    /// The next step is a call for which there is no room, at this place.
-    NoRoom { place: u32 },
 }

@@ -1,22 +1,26 @@
 //! What a step does where a procedure is called.
 
-ghost use Rattle.std.specs.Prelude.{◌≡◌, ◌<◌, ◌+◌, [], ◌∷◌, IfErr, IfOk, MatchBool, length, map};
+ghost use Rattle.std.specs.Prelude.{◌≡◌, ◌<◌, ◌+◌, [], ◌∷◌, IfErr, IfOk, length, map};
 ghost use Rattle.gypsy_syntax.specs.Programs.{body_of, proc_at};
-ghost use Rattle.gypsy_space.specs.Events.{AreNeeds, AreSmall, need_at};
+ghost use Rattle.gypsy_space.specs.Events.{AreNeeds, AreSmall, lack_by, need_at};
+ghost use Rattle.gypsy_space.specs.Needs.{stack_words};
 ghost use Rattle.gypsy_space.specs.Nodes.{seen_program};
-ghost use Rattle.gypsy_meaning.specs.Calling.{IsFull, IsUnchanged, Waits, call_top, with_words};
+ghost use Rattle.gypsy_space.specs.declared.need.Lack.TheVariants as lack;
+ghost use Rattle.gypsy_meaning.specs.Calling.{IsUnchanged, RaisesSpace, Waits, call_top, with_words};
 ghost use Rattle.gypsy_meaning.specs.Calls.{copied_in};
 ghost use Rattle.gypsy_meaning.specs.Held.{IsHeld, Moves};
 ghost use Rattle.gypsy_meaning.specs.Machine.{open_on};
 ghost use Rattle.gypsy_meaning.specs.Named.{variables_of};
+ghost use Rattle.gypsy_meaning.specs.Turns.{IsPlain};
 ghost use Rattle.gypsy_meaning.specs.Work.{work_of};
 
 use crate::copying::copy_in;
 use crate::names::Names;
 use crate::running::{Frame, Meaning};
 use crate::starting::{body_at, locals_at, names_at};
-use crate::work::{Work, begun};
-use gypsy_space::{CallSite, CostEvent, Needs, Program};
+use crate::turn::Advance;
+use crate::work::{Work, begun, raise};
+use gypsy_space::{CallSite, Condition, CostEvent, Lack, Needs, Program};
 use stack_text::{Name, Value};
 use std::alloc::{AllocError, Global};
 use std::mem;
@@ -107,14 +111,38 @@ impl Meaning {
         self.used_ctrl = self.used_ctrl.saturating_add(need.vars.saturating_add(2));
     }
 
-    /// Makes the step of a call; `false` where the call has no room, and nothing is changed then.
-    pub(crate) fn enter_call(
+    /// Makes the step of a call without room, which costs this event: spaceerror is raised.
+    fn raise_space(
+        &mut self,
+        alloc: Global,
+        needs: &Needs,
+        event: CostEvent,
+        below: &Rc<Work>,
+    ) -> Result<(), AllocError>
+        requires small { AreSmall needs.now.procedures.items }
+        requires plain { IsPlain event }
+        requires turn { RaisesSpace self.old (work_of below.now.value) event }
+        ensures done { IfOk result (λ u. Moves self.old self.new) }
+        ensures unchanged { IfErr result (λ e. IsUnchanged self.old self.new) }
+    {
+        let raised = raise(alloc, Condition::Space, below)?;
+        let advance = Advance {
+            work: raised.work,
+            event,
+            caught: raised.caught,
+        };
+        self.advance(needs, advance);
+        Ok(())
+    }
+
+    /// Makes the step of a call with room.
+    fn enter_call(
         &mut self,
         alloc: Global,
         needs: &Needs,
         site: Rc<CallSite>,
         below: Rc<Work>,
-    ) -> Result<bool, AllocError>
+    ) -> Result<(), AllocError>
         requires small { AreSmall needs.now.procedures.items }
         requires needs { AreNeeds (seen_program self.old.program) needs.now.procedures.items }
         requires callee { site.value.callee < length self.old.program.procedures.items }
@@ -124,14 +152,16 @@ impl Meaning {
             number ≡ length site.value.actuals.items + length callee.locals }
         requires turn { work_of self.old.work.value ≡ call_top site.value ∷ work_of below.value }
         requires held { IsHeld self.old }
-        ensures done { IfOk result (λ entered. MatchBool entered
-            (Moves self.old self.new) ((self.new ≡ self.old) × IsFull self.old)) }
+        requires room { let need = need_at needs.now.procedures.items site.value.callee in
+            let used = stack_words self.old.used_temp self.old.used_ctrl in
+            lack_by need (stack_words self.old.temp self.old.ctrl) used ≡ lack.Nothing }
+        ensures done { IfOk result (λ u. Moves self.old self.new) }
         ensures unchanged { IfErr result (λ e. IsUnchanged self.old self.new) }
     {
         let callee = site.callee;
-        if !needs.room(callee, self.used_temp, self.used_ctrl, self.temp, self.ctrl) {
-            return Ok(false);
-        }
+        // The words in use stay within these sizes, so their sums fit.
+        let _temp = self.temp;
+        let _ctrl = self.ctrl;
         let Start { variables, work } = callee_start(
             alloc,
             &self.program,
@@ -144,6 +174,39 @@ impl Meaning {
         self.work = work;
         self.use_words(needs, callee);
         self.pay(needs.cost(CostEvent::Call { callee }));
-        Ok(true)
+        Ok(())
+    }
+
+    /// Makes the step of a call, with room or without.
+    pub(crate) fn make_call(
+        &mut self,
+        alloc: Global,
+        needs: &Needs,
+        site: Rc<CallSite>,
+        below: Rc<Work>,
+    ) -> Result<(), AllocError>
+        requires small { AreSmall needs.now.procedures.items }
+        requires needs { AreNeeds (seen_program self.old.program) needs.now.procedures.items }
+        requires callee { site.value.callee < length self.old.program.procedures.items }
+        requires there { site.value.callee < length self.old.names.items }
+        requires sized { let callee = proc_at (seen_program self.old.program) site.value.callee in
+            let number = length (variables_of self.old.names.items site.value.callee) in
+            number ≡ length site.value.actuals.items + length callee.locals }
+        requires turn { work_of self.old.work.value ≡ call_top site.value ∷ work_of below.value }
+        requires held { IsHeld self.old }
+        ensures done { IfOk result (λ u. Moves self.old self.new) }
+        ensures unchanged { IfErr result (λ e. IsUnchanged self.old self.new) }
+    {
+        match needs.lack(
+            site.callee,
+            self.used_temp,
+            self.used_ctrl,
+            self.temp,
+            self.ctrl,
+        ) {
+            Lack::Nothing => self.enter_call(alloc, needs, site, below),
+            Lack::Temporary => self.raise_space(alloc, needs, CostEvent::LackTemporary, &below),
+            Lack::Control => self.raise_space(alloc, needs, CostEvent::LackControl, &below),
+        }
     }
 }

@@ -21,6 +21,7 @@ pub fn is_same(left: Condition, right: Condition) -> bool
     match (left, right) {
         (Condition::Leave, Condition::Leave) => true,
         (Condition::Routine, Condition::Routine) => true,
+        (Condition::Space, Condition::Space) => true,
         (Condition::Declared(i), Condition::Declared(j)) => i == j,
         _ => false,
     }

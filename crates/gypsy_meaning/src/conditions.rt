@@ -8,6 +8,8 @@ pub enum Current {
     Normal,
     Routine,
     Leave,
+    /// `spaceerror`, of a call without room.
+    Space,
     /// A declared condition.
     Named(Name),
 }

@@ -1,6 +1,6 @@
 //! What predefined calls do.
 
-ghost use Rattle.std.specs.Prelude.{◌≡◌, ◌<◌, ◌∷◌, [], IfOk, IsTrue, MatchOption, length, map, slice_set};
+ghost use Rattle.std.specs.Prelude.{◌≡◌, ◌<◌, ◌*ℤ◌, ◌∷◌, [], IfOk, IsTrue, MatchOption, length, map, slice_set};
 ghost use Rattle.stack_text.specs.Values.{is_item};
 ghost use Rattle.gypsy_syntax.specs.Programs.{simple};
 ghost use Rattle.gypsy_syntax.specs.Effects as effect;
@@ -121,6 +121,13 @@ fn number(alloc: Global, number: i64) -> Result<Effected, AllocError>
     } else {
         Ok(Effected::Fault)
     }
+}
+
+/// The product of two integers.
+fn product(left: i32, right: i32) -> i64
+    ensures { result ≡ left *ℤ right }
+{
+    left as i64 * right as i64
 }
 
 fn truth(alloc: Global, truth: bool) -> Result<Effected, AllocError>
@@ -261,5 +268,9 @@ pub fn apply(
         Predef::MgBooleanNot => truth(alloc, !truth_at(variables, args, 1)),
         Predef::MgIndexArray => index_array(alloc, variables, args),
         Predef::MgArrayElementAssignment => store_in_array(alloc, variables, args),
+        Predef::MgIntegerMultiply => number(
+            alloc,
+            product(item_at(variables, args, 1), item_at(variables, args, 2)),
+        ),
     }
 }

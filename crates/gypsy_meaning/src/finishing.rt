@@ -10,7 +10,7 @@ ghost use Rattle.gypsy_meaning.specs.Held.{EndsRun};
 ghost use Rattle.gypsy_meaning.specs.Returning.{Leaves};
 ghost use Rattle.gypsy_meaning.specs.Work.{work_of};
 
-use crate::returning::is_formal;
+use crate::returning::is_passed_on;
 use crate::running::{Ending, Meaning};
 use gypsy_space::{Condition, CostEvent, Needs, Program};
 
@@ -29,20 +29,20 @@ fn formal_count(program: &Program) -> usize
 fn main_condition(program: &Program, cond: Condition) -> Condition
     ensures { seen_cond result ≡ main_way (seen_program program.now) (seen_cond cond) }
 {
-    if is_formal(program, program.main, cond) {
+    if is_passed_on(program, program.main, cond) {
         cond
     } else {
         Condition::Routine
     }
 }
 
-/// What a condition costs that leaves main: a formal one or not.
+/// What a condition costs that leaves main: passed on or not.
 #[tactic(auto, unfolding(gypsy_space::specs::Events::event_count))]
-fn end_price(needs: &Needs, formal: bool) -> u64
+fn end_price(needs: &Needs, passed: bool) -> u64
     requires { AreSmall needs.now.procedures.items }
-    ensures { result ≡ end_price formal }
+    ensures { result ≡ end_price passed }
 {
-    if formal {
+    if passed {
         needs.cost(CostEvent::OutFormal)
     } else {
         needs.cost(CostEvent::OutOther)
@@ -78,8 +78,8 @@ impl Meaning {
         requires alone { self.old.waiting.items ≡ [] }
         ensures { EndsRun self.old self.new }
     {
-        let formal = is_formal(&self.program, self.program.main, cond);
+        let passed = is_passed_on(&self.program, self.program.main, cond);
         let cond = main_condition(&self.program, cond);
-        self.finish(Ending::Raised(cond), end_price(needs, formal));
+        self.finish(Ending::Raised(cond), end_price(needs, passed));
     }
 }

@@ -32,5 +32,5 @@ pub use laws::{
     counting_changes_nothing, meanings_agree, runs_keep_their_source, start_fits, steps_keep_fit,
     steps_keep_room,
 };
-pub use returning::is_formal;
+pub use returning::is_passed_on;
 pub use running::Meaning;

@@ -106,8 +106,7 @@ impl Meaning {
         Ok(Some(meaning))
     }
 
-    /// One step. What it answers and leaves is what the step machine does; a call without room changes nothing, and
-    /// neither does a step after the end.
+    /// One step. What it answers and leaves is what the step machine does; a step after the end changes nothing.
     ///
     /// # Errors
     ///
@@ -131,8 +130,8 @@ impl Meaning {
         Ok(moved)
     }
 
-    /// At most `limit` steps, until the end is reached or a call has no room. What it answers agrees with the meaning
-    /// of the source; where the meaning is done, a run whose limit is large enough ends with the same.
+    /// At most `limit` steps, until the end is reached. What it answers agrees with the meaning of the source; where the
+    /// meaning is done, a run whose limit is large enough ends with the same.
     ///
     /// # Errors
     ///
@@ -174,7 +173,6 @@ impl Meaning {
             match self.step(alloc, accepted, needs)? {
                 Moved::Moved => {}
                 Moved::Ended => return Ok(MeanRun::Ended),
-                Moved::NoRoom { place } => return Ok(MeanRun::NoRoom { place }),
             }
         }
         if self.ended() {

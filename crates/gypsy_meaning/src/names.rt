@@ -22,6 +22,7 @@ pub struct Unnamed {
     pub normal: Current,
     pub routine: Current,
     pub leave: Current,
+    pub space: Current,
 }
 
 impl Unnamed {
@@ -32,6 +33,7 @@ impl Unnamed {
             normal: Current::Normal,
             routine: Current::Routine,
             leave: Current::Leave,
+            space: Current::Space,
         }
     }
 }

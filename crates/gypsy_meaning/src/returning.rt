@@ -4,7 +4,7 @@ ghost use Rattle.std.specs.Prelude.{◌≡◌, [], get_or, map, IfErr, IfOk, IfS
 ghost use Rattle.gypsy_space.specs.Events.{AreSmall};
 ghost use Rattle.gypsy_syntax.specs.Programs.{Routine};
 ghost use Rattle.gypsy_space.specs.Nodes.{seen_cond, seen_program};
-ghost use Rattle.gypsy_meaning.specs.Calls.{is_formal, matching};
+ghost use Rattle.gypsy_meaning.specs.Calls.{is_passed_on, matching};
 ghost use Rattle.gypsy_meaning.specs.Machine.{settle};
 ghost use Rattle.gypsy_meaning.specs.Returning.{HasResumed, IsLast, Leaves, RaisesTo, out_price};
 ghost use Rattle.gypsy_meaning.specs.Held.{Moves};
@@ -31,31 +31,33 @@ fn waiting_work(alloc: Global, waiting: &[Frame]) -> Result<Option<Rc<Work>>, Al
     }
 }
 
-/// Whether a condition is one of a procedure's formal ones.
-#[tactic(auto, unfolding(crate::specs::Calls::is_formal))]
-pub fn is_formal(program: &Program, procedure: u32, cond: Condition) -> bool
-    ensures { result ≡ is_formal (seen_program program.now) procedure (seen_cond cond) }
+/// Whether a condition is passed on where it leaves a procedure: one of its formal ones, or spaceerror.
+#[tactic(auto, unfolding(crate::specs::Calls::is_passed_on))]
+pub fn is_passed_on(program: &Program, procedure: u32, cond: Condition) -> bool
+    ensures { result ≡ is_passed_on (seen_program program.now) procedure (seen_cond cond) }
 {
     match (cond, program.procedures.get(procedure as usize)) {
+        (Condition::Space, _) => true,
         (Condition::Declared(number), Some(procedure)) => (number as usize) < procedure.conds.len(),
         _ => false,
     }
 }
 
-/// The condition of the caller: the matching actual of a formal condition, and else routineerror.
-#[tactic(auto, unfolding(crate::specs::Calls::matching, crate::specs::Calls::is_formal))]
+/// The condition of the caller: the matching actual of a formal condition, spaceerror itself, and else routineerror.
+#[tactic(auto, unfolding(crate::specs::Calls::matching, crate::specs::Calls::is_passed_on))]
 fn matching(program: &Program, procedure: u32, conds: &[Condition], cond: Condition) -> Condition
     ensures { let actuals = map seen_cond conds.now in
         seen_cond result ≡ matching (seen_program program.now) procedure actuals (seen_cond cond) }
 {
     match cond {
         Condition::Declared(number) => {
-            if is_formal(program, procedure, cond) {
+            if is_passed_on(program, procedure, cond) {
                 actual(conds, number)
             } else {
                 Condition::Routine
             }
         }
+        Condition::Space => Condition::Space,
         Condition::Leave | Condition::Routine => Condition::Routine,
     }
 }
@@ -91,13 +93,13 @@ fn raised_out(
     }
 }
 
-/// What a condition costs that leaves a procedure: a formal one or not, and where it was caught.
+/// What a condition costs that leaves a procedure: passed on or not, and where it was caught.
 #[tactic(auto, unfolding(gypsy_space::specs::Events::event_count))]
-fn out_price(needs: &Needs, formal: bool, caught: bool) -> u64
+fn out_price(needs: &Needs, passed: bool, caught: bool) -> u64
     requires { AreSmall needs.now.procedures.items }
-    ensures { result ≡ out_price formal caught }
+    ensures { result ≡ out_price passed caught }
 {
-    let event = if formal {
+    let event = if passed {
         CostEvent::OutFormal
     } else {
         CostEvent::OutOther
@@ -178,7 +180,7 @@ impl Meaning {
             ((self.new ≡ self.old) × (self.old.waiting.items ≡ []))) }
         ensures unchanged { IfErr result (λ e. self.new ≡ self.old) }
     {
-        let formal = is_formal(&self.program, self.procedure, cond);
+        let passed = is_passed_on(&self.program, self.procedure, cond);
         match raised_out(
             alloc,
             &self.program,
@@ -190,7 +192,7 @@ impl Meaning {
             Some(raised) => {
                 let Raised { work, caught } = raised;
                 self.resume(work);
-                self.pay(out_price(needs, formal, caught));
+                self.pay(out_price(needs, passed, caught));
                 Ok(true)
             }
         }

@@ -36,7 +36,7 @@ pub struct Frame {
 #[derive(Clone, Copy)]
 pub enum Ending {
     Normal,
-    /// With a formal condition of main, or routineerror.
+    /// With a formal condition of main, spaceerror or routineerror.
     Raised(Condition),
 }
 

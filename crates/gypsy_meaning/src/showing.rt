@@ -176,6 +176,7 @@ impl Meaning {
             None => &self.unnamed.normal,
             Some(Condition::Leave) => &self.unnamed.leave,
             Some(Condition::Routine) => &self.unnamed.routine,
+            Some(Condition::Space) => &self.unnamed.space,
             Some(Condition::Declared(number)) => declared(
                 self.names.as_slice(),
                 self.active(),

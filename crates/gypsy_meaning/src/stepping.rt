@@ -15,7 +15,7 @@ use std::alloc::{AllocError, Global};
 use std::rc::Rc;
 
 impl Meaning {
-    /// Makes the step of a call, or tells that it has no room.
+    /// Makes the step of a call.
     fn call(
         &mut self,
         alloc: Global,
@@ -28,12 +28,8 @@ impl Meaning {
         ensures done { IfOk result (Does self.old self.new) }
         ensures unchanged { IfErr result (λ e. IsUnchanged self.old self.new) }
     {
-        let place = site.place;
-        if self.enter_call(alloc, needs, site, below)? {
-            Ok(Moved::Moved)
-        } else {
-            Ok(Moved::NoRoom { place })
-        }
+        self.make_call(alloc, needs, site, below)?;
+        Ok(Moved::Moved)
     }
 
     /// Makes the step at the normal end of a procedure.

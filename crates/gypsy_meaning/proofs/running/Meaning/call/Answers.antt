@@ -2,6 +2,6 @@ use Rattle.gypsy_meaning.specs.Work.{work_of}
 use Rattle.gypsy_meaning.proofs.ReadyLaws.{call_sized}
 use Rattle.gypsy_meaning.proofs.running.Meaning.call.Goals as goal
 
-pub enter_call-requires-clause-sized : goal.enter_call-requires-clause-sized
-enter_call-requires-clause-sized c =
+pub make_call-requires-clause-sized : goal.make_call-requires-clause-sized
+make_call-requires-clause-sized c =
     call_sized c.args.needs.now.procedures.items c.args.self.now c.args.site.value (work_of c.args.below.value) c.requires.ready c.requires.turn

@@ -1,32 +1,18 @@
-use Rattle.std.proofs.Common.{◌≡◌, ℕ, ◌<◌, List, [], length, map, true, false, refl, sym, ap, ap₂, ◌∙◌, arith}
+use Rattle.std.proofs.Common.{◌≡◌, ℕ, ◌<◌, List, [], length, map, ap, ap₂, ◌∙◌, arith}
 use Rattle.std.proofs.lemmas.List.{length-map}
 use Rattle.stack_text.specs.declared.name.Name.{Name}
 use Rattle.stack_text.specs.declared.value.Value.{Value}
 use Rattle.gypsy_syntax.specs.Programs.{body_of}
-use Rattle.gypsy_space.specs.Needs.{stack_words}
 use Rattle.gypsy_space.specs.Nodes.{seen_proc, seen_program}
-use Rattle.gypsy_space.specs.Events.{has_room_by, need_at}
 use Rattle.gypsy_space.specs.declared.program.CallSite.{CallSite}
 use Rattle.gypsy_meaning.specs.Calls.{copied_in}
 use Rattle.gypsy_meaning.specs.Machine.{open_on}
 use Rattle.gypsy_meaning.specs.Named.{variables_of}
 use Rattle.gypsy_meaning.specs.Running.{paid}
-use Rattle.gypsy_meaning.specs.Running.{sizes_of}
 use Rattle.gypsy_meaning.specs.Work.{work_of}
 use Rattle.gypsy_meaning.specs.declared.names.Names.{Names}
-use Rattle.gypsy_meaning.proofs.CallingLaws.{after_call, enters, is_full}
+use Rattle.gypsy_meaning.proofs.CallingLaws.{after_call, enters}
 use Rattle.gypsy_meaning.proofs.running.Meaning.enter_call.Goals as goal
-
-pub returns-then-not-room-clause-done : goal.returns-then-not-room-clause-done
-returns-then-not-room-clause-done c =
-    let m = c.args.self.now in
-    let ns = c.args.needs.now.procedures.items in
-    let site = c.args.site.value in
-    let there : site.callee < length (seen_program m.program).procs = omega (arith, c.requires.callee, length-map m.program.procedures.items seen_proc) in
-    let callee : c.deref.result.now.callee ≡ site.callee = ap (λ (s : CallSite). s.callee) c.deref.ensures in
-    let room : has_room_by (need_at ns site.callee) (sizes_of m) (stack_words m.used_temp m.used_ctrl) ≡ false =
-    sym (c.room.ensures ∙ ap (λ (k : ℕ). has_room_by (need_at ns k) (sizes_of m) (stack_words m.used_temp m.used_ctrl)) callee) ∙ c.if-not-room.true in
-    (refl, is_full m ns site (work_of c.args.below.value) c.requires.needs there c.requires.turn c.requires.held.top.used_words room)
 
 pub returns-clause-done : goal.returns-clause-done
 returns-clause-done c =
@@ -36,8 +22,6 @@ returns-clause-done c =
     let site = c.args.site.value in
     let there : site.callee < length (seen_program m.program).procs = omega (arith, c.requires.callee, length-map m.program.procedures.items seen_proc) in
     let callee : c.deref.result.now.callee ≡ site.callee = ap (λ (s : CallSite). s.callee) c.deref.ensures in
-    let room : has_room_by (need_at ns site.callee) (sizes_of m) (stack_words m.used_temp m.used_ctrl) ≡ true =
-    sym (c.room.ensures ∙ ap (λ (k : ℕ). has_room_by (need_at ns k) (sizes_of m) (stack_words m.used_temp m.used_ctrl)) callee) ∙ c.if-not-room.false in
     let a = c.wait.new.self in
     let vars = c.in_ok-variables.field-0.variables in
     let w = c.in_ok-variables.field-0.work in
@@ -55,4 +39,4 @@ returns-clause-done c =
     let final : c.pay.new.self ≡ after_call ns site.callee w a =
     c.pay.ensures ∙ ap₂ paid c.cost.ensures.count c.use_words.ensures
     ∙ ap (λ (k : ℕ). after_call ns k w a) callee in
-    enters m a ns c.args.site c.args.below w vars c.requires.needs there c.requires.turn c.requires.held room values named body waits c.pay.new.self final (omega arith) (omega arith)
+    enters m a ns c.args.site c.args.below w vars c.requires.needs there c.requires.turn c.requires.held c.requires.room values named body waits c.pay.new.self final (omega arith) (omega arith)

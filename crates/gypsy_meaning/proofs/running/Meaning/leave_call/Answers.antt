@@ -19,6 +19,6 @@ returns-in-Some-clause-done c =
     let last : P m.waiting.items = subst P c.as_slice.ensures.value (rw c.in-Some.is at c.in_ok-raised_out.ensures.some) in
     let Q : Meaning → Type 0 = Moves m in
     let R : ℕ → Type 0 = λ cost. Moves m (paid cost c.resume.new.self) in
-    let price = c.out_price.ensures ∙ ap (λ b. out_price b caught) c.is_formal-formal.ensures in
+    let price = c.out_price.ensures ∙ ap (λ b. out_price b caught) c.is_passed_on-passed.ensures in
     subst Q (sym c.pay.ensures)
     (subst R (sym price) (leave_moves m c.resume.new.self w caught d c.requires.turn.0 c.requires.turn.1 last c.resume.ensures))

@@ -23,14 +23,6 @@ returns-in-Ended-clause-ran c =
     sym (run_left c.args.limit c.loop-made._made v r moved.Ended lt c.loop-made.invariant.0 (sym c.in_ok-step.ensures.answer ∙ c.in-Ended.is))
     ∙ ap (λ (s : Seen). let b : Ran = record { run = ran.Ended; seen = s } in b) (sym c.in_ok-step.ensures.left)
 
-pub returns-in-NoRoom-clause-ran : goal.returns-in-NoRoom-clause-ran
-returns-in-NoRoom-clause-ran c =
-    let v = seen c.loop-made.self in
-    let r = run_of c.args.limit (seen c.args.self.now) in
-    let lt : c.loop-made._made < c.args.limit = omega arith in
-    sym (run_left c.args.limit c.loop-made._made v r (moved.NoRoom c.in-NoRoom.place) lt c.loop-made.invariant.0 (sym c.in_ok-step.ensures.answer ∙ c.in-NoRoom.is))
-    ∙ ap (λ (s : Seen). let b : Ran = record { run = ran.NoRoom c.in-NoRoom.place; seen = s } in b) (sym c.in_ok-step.ensures.left)
-
 pub loop-made-preserved : goal.loop-made-preserved
 loop-made-preserved c =
     let v = seen c.loop-made.self in

@@ -1,0 +1,22 @@
+use Rattle.std.proofs.Common.{map, sym, subst, ap, ◌∙◌}
+use Rattle.gypsy_space.specs.Costs.{start_tally}
+use Rattle.gypsy_space.specs.Events.{event_spend}
+use Rattle.gypsy_space.specs.Nodes.{seen_program}
+use Rattle.gypsy_meaning.specs.Held.{Moves}
+use Rattle.gypsy_meaning.specs.Machine.{Next}
+use Rattle.gypsy_meaning.specs.Running.{frames_of}
+use Rattle.gypsy_meaning.specs.declared.running.Meaning.{Meaning}
+use Rattle.gypsy_meaning.specs.declared.turn.Advance.{Advance}
+use Rattle.gypsy_meaning.proofs.RunningLaws.{step_moves}
+use Rattle.gypsy_meaning.proofs.running.Meaning.raise_space.Goals as goal
+
+pub returns-clause-done : goal.returns-clause-done
+returns-clause-done c =
+    let m = c.args.self.now in
+    let r = c.in_ok-raised.raised in
+    let a : Advance = record { work = r.work; event = c.args.event; caught = r.caught } in
+    let spent = event_spend (seen_program m.program) c.args.event start_tally in
+    let P : Meaning → Type 0 = Moves m in
+    subst P (sym c.advance.ensures)
+    (step_moves c.args.needs.now.procedures.items a m c.requires.plain
+    (c.requires.turn ∙ ap Next (c.in_ok-raised.ensures m.procedure (map (λ v. v.1) m.variables.items) (frames_of m.waiting.items) spent)))
