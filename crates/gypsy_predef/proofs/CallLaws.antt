@@ -13,9 +13,8 @@ use Rattle.piton_syntax.specs.declared.test_kind.TestKind.TheVariants as test
 use Rattle.piton_check.specs.Instruction.{Instruction, SystemView, PushConstant, PushLocal, PushGlobal, Apply, TestAndJump, Call}
 use Rattle.piton_machine.specs.State.{Frame, PitonState, program_of, instruction_at, word_at, with_word}
 use Rattle.piton_machine.specs.Views.{then_on, test_of}
-use Rattle.piton_machine.specs.Law.{Steps, none, more}
+use Rattle.piton_machine.specs.Law.{Steps, none}
 use Rattle.piton_words.specs.Rows as words
-use Rattle.piton_machine.specs.Step.{step_cost}
 use Rattle.piton_machine.proofs.RowLaws.{does_push, does_push_local, does_push_global, does_test_and_jump, does_apply}
 use Rattle.gypsy_syntax.specs.declared.slot.Form.{Form}
 use Rattle.gypsy_syntax.specs.declared.slot.Form.TheVariants.{Simple, Array, Literal}
@@ -30,27 +29,8 @@ use Rattle.gypsy_predef.specs.Bodies.{body_of, bodies, predef_number, lengths_of
 use Rattle.gypsy_predef.specs.Runs.{Argument, ArgumentsFit, pushed_word, pushed_words, push_all, values_of, length_words, can_fail, with_elements, target_of, words_of_value, push_count, pushes_count, called_count, called_steps, after_call, IsAtCall}
 use Rattle.gypsy_predef.specs.Calls.{argument_code, arguments_code, test_code, CodeAt, LocalHolds, LocalsHold, after_code, PredefCallRuns, BodiesStand}
 use Rattle.gypsy_predef.proofs.StackLaws.{written_length}
-use Rattle.gypsy_predef.proofs.RunningLaws.{step_first}
+use Rattle.gypsy_predef.proofs.RunningLaws.{step_first, joined, counted}
 use Rattle.gypsy_predef.proofs.RowLaws.{runs, counts}
-
--- Steps, and then others.
-steps_first : (s : SystemView) (j' n' : ℕ) (j n : ℕ) (p q r : PitonState) → Steps s j n p q → Steps s j' n' q r → Steps s (j + j') (n + n') p r
-steps_first s j' n' i n x y z (none {p = p}) rest =
-    let a : j' ≡ 0 + j' = omega arith in
-    let b : n' ≡ 0 + n' = omega arith in
-    subst (λ i. Steps s i (0 + n') p z) a (subst (λ i. Steps s j' i p z) b rest)
-steps_first s j' n' i n x y z (more {j = j} {n = m} {p = p} {q = p'} {r = q} f fs here step steps) rest =
-    let a : suc (j + j') ≡ suc j + j' = omega arith in
-    let b : step_cost s p + (m + n') ≡ step_cost s p + m + n' = omega arith in
-    subst (λ i. Steps s i (step_cost s p + m + n') p z) a
-    (subst (λ i. Steps s (suc (j + j')) i p z) b
-    (more f fs here step (steps_first s j' n' j m p' q z steps rest)))
-
-joined : {s : SystemView} {j' n' j n : ℕ} {p q r : PitonState} → Steps s j n p q → Steps s j' n' q r → Steps s (j + j') (n + n') p r
-joined {s} {j'} {n'} {j} {n} {p} {q} {r} steps rest = steps_first s j' n' j n p q r steps rest
-
-counted : (s : SystemView) (j n j' n' : ℕ) (p q : PitonState) → j ≡ j' → n ≡ n' → Steps s j n p q → Steps s j' n' p q
-counted s j n j' n' p q a b steps = subst (λ i. Steps s i n' p q) a (subst (λ i. Steps s j i p q) b steps)
 
 -- Code and then other code.
 code_after : (s : SystemView) (program place : ℕ) (front rest : List Instruction) → CodeAt s program place (front ++ rest) → CodeAt s program (place + length front) rest
@@ -154,6 +134,7 @@ lengths_are row.MgBooleanAnd vs = refl
 lengths_are row.MgBooleanNot vs = refl
 lengths_are row.MgIndexArray vs = refl
 lengths_are row.MgArrayElementAssignment vs = refl
+lengths_are row.MgIntegerMultiply vs = refl
 
 -- the words that a call needs cover its arguments, and one more word at least
 temp_covers : (r : Predef) → (length (slots_of r) + lengths_of r ≤ predef_temp r) × (1 ≤ predef_temp r)
@@ -170,6 +151,7 @@ temp_covers row.MgBooleanAnd = (omega arith, omega arith)
 temp_covers row.MgBooleanNot = (omega arith, omega arith)
 temp_covers row.MgIndexArray = (omega arith, omega arith)
 temp_covers row.MgArrayElementAssignment = (omega arith, omega arith)
+temp_covers row.MgIntegerMultiply = (omega arith, omega arith)
 
 -- a program that can't fail has a normal effect
 is_normal : (r : Predef) (vs : List ValueOf) → can_fail r ≡ false → (v : ValueOf) × (predef_effect r vs ≡ Normal v)
@@ -187,6 +169,7 @@ is_normal row.MgBooleanAnd vs h = (_, refl)
 is_normal row.MgBooleanNot vs h = (_, refl)
 is_normal row.MgIndexArray vs h = cc
 is_normal row.MgArrayElementAssignment vs h = cc
+is_normal row.MgIntegerMultiply vs h = cc
 
 word_set : (areas : List (List Word)) (v w : Word) → word_at areas 0 0 ≡ Some v → word_at (with_word areas 0 0 w) 0 0 ≡ Some w
 word_set [] v w h = cc
@@ -310,6 +293,7 @@ number_is row.MgBooleanAnd = refl
 number_is row.MgBooleanNot = refl
 number_is row.MgIndexArray = refl
 number_is row.MgArrayElementAssignment = refl
+number_is row.MgIntegerMultiply = refl
 
 pub stand : BodiesStand
 stand s programs r h =

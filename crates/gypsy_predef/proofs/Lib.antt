@@ -2,6 +2,8 @@ mod StackLaws
 mod RunningLaws
 mod ValueLaws
 mod NumberLaws
+mod ProductLaws
+mod MultiplyLaws
 mod RowLaws
 mod CallLaws
 mod ArgumentLaws

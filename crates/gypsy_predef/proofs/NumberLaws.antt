@@ -1,11 +1,10 @@
 -- The word operations of the bodies on words of items.
-use Rattle.std.proofs.Common.{◌≡◌, ℕ, zero, suc, ◌+◌, ◌<◌, ◌^◌, ℤ, pos, negsuc, ◌+ℤ◌, ◌-ℤ◌, neg_ℤ, Ok, Bool, true, false, not, ◌⊎◌, cond, List, FitsSigned, refl, ap, sym, ◌∙◌, arith, int_lt, int_le, inl, inr}
+use Rattle.std.proofs.Common.{◌≡◌, ℕ, zero, suc, ◌+◌, ◌<◌, ◌^◌, ℤ, pos, negsuc, ◌+ℤ◌, ◌-ℤ◌, neg_ℤ, Ok, Bool, true, false, not, ◌⊎◌, cond, List, refl, ap, sym, ◌∙◌, arith, int_lt, int_le, inl, inr}
 use Rattle.std.specs.Prelude.{◌==◌, nat_lt, nat_le}
 use Rattle.std.specs.Ordering.{is_eq}
 use Rattle.std.proofs.Common.{Less, Equal, Greater}
-use Rattle.std.specs.Int.{w32, cast_signed, int_wrap}
 use Rattle.std.proofs.lemmas.Bool.{cases_order, eq-eqb, ne_eqb, lt-ltb, le-ltb, le-leb, lt-leb, ltb-false, ltb-true, eqb-true, eqb-false, or_cases}
-use Rattle.std.proofs.lemmas.Int.{int_wrap_fits, ints}
+use Rattle.std.proofs.lemmas.Int.{ints}
 use Rattle.stack_text.specs.declared.shape.Kind.{Kind}
 use Rattle.stack_text.specs.declared.shape.Kind.TheVariants.{Integer, Boolean, Character}
 use Rattle.piton_words.specs.declared.word.Word.{Word}
@@ -13,7 +12,7 @@ use Rattle.piton_words.specs.declared.word.Word.TheVariants.{Int, Nat, Bool as T
 use Rattle.piton_words.specs.declared.op.WordOp.TheVariants as op
 use Rattle.piton_words.specs.declared.outcome.Outcome.TheVariants.{One}
 use Rattle.piton_words.specs.Rows as words
-use Rattle.fm_words.specs.Word.{are_same_ints, is_int, wrapped}
+use Rattle.fm_words.specs.Word.{are_same_ints, is_int}
 use Rattle.fm_words.specs.Alu.{are_same as are_same_bools}
 use Rattle.piton_words.specs.Rows.{are_same, bool_word, int_word, int_carried}
 use Rattle.stack_text.specs.Results.{◌>>=◌}
@@ -93,14 +92,6 @@ not_less (negsuc m) (negsuc n) = not_below n m
 pub same_range : (z : ℤ) → is_in_range Integer z ≡ is_int z
 same_range (pos n) = refl
 same_range (negsuc n) = refl
-
-fits : (z : ℤ) → is_int z ≡ true → FitsSigned w32 z
-fits (pos n) h = record { sfits = ltb-true n (2 ^ 31) h }
-fits (negsuc n) h = record { sfits = ltb-true n (2 ^ 31) h }
-
-pub carried_is : (z : ℤ) → is_int z ≡ true → cast_signed w32 (wrapped z) ≡ z
-unfolding int_wrap
-carried_is z h = int_wrap_fits w32 z (fits z h)
 
 pub difference_is : (x : ℤ) → pos 0 -ℤ x ≡ neg_ℤ x
 difference_is x = omega (arith, ints)

@@ -30,6 +30,7 @@ resolve s row.MgBooleanAnd h = refl
 resolve s row.MgBooleanNot h = refl
 resolve s row.MgIndexArray h = rw h refl
 resolve s row.MgArrayElementAssignment h = rw h refl
+resolve s row.MgIntegerMultiply h = rw h refl
 
 text_number : (r : Predef) → slice_get body_texts (predef_number r) ≡ Some (body_text r)
 text_number row.MgSimpleVariableAssignment = refl
@@ -45,6 +46,7 @@ text_number row.MgBooleanAnd = refl
 text_number row.MgBooleanNot = refl
 text_number row.MgIndexArray = refl
 text_number row.MgArrayElementAssignment = refl
+text_number row.MgIntegerMultiply = refl
 
 pub stand_resolved : BodiesStandResolved
 stand_resolved s programs r e h =
@@ -80,3 +82,4 @@ keep_rules s row.MgBooleanAnd h = refl
 keep_rules s row.MgBooleanNot h = refl
 keep_rules s row.MgIndexArray h = rw h refl
 keep_rules s row.MgArrayElementAssignment h = rw h refl
+keep_rules s row.MgIntegerMultiply h = rw h refl

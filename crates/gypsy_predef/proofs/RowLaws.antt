@@ -1,11 +1,10 @@
 -- The rows.
-use Rattle.std.proofs.Common.{◌≡◌, ℕ, ◌+◌, ◌≤◌, ◌<◌, ◌^◌, ℤ, pos, negsuc, ◌+ℤ◌, ◌-ℤ◌, neg_ℤ, int_le, int_lt, not, ◌||◌, ◌&&◌, Result, Some, Ok, Bool, true, false, List, [], ◌∷◌, length, map, refl, ap, sym, ◌∙◌, subst, arith}
+use Rattle.std.proofs.Common.{◌≡◌, ℕ, ◌+◌, ◌≤◌, ◌<◌, ◌^◌, ℤ, pos, negsuc, ◌+ℤ◌, ◌-ℤ◌, ◌*ℤ◌, neg_ℤ, int_le, int_lt, not, ◌||◌, ◌&&◌, Result, Some, Ok, Bool, true, false, List, [], ◌∷◌, length, map, refl, ap, sym, ◌∙◌, subst, arith}
 use Rattle.std.specs.Prelude.{slice_get, slice_set, nat_lt, get_or, if◌then◌else◌}
 use Rattle.std.proofs.lemmas.Bool.{lt-ltb, ltb-true}
 use Rattle.std.proofs.lemmas.List.{map-set, length-map}
 use Rattle.piton_machine.specs.Views.{is_negative}
 use Rattle.gypsy_syntax.specs.Programs.{simple}
-use Rattle.std.proofs.lemmas.Option.{get_or_from_slice_get}
 use Rattle.stack_text.specs.declared.shape.Kind.{Kind}
 use Rattle.stack_text.specs.declared.shape.Kind.TheVariants.{Integer, Boolean}
 use Rattle.stack_text.specs.Values.{ValueOf, item_count}
@@ -21,7 +20,7 @@ use Rattle.fm_words.specs.Word.{are_same_ints, is_int, wrapped}
 use Rattle.piton_syntax.specs.declared.test_kind.TestFamily.TheVariants as family
 use Rattle.piton_syntax.specs.declared.test_kind.TestKind.TheVariants as test
 use Rattle.piton_check.specs.Instruction.{ProgramView, SystemView, Call}
-use Rattle.piton_machine.specs.State.{Frame, PitonState, program_of, instruction_at, ctrl_used, with_element}
+use Rattle.piton_machine.specs.State.{Frame, PitonState, instruction_at, ctrl_used, with_element}
 use Rattle.piton_machine.specs.Law.{Steps}
 use Rattle.gypsy_syntax.specs.declared.slot.Form.TheVariants.{Simple, Array, Literal}
 use Rattle.gypsy_syntax.specs.declared.predef.Predef.{Predef}
@@ -35,13 +34,12 @@ use Rattle.gypsy_syntax.specs.PredefinedCosts.{predef_cost}
 use Rattle.gypsy_syntax.specs.PredefinedCosts.{predef_temp, predef_ctrl}
 use Rattle.gypsy_predef.specs.Bodies.{body_of, predef_number}
 use Rattle.gypsy_predef.specs.Runs.{word_of_item, words_of_value, with_elements, length_word, Argument, values_of, ArgumentFits, ArgumentsFit, with_arguments, Runs, PredefRuns, CountsAdd, WordsWritten}
-use Rattle.gypsy_predef.proofs.RunningLaws.{Called, calls, gets, puts, fails, pushes, pushes_local, pops_local, sets_local, fetches, deposits, jumps, applies_one, applies_two, applies_three, returns}
+use Rattle.gypsy_predef.proofs.RunningLaws.{Called, program_is, calls, gets, puts, fails, pushes, pushes_local, pops_local, sets_local, fetches, deposits, jumps, applies_one, applies_two, applies_three, returns}
 use Rattle.gypsy_predef.proofs.StackLaws.{element_over, element_under_two, element_there, written_one, written_length, written_word, written_other}
-use Rattle.gypsy_predef.proofs.NumberLaws.{eq_row, not_less, same_range, carried_is, minus_range, minus_row, add_row, subtract_row, truth_test, false_test, negative_test, to_nat_row, add_nat_row}
+use Rattle.gypsy_predef.proofs.NumberLaws.{eq_row, not_less, same_range, minus_range, minus_row, add_row, subtract_row, truth_test, false_test, negative_test, to_nat_row, add_nat_row}
+use Rattle.gypsy_predef.proofs.ProductLaws.{kept_is}
+use Rattle.gypsy_predef.proofs.MultiplyLaws.{product_fits, product_overflows}
 use Rattle.gypsy_predef.proofs.ValueLaws.{simple_words, simple_range, simple_argument, literal_word, array_word, truth_words, for_two, for_three}
-
-program_is : (s : SystemView) (program : ℕ) (body : ProgramView) → slice_get s.programs program ≡ Some body → program_of s program ≡ body
-program_is s program body found = get_or_from_slice_get s.programs program body _ found
 
 module _ (s : SystemView) (program caller place : ℕ) (f : Frame) (fs : List Frame) (stack : List Word) (areas : List (List Word)) (k : Kind)
     (small : s.temp ≤ 2 ^ 16) (at : instruction_at s caller place ≡ Some (Call program)) where
@@ -285,7 +283,7 @@ module _ (s : SystemView) (program caller place : ℕ) (f : Frame) (fs : List Fr
       let sum = Int (cast_signed w32 (wrapped (u +ℤ v))) in
       let locals = Nat a.index ∷ Nat b.index ∷ Nat c.index ∷ Int (pos 0) ∷ [] in
       let kept = Nat a.index ∷ Nat b.index ∷ Nat c.index ∷ sum ∷ [] in
-      let e : words_of_value (integer_value (u +ℤ v)) ≡ sum ∷ [] = ap (λ z. Int z ∷ []) (sym (carried_is (u +ℤ v) h)) in
+      let e : words_of_value (integer_value (u +ℤ v)) ≡ sum ∷ [] = ap (λ z. Int z ∷ []) (sym (kept_is (u +ℤ v) h)) in
       written 13 46 a.index _ sum (integer_value (u +ℤ v)) e
       (calls here ready.found (Nat c.index ∷ Nat b.index ∷ Nat a.index ∷ stack) areas at (omega arith) ready.ctrl
       (pushes here 0 locals stack areas (Truth false) refl (omega (arith, room))
@@ -337,7 +335,7 @@ module _ (s : SystemView) (program caller place : ℕ) (f : Frame) (fs : List Fr
       let sum = Int (cast_signed w32 (wrapped (u -ℤ v))) in
       let locals = Nat a.index ∷ Nat b.index ∷ Nat c.index ∷ Int (pos 0) ∷ [] in
       let kept = Nat a.index ∷ Nat b.index ∷ Nat c.index ∷ sum ∷ [] in
-      let e : words_of_value (integer_value (u -ℤ v)) ≡ sum ∷ [] = ap (λ z. Int z ∷ []) (sym (carried_is (u -ℤ v) h)) in
+      let e : words_of_value (integer_value (u -ℤ v)) ≡ sum ∷ [] = ap (λ z. Int z ∷ []) (sym (kept_is (u -ℤ v) h)) in
       written 13 46 a.index _ sum (integer_value (u -ℤ v)) e
       (calls here ready.found (Nat c.index ∷ Nat b.index ∷ Nat a.index ∷ stack) areas at (omega arith) ready.ctrl
       (pushes here 0 locals stack areas (Truth false) refl (omega (arith, room))
@@ -372,6 +370,32 @@ module _ (s : SystemView) (program caller place : ℕ) (f : Frame) (fs : List Fr
       (pops_local here 6 locals 3 sum (Truth carry ∷ stack) areas refl
       (jumps here 7 kept family.Bool test.T 12 (Truth carry) true stack areas refl (truth_test carry true (ap not h))
       (fails here 12 kept stack areas refl refl refl (omega (arith, room))))))))))
+
+  multiplies : (a b c : Argument) → Ready row.MgIntegerMultiply → ArgumentFits stack Simple Integer a → ArgumentFits stack Simple Integer b → ArgumentFits stack Simple Integer c →
+      is_int (item_of_value b.value *ℤ item_of_value c.value) ≡ true → Runs s row.MgIntegerMultiply (a ∷ b ∷ c ∷ []) stack (from (Nat c.index ∷ Nat b.index ∷ Nat a.index ∷ stack)) (Normal (integer_value (item_of_value b.value *ℤ item_of_value c.value)))
+  unfolding predef_cost
+  multiplies a b c ready fa fb fc h =
+      let d = simple_argument stack Integer a fa in
+      let x = simple_argument stack Integer b fb in
+      let y = simple_argument stack Integer c fc in
+      let u = item_of_value b.value in
+      let v = item_of_value c.value in
+      let fits : is_int v ≡ true = sym (same_range v) ∙ y.range in
+      written 921 2585 a.index _ (Int (u *ℤ v)) (integer_value (u *ℤ v)) refl
+      (calls (called (body_of row.MgIntegerMultiply) ready.found) ready.found (Nat c.index ∷ Nat b.index ∷ Nat a.index ∷ stack) areas at (omega arith) ready.ctrl
+      (product_fits s program caller place f fs areas ready.found a.index b.index c.index u v stack x.word y.word ready.temp fits d.low h))
+
+  multiplies_beyond : (a b c : Argument) → Ready row.MgIntegerMultiply → ArgumentFits stack Simple Integer a → ArgumentFits stack Simple Integer b → ArgumentFits stack Simple Integer c →
+      is_int (item_of_value b.value *ℤ item_of_value c.value) ≡ false → Runs s row.MgIntegerMultiply (a ∷ b ∷ c ∷ []) stack (from (Nat c.index ∷ Nat b.index ∷ Nat a.index ∷ stack)) (Fault)
+  unfolding predef_cost
+  multiplies_beyond a b c ready fa fb fc h =
+      let x = simple_argument stack Integer b fb in
+      let y = simple_argument stack Integer c fc in
+      let u = item_of_value b.value in
+      let v = item_of_value c.value in
+      let fits : is_int v ≡ true = sym (same_range v) ∙ y.range in
+      calls (called (body_of row.MgIntegerMultiply) ready.found) ready.found (Nat c.index ∷ Nat b.index ∷ Nat a.index ∷ stack) areas at (omega arith) ready.ctrl
+      (product_overflows s program caller place f fs areas ready.found a.index b.index c.index u v stack x.word y.word ready.temp fits h)
 
   reads_below_zero : (a b c : Argument) → Ready row.MgIndexArray → ArgumentFits stack Simple k a → ArgumentFits stack Array k b → ArgumentFits stack Simple Integer c →
       is_negative (item_of_value c.value) ≡ true → Runs s row.MgIndexArray (a ∷ b ∷ c ∷ []) stack (from (length_word b.value ∷ Nat c.index ∷ Nat b.index ∷ Nat a.index ∷ stack)) (Fault)
@@ -574,6 +598,15 @@ module _ (s : SystemView) (program caller place : ℕ) (f : Frame) (fs : List Fr
       pick true h = subtracts a b c ready fa fb fc h
       pick false h = subtracts_beyond a b c ready fa fb fc h
 
+  multiply_runs : (a b c : Argument) → Ready row.MgIntegerMultiply → ArgumentFits stack Simple Integer a → ArgumentFits stack Simple Integer b → ArgumentFits stack Simple Integer c →
+      Runs s row.MgIntegerMultiply (a ∷ b ∷ c ∷ []) stack (from (Nat c.index ∷ Nat b.index ∷ Nat a.index ∷ stack)) (number_effect (item_of_value b.value *ℤ item_of_value c.value))
+  multiply_runs a b c ready fa fb fc = pick (is_in_range Integer (item_of_value b.value *ℤ item_of_value c.value)) (sym (same_range (item_of_value b.value *ℤ item_of_value c.value)))
+    where
+      pick : (t : Bool) → is_int (item_of_value b.value *ℤ item_of_value c.value) ≡ t →
+          Runs s row.MgIntegerMultiply (a ∷ b ∷ c ∷ []) stack (from (Nat c.index ∷ Nat b.index ∷ Nat a.index ∷ stack)) (if t then Normal (integer_value (item_of_value b.value *ℤ item_of_value c.value)) else Fault)
+      pick true h = multiplies a b c ready fa fb fc h
+      pick false h = multiplies_beyond a b c ready fa fb fc h
+
   read_runs : (a b c : Argument) → Ready row.MgIndexArray → ArgumentFits stack Simple k a → ArgumentFits stack Array k b → ArgumentFits stack Simple Integer c →
       (z : ℤ) → item_of_value c.value ≡ z →
       Runs s row.MgIndexArray (a ∷ b ∷ c ∷ []) stack (from (length_word b.value ∷ Nat c.index ∷ Nat b.index ∷ Nat a.index ∷ stack)) (indexed b.value z)
@@ -636,6 +669,8 @@ module _ (s : SystemView) (program caller place : ℕ) (f : Frame) (fs : List Fr
       for_three stack k (shared Simple) (shared Array) integer_slot (Does row.MgIndexArray) (λ a b c fa fb fc. read_runs a b c ready fa fb fc (item_of_value c.value) refl) args fit
   row_runs row.MgArrayElementAssignment args ready fit =
       for_three stack k (shared Array) integer_slot (shared Simple) (Does row.MgArrayElementAssignment) (λ a b c fa fb fc. store_runs a b c ready fa fb fc (item_of_value b.value) refl) args fit
+  row_runs row.MgIntegerMultiply args ready fit =
+      for_three stack k integer_slot integer_slot integer_slot (Does row.MgIntegerMultiply) (λ a b c fa fb fc. multiply_runs a b c ready fa fb fc) args fit
 
 pub counts : CountsAdd
 unfolding predef_cost
@@ -662,6 +697,9 @@ counts row.MgIndexArray Beyond = (refl, refl)
 counts row.MgArrayElementAssignment (Normal v) = (refl, refl)
 counts row.MgArrayElementAssignment Fault = (refl, refl)
 counts row.MgArrayElementAssignment Beyond = (refl, refl)
+counts row.MgIntegerMultiply (Normal v) = (refl, refl)
+counts row.MgIntegerMultiply Fault = (refl, refl)
+counts row.MgIntegerMultiply Beyond = (refl, refl)
 
 pub runs : PredefRuns
 runs s start r k args stack f fs p found at fit =

@@ -1,6 +1,7 @@
 -- Steps in a predefined program's body, one law for each instruction that the bodies use.
-use Rattle.std.proofs.Common.{◌≡◌, ℕ, suc, ◌+◌, ◌≤◌, ◌<◌, Some, Ok, Bool, false, List, ◌∷◌, ◌++◌, length, map, take, drop, reverse, refl, ap, ◌∙◌, subst}
+use Rattle.std.proofs.Common.{◌≡◌, ℕ, suc, ◌+◌, ◌≤◌, ◌<◌, Some, Ok, Bool, false, List, ◌∷◌, ◌++◌, length, map, take, drop, reverse, refl, ap, ◌∙◌, subst, arith}
 use Rattle.std.specs.Prelude.{slice_get, slice_set, if◌then◌else◌}
+use Rattle.std.proofs.lemmas.Option.{get_or_from_slice_get}
 use Rattle.piton_words.specs.declared.word.Word.{Word}
 use Rattle.piton_words.specs.declared.word.Word.TheVariants.{Nat}
 use Rattle.piton_words.specs.declared.op.WordOp.{WordOp}
@@ -11,7 +12,7 @@ use Rattle.piton_syntax.specs.declared.test_kind.TestKind.{TestKind}
 use Rattle.piton_check.specs.Instruction as i
 use Rattle.piton_check.specs.Instruction.{Instruction, ProgramView, SystemView}
 use Rattle.piton_machine.specs.State.{Frame, PitonState, program_of, instruction_at, ctrl_used, element, with_element, with_word}
-use Rattle.piton_machine.specs.Views.{words_taken, operands_of, test_of}
+use Rattle.piton_machine.specs.Views.{then_on, words_taken, operands_of, test_of}
 use Rattle.piton_machine.specs.Rows.{does_grow, results_on, row_of}
 use Rattle.piton_machine.specs.Step.{piton_step, step_cost, cost_of, cost_at, operation_cost}
 use Rattle.piton_machine.specs.Law.{Steps, none, more}
@@ -26,6 +27,28 @@ step_first {s} {j} {n} {q} {r} p body f fs ins is frames at row rest =
     let step : piton_step s p ≡ Ok q = step_is s p f fs ins frames there ∙ row in
     let cost : step_cost s p ≡ cost_of s p ins = ap (Rattle.piton_machine.specs.Step.cost_from s p) frames ∙ ap (cost_at s p) there in
     subst (λ i. Steps s (suc j) (i + n) p r) cost (more f fs frames step rest)
+
+-- Steps, and then others.
+steps_first : (s : SystemView) (j' n' : ℕ) (j n : ℕ) (p q r : PitonState) → Steps s j n p q → Steps s j' n' q r → Steps s (j + j') (n + n') p r
+steps_first s j' n' i n x y z (none {p = p}) rest =
+    let a : j' ≡ 0 + j' = omega arith in
+    let b : n' ≡ 0 + n' = omega arith in
+    subst (λ i. Steps s i (0 + n') p z) a (subst (λ i. Steps s j' i p z) b rest)
+steps_first s j' n' i n x y z (more {j = j} {n = m} {p = p} {q = p'} {r = q} f fs here step steps) rest =
+    let a : suc (j + j') ≡ suc j + j' = omega arith in
+    let b : step_cost s p + (m + n') ≡ step_cost s p + m + n' = omega arith in
+    subst (λ i. Steps s i (step_cost s p + m + n') p z) a
+    (subst (λ i. Steps s (suc (j + j')) i p z) b
+    (more f fs here step (steps_first s j' n' j m p' q z steps rest)))
+
+pub joined : {s : SystemView} {j' n' j n : ℕ} {p q r : PitonState} → Steps s j n p q → Steps s j' n' q r → Steps s (j + j') (n + n') p r
+joined {s} {j'} {n'} {j} {n} {p} {q} {r} steps rest = steps_first s j' n' j n p q r steps rest
+
+pub counted : (s : SystemView) (j n j' n' : ℕ) (p q : PitonState) → j ≡ j' → n ≡ n' → Steps s j n p q → Steps s j' n' p q
+counted s j n j' n' p q a b steps = subst (λ i. Steps s i n' p q) a (subst (λ i. Steps s j i p q) b steps)
+
+pub program_is : (s : SystemView) (program : ℕ) (body : ProgramView) → slice_get s.programs program ≡ Some body → program_of s program ≡ body
+program_is s program body found = get_or_from_slice_get s.programs program body _ found
 
 -- A call of a program: the system, the program and its body, the place of the call, and the caller's frames.
 pub record Called : Type 0 where
@@ -131,6 +154,19 @@ module _ (here : Called) where
       Steps s (suc j) (operation_cost o + n) (within l locals (t ∷ u ∷ v ∷ stack) areas) r
   applies_three l locals o t u v out stack areas at taken result small rest =
       goes l locals (t ∷ u ∷ v ∷ stack) areas (i.Apply o) at (does_apply s.temp (within l locals (t ∷ u ∷ v ∷ stack) areas) o record { third = v; second = u; top = t; below = stack } out (ap (λ k. operands_of k (t ∷ u ∷ v ∷ stack)) taken) result small) rest
+
+  pub goes_to : {j n : ℕ} {r : PitonState} (l : ℕ) (locals stack : List Word) (areas : List (List Word)) (to : ℕ) → At l (i.Jump to) →
+      Steps s j n (within to locals stack areas) r → Steps s (suc j) (1 + n) (within l locals stack areas) r
+  goes_to l locals stack areas to at rest = goes l locals stack areas (i.Jump to) at refl rest
+
+  pub passes : {j n : ℕ} {r : PitonState} (l : ℕ) (locals stack : List Word) (areas : List (List Word)) → At l i.NoOp →
+      Steps s j n (within (l + 1) locals stack areas) r → Steps s (suc j) (1 + n) (within l locals stack areas) r
+  passes l locals stack areas at rest = goes l locals stack areas i.NoOp at refl rest
+
+  pub drops : {j n : ℕ} {r : PitonState} (l : ℕ) (locals : List Word) (w : Word) (stack : List Word) (areas : List (List Word)) → At l i.Pop →
+      Steps s j n (within (l + 1) locals stack areas) r → Steps s (suc j) (1 + n) (within l locals (w ∷ stack) areas) r
+  unfolding then_on
+  drops l locals w stack areas at rest = goes l locals (w ∷ stack) areas i.Pop at refl rest
 
   pub returns : (l : ℕ) (locals stack : List Word) (areas : List (List Word)) → At l i.Ret → Steps s 1 4 (within l locals stack areas) (afterwards stack areas)
   returns l locals stack areas at = goes l locals stack areas i.Ret at refl none

@@ -6,7 +6,7 @@ use Rattle.piton_words.specs.declared.op.WordOp.TheVariants as op
 use Rattle.piton_syntax.specs.declared.test_kind.TestFamily.TheVariants as family
 use Rattle.piton_syntax.specs.declared.test_kind.TestKind.TheVariants as test
 use Rattle.piton_check.specs.Instruction.{Instruction, ProgramView, PushConstant, PushLocal, PopLocal, SetLocal}
-use Rattle.piton_check.specs.Instruction.{PopGlobal, FetchTempStk, DepositTempStk, TestAndJump, Ret, Apply}
+use Rattle.piton_check.specs.Instruction.{PopGlobal, FetchTempStk, DepositTempStk, Pop, NoOp, Jump, TestAndJump, Ret, Apply}
 use Rattle.gypsy_syntax.specs.declared.predef.Predef.{Predef}
 use Rattle.gypsy_syntax.specs.declared.predef.Predef.TheVariants as row
 use Rattle.gypsy_syntax.specs.Predefined.{slots_of, predefs}
@@ -37,13 +37,43 @@ indexed a t = PushLocal a ∷ PushLocal t ∷ Apply op.IntToNat ∷ Apply op.Add
 abbrev pub carried : ℕ → ℕ → List Instruction
 carried t place = PopLocal t ∷ TestAndJump family.Bool test.T place ∷ PushLocal t ∷ put 0 ++ (Ret ∷ [])
 
+-- The parts of the product. Its locals: the formals d, x, y at 0 to 2, where x and y become the values themselves; the sum
+-- so far at 3, a zero at 4, whether a sum overflowed at 5, how many bits are to come at 6, and a sum on the way at 7.
+
+-- x where the word in y is below 0, else 0; the part stands at this place
+abbrev pub chosen : ℕ → List Instruction
+chosen place =
+    PushLocal 2 ∷ TestAndJump family.Int test.Neg (place + 4) ∷ PushLocal 4 ∷ Jump (place + 6) ∷ NoOp ∷ PushLocal 1 ∷ []
+
+-- whether a sum overflowed, from the one on top
+abbrev pub noted : List Instruction
+noted = PushLocal 5 ∷ Apply op.OrBool ∷ PopLocal 5 ∷ []
+
+-- the values in place of the indices; and the sign's part of the sum
+abbrev pub product_start : List Instruction
+product_start =
+    get 1 ++ (PopLocal 1 ∷ get 2 ++ (PopLocal 2 ∷ PushConstant (Truth false) ∷ PushLocal 4 ∷ chosen 8 ++
+    (Apply op.SubIntWithCarry ∷ PopLocal 3 ∷ PopLocal 5 ∷ [])))
+
+-- y moved up by a bit; the sum and x, where that bit is set; both sums together; and whether a bit is to come
+abbrev pub product_round : List Instruction
+product_round =
+    PushConstant (Truth false) ∷ PushLocal 2 ∷ PushLocal 2 ∷ Apply op.AddIntWithCarry ∷ PopLocal 2 ∷ Pop ∷
+    PushConstant (Truth false) ∷ PushLocal 3 ∷ chosen 25 ++ (Apply op.AddIntWithCarry ∷ PopLocal 7 ∷ noted ++
+    (PushConstant (Truth false) ∷ PushLocal 7 ∷ PushLocal 3 ∷ Apply op.AddIntWithCarry ∷ PopLocal 3 ∷ noted ++
+    (PushLocal 6 ∷ Apply op.Sub1Nat ∷ SetLocal 6 ∷ TestAndJump family.Nat test.NotZero 17 ∷ [])))
+
+-- an overflow is a fault, else the sum is put into d's variable
+abbrev pub product_end : List Instruction
+product_end = PushLocal 5 ∷ TestAndJump family.Bool test.T 54 ∷ PushLocal 3 ∷ put 0 ++ (Ret ∷ [])
+
 -- the array rows are handed the array's length
 abbrev pub lengths_of : Predef → ℕ
 lengths_of row.MgIndexArray = 1
 lengths_of row.MgArrayElementAssignment = 1
 lengths_of r = 0
 
--- The programs, their locals by offset: the formals, and then the temporary.
+-- The programs, their locals by offset: the formals, and then the temporaries.
 abbrev pub instructions_of : Predef → List Instruction
 instructions_of row.MgSimpleVariableAssignment = get 1 ++ (put 0 ++ (Ret ∷ []))
 instructions_of row.MgSimpleConstantAssignment = PushLocal 1 ∷ put 0 ++ (Ret ∷ [])
@@ -62,17 +92,19 @@ instructions_of row.MgBooleanAnd = get 1 ++ (get 2 ++ (Apply op.AndBool ∷ put 
 instructions_of row.MgBooleanNot = get 1 ++ (Apply op.NotBool ∷ put 0 ++ (Ret ∷ []))
 instructions_of row.MgIndexArray = range 2 3 4 16 ++ (indexed 1 4 ++ (FetchTempStk ∷ put 0 ++ (Ret ∷ fail)))
 instructions_of row.MgArrayElementAssignment = range 1 3 4 16 ++ (get 2 ++ (indexed 0 4 ++ (DepositTempStk ∷ Ret ∷ fail)))
+instructions_of row.MgIntegerMultiply = product_start ++ (product_round ++ (product_end ++ fail))
 
 -- how many formals, one for each argument and one for an array's length
 abbrev pub formal_count : Predef → ℕ
 formal_count r = length (slots_of r) + lengths_of r
 
--- the temporary of a program that keeps a number
+-- the temporaries of a program that keeps a number, or several
 abbrev pub temporaries_of : Predef → List Word
 temporaries_of row.MgIntegerAdd = Int (pos 0) ∷ []
 temporaries_of row.MgIntegerSubtract = Int (pos 0) ∷ []
 temporaries_of row.MgIndexArray = Int (pos 0) ∷ []
 temporaries_of row.MgArrayElementAssignment = Int (pos 0) ∷ []
+temporaries_of row.MgIntegerMultiply = Int (pos 0) ∷ Int (pos 0) ∷ Truth false ∷ Nat 31 ∷ Int (pos 0) ∷ []
 temporaries_of r = []
 
 abbrev pub body_of : Predef → ProgramView
@@ -93,7 +125,8 @@ predef_number row.MgBooleanAnd = 9
 predef_number row.MgBooleanNot = 10
 predef_number row.MgIndexArray = 11
 predef_number row.MgArrayElementAssignment = 12
+predef_number row.MgIntegerMultiply = 13
 
--- the thirteen programs, in the order of the table
+-- the fourteen programs, in the order of the table
 abbrev pub bodies : List ProgramView
 bodies = map body_of predefs

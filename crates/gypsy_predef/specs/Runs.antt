@@ -117,6 +117,7 @@ can_fail row.MgIntegerAdd = true
 can_fail row.MgIntegerSubtract = true
 can_fail row.MgIndexArray = true
 can_fail row.MgArrayElementAssignment = true
+can_fail row.MgIntegerMultiply = true
 can_fail r = false
 
 abbrev pub beside_count : Predef → ℕ

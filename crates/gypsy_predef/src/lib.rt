@@ -2,6 +2,7 @@
 #![tactic(auto)]
 
 ghost use Rattle.gypsy_predef.specs.Runs.{PredefRuns, CountsAdd, WordsWritten};
+ghost use Rattle.gypsy_predef.specs.Examples.{ProductRows};
 ghost use Rattle.gypsy_predef.specs.Calls.{PredefCallRuns, BodiesStand, ArgumentsHold, ValuesKept};
 ghost use Rattle.gypsy_predef.specs.Resolving.{BodiesFit, BodiesKeepRules, BodiesResolve, BodiesStandResolved};
 
@@ -22,6 +23,7 @@ pub fn predefs_run()
     ensures arguments { ArgumentsHold }
     ensures values { ValuesKept }
     ensures written { WordsWritten }
+    ensures rows { ProductRows }
 {}
 
 /// The texts of the predefined programs keep the form; in each system whose first area is `c-c` they break no rule, and

@@ -1,11 +1,11 @@
-//! The thirteen bodies, line by line.
+//! The fourteen bodies, line by line.
 
 ghost use Rattle.std.specs.Prelude.{◌≡◌, IsTrue};
 ghost use Rattle.stack_text.specs.Names.{is_name};
 ghost use Rattle.gypsy_syntax.specs.Predefined.{predef_name};
-ghost use Rattle.gypsy_predef.specs.Texts.{formals_of, has_temporary, lines_of};
+ghost use Rattle.gypsy_predef.specs.Texts.{formals_of, lines_of, temporary_locals};
 
-use crate::line::{Line, Local};
+use crate::line::{Label, Line, Local, Temporary};
 use gypsy_syntax::Predef;
 use piton_syntax::{PitonOp, TestKind};
 
@@ -152,6 +152,47 @@ static ARRAY_ELEMENT_ASSIGNMENT: [Line; 15] = [
     Line::Fail,
 ];
 
+static INTEGER_MULTIPLY: [Line; 38] = [
+    Line::Get(Local::X),
+    Line::Local(PitonOp::PopLocal, Local::X),
+    Line::Get(Local::Y),
+    Line::Local(PitonOp::PopLocal, Local::Y),
+    Line::Truth(false),
+    Line::Local(PitonOp::PushLocal, Local::Z),
+    Line::Choose(Label::L2, Label::L3),
+    Line::At(Label::L3, PitonOp::SubIntWithCarry),
+    Line::Local(PitonOp::PopLocal, Local::P),
+    Line::Local(PitonOp::PopLocal, Local::O),
+    Line::TruthAt(Label::L1, false),
+    Line::Local(PitonOp::PushLocal, Local::Y),
+    Line::Local(PitonOp::PushLocal, Local::Y),
+    Line::Plain(PitonOp::AddIntWithCarry),
+    Line::Local(PitonOp::PopLocal, Local::Y),
+    Line::Plain(PitonOp::Pop),
+    Line::Truth(false),
+    Line::Local(PitonOp::PushLocal, Local::P),
+    Line::Choose(Label::L4, Label::L5),
+    Line::At(Label::L5, PitonOp::AddIntWithCarry),
+    Line::Local(PitonOp::PopLocal, Local::T),
+    Line::Note,
+    Line::Truth(false),
+    Line::Local(PitonOp::PushLocal, Local::T),
+    Line::Local(PitonOp::PushLocal, Local::P),
+    Line::Plain(PitonOp::AddIntWithCarry),
+    Line::Local(PitonOp::PopLocal, Local::P),
+    Line::Note,
+    Line::Local(PitonOp::PushLocal, Local::I),
+    Line::Plain(PitonOp::Sub1Nat),
+    Line::Local(PitonOp::SetLocal, Local::I),
+    Line::Branch(PitonOp::TestNatAndJump, TestKind::NotZero, Label::L1),
+    Line::Local(PitonOp::PushLocal, Local::O),
+    FAIL_IF_TRUE,
+    Line::Local(PitonOp::PushLocal, Local::P),
+    Line::Put(Local::D),
+    Line::Plain(PitonOp::Ret),
+    Line::Fail,
+];
+
 static D_X: [Local; 2] = [Local::D, Local::X];
 
 static D_V: [Local; 2] = [Local::D, Local::V];
@@ -167,6 +208,19 @@ static B_X: [Local; 2] = [Local::B, Local::X];
 static D_A_I_N: [Local; 4] = [Local::D, Local::A, Local::I, Local::N];
 
 static A_I_X_N: [Local; 4] = [Local::A, Local::I, Local::X, Local::N];
+
+static NO_TEMPORARY: [Temporary; 0] = [];
+
+static ONE_NUMBER: [Temporary; 1] = [Temporary::Int(Local::T, 0)];
+
+/// The sum so far, a zero, whether a sum overflowed, the bits that are to come, and a sum on the way.
+static OF_THE_PRODUCT: [Temporary; 5] = [
+    Temporary::Int(Local::P, 0),
+    Temporary::Int(Local::Z, 0),
+    Temporary::Bool(Local::O, false),
+    Temporary::Nat(Local::I, 31),
+    Temporary::Int(Local::T, 0),
+];
 
 /// The lines of a body.
 pub fn lines_of(row: Predef) -> &'static [Line]
@@ -186,6 +240,7 @@ pub fn lines_of(row: Predef) -> &'static [Line]
         Predef::MgBooleanNot => BOOLEAN_NOT.as_slice(),
         Predef::MgIndexArray => INDEX_ARRAY.as_slice(),
         Predef::MgArrayElementAssignment => ARRAY_ELEMENT_ASSIGNMENT.as_slice(),
+        Predef::MgIntegerMultiply => INTEGER_MULTIPLY.as_slice(),
     }
 }
 
@@ -207,20 +262,22 @@ pub fn formals_of(row: Predef) -> &'static [Local]
         Predef::MgBooleanNot => B_X.as_slice(),
         Predef::MgIndexArray => D_A_I_N.as_slice(),
         Predef::MgArrayElementAssignment => A_I_X_N.as_slice(),
+        Predef::MgIntegerMultiply => D_X_Y.as_slice(),
     }
 }
 
-/// Whether a body has the temporary `t`.
-pub fn has_temporary(row: Predef) -> bool
-    ensures { result ≡ has_temporary row }
+/// The temporaries of a body.
+pub fn temporary_locals(row: Predef) -> &'static [Temporary]
+    ensures { result.now ≡ temporary_locals row }
 {
-    matches!(
-        row,
+    match row {
         Predef::MgIntegerAdd
-            | Predef::MgIntegerSubtract
-            | Predef::MgIndexArray
-            | Predef::MgArrayElementAssignment
-    )
+        | Predef::MgIntegerSubtract
+        | Predef::MgIndexArray
+        | Predef::MgArrayElementAssignment => ONE_NUMBER.as_slice(),
+        Predef::MgIntegerMultiply => OF_THE_PRODUCT.as_slice(),
+        _ => NO_TEMPORARY.as_slice(),
+    }
 }
 
 /// The name of a row's program.

@@ -3,16 +3,17 @@
 ghost use Rattle.std.specs.Prelude.{◌≡◌, ◌++◌, IfOk, OnOk, [], ◌∷◌, map};
 ghost use Rattle.std.specs.List.{flat_map};
 ghost use Rattle.stack_text.specs.Grammar.Printed.{unplaced};
-ghost use Rattle.gypsy_predef.specs.declared.line.Line.TheVariants.{Get, Put, Fail};
+ghost use Rattle.piton_syntax.specs.declared.op.PitonOp.TheVariants.{Jump};
+ghost use Rattle.gypsy_predef.specs.declared.line.Line.TheVariants.{Get, Put, Choose, Note, Fail};
 ghost use Rattle.gypsy_predef.specs.Resolving.{DoTheirCalls, DoTheirRows};
-ghost use Rattle.gypsy_predef.specs.Texts.{body_text, body_texts, line_text, named_local, temporaries_text};
-ghost use Rattle.gypsy_predef.specs.Texts.{fail_label, local_name, of_name};
+ghost use Rattle.gypsy_predef.specs.Texts.{body_text, body_texts, branch_text, line_text, named_local, temporary_text};
+ghost use Rattle.gypsy_predef.specs.Texts.{fail_label, label_name, local_name, of_name, plain_at};
 
 use crate::instruction_text::{constant, number, of_name, plain, test};
-use crate::line::{Line, Local, local_name};
-use crate::rows::{formals_of, has_temporary, lines_of, program_name};
+use crate::line::{Label, Line, Local, Temporary, label_name, local_name};
+use crate::rows::{formals_of, lines_of, program_name, temporary_locals};
 use gypsy_syntax::Predef;
-use piton_syntax::{InstrText, PitonOp, Program, WordItem, WordText};
+use piton_syntax::{InstrText, PitonOp, Program, TestKind, WordItem, WordText};
 use stack_text::{Memory, Named};
 use std::alloc::Global;
 
@@ -41,6 +42,71 @@ fn fail_label(alloc: Global) -> Result<Named, Memory>
     ensures { IfOk result (λ name. name ≡ unplaced fail_label) }
 {
     Named::unplaced(alloc, b"L0".as_slice())
+}
+
+/// A label of a body.
+fn label_named(alloc: Global, label: Label) -> Result<Named, Memory>
+    ensures { IfOk result (λ name. name ≡ unplaced (label_name label)) }
+{
+    Named::unplaced(alloc, label_name(label))
+}
+
+/// A test, and the jump to a label.
+fn branch(
+    alloc: Global,
+    instrs: &mut Vec<InstrText>,
+    op: PitonOp,
+    kind: TestKind,
+    to: Label,
+) -> Result<(), Memory>
+    ensures { OnOk result (instrs.new.items ≡ instrs.old.items ++ branch_text op kind to ∷ []) }
+{
+    test(alloc, instrs, op, kind, label_named(alloc, to)?)
+}
+
+/// The jump to a label.
+fn jump(alloc: Global, instrs: &mut Vec<InstrText>, to: Label) -> Result<(), Memory>
+    ensures { OnOk result (instrs.new.items ≡ instrs.old.items ++ of_name Jump (label_name to) ∷ []) }
+{
+    of_name(alloc, instrs, PitonOp::Jump, label_named(alloc, to)?)
+}
+
+/// An instruction without arguments, at a label.
+fn plain_at(
+    alloc: Global,
+    instrs: &mut Vec<InstrText>,
+    label: Label,
+    op: PitonOp,
+) -> Result<(), Memory>
+    ensures { OnOk result (instrs.new.items ≡ instrs.old.items ++ plain_at label op ∷ []) }
+{
+    plain(alloc, instrs, Some(label_named(alloc, label)?), op)
+}
+
+/// `x` where `y` is below 0, else `z`.
+fn choose(
+    alloc: Global,
+    instrs: &mut Vec<InstrText>,
+    below: Label,
+    end: Label,
+) -> Result<(), Memory>
+    ensures { OnOk result (instrs.new.items ≡ instrs.old.items ++ line_text (Choose below end)) }
+{
+    of_local(alloc, instrs, PitonOp::PushLocal, Local::Y)?;
+    branch(alloc, instrs, PitonOp::TestIntAndJump, TestKind::Neg, below)?;
+    of_local(alloc, instrs, PitonOp::PushLocal, Local::Z)?;
+    jump(alloc, instrs, end)?;
+    plain_at(alloc, instrs, below, PitonOp::NoOp)?;
+    of_local(alloc, instrs, PitonOp::PushLocal, Local::X)
+}
+
+/// `note`.
+fn note(alloc: Global, instrs: &mut Vec<InstrText>) -> Result<(), Memory>
+    ensures { OnOk result (instrs.new.items ≡ instrs.old.items ++ line_text Note) }
+{
+    of_local(alloc, instrs, PitonOp::PushLocal, Local::O)?;
+    plain(alloc, instrs, None, PitonOp::OrBool)?;
+    of_local(alloc, instrs, PitonOp::PopLocal, Local::O)
 }
 
 /// `get x`.
@@ -83,6 +149,14 @@ fn line(alloc: Global, instrs: &mut Vec<InstrText>, line: Line) -> Result<(), Me
         Line::Truth(truth) => constant(alloc, instrs, None, WordItem::Bool(truth)),
         Line::Integer(value) => constant(alloc, instrs, None, WordItem::Int(number(value))),
         Line::Test(op, kind) => test(alloc, instrs, op, kind, fail_label(alloc)?),
+        Line::TruthAt(label, truth) => {
+            let label = label_named(alloc, label)?;
+            constant(alloc, instrs, Some(label), WordItem::Bool(truth))
+        }
+        Line::At(label, op) => plain_at(alloc, instrs, label, op),
+        Line::Branch(op, kind, to) => branch(alloc, instrs, op, kind, to),
+        Line::Choose(below, end) => choose(alloc, instrs, below, end),
+        Line::Note => note(alloc, instrs),
         Line::Fail => fail(alloc, instrs),
     }
 }
@@ -109,19 +183,28 @@ fn names(alloc: Global, locals: &[Local]) -> Result<Vec<Named>, Memory>
     Ok(names)
 }
 
-/// The temporary, where there is one.
-fn temporaries(alloc: Global, row: Predef) -> Result<Vec<(Named, WordText)>, Memory>
-    ensures { IfOk result (λ temporaries. temporaries.items ≡ temporaries_text row) }
+/// A temporary's name, and the word that it holds at first.
+fn temporary(alloc: Global, temporary: Temporary) -> Result<(Named, WordText), Memory>
+    ensures { IfOk result (λ text. text ≡ temporary_text temporary) }
 {
-    let mut temporaries = Vec::new(alloc);
-    if has_temporary(row) {
-        let word = WordText {
-            place: 0,
-            item: WordItem::Int(number(0)),
-        };
-        temporaries.push((Named::unplaced(alloc, local_name(Local::T))?, word))?;
+    let (local, item) = match temporary {
+        Temporary::Int(local, value) => (local, WordItem::Int(number(value))),
+        Temporary::Nat(local, value) => (local, WordItem::Nat(number(value))),
+        Temporary::Bool(local, truth) => (local, WordItem::Bool(truth)),
+    };
+    let name = Named::unplaced(alloc, local_name(local))?;
+    Ok((name, WordText { place: 0, item }))
+}
+
+/// The temporaries of a body.
+fn temporaries(alloc: Global, temporaries: &[Temporary]) -> Result<Vec<(Named, WordText)>, Memory>
+    ensures { IfOk result (λ texts. texts.items ≡ map temporary_text temporaries.now) }
+{
+    let mut texts = Vec::new(alloc);
+    for each in temporaries {
+        texts.push(temporary(alloc, *each)?)?;
     }
-    Ok(temporaries)
+    Ok(texts)
 }
 
 /// A predefined program.
@@ -130,7 +213,7 @@ fn body(alloc: Global, row: Predef) -> Result<Program, Memory>
 {
     let name = Named::unplaced(alloc, program_name(row))?;
     let formals = names(alloc, formals_of(row))?;
-    let temporaries = temporaries(alloc, row)?;
+    let temporaries = temporaries(alloc, temporary_locals(row))?;
     let instrs = instructions(alloc, lines_of(row))?;
     Ok(Program {
         place: 0,
@@ -153,7 +236,7 @@ fn programs(alloc: Global, rows: &[Predef]) -> Result<Vec<Program>, Memory>
     Ok(programs)
 }
 
-static PREDEFS: [Predef; 13] = [
+static PREDEFS: [Predef; 14] = [
     Predef::MgSimpleVariableAssignment,
     Predef::MgSimpleConstantAssignment,
     Predef::MgSimpleVariableEq,
@@ -167,9 +250,10 @@ static PREDEFS: [Predef; 13] = [
     Predef::MgBooleanNot,
     Predef::MgIndexArray,
     Predef::MgArrayElementAssignment,
+    Predef::MgIntegerMultiply,
 ];
 
-/// The thirteen predefined programs, in the order of the table. Where a system ends with them and its first area is `c-c`,
+/// The fourteen predefined programs, in the order of the table. Where a system ends with them and its first area is `c-c`,
 /// each does its row: from the call itself, and from the first push of a statement's code until after the test for a fault.
 pub fn bodies(alloc: Global) -> Result<Vec<Program>, Memory>
     ensures texts { IfOk result (λ programs. programs.items ≡ body_texts) }

@@ -1,6 +1,8 @@
 use Rattle.gypsy_predef.proofs.RowLaws.{runs, counts, written_words}
 use Rattle.gypsy_predef.proofs.CallLaws.{calls, stand}
 use Rattle.gypsy_predef.proofs.ArgumentLaws.{arguments_hold, values_kept}
+use Rattle.std.proofs.Common.{refl}
+use Rattle.gypsy_syntax.specs.Effects.{predef_effect}
 use Rattle.gypsy_predef.proofs.predefs_run.Goals as goal
 
 pub returns-clause-runs : goal.returns-clause-runs
@@ -23,3 +25,7 @@ returns-clause-written c = written_words
 
 pub returns-clause-values : goal.returns-clause-values
 returns-clause-values c = values_kept
+
+pub returns-clause-rows : goal.returns-clause-rows
+unfolding predef_effect
+returns-clause-rows c = record { below = refl; least = refl; greatest_turned = refl; least_turned = refl }

@@ -19,6 +19,7 @@ names row.MgBooleanAnd = refl
 names row.MgBooleanNot = refl
 names row.MgIndexArray = refl
 names row.MgArrayElementAssignment = refl
+names row.MgIntegerMultiply = refl
 
 pub returns-clause-is_name : goal.returns-clause-is_name
 returns-clause-is_name c = subst (λ bytes. IsTrue (is_name bytes)) (sym (c.as_bytes.ensures.value ∙ c.name.ensures)) (names c.args.row)
