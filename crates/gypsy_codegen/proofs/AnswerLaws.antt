@@ -30,6 +30,7 @@ use Rattle.gypsy_codegen.specs.Sizes.{ProceduresTakeWords}
 use Rattle.gypsy_codegen.specs.Text.{generated}
 use Rattle.gypsy_codegen.specs.Views.{AreModest, words_together}
 use Rattle.gypsy_codegen.specs.Whole.{RunsTo}
+use Rattle.gypsy_codegen.specs.Moments.{moment_from, HasMoment, EachMomentIsReached}
 use Rattle.gypsy_codegen.specs.WordsOf.{words_of_values}
 
 -- ---- words of code
@@ -146,9 +147,9 @@ pub generation_is : (s : SourceOf) (sizes : Words) (base : ℕ) (c : CheckedOf) 
 generation_is s sizes base c system none made kept =
     ap (λ (o : Option GenFault). unless_fault o (generated s sizes base)) none ∙ ap (λ (g : SystemOf). unless_fault None g) (sym (kept ∙ made))
 
-pub implements : GeneratedIsAcceptable → SourceRuns → (s : SourceOf) (sizes : Words) (base : ℕ) (c : CheckedOf) → IsAccepted s →
+pub implements : GeneratedIsAcceptable → SourceRuns → EachMomentIsReached → (s : SourceOf) (sizes : Words) (base : ℕ) (c : CheckedOf) → IsAccepted s →
     LimitsFit (program_of s) sizes base → IsChecked c → c.system ≡ generated s sizes base → SystemImplements s sizes base c
-implements acceptable runs s sizes base c accepted limits known kept =
+implements acceptable runs moments s sizes base c accepted limits known kept =
     let seen : system_in c ≡ system_view (resolved (generated s sizes base)) =
     ap system_view (known.names ∙ ap resolved kept) in
     record {
@@ -157,6 +158,11 @@ implements acceptable runs s sizes base c accepted limits known kept =
           let run = runs s sizes base v n x w accepted limits fit done in
           let q = program_of s in
           (run.0, run.1, subst (λ (z : SystemView). RunsTo z (started z (words_of_values (main_start q v))) x w run.0) (sym seen) run.2);
+      moments = λ v j fit.
+          let q = program_of s in
+          let view = seen ∙ (acceptable s sizes base accepted limits).view in
+          subst (λ (z : SystemView). HasMoment q z (started z (words_of_values (main_start q v))) (moment_from q sizes v j)) (sym view)
+          (moments q sizes base v j accepted.fits limits.sizes_fit fit);
       limits = limits;
     }
 

@@ -78,6 +78,7 @@ module _ (q : Program) (p : ℕ) (fs : List Frame) (x : List ValueOf) (shapes : 
   first_of_row row.MgIntegerUnaryMinus args f = simple_first (Some Integer) (integer_slot ∷ []) args f
   first_of_row row.MgIntegerAdd args f = simple_first (Some Integer) (integer_slot ∷ integer_slot ∷ []) args f
   first_of_row row.MgIntegerSubtract args f = simple_first (Some Integer) (integer_slot ∷ integer_slot ∷ []) args f
+  first_of_row row.MgIntegerMultiply args f = simple_first (Some Integer) (integer_slot ∷ integer_slot ∷ []) args f
   first_of_row row.MgBooleanOr args f = simple_first (Some Boolean) (boolean_slot ∷ boolean_slot ∷ []) args f
   first_of_row row.MgBooleanAnd args f = simple_first (Some Boolean) (boolean_slot ∷ boolean_slot ∷ []) args f
   first_of_row row.MgBooleanNot args f = simple_first (Some Boolean) (boolean_slot ∷ []) args f
@@ -131,6 +132,7 @@ module _ (q : Program) (p : ℕ) (fs : List Frame) (x : List ValueOf) (shapes : 
   length_pushed row.MgIntegerUnaryMinus args v f = refl
   length_pushed row.MgIntegerAdd args v f = refl
   length_pushed row.MgIntegerSubtract args v f = refl
+  length_pushed row.MgIntegerMultiply args v f = refl
   length_pushed row.MgBooleanOr args v f = refl
   length_pushed row.MgBooleanAnd args v f = refl
   length_pushed row.MgBooleanNot args v f = refl

@@ -1,5 +1,5 @@
 -- The code of parts, put together.
-use Rattle.std.proofs.Common.{◌≡◌, ℕ, ◌+◌, ◌-◌, List, [], ◌∷◌, ◌++◌, map, sym, refl, ap, ◌∙◌, append_assoc, subst, Bool, cond}
+use Rattle.std.proofs.Common.{◌≡◌, ℕ, ◌+◌, ◌-◌, List, [], ◌∷◌, ◌++◌, map, length, max, sym, refl, ap, ◌∙◌, arith, append_assoc, subst, Bool, cond}
 use Rattle.std.proofs.lemmas.List.{map-append}
 use Rattle.stack_text.specs.declared.shape.Kind.{Kind}
 use Rattle.stack_text.specs.declared.shape.Kind.TheVariants.{Integer, Boolean, Character}
@@ -9,6 +9,7 @@ use Rattle.std.specs.Prelude.{ℤ, ◌==◌}
 use Rattle.stack_text.specs.declared.name.Named.{Named}
 use Rattle.stack_text.specs.Grammar.Printed.{unplaced}
 use Rattle.piton_words.specs.declared.word.Word.TheVariants.{Nat}
+use Rattle.piton_syntax.specs.declared.op.PitonOp.TheVariants as op
 use Rattle.piton_syntax.specs.declared.word_text.WordText.{WordText}
 use Rattle.gypsy_syntax.specs.Sources.{ProcOf}
 use Rattle.gypsy_codegen.specs.Text.{area_texts, frame_texts, procedure_with, temporaries_of}
@@ -17,12 +18,15 @@ use Rattle.piton_check.specs.Instruction as i
 use Rattle.piton_check.specs.Instruction.{Instruction}
 use Rattle.piton_syntax.specs.Systems.{InstrOf, new_program}
 use Rattle.gypsy_syntax.specs.Programs.{Program, Proc, proc_at, shapes_of}
-use Rattle.gypsy_space.specs.Needs.{local_words}
+use Rattle.gypsy_space.specs.declared.need.Need.{Need}
+use Rattle.gypsy_space.specs.Events.{need_of}
+use Rattle.gypsy_space.specs.Needs.{Words, temp_need, local_words, vars_of, call_need}
 use Rattle.gypsy_predef.specs.Runs.{word_of_item, words_of_value}
 use Rattle.gypsy_codegen.specs.WordsOf.{words_of_values, local_shapes, starts}
+use Rattle.gypsy_codegen.specs.Guard.{guard_code}
 use Rattle.gypsy_codegen.specs.Generated.{push_words, push_indices, push_actuals}
 use Rattle.gypsy_codegen.specs.Lines.{unmarked, before_code, lines_of}
-use Rattle.gypsy_codegen.specs.Views.{nameless, word_constant, local_constants, index_text}
+use Rattle.gypsy_codegen.specs.Views.{nameless, half_guard, word_constant, local_constants, index_text}
 use Rattle.gypsy_codegen.specs.Written.{Names, Line, Plain, Marked, written, written_word}
 
 pub plain_both : (n : Names) (a b : List Instruction) → map (written n) (unmarked (a ++ b)) ≡ map (written n) (unmarked a) ++ map (written n) (unmarked b)
@@ -74,20 +78,46 @@ before_is n q p c xs d old mid last new is e f g =
     ∙ simp append_assoc (ap (λ z. old ++ z) (sym parts)))
 
 -- the lines after a call, of their parts
-pub after_is : (n : Names) (rs : List Line) (l : ℕ) (old a b c d e new : List InstrOf) (x y z : InstrOf) (r : List InstrOf) →
-    a ≡ old ++ x ∷ [] → b ≡ a ++ y ∷ [] → c ≡ b ++ z ∷ [] → d ≡ c ++ r → e ≡ d ++ map (written n) rs →
+pub after_is : (n : Names) (rs : List Line) (l : ℕ) (old a b c d m e new : List InstrOf) (x y z : InstrOf) (r g : List InstrOf) →
+    a ≡ old ++ x ∷ [] → b ≡ a ++ y ∷ [] → c ≡ b ++ z ∷ [] → d ≡ c ++ r → m ≡ d ++ g → e ≡ m ++ map (written n) rs →
     new ≡ e ++ written n (Marked l i.NoOp) ∷ [] →
-    new ≡ old ++ x ∷ y ∷ z ∷ (r ++ map (written n) (rs ++ Marked l i.NoOp ∷ []))
-after_is n rs l old a b c d e new x y z r ea eb ec ed ee en =
+    new ≡ old ++ x ∷ y ∷ z ∷ (r ++ (g ++ map (written n) (rs ++ Marked l i.NoOp ∷ [])))
+after_is n rs l old a b c d m e new x y z r g ea eb ec ed em ee en =
     let last = written n (Marked l i.NoOp) ∷ [] in
     let both : map (written n) (rs ++ Marked l i.NoOp ∷ []) ≡ map (written n) rs ++ last = map-append (written n) rs (Marked l i.NoOp ∷ []) in
     let c_is : c ≡ old ++ x ∷ y ∷ z ∷ [] =
     ec ∙ ap (λ w. w ++ z ∷ []) (eb ∙ ap (λ w. w ++ y ∷ []) ea ∙ append_assoc old (x ∷ []) (y ∷ [])) ∙ append_assoc old (x ∷ y ∷ []) (z ∷ []) in
     let d_is : d ≡ old ++ x ∷ y ∷ z ∷ r = ed ∙ ap (λ w. w ++ r) c_is ∙ append_assoc old (x ∷ y ∷ z ∷ []) r in
-    let e_is : e ≡ old ++ x ∷ y ∷ z ∷ (r ++ map (written n) rs) = ee ∙ ap (λ w. w ++ map (written n) rs) d_is ∙ append_assoc old (x ∷ y ∷ z ∷ r) (map (written n) rs) in
-    en ∙ ap (λ w. w ++ last) e_is ∙ append_assoc old (x ∷ y ∷ z ∷ (r ++ map (written n) rs)) last
-    ∙ ap (λ w. old ++ x ∷ y ∷ z ∷ w) (append_assoc r (map (written n) rs) last)
-    ∙ ap (λ w. old ++ x ∷ y ∷ z ∷ (r ++ w)) (sym both)
+    let m_is : m ≡ old ++ x ∷ y ∷ z ∷ (r ++ g) = em ∙ ap (λ w. w ++ g) d_is ∙ append_assoc old (x ∷ y ∷ z ∷ r) g in
+    let e_is : e ≡ old ++ x ∷ y ∷ z ∷ ((r ++ g) ++ map (written n) rs) = ee ∙ ap (λ w. w ++ map (written n) rs) m_is ∙ append_assoc old (x ∷ y ∷ z ∷ (r ++ g)) (map (written n) rs) in
+    en ∙ ap (λ w. w ++ last) e_is ∙ append_assoc old (x ∷ y ∷ z ∷ ((r ++ g) ++ map (written n) rs)) last
+    ∙ ap (λ w. old ++ x ∷ y ∷ z ∷ w) (append_assoc (r ++ g) (map (written n) rs) last)
+    ∙ ap (λ w. old ++ x ∷ y ∷ z ∷ ((r ++ g) ++ w)) (sym both)
+    ∙ ap (λ w. old ++ x ∷ y ∷ z ∷ w) (append_assoc r g (map (written n) (rs ++ Marked l i.NoOp ∷ [])))
+
+-- a guard, of its halves
+pub guard_is : (n : Names) (need : Words) (to temp ctrl : ℕ) (old mid new : List InstrOf) → temp ≡ need.temp → ctrl ≡ need.ctrl →
+    mid ≡ old ++ half_guard op.PushTempStkFreeSize temp to → new ≡ mid ++ half_guard op.PushCtrlStkFreeSize ctrl to →
+    new ≡ old ++ map (written n) (unmarked (guard_code need to))
+guard_is n need to temp ctrl old mid new et ec em en =
+    let second : ℕ → List InstrOf = λ k. half_guard op.PushCtrlStkFreeSize k to in
+    en ∙ ap (λ z. z ++ second ctrl) em
+    ∙ append_assoc old (half_guard op.PushTempStkFreeSize temp to) (second ctrl)
+    ∙ ap (λ (k : ℕ). old ++ (half_guard op.PushTempStkFreeSize k to ++ second ctrl)) et
+    ∙ ap (λ (k : ℕ). old ++ (half_guard op.PushTempStkFreeSize need.temp to ++ second k)) ec
+
+-- what is counted of a callee is what a call of it needs
+pub temp_counted : (q : Program) (c : ℕ) (n : Need) → n ≡ need_of q c → max (n.locals_words + n.vars) (n.locals_words + n.temp) ≡ (call_need q c).temp
+unfolding call_need
+temp_counted q c n e =
+    let d = proc_at q c in
+    let l = local_words d in
+    let vars : l + vars_of d ≡ l + length d.locals + length d.formals = omega arith in
+    ap (λ (m : Need). max (m.locals_words + m.vars) (m.locals_words + m.temp)) e ∙ ap (λ (k : ℕ). max k (l + temp_need d)) vars
+
+pub ctrl_counted : (q : Program) (c : ℕ) (n : Need) → n ≡ need_of q c → 2 + n.vars + n.ctrl ≡ (call_need q c).ctrl
+unfolding call_need
+ctrl_counted q c n e = ap (λ (m : Need). 2 + m.vars + m.ctrl) e
 
 -- lines behind lines
 pub both_are : (n : Names) (xs ys : List Line) (old mid new : List InstrOf) → mid ≡ old ++ map (written n) xs → new ≡ mid ++ map (written n) ys →

@@ -35,6 +35,7 @@ row_least row.MgBooleanAnd = omega arith
 row_least row.MgBooleanNot = omega arith
 row_least row.MgIndexArray = omega arith
 row_least row.MgArrayElementAssignment = omega arith
+row_least row.MgIntegerMultiply = omega arith
 
 -- an instruction takes a word at least
 pub size_least : (q : Program) → ProgramFits q → (shapes : List Shape) (n : ℕ) (b : Bool) (s : Stmt) → StmtFits q shapes n b s → size q s ≤ statement_words q s

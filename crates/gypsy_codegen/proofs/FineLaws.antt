@@ -1,5 +1,5 @@
 -- What the lines of a statement that fits name is there.
-use Rattle.std.proofs.Common.{◌≡◌, ℕ, zero, suc, ◌+◌, ◌-◌, ◌<◌, ◌≤◌, ◌^◌, List, [], ◌∷◌, ◌++◌, map, length, get_or, slice_get, Bool, true, false, cond}
+use Rattle.std.proofs.Common.{◌≡◌, ℕ, zero, suc, ◌+◌, ◌-◌, ◌<◌, ◌≤◌, ◌^◌, List, [], ◌∷◌, ◌++◌, map, length, get_or, slice_get, max, Bool, true, false, cond}
 use Rattle.std.proofs.Common.{Some, refl, ap, ◌∙◌, arith, length-append}
 use Rattle.std.specs.Prelude.{ℤ, pos, negsuc, ◌==◌, nat_lt}
 use Rattle.std.specs.List.{list_all}
@@ -25,14 +25,16 @@ use Rattle.gypsy_syntax.specs.declared.slot.Form.TheVariants.{Simple, Array, Lit
 use Rattle.gypsy_syntax.specs.declared.slot.Slot.{Slot}
 use Rattle.gypsy_syntax.specs.Predefined.{slots_of}
 use Rattle.gypsy_syntax.specs.Effects.{item_of_value}
-use Rattle.gypsy_syntax.specs.Programs.{Cond, Leave, Routine, Declared, Arg, Var, Lit, Proc, Program, simple, proc_at, body_of, shapes_of, conds_of, words_of}
+use Rattle.gypsy_syntax.specs.Programs.{Cond, Leave, Routine, Space, Declared, Arg, Var, Lit, Proc, Program, simple, proc_at, body_of, shapes_of, conds_of, words_of}
 use Rattle.gypsy_syntax.specs.Programs.{Stmt, Skip, NoOp, Signal, Seq, Loop, If, Begin, Call, Apply}
 use Rattle.gypsy_syntax.specs.ProgramFits.{Each, is_in_range, ValueFits, CondFits, ActualsFit, ArgFits, ArgsFit, slot_kind, StmtFits, ProgramFits}
-use Rattle.gypsy_space.specs.Needs.{local_words, vars_of}
-use Rattle.gypsy_meaning.specs.Calls.{has_cond, is_leave, is_formal}
+use Rattle.gypsy_syntax.specs.PredefinedCosts.{predef_temp, predef_ctrl}
+use Rattle.gypsy_space.specs.Needs.{greatest, statement_temp, statement_ctrl, local_words, vars_of, call_need}
+use Rattle.gypsy_meaning.specs.Calls.{has_cond, is_leave, is_passed_on}
 use Rattle.gypsy_predef.specs.Runs.{word_of_item, words_of_value, can_fail}
 use Rattle.gypsy_codegen.specs.WordsOf.{words_of_values, local_shapes, number_of}
 use Rattle.gypsy_predef.specs.Bodies.{predef_number}
+use Rattle.gypsy_codegen.specs.Guard.{guard_code}
 use Rattle.gypsy_codegen.specs.Generated.{Scope, InLoop, InBegin, push_words, push_indices, push_actuals, push_args, length_code}
 use Rattle.gypsy_codegen.specs.Generated.{arg_length, offset}
 use Rattle.gypsy_codegen.specs.Written.{Line, Plain, Marked}
@@ -82,6 +84,70 @@ locals_few q fits c =
     let d = proc_at q c in
     omega (arith, (fits.procs c).words, words_both d.formals (map (λ v. v.shape) d.locals))
 
+-- what a call needs is a word's number
+max_below : (a b n : ℕ) → a ≤ n → b ≤ n → max a b ≤ n
+max_below a b n x y = omega (arith, x, y)
+
+greatest_below : (each : ℕ) (f : Predef → ℕ) (n : ℕ) (s : Stmt) → each ≤ n → ((r : Predef) → f r ≤ n) → greatest each f s ≤ n
+greatest_below each f n Skip x y = omega arith
+greatest_below each f n (NoOp place) x y = omega arith
+greatest_below each f n (Signal place c) x y = omega arith
+greatest_below each f n (Seq s v) x y = max_below _ _ n (greatest_below each f n s x y) (greatest_below each f n v x y)
+greatest_below each f n (Loop place s) x y = greatest_below each f n s x y
+greatest_below each f n (If place b s v) x y = max_below _ _ n (greatest_below each f n s x y) (greatest_below each f n v x y)
+greatest_below each f n (Begin place s cs v) x y = max_below _ _ n (greatest_below each f n s x y) (greatest_below each f n v x y)
+greatest_below each f n (Call place c xs cs) x y = x
+greatest_below each f n (Apply place r args) x y = y r
+
+temp_below : (r : Predef) → predef_temp r ≤ 4
+temp_below row.MgSimpleVariableAssignment = omega arith
+temp_below row.MgSimpleConstantAssignment = omega arith
+temp_below row.MgSimpleVariableEq = omega arith
+temp_below row.MgSimpleConstantEq = omega arith
+temp_below row.MgIntegerLe = omega arith
+temp_below row.MgIntegerUnaryMinus = omega arith
+temp_below row.MgIntegerAdd = omega arith
+temp_below row.MgIntegerSubtract = omega arith
+temp_below row.MgBooleanOr = omega arith
+temp_below row.MgBooleanAnd = omega arith
+temp_below row.MgBooleanNot = omega arith
+temp_below row.MgIndexArray = omega arith
+temp_below row.MgArrayElementAssignment = omega arith
+temp_below row.MgIntegerMultiply = omega arith
+
+ctrl_below : (r : Predef) → predef_ctrl r ≤ 10
+ctrl_below row.MgSimpleVariableAssignment = omega arith
+ctrl_below row.MgSimpleConstantAssignment = omega arith
+ctrl_below row.MgSimpleVariableEq = omega arith
+ctrl_below row.MgSimpleConstantEq = omega arith
+ctrl_below row.MgIntegerLe = omega arith
+ctrl_below row.MgIntegerUnaryMinus = omega arith
+ctrl_below row.MgIntegerAdd = omega arith
+ctrl_below row.MgIntegerSubtract = omega arith
+ctrl_below row.MgBooleanOr = omega arith
+ctrl_below row.MgBooleanAnd = omega arith
+ctrl_below row.MgBooleanNot = omega arith
+ctrl_below row.MgIndexArray = omega arith
+ctrl_below row.MgArrayElementAssignment = omega arith
+ctrl_below row.MgIntegerMultiply = omega arith
+
+-- each variable has a word
+vars_least : (shapes : List Shape) → length shapes ≤ words_of shapes
+vars_least [] = omega arith
+vars_least (s ∷ shapes) = omega (arith, some_items s.length, vars_least shapes)
+
+need_small : (q : Program) → ProgramFits q → (c : ℕ) → ((call_need q c).temp < 2 ^ 32) × ((call_need q c).ctrl < 2 ^ 32)
+unfolding call_need
+need_small q fits c =
+    let d = proc_at q c in
+    let temp : statement_temp d.body ≤ 4 = greatest_below 2 predef_temp 4 d.body (omega arith) temp_below in
+    let ctrl : statement_ctrl d.body ≤ 10 = greatest_below 0 predef_ctrl 10 d.body (omega arith) ctrl_below in
+    let words = (fits.procs c).words in
+    let vars = vars_least (shapes_of d) in
+    let number : length (shapes_of d) ≡ length d.formals + length d.locals = omega (arith, length-append d.formals (map (λ v. v.shape) d.locals), length-map d.locals (λ v. v.shape)) in
+    let few = locals_few q fits c in
+    (omega (arith, temp, words, vars, number, few), omega (arith, ctrl, words, vars, number))
+
 -- the lengths of arrays
 short_at : (shapes : List Shape) (b : ℕ) → Each (λ s. s.length ≤ 4096) shapes → (get_or shapes b (simple Integer)).length ≤ 4096
 short_at [] b h = omega arith
@@ -101,7 +167,7 @@ arg_short : (shapes : List Shape) (a : Arg) → Each (λ s. s.length ≤ 4096) s
 arg_short shapes (Var b) h = short_at shapes b h
 arg_short shapes (Lit v) h = omega arith
 
-pub number_below : (r : Predef) → predef_number r < 13
+pub number_below : (r : Predef) → predef_number r < 14
 number_below row.MgSimpleVariableAssignment = omega arith
 number_below row.MgSimpleConstantAssignment = omega arith
 number_below row.MgSimpleVariableEq = omega arith
@@ -115,6 +181,7 @@ number_below row.MgBooleanAnd = omega arith
 number_below row.MgBooleanNot = omega arith
 number_below row.MgIndexArray = omega arith
 number_below row.MgArrayElementAssignment = omega arith
+number_below row.MgIntegerMultiply = omega arith
 
 count_some : (s : Shape) → 0 < item_count s
 count_some s = some_items s.length
@@ -176,7 +243,7 @@ module _ (q : Program) (fits : ProgramFits q) (p : ℕ) (few : conds_of (proc_at
   locals = vars_of (proc_at q p)
 
   abbrev programs : ℕ
-  programs = length q.procs + 13
+  programs = length q.procs + 14
 
   abbrev Right : Instruction → Type 0
   Right = Fine t f locals programs
@@ -189,13 +256,14 @@ module _ (q : Program) (fits : ProgramFits q) (p : ℕ) (few : conds_of (proc_at
   plain_sure (c ∷ is) h = (h.0, plain_sure is h.1)
 
   to_known : (env : List Scope) (c : Cond) → Scopes K env → K (label_to q p env c)
-  to_known [] c h = pick K (is_formal q p c) 1 0 k1 k0
+  to_known [] c h = pick K (is_passed_on q p c) 1 0 k1 k0
   to_known (InLoop b ∷ env) c h = pick K (is_leave c) b (label_to q p env c) h.0 (to_known env c h.1)
   to_known (InBegin cs a ∷ env) c h = pick K (has_cond c cs) a (label_to q p env c) h.0 (to_known env c h.1)
 
   number_small : (b : Bool) (c : Cond) → CondFits b (conds_of (proc_at q p)) c → number_of c < 2 ^ 32
   number_small b Leave h = omega arith
   number_small b Routine h = omega arith
+  number_small b Space h = omega arith
   number_small b (Declared n) h = omega (arith, few, h)
 
   words_right : (ws : List Word) → Each InRange ws → Each Right (push_words ws)
@@ -244,6 +312,7 @@ module _ (q : Program) (fits : ProgramFits q) (p : ℕ) (few : conds_of (proc_at
   length_right shapes row.MgIntegerUnaryMinus args h = tt
   length_right shapes row.MgIntegerAdd args h = tt
   length_right shapes row.MgIntegerSubtract args h = tt
+  length_right shapes row.MgIntegerMultiply args h = tt
   length_right shapes row.MgBooleanOr args h = tt
   length_right shapes row.MgBooleanAnd args h = tt
   length_right shapes row.MgBooleanNot args h = tt
@@ -253,6 +322,11 @@ module _ (q : Program) (fits : ProgramFits q) (p : ℕ) (few : conds_of (proc_at
   check_right : (b : Bool) (to : ℕ) → K to → Each Right (cond b (i.PushGlobal 0 ∷ i.Apply op.Sub1Nat ∷ i.TestAndJump family.Nat test.Zero to ∷ []) [])
   check_right true to k = (refl, (tt, (((0, omega arith, refl), k), tt)))
   check_right false to k = tt
+
+  guard_right : (c to : ℕ) → K to → Each Right (guard_code (call_need q c) to)
+  guard_right c to k =
+      let need = need_small q fits c in
+      (tt, (need.0, (tt, (((0, omega arith, refl), k), (tt, (need.1, (tt, (((0, omega arith, refl), k), tt))))))))
 
   before_right : (c : ℕ) (xs : List ℕ) → ActualsFit (shapes_of (proc_at q p)) (proc_at q c).formals xs → c < length q.procs → Each Right (before_code q p c xs)
   before_right c xs actuals lt =
@@ -274,11 +348,11 @@ module _ (q : Program) (fits : ProgramFits q) (p : ℕ) (few : conds_of (proc_at
   after_sure : (b : Bool) (env : List Scope) (l n : ℕ) (cs : List Cond) → n ≤ 65536 → Scopes K env → Marks K (after_lines q p env l n cs) → Each (CondFits b (conds_of (proc_at q p))) cs →
       Each Sure (after_lines q p env l n cs)
   after_sure b env l n cs le k m h =
-      let rs = marked_raises q p env (l + 2) cs in
-      let ms = marks_front K rs (Marked (l + 1) i.NoOp ∷ []) m.1 in
+      let rs = marked_raises q p env (l + 3) cs in
+      let ms = marks_front K rs (Marked (l + 1) i.NoOp ∷ []) m.1.1 in
       let kb = ms.1.0 in
-      let cases : Each K (l ∷ l ∷ (l + 1) ∷ raise_labels (l + 2) cs) = (m.0, (m.0, (kb, raise_labels_known env (l + 2) cs ms.0))) in
-      let some : 0 < length (l ∷ l ∷ (l + 1) ∷ raise_labels (l + 2) cs) = omega arith in (
+      let cases : Each K (l ∷ l ∷ (l + 1) ∷ (l + 2) ∷ raise_labels (l + 3) cs) = (m.0, (m.0, (kb, (m.1.0, raise_labels_known env (l + 3) cs ms.0)))) in
+      let some : 0 < length (l ∷ l ∷ (l + 1) ∷ (l + 2) ∷ raise_labels (l + 3) cs) = omega arith in (
         le,
         (
           refl,
@@ -290,7 +364,16 @@ module _ (q : Program) (fits : ProgramFits q) (p : ℕ) (few : conds_of (proc_at
                 refl,
                 (
                   to_known env Routine k,
-                  each_both Sure rs (Marked (l + 1) i.NoOp ∷ []) (raises_sure b env (l + 2) cs k ms.0 h) ((kb, tt), tt),
+                  (
+                    (m.1.0, omega arith),
+                    (
+                      refl,
+                      (
+                        to_known env Space k,
+                        each_both Sure rs (Marked (l + 1) i.NoOp ∷ []) (raises_sure b env (l + 3) cs k ms.0 h) ((kb, tt), tt),
+                      ),
+                    ),
+                  ),
                 ),
               ),
             ),
@@ -337,9 +420,12 @@ module _ (q : Program) (fits : ProgramFits q) (p : ℕ) (few : conds_of (proc_at
   lines_sure b env l (Call place c xs cs) k m h =
       let before = before_code q p c xs in
       let after = after_lines q p env l (local_words (proc_at q c)) cs in
-      let ms = marks_front K (unmarked before) after m in
-      each_both Sure (unmarked before) after (plain_sure before (before_right c xs h.actuals h.callee))
-      (after_sure b env l (local_words (proc_at q c)) cs (locals_few q fits c) k ms.1 h.conds)
+      let guard = guard_code (call_need q c) (l + 2) in
+      let mg = marks_front K (unmarked guard) (unmarked before ++ after) m in
+      let ms = marks_front K (unmarked before) after mg.1 in
+      each_both Sure (unmarked guard) (unmarked before ++ after) (plain_sure guard (guard_right c (l + 2) ms.1.1.0))
+      (each_both Sure (unmarked before) after (plain_sure before (before_right c xs h.actuals h.callee))
+      (after_sure b env l (local_words (proc_at q c)) cs (locals_few q fits c) k ms.1 h.conds))
   lines_sure b env l (Apply place r args) k m h =
       let shapes = shapes_of (proc_at q p) in
       let below = number_below r in

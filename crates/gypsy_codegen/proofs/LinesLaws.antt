@@ -4,7 +4,8 @@ use Rattle.std.proofs.Common.{arith}
 use Rattle.piton_check.specs.Instruction.{Instruction}
 use Rattle.gypsy_syntax.specs.Programs.{Cond, Program, proc_at, body_of}
 use Rattle.gypsy_syntax.specs.Programs.{Stmt, Skip, NoOp, Signal, Seq, Loop, If, Begin, Call, Apply}
-use Rattle.gypsy_space.specs.Needs.{local_words}
+use Rattle.gypsy_space.specs.Needs.{local_words, call_need}
+use Rattle.gypsy_codegen.specs.Guard.{guard_code}
 use Rattle.gypsy_codegen.specs.Generated.{Scope, InLoop, InBegin}
 use Rattle.gypsy_codegen.specs.Written.{Line, Plain, Marked}
 use Rattle.gypsy_codegen.specs.Lines.{labels, unmarked, marked_raises}
@@ -65,20 +66,27 @@ module _ (q : Program) (p : ℕ) where
   raises_distinct env l (c ∷ cs) =
       (misses_out (l + 1) (l + 1 + length cs) l (marked_raises q p env (l + 1) cs) (λ i x y e. omega (arith, x, e)) (raises_ranged env (l + 1) cs), raises_distinct env (l + 1) cs)
 
-  after_ranged : (env : List Scope) (l n : ℕ) (cs : List Cond) → Ranged l (l + (length cs + 2)) (after_lines q p env l n cs)
+  after_ranged : (env : List Scope) (l n : ℕ) (cs : List Cond) → Ranged l (l + (length cs + 3)) (after_lines q p env l n cs)
   after_ranged env l n cs =
-      let rs = marked_raises q p env (l + 2) cs in (
+      let rs = marked_raises q p env (l + 3) cs in (
         omega arith,
         omega arith,
-        ranged_both _ _ rs _ (wider (l + 2) (l + 2 + length cs) l (l + (length cs + 2)) rs (omega arith) (omega arith) (raises_ranged env (l + 2) cs)) (omega arith, omega arith, tt),
+        (
+          omega arith,
+          omega arith,
+          ranged_both _ _ rs _ (wider (l + 3) (l + 3 + length cs) l (l + (length cs + 3)) rs (omega arith) (omega arith) (raises_ranged env (l + 3) cs)) (omega arith, omega arith, tt),
+        ),
       )
 
   after_distinct : (env : List Scope) (l n : ℕ) (cs : List Cond) → Distinct (after_lines q p env l n cs)
   after_distinct env l n cs =
-      let rs = marked_raises q p env (l + 2) cs in
-      let rg = raises_ranged env (l + 2) cs in (
-        misses_both l rs _ (misses_out (l + 2) (l + 2 + length cs) l rs (λ i x y e. omega (arith, x, e)) rg) ((λ e. omega (arith, e)), tt),
-        distinct_both (l + 2) (l + 2 + length cs) rs _ rg (λ m x y. ((λ e. omega (arith, x, e)), tt)) (raises_distinct env (l + 2) cs) (tt, tt),
+      let rs = marked_raises q p env (l + 3) cs in
+      let rg = raises_ranged env (l + 3) cs in (
+        ((λ e. omega (arith, e)), misses_both l rs _ (misses_out (l + 3) (l + 3 + length cs) l rs (λ i x y e. omega (arith, x, e)) rg) ((λ e. omega (arith, e)), tt)),
+        (
+          misses_both (l + 2) rs _ (misses_out (l + 3) (l + 3 + length cs) (l + 2) rs (λ i x y e. omega (arith, x, e)) rg) ((λ e. omega (arith, e)), tt),
+          distinct_both (l + 3) (l + 3 + length cs) rs _ rg (λ m x y. ((λ e. omega (arith, x, e)), tt)) (raises_distinct env (l + 3) cs) (tt, tt),
+        ),
       )
 
   pub lines_ranged : (env : List Scope) (l : ℕ) (s : Stmt) → Ranged l (l + labels s) (lines q p env l s)
@@ -106,7 +114,9 @@ module _ (q : Program) (p : ℕ) where
       ranged_both _ _ ts _ (wider (l + 2) (l + 2 + labels s) _ _ ts (omega arith) (omega arith) (lines_ranged e (l + 2) s))
       (omega arith, omega arith, ranged_both _ _ tv _ (wider (l + 2 + labels s) (l + 2 + labels s + labels v) _ _ tv (omega arith) (omega arith) (lines_ranged env (l + 2 + labels s) v)) (omega arith, omega arith, tt))
   lines_ranged env l (Call place c xs cs) =
-      ranged_plain l _ (before_code q p c xs) _ (after_ranged env l (local_words (proc_at q c)) cs)
+      let after = after_lines q p env l (local_words (proc_at q c)) cs in
+      let behind = ranged_plain l (l + (length cs + 3)) (before_code q p c xs) after (after_ranged env l (local_words (proc_at q c)) cs) in
+      ranged_plain l (l + (length cs + 3)) (guard_code (call_need q c) (l + 2)) (unmarked (before_code q p c xs) ++ after) behind
   lines_ranged env l (Apply place r args) = ranged_only l _ (apply_code q p env (Apply place r args))
 
   lines_misses : (env : List Scope) (l : ℕ) (s : Stmt) (n : ℕ) → ((i : ℕ) → l ≤ i → i < l + labels s → i ≢ n) → Misses n (lines q p env l s)
@@ -147,7 +157,10 @@ module _ (q : Program) (p : ℕ) where
         distinct_both (l + 2 + labels s) (l + 2 + labels s + labels v) tv _ (lines_ranged env (l + 2 + labels s) v) (λ m x y. ((λ f. omega (arith, x, y, f)), tt))
             (lines_distinct env (l + 2 + labels s) v) (tt, tt),
       )
-  lines_distinct env l (Call place c xs cs) = distinct_plain (before_code q p c xs) _ (after_distinct env l (local_words (proc_at q c)) cs)
+  lines_distinct env l (Call place c xs cs) =
+      let after = after_lines q p env l (local_words (proc_at q c)) cs in
+      let behind = distinct_plain (before_code q p c xs) after (after_distinct env l (local_words (proc_at q c)) cs) in
+      distinct_plain (guard_code (call_need q c) (l + 2)) (unmarked (before_code q p c xs) ++ after) behind
   lines_distinct env l (Apply place r args) = distinct_only (apply_code q p env (Apply place r args))
 
   -- Q6 of a procedure

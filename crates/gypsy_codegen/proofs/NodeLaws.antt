@@ -162,6 +162,7 @@ module _ (q : Program) (p : ℕ) where
   length_targets shapes row.MgIntegerUnaryMinus args = refl
   length_targets shapes row.MgIntegerAdd args = refl
   length_targets shapes row.MgIntegerSubtract args = refl
+  length_targets shapes row.MgIntegerMultiply args = refl
   length_targets shapes row.MgBooleanOr args = refl
   length_targets shapes row.MgBooleanAnd args = refl
   length_targets shapes row.MgBooleanNot args = refl
@@ -231,14 +232,14 @@ module _ (q : Program) (p : ℕ) where
         y,
       )
   lines_targets env l (Call place c xs cs) =
-      let rs = marked_raises q p env (l + 2) cs in
+      let rs = marked_raises q p env (l + 3) cs in
       omega (
         arith,
         targets_both (unmarked (before_code q p c xs)) (after_lines q p env l (local_words (proc_at q c)) cs),
         before_targets c xs,
         targets_both rs (Marked (l + 1) i.NoOp ∷ []),
-        raises_targets env (l + 2) cs,
-        raise_labels_count (l + 2) cs,
+        raises_targets env (l + 3) cs,
+        raise_labels_count (l + 3) cs,
       )
   lines_targets env l (Apply place r args) =
       let to = label_to q p env Routine in

@@ -85,7 +85,7 @@ pub record Live (q : Program) (sizes : Words) (base p : ℕ) (fs : List Frame) (
   pub waits : Waits q p fs fr
   pub words : HaveWords q sizes p fs
 
-has_words : (q : Program) (sizes : Words) (p : ℕ) (fs : List Frame) → HaveWords q sizes p fs → HasWords q sizes p (used q p fs)
+pub has_words : (q : Program) (sizes : Words) (p : ℕ) (fs : List Frame) → HaveWords q sizes p fs → HasWords q sizes p (used q p fs)
 has_words q sizes p [] h = h
 has_words q sizes p (Held c x w xs cs ∷ fs) h = h.0
 

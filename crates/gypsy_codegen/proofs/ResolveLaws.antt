@@ -13,20 +13,21 @@ use Rattle.piton_check.specs.Instruction as i
 use Rattle.piton_check.specs.Instruction.{Instruction}
 use Rattle.gypsy_syntax.specs.declared.predef.Predef.{Predef}
 use Rattle.gypsy_syntax.specs.declared.predef.Predef.TheVariants as row
-use Rattle.gypsy_syntax.specs.Programs.{Cond, Routine, Arg, Var, Lit, Program, proc_at, body_of, shapes_of}
+use Rattle.gypsy_syntax.specs.Programs.{Cond, Routine, Space, Arg, Var, Lit, Program, proc_at, body_of, shapes_of}
 use Rattle.gypsy_syntax.specs.Programs.{Stmt, Skip, NoOp, Signal, Seq, Loop, If, Begin, Call, Apply}
 use Rattle.gypsy_syntax.specs.Effects.{item_of_value}
-use Rattle.gypsy_space.specs.Needs.{local_words}
-use Rattle.gypsy_meaning.specs.Calls.{has_cond, is_leave, is_formal}
+use Rattle.gypsy_space.specs.Needs.{Words, local_words, call_need}
+use Rattle.gypsy_meaning.specs.Calls.{has_cond, is_leave, is_passed_on}
 use Rattle.gypsy_predef.specs.Runs.{word_of_item, can_fail}
 use Rattle.gypsy_predef.specs.Bodies.{lengths_of}
 use Rattle.gypsy_predef.specs.Calls.{test_code}
 use Rattle.gypsy_codegen.specs.WordsOf.{words_of_values, local_shapes, number_of}
+use Rattle.gypsy_codegen.specs.Guard.{guard_code, guard_size}
 use Rattle.gypsy_codegen.specs.Generated.{Scope, InLoop, InBegin, target, raise_code, back_code, raises, raise_places}
 use Rattle.gypsy_codegen.specs.Generated.{after_code, push_words, push_indices, push_actuals, push_args, before_size, length_code}
 use Rattle.gypsy_codegen.specs.Generated.{predef_position, offset, size, gen, code_of}
 use Rattle.gypsy_codegen.specs.Written.{Line, Plain, Marked, line_with_places}
-use Rattle.gypsy_codegen.specs.Lines.{labels, label_to, unmarked, marked_raises, raise_labels}
+use Rattle.gypsy_codegen.specs.Lines.{labels, label_to, unmarked, marked_raise, marked_raises, raise_labels}
 use Rattle.gypsy_codegen.specs.Lines.{before_code, after_lines, apply_code, lines, tail_lines, lines_of}
 use Rattle.gypsy_codegen.proofs.PushLaws.{size_words, size_indices, size_actuals, size_args}
 use Rattle.gypsy_codegen.proofs.StandLaws.{size_length, size_check}
@@ -91,14 +92,14 @@ module _ (q : Program) (p : ℕ) where
         lines_count env (l + 2 + labels s) v,
       )
   lines_count env l (Call place c xs cs) =
-      let rs = marked_raises q p env (l + 2) cs in
+      let rs = marked_raises q p env (l + 3) cs in
       omega (
         arith,
         length-append (unmarked (before_code q p c xs)) (after_lines q p env l (local_words (proc_at q c)) cs),
         plain_count (before_code q p c xs),
         before_count c xs,
         length-append rs (Marked (l + 1) i.NoOp ∷ []),
-        raises_count env (l + 2) cs,
+        raises_count env (l + 3) cs,
       )
   lines_count env l (Apply place r args) =
       let to = label_to q p env Routine in
@@ -168,7 +169,7 @@ module _ (q : Program) (p n : ℕ) (f : ℕ → Option ℕ) (zero_at : f 0 ≡ S
   pick_place false l m a c x y = y
 
   target_is : (env : List Scope) (c : Cond) → g (label_to q p env c) ≡ target q p n (env_of g env) c
-  target_is [] c = pick_place (is_formal q p c) 1 0 (n + 3) (n + 1) (stands f 1 (n + 3) one_at) (stands f 0 (n + 1) zero_at)
+  target_is [] c = pick_place (is_passed_on q p c) 1 0 (n + 3) (n + 1) (stands f 1 (n + 3) one_at) (stands f 0 (n + 1) zero_at)
   target_is (InLoop b ∷ env) c = pick_place (is_leave c) b (label_to q p env c) (g b) _ refl (target_is env c)
   target_is (InBegin cs a ∷ env) c = pick_place (has_cond c cs) a (label_to q p env c) (g a) _ refl (target_is env c)
 
@@ -198,6 +199,7 @@ module _ (q : Program) (p n : ℕ) (f : ℕ → Option ℕ) (zero_at : f 0 ≡ S
   length_stays shapes row.MgIntegerUnaryMinus args = refl
   length_stays shapes row.MgIntegerAdd args = refl
   length_stays shapes row.MgIntegerSubtract args = refl
+  length_stays shapes row.MgIntegerMultiply args = refl
   length_stays shapes row.MgBooleanOr args = refl
   length_stays shapes row.MgBooleanAnd args = refl
   length_stays shapes row.MgBooleanNot args = refl
@@ -224,24 +226,42 @@ module _ (q : Program) (p n : ℕ) (f : ℕ → Option ℕ) (zero_at : f 0 ≡ S
       ap (λ z. z ∷ map g (raise_labels (l + 1) cs)) (stands f l at h.0)
       ∙ ap (λ z. at ∷ z) (raise_labels_stand env (l + 1) (at + 3) cs (subst (λ j. Good f j (marked_raises q p env (l + 1) cs)) three_on h.1))
 
+  -- where spaceerror is raised
+  space_stands : (env : List Scope) (l at m : ℕ) (cs : List Cond) → Good f at (after_lines q p env l m cs) → g (l + 2) ≡ at + 6
+  space_stands env l at m cs h = let six_on : at + 1 + 1 + 1 + 1 + 1 + 1 ≡ at + 6 = omega arith in stands f (l + 2) _ h.1.0 ∙ six_on
+
+  -- a raise that has a label, and what follows it
+  raise_resolves : (env : List Scope) (l : ℕ) (c : Cond) (rest : List Line) (code : List Instruction) → map see rest ≡ code → map see (marked_raise q p env l c ++ rest) ≡ raise_code q p n (env_of g env) c ++ code
+  raise_resolves env l c rest code h =
+      ap (λ z. i.PushConstant (Nat (number_of c)) ∷ i.PopGlobal 0 ∷ i.Jump z ∷ map see rest) (target_is env c)
+      ∙ ap (λ z. raise_code q p n (env_of g env) c ++ z) h
+
+  -- the guard, where its label stands
+  guard_resolves : (need : Words) (l to : ℕ) → g l ≡ to → map see (unmarked (guard_code need l)) ≡ guard_code need to
+  guard_resolves need l to e = ap (guard_code need) e
+
   after_resolves : (env : List Scope) (l at m : ℕ) (cs : List Cond) → Good f at (after_lines q p env l m cs) → map see (after_lines q p env l m cs) ≡ after_code q p n (env_of g env) at m cs
   after_resolves env l at m cs h =
-      let rs = marked_raises q p env (l + 2) cs in
+      let rs = marked_raises q p env (l + 3) cs in
       let last = Marked (l + 1) i.NoOp ∷ [] in
+      let e = env_of g env in
       let three_on : at + 1 + 1 + 1 ≡ at + 3 = omega arith in
-      let six_on : at + 1 + 1 + 1 + 1 + 1 + 1 ≡ at + 6 = omega arith in
-      let rest = subst (λ j. Good f j (rs ++ last)) six_on h.1 in
-      let end = good_back f (at + 6) (at + 6 + 3 * length cs) rs last (omega (arith, raises_count q p env (l + 2) cs)) rest in
+      let nine_on : at + 1 + 1 + 1 + 1 + 1 + 1 + 1 + 1 + 1 ≡ at + 9 = omega arith in
+      let rest = subst (λ j. Good f j (rs ++ last)) nine_on h.1.1 in
+      let end = good_back f (at + 9) (at + 9 + 3 * length cs) rs last (omega (arith, raises_count q p env (l + 3) cs)) rest in
       let la : g l ≡ at + 3 = stands f l _ h.0 ∙ three_on in
-      let lb : g (l + 1) ≡ at + 6 + 3 * length cs = stands f (l + 1) _ end.0 in
-      let ls = raise_labels_stand env (l + 2) (at + 6) cs (good_front f (at + 6) rs last rest) in
-      let cases : map g (l ∷ l ∷ (l + 1) ∷ raise_labels (l + 2) cs) ≡ (at + 3) ∷ (at + 3) ∷ (at + 6 + 3 * length cs) ∷ raise_places (at + 6) cs =
-      ap (λ z. z ∷ z ∷ g (l + 1) ∷ map g (raise_labels (l + 2) cs)) la ∙ ap (λ z. (at + 3) ∷ (at + 3) ∷ z ∷ map g (raise_labels (l + 2) cs)) lb ∙ ap (λ z. (at + 3) ∷ (at + 3) ∷ (at + 6 + 3 * length cs) ∷ z) ls in
-      let tail : map see (rs ++ last) ≡ raises q p n (env_of g env) cs ++ i.NoOp ∷ [] =
-      mapped-append see rs last ∙ ap (λ z. z ++ i.NoOp ∷ []) (raises_resolve env (l + 2) cs) in
-      ap (λ z. i.PopStar m ∷ i.PushGlobal 0 ∷ i.JumpCase z ∷ i.PushConstant (Nat (number_of Routine)) ∷ i.PopGlobal 0 ∷ i.Jump (g (label_to q p env Routine)) ∷ map see (rs ++ last)) cases
-      ∙ ap (λ z. i.PopStar m ∷ i.PushGlobal 0 ∷ i.JumpCase ((at + 3) ∷ (at + 3) ∷ (at + 6 + 3 * length cs) ∷ raise_places (at + 6) cs) ∷ i.PushConstant (Nat (number_of Routine)) ∷ i.PopGlobal 0 ∷ i.Jump z ∷ map see (rs ++ last)) (target_is env Routine)
-      ∙ ap (λ z. i.PopStar m ∷ i.PushGlobal 0 ∷ i.JumpCase ((at + 3) ∷ (at + 3) ∷ (at + 6 + 3 * length cs) ∷ raise_places (at + 6) cs) ∷ (raise_code q p n (env_of g env) Routine ++ z)) tail
+      let lb : g (l + 1) ≡ at + 9 + 3 * length cs = stands f (l + 1) _ end.0 in
+      let lg : g (l + 2) ≡ at + 6 = space_stands env l at m cs h in
+      let ls = raise_labels_stand env (l + 3) (at + 9) cs (good_front f (at + 9) rs last rest) in
+      let cases : map g (l ∷ l ∷ (l + 1) ∷ (l + 2) ∷ raise_labels (l + 3) cs) ≡ (at + 3) ∷ (at + 3) ∷ (at + 9 + 3 * length cs) ∷ (at + 6) ∷ raise_places (at + 9) cs =
+      ap (λ z. z ∷ z ∷ g (l + 1) ∷ g (l + 2) ∷ map g (raise_labels (l + 3) cs)) la ∙ ap (λ z. (at + 3) ∷ (at + 3) ∷ z ∷ g (l + 2) ∷ map g (raise_labels (l + 3) cs)) lb
+      ∙ ap (λ z. (at + 3) ∷ (at + 3) ∷ (at + 9 + 3 * length cs) ∷ z ∷ map g (raise_labels (l + 3) cs)) lg ∙ ap (λ z. (at + 3) ∷ (at + 3) ∷ (at + 9 + 3 * length cs) ∷ (at + 6) ∷ z) ls in
+      let tail : map see (rs ++ last) ≡ raises q p n e cs ++ i.NoOp ∷ [] =
+      mapped-append see rs last ∙ ap (λ z. z ++ i.NoOp ∷ []) (raises_resolve env (l + 3) cs) in
+      let space : map see (marked_raise q p env (l + 2) Space ++ (rs ++ last)) ≡ raise_code q p n e Space ++ (raises q p n e cs ++ i.NoOp ∷ []) = raise_resolves env (l + 2) Space (rs ++ last) _ tail in
+      let routine : map see (marked_raise q p env l Routine ++ (marked_raise q p env (l + 2) Space ++ (rs ++ last))) ≡ raise_code q p n e Routine ++ (raise_code q p n e Space ++ (raises q p n e cs ++ i.NoOp ∷ [])) = raise_resolves env l Routine (marked_raise q p env (l + 2) Space ++ (rs ++ last)) _ space in
+      ap (λ z. i.PopStar m ∷ i.PushGlobal 0 ∷ i.JumpCase z ∷ map see (marked_raise q p env l Routine ++ (marked_raise q p env (l + 2) Space ++ (rs ++ last)))) cases
+      ∙ ap (λ z. i.PopStar m ∷ i.PushGlobal 0 ∷ i.JumpCase ((at + 3) ∷ (at + 3) ∷ (at + 9 + 3 * length cs) ∷ (at + 6) ∷ raise_places (at + 9) cs) ∷ z) routine
 
   check_resolves : (b : Bool) (to at : ℕ) → g to ≡ at →
       map see (unmarked (cond b (i.PushGlobal 0 ∷ i.Apply op.Sub1Nat ∷ i.TestAndJump family.Nat test.Zero to ∷ []) [])) ≡ cond b (i.PushGlobal 0 ∷ i.Apply op.Sub1Nat ∷ i.TestAndJump family.Nat test.Zero at ∷ []) []
@@ -310,14 +330,19 @@ module _ (q : Program) (p n : ℕ) (f : ℕ → Option ℕ) (zero_at : f 0 ≡ S
       let before = before_code q p c xs in
       let m = local_words d in
       let after = after_lines q p env l m cs in
-      let to = at + before_size q c xs in
-      let rest = good_back f at to (unmarked before) after (omega (arith, plain_count q p before, before_count q p c xs)) h in
+      let at0 = at + guard_size in
+      let to = at0 + before_size q c xs in
+      let guard = guard_code (call_need q c) (l + 2) in
+      let behind = good_back f at at0 (unmarked guard) (unmarked before ++ after) (omega arith) h in
+      let rest = good_back f at0 to (unmarked before) after (omega (arith, plain_count q p before, before_count q p c xs)) behind in
+      let guarded = guard_resolves (call_need q c) (l + 2) (to + 6) (space_stands env l to m cs rest) in
       let code = after_code q p n (env_of g env) to m cs in
       let indices = push_indices m 0 0 (local_shapes d) in
-      mapped-append see (unmarked before) after ∙ ap (λ z. z ++ map see after) (before_stays c xs) ∙ ap (λ z. before ++ z) (after_resolves env l to m cs rest)
+      mapped-append see (unmarked guard) (unmarked before ++ after) ∙ ap (λ z. z ++ map see (unmarked before ++ after)) guarded ∙ ap (λ z. guard_code (call_need q c) (to + 6) ++ z)
+      (mapped-append see (unmarked before) after ∙ ap (λ z. z ++ map see after) (before_stays c xs) ∙ ap (λ z. before ++ z) (after_resolves env l to m cs rest)
       ∙ append_assoc (push_words (words_of_values d.locals)) (indices ++ (push_actuals q p xs ++ i.Call c ∷ [])) code
       ∙ ap (λ z. push_words (words_of_values d.locals) ++ z) (append_assoc indices (push_actuals q p xs ++ i.Call c ∷ []) code)
-      ∙ ap (λ z. push_words (words_of_values d.locals) ++ (indices ++ z)) (append_assoc (push_actuals q p xs) (i.Call c ∷ []) code)
+      ∙ ap (λ z. push_words (words_of_values d.locals) ++ (indices ++ z)) (append_assoc (push_actuals q p xs) (i.Call c ∷ []) code))
   resolves env l at (Apply place r args) h =
       let shapes = shapes_of (proc_at q p) in
       let to = label_to q p env Routine in

@@ -1,16 +1,28 @@
 -- The rows of the step machine, one by one.
-use Rattle.std.proofs.Common.{List, [], ◌∷◌, subst}
-use Rattle.gypsy_syntax.specs.Programs.{body_of, NoOp, Signal, Loop, If, Call, Apply}
+use Rattle.std.proofs.Common.{◌≡◌, ℕ, Bool, true, false, List, [], ◌∷◌, refl, subst}
+use Rattle.std.specs.Prelude.{◌&&◌, not, if◌then◌else◌}
+use Rattle.gypsy_syntax.specs.Programs.{Cond, Program, NoOp, Signal, Loop, If, Call, Apply}
 use Rattle.gypsy_space.specs.Costs.{spend}
-use Rattle.gypsy_space.specs.Needs.{call_spend}
-use Rattle.gypsy_meaning.specs.Calls.{copied_in}
-use Rattle.gypsy_meaning.specs.Machine.{Item, Do, Back, JoinThen, JoinOne, Guard, Out, Held, At, Next, either_move, full_or, apply_step, end_step, out_step, open_on, gypsy_step}
+use Rattle.gypsy_space.specs.Needs.{Words, has_temp_room, has_ctrl_room, has_room, lack_of}
+use Rattle.gypsy_space.specs.declared.need.Lack.{Lack}
+use Rattle.gypsy_space.specs.declared.need.Lack.TheVariants.{Nothing, Temporary, Control}
+use Rattle.gypsy_meaning.specs.Machine.{Item, Do, Back, JoinThen, JoinOne, Guard, Out, At, Next, used, either_move, call_step, apply_step, end_step, out_step, open_on, gypsy_step}
 use Rattle.gypsy_codegen.specs.Generated.{generated_view}
 use Rattle.gypsy_codegen.specs.Law.{Follows}
 use Rattle.gypsy_codegen.specs.Rows.{Top, IsShown, at_work, NoOpRow, SignalRow, LoopRow, BackRow, ThenRow, ElseRow, JoinThenRow, JoinOneRow, GuardRow}
-use Rattle.gypsy_codegen.specs.Rows.{CallRow, WriteRow, FaultRow, BeyondRow, ReturnRow, OutRow, EndRow, MainOutRow}
+use Rattle.gypsy_codegen.specs.Rows.{CallRow, LackTemporaryRow, LackControlRow, WriteRow, FaultRow, BeyondRow, ReturnRow, OutRow, EndRow, MainOutRow}
 use Rattle.gypsy_codegen.proofs.PushLaws.{PredefsRun}
 use Rattle.gypsy_codegen.proofs.RowLaws.{steps_follow}
+
+-- a call with room lacks nothing
+nothing_lacks : (q : Program) (sizes : Words) (p : ℕ) (u : Words) → has_room q sizes p u ≡ true → lack_of q sizes p u ≡ Nothing
+unfolding has_room lack_of
+nothing_lacks q sizes p u e = by_room (has_temp_room q sizes p u) (has_ctrl_room q sizes p u) e
+  where
+    by_room : (a b : Bool) → (a && b) ≡ true → (if not a then Temporary else if not b then Control else Nothing) ≡ Nothing
+    by_room true true f = refl
+    by_room true false f = absurd cc
+    by_room false b f = absurd cc
 
 module _ (predefs : PredefsRun) where
   follows : (s : Top) (w : List Item) → IsShown s (at_work s w) → Follows s.source (generated_view s.source s.sizes s.base) s.piton s.spent (gypsy_step s.source s.sizes (at_work s w))
@@ -45,9 +57,19 @@ module _ (predefs : PredefsRun) where
   pub guard_row : GuardRow
   guard_row s place cs b h = follows s (Guard place cs b ∷ s.work) h
 
+  call_by : (s : Top) (place c : ℕ) (xs : List ℕ) (cs : List Cond) (l : Lack) → lack_of s.source s.sizes c (used s.source s.proc s.waiting) ≡ l → IsShown s (at_work s (Do (Call place c xs cs) ∷ s.work)) →
+      Follows s.source (generated_view s.source s.sizes s.base) s.piton s.spent (call_step s.source l c xs cs s.proc s.vars s.work s.waiting s.spent)
+  call_by s place c xs cs l lack h =
+      subst (λ z. Follows s.source (generated_view s.source s.sizes s.base) s.piton s.spent (call_step s.source z c xs cs s.proc s.vars s.work s.waiting s.spent)) lack (follows s (Do (Call place c xs cs) ∷ s.work) h)
+
   pub call_row : CallRow
-  call_row s place c xs cs room h =
-      subst (λ z. Follows s.source (generated_view s.source s.sizes s.base) s.piton s.spent (full_or z (At c (copied_in s.source c xs s.vars) (open_on (body_of s.source c) []) (Held s.proc s.vars s.work xs cs ∷ s.waiting) (call_spend s.source c s.spent)))) room (follows s (Do (Call place c xs cs) ∷ s.work) h)
+  call_row s place c xs cs room h = call_by s place c xs cs Nothing (nothing_lacks s.source s.sizes c (used s.source s.proc s.waiting) room) h
+
+  pub lack_temporary_row : LackTemporaryRow
+  lack_temporary_row s place c xs cs lack h = call_by s place c xs cs Temporary lack h
+
+  pub lack_control_row : LackControlRow
+  lack_control_row s place c xs cs lack h = call_by s place c xs cs Control lack h
 
   pub write_row : WriteRow
   write_row s place r args v e h =

@@ -17,9 +17,11 @@ use Rattle.gypsy_syntax.specs.Programs.{Stmt, Skip, NoOp, Signal, Seq, Loop, If,
 use Rattle.gypsy_syntax.specs.ProgramFits.{StmtFits, ValueFits}
 use Rattle.gypsy_syntax.specs.Effects.{predef_effect, value_at, is_true_value, item_of_value}
 use Rattle.gypsy_space.specs.Costs.{Tally, spend}
-use Rattle.gypsy_space.specs.Needs.{Words, has_room, call_spend}
-use Rattle.gypsy_meaning.specs.Calls.{copied_in, values_of}
-use Rattle.gypsy_meaning.specs.Machine.{Item, Do, Back, JoinThen, JoinOne, Guard, Out, Frame, Held, State, At, Next, open_on, settle, either_move, full_or, used, do_step, end_step, out_step, gypsy_step}
+use Rattle.gypsy_space.specs.Needs.{Words, lack_of}
+use Rattle.gypsy_space.specs.declared.need.Lack.{Lack}
+use Rattle.gypsy_space.specs.declared.need.Lack.TheVariants.{Nothing, Temporary, Control}
+use Rattle.gypsy_meaning.specs.Calls.{values_of}
+use Rattle.gypsy_meaning.specs.Machine.{Item, Do, Back, JoinThen, JoinOne, Guard, Out, Frame, Held, State, At, Next, open_on, settle, either_move, call_step, used, do_step, end_step, out_step, gypsy_step}
 use Rattle.gypsy_meaning.specs.Kept.{VarsFit, in_loop, WorkFits}
 use Rattle.gypsy_meaning.specs.Room.{Covers, CoversWork}
 use Rattle.gypsy_meaning.proofs.EffectLaws.{value_fits}
@@ -36,7 +38,7 @@ use Rattle.gypsy_codegen.proofs.StepLaws as go
 use Rattle.gypsy_codegen.proofs.StepLaws.{P, Pt, state, spent, Goes, steps_on, stay, lands_at, spend_two, three}
 use Rattle.gypsy_codegen.proofs.PushLaws.{PredefsRun, Live, free_temp, here, top, passes, jumps, pushes_local}
 use Rattle.gypsy_codegen.proofs.StandLaws.{Opened, moved, after_gen, front_gen, settle_stands, open_stands, Comes, comes_on, leads, lands, raises_leads}
-use Rattle.gypsy_codegen.proofs.CallLaws.{call_leads, normal_leads, out_leads, end_halts, out_halts}
+use Rattle.gypsy_codegen.proofs.CallLaws.{Lacks, lacks, call_leads, lack_temporary_leads, lack_control_leads, normal_leads, out_leads, end_halts, out_halts}
 use Rattle.gypsy_codegen.proofs.ApplyLaws.{apply_follows}
 
 -- the word of a simple variable
@@ -98,11 +100,12 @@ module _ {q : Program} {sizes : Words} {base p : ℕ} {fs : List Frame} {fr : Li
       if_leads (is_true_value value) (at + 1 + 1) (a2 + 1) u2 _ _ h.1.1.0 yes_way no_way (Pt p at 2 s fr u) (steps_on first second)
   do_follows (Begin place r cs n) env at w u t e f c wf cw st =
       leads (lands a x s at (open_on (Begin place r cs n) w) u t es e (open_stands q p (Begin place r cs n) env at w st.0 st.1))
-  do_follows (Call place d xs cs) env at w u t e f c wf cw st = pick (has_room q sizes d (used q p fs)) refl
+  do_follows (Call place d xs cs) env at w u t e f c wf cw st = pick (lack_of q sizes d (used q p fs)) (lacks q sizes d (used q p fs))
     where
-      pick : (b : Bool) → has_room q sizes d (used q p fs) ≡ b → Follows q (generated_view q sizes base) (state (Pt p at 2 s fr u)) u (full_or b (At d (copied_in q d xs x) (open_on (body_of q d) []) (Held p x w xs cs ∷ fs) (call_spend q d t)))
-      pick true has = leads (call_leads a x s es v place d xs cs env at w u t f wf cw has e st)
-      pick false has = tt
+      pick : (l : Lack) → Lacks q sizes d (used q p fs) l → Follows q (generated_view q sizes base) (state (Pt p at 2 s fr u)) u (call_step q l d xs cs p x w fs t)
+      pick Nothing has = leads (call_leads a x s es v place d xs cs env at w u t f wf cw c.0 has e st)
+      pick Temporary lack = leads (lack_temporary_leads a x s es v place d xs cs env at w u t c.0 e st lack)
+      pick Control lack = leads (lack_control_leads a x s es v place d xs cs env at w u t c.0 e st lack)
   do_follows (Apply place r args) env at w u t e f c wf cw st =
       apply_follows a x s es v place f.0 r args (predef_effect r (values_of x args)) env at w u t f.1 refl c.0 c.1 e st
 

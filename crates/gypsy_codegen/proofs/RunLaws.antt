@@ -16,11 +16,11 @@ use Rattle.gypsy_syntax.specs.ProgramFits.{ProgramFits}
 use Rattle.gypsy_space.specs.Costs.{Tally, spend, start_tally}
 use Rattle.gypsy_space.specs.Needs.{Words}
 use Rattle.gypsy_meaning.specs.Calls.{Way, main_start}
-use Rattle.gypsy_meaning.specs.Machine.{Item, Do, Back, JoinThen, JoinOne, Guard, Out, Frame, State, At, Move, Next, Ended, Full, Ending, Over, Going, Short, go_on, run, gypsy_step, start, open_on}
+use Rattle.gypsy_meaning.specs.Machine.{Item, Do, Back, JoinThen, JoinOne, Guard, Out, Frame, State, At, Move, Next, Ended, Ending, Over, Going, go_on, run, gypsy_step, start, open_on}
 use Rattle.gypsy_meaning.specs.Kept.{VarsFit, StateFits, MoveFits}
 use Rattle.gypsy_meaning.specs.Room.{StateRoom, MoveRoom}
 use Rattle.gypsy_meaning.specs.Meaning.{Done}
-use Rattle.gypsy_meaning.specs.Counted.{CountedOutcome, CountedDone, CountedUnfinished, CountedNoRoom, counted_meaning, uncounted}
+use Rattle.gypsy_meaning.specs.Counted.{CountedOutcome, CountedDone, CountedUnfinished, counted_meaning, uncounted}
 use Rattle.gypsy_meaning.proofs.CountLaws.{meaning-uncounted}
 use Rattle.gypsy_meaning.proofs.Runs.{agree}
 use Rattle.gypsy_meaning.proofs.Keeping.{step_keeps, start_fits}
@@ -102,18 +102,15 @@ halts_on {q} {s} {a} {t} {g} {x} {c} {u} l h = record {
 abbrev HaltsAs : SystemView → PitonState → Tally → Ending → Type 0
 HaltsAs s a t (Over x c u) = Halts s a t x c u
 HaltsAs s a t Going = Unit {0}
-HaltsAs s a t Short = Unit {0}
 
 module _ (q : Program) (sizes : Words) (base : ℕ) (bodies : PredefsRun) (fits : ProgramFits q) (sz : SizesFit q sizes) where
   on_from : (a : PitonState) (t : Tally) (g : State) (e : Ending) (l : Leads q (generated_view q sizes base) a t g) → HaltsAs (generated_view q sizes base) l.to (tally_of g) e → HaltsAs (generated_view q sizes base) a t e
   on_from a t g (Over x c u) l h = halts_on l h
   on_from a t g Going l h = tt
-  on_from a t g Short l h = tt
 
   move_halts : (a : PitonState) (t : Tally) (mv : Move) (rest : State → Ending) → MoveFits q mv → MoveRoom q sizes mv → ((b : PitonState) (g : State) → StateFits q g → StateRoom q sizes g → Shows q b g → HaltsAs (generated_view q sizes base) b (tally_of g) (rest g)) → Follows q (generated_view q sizes base) a t mv → HaltsAs (generated_view q sizes base) a t (go_on mv rest)
   move_halts a t (Next g) rest mf mr h f = on_from a t g (rest g) f (h f.to g mf mr f.shows)
   move_halts a t (Ended x c u) rest mf mr h f = f
-  move_halts a t Full rest mf mr h f = tt
 
   -- where the step machine ends after j steps, the generated system halts with the same
   run_halts : (j : ℕ) (a : PitonState) (g : State) → StateFits q g → StateRoom q sizes g → Shows q a g → HaltsAs (generated_view q sizes base) a (tally_of g) (run q sizes j g)
@@ -129,7 +126,7 @@ module _ (q : Program) (sizes : Words) (base : ℕ) (bodies : PredefsRun) (fits 
       let f = subst (Follows q (generated_view q sizes base) a (tally_of g)) e (steps_follow bodies q sizes base a g fits sz.small sf sr sh) in
       leads_on f (reached f.to h k mf mr f.shows rest)
 
-counts : (cost steps : ℕ) (t : Tally) → t ≡ spend cost steps start_tally → (steps ≡ t.steps) × (cost ≡ t.count)
+pub counts : (cost steps : ℕ) (t : Tally) → t ≡ spend cost steps start_tally → (steps ≡ t.steps) × (cost ≡ t.count)
 unfolding spend
 counts cost steps t e =
     let c = ap (λ (z : Tally). z.count) e in
@@ -158,7 +155,6 @@ done_counted (CountedDone y d t) x c e =
     let same_way : d ≡ c = cc in
     (t, ap (λ z. CountedDone z d t) same_vars ∙ ap (λ z. CountedDone x z t) same_way)
 done_counted CountedUnfinished x c e = absurd cc
-done_counted CountedNoRoom x c e = absurd cc
 
 pub meaning_runs : PredefsRun → MeaningRuns
 meaning_runs bodies q sizes base v n x c fits sz vf d =

@@ -11,12 +11,13 @@ use Rattle.piton_check.specs.Instruction.{Instruction, ProgramView}
 use Rattle.piton_machine.specs.Placed.{instructions_size, program_size}
 use Rattle.gypsy_syntax.specs.declared.predef.Predef.{Predef}
 use Rattle.gypsy_syntax.specs.declared.predef.Predef.TheVariants as row
-use Rattle.gypsy_syntax.specs.Programs.{Cond, Routine, Arg, Var, Lit, Proc, Program, proc_at, body_of, shapes_of}
+use Rattle.gypsy_syntax.specs.Programs.{Cond, Routine, Space, Arg, Var, Lit, Proc, Program, proc_at, body_of, shapes_of}
 use Rattle.gypsy_syntax.specs.Programs.{Stmt, Skip, NoOp, Signal, Seq, Loop, If, Begin, Call, Apply}
 use Rattle.gypsy_syntax.specs.ProgramFits.{ProgramFits, StmtFits}
 use Rattle.gypsy_syntax.specs.PredefinedCosts.{predef_words}
-use Rattle.gypsy_space.specs.Needs.{local_words, vars_of, args_words, statement_words, code_words}
+use Rattle.gypsy_space.specs.Needs.{local_words, vars_of, call_need, args_words, statement_words, code_words}
 use Rattle.gypsy_codegen.specs.WordsOf.{words_of_values, starts, local_shapes}
+use Rattle.gypsy_codegen.specs.Guard.{guard_code, guard_size}
 use Rattle.gypsy_codegen.specs.Generated.{Scope, InLoop, InBegin, target, raise_code, back_code, raises, raise_places, after_code, push_words, push_indices, push_actuals, push_args, before_size, length_code, predef_position, size, gen, tail_code}
 use Rattle.gypsy_predef.specs.Calls.{test_code}
 use Rattle.gypsy_codegen.specs.Sizes.{ProceduresTakeWords}
@@ -54,9 +55,10 @@ places_number : (at : ℕ) (cs : List Cond) → length (raise_places at cs) ≡ 
 places_number at [] = refl
 places_number at (c ∷ cs) = ap suc (places_number (at + 3) cs)
 
-sum_after : (q : Program) (p n : ℕ) (env : List Scope) (at l : ℕ) (cs : List Cond) → instructions_size (after_code q p n env at l cs) ≡ 20 + 8 * length cs
+sum_after : (q : Program) (p n : ℕ) (env : List Scope) (at l : ℕ) (cs : List Cond) → instructions_size (after_code q p n env at l cs) ≡ 28 + 8 * length cs
 sum_after q p n env at l cs =
-    omega (arith, sum-append (raise_code q p n env Routine) (raises q p n env cs ++ i.NoOp ∷ []), sum-append (raises q p n env cs) (i.NoOp ∷ []), sum_raises q p n env cs, places_number (at + 6) cs)
+    let rest = raises q p n env cs ++ i.NoOp ∷ [] in
+    omega (arith, sum-append (raise_code q p n env Routine) (raise_code q p n env Space ++ rest), sum-append (raise_code q p n env Space) rest, sum-append (raises q p n env cs) (i.NoOp ∷ []), sum_raises q p n env cs, places_number (at + 9) cs)
 
 -- the length and the check of a row
 sum_extra : (r : Predef) (shapes : List Shape) (args : List Arg) (to : ℕ) → instructions_size (length_code shapes r args) + instructions_size (test_code r to) ≡ predef_words r
@@ -73,6 +75,7 @@ sum_extra row.MgBooleanAnd shapes args to = refl
 sum_extra row.MgBooleanNot shapes args to = refl
 sum_extra row.MgIndexArray shapes args to = refl
 sum_extra row.MgArrayElementAssignment shapes args to = refl
+sum_extra row.MgIntegerMultiply shapes args to = refl
 
 module _ (q : Program) (fits : ProgramFits q) (p n : ℕ) (conds : ℕ) where
   sum_gen : (in_loop : Bool) (env : List Scope) (at : ℕ) (s : Stmt) → StmtFits q (shapes_of (proc_at q p)) conds in_loop s → instructions_size (gen q p n env at s) ≡ statement_words q s
@@ -98,14 +101,15 @@ module _ (q : Program) (fits : ProgramFits q) (p n : ℕ) (conds : ℕ) where
       let d = proc_at q c in
       let l = local_words d in
       let ws = words_of_values d.locals in
-      let after = after_code q p n env (at + before_size q c xs) l cs in
+      let behind = at + guard_size + before_size q c xs in
+      let after = after_code q p n env behind l cs in
       let pa = push_actuals q p xs in
       let pi = push_indices l 0 0 (local_shapes d) in
       let pw = push_words ws in
       let many = actuals_number (shapes_of (proc_at q p)) d.formals xs f.actuals in
       let words : length ws ≡ l = values_words (local_shapes d) d.locals (locals_fit d.locals (fits.procs c).locals) in
       let a : instructions_size pw ≡ 2 * l = sum_words ws ∙ ap (λ k. 2 * k) words in
-      omega (arith, sum-append pw (pi ++ (pa ++ i.Call c ∷ after)), sum-append pi (pa ++ i.Call c ∷ after), sum-append pa (i.Call c ∷ after), a, sum_indices l 0 0 (local_shapes d), length-map d.locals (λ (v : ValueOf). v.shape), sum_actuals q p xs, sum_after q p n env (at + before_size q c xs) l cs, many)
+      omega (arith, sum-append (guard_code (call_need q c) (behind + 6)) (pw ++ (pi ++ (pa ++ i.Call c ∷ after))), sum-append pw (pi ++ (pa ++ i.Call c ∷ after)), sum-append pi (pa ++ i.Call c ∷ after), sum-append pa (i.Call c ∷ after), a, sum_indices l 0 0 (local_shapes d), length-map d.locals (λ (v : ValueOf). v.shape), sum_actuals q p xs, sum_after q p n env behind l cs, many)
   sum_gen b env at (Apply place r args) f =
       let to = target q p n env Routine in
       let pa = push_args q p args in

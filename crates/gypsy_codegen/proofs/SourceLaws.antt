@@ -74,6 +74,7 @@ is_predefined_name row.MgBooleanAnd = refl
 is_predefined_name row.MgBooleanNot = refl
 is_predefined_name row.MgIndexArray = refl
 is_predefined_name row.MgArrayElementAssignment = refl
+is_predefined_name row.MgIntegerMultiply = refl
 
 unlike_predef : (name : List ℕ) (r : Predef) → is_predefined name ≡ false → bytes_eq (predef_name r) name ≡ false
 unlike_predef name r e = by_test (bytes_eq (predef_name r) name) refl

@@ -14,10 +14,10 @@ use Rattle.piton_check.specs.Instruction.{Instruction, SystemView}
 use Rattle.piton_machine.specs.State as piton
 use Rattle.gypsy_syntax.specs.declared.predef.Predef.{Predef}
 use Rattle.gypsy_syntax.specs.declared.predef.Predef.TheVariants as row
-use Rattle.gypsy_syntax.specs.Programs.{Cond, Arg, Routine, Program, proc_at, body_of, shapes_of}
+use Rattle.gypsy_syntax.specs.Programs.{Cond, Arg, Routine, Space, Program, proc_at, body_of, shapes_of}
 use Rattle.gypsy_syntax.specs.Programs.{Stmt, Skip, NoOp, Signal, Seq, Loop, If, Begin, Call, Apply}
 use Rattle.gypsy_space.specs.Costs.{Tally, spend}
-use Rattle.gypsy_space.specs.Needs.{Words, temp_need, local_words}
+use Rattle.gypsy_space.specs.Needs.{Words, temp_need, local_words, call_need}
 use Rattle.gypsy_meaning.specs.Calls.{has_cond, is_leave}
 use Rattle.gypsy_meaning.specs.Machine.{Item, Do, Back, JoinThen, JoinOne, Guard, Out, Frame, State, At, opens, open_on, settle, stop_if, raise}
 use Rattle.gypsy_meaning.specs.Kept.{VarsFit}
@@ -25,6 +25,7 @@ use Rattle.gypsy_codegen.specs.WordsOf.{number_of, words_of_values, local_shapes
 use Rattle.gypsy_predef.specs.Bodies.{lengths_of}
 use Rattle.gypsy_predef.specs.Runs.{can_fail}
 use Rattle.gypsy_predef.specs.Calls.{test_code}
+use Rattle.gypsy_codegen.specs.Guard.{guard_code, guard_size}
 use Rattle.gypsy_codegen.specs.Generated.{Scope, InLoop, InBegin, target, raise_code, back_code, raises, after_size, after_code, push_words, push_indices, push_actuals, push_args, before_size, length_code, predef_position, test_size, size, gen, tail_code, code_of, generated_view}
 use Rattle.gypsy_codegen.specs.Memory.{stack_of}
 use Rattle.gypsy_codegen.specs.Showing.{HasAt, gen_in, Stands, Tops, cc_of, Shows}
@@ -38,7 +39,8 @@ size_raises q p n env (c ∷ cs) = omega (arith, length-append (raise_code q p n
 
 pub size_after : (q : Program) (p n : ℕ) (env : List Scope) (at l : ℕ) (cs : List Cond) → length (after_code q p n env at l cs) ≡ after_size cs
 size_after q p n env at l cs =
-    omega (arith, length-append (raise_code q p n env Routine) (raises q p n env cs ++ i.NoOp ∷ []), length-append (raises q p n env cs) (i.NoOp ∷ []), size_raises q p n env cs)
+    let rest = raises q p n env cs ++ i.NoOp ∷ [] in
+    omega (arith, length-append (raise_code q p n env Routine) (raise_code q p n env Space ++ rest), length-append (raise_code q p n env Space) rest, length-append (raises q p n env cs) (i.NoOp ∷ []), size_raises q p n env cs)
 
 pub size_length : (shapes : List Shape) (r : Predef) (args : List Arg) → length (length_code shapes r args) ≡ lengths_of r
 size_length shapes row.MgSimpleVariableAssignment args = refl
@@ -54,6 +56,7 @@ size_length shapes row.MgBooleanAnd args = refl
 size_length shapes row.MgBooleanNot args = refl
 size_length shapes row.MgIndexArray args = refl
 size_length shapes row.MgArrayElementAssignment args = refl
+size_length shapes row.MgIntegerMultiply args = refl
 
 pub size_check : (b : Bool) (u v w : Instruction) → length (if b then u ∷ v ∷ w ∷ [] else []) ≡ (if b then 3 else 0)
 size_check true u v w = refl
@@ -89,11 +92,12 @@ module _ (q : Program) (p n : ℕ) where
       let d = proc_at q c in
       let l = local_words d in
       let ws = words_of_values d.locals in
-      let after = after_code q p n env (at + before_size q c xs) l cs in
+      let behind = at + guard_size + before_size q c xs in
+      let after = after_code q p n env behind l cs in
       let pa = push_actuals q p xs in
       let pi = push_indices l 0 0 (local_shapes d) in
       let pw = push_words ws in
-      omega (arith, length-append pw (pi ++ (pa ++ i.Call c ∷ after)), length-append pi (pa ++ i.Call c ∷ after), length-append pa (i.Call c ∷ after), size_words ws, size_indices l 0 0 (local_shapes d), length-map d.locals (λ (v : ValueOf). v.shape), size_actuals q p xs, size_after q p n env (at + before_size q c xs) l cs)
+      omega (arith, length-append (guard_code (call_need q c) (behind + 6)) (pw ++ (pi ++ (pa ++ i.Call c ∷ after))), length-append pw (pi ++ (pa ++ i.Call c ∷ after)), length-append pi (pa ++ i.Call c ∷ after), length-append pa (i.Call c ∷ after), size_words ws, size_indices l 0 0 (local_shapes d), length-map d.locals (λ (v : ValueOf). v.shape), size_actuals q p xs, size_after q p n env behind l cs)
   size_gen env at (Apply place r args) = apply_size q p r args (target q p n env Routine)
 
 -- The end of a procedure's code.

@@ -144,6 +144,7 @@ predef_at row.MgBooleanAnd = refl
 predef_at row.MgBooleanNot = refl
 predef_at row.MgIndexArray = refl
 predef_at row.MgArrayElementAssignment = refl
+predef_at row.MgIntegerMultiply = refl
 
 test_false : (b : Bool) → test_of family.Bool test.F (Truth b) ≡ Ok (not b)
 unfolding then_on

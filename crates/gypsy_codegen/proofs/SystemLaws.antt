@@ -239,14 +239,14 @@ module _ (texts : TextsResolve) (src : SourceOf) (sizes : Words) (base : ℕ) (a
       procs_named src 0 src.procs body_texts ∙ ap (λ z. declarations (procedure_names src) ++ z) (predefs_named src predefs)
       ∙ sym (declared_both (procedure_names src) (map predef_name predefs))
 
-  texts_count : length (program_texts src) ≡ length q.procs + 13
+  texts_count : length (program_texts src) ≡ length q.procs + 14
   texts_count =
       omega (arith, length-append (procedure_names src) (map predef_name predefs), length-map src.procs (λ p. p.name.name), length-map src.procs (procedure_of src), length-map predefs predef_name)
 
   texts_right : Each (λ name. IsTrue (is_name name)) (program_texts src)
   texts_right = proc_names_right src src.procs (map predef_name predefs) procs_fit (predef_names_right src predefs)
 
-  base_of : (locals : List (List ℕ)) → Base g (names_with src locals) (length q.procs + 13)
+  base_of : (locals : List (List ℕ)) → Base g (names_with src locals) (length q.procs + 14)
   base_of locals = record {
     program = λ c lt. ap (λ ds. first_of ds (get_or (program_texts src) c [])) names_are ∙ found_at (program_texts src) c k.names (omega (arith, lt, texts_count));
     area = found_at area_texts 0 (tt, tt) (omega arith);
@@ -338,7 +338,7 @@ module _ (texts : TextsResolve) (src : SourceOf) (sizes : Words) (base : ℕ) (a
       two_none _ _ names_keep
       (two_none _ _ (two_none _ _ (two_none _ _ (two_none _ _ main_keeps sizes_keep) areas_keep) (words_clean g (names_with src []) (opening_words q) opening_right)) (all_clean g _ _ programs_all))
 
-  programs_count : length g.programs ≡ length src.procs + 13
+  programs_count : length g.programs ≡ length src.procs + 14
   programs_count =
       omega (arith, length-append (written_procedures src 0 src.procs) body_texts, procs_count src 0 src.procs, length-map predefs body_text)
 

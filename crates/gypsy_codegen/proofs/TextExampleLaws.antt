@@ -2,10 +2,11 @@
 use Rattle.std.proofs.Common.{refl}
 use Rattle.std.specs.Fmt.{digits}
 use Rattle.gypsy_syntax.specs.Resolved.{place_among}
-use Rattle.gypsy_meaning.specs.Calls.{is_formal}
+use Rattle.gypsy_space.specs.Needs.{call_need}
+use Rattle.gypsy_meaning.specs.Calls.{is_passed_on}
 use Rattle.gypsy_codegen.specs.Written.{label_text}
 use Rattle.gypsy_codegen.specs.TextExamples.{TextsAre}
 
 pub texts_are : TextsAre
-unfolding digits place_among is_formal label_text
+unfolding digits place_among call_need is_passed_on label_text
 texts_are = record { of_leaving = refl; of_passing_on = refl }

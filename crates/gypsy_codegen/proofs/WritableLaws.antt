@@ -63,7 +63,7 @@ module _ (q : Program) (p : ℕ) where
   args_there k (slot ∷ slots) [] h = absurd h
   args_there k (slot ∷ slots) (a ∷ args) h = (arg_there slot.form (slot_kind k slot.kind) a h.0, args_there k slots args h.1)
 
-names_there : (q : Program) (p n : ℕ) (b : _) (s : Stmt) → StmtFits q (shapes_of (proc_at q p)) n b s → NamesAreThere q p s
+pub names_there : (q : Program) (p n : ℕ) (b : _) (s : Stmt) → StmtFits q (shapes_of (proc_at q p)) n b s → NamesAreThere q p s
 names_there q p n b Skip h = tt
 names_there q p n b (NoOp place) h = tt
 names_there q p n b (Signal place c) h = tt
@@ -83,7 +83,7 @@ module _ (s : SourceOf) (fits : ProgramFits (program_of s)) (few : total_words (
   procs_count : length q.procs ≡ length s.procs
   procs_count = length-map s.procs (procedure_of s)
 
-  texts_count : length (program_texts s) ≡ length q.procs + 13
+  texts_count : length (program_texts s) ≡ length q.procs + 14
   texts_count =
       omega (arith, length-append (procedure_names s) (map predef_name predefs), length-map s.procs (λ p. p.name.name), procs_count, length-map predefs predef_name)
 

@@ -24,6 +24,7 @@ use Rattle.gypsy_codegen.specs.WordsOf.{words_of_values}
 use Rattle.gypsy_codegen.specs.Generated.{generated_view}
 use Rattle.gypsy_codegen.specs.Text.{generated}
 use Rattle.gypsy_codegen.specs.Whole.{RunsTo}
+use Rattle.gypsy_codegen.specs.Moments.{moment_from, HasMoment}
 use Rattle.gypsy_codegen.specs.Acceptable.{total_words, LimitsFit}
 
 -- out of memory is no fault of a source
@@ -65,14 +66,25 @@ RunsAs s sizes checked =
     (t : Tally) × (counted_meaning q sizes v n ≡ CountedDone x c t) ×
     RunsTo (system_in checked) (started (system_in checked) (words_of_values (main_start q v))) x c t
 
+-- Every moment of a run of the source is one of the checked system: at the mark of the top item, after the counted steps and at the
+-- counted cost, or halted where the step machine has ended.
+abbrev pub KeepsMoments : SourceOf → Words → CheckedOf → Type 0
+KeepsMoments s sizes checked =
+    (v : List ValueOf) (j : ℕ) →
+    let q = program_of s in
+    VarsFit (proc_at q q.main).formals v →
+    HasMoment q (system_in checked) (started (system_in checked) (words_of_values (main_start q v))) (moment_from q sizes v j)
+
 -- the program of each procedure takes as many words on the processor as are counted for it
 abbrev pub TakesCodeWords : SourceOf → CheckedOf → Type 0
 TakesCodeWords s checked =
     let q = program_of s in
     (p : ℕ) → p < length q.procs → program_size (state.program_of (system_in checked) p) ≡ code_words q p
 
--- the checked system is the source's by places, it runs as the source means, and all sizes are within their limits
+-- the checked system is the source's by places, it runs as the source means, at every moment too, and all sizes are within their
+-- limits
 pub record SystemImplements (s : SourceOf) (sizes : Words) (base : ℕ) (checked : CheckedOf) : Type 0 where
   pub view : system_in checked ≡ generated_view (program_of s) sizes base
   pub runs : RunsAs s sizes checked
+  pub moments : KeepsMoments s sizes checked
   pub limits : LimitsFit (program_of s) sizes base

@@ -29,12 +29,15 @@ abbrev pub halted_with : Row → Option (List (List Word) × List Word)
 halted_with (Ok p) = halted_words p.frames p
 halted_with (Err e) = None
 
--- from these values of main's formals the system halts after so many steps at this cost, with this number in `c-c` and this stack,
--- its top first
+-- with stacks of these sizes, from these values of main's formals the system halts after so many steps at this cost, with this
+-- number in `c-c` and this stack, its top first
+abbrev pub EndsIn : Words → Program → List ValueOf → ℕ → ℕ → ℕ → List Word → Type 0
+EndsIn sizes q v steps cost c stack =
+    (halted_with (piton_run (generated_view q sizes 0) steps (opened q sizes 0 v)) ≡ Some ((Nat c ∷ []) ∷ [], stack)) ×
+    (run_cost (generated_view q sizes 0) steps (opened q sizes 0 v) ≡ cost)
+
 abbrev pub Ends : Program → List ValueOf → ℕ → ℕ → ℕ → List Word → Type 0
-Ends q v steps cost c stack =
-    (halted_with (piton_run (generated_view q ample 0) steps (opened q ample 0 v)) ≡ Some ((Nat c ∷ []) ∷ [], stack)) ×
-    (run_cost (generated_view q ample 0) steps (opened q ample 0 v) ≡ cost)
+Ends q v steps cost c stack = EndsIn ample q v steps cost c stack
 
 abbrev pub procedure : List Shape → List ValueOf → ℕ → ℕ → Stmt → Proc
 procedure formals locals conds local_conds body =
@@ -88,6 +91,16 @@ countdown =
     (Seq (Apply 0 row.MgSimpleConstantEq (Var 1 ∷ Var 0 ∷ Lit (integer_value (pos 0)) ∷ []))
     (If 0 1 (NoOp 0) (Seq (Apply 0 row.MgIntegerSubtract (Var 0 ∷ Var 0 ∷ Var 2 ∷ [])) (Call 0 1 (0 ∷ []) [])))))
 
+-- stacks in which it comes to 0, and with a word less of one of them not
+abbrev pub enough : Words
+enough = record { temp = 10; ctrl = 24 }
+
+abbrev pub less_ctrl : Words
+less_ctrl = record { temp = 10; ctrl = 23 }
+
+abbrev pub less_temp : Words
+less_temp = record { temp = 9; ctrl = 24 }
+
 -- a condition that the callee signals is handled under the caller's own
 abbrev pub handling : Program
 handling =
@@ -111,14 +124,17 @@ pub record ExamplesEnd : Type 0 where
   pub signalled : Ends (only_body (Signal 0 Routine)) [] 6 11 1 []
   pub is_true : Ends branching (truth_value true ∷ []) 8 16 2 (Truth true ∷ [])
   pub is_false : Ends branching (truth_value false ∷ []) 8 16 2 (Truth false ∷ [])
-  pub called : Ends calling [] 10 22 2 []
+  pub called : Ends calling [] 18 44 2 []
   pub overflowed : Ends addition (integer_value (pos 2147483647) ∷ integer_value (pos 1) ∷ []) 21 61 1
       (Int (pos 1) ∷ Int (pos 2147483647) ∷ [])
   pub indexed : Ends indexing (index_values (pos 2)) 26 74 2 (index_words_of (pos 30) (pos 2))
   pub too_high : Ends indexing (index_values (pos 3)) 22 62 1 (index_words_of (pos 0) (pos 3))
   pub negative : Ends indexing (index_values (negsuc 0)) 18 49 1 (index_words_of (pos 0) (negsuc 0))
-  pub counted_down : Ends countdown (integer_value (pos 2) ∷ []) 125 357 2 (Int (pos 0) ∷ [])
-  pub handled : Ends handling (integer_value (pos 1) ∷ []) 23 54 2 (Int (pos 5) ∷ [])
-  pub formal_out : Ends (one_procedure (procedure [] [] 1 0 (Signal 0 (Declared 0)))) [] 5 8 3 []
+  pub counted_down : Ends countdown (integer_value (pos 2) ∷ []) 149 423 2 (Int (pos 0) ∷ [])
+  pub with_enough : EndsIn enough countdown (integer_value (pos 2) ∷ []) 149 423 2 (Int (pos 0) ∷ [])
+  pub without_ctrl : EndsIn less_ctrl countdown (integer_value (pos 2) ∷ []) 122 350 3 (Int (pos 0) ∷ [])
+  pub without_temp : EndsIn less_temp countdown (integer_value (pos 2) ∷ []) 118 339 3 (Int (pos 0) ∷ [])
+  pub handled : Ends handling (integer_value (pos 1) ∷ []) 31 76 2 (Int (pos 5) ∷ [])
+  pub formal_out : Ends (one_procedure (procedure [] [] 1 0 (Signal 0 (Declared 0)))) [] 5 8 4 []
   pub local_out : Ends (one_procedure (procedure [] [] 0 1 (Signal 0 (Declared 0)))) [] 6 11 1 []
   pub uncaught : Ends later_handler (integer_value (pos 1) ∷ []) 6 11 1 (Int (pos 1) ∷ [])

@@ -11,24 +11,25 @@ use Rattle.piton_check.specs.Instruction as i
 use Rattle.piton_check.specs.Instruction.{Instruction, ProgramView, SystemView}
 use Rattle.gypsy_syntax.specs.declared.predef.Predef.{Predef}
 use Rattle.gypsy_syntax.specs.declared.predef.Predef.TheVariants as row
-use Rattle.gypsy_syntax.specs.Programs.{Cond, Routine, Arg, Var, Lit, Program, simple, proc_at, body_of, shapes_of}
+use Rattle.gypsy_syntax.specs.Programs.{Cond, Routine, Space, Arg, Var, Lit, Program, simple, proc_at, body_of, shapes_of}
 use Rattle.gypsy_syntax.specs.Programs.{Stmt, Skip, NoOp, Signal, Seq, Loop, If, Begin, Call, Apply}
 use Rattle.gypsy_syntax.specs.Effects.{item_of_value}
-use Rattle.gypsy_space.specs.Needs.{Words, local_words, vars_of}
-use Rattle.gypsy_meaning.specs.Calls.{has_cond, is_leave, is_formal}
+use Rattle.gypsy_space.specs.Needs.{Words, local_words, vars_of, call_need}
+use Rattle.gypsy_meaning.specs.Calls.{has_cond, is_leave, is_passed_on}
 use Rattle.gypsy_predef.specs.Bodies.{bodies, predef_number, lengths_of}
 use Rattle.gypsy_predef.specs.Runs.{word_of_item, can_fail}
 use Rattle.gypsy_predef.specs.Calls.{test_code}
 use Rattle.gypsy_codegen.specs.WordsOf.{words_of_values, zero_value, starts, local_shapes, number_of, number_of_way}
+use Rattle.gypsy_codegen.specs.Guard.{guard_code, guard_size}
 
 -- what stands round a statement, the nearest first: a loop by the place of its b, a begin by its list and the place of its a
 pub data Scope : Type 0 where
   InLoop : (b : ℕ) → Scope
   InBegin : (cs : List Cond) (a : ℕ) → Scope
 
--- where a condition leaves procedure p, whose body has n instructions: L1 or L0
+-- where a condition leaves procedure p, whose body has n instructions: L1 where it keeps its number, and else L0
 abbrev pub out_place : Program → ℕ → ℕ → Cond → ℕ
-out_place q p n c = if is_formal q p c then n + 3 else n + 1
+out_place q p n c = if is_passed_on q p c then n + 3 else n + 1
 
 -- where a condition goes
 abbrev pub target : Program → ℕ → ℕ → List Scope → Cond → ℕ
@@ -55,14 +56,15 @@ abbrev pub raise_places : ℕ → List Cond → List ℕ
 raise_places at [] = []
 raise_places at (c ∷ cs) = at ∷ raise_places (at + 3) cs
 
--- what follows a call whose callee has l words of locals
+-- what follows a call whose callee has l words of locals; the raise of spaceerror is for the guard too
 abbrev pub after_size : List Cond → ℕ
-after_size cs = 3 * length cs + 7
+after_size cs = 3 * length cs + 10
 
 abbrev pub after_code : Program → ℕ → ℕ → List Scope → ℕ → ℕ → List Cond → List Instruction
 after_code q p n env at l cs =
-    i.PopStar l ∷ i.PushGlobal 0 ∷ i.JumpCase ((at + 3) ∷ (at + 3) ∷ (at + 6 + 3 * length cs) ∷ raise_places (at + 6) cs) ∷
-    (raise_code q p n env Routine ++ (raises q p n env cs ++ i.NoOp ∷ []))
+    i.PopStar l ∷ i.PushGlobal 0 ∷
+    i.JumpCase ((at + 3) ∷ (at + 3) ∷ (at + 9 + 3 * length cs) ∷ (at + 6) ∷ raise_places (at + 9) cs) ∷
+    (raise_code q p n env Routine ++ (raise_code q p n env Space ++ (raises q p n env cs ++ i.NoOp ∷ [])))
 
 -- the constants, and the indices of the locals that they make: of those from number k on, whose first word is o
 abbrev pub push_words : List Word → List Instruction
@@ -83,6 +85,7 @@ abbrev pub push_actuals : Program → ℕ → List ℕ → List Instruction
 push_actuals q p [] = []
 push_actuals q p (b ∷ xs) = i.PushLocal (offset q p b) ∷ push_actuals q p xs
 
+-- what stands between the guard of a call of c and what follows it
 abbrev pub before_size : Program → ℕ → List ℕ → ℕ
 before_size q c xs = length (words_of_values (proc_at q c).locals) + (length (proc_at q c).locals + (length xs + 1))
 
@@ -120,7 +123,7 @@ size q (Seq a b) = size q a + size q b
 size q (Loop place s) = size q s + 4
 size q (If place b s v) = size q s + size q v + 6
 size q (Begin place s cs v) = size q s + size q v + 4
-size q (Call place c xs cs) = before_size q c xs + after_size cs
+size q (Call place c xs cs) = guard_size + (before_size q c xs + after_size cs)
 size q (Apply place r args) = length args + (lengths_of r + (test_size r + 1))
 
 -- the code of a statement of procedure p, whose body has n instructions, at this place
@@ -139,9 +142,11 @@ module _ (q : Program) (p n : ℕ) where
       i.Jump (at + size q s + 3 + size q v) ∷ (normal_code ++ (gen env (at + size q s + 3) v ++ i.NoOp ∷ []))
   gen env at (Call place c xs cs) =
       let l = local_words (proc_at q c) in
-      push_words (words_of_values (proc_at q c).locals) ++
+      let behind = at + guard_size + before_size q c xs in
+      guard_code (call_need q c) (behind + 6) ++
+      (push_words (words_of_values (proc_at q c).locals) ++
       (push_indices l 0 0 (local_shapes (proc_at q c)) ++
-      (push_actuals q p xs ++ i.Call c ∷ after_code q p n env (at + before_size q c xs) l cs))
+      (push_actuals q p xs ++ i.Call c ∷ after_code q p n env behind l cs)))
   gen env at (Apply place r args) =
       push_args q p args ++
       (length_code (shapes_of (proc_at q p)) r args ++ i.Call (predef_position q r) ∷ test_code r (target q p n env Routine))

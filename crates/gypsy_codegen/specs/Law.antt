@@ -11,7 +11,7 @@ use Rattle.gypsy_syntax.specs.ProgramFits.{ProgramFits}
 use Rattle.gypsy_space.specs.Costs.{Tally, spend}
 use Rattle.gypsy_space.specs.Needs.{Words}
 use Rattle.gypsy_meaning.specs.Calls.{Way}
-use Rattle.gypsy_meaning.specs.Machine.{State, At, Move, Next, Ended, Full, gypsy_step}
+use Rattle.gypsy_meaning.specs.Machine.{State, At, Move, Next, Ended, gypsy_step}
 use Rattle.gypsy_meaning.specs.Kept.{StateFits}
 use Rattle.gypsy_meaning.specs.Room.{StateRoom}
 use Rattle.gypsy_codegen.specs.WordsOf.{words_of_values, number_of_way}
@@ -45,7 +45,6 @@ pub record Halts (s : SystemView) (a : PitonState) (t : Tally) (x : List ValueOf
 abbrev pub Follows : Program → SystemView → PitonState → Tally → Move → Type 0
 Follows q s a t (Next g) = Leads q s a t g
 Follows q s a t (Ended x c u) = Halts s a t x c u
-Follows q s a t Full = Unit {0}
 
 -- each step of a program that fits
 abbrev pub StepsFollow : Type 0

@@ -5,12 +5,13 @@ use Rattle.piton_syntax.specs.declared.test_kind.TestFamily.TheVariants as famil
 use Rattle.piton_syntax.specs.declared.test_kind.TestKind.TheVariants as test
 use Rattle.piton_check.specs.Instruction as i
 use Rattle.piton_check.specs.Instruction.{Instruction}
-use Rattle.gypsy_syntax.specs.Programs.{Cond, Routine, Program, proc_at, body_of, shapes_of}
+use Rattle.gypsy_syntax.specs.Programs.{Cond, Routine, Space, Program, proc_at, body_of, shapes_of}
 use Rattle.gypsy_syntax.specs.Programs.{Stmt, Skip, NoOp, Signal, Seq, Loop, If, Begin, Call, Apply}
-use Rattle.gypsy_space.specs.Needs.{local_words}
-use Rattle.gypsy_meaning.specs.Calls.{has_cond, is_leave, is_formal}
+use Rattle.gypsy_space.specs.Needs.{local_words, call_need}
+use Rattle.gypsy_meaning.specs.Calls.{has_cond, is_leave, is_passed_on}
 use Rattle.gypsy_predef.specs.Calls.{test_code}
 use Rattle.gypsy_codegen.specs.WordsOf.{words_of_values, local_shapes, number_of, number_of_way}
+use Rattle.gypsy_codegen.specs.Guard.{guard_code}
 use Rattle.gypsy_codegen.specs.Generated.{Scope, InLoop, InBegin, push_words, push_indices, push_actuals, push_args}
 use Rattle.gypsy_codegen.specs.Generated.{length_code, offset, predef_position}
 use Rattle.gypsy_codegen.specs.Written.{Line, Plain, Marked}
@@ -24,12 +25,12 @@ labels (Seq a b) = labels a + labels b
 labels (Loop place s) = labels s + 2
 labels (If place b s v) = labels s + labels v + 2
 labels (Begin place s cs v) = labels s + labels v + 2
-labels (Call place c xs cs) = length cs + 2
+labels (Call place c xs cs) = length cs + 3
 labels (Apply place r args) = 0
 
 -- the label to which a condition goes, where the scopes hold labels: L1 or L0 out of the procedure
 abbrev pub label_to : Program → ℕ → List Scope → Cond → ℕ
-label_to q p [] c = if is_formal q p c then 1 else 0
+label_to q p [] c = if is_passed_on q p c then 1 else 0
 label_to q p (InLoop b ∷ env) c = if is_leave c then b else label_to q p env c
 label_to q p (InBegin cs a ∷ env) c = if has_cond c cs then a else label_to q p env c
 
@@ -53,7 +54,7 @@ abbrev pub raise_labels : ℕ → List Cond → List ℕ
 raise_labels l [] = []
 raise_labels l (c ∷ cs) = l ∷ raise_labels (l + 1) cs
 
--- up to the call of procedure c
+-- from behind the guard of a call of procedure c up to the call
 abbrev pub before_code : Program → ℕ → ℕ → List ℕ → List Instruction
 before_code q p c xs =
     push_words (words_of_values (proc_at q c).locals) ++
@@ -62,8 +63,9 @@ before_code q p c xs =
 -- what follows a call whose callee has n words of locals
 abbrev pub after_lines : Program → ℕ → List Scope → ℕ → ℕ → List Cond → List Line
 after_lines q p env l n cs =
-    Plain (i.PopStar n) ∷ Plain (i.PushGlobal 0) ∷ Plain (i.JumpCase (l ∷ l ∷ (l + 1) ∷ raise_labels (l + 2) cs)) ∷
-    (marked_raise q p env l Routine ++ (marked_raises q p env (l + 2) cs ++ Marked (l + 1) i.NoOp ∷ []))
+    Plain (i.PopStar n) ∷ Plain (i.PushGlobal 0) ∷ Plain (i.JumpCase (l ∷ l ∷ (l + 1) ∷ (l + 2) ∷ raise_labels (l + 3) cs)) ∷
+    (marked_raise q p env l Routine ++
+    (marked_raise q p env (l + 2) Space ++ (marked_raises q p env (l + 3) cs ++ Marked (l + 1) i.NoOp ∷ [])))
 
 abbrev pub apply_code : Program → ℕ → List Scope → Stmt → List Instruction
 apply_code q p env (Apply place r args) =
@@ -91,7 +93,8 @@ module _ (q : Program) (p : ℕ) where
       Plain (i.Jump (l + 1)) ∷ Marked l (i.PushConstant (Nat (number_of_way None))) ∷ Plain (i.PopGlobal 0) ∷
       (lines env (l + 2 + labels s) v ++ Marked (l + 1) i.NoOp ∷ [])
   lines env l (Call place c xs cs) =
-      unmarked (before_code q p c xs) ++ after_lines q p env l (local_words (proc_at q c)) cs
+      unmarked (guard_code (call_need q c) (l + 2)) ++
+      (unmarked (before_code q p c xs) ++ after_lines q p env l (local_words (proc_at q c)) cs)
   lines env l (Apply place r args) = unmarked (apply_code q p env (Apply place r args))
 
 abbrev pub tail_lines : List Line

@@ -3,13 +3,14 @@ use Rattle.std.specs.Prelude.{◌≡◌, ℕ, ◌≤◌, ◌^◌, List, [], ◌�
 use Rattle.stack_text.specs.Values.{ValueOf}
 use Rattle.piton_machine.specs.State.{PitonState}
 use Rattle.gypsy_syntax.specs.declared.predef.Predef.{Predef}
-use Rattle.gypsy_syntax.specs.Programs.{Cond, Routine, Arg, Program, body_of}
+use Rattle.gypsy_syntax.specs.Programs.{Cond, Routine, Space, Arg, Program, body_of}
 use Rattle.gypsy_syntax.specs.Programs.{Stmt, NoOp, Signal, Loop, If, Call, Apply}
 use Rattle.gypsy_syntax.specs.ProgramFits.{ProgramFits}
 use Rattle.gypsy_syntax.specs.Effects.{Normal, Fault, Beyond, predef_effect, value_at, is_true_value}
 use Rattle.gypsy_space.specs.Costs.{Tally, spend, predef_spend, out_spend, main_spend}
-use Rattle.gypsy_space.specs.Needs.{Words, has_room, call_spend}
-use Rattle.gypsy_meaning.specs.Calls.{is_formal, matching, main_way, main_formals, values_of, target_of, copied_in, copied_out}
+use Rattle.gypsy_space.specs.Needs.{Words, has_room, lack_of, call_spend}
+use Rattle.gypsy_space.specs.declared.need.Lack.TheVariants.{Temporary, Control}
+use Rattle.gypsy_meaning.specs.Calls.{is_passed_on, matching, main_way, main_formals, values_of, target_of, copied_in, copied_out}
 use Rattle.gypsy_meaning.specs.Machine.{Item, Do, Back, JoinThen, JoinOne, Guard, Out, Frame, Held, State, At}
 use Rattle.gypsy_meaning.specs.Machine.{open_on, settle, raise, used}
 use Rattle.gypsy_meaning.specs.Kept.{StateFits}
@@ -87,6 +88,17 @@ CallRow = (s : Top) (place c : ℕ) (xs : List ℕ) (cs : List Cond) → has_roo
     (At c (copied_in s.source c xs s.vars) (open_on (body_of s.source c) []) (Held s.proc s.vars s.work xs cs ∷ s.waiting)
     (call_spend s.source c s.spent))
 
+-- a call without room on the temporary stack, and one without room on the control stack alone: spaceerror is raised
+abbrev pub LackTemporaryRow : Type 0
+LackTemporaryRow = (s : Top) (place c : ℕ) (xs : List ℕ) (cs : List Cond) →
+    lack_of s.source s.sizes c (used s.source s.proc s.waiting) ≡ Temporary →
+    Reaches s (Do (Call place c xs cs) ∷ s.work) (raise Space s.proc s.vars s.work s.waiting (spend 15 7 s.spent))
+
+abbrev pub LackControlRow : Type 0
+LackControlRow = (s : Top) (place c : ℕ) (xs : List ℕ) (cs : List Cond) →
+    lack_of s.source s.sizes c (used s.source s.proc s.waiting) ≡ Control →
+    Reaches s (Do (Call place c xs cs) ∷ s.work) (raise Space s.proc s.vars s.work s.waiting (spend 26 11 s.spent))
+
 -- a predefined call that writes a variable, and one that raises routineerror
 abbrev pub WriteRow : Type 0
 WriteRow = (s : Top) (place : ℕ) (r : Predef) (args : List Arg) (v : ValueOf) → predef_effect r (values_of s.vars args) ≡ Normal v →
@@ -110,7 +122,7 @@ abbrev pub OutRow : Type 0
 OutRow = (s : Top) (d : Cond) (c : ℕ) (x : List ValueOf) (w : List Item) (xs : List ℕ) (cs : List Cond) (fs : List Frame) →
     s.waiting ≡ Held c x w xs cs ∷ fs →
     Reaches s (Out d ∷ [])
-    (raise (matching s.source s.proc cs d) c (copied_out xs s.vars x) w fs (out_spend (is_formal s.source s.proc d) s.spent))
+    (raise (matching s.source s.proc cs d) c (copied_out xs s.vars x) w fs (out_spend (is_passed_on s.source s.proc d) s.spent))
 
 -- the end of main: the system has halted, at the last of the steps
 abbrev pub EndRow : Type 0
@@ -120,4 +132,4 @@ EndRow = (s : Top) → s.waiting ≡ [] → IsShown s (at_work s []) →
 abbrev pub MainOutRow : Type 0
 MainOutRow = (s : Top) (d : Cond) → s.waiting ≡ [] → IsShown s (at_work s (Out d ∷ [])) →
     Halts (generated_view s.source s.sizes s.base) s.piton s.spent (main_formals s.source s.vars) (Some (main_way s.source d))
-    (main_spend (is_formal s.source s.source.main d) s.spent)
+    (main_spend (is_passed_on s.source s.source.main d) s.spent)

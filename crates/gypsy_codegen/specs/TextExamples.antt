@@ -1,9 +1,10 @@
 -- Closed sources: the text of their generated procedures, line by line.
-use Rattle.std.specs.Prelude.{◌≡◌, ℕ, pos, List, [], ◌∷◌, map, Option, Some, None, codes}
+use Rattle.std.specs.Prelude.{◌≡◌, ℕ, pos, List, [], ◌∷◌, ◌++◌, map, Option, Some, None, codes}
 use Rattle.stack_text.specs.declared.name.Named.{Named}
 use Rattle.stack_text.specs.declared.shape.Kind.TheVariants.{Integer}
 use Rattle.stack_text.specs.Grammar.Printed.{unplaced}
 use Rattle.piton_syntax.specs.declared.op.PitonOp.TheVariants as op
+use Rattle.piton_syntax.specs.declared.test_kind.TestKind.TheVariants as test
 use Rattle.piton_syntax.specs.declared.argument.ArgText.{ArgText}
 use Rattle.piton_syntax.specs.declared.argument.ArgText.TheVariants as arg
 use Rattle.piton_syntax.specs.declared.word_text.WordItem.TheVariants as item
@@ -76,19 +77,32 @@ passing_on = record {
       procedure_text (codes "p") [] (unplaced (codes "bad") ∷ []) [] (signal 0 (unplaced (codes "bad"))) ∷ [];
 }
 
+-- fewer words than this free, to a label
+abbrev pub below_lines : ℕ → List ℕ → List InstrOf
+below_lines need l =
+    natural_at None need ∷ instruction None op.LtNat [] ∷
+    instruction None op.TestBoolAndJump (arg.Test test.T ∷ name_arg l ∷ []) ∷ []
+
+-- the guard of a call that needs so many words of the temporary stack and so many of the control stack
+abbrev pub guard_lines : ℕ → ℕ → List ℕ → List InstrOf
+guard_lines temp ctrl l =
+    instruction None op.PushTempStkFreeSize [] ∷ (below_lines temp l ++ instruction None op.PushCtrlStkFreeSize [] ∷ below_lines ctrl l)
+
 abbrev pub passing_on_lines : List (List InstrOf)
 passing_on_lines =
-    (of_name op.Call (codes "p") ∷ instruction None op.PopStar (arg.Number (number (pos 0)) ∷ []) ∷ of_name op.PushGlobal condition_area ∷
+    (guard_lines 1 2 (codes "L6") ++
+    of_name op.Call (codes "p") ∷ instruction None op.PopStar (arg.Number (number (pos 0)) ∷ []) ∷ of_name op.PushGlobal condition_area ∷
     instruction None op.JumpCase
-    (name_arg (codes "L4") ∷ name_arg (codes "L4") ∷ name_arg (codes "L5") ∷ name_arg (codes "L6") ∷ []) ∷
+    (name_arg (codes "L4") ∷ name_arg (codes "L4") ∷ name_arg (codes "L5") ∷ name_arg (codes "L6") ∷ name_arg (codes "L7") ∷ []) ∷
     natural_at (label (codes "L4")) 1 ∷ into_area ∷ jump_to (codes "L0") ∷
-    natural_at (label (codes "L6")) 3 ∷ into_area ∷ jump_to (codes "L2") ∷
+    natural_at (label (codes "L6")) 3 ∷ into_area ∷ jump_to (codes "L1") ∷
+    natural_at (label (codes "L7")) 4 ∷ into_area ∷ jump_to (codes "L2") ∷
     instruction (label (codes "L5")) op.NoOp [] ∷
     jump_to (codes "L3") ∷ natural_at (label (codes "L2")) 2 ∷ into_area ∷
     of_name op.PushLocal (codes "x") ∷ predefined.constant None (item.Int (number (pos 5))) ∷
     of_name op.Call (codes "mg-simple-constant-assignment") ∷ instruction (label (codes "L3")) op.NoOp [] ∷
     jump_to (codes "L1") ∷ natural_at (label (codes "L0")) 1 ∷ into_area ∷ instruction (label (codes "L1")) op.Ret [] ∷ []) ∷
-    (natural_at None 3 ∷ into_area ∷ jump_to (codes "L1") ∷
+    (natural_at None 4 ∷ into_area ∷ jump_to (codes "L1") ∷
     jump_to (codes "L1") ∷ natural_at (label (codes "L0")) 1 ∷ into_area ∷ instruction (label (codes "L1")) op.Ret [] ∷ []) ∷ []
 
 pub record TextsAre : Type 0 where

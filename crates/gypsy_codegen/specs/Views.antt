@@ -9,6 +9,7 @@ use Rattle.piton_syntax.specs.declared.argument.ArgText.{ArgText}
 use Rattle.piton_syntax.specs.declared.argument.ArgText.TheVariants as arg
 use Rattle.piton_syntax.specs.declared.op.PitonOp.{PitonOp}
 use Rattle.piton_syntax.specs.declared.op.PitonOp.TheVariants as op
+use Rattle.piton_syntax.specs.declared.test_kind.TestKind.TheVariants as test
 use Rattle.piton_syntax.specs.declared.word_text.WordItem.TheVariants as item
 use Rattle.piton_syntax.specs.declared.word_text.WordText.{WordText}
 use Rattle.piton_syntax.specs.Systems.{InstrOf, AreaOf, new_area}
@@ -18,6 +19,7 @@ use Rattle.gypsy_syntax.specs.Programs.{Stmt, Skip, NoOp, Signal, Seq, Loop, If,
 use Rattle.gypsy_syntax.specs.Sources.{ProcOf}
 use Rattle.gypsy_syntax.specs.ProgramFits.{Each, ProgramFits}
 use Rattle.gypsy_space.specs.declared.need.Need.{Need}
+use Rattle.gypsy_space.specs.Events.{AreNeeds, AreSmall}
 use Rattle.gypsy_space.specs.Needs.{vars_of}
 use Rattle.gypsy_space.specs.Nodes.{seen_cond, seen_program}
 use Rattle.gypsy_predef.specs.Texts.{instruction, constant, of_name, condition_area, number}
@@ -62,12 +64,15 @@ env (InBegin' handled handler p outer) = InBegin (map seen_cond handled.now.cond
 abbrev pub statement_text : Context → Scopes → ℕ → Stmt → List InstrOf
 statement_text c scopes first s = map (written (names_of c)) (lines (program_in c) c.procedure (env scopes) first s)
 
--- the program fits, and each variable's shape is known, and the name of each word of the frame and of each program
+-- the program fits, and each procedure's needs are known, each variable's shape, and the name of each word of the frame and of
+-- each program
 pub record IsReady (c : Context) : Type 0 where
   pub fits : ProgramFits (seen_program c.program.now)
+  pub needs : AreNeeds (seen_program c.program.now) c.needs.now.procedures.items
+  pub small : AreSmall c.needs.now.procedures.items
   pub shapes : c.shapes.now ≡ shapes_of (proc_at (seen_program c.program.now) c.procedure)
   pub locals : length c.locals.now ≡ vars_of (proc_at (seen_program c.program.now) c.procedure)
-  pub programs : length c.programs.now ≡ length (seen_program c.program.now).procs + 13
+  pub programs : length c.programs.now ≡ length (seen_program c.program.now).procs + 14
 
 -- a variable has a word in the frame
 abbrev pub HasWord : Program → ℕ → ℕ → Type 0
@@ -95,6 +100,12 @@ raise_text label n target =
     constant (option_map label_name label) (item.Nat (number (pos n))) ∷ of_name op.PopGlobal condition_area ∷
     instruction None op.Jump (label_arg target ∷ []) ∷ []
 
+-- half of a guard: the words that an instruction pushes as free ones, compared with a need, and fewer go to a label
+abbrev pub half_guard : PitonOp → ℕ → ℕ → List InstrOf
+half_guard free need to =
+    instruction None free [] ∷ constant None (item.Nat (number (pos need))) ∷ instruction None op.LtNat [] ∷
+    instruction None op.TestBoolAndJump (arg.Test test.T ∷ label_arg to ∷ []) ∷ []
+
 -- the push of a word
 abbrev pub word_constant : WordText → InstrOf
 word_constant w = instruction None op.PushConstant (arg.Word w ∷ [])
@@ -116,7 +127,7 @@ normal_text label =
 pub record IsWritable (q : Program) (programs : List (List ℕ)) (p : ℕ) (proc : ProcOf) : Type 0 where
   pub fits : ProgramFits q
   pub there : p < length q.procs
-  pub programs_known : length programs ≡ length q.procs + 13
+  pub programs_known : length programs ≡ length q.procs + 14
   pub frame : length (frame_texts q p proc) ≡ vars_of (proc_at q p)
   pub names : NamesAreThere q p (body_of q p)
   pub few_labels : 2 + labels (body_of q p) < 2 ^ 32

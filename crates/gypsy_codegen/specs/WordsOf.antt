@@ -3,7 +3,7 @@ use Rattle.std.specs.Prelude.{ℕ, suc, ◌+◌, pos, List, [], ◌∷◌, ◌++
 use Rattle.stack_text.specs.declared.shape.Shape.{Shape}
 use Rattle.stack_text.specs.Values.{ValueOf, item_count}
 use Rattle.piton_words.specs.declared.word.Word.{Word}
-use Rattle.gypsy_syntax.specs.Programs.{Cond, Leave, Routine, Declared, Proc, words_of}
+use Rattle.gypsy_syntax.specs.Programs.{Cond, Leave, Routine, Space, Declared, Proc, words_of}
 use Rattle.gypsy_meaning.specs.Calls.{Way}
 use Rattle.gypsy_predef.specs.Runs.{words_of_value}
 
@@ -33,7 +33,8 @@ local_shapes p = map (λ v. v.shape) p.locals
 abbrev pub number_of : Cond → ℕ
 number_of Leave = 0
 number_of Routine = 1
-number_of (Declared i) = suc (suc (suc i))
+number_of Space = 3
+number_of (Declared i) = suc (suc (suc (suc i)))
 
 -- what a program ends with: 2 is the number of the normal condition
 abbrev pub number_of_way : Way → ℕ

@@ -100,6 +100,7 @@ fn can_fail(which: Predef) -> bool
             | Predef::MgIntegerSubtract
             | Predef::MgIndexArray
             | Predef::MgArrayElementAssignment
+            | Predef::MgIntegerMultiply
     )
 }
 

@@ -6,21 +6,25 @@ ghost use Rattle.piton_check.specs.Instruction as i;
 ghost use Rattle.gypsy_syntax.specs.Programs.{proc_at, words_of};
 ghost use Rattle.gypsy_syntax.specs.ProgramFits.{Each};
 ghost use Rattle.gypsy_space.specs.Nodes.{seen_cond, seen_proc};
-ghost use Rattle.gypsy_space.specs.Needs.{local_words};
+ghost use Rattle.gypsy_space.specs.Needs.{call_need, local_words};
 ghost use Rattle.gypsy_predef.specs.Texts.{instruction};
+ghost use Rattle.gypsy_codegen.specs.Guard.{guard_code};
 ghost use Rattle.gypsy_codegen.specs.Generated.{offset, push_actuals};
 ghost use Rattle.gypsy_codegen.specs.Lines.{after_lines, before_code, label_to, marked_raises, raise_labels};
-ghost use Rattle.gypsy_codegen.specs.Views.{code_in, env, HasWord, index_text, IsReady, local_constants, names_of};
+ghost use Rattle.gypsy_codegen.specs.Views.{code_in, env, half_guard, HasWord, index_text, IsReady, local_constants, names_of};
 ghost use Rattle.gypsy_codegen.specs.Views.{program_in, raise_text, word_constant};
 ghost use Rattle.gypsy_codegen.specs.WordsOf.{local_shapes, number_of};
 ghost use Rattle.gypsy_codegen.specs.Written.{label_arg, written};
 
-use crate::context::{Context, Scopes, label_to, number_of, offset, procedure_at};
-use crate::lines::{area, constant, jump, name_in, of_number, plain, push_label, put};
+use crate::context::{
+    Context, Scopes, control_call_need, label_to, number_of, offset, procedure_at,
+    temporary_call_need,
+};
+use crate::lines::{area, constant, jump, name_in, of_number, plain, push_label, put, test};
 use crate::words::{local_count, local_words};
 use gypsy_predef::instruction_text::{number, of_name};
 use gypsy_space::{CallSite, Condition, Procedure};
-use piton_syntax::{ArgText, InstrText, PitonOp, WordItem, WordText};
+use piton_syntax::{ArgText, InstrText, PitonOp, TestKind, WordItem, WordText};
 use stack_text::{Memory, Name, Value};
 use std::alloc::Global;
 
@@ -160,7 +164,43 @@ fn push_locals(alloc: Global, instrs: &mut Vec<InstrText>, callee: &Procedure) -
     push_indices(alloc, instrs, locals, words)
 }
 
-/// What stands before a call, and the call itself.
+/// Half of a guard: what an instruction pushes as free words is compared with what is needed, and fewer go to a label.
+fn guard(
+    alloc: Global,
+    instrs: &mut Vec<InstrText>,
+    free: PitonOp,
+    need: u64,
+    to: u32,
+) -> Result<(), Memory>
+    ensures { OnOk result (instrs.new.items ≡ instrs.old.items ++ half_guard free need to) }
+{
+    plain(alloc, instrs, None, free)?;
+    constant(alloc, instrs, None, WordItem::Nat(number(need as i128)))?;
+    plain(alloc, instrs, None, PitonOp::LtNat)?;
+    test(alloc, instrs, PitonOp::TestBoolAndJump, TestKind::T, to)
+}
+
+/// The guard of a call, which goes to a label where a stack lacks room.
+pub(crate) fn guard_call(
+    alloc: Global,
+    instrs: &mut Vec<InstrText>,
+    context: &Context,
+    callee: u32,
+    to: u32,
+) -> Result<(), Memory>
+    requires ready { IsReady context.now }
+    requires callee { callee < length (program_in context.now).procs }
+    ensures { let code = guard_code (call_need (program_in context.now) callee) to in
+        OnOk result (instrs.new.items ≡ instrs.old.items ++ code_in context.now code) }
+{
+    let temporary = temporary_call_need(context, callee);
+    let control = control_call_need(context, callee);
+    guard(alloc, instrs, PitonOp::PushTempStkFreeSize, temporary, to)?;
+    guard(alloc, instrs, PitonOp::PushCtrlStkFreeSize, control, to)?;
+    Ok(())
+}
+
+/// What stands between the guard of a call and the call, and the call itself.
 pub(crate) fn before_call(
     alloc: Global,
     instrs: &mut Vec<InstrText>,
@@ -181,22 +221,24 @@ pub(crate) fn before_call(
 }
 
 /// The jump by the condition that a call left: to the first label for leave and for routineerror, to the second where it is
-/// normal, and to those that follow for the condition actuals.
+/// normal, to the third for spaceerror, and to those that follow for the condition actuals.
 fn jump_by_condition(
     alloc: Global,
     instrs: &mut Vec<InstrText>,
     first: u32,
     conds: &[Condition],
 ) -> Result<(), Memory>
-    requires { first + 2 + length conds.now < 2 ^ 32 }
-    ensures { let targets = first ∷ first ∷ (first + 1) ∷ raise_labels (first + 2) (map seen_cond conds.now) in
+    requires { first + 3 + length conds.now < 2 ^ 32 }
+    ensures { let others = raise_labels (first + 3) (map seen_cond conds.now) in
+        let targets = first ∷ first ∷ (first + 1) ∷ (first + 2) ∷ others in
         OnOk result (instrs.new.items ≡ instrs.old.items ++ instruction None op.JumpCase (map label_arg targets) ∷ []) }
 {
     let mut args = Vec::new(alloc);
     push_label(alloc, &mut args, first)?;
     push_label(alloc, &mut args, first)?;
     push_label(alloc, &mut args, first + 1)?;
-    raise_labels(alloc, &mut args, first + 2, conds)?;
+    push_label(alloc, &mut args, first + 2)?;
+    raise_labels(alloc, &mut args, first + 3, conds)?;
     put(alloc, instrs, None, PitonOp::JumpCase, args)
 }
 
@@ -250,7 +292,7 @@ pub(crate) fn after_call(
 ) -> Result<(), Memory>
     requires ready { IsReady context.now }
     requires callee { site.now.callee < length (program_in context.now).procs }
-    requires labels { first + 2 + length site.now.conds.items < 2 ^ 32 }
+    requires labels { first + 3 + length site.now.conds.items < 2 ^ 32 }
     ensures { let q = program_in context.now in
         let lines = after_lines q context.now.procedure (env scopes.now) first (local_words (proc_at q site.now.callee))
         (map seen_cond site.now.conds.items) in
@@ -268,12 +310,20 @@ pub(crate) fn after_call(
         Some(first),
         Condition::Routine,
     )?;
+    raise(
+        alloc,
+        instrs,
+        context,
+        scopes,
+        Some(first + 2),
+        Condition::Space,
+    )?;
     raises(
         alloc,
         instrs,
         context,
         scopes,
-        first + 2,
+        first + 3,
         site.conds.as_slice(),
     )?;
     plain(alloc, instrs, Some(first + 1), PitonOp::NoOp)?;

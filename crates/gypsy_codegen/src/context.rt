@@ -3,22 +3,24 @@
 ghost use Rattle.std.specs.Prelude.{◌≡◌, ◌+◌, ◌<◌, ◌^◌, length, get_or};
 ghost use Rattle.stack_text.specs.declared.shape.Kind.TheVariants.{Integer};
 ghost use Rattle.gypsy_syntax.specs.Programs.{proc_at, simple};
+ghost use Rattle.gypsy_space.specs.Needs.{call_need};
 ghost use Rattle.gypsy_space.specs.Nodes.{seen_cond, seen_proc, seen_program};
 ghost use Rattle.gypsy_codegen.specs.Generated.{offset};
 ghost use Rattle.gypsy_codegen.specs.Lines.{label_to};
-ghost use Rattle.gypsy_codegen.specs.Views.{env, program_in};
+ghost use Rattle.gypsy_codegen.specs.Views.{env, IsReady, program_in};
 ghost use Rattle.gypsy_codegen.specs.WordsOf.{number_of};
 
 use crate::handled::Handled;
-use gypsy_meaning::{is_formal, is_leave};
-use gypsy_space::{Condition, Procedure, Program};
+use gypsy_meaning::{is_leave, is_passed_on};
+use gypsy_space::{Condition, Needs, Procedure, Program};
 use stack_text::{Kind, Name, Shape};
 
-/// A procedure whose code is written, with the shapes of its variables, and the names of all programs and of the words of
-/// its frame.
+/// A procedure whose code is written, with what the procedures need, the shapes of its variables, and the names of all
+/// programs and of the words of its frame.
 #[derive(Drop)]
-pub(crate) struct Context<'a, 'b, 'c, 'd> {
+pub(crate) struct Context<'a, 'b, 'c, 'd, 'e> {
     pub program: &'a Program,
+    pub needs: &'e Needs,
     pub procedure: u32,
     pub shapes: &'b [Shape],
     pub programs: &'c [Name],
@@ -78,6 +80,26 @@ pub(crate) fn offset(program: &Program, procedure: u32, variable: u32) -> usize
     }
 }
 
+/// How many words of the temporary stack have to be free for a call.
+pub(crate) fn temporary_call_need(context: &Context, callee: u32) -> u64
+    requires ready { IsReady context.now }
+    requires callee { callee < length (program_in context.now).procs }
+    ensures { result ≡ (call_need (program_in context.now) callee).temp }
+{
+    let need = context.needs.need_of(callee);
+    (need.locals_words + need.vars).max(need.locals_words + need.temp)
+}
+
+/// How many words of the control stack have to be free for a call.
+pub(crate) fn control_call_need(context: &Context, callee: u32) -> u64
+    requires ready { IsReady context.now }
+    requires callee { callee < length (program_in context.now).procs }
+    ensures { result ≡ (call_need (program_in context.now) callee).ctrl }
+{
+    let need = context.needs.need_of(callee);
+    2 + need.vars + need.ctrl
+}
+
 /// The shape of a variable.
 pub(crate) fn shape_at(shapes: &[Shape], variable: u32) -> Shape
     ensures { result ≡ get_or shapes.now variable (simple Integer) }
@@ -91,7 +113,7 @@ pub(crate) fn shape_at(shapes: &[Shape], variable: u32) -> Shape
     }
 }
 
-/// The number of the normal condition, between that of routineerror and those of the conditions that are declared.
+/// The number of the normal condition, between those of routineerror and of spaceerror.
 pub(crate) const NORMAL: i128 = 2;
 
 /// The number of a condition in a procedure.
@@ -102,7 +124,8 @@ pub(crate) fn number_of(cond: Condition) -> u64
     match cond {
         Condition::Leave => 0,
         Condition::Routine => 1,
-        Condition::Declared(place) => place as u64 + 3,
+        Condition::Space => 3,
+        Condition::Declared(place) => place as u64 + 4,
     }
 }
 
@@ -112,7 +135,7 @@ pub(crate) fn label_to(context: &Context, scopes: &Scopes, cond: Condition) -> u
 {
     match scopes {
         Scopes::Outside => {
-            if is_formal(context.program, context.procedure, cond) {
+            if is_passed_on(context.program, context.procedure, cond) {
                 1
             } else {
                 0

@@ -15,7 +15,9 @@ ghost use Rattle.gypsy_codegen.specs.Answers.{are_sizes, generation, size_fault}
 ghost use Rattle.gypsy_codegen.specs.Views.{AreModest, words_together};
 
 use crate::fault::GenFault;
-use crate::law::{generated_is_acceptable, procedures_take_words, source_runs};
+use crate::law::{
+    generated_is_acceptable, moments_are_reached, procedures_take_words, source_runs,
+};
 use crate::system::system;
 use gypsy_check::Accepted;
 use gypsy_meaning::{control_need, temporary_need};
@@ -96,8 +98,9 @@ fn checked(alloc: Global, system: System) -> Result<Checked, Memory>
 /// The system of Piton of an accepted source, for stacks of these sizes, from this base on.
 ///
 /// The system runs as the source means: where the meaning is done, the system, with the values' words at the bottom of its
-/// first stack, first halts with the same, in the counted steps and at the counted cost. Each procedure takes as many words
-/// of code as are counted for it.
+/// first stack, first halts with the same, in the counted steps and at the counted cost. So it is at every moment: after each
+/// step of the source's step machine the system has made the counted steps, and stands at the mark of what comes next with the
+/// variables and the condition of that moment. Each procedure takes as many words of code as are counted for it.
 ///
 /// The memory is in proportion to what is generated. So is the time, with factors that the form bounds: a name is sought
 /// among those that are declared, a handler's table has at most an entry for each condition of its procedure, and a raise
@@ -129,8 +132,9 @@ pub fn generate(
     }
     generated_is_acceptable();
     source_runs();
+    moments_are_reached();
     procedures_take_words();
-    let system = system(alloc, accepted.source(), &program, ctrl, temp, base)?;
+    let system = system(alloc, accepted.source(), &program, needs, ctrl, temp, base)?;
     let made = checked(alloc, system)?;
     Ok(made)
 }

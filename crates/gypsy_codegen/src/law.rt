@@ -2,13 +2,28 @@
 
 ghost use Rattle.gypsy_codegen.specs.Acceptable.{GeneratedIsAcceptable, VariablesKeepNames, SourceRuns};
 ghost use Rattle.gypsy_codegen.specs.Examples.{ExamplesEnd};
+ghost use Rattle.gypsy_codegen.specs.GuardLaw.{GuardsCalls, GuardWantsTwo, CallsHaveTwo, FreeIsBefore};
 ghost use Rattle.gypsy_codegen.specs.Law.{StepsFollow};
+ghost use Rattle.gypsy_codegen.specs.MarkExamples.{MarksAre};
+ghost use Rattle.gypsy_codegen.specs.Marks.{EachMomentIsMarked, MarksAscend, MarksArePlaces};
+ghost use Rattle.gypsy_codegen.specs.Moments.{EachMomentIsReached, EachStepCosts, CountsGrow};
 ghost use Rattle.gypsy_codegen.specs.Rows.{NoOpRow, SignalRow, LoopRow, BackRow, ThenRow, ElseRow, JoinThenRow, JoinOneRow};
-ghost use Rattle.gypsy_codegen.specs.Rows.{GuardRow, CallRow, WriteRow, FaultRow, BeyondRow, ReturnRow, OutRow, EndRow, MainOutRow};
+ghost use Rattle.gypsy_codegen.specs.Rows.{GuardRow, CallRow, LackTemporaryRow, LackControlRow, WriteRow, FaultRow, BeyondRow, ReturnRow, OutRow, EndRow, MainOutRow};
 ghost use Rattle.gypsy_codegen.specs.Sizes.{ProceduresTakeWords};
 ghost use Rattle.gypsy_codegen.specs.TextExamples.{TextsAre};
 ghost use Rattle.gypsy_codegen.specs.Whole.{StartShows, EachIsShown, CountedRuns, MeaningRuns, LimitedRunHalts, RaiseFollows};
 ghost use Rattle.gypsy_codegen.specs.Whole.{PlaceIsMark, VariablesStand, WaitingVariablesStand, ActualsShare};
+
+/// The guard of a call, in any system and any state that has two words free: it goes to its place exactly where a stack has
+/// fewer words free than the call needs, and else falls through, and changes nothing. With one word free its second step is
+/// an error, since it pushes two itself; before each call of the generated system two are free. What it pushes as free is
+/// what was free before.
+pub fn guards_tell_room()
+    ensures goes { GuardsCalls }
+    ensures wants_two { GuardWantsTwo }
+    ensures calls_have_two { CallsHaveTwo }
+    ensures free { FreeIsBefore }
+{}
 
 /// Each step of the step machine is so many steps of the generated system, at its cost: from a state that shows the
 /// one of the step machine to one that shows the next, or that has halted where the program ends.
@@ -31,6 +46,8 @@ pub fn rows_follow()
     ensures join_one { JoinOneRow }
     ensures guard { GuardRow }
     ensures call { CallRow }
+    ensures lack_temporary { LackTemporaryRow }
+    ensures lack_control { LackControlRow }
     ensures write { WriteRow }
     ensures fault { FaultRow }
     ensures beyond { BeyondRow }
@@ -78,6 +95,30 @@ pub fn meaning_runs()
     gypsy_predef::predefs_run();
 }
 
+/// Every moment of the step machine is one of the generated system: after exactly the counted steps, at the counted cost and
+/// none an error, the system stands at the mark of the top item and reads as the activation on top. Where the step machine
+/// has ended, the system has halted with the same, at the last of these steps.
+pub fn moments_are_reached()
+    ensures { EachMomentIsReached }
+{
+    gypsy_predef::predefs_run();
+}
+
+/// Each step of the step machine costs an instruction at least, so what is counted grows without bound along a run that
+/// never ends.
+pub fn steps_cost()
+    ensures each { EachStepCosts }
+    ensures grows { CountsGrow }
+{}
+
+/// Each mark of the step machine is among the marks of the generated program, with its procedure and its place in the source;
+/// and these ascend, and stand at instructions.
+pub fn moments_are_marked()
+    ensures among { EachMomentIsMarked }
+    ensures ascend { MarksAscend }
+    ensures places { MarksArePlaces }
+{}
+
 /// Each generated procedure takes its code words on the processor, its prelude with them.
 pub fn procedures_take_words()
     ensures { ProceduresTakeWords }
@@ -106,8 +147,9 @@ pub fn source_runs()
 }
 
 /// Closed programs and sources, computed: their systems halt after these steps, at these costs, with these words; and the
-/// lines of their texts, with labels and names, are these.
+/// lines of their texts, with labels and names, are these, as are their marks.
 pub fn examples_compute()
     ensures runs { ExamplesEnd }
     ensures texts { TextsAre }
+    ensures marks { MarksAre }
 {}

@@ -12,6 +12,7 @@ mod generating;
 mod handled;
 mod law;
 mod lines;
+mod marking;
 mod procedure;
 mod statement;
 mod system;
@@ -20,7 +21,8 @@ mod words;
 pub use fault::GenFault;
 pub use generating::generate;
 pub use law::{
-    examples_compute, generated_is_acceptable, meaning_runs, procedures_take_words, raise_follows,
-    rows_follow, shown_states_read, source_runs, states_are_shown, steps_follow,
-    variables_keep_names,
+    examples_compute, generated_is_acceptable, guards_tell_room, meaning_runs, moments_are_marked,
+    moments_are_reached, procedures_take_words, raise_follows, rows_follow, shown_states_read,
+    source_runs, states_are_shown, steps_cost, steps_follow, variables_keep_names,
 };
+pub use marking::{MarkAt, marks};

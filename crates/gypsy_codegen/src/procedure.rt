@@ -4,6 +4,7 @@ ghost use Rattle.std.specs.Prelude.{◌≡◌, ◌+◌, ◌^◌, ◌++◌, ◌<�
 ghost use Rattle.piton_words.specs.declared.word.Word.TheVariants.{Nat};
 ghost use Rattle.gypsy_syntax.specs.Programs.{body_of, shapes_of, words_of};
 ghost use Rattle.gypsy_syntax.specs.SourceView.{local_of, proc_of};
+ghost use Rattle.gypsy_space.specs.Events.{AreNeeds, AreSmall};
 ghost use Rattle.gypsy_space.specs.Nodes.{seen_proc, seen_program};
 ghost use Rattle.stack_text.specs.Grammar.Printed.{unplaced};
 ghost use Rattle.gypsy_codegen.specs.Lines.{labels, lines_of, tail_lines};
@@ -17,7 +18,7 @@ use crate::context::{Context, Scopes, number_of, procedure_at};
 use crate::lines::{area, constant, jump, name_in, plain};
 use crate::statement::statement;
 use gypsy_predef::instruction_text;
-use gypsy_space::{Condition, Procedure, Program};
+use gypsy_space::{Condition, Needs, Procedure, Program};
 use gypsy_syntax::{Decl, Local, Proc};
 use piton_syntax::{InstrText, PitonOp, WordItem, WordText};
 use stack_text::{Memory, Name, Named, Shape, Value};
@@ -197,11 +198,14 @@ fn instructions(alloc: Global, context: &Context) -> Result<Vec<InstrText>, Memo
 pub(crate) fn procedure(
     alloc: Global,
     program: &Program,
+    needs: &Needs,
     programs: &[Name],
     proc: &Proc,
     number: u32,
 ) -> Result<piton_syntax::Program, Memory>
-    requires { IsWritable (seen_program program.now) programs.now number (proc_of proc.now) }
+    requires writable { IsWritable (seen_program program.now) programs.now number (proc_of proc.now) }
+    requires needs { AreNeeds (seen_program program.now) needs.now.procedures.items }
+    requires small { AreSmall needs.now.procedures.items }
     ensures { let text = procedure_with (seen_program program.now) programs.now number (proc_of proc.now) in
         IfOk result (λ made. made ≡ text) }
 {
@@ -209,6 +213,7 @@ pub(crate) fn procedure(
     let frame = frame_names(alloc, program, number, proc)?;
     let context = Context {
         program,
+        needs,
         procedure: number,
         shapes: shapes.as_slice(),
         programs,

@@ -16,7 +16,7 @@ ghost use Rattle.gypsy_codegen.specs.Views.{normal_text, program_in, statement_t
 ghost use Rattle.gypsy_codegen.specs.Written.{label_arg, Marked, written};
 
 use crate::apply::apply;
-use crate::calls::{after_call, before_call, push_local, raise};
+use crate::calls::{after_call, before_call, guard_call, push_local, raise};
 use crate::context::{Context, NORMAL, Scopes};
 use crate::handled::Handled;
 use crate::lines::{area, constant, jump, plain, test};
@@ -89,11 +89,12 @@ fn call(
     requires ready { IsReady context.now }
     requires callee { site.now.callee < length (program_in context.now).procs }
     requires words { Each (HasWord (program_in context.now) context.now.procedure) site.now.actuals.items }
-    requires labels { first + 2 + length site.now.conds.items < 2 ^ 32 }
+    requires labels { first + 3 + length site.now.conds.items < 2 ^ 32 }
     ensures { let conds = map seen_cond site.now.conds.items in
         let statement = Call site.now.place site.now.callee site.now.actuals.items conds in
         OnOk result (instrs.new.items ≡ instrs.old.items ++ statement_text context.now scopes.now first statement) }
 {
+    guard_call(alloc, instrs, context, site.callee, first + 2)?;
     before_call(alloc, instrs, context, site)?;
     after_call(alloc, instrs, context, site, scopes, first)?;
     Ok(())
@@ -223,7 +224,7 @@ pub(crate) fn statement(
         }
         Node::Call(site) => {
             call(alloc, instrs, context, site, scopes, first)?;
-            Ok(first + 2 + site.conds.len() as u32)
+            Ok(first + 3 + site.conds.len() as u32)
         }
         Node::Apply(site) => {
             apply(alloc, instrs, context, scopes, site)?;

@@ -4,6 +4,7 @@ ghost use Rattle.std.specs.Prelude.{◌≡◌, ◌^◌, ◌++◌, ◌≤◌, len
 ghost use Rattle.gypsy_check.specs.Accepted.{IsAccepted};
 ghost use Rattle.gypsy_syntax.specs.Resolved.{program_of};
 ghost use Rattle.gypsy_syntax.specs.SourceView.{proc_of, source_of};
+ghost use Rattle.gypsy_space.specs.Events.{AreNeeds, AreSmall};
 ghost use Rattle.gypsy_space.specs.Needs.{stack_words};
 ghost use Rattle.gypsy_space.specs.Nodes.{seen_proc, seen_program};
 ghost use Rattle.gypsy_predef.specs.Texts.{body_texts, number};
@@ -17,7 +18,7 @@ use crate::procedure::procedure;
 use crate::words::{formal_words, local_words};
 use gypsy_predef::bodies;
 use gypsy_predef::instruction_text::number;
-use gypsy_space::{Procedure, Program};
+use gypsy_space::{Needs, Procedure, Program};
 use gypsy_syntax::{Proc, Source};
 use piton_syntax::{Area, Number, System, WordItem, WordText};
 use stack_text::{Memory, Name};
@@ -62,17 +63,20 @@ fn program_names(
 fn procedures(
     alloc: Global,
     program: &Program,
+    needs: &Needs,
     programs: &[Name],
     procs: &[Proc],
 ) -> Result<Vec<piton_syntax::Program>, Memory>
     requires few { length procs.now ≤ 2 ^ 20 }
     requires writable { AreWritable (seen_program program.now) programs.now 0 (map proc_of procs.now) }
+    requires needs { AreNeeds (seen_program program.now) needs.now.procedures.items }
+    requires small { AreSmall needs.now.procedures.items }
     ensures { let texts = procedures_with (seen_program program.now) programs.now 0 (map proc_of procs.now) in
         IfOk result (λ made. made.items ≡ texts) }
 {
     let mut made = Vec::new(alloc);
     for (number, proc) in procs.iter().enumerate() {
-        made.push(procedure(alloc, program, programs, proc, number as u32)?)?;
+        made.push(procedure(alloc, program, needs, programs, proc, number as u32)?)?;
     }
     Ok(made)
 }
@@ -111,17 +115,26 @@ fn programs(
     alloc: Global,
     source: &Source,
     program: &Program,
+    needs: &Needs,
 ) -> Result<Vec<piton_syntax::Program>, Memory>
     requires few { length (source_of source.now).procs ≤ 2 ^ 20 }
     requires writable { let s = source_of source.now in
         AreWritable (seen_program program.now) (program_texts s) 0 s.procs }
+    requires needs { AreNeeds (seen_program program.now) needs.now.procedures.items }
+    requires small { AreSmall needs.now.procedures.items }
     ensures { let s = source_of source.now in
         let texts = procedures_with (seen_program program.now) (program_texts s) 0 s.procs ++ body_texts in
         IfOk result (λ made. made.items ≡ texts) }
 {
     let mut bodies = bodies(alloc)?;
     let names = program_names(alloc, source, bodies.as_slice())?;
-    let mut made = procedures(alloc, program, names.as_slice(), source.procs.as_slice())?;
+    let mut made = procedures(
+        alloc,
+        program,
+        needs,
+        names.as_slice(),
+        source.procs.as_slice(),
+    )?;
     made.append(&mut bodies)?;
     Ok(made)
 }
@@ -131,11 +144,14 @@ pub(crate) fn system(
     alloc: Global,
     source: &Source,
     program: &Program,
+    needs: &Needs,
     ctrl: u32,
     temp: u32,
     base: u32,
 ) -> Result<System, Memory>
     requires program { seen_program program.now ≡ program_of (source_of source.now) }
+    requires needs { AreNeeds (seen_program program.now) needs.now.procedures.items }
+    requires small { AreSmall needs.now.procedures.items }
     requires accepted { IsAccepted (source_of source.now) }
     requires few { total_words (program_of (source_of source.now)) ≤ 2 ^ 20 }
     ensures { IfOk result (λ system. system ≡ generated (source_of source.now) (stack_words temp ctrl) base) }
@@ -148,6 +164,6 @@ pub(crate) fn system(
         base: unplaced_size(base),
         areas: vec![in alloc; area(alloc)?]?,
         stack: opening(alloc, procedure_at(program, program.main))?,
-        programs: programs(alloc, source, program)?,
+        programs: programs(alloc, source, program, needs)?,
     })
 }

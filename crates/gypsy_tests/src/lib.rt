@@ -6,6 +6,6 @@
 #[cfg(test)]
 mod codegen;
 #[cfg(test)]
-mod space;
+mod marks;
 #[cfg(test)]
 mod syntax;

@@ -1,7 +1,7 @@
 use Rattle.std.proofs.Common.{◌+◌, [], ◌∷◌, map, pos, None, Some}
 use Rattle.piton_syntax.specs.declared.argument.ArgText.TheVariants as arg
 use Rattle.piton_syntax.specs.declared.op.PitonOp.TheVariants as op
-use Rattle.gypsy_syntax.specs.Programs.{Routine, proc_at}
+use Rattle.gypsy_syntax.specs.Programs.{Routine, Space, proc_at}
 use Rattle.gypsy_space.specs.Needs.{local_words}
 use Rattle.gypsy_space.specs.Nodes.{seen_program, seen_cond}
 use Rattle.gypsy_predef.specs.Texts.{instruction, of_name, condition_area, number}
@@ -22,11 +22,12 @@ returns c =
     let popped = c.in_ok-of_number.ensures in
     let jumped = c.in_ok-jump_by_condition.ensures in
     let others = c.in_ok-raises.ensures in
-    after_is (names_of context) (marked_raises q context.procedure scopes (l + 2) conds) (l + 1)
+    after_is (names_of context) (marked_raises q context.procedure scopes (l + 3) conds) (l + 1)
     c.args.instrs.now.items c.of_number.new.instrs.items c.area.new.instrs.items c.jump_by_condition.new.instrs.items c.raise.new.instrs.items
-    c.raises.new.instrs.items c.plain.new.instrs.items
+    c.raise-2.new.instrs.items c.raises.new.instrs.items c.plain.new.instrs.items
     (instruction None op.PopStar (arg.Number (number (pos (local_words (proc_at q c.args.site.now.callee)))) ∷ [])) (of_name op.PushGlobal condition_area)
-    (instruction None op.JumpCase (map label_arg (l ∷ l ∷ (l + 1) ∷ raise_labels (l + 2) conds)))
+    (instruction None op.JumpCase (map label_arg (l ∷ l ∷ (l + 1) ∷ (l + 2) ∷ raise_labels (l + 3) conds)))
     (raise_text (Some l) (number_of Routine) (label_to q context.procedure scopes Routine))
-    (rw c.callee_words-words.ensures at popped) c.in_ok-area.ensures (rw c.as_slice.ensures.value at jumped) c.in_ok-raise.ensures
+    (raise_text (Some (l + 2)) (number_of Space) (label_to q context.procedure scopes Space))
+    (rw c.callee_words-words.ensures at popped) c.in_ok-area.ensures (rw c.as_slice.ensures.value at jumped) c.in_ok-raise.ensures c.in_ok-raise-2.ensures
     (rw c.as_slice-2.ensures.value at others) c.in_ok-plain.ensures

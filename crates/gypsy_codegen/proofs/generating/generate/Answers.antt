@@ -62,7 +62,7 @@ returns-clause-runs c =
     let limits = limits_fit (program_of s) sizes c.args.base c.requires.base none in
     let made : c.in_ok-system.system ≡ generated s sizes c.args.base =
     c.in_ok-system.ensures ∙ ap (λ (t : Source). generated (source_of t) sizes c.args.base) c.source.ensures.value in
-    implements c.generated_is_acceptable.ensures c.source_runs.ensures s sizes c.args.base c.in_ok-made.made c.in_ok-program.ensures.accepted limits
+    implements c.generated_is_acceptable.ensures c.source_runs.ensures c.moments_are_reached.ensures s sizes c.args.base c.in_ok-made.made c.in_ok-program.ensures.accepted limits
     c.in_ok-made.ensures.known (c.in_ok-made.ensures.kept ∙ made)
 
 pub returns-clause-words : goal.returns-clause-words
@@ -73,6 +73,6 @@ returns-clause-words c =
     let limits = limits_fit (program_of s) sizes c.args.base c.requires.base none in
     let made : c.in_ok-system.system ≡ generated s sizes c.args.base =
     c.in_ok-system.ensures ∙ ap (λ (t : Source). generated (source_of t) sizes c.args.base) c.source.ensures.value in
-    let meant = implements c.generated_is_acceptable.ensures c.source_runs.ensures s sizes c.args.base c.in_ok-made.made c.in_ok-program.ensures.accepted limits
+    let meant = implements c.generated_is_acceptable.ensures c.source_runs.ensures c.moments_are_reached.ensures s sizes c.args.base c.in_ok-made.made c.in_ok-program.ensures.accepted limits
     c.in_ok-made.ensures.known (c.in_ok-made.ensures.kept ∙ made) in
     takes_code_words c.procedures_take_words.ensures s sizes c.args.base c.in_ok-made.made c.in_ok-program.ensures.accepted meant.view

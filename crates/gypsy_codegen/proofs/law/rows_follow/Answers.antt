@@ -31,6 +31,12 @@ returns-clause-guard c = law.guard_row record { calls = c.predefs_run.ensures.ca
 pub returns-clause-call : goal.returns-clause-call
 returns-clause-call c = law.call_row record { calls = c.predefs_run.ensures.calls; arguments = c.predefs_run.ensures.arguments; values = c.predefs_run.ensures.values }
 
+pub returns-clause-lack_temporary : goal.returns-clause-lack_temporary
+returns-clause-lack_temporary c = law.lack_temporary_row record { calls = c.predefs_run.ensures.calls; arguments = c.predefs_run.ensures.arguments; values = c.predefs_run.ensures.values }
+
+pub returns-clause-lack_control : goal.returns-clause-lack_control
+returns-clause-lack_control c = law.lack_control_row record { calls = c.predefs_run.ensures.calls; arguments = c.predefs_run.ensures.arguments; values = c.predefs_run.ensures.values }
+
 pub returns-clause-write : goal.returns-clause-write
 returns-clause-write c = law.write_row record { calls = c.predefs_run.ensures.calls; arguments = c.predefs_run.ensures.arguments; values = c.predefs_run.ensures.values }
 

@@ -2,7 +2,7 @@ use Rattle.std.proofs.Common.{◌≡◌, ℕ, ◌+◌, ◌<◌, List, map, lengt
 use Rattle.std.proofs.lemmas.Bool.Decides.{nat_tests}
 use Rattle.std.specs.Prelude.{Bool, ◌==◌, if◌then◌else◌}
 use Rattle.stack_text.proofs.Loops.{drop-item}
-use Rattle.gypsy_syntax.specs.Programs.{Cond, Leave, Routine, Declared}
+use Rattle.gypsy_syntax.specs.Programs.{Cond, Leave, Routine, Space, Declared}
 use Rattle.gypsy_space.specs.Nodes.{seen_cond}
 use Rattle.gypsy_space.specs.declared.program.Condition.{Condition}
 use Rattle.gypsy_space.specs.declared.program.Condition.TheVariants as condition
@@ -14,12 +14,19 @@ use Rattle.gypsy_codegen.proofs.handled.Handled.new.Goals as goal
 same_number : (c d : Cond) → same_cond c d ≡ (number_of c == number_of d)
 same_number Leave Leave = refl
 same_number Leave Routine = refl
+same_number Leave Space = refl
 same_number Leave (Declared j) = grind (arith, nat_tests)
 same_number Routine Leave = refl
 same_number Routine Routine = refl
+same_number Routine Space = refl
 same_number Routine (Declared j) = grind (arith, nat_tests)
+same_number Space Leave = refl
+same_number Space Routine = refl
+same_number Space Space = refl
+same_number Space (Declared j) = grind (arith, nat_tests)
 same_number (Declared i) Leave = grind (arith, nat_tests)
 same_number (Declared i) Routine = grind (arith, nat_tests)
+same_number (Declared i) Space = grind (arith, nat_tests)
 same_number (Declared i) (Declared j) = grind (arith, nat_tests)
 
 turned : (same old rest : Bool) →

@@ -1,0 +1,11 @@
+-- The marks and moments of the closed programs, by computing.
+use Rattle.std.proofs.Common.{refl}
+use Rattle.gypsy_space.specs.Costs.{spend, predef_spend, main_spend}
+use Rattle.gypsy_syntax.specs.PredefinedCosts.{predef_cost}
+use Rattle.gypsy_syntax.specs.Effects.{predef_effect}
+use Rattle.gypsy_meaning.specs.Calls.{main_start, main_formals, values_of, target_of}
+use Rattle.gypsy_codegen.specs.MarkExamples.{MarksAre}
+
+pub marks_are : MarksAre
+unfolding spend predef_spend predef_cost predef_effect main_start main_formals values_of target_of
+marks_are = record { first = refl; first_addresses = refl; all = refl; begins = refl; ends = refl; stays = refl }

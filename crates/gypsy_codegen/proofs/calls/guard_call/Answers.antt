@@ -1,0 +1,13 @@
+use Rattle.gypsy_space.specs.Needs.{call_need}
+use Rattle.gypsy_space.specs.Nodes.{seen_program}
+use Rattle.gypsy_codegen.specs.Views.{names_of}
+use Rattle.gypsy_codegen.proofs.CodeLaws.{guard_is}
+use Rattle.gypsy_codegen.proofs.calls.guard_call.Goals as goal
+
+pub returns : goal.returns
+returns c =
+    let context = c.args.context.now in
+    guard_is (names_of context) (call_need (seen_program context.program.now) c.args.callee) c.args.to
+    c.temporary_call_need-temporary.result c.control_call_need-control.result
+    c.args.instrs.now.items c.guard.new.instrs.items c.guard-2.new.instrs.items
+    c.temporary_call_need-temporary.ensures c.control_call_need-control.ensures c.in_ok-guard.ensures c.in_ok-guard-2.ensures

@@ -1,0 +1,103 @@
+-- Every moment of a run: where the step machine stands after so many steps, and what the generated system has there.
+use Rattle.std.specs.Prelude.{◌≡◌, ℕ, zero, suc, ◌+◌, ◌<◌, ◌≤◌, List, [], ◌∷◌, length, Some, slice_get}
+use Rattle.stack_text.specs.declared.shape.Shape.{Shape}
+use Rattle.stack_text.specs.Values.{ValueOf}
+use Rattle.piton_words.specs.declared.word.Word.TheVariants.{Nat}
+use Rattle.piton_check.specs.Instruction.{SystemView}
+use Rattle.piton_machine.specs.State as piton
+use Rattle.piton_machine.specs.State.{PitonState, locals_of}
+use Rattle.piton_machine.specs.Law.{Steps}
+use Rattle.gypsy_syntax.specs.Programs.{Program, proc_at, shapes_of}
+use Rattle.gypsy_syntax.specs.ProgramFits.{ProgramFits}
+use Rattle.gypsy_syntax.specs.Effects.{value_at}
+use Rattle.gypsy_space.specs.Costs.{Tally}
+use Rattle.gypsy_space.specs.Needs.{Words, vars_of}
+use Rattle.gypsy_meaning.specs.Kept.{VarsFit}
+use Rattle.gypsy_meaning.specs.Machine.{Item, Frame, Held, State, At, Move, Next, Ended, gypsy_step, start}
+use Rattle.gypsy_meaning.specs.Seen.{spent_at, top_way}
+use Rattle.gypsy_predef.specs.Runs.{Holds, words_of_value}
+use Rattle.gypsy_codegen.specs.WordsOf.{number_of_way}
+use Rattle.gypsy_codegen.specs.Generated.{offset, generated_view}
+use Rattle.gypsy_codegen.specs.Showing.{mark_of}
+use Rattle.gypsy_codegen.specs.Whole.{SizesFit, RunsTo, opened}
+
+-- 1. The step machine.
+
+-- one step more: what has ended stays as it is
+abbrev pub moved_on : Move → (State → Move) → Move
+moved_on (Next g) go = go g
+moved_on (Ended x c t) go = Ended x c t
+
+-- Where the step machine stands after so many steps: in a state, or at its end, with main's formals and a condition. What is
+-- spent in it is the sum of the costs of these steps.
+abbrev pub moment : Program → Words → ℕ → State → Move
+moment q sizes zero g = Next g
+moment q sizes (suc j) g = moved_on (gypsy_step q sizes g) (moment q sizes j)
+
+-- from these values of main's formals
+abbrev pub moment_from : Program → Words → List ValueOf → ℕ → Move
+moment_from q sizes v j = moment q sizes j (start q v)
+
+-- it goes on for ever
+abbrev pub NeverEnds : Program → Words → List ValueOf → Type 0
+NeverEnds q sizes v = (j : ℕ) → (g : State) × (moment_from q sizes v j ≡ Next g)
+
+-- 2. The generated system.
+
+-- the frames, the newest first: one for each activation and no more, each with a local for each variable of its procedure
+abbrev pub AreActivations : Program → ℕ → List Frame → List piton.Frame → Type 0
+AreActivations q p [] [] = ⊥
+AreActivations q p [] (f ∷ []) = length f.locals ≡ vars_of (proc_at q p)
+AreActivations q p [] (f ∷ g ∷ frames) = ⊥
+AreActivations q p (Held c x w xs cs ∷ fs) [] = ⊥
+AreActivations q p (Held c x w xs cs ∷ fs) (f ∷ frames) =
+    (length f.locals ≡ vars_of (proc_at q p)) × AreActivations q c fs frames
+
+-- the newest frame has the index of variable b, and the elements of the stack from there on are the words of the value's items
+pub record VariableStands (q : Program) (a : PitonState) (p b : ℕ) (v : ValueOf) : Type 0 where
+  pub index : ℕ
+  pub local : slice_get (locals_of a.frames) (offset q p b) ≡ Some (Nat index)
+  pub words : Holds a.stack index (words_of_value v)
+
+-- It stands at the mark of the top item, and reads as the activation on top: procedure p with these variables. The word of `c-c`
+-- is the number of the condition that is on its way out, and else that of the normal one.
+pub record ReadsAs (q : Program) (a : PitonState) (p : ℕ) (x : List ValueOf) (w : List Item) (fs : List Frame) : Type 0 where
+  pub program : a.program ≡ p
+  pub place : a.place ≡ mark_of q p w
+  pub condition : a.areas ≡ (Nat (number_of_way (top_way w)) ∷ []) ∷ []
+  pub frames : AreActivations q p fs a.frames
+  pub variables : (b : ℕ) (shape : Shape) → slice_get (shapes_of (proc_at q p)) b ≡ Some shape → VariableStands q a p b (value_at x b)
+
+-- after exactly the counted steps, at the counted cost and none of them an error, it comes to a state that reads so
+pub record ComesToMark (q : Program) (s : SystemView) (a : PitonState) (p : ℕ) (x : List ValueOf) (w : List Item) (fs : List Frame)
+    (t : Tally) : Type 0 where
+  pub to : PitonState
+  pub runs : Steps s t.steps t.count a to
+  pub reads : ReadsAs q to p x w fs
+
+-- what a system comes to from a state, where the step machine stands so
+abbrev pub HasMoment : Program → SystemView → PitonState → Move → Type 0
+HasMoment q s a (Next (At p x w fs t)) = ComesToMark q s a p x w fs t
+HasMoment q s a (Ended x c t) = RunsTo s a x c t
+
+-- Every moment of the step machine is one of the generated system.
+abbrev pub EachMomentIsReached : Type 0
+EachMomentIsReached = (q : Program) (sizes : Words) (base : ℕ) (v : List ValueOf) (j : ℕ) → ProgramFits q → SizesFit q sizes →
+    VarsFit (proc_at q q.main).formals v →
+    HasMoment q (generated_view q sizes base) (opened q sizes base v) (moment_from q sizes v j)
+
+-- 3. Counts.
+
+-- it costs an instruction at least
+abbrev pub CostsSome : State → Move → Type 0
+CostsSome g (Next h) = spent_at g < spent_at h
+CostsSome g (Ended x c t) = spent_at g < t.count
+
+-- so does each step, up to the one that ends the run
+abbrev pub EachStepCosts : Type 0
+EachStepCosts = (q : Program) (sizes : Words) (v : List ValueOf) (j : ℕ) (g : State) → moment_from q sizes v j ≡ Next g →
+    CostsSome g (gypsy_step q sizes g)
+
+-- so after j steps at least j instructions are counted
+abbrev pub CountsGrow : Type 0
+CountsGrow = (q : Program) (sizes : Words) (v : List ValueOf) (j : ℕ) (g : State) → moment_from q sizes v j ≡ Next g → j ≤ spent_at g

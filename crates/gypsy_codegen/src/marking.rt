@@ -1,0 +1,264 @@
+//! The marks of a generated program, in one pass.
+
+ghost use Rattle.std.specs.Prelude.{◌≡◌, ◌+◌, ◌^◌, ◌++◌, ◌∷◌, [], ◌<◌, ◌≤◌, length, OnOk, IfOk};
+ghost use Rattle.gypsy_syntax.specs.Programs.{body_of, proc_at};
+ghost use Rattle.gypsy_syntax.specs.Resolved.{program_of};
+ghost use Rattle.gypsy_syntax.specs.SourceView.{source_of};
+ghost use Rattle.gypsy_space.specs.Events.{AreNeeds};
+ghost use Rattle.gypsy_space.specs.Nodes.{seen_program, seen_statement, seen_statements};
+ghost use Rattle.gypsy_predef.specs.Bodies.{lengths_of};
+ghost use Rattle.gypsy_codegen.specs.Acceptable.{total_words};
+ghost use Rattle.gypsy_codegen.specs.Generated.{size, test_size};
+ghost use Rattle.gypsy_codegen.specs.Marking.{IsKnown, application_of, call_of, marked_program};
+ghost use Rattle.gypsy_codegen.specs.Marks.{mark_at, marks_of, procedure_marks, statement_marks, tail_marks};
+ghost use Rattle.gypsy_codegen.specs.Views.{NamesAreThere};
+ghost use Rattle.gypsy_codegen.specs.WordsOf.{words_of_values};
+
+use crate::context::procedure_at;
+use gypsy_check::Accepted;
+use gypsy_space::{Application, CallSite, Needs, Node, Program, resolve};
+use gypsy_syntax::Predef;
+use stack_text::Memory;
+use std::alloc::Global;
+use std::rc::Rc;
+
+/// A place of the generated code at which a run of the source may stand.
+#[derive(Clone, Copy, Debug, PartialEq, Eq)]
+pub struct MarkAt {
+    /// The position of the program among those of the system.
+    pub program: u32,
+    /// The instruction, counted from 0.
+    pub at: u32,
+    /// The place in the source's text.
+    pub place: u32,
+}
+
+/// A procedure whose marks are listed.
+#[derive(Drop)]
+struct Marking<'a, 'b> {
+    program: &'a Program,
+    needs: &'b Needs,
+    procedure: u32,
+}
+
+/// A mark of the procedure.
+fn note(marks: &mut Vec<MarkAt>, marking: &Marking, at: u32, place: u32) -> Result<(), Memory>
+    ensures { OnOk result (marks.new.items ≡ marks.old.items ++ mark_at marking.now.procedure at place ∷ []) }
+{
+    marks.push(MarkAt {
+        program: marking.procedure,
+        at,
+        place,
+    })?;
+    Ok(())
+}
+
+/// How many locals a procedure has.
+fn local_count(program: &Program, procedure: u32) -> usize
+    requires { procedure < length program.now.procedures.items }
+    ensures { result ≡ length (proc_at (seen_program program.now) procedure).locals }
+{
+    procedure_at(program, procedure).locals.len()
+}
+
+/// How many words the locals of a procedure have.
+fn local_words(marking: &Marking, procedure: u32) -> u64
+    requires known { IsKnown marking.now }
+    requires there { procedure < length (marked_program marking.now).procs }
+    ensures { result ≡ length (words_of_values (proc_at (marked_program marking.now) procedure).locals) }
+{
+    marking.needs.need_of(procedure).locals_words
+}
+
+/// How many instructions a call has.
+fn call_size(marking: &Marking, site: &CallSite) -> u32
+    requires known { IsKnown marking.now }
+    requires callee { site.now.callee < length (marked_program marking.now).procs }
+    requires room { size (marked_program marking.now) (call_of site.now) ≤ 2 ^ 21 }
+    ensures { result ≡ size (marked_program marking.now) (call_of site.now) }
+{
+    let words = local_words(marking, site.callee);
+    let locals = local_count(marking.program, site.callee) as u64;
+    let actuals = site.actuals.len() as u64;
+    let conds = site.conds.len() as u64;
+    (words + locals + actuals + 3 * conds + 19) as u32
+}
+
+/// How many instructions a predefined call has beside its pushes.
+fn row_size(which: Predef) -> u32
+    ensures exact { result ≡ lengths_of which + (test_size which + 1) }
+    ensures small { result ≤ 5 }
+{
+    match which {
+        Predef::MgIntegerUnaryMinus
+        | Predef::MgIntegerAdd
+        | Predef::MgIntegerSubtract
+        | Predef::MgIntegerMultiply => 4,
+        Predef::MgIndexArray | Predef::MgArrayElementAssignment => 5,
+        _ => 1,
+    }
+}
+
+/// How many instructions a predefined call has.
+fn application_size(marking: &Marking, call: &Application) -> u32
+    requires { size (marked_program marking.now) (application_of call.now) ≤ 2 ^ 21 }
+    ensures { result ≡ size (marked_program marking.now) (application_of call.now) }
+{
+    call.args.len() as u32 + row_size(call.which)
+}
+
+/// A part of a statement at this place, and behind it a mark of the statement; where that is.
+#[cycle(marked)]
+fn part(
+    marks: &mut Vec<MarkAt>,
+    marking: &Marking,
+    node: &Rc<Node>,
+    at: u32,
+    place: u32,
+) -> Result<u32, Memory>
+    requires known { IsKnown marking.now }
+    requires names { NamesAreThere (marked_program marking.now) marking.now.procedure (seen_statement node.now.value) }
+    requires room { at + size (marked_program marking.now) (seen_statement node.now.value) ≤ 2 ^ 21 }
+    ensures marks { let q = marked_program marking.now in
+        let s = seen_statement node.now.value in
+        let listed = statement_marks q marking.now.procedure at s ++
+        mark_at marking.now.procedure (at + size q s) place ∷ [] in
+        OnOk result (marks.new.items ≡ marks.old.items ++ listed) }
+    ensures next { IfOk result (λ next. next ≡ at + size (marked_program marking.now) (seen_statement node.now.value)) }
+{
+    let behind = statement(marks, marking, node, at)?;
+    note(marks, marking, behind, place)?;
+    Ok(behind)
+}
+
+/// The marks of a statement whose code stands at this place; where it ends.
+#[cycle(marked)]
+fn statement(
+    marks: &mut Vec<MarkAt>,
+    marking: &Marking,
+    node: &Rc<Node>,
+    at: u32,
+) -> Result<u32, Memory>
+    requires known { IsKnown marking.now }
+    requires names { NamesAreThere (marked_program marking.now) marking.now.procedure (seen_statement node.now.value) }
+    requires room { at + size (marked_program marking.now) (seen_statement node.now.value) ≤ 2 ^ 21 }
+    ensures marks { let q = marked_program marking.now in
+        let listed = statement_marks q marking.now.procedure at (seen_statement node.now.value) in
+        OnOk result (marks.new.items ≡ marks.old.items ++ listed) }
+    ensures next { IfOk result (λ next. next ≡ at + size (marked_program marking.now) (seen_statement node.now.value)) }
+{
+    match &**node {
+        Node::NoOp(place) => {
+            note(marks, marking, at, *place)?;
+            Ok(at + 1)
+        }
+        Node::Signal(place, _) => {
+            note(marks, marking, at, *place)?;
+            Ok(at + 3)
+        }
+        Node::Seq(nodes) => {
+            let next = parts(marks, marking, nodes, at)?;
+            Ok(next)
+        }
+        Node::Loop(place, body) => {
+            note(marks, marking, at, *place)?;
+            let back = part(marks, marking, body, at + 1, *place)?;
+            Ok(back + 3)
+        }
+        Node::If(place, _, yes, no) => {
+            note(marks, marking, at, *place)?;
+            let jump = part(marks, marking, yes, at + 3, *place)?;
+            let join = part(marks, marking, no, jump + 2, *place)?;
+            Ok(join + 1)
+        }
+        Node::Begin(place, body, _, arm) => {
+            let jump = part(marks, marking, body, at, *place)?;
+            let join = part(marks, marking, arm, jump + 3, *place)?;
+            Ok(join + 1)
+        }
+        Node::Call(site) => {
+            note(marks, marking, at, site.place)?;
+            Ok(at + call_size(marking, site))
+        }
+        Node::Apply(call) => {
+            note(marks, marking, at, call.place)?;
+            Ok(at + application_size(marking, call))
+        }
+    }
+}
+
+/// The parts of a sequence.
+#[cycle(marked)]
+fn parts(
+    marks: &mut Vec<MarkAt>,
+    marking: &Marking,
+    parts: &Rc<Vec<Rc<Node>>>,
+    at: u32,
+) -> Result<u32, Memory>
+    requires known { IsKnown marking.now }
+    requires names { let parts = seen_statements parts.now.value.items in
+        NamesAreThere (marked_program marking.now) marking.now.procedure parts }
+    requires room { at + size (marked_program marking.now) (seen_statements parts.now.value.items) ≤ 2 ^ 21 }
+    ensures marks { let q = marked_program marking.now in
+        let listed = statement_marks q marking.now.procedure at (seen_statements parts.now.value.items) in
+        OnOk result (marks.new.items ≡ marks.old.items ++ listed) }
+    ensures next { let q = marked_program marking.now in
+        IfOk result (λ next. next ≡ at + size q (seen_statements parts.now.value.items)) }
+{
+    let mut next = at;
+    for index in 0..parts.len() {
+        next = statement(marks, marking, &parts[index], next)?;
+    }
+    Ok(next)
+}
+
+/// What stands behind a body of so many instructions.
+fn tail(marks: &mut Vec<MarkAt>, marking: &Marking, at: u32, place: u32) -> Result<(), Memory>
+    requires { at ≤ 2 ^ 21 }
+    ensures { OnOk result (marks.new.items ≡ marks.old.items ++ tail_marks marking.now.procedure at place) }
+{
+    note(marks, marking, at, place)?;
+    note(marks, marking, at + 1, place)?;
+    note(marks, marking, at + 3, place)
+}
+
+/// The marks of a procedure.
+fn procedure(marks: &mut Vec<MarkAt>, marking: &Marking) -> Result<(), Memory>
+    requires known { IsKnown marking.now }
+    requires there { marking.now.procedure < length (marked_program marking.now).procs }
+    requires names { let q = marked_program marking.now in
+        NamesAreThere q marking.now.procedure (body_of q marking.now.procedure) }
+    requires room { let q = marked_program marking.now in size q (body_of q marking.now.procedure) ≤ 2 ^ 20 }
+    ensures { let listed = procedure_marks (marked_program marking.now) marking.now.procedure in
+        OnOk result (marks.new.items ≡ marks.old.items ++ listed) }
+{
+    let found = procedure_at(marking.program, marking.procedure);
+    let end = statement(marks, marking, &found.body, 0)?;
+    tail(marks, marking, end, found.place)
+}
+
+/// The marks of the program that is generated from an accepted source: the places of its code at which a run of the source may
+/// stand, each with the place in the source. They ascend by program, and then by instruction.
+///
+/// The time is linear in the source.
+///
+/// # Errors
+///
+/// Out of memory.
+pub fn marks(alloc: Global, accepted: &Accepted, needs: &Needs) -> Result<Vec<MarkAt>, Memory>
+    requires needs { AreNeeds (program_of (source_of accepted.now)) needs.now.procedures.items }
+    requires words { total_words (program_of (source_of accepted.now)) ≤ 2 ^ 20 }
+    ensures { IfOk result (λ marks. marks.items ≡ marks_of (program_of (source_of accepted.now))) }
+{
+    let program = resolve(alloc, accepted)?;
+    let mut listed = Vec::new(alloc);
+    for number in 0..program.procedures.len() {
+        let marking = Marking {
+            program: &program,
+            needs,
+            procedure: number as u32,
+        };
+        procedure(&mut listed, &marking)?;
+    }
+    Ok(listed)
+}
