@@ -44,7 +44,7 @@ item_of-word_of_int Character (pos n) is fits = rw is refl
 item_of-word_of_int Character (negsuc n) is fits = absurd (true≢false (sym is))
 
 -- the words of items are read as the items
-items_read : (kind : Kind) (items : List ℤ) → list_all (λ item. is_item kind item) items ≡ true → list_all is_int items ≡ true → map (item_of kind) (map word_of_int items) ≡ map (item_shown kind) items
+pub items_read : (kind : Kind) (items : List ℤ) → list_all (λ item. is_item kind item) items ≡ true → list_all is_int items ≡ true → map (item_of kind) (map word_of_int items) ≡ map (item_shown kind) items
 items_read kind [] are fit = refl
 items_read kind (item ∷ items) are fit =
     let p = and_parts (is_item kind item) (list_all (λ item. is_item kind item) items) are in

@@ -1,5 +1,6 @@
 -- what is promised
 pub mod Reading
+pub mod ReadingAt
 pub mod Report
 pub mod ValueReading
 pub mod Running

@@ -1,6 +1,6 @@
 -- Memory read as a condition and variables.
 use Rattle.std.specs.Prelude.{ℕ, zero, suc, ◌-◌, List, [], ◌∷◌, map, Option, Some, None}
-use Rattle.std.specs.Prelude.{true, false, ◌==◌, nat_le, if◌then◌else◌, slice_get, unwrap_or}
+use Rattle.std.specs.Prelude.{true, false, ◌==◌, nat_le, if◌then◌else◌, slice_get, unwrap_or, codes}
 use Rattle.std.specs.Option.{option_map}
 use Rattle.stack_text.specs.declared.shape.Kind.{Kind}
 use Rattle.stack_text.specs.declared.shape.Kind.TheVariants.{Integer, Boolean, Character}
@@ -24,6 +24,10 @@ word_in s address = word_at s.base s.memory address
 -- the same, and 0 for an address outside the window
 abbrev pub word_or_zero : Fm → ℕ → ℕ
 word_or_zero s address = unwrap_or (word_in s address) 0
+
+-- the condition that a call without room sets, as images name it
+abbrev pub space_name : List ℕ
+space_name = codes "spaceerror"
 
 -- 0 is leave, 1 routineerror, 2 normal, and the named conditions are counted from 3 on
 abbrev pub named_or_odd : Option (List ℕ) → ℕ → Shown

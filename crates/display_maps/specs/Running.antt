@@ -7,7 +7,7 @@ use Rattle.gypsy_meaning.specs.declared.conditions.Current.{Current}
 use Rattle.gypsy_meaning.specs.declared.conditions.Current.TheVariants as current
 use Rattle.display_maps.specs.declared.shown.Shown.{Shown}
 use Rattle.display_maps.specs.declared.shown.Shown.TheVariants as shown
-use Rattle.display_maps.specs.Reading.{item_of}
+use Rattle.display_maps.specs.Reading.{item_of, space_name}
 use Rattle.display_maps.specs.Report.{VariableOf, condition_line, variable_line}
 
 -- a condition, and the items of a value, as memory that has them is read
@@ -15,6 +15,7 @@ abbrev pub condition_shown : Current → Shown
 condition_shown current.Normal = shown.Normal
 condition_shown current.Routine = shown.Routine
 condition_shown current.Leave = shown.Leave
+condition_shown current.Space = shown.Named space_name
 condition_shown (current.Named name) = shown.Named name
 
 abbrev pub items_shown : ValueOf → List Shown

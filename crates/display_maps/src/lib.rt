@@ -8,5 +8,5 @@ mod shown;
 
 pub use printing::{push_reading, report};
 pub use reading::{Reading, read_up};
-pub use running::push_run;
+pub use running::{push_run, space_name};
 pub use shown::{Shown, condition_of, item_of};

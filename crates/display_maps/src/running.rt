@@ -3,7 +3,7 @@
 ghost use Rattle.std.specs.Prelude.{◌≡◌, ◌++◌, IfOk, OnOk, map, None};
 ghost use Rattle.std.specs.List.{flat_map};
 ghost use Rattle.fm_words.specs.Word.{word_of_int};
-ghost use Rattle.display_maps.specs.Reading.{item_of};
+ghost use Rattle.display_maps.specs.Reading.{item_of, space_name};
 ghost use Rattle.display_maps.specs.Report.{variable_line};
 ghost use Rattle.display_maps.specs.Running.{condition_shown, variable_shown, variables_shown, run_lines};
 
@@ -11,17 +11,26 @@ use crate::printing::{Variable, push_lines};
 use crate::shown::{Shown, item_of};
 use fm_words::word_of_int;
 use gypsy_meaning::Current;
-use stack_text::{Kind, Memory, Name, Value};
+use stack_text::{Kind, Memory, Name, Named, Value};
 use std::alloc::Global;
 
+/// The name of the condition that a call without room sets, which is the first of an image's names.
+pub fn space_name(alloc: Global) -> Result<Name, Memory>
+    ensures { IfOk result (λ name. name ≡ space_name) }
+{
+    let Named { place: _, name } = Named::unplaced(alloc, b"spaceerror".as_slice())?;
+    Ok(name)
+}
+
 /// A condition as it is printed.
-fn condition_shown(condition: &Current) -> Result<Shown, Memory>
+fn condition_shown(alloc: Global, condition: &Current) -> Result<Shown, Memory>
     ensures { IfOk result (λ shown. shown ≡ condition_shown condition.now) }
 {
     match condition {
         Current::Normal => Ok(Shown::Normal),
         Current::Routine => Ok(Shown::Routine),
         Current::Leave => Ok(Shown::Leave),
+        Current::Space => Ok(Shown::Named(space_name(alloc)?)),
         Current::Named(name) => Ok(Shown::Named(name.clone()?)),
     }
 }
@@ -83,7 +92,7 @@ pub fn push_run(
     ensures { OnOk result (text.new.items ≡ text.old.items
         ++ run_lines condition.now (map (λ v. v.0) variables.now) (map (λ v. v.1) variables.now)) }
 {
-    let shown = condition_shown(condition)?;
+    let shown = condition_shown(alloc, condition)?;
     push_lines(alloc, text, Some(&shown), &[])?;
     push_variables(alloc, text, variables)
 }

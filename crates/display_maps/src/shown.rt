@@ -15,7 +15,7 @@ pub enum Shown {
     Normal,
     Routine,
     Leave,
-    /// The condition of a name. The first of an image's names has the number 3.
+    /// The condition of a name. The first of an image's names, spaceerror in that of a source, has the number 3.
     Named(Name),
     /// An integer.
     Number(i32),

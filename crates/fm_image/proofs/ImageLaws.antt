@@ -8,7 +8,7 @@ use Rattle.fm_image.specs.declared.fault.ImageFault.{ImageFault}
 use Rattle.fm_image.specs.declared.fault.ImageFault.TheVariants.{Refused, Memory}
 use Rattle.fm_image.specs.declared.slot.Slot.{Slot}
 use Rattle.fm_image.specs.declared.window.Window.{Window}
-use Rattle.fm_image.specs.Image.{ImageOf, window_of, is_size, is_inside, is_window, is_condition, is_count, is_slot, all_after, is_image}
+use Rattle.fm_image.specs.Image.{ImageOf, window_of, is_size, is_inside, is_window, is_condition, is_condition_count, is_slot, is_slot_count, all_after, is_image}
 use Rattle.fm_image.specs.Spelling.{number_bytes, numbers_bytes, name_bytes, counted_bytes, window_bytes, flags_bytes, condition_address_bytes, slot_bytes, opening_bytes, spelling, are_words, Spelled}
 use Rattle.stack_text.specs.Results.{◌>>=◌}
 use Rattle.fm_image.specs.Rules.{rule_number, Fault, Gives}
@@ -30,16 +30,19 @@ words_same earlier (n ∷ numbers) = ap (λ (b : Bool). is_word n && b) (words_s
 
 -- ---- the counted fields
 
-small_count : (n : ℕ) → is_count n ≡ true → is_word n ≡ true
-small_count n h = let le : n ≤ 200 = leb-true n 200 h in lt-ltb n (2 ^ 32) (omega (arith, le))
+few_conditions : (n : ℕ) → is_condition_count n ≡ true → is_word n ≡ true
+few_conditions n h = let le : n ≤ 201 = leb-true n 201 h in lt-ltb n (2 ^ 32) (omega (arith, le))
 
-conditions_reads : (end : ℕ) → Reads (conditions_at end) (counted_bytes name_bytes) (λ names. is_count (length names) && all_after is_condition [] names)
+few_slots : (n : ℕ) → is_slot_count n ≡ true → is_word n ≡ true
+few_slots n h = let le : n ≤ 200 = leb-true n 200 h in lt-ltb n (2 ^ 32) (omega (arith, le))
+
+conditions_reads : (end : ℕ) → Reads (conditions_at end) (counted_bytes name_bytes) (λ names. is_condition_count (length names) && all_after is_condition [] names)
 unfolding conditions_at
-conditions_reads end = counted_reads (condition_at end) name_bytes is_condition (condition_reads end) is_count end small_count
+conditions_reads end = counted_reads (condition_at end) name_bytes is_condition (condition_reads end) is_condition_count end few_conditions
 
-slots_reads : (end : ℕ) (window : Window) → is_window window ≡ true → Reads (slots_at end window) (counted_bytes slot_bytes) (λ slots. is_count (length slots) && all_after (is_slot window) [] slots)
+slots_reads : (end : ℕ) (window : Window) → is_window window ≡ true → Reads (slots_at end window) (counted_bytes slot_bytes) (λ slots. is_slot_count (length slots) && all_after (is_slot window) [] slots)
 unfolding slots_at
-slots_reads end window sized = counted_reads (slot_at end window) slot_bytes (is_slot window) (slot_reads end window sized) is_count end small_count
+slots_reads end window sized = counted_reads (slot_at end window) slot_bytes (is_slot window) (slot_reads end window sized) is_slot_count end few_slots
 
 words_reads : (end : ℕ) (window : Window) → is_window window ≡ true → Reads (words_at end window) (counted_bytes number_bytes) (λ words. leb (length words) window.size && all_after is_number [] words)
 unfolding words_at
@@ -113,8 +116,8 @@ image_takes end bytes image ok e =
     let took2 : Took b1.0.1 (numbers_bytes b2.0.0) b2.0.1 = subst (λ (xs : List ℕ). Took b1.0.1 (numbers_bytes xs) b2.0.1) (sym t2.all_are) t2.took in
     let fit2 : all_after is_number [] b2.0.0 ≡ true = subst (λ (xs : List ℕ). all_after is_number [] xs ≡ true) (sym t2.all_are) t2.fit in
     let count2 : length b2.0.0 ≡ 16 = ap length t2.all_are ∙ t2.count_is in
-    let p5 = and_parts (is_count (length b5.0.0)) (all_after is_condition [] b5.0.0) t5.1 in
-    let p6 = and_parts (is_count (length b6.0.0)) (all_after (is_slot b1.0.0) [] b6.0.0) t6.1 in
+    let p5 = and_parts (is_condition_count (length b5.0.0)) (all_after is_condition [] b5.0.0) t5.1 in
+    let p6 = and_parts (is_slot_count (length b6.0.0)) (all_after (is_slot b1.0.0) [] b6.0.0) t6.1 in
     let p7 = and_parts (leb (length b7.0.0) b1.0.0.size) (all_after is_number [] b7.0.0) t7.1 in
     let s1 = Took-then bytes opening_bytes b0.0.1 (window_bytes b1.0.0) b1.0.1 t0 t1.0 in
     let s2 = Took-then bytes _ b1.0.1 (numbers_bytes b2.0.0) b2.0.1 s1 took2 in

@@ -2,15 +2,15 @@
 use Rattle.std.proofs.Common.{◌≡◌, ◌≤◌, ◌<◌, ◌+◌, true, ◌&&◌, eqb, leb, [], length, arith}
 use Rattle.std.specs.Prelude.{IsTrue}
 use Rattle.std.proofs.lemmas.Bool.{and_parts, and_from, leb-true, eqb-true}
-use Rattle.fm_image.specs.Image.{ImageOf, window_of, is_size, is_inside, is_window, is_condition_address, is_count, is_condition, is_slot, all_after, is_image}
+use Rattle.fm_image.specs.Image.{ImageOf, window_of, is_size, is_inside, is_window, is_condition_address, is_condition_count, is_slot_count, is_condition, is_slot, all_after, is_image}
 
 pub record Limits (image : ImageOf) : Type 0 where
   pub window : is_window (window_of image) ≡ true
   pub registers : eqb (length image.registers) 16 ≡ true
   pub condition_address : is_condition_address (window_of image) image.condition_address ≡ true
-  pub condition_count : is_count (length image.conditions) ≡ true
+  pub condition_count : is_condition_count (length image.conditions) ≡ true
   pub conditions : all_after is_condition [] image.conditions ≡ true
-  pub slot_count : is_count (length image.slots) ≡ true
+  pub slot_count : is_slot_count (length image.slots) ≡ true
   pub slots : all_after (is_slot (window_of image)) [] image.slots ≡ true
   pub words : leb (length image.words) image.size ≡ true
 
@@ -31,7 +31,7 @@ unfolding is_image
 from_limits image l =
     and_from _ _ (and_from _ _ (and_from _ _ (and_from _ _ (and_from _ _ (and_from _ _ (and_from _ _ l.window l.registers) l.condition_address) l.condition_count) l.conditions) l.slot_count) l.slots) l.words
 
-pub condition_count : (image : ImageOf) → IsTrue (is_image image) → length image.conditions ≤ 200
+pub condition_count : (image : ImageOf) → IsTrue (is_image image) → length image.conditions ≤ 201
 condition_count image h = leb-true _ _ (limits_of image h).condition_count
 
 pub slot_count : (image : ImageOf) → IsTrue (is_image image) → length image.slots ≤ 200

@@ -40,9 +40,13 @@ abbrev pub is_condition_address : Window → Option ℕ → Bool
 is_condition_address window None = true
 is_condition_address window (Some address) = is_inside window.base window.size address
 
--- how many names or slots there may be
-abbrev pub is_count : ℕ → Bool
-is_count count = nat_le count 200
+-- how many names of conditions there may be: spaceerror, and as many as a procedure has formal ones
+abbrev pub is_condition_count : ℕ → Bool
+is_condition_count count = nat_le count 201
+
+-- how many slots
+abbrev pub is_slot_count : ℕ → Bool
+is_slot_count count = nat_le count 200
 
 -- the items, from the address downwards, are all in the window
 abbrev pub is_slot_address : Window → Shape → ℕ → Bool
@@ -73,8 +77,8 @@ is_image image =
     is_window (window_of image)
     && length image.registers == 16
     && is_condition_address (window_of image) image.condition_address
-    && is_count (length image.conditions)
+    && is_condition_count (length image.conditions)
     && all_after is_condition [] image.conditions
-    && is_count (length image.slots)
+    && is_slot_count (length image.slots)
     && all_after (is_slot (window_of image)) [] image.slots
     && nat_le (length image.words) image.size

@@ -14,7 +14,8 @@ use Rattle.fm_image.specs.declared.fault.ImageFault.TheVariants.{Refused, Memory
 use Rattle.fm_image.specs.declared.fault.Rule.TheVariants as rules
 use Rattle.fm_image.specs.declared.slot.Slot.{Slot}
 use Rattle.fm_image.specs.declared.window.Window.{Window}
-use Rattle.fm_image.specs.Image.{ImageOf, is_size, is_inside, is_condition_address, is_count, is_new, is_slot_address}
+use Rattle.fm_image.specs.Image.{ImageOf, is_size, is_inside, is_condition_address, is_condition_count, is_new}
+use Rattle.fm_image.specs.Image.{is_slot_address, is_slot_count}
 use Rattle.fm_image.specs.Rules.{rule_number, Fault, Parser}
 use Rattle.fm_image.specs.Fields.{place, number_at, passing, bytes_at, text_at, items_at}
 
@@ -68,13 +69,16 @@ name_at end left = passing is_name rules.Name end (text_at end) left
 abbrev pub condition_at : ℕ → List (List ℕ) → Parser (List ℕ)
 condition_at end earlier left = passing (is_new (λ other. other) earlier) rules.Repeated end (name_at end) left
 
--- how many names or slots follow
-abbrev pub count_at : ℕ → Parser ℕ
-count_at end left = passing is_count rules.Limit end (number_at end) left
+-- how many names of conditions, and how many slots, follow
+abbrev pub condition_count_at : ℕ → Parser ℕ
+condition_count_at end left = passing is_condition_count rules.Limit end (number_at end) left
+
+abbrev pub slot_count_at : ℕ → Parser ℕ
+slot_count_at end left = passing is_slot_count rules.Limit end (number_at end) left
 
 unfoldable pub conditions_at : ℕ → Parser (List (List ℕ))
 conditions_at end left = do
-  count ← count_at end left
+  count ← condition_count_at end left
   items_at (condition_at end) count.0 [] count.1
 
 -- 0, 1 or 2
@@ -114,7 +118,7 @@ slot_at end window earlier left = do
 
 unfoldable pub slots_at : ℕ → Window → Parser (List Slot)
 slots_at end window left = do
-  count ← count_at end left
+  count ← slot_count_at end left
   items_at (slot_at end window) count.0 [] count.1
 
 -- at most as many words as the window has

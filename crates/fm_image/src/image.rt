@@ -22,7 +22,7 @@ pub struct Image {
     pub flags: Flags,
     /// The address in the window of the condition word, where there is one.
     pub condition_address: Option<u32>,
-    /// The names of the conditions beside the standing ones: at most 200, all different.
+    /// The names of the conditions beside the standing ones: at most 201, all different.
     pub conditions: Vec<Name>,
     /// The variables: at most 200, their names all different.
     pub slots: Vec<Slot>,

@@ -16,6 +16,7 @@ mod writing;
 pub use fault::ImageFault;
 pub use image::Image;
 pub use law::one_spelling;
+pub use limit::is_size;
 pub use reading::read_image;
 pub use slot::Slot;
 pub use writing::write_image;

@@ -7,13 +7,14 @@ ghost use Rattle.std.specs.List.{list_any};
 ghost use Rattle.std.specs.Str.{bytes_eq};
 ghost use Rattle.fm_image.specs.Rules.{GivesExactly, Gives};
 ghost use Rattle.fm_image.specs.Fields.{place, number_at, bytes_at, text_at};
-ghost use Rattle.fm_image.specs.Reading.{opening_at, window_at, numbers_at, flags_at, condition_address_at, name_at, condition_at, count_at, conditions_at, kind_at, shape_at, slot_name_at, slot_at, slots_at, words_at, image_at, read_of, ReportsFault};
+ghost use Rattle.fm_image.specs.Reading.{opening_at, window_at, numbers_at, flags_at, condition_address_at, name_at, condition_at, condition_count_at, conditions_at, kind_at, shape_at, slot_name_at, slot_at, slot_count_at, slots_at, words_at, image_at, read_of, ReportsFault};
 
 use crate::code::{address_from, kind_from};
 use crate::fault::{ImageFault, Refusal, Rule};
 use crate::image::Image;
 use crate::limit::{
-    VERSION, is_condition_address, is_count, is_inside, is_name_length, is_size, is_slot_address,
+    VERSION, is_condition_address, is_condition_count, is_inside, is_name_length, is_size,
+    is_slot_address, is_slot_count,
 };
 use crate::slot::Slot;
 use crate::window::Window;
@@ -177,12 +178,23 @@ fn condition<'a>(
     Ok((name, rest))
 }
 
-/// How many names of conditions, or slots, follow.
-fn count(end: usize, left: &[u8]) -> Result<(u32, &[u8]), Refusal>
-    ensures { GivesExactly (λ x. (x.0, x.1.now)) result (count_at end left.now) }
+/// How many names of conditions follow.
+fn condition_count(end: usize, left: &[u8]) -> Result<(u32, &[u8]), Refusal>
+    ensures { GivesExactly (λ x. (x.0, x.1.now)) result (condition_count_at end left.now) }
 {
     let (count, rest) = number(end, left)?;
-    if !is_count(count) {
+    if !is_condition_count(count) {
+        return Err(refused(Rule::Limit, end, left));
+    }
+    Ok((count, rest))
+}
+
+/// How many slots follow.
+fn slot_count(end: usize, left: &[u8]) -> Result<(u32, &[u8]), Refusal>
+    ensures { GivesExactly (λ x. (x.0, x.1.now)) result (slot_count_at end left.now) }
+{
+    let (count, rest) = number(end, left)?;
+    if !is_slot_count(count) {
         return Err(refused(Rule::Limit, end, left));
     }
     Ok((count, rest))
@@ -192,7 +204,7 @@ fn count(end: usize, left: &[u8]) -> Result<(u32, &[u8]), Refusal>
 fn conditions(alloc: Global, end: usize, left: &[u8]) -> Result<(Vec<Name>, &[u8]), ImageFault>
     ensures { Gives (λ x. (x.0.items, x.1.now)) result (conditions_at end left.now) }
 {
-    let (count, mut rest) = count(end, left)?;
+    let (count, mut rest) = condition_count(end, left)?;
     let mut conditions = Vec::new(alloc);
     for _ in 0..count {
         let (next, after) = condition(alloc, end, &conditions, rest)?;
@@ -280,7 +292,7 @@ fn slots(
 ) -> Result<(Vec<Slot>, &[u8]), ImageFault>
     ensures { Gives (λ x. (x.0.items, x.1.now)) result (slots_at end window left.now) }
 {
-    let (count, mut rest) = count(end, left)?;
+    let (count, mut rest) = slot_count(end, left)?;
     let mut slots = Vec::new(alloc);
     for _ in 0..count {
         let (next, after) = slot(alloc, end, window, &slots, rest)?;

@@ -35,7 +35,7 @@ fn push_name(bytes: &mut Vec<u8>, name: &Name) -> Result<(), Memory>
 }
 
 fn push_conditions(bytes: &mut Vec<u8>, conditions: &[Name]) -> Result<(), Memory>
-    requires { length conditions.now ≤ 200 }
+    requires { length conditions.now ≤ 201 }
     ensures { OnOk result (bytes.new.items ≡ bytes.old.items ++ counted_bytes name_bytes conditions.now) }
 {
     push_number(bytes, conditions.len() as u32)?;

@@ -364,7 +364,7 @@ operand_limits w = by_bit (w / 2 ^ 9 % 2 == 1) refl
         below : w % 16 < 16
         below = omega arith
 
-limits : (w : ℕ) → IsInstr (decode_of w)
+pub limits : (w : ℕ) → IsInstr (decode_of w)
 limits w = (omega arith, operand_limits w)
 
 -- two words are one instruction exactly where their significant bits are equal

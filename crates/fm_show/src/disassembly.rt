@@ -51,8 +51,8 @@ impl fmt::Display for Line {
     }
 }
 
-/// The name of an operation.
-fn name_of_operation(op: Op) -> &'static str
+/// The name of an operation, as `MOVE`.
+pub fn name_of_operation(op: Op) -> &'static str
     ensures { result.now ≡ operation_name op }
 {
     match op {
@@ -75,8 +75,8 @@ fn name_of_operation(op: Op) -> &'static str
     }
 }
 
-/// The name of a store condition.
-fn name_of_condition(cc: Cc) -> &'static str
+/// The name of a store condition, as `zs`; also of `al`, which an instruction's text leaves out.
+pub fn name_of_condition(cc: Cc) -> &'static str
     ensures { result.now ≡ condition_name cc }
 {
     match cc {

@@ -9,6 +9,6 @@ mod image;
 mod listing;
 
 pub use digits::hex_digits;
-pub use disassembly::disassemble;
+pub use disassembly::{disassemble, name_of_condition, name_of_operation};
 pub use image::show_image;
 pub use listing::show_machine;
