@@ -19,6 +19,7 @@ use Rattle.gypsy_check.specs.Accepted.{IsAccepted}
 use Rattle.gypsy_space.specs.Needs.{Words, stack_words}
 use Rattle.gypsy_codegen.specs.Generated.{generated_view}
 use Rattle.gypsy_codegen.specs.Whole.{MeaningRuns}
+use Rattle.gypsy_codegen.specs.Moments.{EachMomentIsReached}
 use Rattle.gypsy_codegen.specs.Acceptable.{LimitsFit, GeneratedIsAcceptable}
 use Rattle.gypsy_codegen.specs.Text.{generated}
 use Rattle.gypsy_codegen.specs.Answers as generating
@@ -36,19 +37,25 @@ use Rattle.stack_text.specs.Results.{◌>>=◌}
 use Rattle.stack_build.proofs.ImageLimits.{generated_shows}
 use Rattle.stack_build.proofs.ImageBytes.{file_short, file_spells}
 use Rattle.stack_build.proofs.Implementing.{RunsAsMeant, image_implements}
+use Rattle.stack_build.proofs.MomentLaws.{MomentsAsMeant, keeps_moments, stays_unfinished}
 
 module _ (s : SourceOf) (sizes : Words) (base : ℕ) (accepted : IsAccepted s) (sound : IsSound (generated_view (program_of s) sizes base))
     (theorem : RunsOnProcessor (generated_view (program_of s) sizes base)) (runs : RunsAsMeant (program_of s) sizes (generated_view (program_of s) sizes base))
+    (moments : MomentsAsMeant (program_of s) sizes (generated_view (program_of s) sizes base))
     (small : (placed (generated_view (program_of s) sizes base)).size ≤ 2 ^ 20) where
   -- whatever system is named beside it
   pub image_builds : (piton : CheckedOf) → Builds s sizes record { piton = piton; image = image_of s sizes base; bytes = spelling (image_of s sizes base) }
   unfolding image_of
   image_builds piton =
       let shows = generated_shows s sizes base (generated_view (program_of s) sizes base) accepted refl in
+      let implements = image_implements s sizes base accepted sound theorem runs in
+      let keeps = keeps_moments s sizes base accepted sound theorem moments implements in
       record {
         short = file_short (generated_view (program_of s) sizes base) (shown_formals s) (shown_conditions s) sound small shows;
         spells = file_spells (generated_view (program_of s) sizes base) (shown_formals s) (shown_conditions s) sound small shows;
-        implements = image_implements s sizes base accepted sound theorem runs;
+        implements = implements;
+        moments = keeps;
+        unfinished = stays_unfinished s sizes (image_of s sizes base) keeps;
       }
 
 -- what was made by generating and linking
@@ -61,11 +68,11 @@ made_builds s sizes base piton image bytes accepted is meant theorem small image
     let same : image_of s sizes base ≡ image = ap (image_with (shown_formals s) (shown_conditions s)) (sym view) ∙ sym image_is in
     let file : spelling (image_of s sizes base) ≡ bytes = ap spelling same ∙ sym bytes_are in
     subst (λ (b : BuiltOf). Builds s sizes b) (λ i. record { piton = piton; image = same i; bytes = file i })
-    (image_builds s sizes base accepted (subst IsSound view is.sound) (subst RunsOnProcessor view theorem) (subst (RunsAsMeant (program_of s) sizes) view meant.runs) (subst (λ (v : SystemView). (placed v).size ≤ 2 ^ 20) view small) piton)
+    (image_builds s sizes base accepted (subst IsSound view is.sound) (subst RunsOnProcessor view theorem) (subst (RunsAsMeant (program_of s) sizes) view meant.runs) (subst (MomentsAsMeant (program_of s) sizes) view meant.moments) (subst (λ (v : SystemView). (placed v).size ≤ 2 ^ 20) view small) piton)
 
 -- ---- what is built of a source, and of a text
 
-module _ (meaning_runs : MeaningRuns) (acceptable : GeneratedIsAcceptable) (piton_runs : PitonRunsOnProcessor) where
+module _ (meaning_runs : MeaningRuns) (each_moment : EachMomentIsReached) (acceptable : GeneratedIsAcceptable) (piton_runs : PitonRunsOnProcessor) where
   source_builds : (s : SourceOf) (sizes : Words) (base : ℕ) → IsAccepted s → base ≤ 2 ^ 31 → IfOk (source_built s sizes base) (Builds s sizes)
   unfolding source_built linked_of
   source_builds s sizes base accepted low = by_fault (generating.size_fault (program_of s) sizes) refl
@@ -80,7 +87,8 @@ module _ (meaning_runs : MeaningRuns) (acceptable : GeneratedIsAcceptable) (pito
           let good = acceptable s sizes base accepted limits in
           let small : placed_size s sizes base ≤ 2 ^ 20 = ltb-false (2 ^ 20) (placed_size s sizes base) e in
           image_builds s sizes base accepted good.sound (piton_runs (generated_view (program_of s) sizes base) good.sound small)
-          (λ v n x c fits done. meaning_runs (program_of s) sizes base v n x c accepted.fits limits.sizes_fit fits done) small
+          (λ v n x c fits done. meaning_runs (program_of s) sizes base v n x c accepted.fits limits.sizes_fit fits done)
+          (λ v j fits. each_moment (program_of s) sizes base v j accepted.fits limits.sizes_fit fits) small
           (record { system = generated s sizes base; resolved = resolved (generated s sizes base) })
 
       by_fault : (f : Option GenFault) → generating.size_fault (program_of s) sizes ≡ f →

@@ -1,18 +1,18 @@
 -- What a meaning that is done ends with.
-use Rattle.std.proofs.Common.{◌≡◌, ◌≤◌, ◌-◌, ℕ, zero, suc, Bool, true, false, cond, eqb, List, [], length, Some, None, refl, ap, subst, ◌∙◌, arith}
-use Rattle.std.specs.Prelude.{slice_get}
+use Rattle.std.proofs.Common.{◌≡◌, ◌<◌, ◌≤◌, ◌-◌, ℕ, zero, suc, Bool, true, false, cond, eqb, List, [], ◌∷◌, length, Some, None, refl, ap, subst, ◌∙◌, arith}
+use Rattle.std.specs.Prelude.{slice_get, get_or}
 use Rattle.std.proofs.lemmas.Bool.{eqb-true}
 use Rattle.std.proofs.lemmas.Option.{slice_get-get_or}
 use Rattle.stack_text.specs.Values.{ValueOf}
 use Rattle.display_maps.specs.declared.shown.Shown.TheVariants as shown
-use Rattle.display_maps.specs.Reading.{named_or_odd, condition_of}
-use Rattle.gypsy_syntax.specs.Programs.{Leave, Routine, Declared, Program, proc_at}
+use Rattle.display_maps.specs.Reading.{named_or_odd, condition_of, space_name}
+use Rattle.gypsy_syntax.specs.Programs.{Leave, Routine, Space, Declared, Program, proc_at}
 use Rattle.gypsy_syntax.specs.ProgramFits.{ProgramFits}
 use Rattle.gypsy_space.specs.Costs.{Tally}
 use Rattle.gypsy_space.specs.Needs.{Words}
 use Rattle.gypsy_meaning.specs.Calls.{Way}
 use Rattle.gypsy_meaning.specs.Counted.{CountedDone, counted_meaning}
-use Rattle.gypsy_meaning.specs.Machine.{State, Move, Next, Ended, Full, gypsy_step, Ending, Over, go_on, run, start}
+use Rattle.gypsy_meaning.specs.Machine.{State, Move, Next, Ended, gypsy_step, Ending, Over, go_on, run, start}
 use Rattle.gypsy_meaning.specs.Kept.{VarsFit, StateFits, EndFits, MoveFits}
 use Rattle.gypsy_meaning.proofs.Keeping.{step_keeps, start_fits}
 use Rattle.gypsy_meaning.proofs.Runs.{agree}
@@ -31,7 +31,6 @@ module _ (q : Program) (sizes : Words) (fits : ProgramFits q) (x : List ValueOf)
       let values : y ≡ x = cc in
       let way : d ≡ c = cc in
       record { values = subst (VarsFit (proc_at q q.main).formals) values f.0; way = subst (EndFits q) way f.1 }
-  move_ends Full rest f later e = absurd cc
 
   run_ends : (j : ℕ) (g : State) → StateFits q g → run q sizes j g ≡ Over x c t → EndsWell q x c
   run_ends zero g f e = absurd cc
@@ -43,7 +42,7 @@ module _ (q : Program) (sizes : Words) (fits : ProgramFits q) (x : List ValueOf)
       run_ends r.0 (start q v) (start_fits q sizes fits v f) r.1
 
 -- a number from 3 on is that of a declared condition
-declared_read : (names : List (List ℕ)) (w : ℕ) → 3 ≤ w → condition_of names w ≡ named_or_odd (slice_get names (w - 3)) w
+pub declared_read : (names : List (List ℕ)) (w : ℕ) → 3 ≤ w → condition_of names w ≡ named_or_odd (slice_get names (w - 3)) w
 unfolding condition_of
 declared_read names w le = by_tests (eqb w 0) (eqb w 1) (eqb w 2) refl refl refl
   where
@@ -54,14 +53,19 @@ declared_read names w le = by_tests (eqb w 0) (eqb w 1) (eqb w 2) refl refl refl
     by_tests false false true e f g = absurd (let k = eqb-true w 2 g in omega arith)
     by_tests false false false e f g = refl
 
+-- the number of a declared condition is read as that, behind spaceerror
+pub own_read : (names : List (List ℕ)) (i : ℕ) → i < length names → condition_of (space_name ∷ names) (suc (suc (suc (suc i)))) ≡ shown.Named (get_or names i [])
+own_read names i lt =
+    let at : suc (suc (suc (suc i))) - 3 ≡ suc i = omega arith in
+    declared_read (space_name ∷ names) (suc (suc (suc (suc i)))) (omega arith)
+    ∙ ap (λ (k : ℕ). named_or_odd (slice_get (space_name ∷ names) k) (suc (suc (suc (suc i))))) at
+    ∙ ap (λ o. named_or_odd o (suc (suc (suc (suc i))))) (slice_get-get_or names i [] lt)
+
 -- the number of what a program ends with is read as that
-pub way_read : (q : Program) (names : List (List ℕ)) (c : Way) → EndFits q c → length names ≡ (proc_at q q.main).conds → condition_of names (number_of_way c) ≡ way_shown names c
+pub way_read : (q : Program) (names : List (List ℕ)) (c : Way) → EndFits q c → length names ≡ (proc_at q q.main).conds → condition_of (space_name ∷ names) (number_of_way c) ≡ way_shown names c
 unfolding condition_of
 way_read q names None f e = refl
 way_read q names (Some Leave) f e = refl
 way_read q names (Some Routine) f e = refl
-way_read q names (Some (Declared i)) f e =
-    let at : suc (suc (suc i)) - 3 ≡ i = omega arith in
-    declared_read names (suc (suc (suc i))) (omega arith)
-    ∙ ap (λ (k : ℕ). named_or_odd (slice_get names k) (suc (suc (suc i)))) at
-    ∙ ap (λ o. named_or_odd o (suc (suc (suc i)))) (slice_get-get_or names i [] (omega (arith, e, f)))
+way_read q names (Some Space) f e = refl
+way_read q names (Some (Declared i)) f e = own_read names i (omega (arith, e, f))

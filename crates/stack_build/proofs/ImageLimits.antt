@@ -1,9 +1,10 @@
 -- The image of an accepted source keeps the limits of images.
-use Rattle.std.proofs.Common.{◌≡◌, ◌<◌, ◌≤◌, ◌+◌, ◌-◌, ℕ, suc, List, [], ◌∷◌, ◌++◌, true, false, Option, length, map, flat_map, refl, sym, ap, subst, arith}
+use Rattle.std.proofs.Common.{◌≡◌, ◌<◌, ◌≤◌, ◌+◌, ◌-◌, ℕ, suc, List, [], ◌∷◌, ◌++◌, true, false, Option, Some, length, map, flat_map, refl, sym, ap, ◌∙◌, subst, arith, true≢false}
 use Rattle.std.specs.Prelude.{◌^◌, IsTrue, All}
 use Rattle.std.specs.List.{list_all, AllByRecursion, IsDistinct}
 use Rattle.std.specs.Str.{bytes_eq}
-use Rattle.std.proofs.lemmas.Bool.{and_parts, and_from, le-leb, lt-ltb}
+use Rattle.std.proofs.lemmas.Bool.{and_parts, and_from, le-leb, lt-ltb, false_from_ne_true}
+use Rattle.std.proofs.lemmas.Slice.Eq.{bytes_eq-Decides}
 use Rattle.std.proofs.lemmas.List.{length-map, map-append}
 use Rattle.std.proofs.lemmas.List.Elements.{All-head, All-tail}
 use Rattle.stack_text.specs.Names.{is_name}
@@ -15,6 +16,7 @@ use Rattle.fm_image.specs.declared.window.Window.{Window}
 use Rattle.fm_image.specs.Image.{ImageOf, window_of, is_slot_address, all_after, is_image}
 use Rattle.fm_image.proofs.LimitLaws.{from_limits}
 use Rattle.fm_image.proofs.NameLaws.{fits_window, slots_fit, conditions_fit}
+use Rattle.display_maps.specs.Reading.{space_name}
 use Rattle.piton_check.specs.Instruction.{SystemView}
 use Rattle.piton_check.specs.Sound.{IsSound}
 use Rattle.piton_machine.specs.Placed.{placed, final_pc_of, areas_start, end_of}
@@ -27,9 +29,9 @@ use Rattle.gypsy_syntax.specs.ProgramFits.{Each}
 use Rattle.gypsy_syntax.specs.Resolved.{shape_of, program_of}
 use Rattle.gypsy_check.specs.Accepted.{IsAccepted}
 use Rattle.gypsy_check.specs.Declarations.{variables_of, conditions_of, repeats}
-use Rattle.gypsy_check.specs.Rules.{type_breaches, local_breaches, condition_breaches, variable_breaches, condition_name_breaches, size_breaches, statement_breaches, procedure_breaches}
+use Rattle.gypsy_check.specs.Rules.{type_breaches, local_breaches, is_reserved, condition_breaches, variable_breaches, condition_name_breaches, size_breaches, statement_breaches, procedure_breaches}
 use Rattle.gypsy_syntax.specs.Resolved.{variable_types}
-use Rattle.gypsy_check.proofs.CleanLaws.{two, three, four}
+use Rattle.gypsy_check.proofs.CleanLaws.{two, three, four, fails}
 use Rattle.gypsy_space.specs.Needs.{Words}
 use Rattle.gypsy_codegen.specs.WordsOf.{words_of_values, zero_value}
 use Rattle.gypsy_codegen.specs.Generated.{generated_view}
@@ -77,12 +79,28 @@ formals_differ s p e =
     let all = subst Differ (mapped_front (λ (d : Decl). d.name.name) (λ (d : Decl). d.name) p.formals locals (λ d. refl)) (differ_source 4 [] (variables_of p) k.0) in
     distinct_names (map (λ (d : Decl). d.name.name) p.formals) (differ_front (map (λ (d : Decl). d.name.name) p.formals) (map (λ (n : Named). n.name) locals) all)
 
-conditions_differ : (s : SourceOf) (p : ProcOf) → procedure_breaches s p ≡ [] → IsDistinct bytes_eq (map (λ (n : Named). n.name) p.conds)
+-- no condition is declared as spaceerror
+not_space : (c : Named) → condition_breaches c ≡ [] → bytes_eq space_name c.name ≡ false
+not_space c e = false_from_ne_true (bytes_eq space_name c.name) is_not
+  where
+    is_not : bytes_eq space_name c.name ≡ true → ⊥
+    is_not k =
+        let same : space_name ≡ c.name = (bytes_eq-Decides space_name c.name).0 k in
+        true≢false (ap is_reserved same ∙ fails (is_reserved c.name) c.place 6 e)
+
+others_than_space : (cs ds : List Named) → flat_map condition_breaches (cs ++ ds) ≡ [] → AllByRecursion (λ other. bytes_eq space_name other ≡ false) (map (λ (n : Named). n.name) cs)
+others_than_space [] ds e = tt
+others_than_space (c ∷ cs) ds e =
+    let h = two (condition_breaches c) (flat_map condition_breaches (cs ++ ds)) e in
+    (not_space c h.0, others_than_space cs ds h.1)
+
+conditions_differ : (s : SourceOf) (p : ProcOf) → procedure_breaches s p ≡ [] → IsDistinct bytes_eq (conditions_in (Some p))
+unfolding IsDistinct
 conditions_differ s p e =
     let h = four (variable_breaches p) (condition_name_breaches p) (size_breaches p) (statement_breaches s p false p.body) e in
     let k = two (repeats 5 [] (conditions_of p)) (flat_map condition_breaches (conditions_of p)) h.1 in
     let all = subst Differ (map-append (λ (n : Named). n.name) p.conds p.local_conds) (differ_source 5 [] (conditions_of p) k.0) in
-    distinct_names (map (λ (n : Named). n.name) p.conds) (differ_front (map (λ (n : Named). n.name) p.conds) (map (λ (n : Named). n.name) p.local_conds) all)
+    (others_than_space p.conds p.local_conds k.1, distinct_names (map (λ (n : Named). n.name) p.conds) (differ_front (map (λ (n : Named). n.name) p.conds) (map (λ (n : Named). n.name) p.local_conds) all))
 
 all_named : {X : Type 0} (P : X → Type 0) (name : X → List ℕ) → ((x : X) → P x → is_name (name x) ≡ true) → (xs : List X) → All P xs → list_all is_name (map name xs) ≡ true
 all_named P name fits [] h = refl
@@ -126,7 +144,7 @@ system_fits s ds conditions sound small shows =
       window = and_from _ _ (and_from _ _ (and_from _ _ (le-leb 1 size (omega arith)) (le-leb size 1048576 (omega arith))) (le-leb (s.base + size) 4294967295 (omega arith))) (and_from _ _ (le-leb s.base (final_pc_of s) (omega arith)) (lt-ltb (final_pc_of s) (s.base + size) (omega arith)));
       registers = refl;
       condition_address = and_from _ _ (le-leb s.base (areas_start s) (omega arith)) (lt-ltb (areas_start s) (s.base + size) (omega arith));
-      condition_count = le-leb _ 200 shows.conditions_few;
+      condition_count = le-leb _ 201 shows.conditions_few;
       conditions = conditions_fit conditions shows.conditions_named shows.conditions_differ;
       slot_count = le-leb _ 200 (let few = shows.formals_few in let count = length-slots_from (end_of s - 1) ds in omega arith);
       slots = slots_fit (window_of image) image.slots (each_fits (window_of image) (end_of s - 1) ds shows.formals_named shows.formals_short (omega arith) (omega arith))
@@ -144,7 +162,7 @@ words_front : (a b : List Shape) → words_of a ≤ words_of (a ++ b)
 words_front [] b = omega arith
 words_front (s ∷ a) b = omega (arith, words_front a b)
 
-main_shows : (s : SourceOf) (sizes : Words) (base : ℕ) (p : ProcOf) → IsAccepted s → IsMain s p → Shows (generated_view (program_of s) sizes base) p.formals (map (λ (n : Named). n.name) p.conds)
+main_shows : (s : SourceOf) (sizes : Words) (base : ℕ) (p : ProcOf) → IsAccepted s → IsMain s p → Shows (generated_view (program_of s) sizes base) p.formals (conditions_in (Some p))
 main_shows s sizes base p accepted main =
     let q : Program = program_of s in
     let c : Proc = proc_at q q.main in
@@ -161,7 +179,7 @@ main_shows s sizes base p accepted main =
       formals_few = omega arith;
       formals_short = shorts p.formals (subst (Each (λ (s : Shape). s.length ≤ 4096)) formals here.formals);
       formals_stand = subst (λ (shapes : List Shape). words_of shapes ≤ length (words_of_values (map zero_value c.formals ++ c.locals))) formals stand;
-      conditions_named = all_named IsNamed (λ (n : Named). n.name) (λ n h. h) p.conds main.form.conds;
+      conditions_named = and_from _ _ refl (all_named IsNamed (λ (n : Named). n.name) (λ n h. h) p.conds main.form.conds);
       conditions_differ = conditions_differ s p main.rules;
       conditions_few = omega (arith, few_conds, length-map p.conds (λ (n : Named). n.name));
       area = omega arith;

@@ -25,7 +25,7 @@ use Rattle.gypsy_codegen.specs.WordsOf.{words_of_values, zero_value}
 use Rattle.gypsy_codegen.specs.Generated.{generated_view}
 use Rattle.gypsy_codegen.specs.Whole.{RunsTo, MeaningRuns}
 use Rattle.gypsy_codegen.specs.Acceptable.{GeneratedIsAcceptable}
-use Rattle.stack_build.specs.Formals.{formals_in, conditions_in, main_of}
+use Rattle.stack_build.specs.Formals.{formals_in, formal_conditions_in, conditions_in, main_of}
 use Rattle.stack_build.specs.Image.{image_with, image_of}
 use Rattle.stack_build.specs.Implements.{variable_shown, way_shown, ComesTo, Implements}
 use Rattle.stack_build.specs.Joined.{GeneratedImageImplements}
@@ -44,7 +44,7 @@ RunsAsMeant q sizes system =
 abbrev ComesAs : Option ProcOf → SystemView → List ValueOf → List ValueOf → Way → ℕ → Type 0
 ComesAs main system v x c count =
     ComesTo (image_with (formals_in main) (conditions_in main) system) v count
-    record { condition = Some (way_shown (conditions_in main) c); items = map variable_shown (zip (map (λ (d : Decl). d.name.name) (formals_in main)) x) }
+    record { condition = Some (way_shown (formal_conditions_in main) c); items = map variable_shown (zip (map (λ (d : Decl). d.name.name) (formals_in main)) x) }
 
 module _ (s : SourceOf) (sizes : Words) (base : ℕ) (accepted : IsAccepted s) (sound : IsSound (generated_view (program_of s) sizes base))
     (theorem : RunsOnProcessor (generated_view (program_of s) sizes base)) (runs : RunsAsMeant (program_of s) sizes (generated_view (program_of s) sizes base)) where
@@ -63,7 +63,7 @@ module _ (s : SourceOf) (sizes : Words) (base : ℕ) (accepted : IsAccepted s) (
       let count : length (map (λ (m : Named). m.name) p.conds) ≡ (proc_at q q.main).conds = length-map p.conds (λ (m : Named). m.name) ∙ sym (ap (λ (z : Proc). z.conds) main.at) in (
         t,
         r.1,
-        image_comes (generated_view q sizes base) sound theorem p.formals (map (λ (m : Named). m.name) p.conds) (map zero_value (proc_at q q.main).formals) v x (proc_at q q.main).locals c t
+        image_comes (generated_view q sizes base) sound theorem p.formals (conditions_in (Some p)) (map (λ (m : Named). m.name) p.conds) (map zero_value (proc_at q q.main).formals) v x (proc_at q q.main).locals c t
             zeros (subst (λ (shapes : List Shape). VarsFit shapes v) formals fits) (subst (λ (shapes : List Shape). VarsFit shapes x) formals ends.values) here.locals refl r.2
             (way_read q (map (λ (m : Named). m.name) p.conds) c ends.way count),
       )

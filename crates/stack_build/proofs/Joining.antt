@@ -38,7 +38,7 @@ use Rattle.stack_build.proofs.Initial.{is_initial}
 use Rattle.stack_build.proofs.ReadBack.{word_read, values_read}
 
 -- a sound system whose stack begins with words of values of main's formals
-module _ (s : SystemView) (sound : IsSound s) (theorem : RunsOnProcessor s) (ds : List Decl) (conditions : List (List ℕ)) (old new finals locals : List ValueOf) (c : Way) (t : Tally)
+module _ (s : SystemView) (sound : IsSound s) (theorem : RunsOnProcessor s) (ds : List Decl) (conditions names : List (List ℕ)) (old new finals locals : List ValueOf) (c : Way) (t : Tally)
     (f : VarsFit (shapes_in ds) old) (g : VarsFit (shapes_in ds) new) (h : VarsFit (shapes_in ds) finals) (l : Each ValueFits locals)
     (is : s.stack ≡ words_of_values (old ++ locals)) (run : RunsTo s (started s (words_of_values (new ++ locals))) finals c t) where
   begin : List Word
@@ -55,7 +55,7 @@ module _ (s : SystemView) (sound : IsSound s) (theorem : RunsOnProcessor s) (ds 
   base_is = comes.stands.is.base_is
 
   -- the condition
-  condition_read : condition_of conditions (number_of_way c) ≡ way_shown conditions c → condition_of conditions (word_or_zero comes.state (areas_start s)) ≡ way_shown conditions c
+  condition_read : condition_of conditions (number_of_way c) ≡ way_shown names c → condition_of conditions (word_or_zero comes.state (areas_start s)) ≡ way_shown names c
   condition_read shown =
       let laid = comes.stands.is.laid in
       let areas : Holds s.base comes.state.memory (areas_start s) (number_of_way c ∷ []) =
@@ -90,8 +90,8 @@ module _ (s : SystemView) (sound : IsSound s) (theorem : RunsOnProcessor s) (ds 
       address : (top end all a b n : ℕ) → top + all ≡ end → all ≡ a + b → b ≡ n + 0 → end - 1 ≡ top + a + n - 1
       address top end all a b n e e1 e2 = omega arith
 
-  pub image_comes : condition_of conditions (number_of_way c) ≡ way_shown conditions c →
-      ComesTo (image_with ds conditions s) new t.count record { condition = Some (way_shown conditions c); items = map variable_shown (zip (map (λ (d : Decl). d.name.name) ds) finals) }
+  pub image_comes : condition_of conditions (number_of_way c) ≡ way_shown names c →
+      ComesTo (image_with ds conditions s) new t.count record { condition = Some (way_shown names c); items = map variable_shown (zip (map (λ (d : Decl). d.name.name) ds) finals) }
   image_comes shown =
       let machine = image_loaded s (known s sound) ds old new locals f g l is conditions in
       record {

@@ -10,6 +10,8 @@ pub mod Ending
 pub mod Joining
 pub mod MainLaws
 pub mod Implementing
+pub mod MomentLaws
+pub mod ReadingLaws
 pub mod ImageLimits
 pub mod ShownLaws
 pub mod PartsLaws

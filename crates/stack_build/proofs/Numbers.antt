@@ -21,7 +21,7 @@ truth_number A zero h = refl
 truth_number A (suc zero) h = refl
 truth_number A (suc (suc n)) h = absurd (no_bit n h)
 
-item_number : (A : Addresses) (k : Kind) (z : ℤ) → is_in_range k z ≡ true → word_number A (word_of_item k z) ≡ word_of_int z
+pub item_number : (A : Addresses) (k : Kind) (z : ℤ) → is_in_range k z ≡ true → word_number A (word_of_item k z) ≡ word_of_int z
 item_number A Integer z h = refl
 item_number A Boolean (pos n) h = truth_number A n h
 item_number A Boolean (negsuc n) h = absurd (true≢false (sym h))

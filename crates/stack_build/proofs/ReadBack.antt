@@ -36,7 +36,7 @@ item_fits Boolean (negsuc n) h = absurd (true≢false (sym h))
 item_fits Character (pos n) h = let le = leb-true n 127 h in (h, lt-ltb n 2147483648 (omega (arith, le)))
 item_fits Character (negsuc n) h = absurd (true≢false (sym h))
 
-items_fit : (k : Kind) (items : List ℤ) → list_all (is_in_range k) items ≡ true → (list_all (λ item. is_item k item) items ≡ true) × (list_all is_int items ≡ true)
+pub items_fit : (k : Kind) (items : List ℤ) → list_all (is_in_range k) items ≡ true → (list_all (λ item. is_item k item) items ≡ true) × (list_all is_int items ≡ true)
 items_fit k [] h = (refl, refl)
 items_fit k (z ∷ items) h =
     let p = and_parts (is_in_range k z) (list_all (is_in_range k) items) h in

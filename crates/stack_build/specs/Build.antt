@@ -30,6 +30,7 @@ use Rattle.stack_build.specs.declared.fault.BuildFault.TheVariants.{Text, Form, 
 use Rattle.stack_build.specs.declared.fault.BuildFault.TheVariants.{Words as TooManyWords, Memory}
 use Rattle.stack_build.specs.Image.{image_of}
 use Rattle.stack_build.specs.Implements.{Implements}
+use Rattle.stack_build.specs.Moments.{KeepsMoments, StaysUnfinished}
 
 -- a checked Piton system, an image, and the bytes of its file
 pub record BuiltOf : Type 0 where
@@ -115,12 +116,14 @@ compiled text ctrl temp base = source_in text >>= λ source. generated_by (gener
 unfoldable pub built : List ℕ → ℕ → ℕ → ℕ → Result BuiltOf BuildFault
 built text ctrl temp base = source_in text >>= λ source. source_built source (stack_words temp ctrl) base
 
--- What was built of a source, for stacks of these sizes: the image does what the source means, and its file of at most
--- 8,388,608 bytes spells the image.
+-- What was built of a source, for stacks of these sizes: the image does what the source means, and keeps to it at every moment, so
+-- that it is unfinished at every budget where the source never ends; and its file of at most 8,388,608 bytes spells the image.
 pub record Builds (source : SourceOf) (sizes : Words) (built : BuiltOf) : Type 0 where
   pub short : length built.bytes ≤ 8388608
   pub spells : Spelled built.bytes built.image
   pub implements : Implements built.image source sizes
+  pub moments : KeepsMoments built.image source sizes
+  pub unfinished : StaysUnfinished built.image source sizes
 
 -- the same of the source in a text
 pub record BuildsText (text : List ℕ) (ctrl temp : ℕ) (built : BuiltOf) : Type 0 where

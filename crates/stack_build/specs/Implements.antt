@@ -8,23 +8,24 @@ use Rattle.fm_image.specs.Image.{ImageOf}
 use Rattle.fm_loader.specs.Loaded.{loaded}
 use Rattle.display_maps.specs.declared.shown.Shown.{Shown}
 use Rattle.display_maps.specs.declared.shown.Shown.TheVariants as shown
-use Rattle.display_maps.specs.Reading.{ReadingOf, reading}
+use Rattle.display_maps.specs.Reading.{ReadingOf, reading, space_name}
 use Rattle.display_maps.specs.ValueReading.{value_shown}
 use Rattle.gypsy_syntax.specs.Sources.{SourceOf}
-use Rattle.gypsy_syntax.specs.Programs.{Leave, Routine, Declared, proc_at}
+use Rattle.gypsy_syntax.specs.Programs.{Leave, Routine, Space, Declared, proc_at}
 use Rattle.gypsy_syntax.specs.Resolved.{program_of}
 use Rattle.gypsy_space.specs.Needs.{Words}
 use Rattle.gypsy_meaning.specs.Calls.{Way}
 use Rattle.gypsy_meaning.specs.Meaning.{Done, meaning}
 use Rattle.gypsy_meaning.specs.Counted.{instruction_count}
 use Rattle.gypsy_meaning.specs.Kept.{VarsFit}
-use Rattle.stack_build.specs.Formals.{shown_names, shown_conditions}
+use Rattle.stack_build.specs.Formals.{shown_names, formal_conditions}
 
--- what a run ends with, as the word of its number is read: a declared condition has its name
+-- what a run ends with, as the word of its number is read: spaceerror has its name, and each declared condition its own among these
 abbrev pub way_shown : List (List ℕ) → Way → Shown
 way_shown names None = shown.Normal
 way_shown names (Some Leave) = shown.Leave
 way_shown names (Some Routine) = shown.Routine
+way_shown names (Some Space) = shown.Named space_name
 way_shown names (Some (Declared i)) = shown.Named (get_or names i [])
 
 -- a formal with its value, as memory is read
@@ -34,7 +35,7 @@ variable_shown variable = (variable.0, value_shown variable.1)
 -- main's formals with these values, and what the run ended with, as memory is read
 abbrev pub meaning_shown : SourceOf → List ValueOf → Way → ReadingOf
 meaning_shown source values way =
-    record { condition = Some (way_shown (shown_conditions source) way); items = map variable_shown (zip (shown_names source) values) }
+    record { condition = Some (way_shown (formal_conditions source) way); items = map variable_shown (zip (shown_names source) values) }
 
 -- a value of its type for each formal of main
 abbrev pub FitsFormals : SourceOf → List ValueOf → Type 0

@@ -1,6 +1,8 @@
 -- what is promised
 pub mod Formals
 pub mod Implements
+pub mod Moments
+pub mod SourceMaps
 pub mod Image
 pub mod PlacedWords
 pub mod Build

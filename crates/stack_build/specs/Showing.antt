@@ -19,7 +19,7 @@ AreShort ds = Each (λ (d : Decl). (shape_of d.shape).length ≤ 4096) ds
 abbrev pub shapes_in : List Decl → List Shape
 shapes_in ds = map (λ (d : Decl). shape_of d.shape) ds
 
--- at most 200 formals and conditions of different names, and the stack and the first area of the system have their words
+-- at most 200 formals and 201 conditions of different names, and the stack and the first area of the system have their words
 pub record Shows (system : SystemView) (ds : List Decl) (conditions : List (List ℕ)) : Type 0 where
   pub formals_named : list_all is_name (map (λ (d : Decl). d.name.name) ds) ≡ true
   pub formals_differ : IsDistinct bytes_eq (map (λ (d : Decl). d.name.name) ds)
@@ -28,5 +28,5 @@ pub record Shows (system : SystemView) (ds : List Decl) (conditions : List (List
   pub formals_stand : words_of (shapes_in ds) ≤ length system.stack
   pub conditions_named : list_all is_name conditions ≡ true
   pub conditions_differ : IsDistinct bytes_eq conditions
-  pub conditions_few : length conditions ≤ 200
+  pub conditions_few : length conditions ≤ 201
   pub area : 1 ≤ areas_size system.areas

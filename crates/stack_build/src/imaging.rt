@@ -1,5 +1,6 @@
 //! The image of a source whose system was generated.
-ghost use Rattle.std.specs.Prelude.{◌≡◌, ◌≤◌, ◌^◌, IfOk, IfErr, map};
+ghost use Rattle.std.specs.Prelude.{◌≡◌, ◌≤◌, ◌^◌, ◌∷◌, IfOk, IfErr, map};
+ghost use Rattle.display_maps.specs.Reading.{space_name};
 ghost use Rattle.piton_check.specs.Answers.{IsChecked};
 ghost use Rattle.piton_machine.specs.Fits.{system_in};
 ghost use Rattle.piton_machine.specs.Placed.{placed};
@@ -11,7 +12,8 @@ ghost use Rattle.stack_build.specs.Formals.{shown_formals, shown_conditions};
 ghost use Rattle.stack_build.specs.Image.{slots_from, image_with};
 ghost use Rattle.stack_build.specs.Showing.{AreShort, Shows};
 
-use crate::shown::{shown_conditions, shown_formals};
+use crate::shown::{formal_conditions, shown_formals};
+use display_maps::space_name;
 use fm_image::{Image, Slot};
 use fm_words::Flags;
 use gypsy_syntax::{Decl, Source, TypeText};
@@ -56,11 +58,12 @@ pub fn slots_from(alloc: Global, address: u32, formals: &[Decl]) -> Result<Vec<S
     Ok(slots)
 }
 
-/// The names.
+/// The names of spaceerror and of these conditions.
 fn names(alloc: Global, conditions: &[Named]) -> Result<Vec<Name>, Memory>
-    ensures { IfOk result (λ names. names.items ≡ map (λ n. n.name) conditions.now) }
+    ensures { IfOk result (λ names. names.items ≡ space_name ∷ map (λ n. n.name) conditions.now) }
 {
     let mut names = Vec::new(alloc);
+    names.push(space_name(alloc)?)?;
     for condition in conditions {
         names.push(condition.name.clone()?)?;
     }
@@ -95,7 +98,7 @@ pub fn image(alloc: Global, source: &Source, piton: &Checked) -> Result<Image, L
         registers,
         flags: Flags::NONE,
         condition_address: Some(parts.areas_start as u32),
-        conditions: names(alloc, shown_conditions(source))?,
+        conditions: names(alloc, formal_conditions(source))?,
         slots: slots_from(alloc, bottom as u32, shown_formals(source))?,
         words,
     })

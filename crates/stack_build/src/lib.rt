@@ -20,6 +20,6 @@ pub use building::{Built, accept, build, build_accepted, compile};
 pub use built_starts::{ImageStart, SystemStart, start_image, start_system};
 pub use fault::BuildFault;
 pub use formals::read_formals;
-pub use law::{builds_implement, images_implement, placed_are_words};
+pub use law::{builds_implement, images_implement, moments_are_read, placed_are_words};
 pub use meaning_starts::start_meaning;
 pub use start_fault::StartFault;

@@ -1,10 +1,10 @@
-//! What an image shows of a source: the formals of its main procedure, and its formal conditions.
+//! What an image shows of a source: the formals of its main procedure, spaceerror, and its formal conditions.
 ghost use Rattle.std.specs.Prelude.{◌≡◌, map};
 ghost use Rattle.std.specs.List.{find};
 ghost use Rattle.std.specs.Option.{option_map};
 ghost use Rattle.std.specs.Str.{bytes_eq};
 ghost use Rattle.gypsy_syntax.specs.SourceView.{proc_of, source_of};
-ghost use Rattle.stack_build.specs.Formals.{main_of, shown_formals, shown_conditions};
+ghost use Rattle.stack_build.specs.Formals.{formal_conditions, main_of, shown_formals};
 
 use gypsy_syntax::{Decl, Proc, Source};
 use stack_text::{Name, Named};
@@ -34,8 +34,8 @@ pub fn shown_formals(source: &Source) -> &[Decl]
 }
 
 /// The formal conditions of the main procedure.
-pub fn shown_conditions(source: &Source) -> &[Named]
-    ensures { map (λ n. n.name) result.now ≡ shown_conditions (source_of source.now) }
+pub fn formal_conditions(source: &Source) -> &[Named]
+    ensures { map (λ n. n.name) result.now ≡ formal_conditions (source_of source.now) }
 {
     match main_of(source) {
         Some(main) => main.conds.as_slice(),

@@ -1,4 +1,5 @@
-use Rattle.std.proofs.Common.{◌≡◌, ◌-◌, ◌∙◌, ap, List, arith}
+use Rattle.std.proofs.Common.{◌≡◌, ◌-◌, ◌∙◌, ap, ℕ, List, ◌∷◌, arith}
+use Rattle.display_maps.specs.Reading.{space_name}
 use Rattle.gypsy_syntax.specs.declared.literal.Decl.{Decl}
 use Rattle.gypsy_syntax.specs.SourceView.{source_of}
 use Rattle.stack_build.specs.Formals.{shown_formals, shown_conditions}
@@ -16,7 +17,7 @@ pub invariant_of-result : goal.invariant_of-result
 invariant_of-result c =
     let linked = c.in_ok-base.ensures in
     let source = source_of c.args.source.now in
-    let names : c.in_ok-names.field-0.items ≡ shown_conditions source = c.in_ok-names.ensures ∙ c.shown_conditions.ensures in
+    let names : c.in_ok-names.field-0.items ≡ shown_conditions source = c.in_ok-names.ensures ∙ ap (λ (names : List (List ℕ)). space_name ∷ names) c.formal_conditions.ensures in
     let slots : c.in_ok-slots_from.field-0.items ≡ slots_from (c.layout-parts.result.end - 1) (shown_formals source) =
     c.in_ok-slots_from.ensures ∙ ap (λ (ds : List Decl). slots_from (c.layout-parts.result.end - 1) ds) c.shown_formals.ensures in
     parts_fit c.args.piton.now (shown_formals source) (shown_conditions source) c.requires.checked linked.small c.requires.shows c.layout-parts.result _ _ _ _ _ _ _ c.layout-parts.ensures linked.base linked.size linked.final_pc linked.registers linked.words names slots
