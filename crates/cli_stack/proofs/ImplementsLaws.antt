@@ -46,6 +46,8 @@ module _ (files : Files) (source text : List ℕ) (control temporary : ℕ) (sto
         short = builds.builds.short;
         spells = builds.builds.spells;
         implements = builds.builds.implements;
+        moments = builds.builds.moments;
+        unfinished = builds.builds.unfinished;
       })
 
 go_holds : BuiltImplements → (watches : List Watching) (files : Files) (source values image : List ℕ) (control temporary budget : ℕ) (first second : Result (List ℕ) EarlyEnd) (stored bytes : List ℕ)

@@ -1,4 +1,5 @@
 pub mod CompletesLaws
+pub mod EndlessLaws
 pub mod ImplementsLaws
 pub mod KnownLaws
 pub mod LinkedLaws

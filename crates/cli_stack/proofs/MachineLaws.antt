@@ -138,7 +138,6 @@ piton_run_none (Err verdict) limit = refl
 mean_end_none : (source : SourceOf) (limit : ℕ) (r : MeanRun) (seen : MeanSeen) → NoMachine (mean_end_reply source limit r seen)
 mean_end_none source limit mean_run.Ended seen = refl
 mean_end_none source limit mean_run.Spent seen = refl
-mean_end_none source limit (mean_run.NoRoom place) seen = refl
 
 mean_started_none : (source : SourceOf) (limit : ℕ) (found : Result MeanSeen StartFault) → NoMachine (mean_started_reply source limit found)
 unfolding mean_run_reply

@@ -106,7 +106,6 @@ module _ (x : List ValueOf) (c : Way) where
       → IsEnd (ran_on m v (run_of limit)) x c
   go_further moved.Moved v k limit rest ends = rest v ends
   go_further moved.Ended v k limit rest ends = ends
-  go_further (moved.NoRoom place) v k limit rest ends = ends
 
   over_already : (limit : ℕ) (v : Seen) (s : Stage) → IsEnd (record { run = end_by s; seen = v }) x c → IsEnd (ran_on (answer_from v s) (left_from v s) (run_of limit)) x c
   over_already limit v (Running g) ends = absurd (let never : run.Spent ≡ run.Ended = ends.run in cc)
@@ -129,7 +128,6 @@ module _ (source : SourceOf) (sizes : Words) (values : List ValueOf) (limit : �
       → (finals : List ValueOf) × (way : Way) × Told source sizes values finals way (mean_end_reply source limit a w)
   by_run run.Ended w agrees same e = by_stage run.Ended w w.stage refl refl agrees same
   by_run run.Spent w agrees same e = absurd cc
-  by_run (run.NoRoom place) w agrees same e = absurd cc
 
   -- what is told is a meaning
   run_told : (mean_run_reply source (opening (program_of source) sizes values) limit).verdict ≡ verdict.Done

@@ -167,7 +167,6 @@ build_alone (Ok built) size = absurd cc
 mean_end_alone : (source : SourceOf) (limit : ℕ) (r : MeanRun) (seen : MeanSeen) → SizeAlone (mean_end_reply source limit r seen)
 mean_end_alone source limit mean_run.Ended seen size = absurd cc
 mean_end_alone source limit mean_run.Spent seen size = absurd cc
-mean_end_alone source limit (mean_run.NoRoom place) seen size = absurd cc
 
 mean_started_alone : (source : SourceOf) (limit : ℕ) (found : Result MeanSeen StartFault) → SizeAlone (mean_started_reply source limit found)
 unfolding mean_run_reply
@@ -181,7 +180,6 @@ mean_alone (Ok source) sizes values limit size = mean_started_alone source limit
 -- a script ends with no size
 script_end_no_size : (run : LevelOf) (e : ScriptEnd) → is_size (end_verdict run e) ≡ false
 script_end_no_size run end.Done = refl
-script_end_no_size run (end.NoRoom place after) = refl
 script_end_no_size run (end.Error kind program place after) = by_name (program_named run program)
   where
     by_name : (name : Option (List ℕ)) → is_size (error_verdict kind name place after) ≡ false

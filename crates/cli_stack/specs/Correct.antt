@@ -11,6 +11,7 @@ use Rattle.gypsy_space.specs.Needs.{Words, stack_words}
 use Rattle.gypsy_meaning.specs.Calls.{Way}
 use Rattle.stack_build.specs.Build.{BuiltOf, built, source_in}
 use Rattle.stack_build.specs.Implements.{meaning_shown, FitsFormals, Finishes, Implements}
+use Rattle.stack_build.specs.Moments.{KeepsMoments, StaysUnfinished}
 use Rattle.command_line.specs.declared.command.Command.{Command}
 use Rattle.command_line.specs.declared.command.Command.TheVariants.{Mean, Pit, Build, Run, Go, Debug, Big}
 use Rattle.command_line.specs.declared.role.Role.{Role}
@@ -40,7 +41,8 @@ sizes_of _ = None
 
 -- 1. What is stored.
 
--- the bytes are an image file that can be read again, and its image implements the source in a file, for stacks of these sizes
+-- the bytes are an image file that can be read again, and its image implements the source in a file, for stacks of these sizes, and
+-- keeps to it at every moment
 pub record HoldsImplementation (files : Files) (name : List ℕ) (sizes : Words) (bytes : List ℕ) : Type 0 where
   pub text : List ℕ
   pub there : file_at files name ≡ Some text
@@ -50,6 +52,8 @@ pub record HoldsImplementation (files : Files) (name : List ℕ) (sizes : Words)
   pub short : length bytes ≤ limit_of Image
   pub spells : Spelled bytes image
   pub implements : Implements image source sizes
+  pub moments : KeepsMoments image source sizes
+  pub unfinished : StaysUnfinished image source sizes
 
 -- who reads a source and stores an image has sizes of stacks, and stores an implementation of the source for them
 abbrev pub StoresImplementation : Command → Files → Option (List ℕ × List ℕ) → Type 0

@@ -21,7 +21,7 @@ use Rattle.stack_build.specs.Starts.{gypsy_start, system_start, image_start}
 use Rattle.command_line.specs.declared.words.reader.Level.{Level}
 use Rattle.command_line.specs.declared.words.reader.Level.TheVariants.{Gypsy, Piton, Fm9001}
 use Rattle.cli_stack.specs.declared.reply.Verdict.{Verdict}
-use Rattle.cli_stack.specs.declared.reply.Verdict.TheVariants.{Done, Usage, Outside, NoRoom, Error, Script}
+use Rattle.cli_stack.specs.declared.reply.Verdict.TheVariants.{Done, Usage, Outside, Error, Script}
 use Rattle.cli_stack.specs.Replies.{ReplyOf, verdict_alone}
 use Rattle.cli_stack.specs.SourceText.{accepted_in, start_verdict}
 
@@ -64,7 +64,6 @@ error_verdict kind (Some name) place after = Error kind name place after
 -- how the command ends with its script
 abbrev pub end_verdict : LevelOf → ScriptEnd → Verdict
 end_verdict run end.Done = Done
-end_verdict run (end.NoRoom place after) = NoRoom place after
 end_verdict run (end.Error kind program place after) = error_verdict kind (program_named run program) place after
 end_verdict run (end.Outside address after) = Outside address after
 end_verdict run (end.NoneWaits line) = Script 4 line

@@ -4,6 +4,7 @@ pub mod Correct
 pub mod Means
 pub mod Linked
 pub mod Completes
+pub mod Endless
 pub mod Answer
 pub mod World
 pub mod Replies

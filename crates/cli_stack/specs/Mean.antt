@@ -14,7 +14,7 @@ use Rattle.stack_build.specs.declared.start_fault.StartFault.{StartFault}
 use Rattle.stack_build.specs.Starts.{gypsy_start}
 use Rattle.stack_text.specs.Lines.{line}
 use Rattle.cli_stack.specs.declared.reply.Verdict.{Verdict}
-use Rattle.cli_stack.specs.declared.reply.Verdict.TheVariants.{Unfinished, NoRoom}
+use Rattle.cli_stack.specs.declared.reply.Verdict.TheVariants.{Unfinished}
 use Rattle.cli_stack.specs.Replies.{ReplyOf, verdict_alone, all_said}
 use Rattle.cli_stack.specs.SourceText.{accepted_in, start_verdict}
 
@@ -32,7 +32,6 @@ ended_text source seen =
 abbrev pub mean_end_reply : SourceOf → ℕ → MeanRun → Seen → ReplyOf
 mean_end_reply source limit run.Ended seen = all_said (ended_text source seen)
 mean_end_reply source limit run.Spent seen = verdict_alone (Unfinished limit)
-mean_end_reply source limit (run.NoRoom place) seen = verdict_alone (NoRoom place seen.steps)
 
 abbrev pub mean_ran_reply : SourceOf → ℕ → Ran → ReplyOf
 mean_ran_reply source limit ran = mean_end_reply source limit ran.run ran.seen

@@ -17,7 +17,7 @@ use Rattle.cli_stack.specs.declared.reply.SizeOf.{SizeOf}
 use Rattle.cli_stack.specs.declared.reply.SizeOf.TheVariants.{Control, Temporary, Words}
 use Rattle.cli_stack.specs.declared.reply.Verdict.{Verdict}
 use Rattle.cli_stack.specs.declared.reply.Verdict.TheVariants.{Done, Usage, Refused, Values, Image, Unfinished}
-use Rattle.cli_stack.specs.declared.reply.Verdict.TheVariants.{Outside, Error, NoRoom, Script, Size}
+use Rattle.cli_stack.specs.declared.reply.Verdict.TheVariants.{Outside, Error, Script, Size}
 use Rattle.cli_stack.specs.declared.reply.Reply.{Reply}
 
 -- the letter of a rule
@@ -60,7 +60,6 @@ status_of (Image rule place) = status.Image
 status_of (Unfinished limit) = status.Unfinished
 status_of (Outside address count) = status.Outside
 status_of (Error kind program place count) = status.Error
-status_of (NoRoom place count) = status.NoRoom
 status_of (Script rule number) = status.Script
 status_of (Size of need) = status.Size
 
@@ -76,7 +75,6 @@ verdict_line (Unfinished limit) = line (codes "unfinished " ++ decimal limit)
 verdict_line (Outside address count) = line (codes "outside " ++ hex_digits address ++ codes " after " ++ decimal count)
 verdict_line (Error kind program place count) =
     line (codes "error " ++ kind_text kind ++ codes " at " ++ program ++ codes " " ++ decimal place ++ codes " after " ++ decimal count)
-verdict_line (NoRoom place count) = line (codes "noroom at " ++ decimal place ++ codes " after " ++ decimal count)
 verdict_line (Script rule number) = line (codes "script D" ++ decimal rule ++ codes " at line " ++ decimal number)
 verdict_line (Size of need) = line (codes "size " ++ size_of_text of ++ codes " " ++ decimal need)
 

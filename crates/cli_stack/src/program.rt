@@ -2,6 +2,7 @@
 ghost use Rattle.std.specs.Prelude.{map};
 ghost use Rattle.level_debuggers.specs.Tallies.{watching};
 ghost use Rattle.command_line.specs.Words.{spelled};
+ghost use Rattle.cli_stack.specs.Endless.{EndlessStaysOn};
 ghost use Rattle.cli_stack.specs.World.{world};
 ghost use Rattle.cli_stack.specs.Promises.{Promises};
 
@@ -30,10 +31,13 @@ pub fn cli<S: Shelf, K: Sink>(
     kept: &mut Option<Machine>,
     watches: Vec<Box<dyn Watch>>,
 ) -> u8
-    ensures { Promises (spelled words.now) (map (λ w. watching (rule_of w) (tally_of w)) watches.items)
+    ensures promises { Promises (spelled words.now) (map (λ w. watching (rule_of w) (tally_of w)) watches.items)
         (world (S.files shelf.old) (S.counts shelf.old) (K.taken out.old) (K.faults out.old) kept.old)
         (world (S.files shelf.new) (S.counts shelf.new) (K.taken out.new) (K.faults out.new) kept.new)
         result }
+    // Where a source never ends, the answer is `unfinished`, whatever the budget.
+    ensures endless { EndlessStaysOn (spelled words.now) (map (λ w. watching (rule_of w) (tally_of w)) watches.items)
+        (S.files shelf.old) }
 {
     builds_implement();
     placed_are_words();

@@ -66,11 +66,6 @@ pub enum Verdict {
         place: u32,
         count: u64,
     },
-    /// After so many steps of a source's meaning the stacks have no room for a call, at a place of the source.
-    NoRoom {
-        place: u32,
-        count: u64,
-    },
     /// A line of the script breaks a rule of scripts, D1 to D6. Lines are counted from 1.
     Script {
         rule: u8,
@@ -156,13 +151,6 @@ fn outside_line(alloc: Global, address: u32, count: u64) -> Result<Vec<u8>, Memo
     Ok(format!(in alloc; "outside {address} after {count}\n")?.into_bytes())
 }
 
-/// The line of a call without room.
-fn no_room_line(alloc: Global, place: u32, count: u64) -> Result<Vec<u8>, Memory>
-    ensures { IfOk result (λ line. line.items ≡ verdict_line (Verdict.NoRoom place count)) }
-{
-    Ok(format!(in alloc; "noroom at {place} after {count}\n")?.into_bytes())
-}
-
 /// The line of a script that breaks a rule.
 fn script_line(alloc: Global, rule: u8, line: u32) -> Result<Vec<u8>, Memory>
     ensures { IfOk result (λ text. text.items ≡ verdict_line (Verdict.Script rule line)) }
@@ -225,7 +213,6 @@ impl Verdict {
             Verdict::Unfinished { .. } => Status::Unfinished,
             Verdict::Outside { .. } => Status::Outside,
             Verdict::Error { .. } => Status::Error,
-            Verdict::NoRoom { .. } => Status::NoRoom,
             Verdict::Script { .. } => Status::Script,
             Verdict::Size { .. } => Status::Size,
         }
@@ -253,7 +240,6 @@ impl Verdict {
                 place,
                 count,
             } => error_line(alloc, *kind, program, *place, *count),
-            Verdict::NoRoom { place, count } => no_room_line(alloc, *place, *count),
             Verdict::Script { rule, line } => script_line(alloc, *rule, *line),
             Verdict::Size { of, need } => size_line(alloc, *of, *need),
         }

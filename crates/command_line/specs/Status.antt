@@ -5,7 +5,7 @@ use Rattle.std.specs.declared.io.Error.{Error as IoError}
 use Rattle.std.specs.declared.io.ErrorKind.{ErrorKind}
 use Rattle.std.specs.declared.io.ErrorKind.TheVariants as kind
 use Rattle.command_line.specs.declared.status.Status.{Status}
-use Rattle.command_line.specs.declared.status.Status.TheVariants.{Done, Usage, Refused, Values, Image, Unfinished, Outside, NoRoom, Error}
+use Rattle.command_line.specs.declared.status.Status.TheVariants.{Done, Usage, Refused, Values, Image, Unfinished, Outside, Error}
 use Rattle.command_line.specs.declared.status.Status.TheVariants.{Missing, ShelfFault, SinkFault, Size, Script, OutOfMemory, NoWords}
 
 abbrev pub status_code : Status → ℕ
@@ -16,7 +16,6 @@ status_code Values = 3
 status_code Image = 4
 status_code Unfinished = 5
 status_code Outside = 6
-status_code NoRoom = 7
 status_code Error = 8
 status_code Missing = 9
 status_code ShelfFault = 10

@@ -21,8 +21,6 @@ pub enum Status {
     Unfinished,
     /// The next instruction needs an address outside the window.
     Outside,
-    /// The stacks have no room for a call.
-    NoRoom,
     /// A run of Piton met an error.
     Error,
     /// A file that is read is not there.
@@ -57,7 +55,6 @@ impl Status {
             Status::Image => 4,
             Status::Unfinished => 5,
             Status::Outside => 6,
-            Status::NoRoom => 7,
             Status::Error => 8,
             Status::Missing => 9,
             Status::ShelfFault => 10,

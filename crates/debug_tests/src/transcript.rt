@@ -51,9 +51,6 @@ fn push_error(
 fn push_end(alloc: Global, text: &mut Vec<u8>, end: ScriptEnd) -> Result<(), AllocError> {
     match end {
         ScriptEnd::Done => Ok(()),
-        ScriptEnd::NoRoom { place, after } => {
-            push_line(alloc, text, b"noroom", &[u64::from(place), after])
-        }
         ScriptEnd::Error {
             kind,
             program,

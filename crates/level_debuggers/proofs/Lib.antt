@@ -3,5 +3,4 @@ pub mod WalkLaws
 pub mod TakenLaws
 pub mod ElementLaws
 pub mod AreaLaws
-pub mod GypsyLaws
 pub mod FollowLaws

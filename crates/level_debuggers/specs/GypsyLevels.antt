@@ -4,13 +4,10 @@ use Rattle.std.specs.Fmt.{decimal}
 use Rattle.stack_text.specs.Lines.{line}
 use Rattle.display_maps.specs.Running.{run_lines}
 use Rattle.gypsy_syntax.specs.Sources.{SourceOf}
-use Rattle.gypsy_meaning.specs.declared.answers.Moved.{Moved}
-use Rattle.gypsy_meaning.specs.declared.answers.Moved.TheVariants as moved
-use Rattle.gypsy_meaning.specs.Seen.{Seen, answer_of, left_of, is_over, place_at, depth_at, values_at}
+use Rattle.gypsy_meaning.specs.Seen.{Seen, left_of, is_over, place_at, depth_at, values_at}
 use Rattle.gypsy_meaning.specs.Shown.{condition_at, names_at}
 use Rattle.level_debuggers.specs.declared.watch.Event.{Event}
-use Rattle.level_debuggers.specs.declared.advance.Stop.TheVariants as stop
-use Rattle.level_debuggers.specs.Steps.{Next, Over, Stops, Makes}
+use Rattle.level_debuggers.specs.Steps.{Next, Over, Makes}
 
 -- a source, and a run of it
 pub record GypsyLevelOf : Type 0 where
@@ -27,17 +24,12 @@ gypsy_event v = record {
 abbrev pub gypsy_made : GypsyLevelOf → Next GypsyLevelOf
 gypsy_made level = Makes (gypsy_event level.seen) (record level { seen = left_of level.seen })
 
-abbrev pub gypsy_by : GypsyLevelOf → Moved → Next GypsyLevelOf
-gypsy_by level moved.Moved = gypsy_made level
-gypsy_by level moved.Ended = gypsy_made level
-gypsy_by level (moved.NoRoom place) = Stops (stop.NoRoom place)
-
 abbrev pub gypsy_over : GypsyLevelOf → Bool
 gypsy_over level = is_over level.seen.stage
 
 -- over where main has ended; or else the item on top
 abbrev pub gypsy_next : GypsyLevelOf → Next GypsyLevelOf
-gypsy_next level = if gypsy_over level then Over else gypsy_by level (answer_of level.seen)
+gypsy_next level = if gypsy_over level then Over else gypsy_made level
 
 -- ---- what is shown
 

@@ -50,7 +50,6 @@ run_text refused = []
 abbrev pub run_end : SessionRun → Option ScriptEnd
 run_end (run.Moved count) = None
 run_end (run.Ended count) = None
-run_end (run.NoRoom place after) = Some (end.NoRoom place after)
 run_end (run.Error kind program place after) = Some (end.Error kind program place after)
 run_end (run.Outside address after) = Some (end.Outside address after)
 

@@ -48,7 +48,6 @@ after_walk s walk = record s {
 
 -- a refusal, after so many steps of the session
 abbrev pub refused_after : ℕ → Stop → SessionRun
-refused_after steps (stop.NoRoom place) = run.NoRoom place steps
 refused_after steps (stop.Error kind program place) = run.Error kind program place steps
 refused_after steps (stop.Outside address) = run.Outside address steps
 

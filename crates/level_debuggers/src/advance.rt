@@ -7,10 +7,6 @@ use piton_machine::ErrorKind;
 /// Why the next step of a run is refused.
 #[derive(Clone, Copy)]
 pub(crate) enum Stop {
-    /// A call has no room.
-    NoRoom {
-        place: u32,
-    },
     /// An error of Piton's machine, in a program, by its position, at a place.
     Error {
         kind: ErrorKind,
@@ -32,10 +28,6 @@ impl Stop {
         ensures { result ≡ refused_after steps self }
     {
         match self {
-            Stop::NoRoom { place } => SessionRun::NoRoom {
-                place,
-                after: steps,
-            },
             Stop::Error {
                 kind,
                 program,

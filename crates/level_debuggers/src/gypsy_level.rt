@@ -1,10 +1,10 @@
 //! A run of a source.
 
-use crate::advance::{Advance, Stop};
+use crate::advance::Advance;
 use crate::watch::Event;
 use display_maps::push_run;
 use gypsy_check::Accepted;
-use gypsy_meaning::{Current, Meaning, Moved};
+use gypsy_meaning::{Current, Meaning};
 use gypsy_space::Needs;
 use stack_text::{Memory, Name, Value};
 use std::alloc::Global;
@@ -70,14 +70,12 @@ impl GypsyLevel {
         }
         let place = self.meaning.place();
         let depth = self.depth();
-        match self.meaning.step(alloc, &self.accepted, &self.needs)? {
-            Moved::NoRoom { place } => Ok(Advance::Stops(Stop::NoRoom { place })),
-            Moved::Moved | Moved::Ended => Ok(Advance::Makes(Event {
-                place,
-                depth,
-                cost: self.meaning.cost(),
-            })),
-        }
+        self.meaning.step(alloc, &self.accepted, &self.needs)?;
+        Ok(Advance::Makes(Event {
+            place,
+            depth,
+            cost: self.meaning.cost(),
+        }))
     }
 
     /// Appends the line of the place.

@@ -7,11 +7,6 @@ use piton_machine::ErrorKind;
 pub enum ScriptEnd {
     /// All its commands were carried out.
     Done,
-    /// The next step is a call without room.
-    NoRoom {
-        place: u32,
-        after: u64,
-    },
     /// The next step is an error of Piton's machine.
     Error {
         kind: ErrorKind,

@@ -23,12 +23,8 @@ pub enum SessionRun {
     Ended {
         count: u64,
     },
-    /// The next step is a call without room, at a place. `after` is the session's number of steps, here and below.
-    NoRoom {
-        place: u32,
-        after: u64,
-    },
-    /// The next step is an error of Piton's machine, in a program, by its position, at a place.
+    /// The next step is an error of Piton's machine, in a program, by its position, at a place. `after` is the session's
+    /// number of steps, here and below.
     Error {
         kind: ErrorKind,
         program: u32,

@@ -32,7 +32,6 @@ fn push_run(alloc: Global, text: &mut Vec<u8>, run: SessionRun) -> Result<Option
     let line = match run {
         SessionRun::Moved { count } => format!(in alloc; "stepped {count}\n")?,
         SessionRun::Ended { count } => format!(in alloc; "stepped {count} ended\n")?,
-        SessionRun::NoRoom { place, after } => return Ok(Some(ScriptEnd::NoRoom { place, after })),
         SessionRun::Error {
             kind,
             program,

@@ -187,10 +187,6 @@ fn end_verdict(session: &Session, end: ScriptEnd) -> Result<Verdict, Memory>
 {
     match end {
         ScriptEnd::Done => Ok(Verdict::Done),
-        ScriptEnd::NoRoom {
-            place,
-            after: count,
-        } => Ok(Verdict::NoRoom { place, count }),
         ScriptEnd::Error {
             kind,
             program,

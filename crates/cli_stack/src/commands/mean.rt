@@ -104,10 +104,6 @@ fn plan_of(
     match run {
         MeanRun::Ended => Ok(Plan::all_said(ended_text(alloc, accepted, needs, meaning)?)),
         MeanRun::Spent => Ok(Plan::verdict_alone(alloc, Verdict::Unfinished { limit })),
-        MeanRun::NoRoom { place } => {
-            let count = meaning.steps();
-            Ok(Plan::verdict_alone(alloc, Verdict::NoRoom { place, count }))
-        }
     }
 }
 
