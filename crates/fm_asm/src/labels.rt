@@ -1,0 +1,68 @@
+//! The table of labels: how many words stand before the line of each.
+
+ghost use Rattle.std.specs.Prelude.{◌≡◌, ℕ, List, [], map, option_map, is_some, OnOk, IfOk};
+ghost use Rattle.std.specs.Str.{bytes_eq};
+ghost use Rattle.stack_text.specs.Breaches.{when, Notes};
+ghost use Rattle.fm_asm.specs.Lines.{line_of};
+ghost use Rattle.fm_asm.specs.Labels.{look_up, first_or, is_labelled, repeated, repeats, Knows};
+
+use crate::line::Line;
+use indexmap::IndexMap;
+use stack_text::{Breach, Memory, note_if};
+use std::alloc::Global;
+
+/// Enters a label, or notes that it was entered before.
+fn declare<'l>(
+    best: &mut Option<Breach>,
+    table: &mut IndexMap<&'l [u8], u32>,
+    name: &'l [u8],
+    offset: u32,
+    place: u32,
+) -> Result<(), Memory>
+    ensures entered { OnOk result ((other : List ℕ)
+        → look_up table.new other ≡ first_or (look_up table.old other) (bytes_eq other name.now) offset) }
+    ensures noted { OnOk result (Notes best.old (when (is_some (look_up table.old name.now)) place 4) best.new) }
+{
+    let is_known = table.contains_key(name);
+    note_if(best, is_known, place, 4);
+    if is_known {
+        return Ok(());
+    }
+    table.insert(name, offset)?;
+    Ok(())
+}
+
+/// Enters the label of a line, if it has one, or notes that it was entered before.
+fn declare_label<'l>(
+    best: &mut Option<Breach>,
+    table: &mut IndexMap<&'l [u8], u32>,
+    label: Option<&'l [u8]>,
+    offset: u32,
+    place: u32,
+) -> Result<(), Memory>
+    ensures entered { let own = option_map (λ name. name.now) label.entry in OnOk result ((other : List ℕ)
+        → look_up table.new other ≡ first_or (look_up table.old other) (is_labelled other own) offset) }
+    ensures noted { let own = option_map (λ name. name.now) label.entry in
+        OnOk result (Notes best.old (repeated (look_up table.old) place own) best.new) }
+{
+    match label {
+        None => Ok(()),
+        Some(name) => declare(best, table, name, offset, place),
+    }
+}
+
+/// The labels of lines; each that an earlier line has is noted.
+pub(crate) fn labels_of<'l>(
+    alloc: Global,
+    best: &mut Option<Breach>,
+    lines: &[Line<'l, '_>],
+) -> Result<IndexMap<&'l [u8], u32>, Memory>
+    ensures known { IfOk result (λ table. Knows table (map line_of lines.now)) }
+    ensures noted { OnOk result (Notes best.old (repeats [] (map line_of lines.now)) best.new) }
+{
+    let mut table = IndexMap::new(alloc);
+    for line in lines {
+        declare_label(best, &mut table, line.said.label, line.offset, line.place)?;
+    }
+    Ok(table)
+}
