@@ -1,0 +1,9 @@
+-- what the calls give
+pub mod Turns
+pub mod Starting
+pub mod OwnMachines
+-- what is promised
+pub mod Alone
+pub mod Readings
+-- a window in a wider one
+pub mod Windows

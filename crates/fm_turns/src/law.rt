@@ -1,0 +1,30 @@
+//! The laws of tasks that take turns.
+
+ghost use Rattle.fm_turns.specs.Windows.{StepsAlike, RunsAlike};
+ghost use Rattle.fm_turns.specs.Turns.{OverIsOver};
+ghost use Rattle.fm_turns.specs.Alone.{AloneIsRun, AloneIsCounted, AloneIsLeast, AloneIsWhole, RoundsAsAlone};
+ghost use Rattle.fm_turns.specs.Readings.{EachAsAlone};
+
+/// Each task that keeps to its own window is after any rounds as it is alone. The function does nothing: its clauses hold of
+/// all tasks, turns and budgets.
+pub fn each_as_alone()
+    // A step inside a window is the same step in a wider one, and leaves all other words. So is a whole run.
+    ensures steps { StepsAlike }
+    ensures runs { RunsAlike }
+
+    // Tasks that keep to their own windows come by any rounds to where each of them comes alone.
+    ensures rounds { RoundsAsAlone }
+    // So how each stands, its machine and its reading are those that it has alone.
+    ensures alone { EachAsAlone }
+
+    // What a task does alone is its run within the sum of the turns and the budget.
+    ensures is_run { AloneIsRun }
+    // Its machine is then the loaded machine after as many steps as the task has made,
+    ensures counts { AloneIsCounted }
+    // which are the least of the turns' sum, the budget, and the count at which it first comes to its final pc, if it does.
+    ensures least { AloneIsLeast }
+    ensures whole { AloneIsWhole }
+
+    // A task that isn't running no longer changes.
+    ensures over { OverIsOver }
+{}
