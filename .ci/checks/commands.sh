@@ -37,9 +37,9 @@ misses() {
 # One assignment: docs/WALK.md, the first walk.
 seven=$'finished 28\ncondition normal\nx = 7'
 wants 0 "$seven" go examples/assign.gypsy examples/assign.values 100 100 1000000 assign.image
-holds assign.image 2997
+holds assign.image 3891
 wants 0 "$seven" go examples/seven.gypsy examples/nine.values 7 3 28 seven.image
-holds seven.image 2625
+holds seven.image 3519
 wants 5 "unfinished 27" run seven.image examples/nine.values 27
 wants 0 $'steps 2\ncounted 28\ncondition normal\nx = 7' mean examples/seven.gypsy examples/nine.values 7 3 2
 wants 0 $'finished 28\ncondition normal\nx = 5\ny = -3' go examples/two.gypsy examples/two.values 100 100 1000000 two.image
@@ -47,19 +47,41 @@ wants 0 $'finished 28\ncondition normal\nx = 5\ny = -3' go examples/two.gypsy ex
 # A loop, a call and a handled condition: the second walk.
 counted=$'condition normal\nx = 2000000000'
 wants 0 "ok" check examples/count.gypsy
-wants 0 $'finished 182\n'"$counted" go examples/count.gypsy examples/count.values 13 5 182 count.image
-holds count.image 2969
-wants 5 "unfinished 181" run count.image examples/count.values 181
-wants 0 $'steps 12\ncounted 182\n'"$counted" mean examples/count.gypsy examples/count.values 13 5 12
+wants 0 $'finished 226\n'"$counted" go examples/count.gypsy examples/count.values 13 5 226 count.image
+holds count.image 4007
+wants 5 "unfinished 225" run count.image examples/count.values 225
+wants 0 $'steps 12\ncounted 226\n'"$counted" mean examples/count.gypsy examples/count.values 13 5 12
 wants 5 "unfinished 11" mean examples/count.gypsy examples/count.values 13 5 11
-wants 7 "noroom at 61 after 1" mean examples/count.gypsy examples/count.values 12 5 12
+wants 0 $'steps 3\ncounted 31\ncondition spaceerror\nx = 0' mean examples/count.gypsy examples/count.values 12 5 12
 wants 12 "size control 3" mean examples/count.gypsy examples/count.values 2 5 12
-wants 0 "built 717" build examples/count.gypsy 13 5 built.image
+wants 0 "built 973" build examples/count.gypsy 13 5 built.image
 cmp -s count.image built.image || { echo "go and build store different images"; failed=1; }
 wants 0 "written count.piton" pit examples/count.gypsy 13 5 count.piton
-wants 0 $'halted 69\ncounted 182\nc-c (nat 2)\nstack (int 2000000000)' prun count.piton 69
-wants 0 "built 717" pbuild count.piton linked.image
-wants 0 $'source 144\nfinished 90\ncondition normal\nx = 748' big 1 1
+wants 0 $'halted 85\ncounted 226\nc-c (nat 2)\nstack (int 2000000000)' prun count.piton 85
+wants 0 "built 973" pbuild count.piton linked.image
+wants 0 $'source 144\nfinished 112\ncondition normal\nx = 748' big 1 1
+wants 0 $'steps 3\ncounted 20\ncondition spaceerror\nx = 0' mean examples/count.gypsy examples/count.values 13 4 12
+
+# The moment of the second walk, at each level.
+zeros() { for r in $(seq "$1" "$2"); do echo "r$r 00000000"; done; }
+printf 'step 8\nshow' >8.script
+printf 'step 70\nshow' >70.script
+printf 'step 199\nshow' >199.script
+moment() { echo "debug $1 examples/count.gypsy examples/count.values 13 5 $2.script"; }
+wants 0 $'stepped 8\nat 104 depth 2\ncondition routineerror\ny = 2000000000\nstep = 2000000000' $(moment gypsy 8)
+wants 0 $'stepped 70\nat up 8 frames 2\nstep = (nat 1)\ny = (nat 0)\nstack (int 2000000000) (int 2000000000)' $(moment piton 70)
+wants 0 $'stepped 199\ncount 199\nr0 000003c1\nr1 000003c1\nr2 000003cb\nr3 00000000\nr4 ee6b2800\n'"$(zeros 5 14)"$'\nr15 00000084\nflags ---z' $(moment fm9001 199)
+
+# A call that has no room: the third walk, and docs/debug.md.
+no_room=$'condition spaceerror\nn = 0'
+wants 0 $'finished 423\ncondition normal\nn = 0' go examples/down.gypsy examples/down.values 24 10 1000 down.image
+wants 0 $'finished 350\n'"$no_room" go examples/down.gypsy examples/down.values 23 10 1000 down.image
+wants 0 $'steps 12\ncounted 350\n'"$no_room" mean examples/down.gypsy examples/down.values 23 10 12
+wants 0 "written down.piton" pit examples/down.gypsy 23 10 down.piton
+printf 'attach last\nstep 8\ndetach last\nup\nstep 1\nup' >last.script
+wants 0 $'attached last\nstepped 8\nlast 48 134 164 183 213 134 164 183\ntop\nstepped 1\ntop' debug gypsy examples/down.gypsy examples/down.values 23 10 last.script
+sed 's/(call p (n) ()))$/(begin (call p (n) ()) (spaceerror) (no-op)))/' examples/down.gypsy >caught.gypsy
+wants 0 $'finished 356\ncondition normal\nn = 0' go caught.gypsy examples/down.values 23 10 1000 down.image
 
 # Piton by hand: docs/cli.md.
 printf '(piton main 2 3 0 () () (main () () (push-constant (nat 7)) (push-constant (nat 5)) (sub-nat) (ret)))' >less.piton
@@ -75,10 +97,9 @@ wants 0 "finished 7" run less.image none.values 7
 session() { echo "debug $1 examples/seven.gypsy examples/nine.values 7 3 examples/steps.script"; }
 attached=$'attached last\nattached peak'
 read_up=$'condition normal\nx = 7'
-zeros=$(for r in 4 5 6 7 8 9 10 11 12 13 14; do echo "r$r 00000000"; done)
 wants 0 "$attached"$'\nstepped 2 ended\nended\n'"$read_up"$'\nstepped 0 ended\ntop\nlast 48 14\npeak 1' $(session gypsy)
 wants 0 "$attached"$'\nstepped 5\nat mg-simple-constant-assignment 2 frames 2\nd = (nat 0)\nv = (int 7)\nstack (int 9) (int 7) (nat 0)\nstepped 4 ended\n'"$read_up"$'\nlast 1 2 0 1 2 3 3 6\npeak 2' $(session piton)
-wants 0 "$attached"$'\nstepped 5\ncount 5\nr0 0000026f\nr1 0000026e\nr2 00000272\nr3 0000026f\n'"$zeros"$'\nr15 0000000c\nflags ----\nstepped 23 ended\n'"$read_up"$'\nlast 68 70 71 14 21 22 24 25\npeak 3' $(session fm9001)
+wants 0 "$attached"$'\nstepped 5\ncount 5\nr0 0000034b\nr1 0000034a\nr2 0000034e\nr3 0000034b\n'"$(zeros 4 14)"$'\nr15 0000000c\nflags ----\nstepped 23 ended\n'"$read_up"$'\nlast 68 70 71 14 21 22 24 25\npeak 3' $(session fm9001)
 printf 'attach count\nstep 28\ndetach count\ndetach count' >twice.script
 wants 13 $'attached count\nstepped 28 ended\ncount 28\nscript D5 at line 4' debug fm9001 examples/seven.gypsy examples/nine.values 7 3 twice.script
 

@@ -51,7 +51,7 @@ sweeps check count.gypsy
 sweeps mean count.gypsy count.values 13 5 12
 sweeps pit count.gypsy 13 5 made
 sweeps build count.gypsy 13 5 made
-sweeps go count.gypsy count.values 13 5 182 made
+sweeps go count.gypsy count.values 13 5 226 made
 sweeps big 1 1
 sweeps pcheck seven.piton
 sweeps prun seven.piton 100

@@ -40,7 +40,7 @@ def documented_image():
     for line in text.splitlines():
         cells = [it.strip() for it in line.strip("|").split("|")]
         if cells[0] == "Address":
-            start, factor = 121, 4
+            start, factor = 135, 4
         if cells[0].isdigit() and "`" in cells[1]:
             times = {"twelve": 12, "four": 4}.get(cells[1].split(" ")[0], 1)
             yield start + factor * int(cells[0]), bytes.fromhex("".join(re.findall(r"`([0-9a-f ]+)`", cells[1])) * times)
@@ -141,7 +141,7 @@ class Rows:
 
     def ends(self, theme, answer, text):
         """A system halts or is refused. One that halts doesn't a step earlier; linked, it takes as many instructions as it counts."""
-        ending = self.run("prun t 100", {"t": text})
+        ending = self.run("prun t 1000", {"t": text})
         halts = answer.startswith("halted ")
         self.note(theme, ending.says(0 if halts else 8, answer), (answer, text), ending)
         if not halts:
@@ -205,10 +205,11 @@ class Rows:
         for length in range(len(image)):
             self.show(length, image[:length], (3, length))
         self.show("a byte more", image + b"\0", (4, 144))
-        for image, window in ((bytes.fromhex(tables.IMAGE_OF_SEVEN), 59), (self.run("build s 7 3 i", {"s": tables.SEVEN}).files["i"], 629)):
-            image = image[:113] + window.to_bytes(4, "big") + image[117:]
+        built = self.run("build s 7 3 i", {"s": tables.SEVEN}).files["i"]
+        for image, window, place in ((bytes.fromhex(tables.IMAGE_OF_SEVEN), 59, 113), (built, 849, 127)):
+            image = image[:place] + window.to_bytes(4, "big") + image[place + 4:]
             ending = self.run("run i v 9", {"i": image, "v": "()"})
-            self.note("images that show judges", ending.says(4, "image I7 at 113\n"), f"a slot at {window}", ending)
+            self.note("images that show judges", ending.says(4, f"image I7 at {place}\n"), f"a slot at {window}", ending)
         ending = self.run("show i", {"i": images.returning()})
         self.note("images that show judges", ending.says(0, images.SMALL_LISTING), "the listing of a return", ending)
 
@@ -254,7 +255,7 @@ class Rows:
         stored, built = (self.run(words, files).files.get("i") for words in ("go s v 7 3 28 i", "build s 7 3 i"))
         self.note("stored images", stored == built and stored is not None, "go and build")
         least = self.run("build s 2 1 i", {"s": tables.NOTHING}).files.get("i", b"")
-        holds = least[16:20] == (606).to_bytes(4, "big") and least[88:92] == (607).to_bytes(4, "big")
+        holds = least[16:20] == (826).to_bytes(4, "big") and least[88:92] == (827).to_bytes(4, "big")
         self.note("stored images", holds, "the final address and the condition's of NOTHING")
         ending = self.run("run i v 28", {"i": stored or b"", "v": "((x 9))"})
         self.note("stored images", ending.says(0, "finished 28\ncondition normal\nx = 7\n"), "run", ending)
@@ -262,8 +263,8 @@ class Rows:
             holds = (built or b"")[place : place + len(content)] == content
             self.note("stored images", holds, ("docs/image-file.md", place, content.hex()))
         long = self.run("build s 19 61455 i", {"s": tables.many_locals(1, 15)}).files.get("i", b"")
-        ending = self.run("run i v 61522", {"i": long, "v": "()"})
-        self.note("stored images", len(long) > 400_000 and ending.says(0, "finished 61522\ncondition normal\n"), "a long one", ending)
+        ending = self.run("run i v 61544", {"i": long, "v": "()"})
+        self.note("stored images", len(long) > 400_000 and ending.says(0, "finished 61544\ncondition normal\n"), "a long one", ending)
 
     def limits(self):
         whole = {

@@ -29,6 +29,8 @@ CALLS = "(program main\n(proc main () () () () (call p () ()))\n(proc p () () ()
 
 ADDS = "(program main\n(proc main ((x integer) (y integer)) () () () (mg-integer-add x x y)))\n"
 
+MULTIPLIES = "(program main\n(proc main ((x integer) (y integer)) () () () (mg-integer-multiply x x y)))\n"
+
 NEGATES = "(program main\n(proc main ((x integer)) () () () (mg-integer-unary-minus x x)))\n"
 
 INDEXES = "(program main\n(proc main ((x integer) (a (array integer 3)) (i integer)) () () () (mg-index-array x a i)))\n"
@@ -39,6 +41,12 @@ RECURSIVE = (
     "(program main\n(proc main ((n integer)) () () () (call p (n) ()))\n"
     "(proc p ((n integer)) () ((b boolean false) (one integer 1)) ()\n(seq (mg-simple-constant-eq b n 0)\n"
     "(if b (no-op) (seq (mg-integer-subtract n n one) (call p (n) ()))))))\n"
+)
+
+# A procedure that calls itself until a call has no room.
+HANDLES_SPACEERROR = (
+    "(program main\n(proc main ((x integer)) () () () (begin (call p () ()) (spaceerror) (mg-simple-constant-assignment x 5)))\n"
+    "(proc p () () () () (call p () ())))\n"
 )
 
 HANDLES = (
@@ -62,6 +70,9 @@ PASS = (
 )
 
 DESCENDING = "((a (20 19 18 17 16 15 14 13 12 11 10 9 8 7 6 5 4 3 2 1)) (swaps 0))"
+
+# What is read of DESCENDING where nothing was changed.
+DESCENDING_READ = "a = (20 19 18 17 16 15 14 13 12 11 10 9 8 7 6 5 4 3 2 1)\nswaps = 0\n"
 
 ALL_ZERO = "((a (0 0 0 0 0 0 0 0 0 0 0 0 0 0 0 0 0 0 0 0)) (swaps 0))"
 
@@ -144,7 +155,7 @@ RUNS = [
     ("go s v 2 1 6 i", NOTHING, "()", 0, "finished 6\ncondition normal\n"),
     ("go s v 1 1 6 i", NOTHING, "()", 12, "size control 2\n"),
     ("go s v 100 100 0 i", NOTHING, "()", 5, "unfinished 0\n"),
-    ("build s 2 1 i", NOTHING, "", 0, "built 611\n"),
+    ("build s 2 1 i", NOTHING, "", 0, "built 831\n"),
     ("build s 1 1 i", NOTHING, "", 12, "size control 2\n"),
     ("go s w 7 3 28 i", SEVEN, "", 9, "missing w\n"),
     ("go s w 7 3 28 i", "", "", 9, "missing w\n"),
@@ -154,7 +165,7 @@ RUNS = [
     ("go s v 6 3 28 i", SEVEN, "((x 0))", 12, "size control 7\n"),
     ("go s v 7 3 28 i", SEVEN, "((x 2147483648))", 3, "values V7 at 1\n"),
     ("go s v 7 3 28 i", SEVEN, "()", 3, "values V4 at 0\n"),
-    ("build s 7 3 i", SEVEN, "", 0, "built 629\n"),
+    ("build s 7 3 i", SEVEN, "", 0, "built 849\n"),
     ("mean s v 7 3 2", SEVEN, "((x 0))", 0, "steps 2\ncounted 28\ncondition normal\nx = 7\n"),
     ("mean s v 7 3 1", SEVEN, "((x 0))", 5, "unfinished 1\n"),
     ("mean s v 7 3 0", SEVEN, "((x 0))", 5, "unfinished 0\n"),
@@ -176,8 +187,23 @@ RUNS = [
     ("go s v 100 100 99 i", SIGNALS, "()", 0, "finished 11\ncondition routineerror\n"),
     ("go s v 100 100 99 i", BRANCHES, "((b true))", 0, "finished 16\ncondition normal\nb = true\n"),
     ("go s v 100 100 99 i", BRANCHES, "((b false))", 0, "finished 16\ncondition normal\nb = false\n"),
-    ("go s v 100 100 99 i", CALLS, "()", 0, "finished 22\ncondition normal\n"),
+    ("go s v 100 100 99 i", CALLS, "()", 0, "finished 44\ncondition normal\n"),
+    # A procedure with a call needs two words of the temporary stack for the guard. The callee's frame has two words.
+    ("go s v 100 1 99 i", CALLS, "()", 12, "size temporary 2\n"),
+    ("mean s v 100 1 99", CALLS, "()", 12, "size temporary 2\n"),
+    ("pit s 100 1 i", CALLS, "", 12, "size temporary 2\n"),
+    ("go s v 4 2 44 i", CALLS, "()", 0, "finished 44\ncondition normal\n"),
+    ("go s v 3 2 99 i", CALLS, "()", 0, "finished 30\ncondition spaceerror\n"),
     ("go s v 100 100 99 i", ADDS, "((x 2147483647) (y 1))", 0, "finished 61\ncondition routineerror\nx = 2147483647\ny = 1\n"),
+    ("go s v 100 100 9999 i", MULTIPLIES, "((x 46341) (y -46341))", 0, "finished 2600\ncondition routineerror\nx = 46341\ny = -46341\n"),
+    ("go s v 100 100 9999 i", MULTIPLIES, "((x -65536) (y 32768))", 0, "finished 2604\ncondition normal\nx = -2147483648\ny = 32768\n"),
+    ("go s v 100 100 9999 i", MULTIPLIES, "((x 2147483647) (y -1))", 0, "finished 2604\ncondition normal\nx = -2147483647\ny = -1\n"),
+    ("go s v 100 100 9999 i", MULTIPLIES, "((x -2147483648) (y -1))", 0, "finished 2600\ncondition routineerror\nx = -2147483648\ny = -1\n"),
+    # Main's two indices and links and the product's frame of 10; main's two variables and 3 operands.
+    ("go s v 14 5 2604 i", MULTIPLIES, "((x 7) (y -6))", 0, "finished 2604\ncondition normal\nx = -42\ny = -6\n"),
+    ("go s v 13 5 2604 i", MULTIPLIES, "((x 7) (y -6))", 12, "size control 14\n"),
+    ("go s v 14 4 2604 i", MULTIPLIES, "((x 7) (y -6))", 12, "size temporary 5\n"),
+    ("mean s v 14 5 2", MULTIPLIES, "((x 7) (y -6))", 0, "steps 2\ncounted 2604\ncondition normal\nx = -42\ny = -6\n"),
     ("go s v 100 100 99 i", NEGATES, "((x -2147483648))", 0, "finished 44\ncondition routineerror\nx = -2147483648\n"),
     ("go s v 100 100 99 i", NEGATES, "((x -2147483647))", 0, "finished 52\ncondition normal\nx = 2147483647\n"),
     (
@@ -192,45 +218,51 @@ RUNS = [
         "go s v 100 100 99 i", INDEXES, "((x 0) (a (10 20 30)) (i -1))", 0,
         "finished 49\ncondition routineerror\nx = 0\na = (10 20 30)\ni = -1\n",
     ),
-    ("build s 3 4097 i", LONGEST, "", 0, "built 4710\n"),
+    ("build s 3 4097 i", LONGEST, "", 0, "built 4930\n"),
     ("build s 3 4096 i", LONGEST, "", 12, "size temporary 4097\n"),
     ("build s 2 4096 i", LONGEST, "", 12, "size control 3\n"),
-    # Main's 14 words of code and 8,220 for each of 130 calls, and the procedure's 16.
-    ("build s 100 100 i", many_locals(130, 1), "", 12, "size words 1068630\n"),
-    # 22 for a call of a procedure without locals, 61,440 constants, and 4 for each local.
-    ("go s v 19 61455 61522 i", many_locals(1, 15), "()", 0, "finished 61522\ncondition normal\n"),
+    # Main's 14 words of code and 8,256 for each of 130 calls, and the procedure's 16.
+    ("build s 100 100 i", many_locals(130, 1), "", 12, "size words 1073310\n"),
+    # 44 for a call of a procedure without locals, 61,440 constants, and 4 for each local.
+    ("go s v 19 61455 61544 i", many_locals(1, 15), "()", 0, "finished 61544\ncondition normal\n"),
     ("go s v 100 100 100 i", FOREVER, "()", 5, "unfinished 100\n"),
-    ("go s v 17 10 1000 i", RECURSIVE, "((n 2))", 6, "outside 00e00c3f after 325\n"),
-    ("go s v 24 10 1000000 i", RECURSIVE, "((n 2))", 0, "finished 357\ncondition normal\nn = 0\n"),
-    ("mean s v 24 10 100", RECURSIVE, "((n 2))", 0, "steps 19\ncounted 357\ncondition normal\nn = 0\n"),
-    ("mean s v 23 10 100", RECURSIVE, "((n 2))", 7, "noroom at 213 after 8\n"),
-    ("mean s v 24 9 100", RECURSIVE, "((n 2))", 7, "noroom at 213 after 8\n"),
+    ("go s v 17 10 1000 i", RECURSIVE, "((n 2))", 0, "finished 190\ncondition spaceerror\nn = 1\n"),
+    ("go s v 23 10 1000 i", RECURSIVE, "((n 2))", 0, "finished 350\ncondition spaceerror\nn = 0\n"),
+    ("go s v 24 9 1000 i", RECURSIVE, "((n 2))", 0, "finished 339\ncondition spaceerror\nn = 0\n"),
+    ("go s v 24 10 1000000 i", RECURSIVE, "((n 2))", 0, "finished 423\ncondition normal\nn = 0\n"),
+    ("mean s v 24 10 100", RECURSIVE, "((n 2))", 0, "steps 19\ncounted 423\ncondition normal\nn = 0\n"),
+    ("mean s v 23 10 100", RECURSIVE, "((n 2))", 0, "steps 12\ncounted 350\ncondition spaceerror\nn = 0\n"),
+    ("mean s v 24 9 100", RECURSIVE, "((n 2))", 0, "steps 12\ncounted 339\ncondition spaceerror\nn = 0\n"),
     ("mean s v 23 10 8", RECURSIVE, "((n 2))", 5, "unfinished 8\n"),
-    ("go s v 100 100 99 i", HANDLES, "((x 0))", 0, "finished 54\ncondition normal\nx = 5\n"),
+    ("go s v 100 100 99 i", HANDLES, "((x 0))", 0, "finished 76\ncondition normal\nx = 5\n"),
+    ("go s v 9 3 1000 i", HANDLES_SPACEERROR, "((x 0))", 0, "finished 178\ncondition normal\nx = 5\n"),
+    ("mean s v 9 3 10", HANDLES_SPACEERROR, "((x 0))", 0, "steps 10\ncounted 178\ncondition normal\nx = 5\n"),
     ("go s v 100 100 99 i", LOCAL_CONDITION, "()", 0, "finished 11\ncondition routineerror\n"),
     ("go s v 100 100 99 i", FORMAL_CONDITION, "()", 0, "finished 8\ncondition err\n"),
     ("mean s v 100 100 99", FORMAL_CONDITION, "()", 0, "steps 2\ncounted 8\ncondition err\n"),
     (
         "go s v 22 37 1000000 i", PASS, DESCENDING, 0,
-        "finished 10291\ncondition normal\na = (19 18 17 16 15 14 13 12 11 10 9 8 7 6 5 4 3 2 1 20)\nswaps = 19\n",
+        "finished 10313\ncondition normal\na = (19 18 17 16 15 14 13 12 11 10 9 8 7 6 5 4 3 2 1 20)\nswaps = 19\n",
     ),
     (
         "mean s v 22 37 1000000", PASS, DESCENDING, 0,
-        "steps 312\ncounted 10291\ncondition normal\na = (19 18 17 16 15 14 13 12 11 10 9 8 7 6 5 4 3 2 1 20)\nswaps = 19\n",
+        "steps 312\ncounted 10313\ncondition normal\na = (19 18 17 16 15 14 13 12 11 10 9 8 7 6 5 4 3 2 1 20)\nswaps = 19\n",
     ),
-    ("mean s v 21 37 1000", PASS, DESCENDING, 7, "noroom at 90 after 0\n"),
-    ("mean s v 22 36 1000", PASS, DESCENDING, 7, "noroom at 90 after 0\n"),
+    ("go s v 21 37 1000000 i", PASS, DESCENDING, 0, "finished 30\ncondition spaceerror\n" + DESCENDING_READ),
+    ("go s v 22 36 1000000 i", PASS, DESCENDING, 0, "finished 19\ncondition spaceerror\n" + DESCENDING_READ),
+    ("mean s v 21 37 1000", PASS, DESCENDING, 0, "steps 2\ncounted 30\ncondition spaceerror\n" + DESCENDING_READ),
+    ("mean s v 22 36 1000", PASS, DESCENDING, 0, "steps 2\ncounted 19\ncondition spaceerror\n" + DESCENDING_READ),
     (
         "mean s v 22 37 1000", PASS, ALL_ZERO, 0,
-        "steps 274\ncounted 6548\ncondition normal\na = (0 0 0 0 0 0 0 0 0 0 0 0 0 0 0 0 0 0 0 0)\nswaps = 0\n",
+        "steps 274\ncounted 6570\ncondition normal\na = (0 0 0 0 0 0 0 0 0 0 0 0 0 0 0 0 0 0 0 0)\nswaps = 0\n",
     ),
     (
         "go s v 22 37 1000000 i", PASS, ALL_ZERO, 0,
-        "finished 6548\ncondition normal\na = (0 0 0 0 0 0 0 0 0 0 0 0 0 0 0 0 0 0 0 0)\nswaps = 0\n",
+        "finished 6570\ncondition normal\na = (0 0 0 0 0 0 0 0 0 0 0 0 0 0 0 0 0 0 0 0)\nswaps = 0\n",
     ),
-    ("big 1 1", "", "", 0, "source 144\nfinished 90\ncondition normal\nx = 748\n"),
-    ("big 1 2", "", "", 0, "source 232\nfinished 175\ncondition normal\nx = 1215\n"),
-    ("big 7 900", "", "", 0, "source 90455\nfinished 67266\ncondition normal\nx = -443\n"),
+    ("big 1 1", "", "", 0, "source 144\nfinished 112\ncondition normal\nx = 748\n"),
+    ("big 1 2", "", "", 0, "source 232\nfinished 219\ncondition normal\nx = 1215\n"),
+    ("big 7 900", "", "", 0, "source 90455\nfinished 87066\ncondition normal\nx = -443\n"),
 ]
 
 # Main's index of each formal and two words more, and each formal and the number of the condition: main's stacks. The signal is 4
@@ -245,14 +277,14 @@ for count in (7, 60, 200):
 
 # What the processor shows of NOTHING before its first instruction, with 100 words for each stack.
 REGISTERS = (
-    "count 0\nr0 000002c2\nr1 000002c2\nr2 00000328\nr3 00000000\nr4 00000000\nr5 00000000\nr6 00000000\nr7 00000000\nr8 00000000\n"
+    "count 0\nr0 0000039e\nr1 0000039e\nr2 00000404\nr3 00000000\nr4 00000000\nr5 00000000\nr6 00000000\nr7 00000000\nr8 00000000\n"
     "r9 00000000\nr10 00000000\nr11 00000000\nr12 00000000\nr13 00000000\nr14 00000000\nr15 00000002\nflags ----\n"
 )
 
 # What it shows of SEVEN after its last instruction, with 7 and 3 words for the stacks.
 REGISTERS_AT_THE_END = (
-    "count 28\nr0 00000000\nr1 00000272\nr2 00000274\nr3 00000274\nr4 00000000\nr5 00000000\nr6 00000000\nr7 00000000\nr8 00000000\n"
-    "r9 00000000\nr10 00000000\nr11 00000000\nr12 00000000\nr13 00000000\nr14 00000000\nr15 00000269\nflags ----\n"
+    "count 28\nr0 00000000\nr1 0000034e\nr2 00000350\nr3 00000350\nr4 00000000\nr5 00000000\nr6 00000000\nr7 00000000\nr8 00000000\n"
+    "r9 00000000\nr10 00000000\nr11 00000000\nr12 00000000\nr13 00000000\nr14 00000000\nr15 00000345\nflags ----\n"
 )
 
 # The longest line.
@@ -277,14 +309,14 @@ SESSIONS = [
     ("debug fm9001 s v 7 3 d", SEVEN, "((x -1))", "step 28\nup", 0, "stepped 28 ended\ncondition normal\nx = 7\n"),
     ("debug piton s v 100 100 d", SEVEN, "((x 0))", "step 9\nup", 0, "stepped 9 ended\ncondition normal\nx = 7\n"),
     ("debug fm9001 s v 100 100 d", NOTHING, "()", "show", 0, REGISTERS),
-    ("debug gypsy s v 23 10 d", RECURSIVE, "((n 2))", "step 100", 7, "noroom at 213 after 8\n"),
+    ("debug gypsy s v 23 10 d", RECURSIVE, "((n 2))", "step 100", 0, "stepped 12 ended\n"),
     (
-        "debug piton s v 17 10 d", RECURSIVE, "((n 2))", "attach count\nstep 1000\nstep 1", 8,
-        "attached count\nerror ctrl-full at p 3 after 49\n",
+        "debug piton s v 17 10 d", RECURSIVE, "((n 2))", "attach count\nstep 1000\nstep 1", 0,
+        "attached count\nstepped 67 ended\nstepped 0 ended\n",
     ),
     (
-        "debug fm9001 s v 17 10 d", RECURSIVE, "((n 2))", "attach peak\nstep 1000\nshow", 6,
-        "attached peak\noutside 00e00c3f after 325\n",
+        "debug fm9001 s v 17 10 d", RECURSIVE, "((n 2))", "attach peak\nstep 1000\nup", 0,
+        "attached peak\nstepped 190 ended\ncondition spaceerror\nn = 1\n",
     ),
     (
         "debug gypsy s v 7 3 d", SEVEN, "((x -5))",
@@ -490,7 +522,7 @@ LIMITS = [
 NEVER = None
 
 # How many bytes the image of SEVEN has.
-WHOLE = 2625
+WHOLE = 3519
 
 FAILING_RUNS = [
     ((0, 3), NEVER, 10, "shelf fault s\n", 0),

@@ -20,7 +20,11 @@ GHOST_USE = re.compile(r"^ *ghost use [^{;]*\{([^}]*)\};\n", re.M)
 ANY_USE = re.compile(r"^ *(?:pub )?(?:ghost )?use [^;]*;\n", re.M)
 # Lemmas that stand for themselves: DECISIONS 16.
 KEPT_LEMMAS = {"outcome_is"}
-STATEMENT = Path("crates/stack_build/specs/Implements.antt")
+THEOREM = Path("crates/stack_build/specs/Implements.antt")
+README = Path("README.md")
+README_WORDS = 1300
+# What is promised, and what has to be read to know what the theorem says.
+PROMISES = Path("docs/PROMISES.md")
 READING_ROW = re.compile(r"\|[^|]*\|([^|]*/specs/[^|]*)\| ([\d,]+) \|$")
 
 findings = []
@@ -105,12 +109,14 @@ def files_of_row(names):
 
 
 def check_reading_list():
-    readme, files = Path("README.md").read_text(), files_below(STATEMENT)
+    """Two pages say how much the theorem rests on, and the reading list has each of these files, and the lines of each row."""
+    files = files_below(THEOREM)
     whole = f"{len(files)} files of {sum(map(length, files)):,} lines"
-    if whole not in readme:
-        say("README.md", f"the theorem rests on {whole}; write that, and mend the table after it")
+    for page in (README, PROMISES):
+        if whole not in page.read_text():
+            say(page, f"the theorem rests on {whole}; write that")
     listed = []
-    for number, line in enumerate(readme.splitlines(), 1):
+    for number, line in enumerate(PROMISES.read_text().splitlines(), 1):
         row = READING_ROW.match(line)
         if not row:
             continue
@@ -118,14 +124,21 @@ def check_reading_list():
         listed += row_files
         lines = sum(length(file) for file in row_files if file.is_file())
         if f"{lines:,}" != row.group(2):
-            say(f"README.md:{number}", f"the files of this row have {lines:,} lines; write that")
+            say(f"{PROMISES}:{number}", f"the files of this row have {lines:,} lines; write that")
     for file in sorted(set(files) ^ set(listed)):
-        say("README.md", f"{file} {'is missing from' if file in files else 'does not belong into'} the reading list")
+        say(PROMISES, f"{file} {'is missing from' if file in files else 'does not belong in'} the reading list")
+
+
+def check_readme():
+    """The README is read to its end."""
+    words = len(README.read_text().split())
+    if words > README_WORDS:
+        say(README, f"it has {words:,} words; at most {README_WORDS:,}, so move what is too long to a page of docs")
 
 
 def check_crates():
-    """Each crate stands in the map of the crates, and in the README."""
-    pages = [Path("README.md"), Path("docs/ARCHITECTURE.md")]
+    """Each crate stands in the map of the crates, and among the promises."""
+    pages = [PROMISES, Path("docs/ARCHITECTURE.md")]
     for line in Path("crates.txt").read_text().splitlines():
         crate = re.match(r"(\w+):", line)
         for page in pages if crate else []:
@@ -201,6 +214,7 @@ check_specs()
 check_clauses()
 check_documents()
 check_reading_list()
+check_readme()
 check_crates()
 check_lemmas()
 check_imports()

@@ -40,6 +40,12 @@ LOOP = """(program main
 """
 
 # So many times, calls that are so many deep.
+# A product in each round.
+PRODUCTS = (
+    "(program main\n(proc main ((n integer) (x integer)) () ((b boolean false) (zero integer 0) (one integer 1) (three integer 3)) ()\n"
+    "(loop (seq (mg-integer-le b n zero) (if b (signal leave) (no-op))\n(mg-integer-multiply x one three) (mg-integer-subtract n n one)))))\n"
+)
+
 RECURSION = """(program main
 (proc main ((times integer) (depth integer)) () ((b boolean false) (one integer 1) (n integer 0)) ()
 (loop (seq (mg-simple-constant-eq b times 0) (if b (signal leave) (no-op))
@@ -151,7 +157,7 @@ RUNS = [
         f"mean t v 65536 65536 {NEVER_SPENT}",
         RECURSION,
         "((times 10) (depth 13000))",
-        "steps 780145\ncounted 17812218\ncondition normal\ntimes = 0\ndepth = 13000",
+        "steps 780145\ncounted 20672438\ncondition normal\ntimes = 0\ndepth = 13000",
     ),
     (
         "meaning",
@@ -159,7 +165,7 @@ RUNS = [
         f"mean t v 65536 65536 {NEVER_SPENT}",
         RECURSION,
         "((times 10000) (depth 13))",
-        "steps 920005\ncounted 19970058\ncondition normal\ntimes = 0\ndepth = 13",
+        "steps 920005\ncounted 23050058\ncondition normal\ntimes = 0\ndepth = 13",
     ),
     (
         "meaning",
@@ -168,5 +174,20 @@ RUNS = [
         LOOP,
         "((n 200000))",
         "finished 21800058\ncondition normal\nn = 0",
+    ),    (
+        "meaning",
+        "a loop of 20,000 products",
+        f"mean t v 65536 65536 {NEVER_SPENT}",
+        PRODUCTS,
+        "((n 20000) (x 0))",
+        "steps 160005\ncounted 54320065\ncondition normal\nn = 0\nx = 3",
+    ),
+    (
+        "meaning",
+        "the same as an image",
+        f"go t v 65536 65536 {NEVER_SPENT} i",
+        PRODUCTS,
+        "((n 20000) (x 0))",
+        "finished 54320065\ncondition normal\nn = 0\nx = 3",
     ),
 ]

@@ -20,7 +20,7 @@ MOST_WORDS = 65536      # of a stack
 MOST_STEPS = 2000       # of the step machine: a source that takes more is thrown away
 MOST_DEPTH = 60         # of calls, likewise
 SECONDS = 60            # that a command may take
-NORMAL, LEAVE, ROUTINEERROR = "normal", "leave", "routineerror"
+NORMAL, LEAVE, ROUTINEERROR, SPACEERROR = "normal", "leave", "routineerror", "spaceerror"
 COPY, ASSIGN, INDEX = "mg-simple-variable-assignment", "mg-simple-constant-assignment", "mg-index-array"
 ADD, SUBTRACT, LESS_OR_EQUAL, EQUAL = "mg-integer-add", "mg-integer-subtract", "mg-integer-le", "mg-simple-constant-eq"
 sys.setrecursionlimit(10000)        # a call takes a few levels for each list round it
@@ -89,6 +89,10 @@ class Statement:
         parts = [row for item in self.items if isinstance(item, Statement) for row in item.rows()]
         return parts + ([ROWS[self.word]] if self.word in ROWS else [])
 
+    def calls(self) -> bool:
+        """Whether a procedure of the source is called in it."""
+        return self.word == "call" or any(item.calls() for item in self.items if isinstance(item, Statement))
+
 
 def make(word: str, *items) -> Statement:
     return Statement(word, items)
@@ -120,9 +124,10 @@ class Procedure:
 
     @cached_property
     def most(self) -> tuple[int, int]:
-        """The most words of the control stack and of the temporary stack that its predefined calls take."""
+        """The most words of the control stack that its predefined calls take, and of the temporary stack that these and the guards
+        of its other calls do."""
         rows = self.body.rows()
-        return max([0] + [row.frame for row in rows]), max([1] + [row.temporary for row in rows])
+        return max([0] + [row.frame for row in rows]), max([2 if self.body.calls() else 1] + [row.temporary for row in rows])
 
     def write(self, start: int) -> str:
         self.place = start
@@ -173,6 +178,7 @@ ROWS = {
     INDEX: Row("sai", lambda d, a, i: a[i] if 0 <= i < len(a) else None, [(69, 24), (42, 15), (55, 19)], 4, 7),
     "mg-array-element-assignment": Row("ais", lambda a, i, x: a[:i] + (x,) + a[i + 1:] if 0 <= i < len(a) else None,
                                        [(69, 24), (42, 15), (55, 19)], 4, 7),
+    "mg-integer-multiply": Row("iii", lambda d, x, y: fitting(x * y), [(2599, 927), (2593, 926)], 3, 10),
 }
 
 
@@ -191,8 +197,8 @@ class Activation:
 
 
 class Run:
-    """A run of a source on values of main's formals, with so many words of both stacks. `end` says how it ends: `done`, `no room`
-    before the call at the last place, `gave up`, or `size` where main itself needs more words."""
+    """A run of a source on values of main's formals, with so many words of both stacks. `end` says how it ends: `done`, `gave up`, or
+    `size` where main itself needs more words."""
 
     def __init__(self, source: Source, values: list[Value], control: int, temporary: int):
         main = source.main
@@ -277,24 +283,22 @@ class Run:
         frame = {v.name: v.value for v in callee.locals}
         frame.update((formal.name, caller.frame[actual]) for formal, actual in zip(callee.formals, actuals))
         called = Activation(callee, frame, caller.control + 2 + variables, caller.temporary + pushed)
-        self.ask_room(place, called.control + callee.most[0], called.temporary + max(variables, callee.most[1]))
-        self.step(place, (pushed + 4 * variables + 4, pushed + variables + 1))
+        control, temporary = called.control + callee.most[0], called.temporary + max(variables, callee.most[1])
+        if temporary > self.temporary or control > self.control:
+            self.step(place, (15, 7) if temporary > self.temporary else (26, 11))
+            return SPACEERROR
+        self.need_control, self.need_temporary = max(self.need_control, control), max(self.need_temporary, temporary)
+        self.step(place, (pushed + 4 * variables + 26, pushed + variables + 9))
         self.stack.append(called)
         condition = self.leave(callee, self.run(callee.body), [(12, 6), (14, 7), (17, 9)])
         self.stack.pop()
         caller.frame.update((actual, frame[formal.name]) for formal, actual in zip(callee.formals, actuals))
         return dict(zip(callee.conditions, conditions)).get(condition, condition)
 
-    def ask_room(self, place: int, control: int, temporary: int):
-        """Stops the run where a call needs more words than there are, and else notes how many it needs."""
-        if control > self.control or temporary > self.temporary:
-            self.places.append(place)
-            raise Stopped("no room")
-        self.need_control, self.need_temporary = max(self.need_control, control), max(self.need_temporary, temporary)
-
     def leave(self, procedure: Procedure, condition: str, costs: list[tuple[int, int]]) -> str:
-        """The step that ends a procedure: normally, with a formal condition, or with another one, which becomes routineerror."""
-        if condition != NORMAL and condition not in procedure.conditions:
+        """The step that ends a procedure: normally, with a formal condition or spaceerror, or with another one, which becomes
+        routineerror."""
+        if condition not in [NORMAL, SPACEERROR] + procedure.conditions:
             self.step(procedure.place, costs[2])
             return ROUTINEERROR
         self.step(procedure.place, costs[condition != NORMAL])
@@ -315,7 +319,7 @@ class Run:
 
 NAMES = ("x y i n b a c p q r t f d L0 L1 c-c X x1 y_ z* z$ normal leave routineerror spaceerror if loop call proc program integer "
          "boolean array no-op signal main " + "k" * 64).split()
-UNDECLARED = [NORMAL, LEAVE, ROUTINEERROR, "spaceerror"]        # no condition is declared by these names
+UNDECLARED = [NORMAL, LEAVE, ROUTINEERROR, SPACEERROR]        # no condition is declared by these names
 EDGES = [LEAST, LEAST + 1, -1, 0, 1, 2, GREATEST - 1, GREATEST]
 
 
@@ -357,12 +361,16 @@ class Author:
         self.procedure.locals.append(Variable(name, type, random_value(self.rng, type)))
         return name
 
-    def handled(self) -> list[str]:
-        """The conditions that may be handled."""
+    def raised(self) -> list[str]:
+        """The conditions that may be signalled wherever one stands."""
         return [ROUTINEERROR] + self.procedure.conditions + self.procedure.local_conditions
 
+    def handled(self) -> list[str]:
+        """The conditions that may be handled."""
+        return self.raised() + [SPACEERROR]
+
     def signalled(self) -> str:
-        return self.rng.choice(self.handled() + [LEAVE, LEAVE] * (self.loops > 0))
+        return self.rng.choice(self.raised() + [LEAVE, LEAVE] * (self.loops > 0))
 
     def body(self, size: int) -> Statement:
         fuel = self.procedure.fuel
@@ -498,7 +506,7 @@ def random_source(rng: Random) -> Source:
     for _ in range(rng.choice([1, 2, 3, 4, 5, 7])):
         procedures.append(random_procedure(rng, [procedure.name for procedure in procedures], arrays))
     main, *others = procedures
-    wild = rng.random() < 0.1       # any procedure may call any other, and there may be no room for a call
+    wild = rng.random() < 0.1       # any procedure may call any other, until a call has no room
     for caller in procedures:
         callees = [callee for callee in others if wild or callee.rank > caller.rank
                    or callee.rank == caller.rank and callee.fuel and caller.fuel]
@@ -552,12 +560,9 @@ def report(run: Run) -> str:
 
 
 def mean_answer(run: Run) -> Answer:
-    limit = run.steps if run.end == "done" else run.steps + 1
-    words = f"mean s v {run.control} {run.temporary} {limit}"
+    words = f"mean s v {run.control} {run.temporary} {run.steps}"
     if run.end == "done":
         return words, 0, f"steps {run.steps}\ncounted {run.instructions}\n{report(run)}"
-    if run.end == "no room":
-        return words, 7, f"noroom at {run.places[-1]} after {run.steps}\n"
     low = run.control < run.need_control
     return words, 12, f"size control {run.need_control}\n" if low else f"size temporary {run.need_temporary}\n"
 
@@ -572,10 +577,6 @@ def answers(case: Case) -> Iterator[Answer]:
         yield f"prun p {zeros.piton_steps}", 0, piton_text(zeros)
     at_start = f"at {run.places[0]} depth 1\ncondition normal\n" + value_lines(run.source.main.variables, run.start)
     at_start += "attached last\nattached peak\n"
-    if run.end == "no room":
-        yield f"mean s v {sizes} {steps}", 5, f"unfinished {steps}\n"
-        yield f"debug gypsy s v {sizes} watched", 7, at_start + mean_answer(run)[2]
-        return
     end, latest = report(run), " ".join(str(place) for place in run.places[-8:])
     yield f"mean s v {sizes} {steps - 1}", 5, f"unfinished {steps - 1}\n"
     yield f"go s v {sizes} {count} i", 0, f"finished {count}\n{end}"
@@ -594,7 +595,7 @@ def piton_text(run: Run) -> str:
         value = run.frame[variable.name]
         for item in value if isinstance(value, tuple) else (value,):
             stack += f" (bool {'ft'[item]})" if variable.type.kind == "boolean" else f" (int {item})"
-    number = ([LEAVE, ROUTINEERROR, NORMAL] + main.conditions).index(run.condition)
+    number = ([LEAVE, ROUTINEERROR, NORMAL, SPACEERROR] + main.conditions).index(run.condition)
     return f"halted {run.piton_steps}\ncounted {run.instructions}\nc-c (nat {number})\nstack{stack}\n"
 
 
