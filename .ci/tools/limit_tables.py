@@ -129,8 +129,8 @@ SOURCES = [
 
 # Sources from which a text is generated, with the words.
 GENERATED = [
-    ("40,000 calls of the last of 1,000 procedures, generated", "pit t 9 9 o", lambda: of_calls(" (call p998 () ())" * 40000, CALLEES), 0, "written o"),
-    ("16,000 calls inside 195 lists of 199 handlers, generated", "pit t 999 9 o", lambda: inside_handlers(RAISES, 16000), 0, "written o"),
+    ("16,000 calls of the last of 1,000 procedures, generated", "pit t 9 9 o", lambda: of_calls(" (call p998 () ())" * 16000, CALLEES), 0, "written o"),
+    ("10,000 calls inside 195 lists of 199 handlers, generated", "pit t 999 9 o", lambda: inside_handlers(RAISES, 10000), 0, "written o"),
 ]
 
 # All of them: the layer, the name, the words, the text, the exit status and what is printed.
