@@ -1,0 +1,15 @@
+use Rattle.std.proofs.Common.{◌≡◌, ◌++◌, ◌≤◌}
+use Rattle.stack_text.specs.TreeText.{items_text}
+use Rattle.stack_text.specs.TreeView.{nodes}
+use Rattle.stack_text.specs.Grammar.Printed.{items_after}
+use Rattle.gypsy_space.specs.Callees.{names_of}
+use Rattle.space_cert.specs.CertText.{entry_trees}
+use Rattle.space_cert.proofs.PrintedLaws.{entries_left}
+use Rattle.space_cert.proofs.printing.print_entries.Given as goal
+
+-- what is printed, and the entries that are left, are all
+abbrev pub invariant-loop-index : goal.invariant-loop-index
+invariant-loop-index l = record {
+  text : l.out.items ++ items_after l.printed (nodes (entries_left l.procs l.bounds l.index)) ≡ l.fn.out.items ++ items_text (nodes (entry_trees (names_of l.procs) l.bounds));
+  few : l.printed ≤ l.index;
+}

@@ -1,0 +1,61 @@
+-- Whether a certificate covers a source, as the code judges it: by the source's names and by its needs.
+use Rattle.std.specs.Prelude.{ℕ, ◌+◌, nat_le, List, [], ◌∷◌, ◌++◌, map, length, Bool, true, false, ◌&&◌, ◌==◌, Option, Some, None}
+use Rattle.std.specs.List.{list_all}
+use Rattle.gypsy_syntax.specs.Resolved.{position_of, procedure_names}
+use Rattle.gypsy_syntax.specs.Sources.{SourceOf, StmtOf, StmtsOf, no_op, signal, seq, loop, branch, begin, call, predef, no_parts, part}
+use Rattle.gypsy_space.specs.Needs.{Words, stack_words}
+use Rattle.gypsy_space.specs.Events.{need_at}
+use Rattle.gypsy_space.specs.declared.need.Need.{Need}
+use Rattle.space_cert.specs.Covers.{Bounds, bound_at, words_sum}
+use Rattle.space_cert.specs.Order.{call_bound_by}
+
+abbrev pub is_at_most : Words → Words → Bool
+is_at_most u v = nat_le u.temp v.temp && nat_le u.ctrl v.ctrl
+
+-- there is one, and it passes
+abbrev pub is_some_and : Option Words → (Words → Bool) → Bool
+is_some_and None f = false
+is_some_and (Some w) f = f w
+
+abbrev pub covers_call : List Need → Bounds → Words → ℕ → Bool
+covers_call ns bs b p = is_some_and (bound_at bs p) (λ d. is_at_most (call_bound_by (need_at ns p) d) b)
+
+abbrev pub covers_calls : List Need → Bounds → Words → List ℕ → Bool
+covers_calls ns bs b ps = list_all (covers_call ns bs b) ps
+
+-- of a procedure with these needs and these callees
+abbrev pub covers_run : List Need → Bounds → Need → List ℕ → Option Words → Bool
+covers_run ns bs n ps None = true
+covers_run ns bs n ps (Some b) = is_at_most (stack_words n.temp n.ctrl) b && covers_calls ns bs b ps
+
+-- the procedures from p on
+abbrev pub covers_from : List Need → Bounds → ℕ → List (List ℕ) → Bool
+covers_from ns bs p [] = true
+covers_from ns bs p (ps ∷ calls) = covers_run ns bs (need_at ns p) ps (bound_at bs p) && covers_from ns bs (p + 1) calls
+
+abbrev pub covers_main : Words → Words → Option Words → Bool
+covers_main used sizes bound = is_some_and bound (λ b. is_at_most (words_sum used b) sizes)
+
+abbrev pub covers : List Need → Bounds → Words → Words → ℕ → List (List ℕ) → Bool
+covers ns bs used sizes main calls =
+    length bs == length calls && (covers_main used sizes (bound_at bs main) && covers_from ns bs 0 calls)
+
+-- The callees in a source's statements.
+
+abbrev mutual
+  pub source_callees : SourceOf → StmtOf → List ℕ
+  source_callees s (no_op place) = []
+  source_callees s (signal place cond) = []
+  source_callees s (seq place parts) = parts_callees s parts
+  source_callees s (loop place body) = source_callees s body
+  source_callees s (branch place test b c) = source_callees s b ++ source_callees s c
+  source_callees s (begin place body conds arm) = source_callees s body ++ source_callees s arm
+  source_callees s (call place callee xs_place xs cs_place cs) = position_of callee.name (procedure_names s) ∷ []
+  source_callees s (predef place which args) = []
+
+  pub parts_callees : SourceOf → StmtsOf → List ℕ
+  parts_callees s no_parts = []
+  parts_callees s (part b rest) = source_callees s b ++ parts_callees s rest
+
+abbrev pub source_calls : SourceOf → List (List ℕ)
+source_calls s = map (λ p. source_callees s p.body) s.procs

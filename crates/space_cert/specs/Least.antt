@@ -1,0 +1,27 @@
+-- The least certificate.
+use Rattle.std.specs.Prelude.{◌≡◌, ℕ, ◌<◌, Some, None}
+use Rattle.std.specs.Option.{IsSome, IsSomeAnd}
+use Rattle.gypsy_syntax.specs.Programs.{Program}
+use Rattle.gypsy_space.specs.Needs.{Words}
+use Rattle.space_cert.specs.declared.certifying.CertFault.{CertFault}
+use Rattle.space_cert.specs.declared.certifying.CertFault.TheVariants.{Recursive, Memory}
+use Rattle.space_cert.specs.Covers.{Bounds, bound_at, IsAtMost, IsCertificate}
+use Rattle.space_cert.specs.Reaches.{IsReached, IsRecursive}
+
+-- what main reaches has bounds, which are the least that any certificate has; any other procedure has none
+pub record IsLeast (q : Program) (bs : Bounds) : Type 0 where
+  pub certificate : IsCertificate q bs
+  pub reached : (p : ℕ) → IsReached q p → IsSome (bound_at bs p)
+  pub others : (p : ℕ) → ¬ IsReached q p → bound_at bs p ≡ None
+  pub least : (ds : Bounds) → IsCertificate q ds → (p : ℕ) (b : Words) → bound_at bs p ≡ Some b →
+      IsSomeAnd (bound_at ds p) (IsAtMost b)
+
+-- the first recursive procedure that main reaches
+pub record IsFirstRecursive (q : Program) (p : ℕ) : Type 0 where
+  pub recursive : IsRecursive q p
+  pub first : (r : ℕ) → r < p → ¬ IsRecursive q r
+
+-- why there is no certificate, or none was found; out of memory alone is free
+abbrev pub IsCertFault : Program → CertFault → Type 0
+IsCertFault q (Recursive p) = IsFirstRecursive q p
+IsCertFault q Memory = Unit {0}

@@ -1,0 +1,40 @@
+//! Laws of certificates. The functions do nothing: their clauses hold of all programs.
+
+ghost use Rattle.std.specs.Prelude.{◌≡◌, ℕ, List};
+ghost use Rattle.stack_text.specs.Values.{ValueOf};
+ghost use Rattle.gypsy_syntax.specs.ProgramFits.{ProgramFits};
+ghost use Rattle.gypsy_syntax.specs.Programs.{Program};
+ghost use Rattle.gypsy_space.specs.Needs.{Words};
+ghost use Rattle.gypsy_meaning.specs.Machine.{State, Next, gypsy_step, start};
+ghost use Rattle.space_cert.specs.Covers.{Bounds, Covers, IsAtMost, IsCertificate, sizes_for};
+ghost use Rattle.space_cert.specs.Covered.{StateCovered};
+ghost use Rattle.space_cert.specs.Least.{IsLeast};
+ghost use Rattle.space_cert.specs.Never.{HasCallRoom, NeverSpaceError};
+ghost use Rattle.space_cert.specs.Reaches.{IsRecursive};
+
+/// Where a certificate covers a program at the sizes of the stacks, its start is covered, whatever the values are, each step
+/// leads from a covered state to a covered state, and in a covered state a call on top has room. So `spaceerror` is never
+/// raised in a run of a program that fits.
+pub fn certificates_hold()
+    ensures start { (q : Program) (bs : Bounds) (sizes : Words) (v : List ValueOf) → Covers q bs sizes →
+        StateCovered q bs sizes (start q v) }
+    ensures step { (q : Program) (bs : Bounds) (sizes : Words) (g h : State) → Covers q bs sizes →
+        StateCovered q bs sizes g → gypsy_step q sizes g ≡ Next h → StateCovered q bs sizes h }
+    ensures room { (q : Program) (bs : Bounds) (sizes : Words) (g : State) → Covers q bs sizes →
+        StateCovered q bs sizes g → HasCallRoom q sizes g }
+    ensures never { (q : Program) (bs : Bounds) (sizes : Words) (v : List ValueOf) → ProgramFits q →
+        Covers q bs sizes → NeverSpaceError q sizes v }
+{}
+
+/// The least certificate covers its program at the sizes that it is enough for, and no certificate does at a smaller size of
+/// either stack.
+pub fn least_at_main()
+    ensures covers { (q : Program) (bs : Bounds) → IsLeast q bs → Covers q bs (sizes_for q bs) }
+    ensures least { (q : Program) (bs ds : Bounds) (sizes : Words) → IsLeast q bs → Covers q ds sizes →
+        IsAtMost (sizes_for q bs) sizes }
+{}
+
+/// Where main reaches a procedure that reaches itself, there is no certificate.
+pub fn recursion_has_none()
+    ensures { (q : Program) (p : ℕ) (bs : Bounds) → IsRecursive q p → ¬ IsCertificate q bs }
+{}
