@@ -1,8 +1,12 @@
 -- Texts that are printed one after the other.
-use Rattle.std.proofs.Common.{◌≡◌, ◌++◌, ◌∙◌, ℕ, List, Option, Some, None, length, take, drop, refl, ap, sym, append_assoc, append-nil}
+use Rattle.std.proofs.Common.{◌≡◌, ◌++◌, ◌∙◌, ℕ, List, Option, Some, None, Bool, length, take, drop, refl, ap, sym, subst, inl, inr, arith, append_assoc, append-nil}
+use Rattle.std.proofs.lemmas.Bool.{ne_eqb}
+use Rattle.std.proofs.lemmas.List.Elements.{All-head, All-tail}
 use Rattle.std.proofs.Math.Seq.{take-append_seam}
 use Rattle.std.proofs.lemmas.List.{take-append-drop}
+use Rattle.std.specs.Prelude.{◌⊎◌, ◌∷◌, [], ◌<◌, ◌≢◌, All, if◌then◌else◌}
 use Rattle.stack_shelf.specs.Shelf.{appended, PrefixAppended}
+use Rattle.command_line.specs.Devices.{IsFirstLine, onto_first, lines_of, took_each}
 
 pub appended-appended : (taken : Option (List ℕ)) (a b : List ℕ) → appended (appended taken a) b ≡ appended taken (a ++ b)
 appended-appended None a b = refl
@@ -31,3 +35,46 @@ later_prefix old mid new done line after text whole was prefix =
 pub nothing_printed : (taken now : Option (List ℕ)) (text : List ℕ) → now ≡ taken → PrefixAppended taken now text
 nothing_printed None now text same = (0, same)
 nothing_printed (Some t) now text same = (0, same ∙ ap (λ (l : List ℕ). Some l) (sym (append-nil t)))
+
+-- a byte that is no line feed goes on the first line
+on_first : (byte : ℕ) (text : List ℕ) → byte ≢ 10 → lines_of (byte ∷ text) ≡ onto_first byte (lines_of text)
+on_first byte text other = ap (λ (b : Bool). if b then (byte ∷ []) ∷ lines_of text else onto_first byte (lines_of text)) (ne_eqb byte 10 other)
+
+-- a last line without a line feed is one line
+last_line : (byte : ℕ) (line : List ℕ) → All (λ b. b ≢ 10) (byte ∷ line) → lines_of (byte ∷ line) ≡ (byte ∷ line) ∷ []
+last_line byte [] others = on_first byte [] (All-head (λ b. b ≢ 10) byte [] others)
+last_line byte (next ∷ line) others =
+    on_first byte (next ∷ line) (All-head (λ b. b ≢ 10) byte (next ∷ line) others)
+    ∙ ap (onto_first byte) (last_line next line (All-tail (λ b. b ≢ 10) byte (next ∷ line) others))
+
+not_below : 0 < 0 → ⊥
+not_below below = omega (arith, below)
+
+only_line : (line rest : List ℕ) → 0 < length line → All (λ b. b ≢ 10) line → rest ≡ []
+    → lines_of (line ++ rest) ≡ line ∷ lines_of rest
+only_line [] rest some others ends = absurd (not_below some)
+only_line (byte ∷ line) rest some others ends =
+    subst (λ (r : List ℕ). lines_of ((byte ∷ line) ++ r) ≡ (byte ∷ line) ∷ lines_of r) (sym ends)
+    (ap lines_of (append-nil (byte ∷ line)) ∙ last_line byte line others)
+
+-- a line that ends with its first line feed is the first of the lines
+ended_line : (before rest : List ℕ) → All (λ b. b ≢ 10) before
+    → lines_of ((before ++ 10 ∷ []) ++ rest) ≡ (before ++ 10 ∷ []) ∷ lines_of rest
+ended_line [] rest others = refl
+ended_line (byte ∷ before) rest others =
+    on_first byte ((before ++ 10 ∷ []) ++ rest) (All-head (λ b. b ≢ 10) byte before others)
+    ∙ ap (onto_first byte) (ended_line before rest (All-tail (λ b. b ≢ 10) byte before others))
+
+-- the first line of a text, and the lines after it
+first_of_lines : (line rest : List ℕ) → 0 < length line → IsFirstLine line rest → lines_of (line ++ rest) ≡ line ∷ lines_of rest
+first_of_lines line rest some (inl (others, ends)) = only_line line rest some others ends
+first_of_lines line rest some (inr (before, is, others)) =
+    subst (λ (l : List ℕ). lines_of (l ++ rest) ≡ l ∷ lines_of rest) (sym is) (ended_line before rest others)
+
+-- what is still to be taken, once a sink took one more line
+pub line_taken : {S : Type 0} (took : S → List ℕ → S) (before out now : S) (line after rest text : List ℕ)
+    → took_each took before (lines_of text) ≡ took_each took out (lines_of rest) → line ++ after ≡ rest → 0 < length line
+    → IsFirstLine line after → now ≡ took out line → took_each took before (lines_of text) ≡ took_each took now (lines_of after)
+line_taken took before out now line after rest text still whole some first is =
+    still ∙ ap (λ (lines : List (List ℕ)). took_each took out lines) (ap lines_of (sym whole) ∙ first_of_lines line after some first)
+    ∙ ap (λ s. took_each took s (lines_of after)) (sym is)

@@ -1,5 +1,5 @@
 -- What fetching, storing and printing say.
-use Rattle.std.specs.Prelude.{◌≡◌, ◌≢◌, ◌⊎◌, ℕ, ◌∷◌, [], ◌++◌, List, Option, Result, Ok, Err, Contains, All}
+use Rattle.std.specs.Prelude.{◌≡◌, ◌≢◌, ◌⊎◌, ◌==◌, ℕ, ◌∷◌, [], ◌++◌, List, Option, Result, Ok, Err, Contains, All, if◌then◌else◌}
 use Rattle.stack_shelf.specs.Files.{Files}
 use Rattle.stack_shelf.specs.Causes.{Counts, Rose}
 use Rattle.stack_shelf.specs.Shelf.{PartlyStored}
@@ -36,6 +36,20 @@ abbrev pub IsFaultAt : Counts → Counts → List ℕ → EarlyEnd → Type 0
 IsFaultAt before after name (Missing missing) = ⊥
 IsFaultAt before after name (TooLong limit) = ⊥
 IsFaultAt before after name end = EndsAt before after name end
+
+-- the lines of a text, each with its line feed; what follows the last line feed is a line too
+abbrev pub onto_first : ℕ → List (List ℕ) → List (List ℕ)
+onto_first byte [] = (byte ∷ []) ∷ []
+onto_first byte (line ∷ lines) = (byte ∷ line) ∷ lines
+
+abbrev pub lines_of : List ℕ → List (List ℕ)
+lines_of [] = []
+lines_of (byte ∷ text) = if byte == 10 then (byte ∷ []) ∷ lines_of text else onto_first byte (lines_of text)
+
+-- what a sink is after it took these pieces, each by a call of its own
+abbrev pub took_each : {S : Type 0} → (S → List ℕ → S) → S → List (List ℕ) → S
+took_each took sink [] = sink
+took_each took sink (piece ∷ pieces) = took_each took (took sink piece) pieces
 
 -- a line ends with its first line feed, or it has none and nothing follows
 abbrev pub IsFirstLine : List ℕ → List ℕ → Type 0

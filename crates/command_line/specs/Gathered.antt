@@ -1,7 +1,7 @@
 -- The texts that a command reads, where all files are known and no device fails.
-use Rattle.std.specs.Prelude.{ℕ, List, [], ◌∷◌, Result, Ok, Err, if◌then◌else◌}
+use Rattle.std.specs.Prelude.{◌≡◌, ◌≤◌, ℕ, List, [], ◌∷◌, length, Some, Result, Ok, Err, if◌then◌else◌}
 use Rattle.stack_text.specs.Results.{◌>>=◌}
-use Rattle.stack_shelf.specs.Files.{Files}
+use Rattle.stack_shelf.specs.Files.{Files, file_at}
 use Rattle.stack_shelf.specs.Shelf.{Refusal, Missing, TooLong, fetched}
 use Rattle.command_line.specs.declared.early_end.EarlyEnd.{EarlyEnd}
 use Rattle.command_line.specs.declared.early_end.EarlyEnd.TheVariants as end
@@ -15,6 +15,18 @@ Texts = List (Role × List ℕ)
 abbrev pub text_of : Role → Texts → List ℕ
 text_of role [] = []
 text_of role (text ∷ texts) = if is_role text.0 role then text.1 else text_of role texts
+
+-- all texts of a role, in order
+abbrev pub texts_of : Role → Texts → List (List ℕ)
+texts_of role [] = []
+texts_of role (text ∷ texts) = if is_role text.0 role then text.1 ∷ texts_of role texts else texts_of role texts
+
+-- the texts are those of the files of these names, one for each, and within the limit of the role
+abbrev pub AreRead : Files → Role → List (List ℕ) → List (List ℕ) → Type 0
+AreRead files role [] [] = Unit {0}
+AreRead files role (name ∷ names) (text ∷ texts) =
+    (file_at files name ≡ Some text) × (length text ≤ limit_of role) × AreRead files role names texts
+AreRead files role names texts = ⊥
 
 -- a file that can't be fetched ends the command
 abbrev pub text_or_end : Role × List ℕ → Result (List ℕ) Refusal → Result (List ℕ) EarlyEnd

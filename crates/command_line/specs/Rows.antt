@@ -3,10 +3,10 @@ use Rattle.std.specs.Prelude.{ℕ, List, [], ◌∷◌, Option, Some, None, code
 use Rattle.std.specs.Str.{bytes_eq}
 use Rattle.command_line.specs.declared.command.Command.{Command}
 use Rattle.command_line.specs.declared.command.Command.TheVariants.{Check, Mean, Pit, Build, Pcheck, Prun, Pbuild}
-use Rattle.command_line.specs.declared.command.Command.TheVariants.{Run, Go, Show, Debug, Big}
+use Rattle.command_line.specs.declared.command.Command.TheVariants.{Run, Go, Show, Migrate, Asm, Unasm, Need, Cert, Debug, Big, Turns}
 use Rattle.command_line.specs.declared.words.verb.Verb.{Verb}
 use Rattle.command_line.specs.declared.words.verb.Verb.TheVariants as verb
-use Rattle.command_line.specs.Words.{Words, Reader, file, size, limit, seed, procedures, debug_level, end}
+use Rattle.command_line.specs.Words.{Words, Reader, file, size, limit, seed, procedures, debug_level, turn_length, tasks, end}
 
 -- what is read goes on to what reads the words after it
 abbrev pub read_on : {A B : Type 0} → Option (A × Words) → (A → Words → Option B) → Option B
@@ -104,6 +104,43 @@ show_row = do
   image ← file
   at_end (Show image)
 
+-- `migrate IMG OUT`
+unfoldable pub migrate_row : Words → Option Command
+migrate_row = do
+  image ← file
+  output ← file
+  at_end (Migrate image output)
+
+-- `asm TEXT IMG`
+unfoldable pub asm_row : Words → Option Command
+asm_row = do
+  assembly ← file
+  image ← file
+  at_end (Asm assembly image)
+
+-- `unasm IMG OUT`
+unfoldable pub unasm_row : Words → Option Command
+unasm_row = do
+  image ← file
+  assembly ← file
+  at_end (Unasm image assembly)
+
+-- `need SRC CERT`
+unfoldable pub need_row : Words → Option Command
+need_row = do
+  source ← file
+  certificate ← file
+  at_end (Need source certificate)
+
+-- `cert SRC CERT CTRL TEMP`
+unfoldable pub cert_row : Words → Option Command
+cert_row = do
+  source ← file
+  certificate ← file
+  control ← size
+  temporary ← size
+  at_end (Cert source certificate control temporary)
+
 -- `debug LEVEL SRC VALS CTRL TEMP SCRIPT`
 unfoldable pub debug_row : Words → Option Command
 debug_row = do
@@ -122,6 +159,16 @@ big_row = do
   count ← procedures
   at_end (Big number count)
 
+-- `turns Q BUDGET CTRL TEMP SRC VALS ..`
+unfoldable pub turns_row : Words → Option Command
+turns_row = do
+  turn ← turn_length
+  budget ← limit
+  control ← size
+  temporary ← size
+  files ← tasks
+  at_end (Turns turn budget control temporary files)
+
 unfoldable pub verb_of : List ℕ → Option Verb
 verb_of word =
     if bytes_eq word (codes "check") then Some verb.Check
@@ -134,8 +181,14 @@ verb_of word =
     else (if bytes_eq word (codes "run") then Some verb.Run
     else (if bytes_eq word (codes "go") then Some verb.Go
     else (if bytes_eq word (codes "show") then Some verb.Show
+    else (if bytes_eq word (codes "migrate") then Some verb.Migrate
+    else (if bytes_eq word (codes "asm") then Some verb.Asm
+    else (if bytes_eq word (codes "unasm") then Some verb.Unasm
+    else (if bytes_eq word (codes "need") then Some verb.Need
+    else (if bytes_eq word (codes "cert") then Some verb.Cert
     else (if bytes_eq word (codes "debug") then Some verb.Debug
-    else (if bytes_eq word (codes "big") then Some verb.Big else None)))))))))))
+    else (if bytes_eq word (codes "big") then Some verb.Big
+    else (if bytes_eq word (codes "turns") then Some verb.Turns else None)))))))))))))))))
 
 -- the row of each verb
 abbrev pub row_of : Verb → Words → Option Command
@@ -149,8 +202,14 @@ row_of verb.Pbuild = pbuild_row
 row_of verb.Run = run_row
 row_of verb.Go = go_row
 row_of verb.Show = show_row
+row_of verb.Migrate = migrate_row
+row_of verb.Asm = asm_row
+row_of verb.Unasm = unasm_row
+row_of verb.Need = need_row
+row_of verb.Cert = cert_row
 row_of verb.Debug = debug_row
 row_of verb.Big = big_row
+row_of verb.Turns = turns_row
 
 abbrev pub command_by : Option Verb → Words → Option Command
 command_by None words = None

@@ -6,7 +6,8 @@ use Rattle.std.specs.declared.io.ErrorKind.{ErrorKind}
 use Rattle.std.specs.declared.io.ErrorKind.TheVariants as kind
 use Rattle.command_line.specs.declared.status.Status.{Status}
 use Rattle.command_line.specs.declared.status.Status.TheVariants.{Done, Usage, Refused, Values, Image, Unfinished, Outside, Error}
-use Rattle.command_line.specs.declared.status.Status.TheVariants.{Missing, ShelfFault, SinkFault, Size, Script, OutOfMemory, NoWords}
+use Rattle.command_line.specs.declared.status.Status.TheVariants.{Missing, ShelfFault, SinkFault, Size, Script, OutOfMemory}
+use Rattle.command_line.specs.declared.status.Status.TheVariants.{NotPlain, Recursive, Certificate, NoWords}
 
 abbrev pub status_code : Status → ℕ
 status_code Done = 0
@@ -23,6 +24,9 @@ status_code SinkFault = 11
 status_code Size = 12
 status_code Script = 13
 status_code OutOfMemory = 14
+status_code NotPlain = 16
+status_code Recursive = 17
+status_code Certificate = 18
 status_code NoWords = 19
 
 -- the status where the words can't be read, by the kind of the error

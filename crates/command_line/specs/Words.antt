@@ -1,10 +1,11 @@
 -- The words of a command line, read one after the other.
-use Rattle.std.specs.Prelude.{◌≡◌, ℕ, ℤ, pos, negsuc, ◌-◌, ◌^◌, List, [], ◌∷◌, length, map, String, string_bytes}
+use Rattle.std.specs.Prelude.{◌≡◌, ℕ, zero, suc, ℤ, pos, negsuc, ◌-◌, ◌^◌, List, [], ◌∷◌, length, map, String, string_bytes}
 use Rattle.std.specs.Prelude.{◌&&◌, nat_le, Option, Some, None, Result, Ok, Err, codes, if◌then◌else◌}
 use Rattle.std.specs.Global.{Global}
 use Rattle.std.specs.Str.{bytes_eq}
 use Rattle.stack_text.specs.Numerals.{is_digits, numeral_of}
 use Rattle.stack_text.specs.Options.{◌>>=◌}
+use Rattle.command_line.specs.declared.command.TaskFiles.{TaskFiles}
 use Rattle.command_line.specs.declared.words.reader.WordsFault.{WordsFault}
 use Rattle.command_line.specs.declared.words.reader.WordsFault.TheVariants.{Usage, Memory}
 use Rattle.command_line.specs.declared.words.reader.Level.{Level}
@@ -102,6 +103,43 @@ debug_level words = do
   word ← first words
   named ← level_named word.0
   Some (named, word.1)
+
+-- a turn is 1 to 2^40 instructions
+abbrev pub length_of_turn : List ℕ → Option ℕ
+length_of_turn word = number_within 1 (2 ^ 40) word
+
+-- how many instructions a turn has
+unfoldable pub turn_length : Reader ℕ
+turn_length words = do
+  word ← first words
+  number ← length_of_turn word.0
+  Some (number, word.1)
+
+-- the first task, and the words after it
+unfoldable pub task : Reader TaskFiles
+task words = do
+  source ← file words
+  values ← file source.1
+  Some (record { source = source.0; values = values.0 }, values.1)
+
+-- no task at the end of the words, else these
+abbrev pub unless_ended : Words → Option (List TaskFiles) → Option (List TaskFiles)
+unless_ended [] others = Some []
+unless_ended (word ∷ words) others = others
+
+-- one task or more, and at most so many, up to the last word
+unfoldable pub tasks_within : ℕ → Words → Option (List TaskFiles)
+tasks_within zero words = None
+tasks_within (suc n) words = do
+  first ← task words
+  others ← unless_ended first.1 (tasks_within n first.1)
+  Some (first.0 ∷ others)
+
+-- one to eight tasks, up to the last word
+unfoldable pub tasks : Reader (List TaskFiles)
+tasks words = do
+  read ← tasks_within 8 words
+  Some (read, [])
 
 -- no further word
 unfoldable pub end : Words → Option (Unit {0})

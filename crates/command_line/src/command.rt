@@ -1,8 +1,10 @@
 //! The commands.
+ghost use Rattle.std.specs.Prelude.{◌≡◌, IfOk, map};
+ghost use Rattle.command_line.specs.CommandFiles.{task_inputs};
 
 use crate::role::{Role, RoleFile};
-use crate::words::{FileName, Level, ProcedureCount, StackSize};
-use stack_text::Memory;
+use crate::words::{FileName, Level, ProcedureCount, StackSize, TurnLength};
+use stack_text::{Memory, Seq};
 use std::alloc::Global;
 
 /// What the words ask for, with the names of the files, the sizes of the two stacks, and the most steps.
@@ -67,6 +69,33 @@ pub enum Command {
     Show {
         image: FileName,
     },
+    /// Stores an image as one of version 2.
+    Migrate {
+        image: FileName,
+        output: FileName,
+    },
+    /// Assembles a text to an image, and stores that.
+    Asm {
+        assembly: FileName,
+        image: FileName,
+    },
+    /// Prints an image as a text of the assembler, and stores that.
+    Unasm {
+        image: FileName,
+        assembly: FileName,
+    },
+    /// Makes the least certificate of a source, and stores that.
+    Need {
+        source: FileName,
+        certificate: FileName,
+    },
+    /// Judges whether a certificate covers a source in stacks of these sizes.
+    Cert {
+        source: FileName,
+        certificate: FileName,
+        control: StackSize,
+        temporary: StackSize,
+    },
     /// Follows a script of a debugger in a session of a source's program, at a level.
     Debug {
         level: Level,
@@ -81,6 +110,23 @@ pub enum Command {
         number: u32,
         procedures: ProcedureCount,
     },
+    /// Builds sources, and runs their images by turns in one memory.
+    Turns {
+        turn: TurnLength,
+        budget: u64,
+        control: StackSize,
+        temporary: StackSize,
+        tasks: Seq<TaskFiles>,
+    },
+}
+
+/// The files of a task.
+#[derive(Drop)]
+pub struct TaskFiles {
+    /// Its source.
+    pub source: FileName,
+    /// The values of its variables.
+    pub values: FileName,
 }
 
 impl Command {
@@ -102,10 +148,14 @@ impl Command {
                 Role::Image.file(image),
                 Role::Values.file(values),
             ]?),
-            Command::Show { image } => Ok(vec![in alloc; Role::Image.file(image)]?),
+            Command::Show { image }
+            | Command::Migrate { image, .. }
+            | Command::Unasm { image, .. } => Ok(vec![in alloc; Role::Image.file(image)]?),
+            Command::Asm { assembly, .. } => Ok(vec![in alloc; Role::Assembly.file(assembly)]?),
             Command::Check { source }
             | Command::Pit { source, .. }
-            | Command::Build { source, .. } => Ok(vec![in alloc; Role::Source.file(source)]?),
+            | Command::Build { source, .. }
+            | Command::Need { source, .. } => Ok(vec![in alloc; Role::Source.file(source)]?),
             Command::Pcheck { piton }
             | Command::Prun { piton, .. }
             | Command::Pbuild { piton, .. } => Ok(vec![in alloc; Role::Piton.file(piton)]?),
@@ -119,7 +169,16 @@ impl Command {
                 Role::Values.file(values),
                 Role::Script.file(script),
             ]?),
+            Command::Cert {
+                source,
+                certificate,
+                ..
+            } => Ok(vec![in alloc;
+                Role::Source.file(source),
+                Role::Certificate.file(certificate),
+            ]?),
             Command::Big { .. } => Ok(Vec::new(alloc)),
+            Command::Turns { tasks, .. } => task_inputs(alloc, tasks.as_slice()),
         }
     }
 
@@ -131,9 +190,26 @@ impl Command {
         match self {
             Command::Go { image, .. }
             | Command::Build { image, .. }
-            | Command::Pbuild { image, .. } => Some(Role::Image.file(image)),
+            | Command::Pbuild { image, .. }
+            | Command::Asm { image, .. } => Some(Role::Image.file(image)),
+            Command::Migrate { output, .. } => Some(Role::Image.file(output)),
             Command::Pit { piton, .. } => Some(Role::Piton.file(piton)),
+            Command::Unasm { assembly, .. } => Some(Role::Assembly.file(assembly)),
+            Command::Need { certificate, .. } => Some(Role::Certificate.file(certificate)),
             _ => None,
         }
     }
+}
+
+/// The files that the tasks read, task by task; out of memory is the only error.
+fn task_inputs(alloc: Global, tasks: &[TaskFiles]) -> Result<Vec<RoleFile<'_>>, Memory>
+    ensures { IfOk result (λ inputs.
+        map (λ input. (input.role, input.name.now)) inputs.items ≡ task_inputs tasks.now) }
+{
+    let mut inputs = Vec::new(alloc);
+    for task in tasks {
+        inputs.push(Role::TaskSource.file(&task.source))?;
+        inputs.push(Role::TaskValues.file(&task.values))?;
+    }
+    Ok(inputs)
 }

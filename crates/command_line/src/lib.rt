@@ -5,6 +5,7 @@
 mod command;
 mod early_end;
 mod fetching;
+mod law;
 mod printing;
 mod role;
 mod status;
@@ -12,12 +13,13 @@ mod storing;
 mod texts;
 mod words;
 
-pub use command::Command;
+pub use command::{Command, TaskFiles};
 pub use early_end::EarlyEnd;
 pub use fetching::gather;
+pub use law::texts_are_read;
 pub use printing::print;
 pub use role::{Role, RoleFile};
 pub use status::{Status, exit_code};
 pub use storing::save;
 pub use texts::Texts;
-pub use words::{FileName, Level, ProcedureCount, StackSize, WordsFault, command_of};
+pub use words::{FileName, Level, ProcedureCount, StackSize, TurnLength, WordsFault, command_of};

@@ -2,7 +2,7 @@
 ghost use Rattle.std.specs.Prelude.{◌≡◌, ◌≤◌, ◌<◌, ◌++◌, length, OnOk, OnErr, IsErrOf};
 ghost use Rattle.stack_shelf.specs.Causes.{Rose};
 ghost use Rattle.stack_shelf.specs.Shelf.{appended, PrefixAppended};
-ghost use Rattle.command_line.specs.Devices.{IsFirstLine};
+ghost use Rattle.command_line.specs.Devices.{IsFirstLine, lines_of, took_each};
 
 use stack_shelf::{PutFault, Sink};
 
@@ -19,9 +19,10 @@ fn first_line(text: &[u8]) -> (&[u8], &[u8])
     }
 }
 
-/// Prints a text, each of its lines by one call of `put`. Where the sink fails, a prefix of the text was printed.
+/// Prints a text, each of its lines with its line feed by one call of `put`. Where the sink fails, a prefix of the text was printed.
 pub fn print<K: Sink>(out: &mut K, text: &[u8]) -> Result<(), PutFault>
     ensures ok { OnOk result (K.taken out.new ≡ appended (K.taken out.old) text.now) }
+    ensures lines { OnOk result (out.new ≡ took_each K.took out.old (lines_of text.now)) }
     ensures prefix { OnErr result (PrefixAppended (K.taken out.old) (K.taken out.new) text.now) }
     ensures failed { IsErrOf result PutFault.Failed → Rose (K.faults out.old) (K.faults out.new) }
     ensures faults { K.faults out.old ≤ K.faults out.new }

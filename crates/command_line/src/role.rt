@@ -14,6 +14,14 @@ pub enum Role {
     Values,
     /// A script of a debugger.
     Script,
+    /// A text of the assembler.
+    Assembly,
+    /// A certificate that calls have room.
+    Certificate,
+    /// A source of a task.
+    TaskSource,
+    /// Values of a task's variables.
+    TaskValues,
 }
 
 impl Role {
@@ -41,9 +49,14 @@ impl Role {
         ensures small { result ≤ 2 ^ 31 }
     {
         match self {
-            Role::Source | Role::Values | Role::Script => 1 << 20,
+            Role::Source
+            | Role::Values
+            | Role::Script
+            | Role::Certificate
+            | Role::TaskSource
+            | Role::TaskValues => 1 << 20,
             Role::Piton => 1 << 24,
-            Role::Image => 1 << 23,
+            Role::Image | Role::Assembly => 1 << 25,
         }
     }
 }

@@ -35,6 +35,12 @@ pub enum Status {
     Script,
     /// There was no memory.
     OutOfMemory,
+    /// The image is not one that a text of the assembler spells.
+    NotPlain,
+    /// A procedure that main reaches by calls reaches itself.
+    Recursive,
+    /// The certificate breaks a rule.
+    Certificate,
     /// The words of the command line can't be read. `cli` never ends so.
     NoWords,
 }
@@ -62,6 +68,9 @@ impl Status {
             Status::Size => 12,
             Status::Script => 13,
             Status::OutOfMemory => 14,
+            Status::NotPlain => 16,
+            Status::Recursive => 17,
+            Status::Certificate => 18,
             Status::NoWords => 19,
         }
     }

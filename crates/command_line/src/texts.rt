@@ -1,6 +1,7 @@
 //! The texts that a command reads.
 
 use crate::role::Role;
+use stack_text::Memory;
 use std::alloc::{AllocFailed, Global};
 use std::marker::Model;
 
@@ -54,8 +55,8 @@ impl Model for Texts {
 }
 
 impl Texts {
-    ghost use Rattle.std.specs.Prelude.{◌≡◌, ◌≤◌, ◌^◌, ◌++◌, ◌∷◌, [], length, OnOk, OnErr};
-    ghost use Rattle.command_line.specs.Gathered.{text_of};
+    ghost use Rattle.std.specs.Prelude.{◌≡◌, ◌≤◌, ◌^◌, ◌++◌, ◌∷◌, [], length, map, All, IfOk, OnOk, OnErr};
+    ghost use Rattle.command_line.specs.Gathered.{text_of, texts_of};
 
     /// No texts. It takes no memory.
     pub fn new(alloc: Global) -> Texts
@@ -85,5 +86,19 @@ impl Texts {
             }
         }
         &[]
+    }
+
+    /// The bytes of all texts of a role, in order; out of memory is the only error.
+    pub fn all_of(&self, alloc: Global, role: Role) -> Result<Vec<&[u8]>, Memory>
+        ensures value { IfOk result (λ texts. map (λ text. text.now) texts.items ≡ texts_of role self.now) }
+        ensures short { IfOk result (λ texts. All (λ text. length text.now ≤ 2 ^ 31) texts.items) }
+    {
+        let mut found = Vec::new(alloc);
+        for text in &self.texts {
+            if text.0.is(role) {
+                found.push(text.1.as_slice())?;
+            }
+        }
+        Ok(found)
     }
 }

@@ -7,6 +7,6 @@ mod row;
 mod verb;
 
 pub use name::FileName;
-pub use number::{ProcedureCount, StackSize};
+pub use number::{ProcedureCount, StackSize, TurnLength};
 pub use reader::{Level, WordsFault};
 pub use row::command_of;

@@ -44,9 +44,13 @@ shown files = map (λ file. (string_bytes file.0, file.1.items)) files
 abbrev pub kept_prefix : List (ℕ × ℕ) → ℕ → List ℕ → List ℕ
 kept_prefix failing call bytes = take (unwrap_or (kept_by failing call) 0) bytes
 
+-- a sink after a call that took all of these bytes
+abbrev pub taken_by : MemorySinkOf → List ℕ → MemorySinkOf
+taken_by sink bytes = record sink { taken = sink.taken ++ bytes; calls = saturating_increment sink.calls }
+
 -- a sink after a call with this result
 abbrev pub after_put : {X : Type 0} → MemorySinkOf → List ℕ → Result X PutFault → MemorySinkOf
-after_put sink bytes (Ok _) = record sink { taken = sink.taken ++ bytes; calls = saturating_increment sink.calls }
+after_put sink bytes (Ok _) = taken_by sink bytes
 after_put sink bytes (Err putting.Failed) =
     record sink {
       taken = sink.taken ++ kept_prefix sink.failing sink.calls bytes;

@@ -41,6 +41,8 @@ impl<P: Print + Drop> Sink for StdoutSink<P> {
 
     ghost faults = { λ s. s };
 
+    ghost took = { λ s _. s };
+
     fn put(&mut self, bytes: &[u8]) -> Result<(), PutFault>
         ensures faults { self.old ≤ self.new }
         ensures after { self.new ≡ faults_after_put self.old result }

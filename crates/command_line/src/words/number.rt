@@ -109,3 +109,43 @@ impl ProcedureCount {
         self.procedures
     }
 }
+
+/// How many instructions a turn has: 1 to 2^40.
+#[derive(Drop)]
+pub struct TurnLength {
+    instructions: u64,
+}
+
+impl Model for TurnLength {
+    ghost use Rattle.std.specs.Prelude.{ℕ, ◌≤◌, ◌^◌};
+
+    ghost Value = { ℕ };
+
+    ghost view = { λ length. length.instructions };
+
+    ghost invariant = { λ length. (1 ≤ length.instructions) × (length.instructions ≤ 2 ^ 40) };
+}
+
+impl TurnLength {
+    ghost use Rattle.std.specs.Prelude.{◌≡◌, ◌≤◌, ◌^◌};
+    ghost use Rattle.command_line.specs.Words.{length_of_turn};
+
+    /// The length that a word spells.
+    pub fn read(word: &str) -> Option<TurnLength>
+        ensures { result ≡ length_of_turn word.now }
+    {
+        match number_within(1, 1 << 40, word) {
+            Some(instructions) => Some(TurnLength { instructions }),
+            None => None,
+        }
+    }
+
+    /// How many instructions it has.
+    pub fn instructions(&self) -> u64
+        ensures value { result ≡ self.now }
+        ensures low { 1 ≤ result }
+        ensures high { result ≤ 2 ^ 40 }
+    {
+        self.instructions
+    }
+}

@@ -1,11 +1,15 @@
 //! Reads words one after the other.
 ghost use Rattle.std.specs.Prelude.{◌≡◌};
-ghost use Rattle.command_line.specs.Words.{Reads, ReadsExactly, spelled, first, file, size, limit, seed, procedures, debug_level, level_named, end};
+ghost use Rattle.command_line.specs.Words.{Reads, ReadsExactly, spelled, first, file, size, limit, seed, procedures, debug_level, level_named, turn_length, task, tasks_within, tasks, end};
 
+use crate::command::TaskFiles;
 use crate::words::name::FileName;
-use crate::words::number::{ProcedureCount, StackSize, number_within};
-use stack_text::Memory;
-use std::alloc::Global;
+use crate::words::number::{ProcedureCount, StackSize, TurnLength, number_within};
+use stack_text::{Memory, Seq};
+use std::alloc::{AllocFailed, Global};
+
+/// The most tasks of a command.
+const MOST_TASKS: u32 = 8;
 
 /// Why words are no command.
 #[derive(Clone, Copy, PartialEq, Eq)]
@@ -23,6 +27,17 @@ impl From<Memory> for WordsFault {
     ghost from_gives = { λ _ e. e ≡ Memory };
 
     fn from(_: Memory) -> Self {
+        WordsFault::Memory
+    }
+}
+
+impl<T: Drop> From<AllocFailed<T>> for WordsFault {
+    ghost use Rattle.std.specs.Prelude.{◌≡◌};
+    ghost use Rattle.command_line.specs.declared.words.reader.WordsFault.TheVariants.{Memory};
+
+    ghost from_gives = { λ _ e. e ≡ Memory };
+
+    fn from(_: AllocFailed<T>) -> Self {
         WordsFault::Memory
     }
 }
@@ -129,6 +144,53 @@ pub fn debug_level(words: &[String]) -> Result<(Level, &[String]), WordsFault>
         Some(level) => Ok((level, rest)),
         None => Err(WordsFault::Usage),
     }
+}
+
+/// How many instructions a turn has: 1 to 2^40.
+#[tactic(auto, unfolding(crate::specs::Words::turn_length))]
+pub fn turn_length(words: &[String]) -> Result<(TurnLength, &[String]), WordsFault>
+    ensures { ReadsExactly (λ found. (found.0, spelled found.1.now)) result (turn_length (spelled words.now)) }
+{
+    let (word, rest) = first(words)?;
+    match TurnLength::read(word) {
+        Some(length) => Ok((length, rest)),
+        None => Err(WordsFault::Usage),
+    }
+}
+
+/// The names of a task's files.
+#[tactic(auto, unfolding(crate::specs::Words::task))]
+fn task(alloc: Global, words: &[String]) -> Result<(TaskFiles, &[String]), WordsFault>
+    ensures { Reads (λ found. (found.0, spelled found.1.now)) result (task (spelled words.now)) }
+{
+    let (source, rest) = file(alloc, words)?;
+    let (values, rest) = file(alloc, rest)?;
+    Ok((TaskFiles { source, values }, rest))
+}
+
+/// The tasks that are all of the words: one or more, and at most so many.
+fn tasks_within(alloc: Global, most: u32, words: &[String]) -> Result<Seq<TaskFiles>, WordsFault>
+    ensures { Reads (λ tasks. tasks) result (tasks_within most (spelled words.now)) }
+{
+    let mut tasks = Seq::new(alloc);
+    let mut rest = words;
+    for _ in 0..most {
+        let (read, after) = task(alloc, rest)?;
+        tasks.push(read)?;
+        if after.is_empty() {
+            return Ok(tasks);
+        }
+        rest = after;
+    }
+    Err(WordsFault::Usage)
+}
+
+/// One to eight tasks, which are all of the words.
+#[tactic(auto, unfolding(crate::specs::Words::tasks))]
+pub fn tasks(alloc: Global, words: &[String]) -> Result<(Seq<TaskFiles>, &[String]), WordsFault>
+    ensures { Reads (λ found. (found.0, spelled found.1.now)) result (tasks (spelled words.now)) }
+{
+    Ok((tasks_within(alloc, MOST_TASKS, words)?, &[]))
 }
 
 /// No further word.

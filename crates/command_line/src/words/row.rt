@@ -1,9 +1,11 @@
 //! The words of each command.
 ghost use Rattle.command_line.specs.Words.{Reads, ReadsExactly, spelled};
-ghost use Rattle.command_line.specs.Rows.{check_row, mean_row, pit_row, build_row, pcheck_row, prun_row, pbuild_row, run_row, go_row, show_row, debug_row, big_row, row_of, command_of};
+ghost use Rattle.command_line.specs.Rows.{check_row, mean_row, pit_row, build_row, pcheck_row, prun_row, pbuild_row, run_row, go_row, show_row, migrate_row, asm_row, unasm_row, need_row, cert_row, debug_row, big_row, turns_row, row_of, command_of};
 
 use crate::command::Command;
-use crate::words::reader::{WordsFault, debug_level, end, file, limit, procedures, seed, size};
+use crate::words::reader::{
+    WordsFault, debug_level, end, file, limit, procedures, seed, size, tasks, turn_length,
+};
 use crate::words::verb::{Verb, verb_of};
 use std::alloc::Global;
 
@@ -153,6 +155,71 @@ fn show_row(alloc: Global, words: &[String]) -> Result<Command, WordsFault>
     Ok(Command::Show { image })
 }
 
+/// `migrate IMG OUT`
+#[tactic(auto, unfolding(crate::specs::Rows::migrate_row))]
+fn migrate_row(alloc: Global, words: &[String]) -> Result<Command, WordsFault>
+    ensures { Reads (λ command. command) result (migrate_row (spelled words.now)) }
+{
+    let (image, words) = file(alloc, words)?;
+    let (output, words) = file(alloc, words)?;
+    end(words)?;
+    Ok(Command::Migrate { image, output })
+}
+
+/// `asm TEXT IMG`
+#[tactic(auto, unfolding(crate::specs::Rows::asm_row))]
+fn asm_row(alloc: Global, words: &[String]) -> Result<Command, WordsFault>
+    ensures { Reads (λ command. command) result (asm_row (spelled words.now)) }
+{
+    let (assembly, words) = file(alloc, words)?;
+    let (image, words) = file(alloc, words)?;
+    end(words)?;
+    Ok(Command::Asm { assembly, image })
+}
+
+/// `unasm IMG OUT`
+#[tactic(auto, unfolding(crate::specs::Rows::unasm_row))]
+fn unasm_row(alloc: Global, words: &[String]) -> Result<Command, WordsFault>
+    ensures { Reads (λ command. command) result (unasm_row (spelled words.now)) }
+{
+    let (image, words) = file(alloc, words)?;
+    let (assembly, words) = file(alloc, words)?;
+    end(words)?;
+    Ok(Command::Unasm { image, assembly })
+}
+
+/// `need SRC CERT`
+#[tactic(auto, unfolding(crate::specs::Rows::need_row))]
+fn need_row(alloc: Global, words: &[String]) -> Result<Command, WordsFault>
+    ensures { Reads (λ command. command) result (need_row (spelled words.now)) }
+{
+    let (source, words) = file(alloc, words)?;
+    let (certificate, words) = file(alloc, words)?;
+    end(words)?;
+    Ok(Command::Need {
+        source,
+        certificate,
+    })
+}
+
+/// `cert SRC CERT CTRL TEMP`
+#[tactic(auto, unfolding(crate::specs::Rows::cert_row))]
+fn cert_row(alloc: Global, words: &[String]) -> Result<Command, WordsFault>
+    ensures { Reads (λ command. command) result (cert_row (spelled words.now)) }
+{
+    let (source, words) = file(alloc, words)?;
+    let (certificate, words) = file(alloc, words)?;
+    let (control, words) = size(words)?;
+    let (temporary, words) = size(words)?;
+    end(words)?;
+    Ok(Command::Cert {
+        source,
+        certificate,
+        control,
+        temporary,
+    })
+}
+
 /// `debug LEVEL SRC VALS CTRL TEMP SCRIPT`
 #[tactic(auto, unfolding(crate::specs::Rows::debug_row))]
 fn debug_row(alloc: Global, words: &[String]) -> Result<Command, WordsFault>
@@ -186,6 +253,26 @@ fn big_row(words: &[String]) -> Result<Command, WordsFault>
     Ok(Command::Big { number, procedures })
 }
 
+/// `turns Q BUDGET CTRL TEMP SRC VALS`, with up to seven further pairs `SRC VALS`
+#[tactic(auto, unfolding(crate::specs::Rows::turns_row))]
+fn turns_row(alloc: Global, words: &[String]) -> Result<Command, WordsFault>
+    ensures { Reads (λ command. command) result (turns_row (spelled words.now)) }
+{
+    let (turn, words) = turn_length(words)?;
+    let (budget, words) = limit(words)?;
+    let (control, words) = size(words)?;
+    let (temporary, words) = size(words)?;
+    let (tasks, words) = tasks(alloc, words)?;
+    end(words)?;
+    Ok(Command::Turns {
+        turn,
+        budget,
+        control,
+        temporary,
+        tasks,
+    })
+}
+
 /// The command of a verb and the words after it.
 fn row_of(alloc: Global, verb: Verb, words: &[String]) -> Result<Command, WordsFault>
     ensures { Reads (λ command. command) result (row_of verb (spelled words.now)) }
@@ -201,8 +288,14 @@ fn row_of(alloc: Global, verb: Verb, words: &[String]) -> Result<Command, WordsF
         Verb::Run => run_row(alloc, words),
         Verb::Go => go_row(alloc, words),
         Verb::Show => show_row(alloc, words),
+        Verb::Migrate => migrate_row(alloc, words),
+        Verb::Asm => asm_row(alloc, words),
+        Verb::Unasm => unasm_row(alloc, words),
+        Verb::Need => need_row(alloc, words),
+        Verb::Cert => cert_row(alloc, words),
         Verb::Debug => debug_row(alloc, words),
         Verb::Big => big_row(words),
+        Verb::Turns => turns_row(alloc, words),
     }
 }
 

@@ -15,8 +15,14 @@ pub enum Verb {
     Run,
     Go,
     Show,
+    Migrate,
+    Asm,
+    Unasm,
+    Need,
+    Cert,
     Debug,
     Big,
+    Turns,
 }
 
 /// The verb that a word is.
@@ -35,8 +41,14 @@ pub fn verb_of(word: &str) -> Option<Verb>
         "run" => Some(Verb::Run),
         "go" => Some(Verb::Go),
         "show" => Some(Verb::Show),
+        "migrate" => Some(Verb::Migrate),
+        "asm" => Some(Verb::Asm),
+        "unasm" => Some(Verb::Unasm),
+        "need" => Some(Verb::Need),
+        "cert" => Some(Verb::Cert),
         "debug" => Some(Verb::Debug),
         "big" => Some(Verb::Big),
+        "turns" => Some(Verb::Turns),
         _ => None,
     }
 }
