@@ -1,6 +1,5 @@
 -- The laws of each field.
-use Rattle.std.proofs.Common.{◌≡◌, ℕ, suc, ◌+◌, ◌^◌, ◌<◌, ◌≤◌, Bool, true, false, not, ◌&&◌, ltb, leb, eqb, List, [], ◌∷◌, ◌++◌, length, Ok, refl, sym, ap, subst, ◌∙◌, append_assoc, arith}
-use Rattle.std.specs.List.{list_any}
+use Rattle.std.proofs.Common.{◌≡◌, ℕ, suc, ◌+◌, ◌^◌, ◌<◌, ◌≤◌, Bool, true, false, ◌&&◌, ◌||◌, ltb, leb, eqb, List, [], ◌∷◌, ◌++◌, length, Ok, refl, sym, ap, subst, ◌∙◌, append_assoc, arith}
 use Rattle.std.specs.Str.{bytes_eq}
 use Rattle.std.specs.Prelude.{codes}
 use Rattle.std.proofs.lemmas.Bool.{lt-ltb, ltb-true, leb-true, le-leb, and_parts, and_from, eqb-true, eq-eqb, and_right}
@@ -9,11 +8,11 @@ use Rattle.stack_text.specs.Names.{is_name}
 use Rattle.fm_image.specs.declared.fault.Rule.{Rule}
 use Rattle.fm_image.specs.declared.fault.Rule.TheVariants as rules
 use Rattle.fm_image.specs.declared.window.Window.{Window}
-use Rattle.fm_image.specs.Image.{is_size, is_inside, is_window, is_new, is_condition}
+use Rattle.fm_image.specs.Image.{is_version, is_size, is_inside, is_window, is_new, is_condition}
 use Rattle.fm_image.specs.Spelling.{number_bytes, name_bytes, window_bytes, opening_bytes}
 use Rattle.stack_text.specs.Results.{◌>>=◌}
 use Rattle.fm_image.specs.Fields.{number_at, passing, bytes_at, is_name_length, text_at}
-use Rattle.fm_image.specs.Reading.{opening_at, is_magic, is_version, window_at, name_at, condition_at}
+use Rattle.fm_image.specs.Reading.{opening_at, is_magic, window_at, name_at, new_name_at}
 use Rattle.stack_text.proofs.ResultLaws.{bind_ok, bind_at}
 use Rattle.fm_image.proofs.ReaderLaws.{IsBytes, ok_is, Took, Took-then, Reads, bytes_reads, is_word, number_reads, passing_reads, refit_reads}
 
@@ -23,6 +22,16 @@ limited_reads test rule end = passing_reads test rule end (number_at end) number
 -- what a test lets pass is below 2^32
 pub both : (n limit : ℕ) (test : Bool) → n ≤ limit → limit < 2 ^ 32 → test ≡ true → (is_word n && test) ≡ true
 both n limit test le lt h = let below : n < 2 ^ 32 = omega (arith, le, lt) in and_from _ _ (lt-ltb _ _ below) h
+
+implied : (word test : Bool) → (test ≡ true → word ≡ true) → (word && test) ≡ test
+implied word true h = and_from _ _ (h refl) refl
+implied word false h = and_right word false refl
+
+-- a test that passes small numbers only
+pub small_reads : (test : ℕ → Bool) (rule : Rule) (end : ℕ) → ((n : ℕ) → test n ≡ true → n < 2 ^ 32) → Reads (passing test rule end (number_at end)) number_bytes test
+small_reads test rule end small =
+    refit_reads (passing test rule end (number_at end)) number_bytes (λ n. is_word n && test n) test (limited_reads test rule end)
+    (λ n. implied (is_word n) (test n) (λ h. lt-ltb n (2 ^ 32) (small n h)))
 
 -- ---- names
 
@@ -69,29 +78,40 @@ name_reads end =
     refit_reads (name_at end) name_bytes (λ name. is_name_length (length name) && is_name name) is_name
     (passing_reads is_name rules.Name end (text_at end) name_bytes (λ text. is_name_length (length text)) (text_reads end)) (λ name. length_implied name (is_name name) refl)
 
-pub condition_reads : (end : ℕ) (earlier : List (List ℕ)) → Reads (condition_at end earlier) name_bytes (is_condition earlier)
-condition_reads end earlier = passing_reads (is_new (λ other. other) earlier) rules.Repeated end (name_at end) name_bytes is_name (name_reads end)
+pub new_name_reads : (end : ℕ) (earlier : List (List ℕ)) → Reads (new_name_at end earlier) name_bytes (is_condition earlier)
+new_name_reads end earlier = passing_reads (is_new earlier) rules.Repeated end (name_at end) name_bytes is_name (name_reads end)
 
 -- ---- the opening
 
 bytes_eq-same : (xs ys : List ℕ) → bytes_eq xs ys ≡ true → xs ≡ ys
 bytes_eq-same xs ys h = (bytes_eq-Decides xs ys).0 h
 
-pub opening_takes : (end : ℕ) (bytes : List ℕ) (version : ℕ) (rest : List ℕ) → IsBytes bytes → opening_at end bytes ≡ Ok (version, rest) → Took bytes opening_bytes rest
+small_version : (version : ℕ) → is_version version ≡ true → is_word version ≡ true
+small_version version h =
+    let le : version ≤ 2 = by_test (eqb version 1) refl h in
+    lt-ltb version (2 ^ 32) (omega (arith, le))
+  where
+    by_test : (one : Bool) → eqb version 1 ≡ one → (one || eqb version 2) ≡ true → version ≤ 2
+    by_test true e h = omega (arith, eqb-true version 1 e)
+    by_test false e h = omega (arith, eqb-true version 2 h)
+
+opening_takes : (end : ℕ) (bytes : List ℕ) (version : ℕ) (rest : List ℕ) → IsBytes bytes → opening_at end bytes ≡ Ok (version, rest) → Took bytes (opening_bytes version) rest × (is_version version ≡ true)
 opening_takes end bytes version rest ok e =
     let b = bind_ok (passing is_magic rules.Magic end (bytes_at end 4) bytes) (λ magic. passing is_version rules.Version end (number_at end) magic.1) (version, rest) e in
     let t = (passing_reads is_magic rules.Magic end (bytes_at end 4) (λ text. text) (λ text. eqb (length text) 4) (bytes_reads end 4)).takes bytes b.0.0 b.0.1 ok b.1 in
     let s = (limited_reads is_version rules.Version end).takes b.0.1 version rest t.0.rest_fits b.2 in
     let magic : b.0.0 ≡ codes "FM91" = bytes_eq-same b.0.0 (codes "FM91") (and_parts (eqb (length b.0.0) 4) (is_magic b.0.0) t.1).1 in
-    let one : version ≡ 1 = eqb-true _ _ (and_parts (is_word version) (is_version version) s.1).1 in
     let whole = Took-then bytes b.0.0 b.0.1 (number_bytes version) rest t.0 s.0 in
-    subst (λ (m : List ℕ). Took bytes (m ++ number_bytes 1) rest) magic (subst (λ (v : ℕ). Took bytes (b.0.0 ++ number_bytes v) rest) one whole)
+    (subst (λ (m : List ℕ). Took bytes (m ++ number_bytes version) rest) magic whole, (and_parts (is_word version) (is_version version) s.1).1)
 
-pub opening_again : (end : ℕ) (rest : List ℕ) → opening_at end (opening_bytes ++ rest) ≡ Ok (1, rest)
-opening_again end rest =
-    bind_at (passing is_magic rules.Magic end (bytes_at end 4) (codes "FM91" ++ (number_bytes 1 ++ rest))) (λ magic. passing is_version rules.Version end (number_at end) magic.1) (codes "FM91", number_bytes 1 ++ rest)
-    ((passing_reads is_magic rules.Magic end (bytes_at end 4) (λ text. text) (λ text. eqb (length text) 4) (bytes_reads end 4)).again (codes "FM91") (number_bytes 1 ++ rest) refl)
-    ∙ (limited_reads is_version rules.Version end).again 1 rest refl
+opening_again : (end version : ℕ) (rest : List ℕ) → is_version version ≡ true → opening_at end (opening_bytes version ++ rest) ≡ Ok (version, rest)
+opening_again end version rest h =
+    bind_at (passing is_magic rules.Magic end (bytes_at end 4) (codes "FM91" ++ (number_bytes version ++ rest))) (λ magic. passing is_version rules.Version end (number_at end) magic.1) (codes "FM91", number_bytes version ++ rest)
+    ((passing_reads is_magic rules.Magic end (bytes_at end 4) (λ text. text) (λ text. eqb (length text) 4) (bytes_reads end 4)).again (codes "FM91") (number_bytes version ++ rest) refl)
+    ∙ (limited_reads is_version rules.Version end).again version rest (and_from _ _ (small_version version h) h)
+
+pub opening_reads : (end : ℕ) → Reads (opening_at end) opening_bytes is_version
+opening_reads end = record { takes = opening_takes end; again = opening_again end }
 
 -- ---- the window
 

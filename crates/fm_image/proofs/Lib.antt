@@ -4,4 +4,6 @@ pub mod NameLaws
 pub mod ReaderLaws
 pub mod FieldLaws
 pub mod SlotLaws
+pub mod TableLaws
 pub mod ImageLaws
+pub mod MarkLaws

@@ -142,6 +142,42 @@ refit_reads read spell fits fit r same = record {
   again = λ x rest h. r.again x rest (same x ∙ h);
 }
 
+-- ---- three fields, one after the other
+
+pub three_reads : {A B C X : Type 0} (make : A → B → C → X) (a_of : X → A) (b_of : X → B) (c_of : X → C)
+    (read_a : List ℕ → Result (A × List ℕ) Fault) (read_b : A → List ℕ → Result (B × List ℕ) Fault) (read_c : A → B → List ℕ → Result (C × List ℕ) Fault)
+    (spell_a : A → List ℕ) (spell_b : B → List ℕ) (spell_c : C → List ℕ) (spell : X → List ℕ) (fits_a : A → Bool) (fits_b : A → B → Bool) (fits_c : A → B → C → Bool) (fits : X → Bool)
+    → Reads read_a spell_a fits_a → ((a : A) → Reads (read_b a) spell_b (fits_b a)) → ((a : A) (b : B) → Reads (read_c a b) spell_c (fits_c a b))
+    → ((a : A) (b : B) (c : C) → spell (make a b c) ≡ spell_a a ++ spell_b b ++ spell_c c) → ((a : A) (b : B) (c : C) → fits (make a b c) ≡ (fits_a a && fits_b a b && fits_c a b c)) → ((x : X) → make (a_of x) (b_of x) (c_of x) ≡ x)
+    → Reads (λ bytes. read_a bytes >>= λ a. read_b a.0 a.1 >>= λ b. read_c a.0 b.0 b.1 >>= λ c. Ok (make a.0 b.0 c.0, c.1)) spell fits
+three_reads {A} {B} {C} {X} make a_of b_of c_of read_a read_b read_c spell_a spell_b spell_c spell fits_a fits_b fits_c fits ra rb rc spelled fit whole = record {
+  takes = λ bytes x rest ok e.
+      let a = bind_ok (read_a bytes) (λ a. read_b a.0 a.1 >>= λ b. read_c a.0 b.0 b.1 >>= λ c. Ok (make a.0 b.0 c.0, c.1)) (x, rest) e in
+      let b = bind_ok (read_b a.0.0 a.0.1) (λ b. read_c a.0.0 b.0 b.1 >>= λ c. Ok (make a.0.0 b.0 c.0, c.1)) (x, rest) a.2 in
+      let c = bind_ok (read_c a.0.0 b.0.0 b.0.1) (λ c. Ok (make a.0.0 b.0.0 c.0, c.1)) (x, rest) b.2 in
+      let t = ra.takes bytes a.0.0 a.0.1 ok a.1 in
+      let u = (rb a.0.0).takes a.0.1 b.0.0 b.0.1 t.0.rest_fits b.1 in
+      let v = (rc a.0.0 b.0.0).takes b.0.1 c.0.0 c.0.1 u.0.rest_fits c.1 in
+      let took = Took-then bytes (spell_a a.0.0 ++ spell_b b.0.0) b.0.1 (spell_c c.0.0) c.0.1 (Took-then bytes (spell_a a.0.0) a.0.1 (spell_b b.0.0) b.0.1 t.0 u.0) v.0 in
+      subst (λ (p : X × List ℕ). Took bytes (spell p.0) p.1 × (fits p.0 ≡ true)) (ok_is (make a.0.0 b.0.0 c.0.0, c.0.1) (x, rest) c.2) (
+        subst (λ (text : List ℕ). Took bytes text c.0.1) (sym (spelled a.0.0 b.0.0 c.0.0)) took,
+        fit a.0.0 b.0.0 c.0.0 ∙ and_from _ _ (and_from _ _ t.1 u.1) v.1,
+      );
+  again = λ x rest h.
+      let p = and_parts (fits_a (a_of x) && fits_b (a_of x) (b_of x)) (fits_c (a_of x) (b_of x) (c_of x)) (sym (fit (a_of x) (b_of x) (c_of x)) ∙ ap fits (whole x) ∙ h) in
+      let q = and_parts (fits_a (a_of x)) (fits_b (a_of x) (b_of x)) p.0 in
+      let text : spell x ++ rest ≡ spell_a (a_of x) ++ (spell_b (b_of x) ++ (spell_c (c_of x) ++ rest)) =
+      ap (λ (t : List ℕ). t ++ rest) (ap spell (sym (whole x)) ∙ spelled (a_of x) (b_of x) (c_of x))
+      ∙ append_assoc (spell_a (a_of x) ++ spell_b (b_of x)) (spell_c (c_of x)) rest ∙ append_assoc (spell_a (a_of x)) (spell_b (b_of x)) (spell_c (c_of x) ++ rest) in
+      ap (λ bytes. read_a bytes >>= λ a. read_b a.0 a.1 >>= λ b. read_c a.0 b.0 b.1 >>= λ c. Ok (make a.0 b.0 c.0, c.1)) text
+      ∙ bind_at (read_a (spell_a (a_of x) ++ (spell_b (b_of x) ++ (spell_c (c_of x) ++ rest)))) (λ a. read_b a.0 a.1 >>= λ b. read_c a.0 b.0 b.1 >>= λ c. Ok (make a.0 b.0 c.0, c.1))
+      (a_of x, spell_b (b_of x) ++ (spell_c (c_of x) ++ rest)) (ra.again (a_of x) (spell_b (b_of x) ++ (spell_c (c_of x) ++ rest)) q.0)
+      ∙ bind_at (read_b (a_of x) (spell_b (b_of x) ++ (spell_c (c_of x) ++ rest))) (λ b. read_c (a_of x) b.0 b.1 >>= λ c. Ok (make (a_of x) b.0 c.0, c.1))
+      (b_of x, spell_c (c_of x) ++ rest) ((rb (a_of x)).again (b_of x) (spell_c (c_of x) ++ rest) q.1)
+      ∙ bind_at (read_c (a_of x) (b_of x) (spell_c (c_of x) ++ rest)) (λ c. Ok (make (a_of x) (b_of x) c.0, c.1)) (c_of x, rest) ((rc (a_of x) (b_of x)).again (c_of x) rest p.1)
+      ∙ ap (λ (y : X). done (y, rest)) (whole x);
+}
+
 -- ---- items
 
 pub record TookItems {A : Type 0} (spell : A → List ℕ) (test : List A → A → Bool) (count : ℕ) (earlier all : List A) (bytes rest : List ℕ) : Type 0 where

@@ -1,28 +1,26 @@
 -- The laws of flags, addresses, shapes and slots.
-use Rattle.std.proofs.Common.{◌≡◌, ℕ, ◌+◌, ◌^◌, ◌<◌, ◌≤◌, Bool, true, false, not, cond, ◌&&◌, ltb, leb, eqb, List, ◌++◌, Option, Some, None, Result, Ok, refl, sym, ap, subst, ◌∙◌, append_assoc, arith, inl, inr}
-use Rattle.std.specs.List.{list_any}
-use Rattle.std.specs.Str.{bytes_eq}
+use Rattle.std.proofs.Common.{◌≡◌, ℕ, ◌+◌, ◌^◌, ◌<◌, ◌≤◌, Bool, true, false, cond, ◌&&◌, ltb, leb, eqb, List, ◌++◌, map, Option, Some, None, Result, Ok, refl, sym, ap, subst, ◌∙◌, append_assoc, arith, inl, inr}
 use Rattle.std.proofs.lemmas.Bool.{lt-ltb, le-leb, ltb-true, leb-true, and_parts, and_from, eqb-true, ne_eqb, cases_Bool, agree_below_at}
 use Rattle.stack_text.specs.declared.shape.Kind.{Kind}
 use Rattle.stack_text.specs.declared.shape.Kind.TheVariants.{Integer, Boolean, Character}
 use Rattle.stack_text.specs.declared.shape.Shape.{Shape}
-use Rattle.stack_text.specs.Names.{is_name}
 use Rattle.stack_text.specs.Values.{item_count}
 use Rattle.fm_words.specs.declared.condition.Flags.{Flags}
 use Rattle.fm_words.specs.Code.{flags_of, flags_number}
 use Rattle.fm_words.proofs.FlagsLaws.{flags_of_back, flags_number_back, flags_number_below}
 use Rattle.fm_image.specs.declared.fault.Rule.TheVariants as rules
+use Rattle.fm_image.specs.declared.procedure.VarInfo.{VarInfo}
 use Rattle.fm_image.specs.declared.slot.Slot.{Slot}
 use Rattle.fm_image.specs.declared.window.Window.{Window}
-use Rattle.fm_image.specs.Image.{is_size, is_inside, is_window, is_condition_address, is_new, is_slot, is_slot_address}
-use Rattle.fm_image.specs.Spelling.{number_bytes, name_bytes, flags_bytes, address_number, condition_address_bytes, kind_number, kind_bytes, shape_bytes, slot_bytes}
+use Rattle.fm_image.specs.Image.{is_size, is_inside, is_window, is_condition_address, is_condition, is_slot, is_slot_address, is_offset, is_variable}
+use Rattle.fm_image.specs.Spelling.{number_bytes, name_bytes, flags_bytes, address_number, condition_address_bytes, kind_number, kind_bytes, shape_bytes, slot_bytes, variable_bytes}
 use Rattle.stack_text.specs.Results.{◌>>=◌}
 use Rattle.fm_image.specs.Rules.{Fault}
 use Rattle.fm_image.specs.Fields.{number_at, passing}
-use Rattle.fm_image.specs.Reading.{is_flags, flags_at, address_from, condition_address_at, name_at, is_kind, kind_of, kind_at, is_length, shape_at, slot_name_at, slot_at}
+use Rattle.fm_image.specs.Reading.{is_flags, flags_at, address_from, condition_address_at, new_name_at, is_kind, kind_of, kind_at, is_length, shape_at, slot_at, variable_at}
 use Rattle.stack_text.proofs.ResultLaws.{bind_ok, bind_at}
-use Rattle.fm_image.proofs.ReaderLaws.{IsBytes, ok_is, Took, Took-then, Reads, is_word, passing_reads, coded_reads}
-use Rattle.fm_image.proofs.FieldLaws.{limited_reads, both, name_reads}
+use Rattle.fm_image.proofs.ReaderLaws.{IsBytes, ok_is, Took, Took-then, Reads, is_word, coded_reads, three_reads}
+use Rattle.fm_image.proofs.FieldLaws.{limited_reads, both, small_reads, new_name_reads}
 
 -- ---- flags
 
@@ -110,47 +108,33 @@ shape_reads end = record { takes = shape_takes end; again = shape_again end }
 
 -- ---- slots
 
-slot_name_reads : (end : ℕ) (earlier : List Slot) → Reads (slot_name_at end earlier) name_bytes (λ name. is_name name && is_new (λ other. other.name) earlier name)
-slot_name_reads end earlier = passing_reads (is_new (λ other. other.name) earlier) rules.Repeated end (name_at end) name_bytes is_name (name_reads end)
-
-abbrev address_after : ℕ → Window → List ℕ → Shape × List ℕ → Result (Slot × List ℕ) Fault
-address_after end window name shape = passing (is_slot_address window shape.0) rules.Address end (number_at end) shape.1 >>= λ address. Ok (record { name = name; shape = shape.0; address = address.0 }, address.1)
-
-abbrev shape_after : ℕ → Window → List ℕ × List ℕ → Result (Slot × List ℕ) Fault
-shape_after end window name = shape_at end name.1 >>= address_after end window name.0
-
-slot_takes : (end : ℕ) (window : Window) (earlier : List Slot) (bytes : List ℕ) (s : Slot) (rest : List ℕ) → IsBytes bytes → slot_at end window earlier bytes ≡ Ok (s, rest)
-    → Took bytes (slot_bytes s) rest × (is_slot window earlier s ≡ true)
-unfolding slot_at
-slot_takes end window earlier bytes s rest ok e =
-    let a = bind_ok (slot_name_at end earlier bytes) (shape_after end window) (s, rest) e in
-    let b = bind_ok (shape_at end a.0.1) (address_after end window a.0.0) (s, rest) a.2 in
-    let c = bind_ok (passing (is_slot_address window b.0.0) rules.Address end (number_at end) b.0.1) (λ address. Ok (record { name = a.0.0; shape = b.0.0; address = address.0 }, address.1)) (s, rest) b.2 in
-    let t0 = (slot_name_reads end earlier).takes bytes a.0.0 a.0.1 ok a.1 in
-    let t1 = (shape_reads end).takes a.0.1 b.0.0 b.0.1 t0.0.rest_fits b.1 in
-    let t2 = (limited_reads (is_slot_address window b.0.0) rules.Address end).takes b.0.1 c.0.0 c.0.1 t1.0.rest_fits c.1 in
-    let made : Slot × List ℕ = (record { name = a.0.0; shape = b.0.0; address = c.0.0 }, c.0.1) in
-    subst (λ (y : Slot × List ℕ). Took bytes (slot_bytes y.0) y.1 × (is_slot window earlier y.0 ≡ true)) (ok_is made (s, rest) c.2) (
-      Took-then bytes (name_bytes a.0.0 ++ shape_bytes b.0.0) b.0.1 (number_bytes c.0.0) c.0.1 (Took-then bytes (name_bytes a.0.0) a.0.1 (shape_bytes b.0.0) b.0.1 t0.0 t1.0) t2.0,
-      and_from _ _ (and_from _ _ t0.1 t1.1) (and_parts (is_word c.0.0) (is_slot_address window b.0.0 c.0.0) t2.1).1,
-    )
-
-slot_again : (end : ℕ) (window : Window) → is_window window ≡ true → (earlier : List Slot) (s : Slot) (rest : List ℕ) → is_slot window earlier s ≡ true → slot_at end window earlier (slot_bytes s ++ rest) ≡ Ok (s, rest)
-unfolding slot_at
-slot_again end window sized earlier s rest h =
-    let p = and_parts (is_name s.name && is_new (λ other. other.name) earlier s.name && is_length s.shape.length) (is_slot_address window s.shape s.address) h in
-    let q = and_parts (is_name s.name && is_new (λ other. other.name) earlier s.name) (is_length s.shape.length) p.0 in
+address_small : (window : Window) → is_window window ≡ true → (shape : Shape) (n : ℕ) → is_slot_address window shape n ≡ true → n < 2 ^ 32
+address_small window sized shape n h =
     let w = and_parts (is_size window.base window.size) (is_inside window.base window.size window.final_pc) sized in
     let v = and_parts (leb 1 window.size && leb window.size 1048576) (leb (window.base + window.size) 4294967295) w.0 in
     let last : window.base + window.size ≤ 4294967295 = leb-true (window.base + window.size) 4294967295 v.1 in
-    let inside : s.address < window.base + window.size = ltb-true s.address (window.base + window.size) (and_parts (leb (window.base + item_count s.shape) (s.address + 1)) (ltb s.address (window.base + window.size)) p.1).1 in
-    ap (slot_at end window earlier) (append_assoc (name_bytes s.name ++ shape_bytes s.shape) (number_bytes s.address) rest ∙ append_assoc (name_bytes s.name) (shape_bytes s.shape) (number_bytes s.address ++ rest))
-    ∙ bind_at (slot_name_at end earlier (name_bytes s.name ++ (shape_bytes s.shape ++ (number_bytes s.address ++ rest)))) (shape_after end window) (s.name, shape_bytes s.shape ++ (number_bytes s.address ++ rest))
-    ((slot_name_reads end earlier).again s.name (shape_bytes s.shape ++ (number_bytes s.address ++ rest)) q.0)
-    ∙ bind_at (shape_at end (shape_bytes s.shape ++ (number_bytes s.address ++ rest))) (address_after end window s.name) (s.shape, number_bytes s.address ++ rest)
-    ((shape_reads end).again s.shape (number_bytes s.address ++ rest) q.1)
-    ∙ bind_at (passing (is_slot_address window s.shape) rules.Address end (number_at end) (number_bytes s.address ++ rest)) (λ address. Ok (record { name = s.name; shape = s.shape; address = address.0 }, address.1)) (s.address, rest)
-    ((limited_reads (is_slot_address window s.shape) rules.Address end).again s.address rest (both s.address 4294967295 (is_slot_address window s.shape s.address) (omega (arith, last, inside)) (omega arith) p.1))
+    let inside : n < window.base + window.size = ltb-true n (window.base + window.size) (and_parts (leb (window.base + item_count shape) (n + 1)) (ltb n (window.base + window.size)) h).1 in
+    omega (arith, last, inside)
 
-pub slot_reads : (end : ℕ) (window : Window) → is_window window ≡ true → (earlier : List Slot) → Reads (slot_at end window earlier) slot_bytes (is_slot window earlier)
-slot_reads end window sized earlier = record { takes = slot_takes end window earlier; again = slot_again end window sized earlier }
+pub slot_reads : (end : ℕ) (window : Window) → is_window window ≡ true → (earlier : List Slot) → Reads (slot_at end window (map (λ slot. slot.name) earlier)) slot_bytes (is_slot window earlier)
+unfolding slot_at
+slot_reads end window sized earlier =
+    three_reads (λ name shape address. record { name = name; shape = shape; address = address }) (λ s. s.name) (λ s. s.shape) (λ s. s.address)
+    (new_name_at end (map (λ slot. slot.name) earlier)) (λ name. shape_at end) (λ name shape. passing (is_slot_address window shape) rules.Address end (number_at end))
+    name_bytes shape_bytes number_bytes slot_bytes (is_condition (map (λ slot. slot.name) earlier)) (λ name s. is_length s.length) (λ name s. is_slot_address window s) (is_slot window earlier)
+    (new_name_reads end (map (λ slot. slot.name) earlier)) (λ name. shape_reads end) (λ name s. small_reads (is_slot_address window s) rules.Address end (address_small window sized s))
+    (λ name shape address. refl) (λ name shape address. refl) (λ s. refl)
+
+-- ---- variables
+
+offset_small : (n : ℕ) → is_offset n ≡ true → n < 2 ^ 32
+offset_small n h = let le : n ≤ 199 = leb-true n 199 h in omega (arith, le)
+
+pub variable_reads : (end : ℕ) (earlier : List VarInfo) → Reads (variable_at end (map (λ variable. variable.name) earlier)) variable_bytes (is_variable earlier)
+unfolding variable_at
+variable_reads end earlier =
+    three_reads (λ name shape offset. record { name = name; shape = shape; offset = offset }) (λ v. v.name) (λ v. v.shape) (λ v. v.offset)
+    (new_name_at end (map (λ variable. variable.name) earlier)) (λ name. shape_at end) (λ name shape. passing is_offset rules.Limit end (number_at end))
+    name_bytes shape_bytes number_bytes variable_bytes (is_condition (map (λ variable. variable.name) earlier)) (λ name s. is_length s.length) (λ name s. is_offset) (is_variable earlier)
+    (new_name_reads end (map (λ variable. variable.name) earlier)) (λ name. shape_reads end) (λ name s. small_reads is_offset rules.Limit end offset_small)
+    (λ name shape offset. refl) (λ name shape offset. refl) (λ v. refl)

@@ -1,4 +1,5 @@
 -- what is promised
+pub mod Procedure
 pub mod Image
 pub mod Spelling
 pub mod Rules

@@ -1,6 +1,6 @@
 -- Reading an image field by field, from left to right, with the first fault.
-use Rattle.std.specs.Prelude.{◌≡◌, ℕ, zero, suc, ◌-◌, ◌^◌, List, [], length, Result, Ok, Err}
-use Rattle.std.specs.Prelude.{Option, Some, None, Bool, nat_le, ◌==◌, if◌then◌else◌, codes}
+use Rattle.std.specs.Prelude.{◌≡◌, ℕ, zero, suc, ◌-◌, ◌^◌, List, [], length, map, Result, Ok, Err}
+use Rattle.std.specs.Prelude.{Option, Some, None, Bool, nat_lt, nat_le, ◌==◌, if◌then◌else◌, codes}
 use Rattle.std.specs.Str.{bytes_eq}
 use Rattle.stack_text.specs.declared.shape.Kind.{Kind}
 use Rattle.stack_text.specs.declared.shape.Kind.TheVariants.{Integer, Boolean, Character}
@@ -12,18 +12,18 @@ use Rattle.fm_words.specs.Code.{flags_of}
 use Rattle.fm_image.specs.declared.fault.ImageFault.{ImageFault}
 use Rattle.fm_image.specs.declared.fault.ImageFault.TheVariants.{Refused, Memory}
 use Rattle.fm_image.specs.declared.fault.Rule.TheVariants as rules
+use Rattle.fm_image.specs.declared.procedure.Mark.{Mark}
+use Rattle.fm_image.specs.declared.procedure.VarInfo.{VarInfo}
 use Rattle.fm_image.specs.declared.slot.Slot.{Slot}
 use Rattle.fm_image.specs.declared.window.Window.{Window}
-use Rattle.fm_image.specs.Image.{ImageOf, is_size, is_inside, is_condition_address, is_condition_count, is_new}
-use Rattle.fm_image.specs.Image.{is_slot_address, is_slot_count}
+use Rattle.fm_image.specs.Procedure.{ProcedureOf}
+use Rattle.fm_image.specs.Image.{ImageOf, Tables, no_tables, is_version, is_size, is_inside, is_condition_address, is_count, is_new}
+use Rattle.fm_image.specs.Image.{is_slot_address, most_conditions, is_offset, last_mark, is_after, is_place}
 use Rattle.fm_image.specs.Rules.{rule_number, Fault, Parser}
 use Rattle.fm_image.specs.Fields.{place, number_at, passing, bytes_at, text_at, items_at}
 
 abbrev pub is_magic : List ℕ → Bool
 is_magic bytes = bytes_eq bytes (codes "FM91")
-
-abbrev pub is_version : ℕ → Bool
-is_version version = version == 1
 
 -- the magic and the version
 abbrev pub opening_at : ℕ → Parser ℕ
@@ -65,21 +65,19 @@ condition_address_at end window left = do
 abbrev pub name_at : ℕ → Parser (List ℕ)
 name_at end left = passing is_name rules.Name end (text_at end) left
 
--- the name of a condition, after earlier ones
-abbrev pub condition_at : ℕ → List (List ℕ) → Parser (List ℕ)
-condition_at end earlier left = passing (is_new (λ other. other) earlier) rules.Repeated end (name_at end) left
+-- a name after the earlier ones of its list
+abbrev pub new_name_at : ℕ → List (List ℕ) → Parser (List ℕ)
+new_name_at end earlier left = passing (is_new earlier) rules.Repeated end (name_at end) left
 
--- how many names of conditions, and how many slots, follow
-abbrev pub condition_count_at : ℕ → Parser ℕ
-condition_count_at end left = passing is_condition_count rules.Limit end (number_at end) left
+-- how many items follow, where there is a limit
+abbrev pub count_at : ℕ → ℕ → Parser ℕ
+count_at most end left = passing (is_count most) rules.Limit end (number_at end) left
 
-abbrev pub slot_count_at : ℕ → Parser ℕ
-slot_count_at end left = passing is_slot_count rules.Limit end (number_at end) left
-
-unfoldable pub conditions_at : ℕ → Parser (List (List ℕ))
-conditions_at end left = do
-  count ← condition_count_at end left
-  items_at (condition_at end) count.0 [] count.1
+-- at most so many names of conditions
+unfoldable pub conditions_at : ℕ → ℕ → Parser (List (List ℕ))
+conditions_at most end left = do
+  count ← count_at most end left
+  items_at (new_name_at end) count.0 [] count.1
 
 -- 0, 1 or 2
 abbrev pub kind_of : ℕ → Kind
@@ -104,41 +102,94 @@ shape_at end left = do
   count ← passing is_length rules.Limit end (number_at end) kind.1
   Ok (record { kind = kind.0; length = count.0 }, count.1)
 
--- the name of a slot, after earlier ones
-abbrev pub slot_name_at : ℕ → List Slot → Parser (List ℕ)
-slot_name_at end earlier left = passing (is_new (λ other. other.name) earlier) rules.Repeated end (name_at end) left
-
--- a name, a shape, and an address from which all items are in the window
-unfoldable pub slot_at : ℕ → Window → List Slot → Parser Slot
+-- a name after earlier ones, a shape, and an address from which all items are in the window
+unfoldable pub slot_at : ℕ → Window → List (List ℕ) → Parser Slot
 slot_at end window earlier left = do
-  name ← slot_name_at end earlier left
+  name ← new_name_at end earlier left
   shape ← shape_at end name.1
   address ← passing (is_slot_address window shape.0) rules.Address end (number_at end) shape.1
   Ok (record { name = name.0; shape = shape.0; address = address.0 }, address.1)
 
 unfoldable pub slots_at : ℕ → Window → Parser (List Slot)
 slots_at end window left = do
-  count ← slot_count_at end left
-  items_at (slot_at end window) count.0 [] count.1
+  count ← count_at 200 end left
+  items_at (λ earlier. slot_at end window (map (λ slot. slot.name) earlier)) count.0 [] count.1
 
 -- at most as many words as the window has
 unfoldable pub words_at : ℕ → Window → Parser (List ℕ)
 words_at end window left = do
-  count ← passing (λ n. nat_le n window.size) rules.Limit end (number_at end) left
+  count ← count_at window.size end left
   numbers_at end count.0 count.1
 
--- the fields of version 1, and no byte after them
+-- a name after earlier ones, a shape, and a place in a frame
+unfoldable pub variable_at : ℕ → List (List ℕ) → Parser VarInfo
+variable_at end earlier left = do
+  name ← new_name_at end earlier left
+  shape ← shape_at end name.1
+  offset ← passing is_offset rules.Limit end (number_at end) shape.1
+  Ok (record { name = name.0; shape = shape.0; offset = offset.0 }, offset.1)
+
+unfoldable pub variables_at : ℕ → Parser (List VarInfo)
+variables_at end left = do
+  count ← count_at 200 end left
+  items_at (λ earlier. variable_at end (map (λ variable. variable.name) earlier)) count.0 [] count.1
+
+-- a name after earlier ones, conditions and variables
+unfoldable pub procedure_at : ℕ → List (List ℕ) → Parser ProcedureOf
+procedure_at end earlier left = do
+  name ← new_name_at end earlier left
+  conditions ← conditions_at 201 end name.1
+  variables ← variables_at end conditions.1
+  Ok (record { name = name.0; conditions = conditions.0; variables = variables.0 }, variables.1)
+
+unfoldable pub procedures_at : ℕ → Parser (List ProcedureOf)
+procedures_at end left = do
+  count ← count_at 1000 end left
+  items_at (λ earlier. procedure_at end (map (λ procedure. procedure.name) earlier)) count.0 [] count.1
+
+-- an address of the window, greater than that of the mark before
+abbrev pub mark_address_at : ℕ → Window → Option Mark → Parser ℕ
+mark_address_at end window before left =
+    passing (is_after before) rules.Order end
+    (passing (is_inside window.base window.size) rules.Address end (number_at end)) left
+
+-- an address behind the mark before, the number of a procedure, and a place in the source
+unfoldable pub mark_at : ℕ → Window → ℕ → Option Mark → Parser Mark
+mark_at end window procedures before left = do
+  address ← mark_address_at end window before left
+  procedure ← passing (λ n. nat_lt n procedures) rules.Limit end (number_at end) address.1
+  place ← passing is_place rules.Limit end (number_at end) procedure.1
+  Ok (record { address = address.0; procedure = procedure.0; place = place.0 }, place.1)
+
+unfoldable pub marks_at : ℕ → Window → ℕ → Parser (List Mark)
+marks_at end window procedures left = do
+  count ← count_at (2 ^ 20) end left
+  items_at (λ earlier. mark_at end window procedures (last_mark earlier)) count.0 [] count.1
+
+unfoldable pub both_tables_at : ℕ → Window → Parser Tables
+both_tables_at end window left = do
+  procedures ← procedures_at end left
+  marks ← marks_at end window (length procedures.0) procedures.1
+  Ok (record { procedures = procedures.0; marks = marks.0 }, marks.1)
+
+-- the fields that only version 2 has
+unfoldable pub tables_at : ℕ → ℕ → Window → Parser Tables
+tables_at version end window left = if version == 1 then Ok (no_tables, left) else both_tables_at end window left
+
+-- the fields of version 1, then those that only version 2 has, and no byte after them
 unfoldable pub image_at : ℕ → List ℕ → Result ImageOf Fault
 image_at end left = do
-  opening ← opening_at end left
-  window ← window_at end opening.1
+  version ← opening_at end left
+  window ← window_at end version.1
   registers ← numbers_at end 16 window.1
   flags ← flags_at end registers.1
   condition_address ← condition_address_at end window.0 flags.1
-  conditions ← conditions_at end condition_address.1
+  conditions ← conditions_at (most_conditions version.0) end condition_address.1
   slots ← slots_at end window.0 conditions.1
   words ← words_at end window.0 slots.1
+  tables ← tables_at version.0 end window.0 words.1
   let image : ImageOf = record {
+    version = version.0;
     base = window.0.base;
     size = window.0.size;
     final_pc = window.0.final_pc;
@@ -148,8 +199,10 @@ image_at end left = do
     conditions = conditions.0;
     slots = slots.0;
     words = words.0;
+    procedures = tables.0.procedures;
+    marks = tables.0.marks;
   } in
-      if length words.1 == 0 then Ok image else Err (rule_number rules.Trailing, place end words.1)
+      if length tables.1 == 0 then Ok image else Err (rule_number rules.Trailing, place end tables.1)
 
 -- the image that a file has, or else its first fault
 abbrev pub read_of : List ℕ → Result ImageOf Fault

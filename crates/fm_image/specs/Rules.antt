@@ -7,7 +7,7 @@ use Rattle.fm_image.specs.declared.fault.Refusal.{Refusal}
 use Rattle.fm_image.specs.declared.fault.ImageFault.{ImageFault}
 use Rattle.fm_image.specs.declared.fault.ImageFault.TheVariants.{Refused, Memory}
 
--- I1 to I8
+-- I1 to I9
 abbrev pub rule_number : Rule → ℕ
 rule_number rules.Magic = 1
 rule_number rules.Version = 2
@@ -17,6 +17,7 @@ rule_number rules.Limit = 5
 rule_number rules.Name = 6
 rule_number rules.Address = 7
 rule_number rules.Repeated = 8
+rule_number rules.Order = 9
 
 -- the number of a rule, and a place
 abbrev pub Fault : Type 0

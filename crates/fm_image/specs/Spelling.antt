@@ -1,5 +1,6 @@
 -- The one spelling of an image: its fields, one after the other.
-use Rattle.std.specs.Prelude.{◌≡◌, ℕ, ◌-◌, ◌^◌, List, ◌++◌, length, Option, Some, None, Bool, IsTrue, nat_lt, codes}
+use Rattle.std.specs.Prelude.{◌≡◌, ℕ, ◌-◌, ◌^◌, List, [], ◌++◌, length, Option, Some, None}
+use Rattle.std.specs.Prelude.{Bool, IsTrue, nat_lt, ◌==◌, ◌&&◌, if◌then◌else◌, codes}
 use Rattle.std.specs.Int.{w32, to_be_bytes}
 use Rattle.std.specs.List.{flat_map, list_all}
 use Rattle.stack_text.specs.declared.shape.Kind.{Kind}
@@ -7,9 +8,12 @@ use Rattle.stack_text.specs.declared.shape.Kind.TheVariants.{Integer, Boolean, C
 use Rattle.stack_text.specs.declared.shape.Shape.{Shape}
 use Rattle.fm_words.specs.declared.condition.Flags.{Flags}
 use Rattle.fm_words.specs.Code.{flags_number}
+use Rattle.fm_image.specs.declared.procedure.Mark.{Mark}
+use Rattle.fm_image.specs.declared.procedure.VarInfo.{VarInfo}
 use Rattle.fm_image.specs.declared.slot.Slot.{Slot}
 use Rattle.fm_image.specs.declared.window.Window.{Window}
-use Rattle.fm_image.specs.Image.{ImageOf, window_of, is_image}
+use Rattle.fm_image.specs.Procedure.{ProcedureOf}
+use Rattle.fm_image.specs.Image.{ImageOf, Tables, tables_of, is_count, window_of, is_image}
 
 -- a number in four bytes, highest first
 abbrev pub number_bytes : ℕ → List ℕ
@@ -26,8 +30,8 @@ name_bytes name = number_bytes (length name) ++ name
 abbrev pub counted_bytes : {A : Type 0} → (A → List ℕ) → List A → List ℕ
 counted_bytes item items = number_bytes (length items) ++ flat_map item items
 
-abbrev pub opening_bytes : List ℕ
-opening_bytes = codes "FM91" ++ number_bytes 1
+abbrev pub opening_bytes : ℕ → List ℕ
+opening_bytes version = codes "FM91" ++ number_bytes version
 
 abbrev pub window_bytes : Window → List ℕ
 window_bytes window = number_bytes window.base ++ number_bytes window.size ++ number_bytes window.final_pc
@@ -57,10 +61,31 @@ shape_bytes shape = kind_bytes shape.kind ++ number_bytes shape.length
 abbrev pub slot_bytes : Slot → List ℕ
 slot_bytes slot = name_bytes slot.name ++ shape_bytes slot.shape ++ number_bytes slot.address
 
--- the fields of version 1
+abbrev pub variable_bytes : VarInfo → List ℕ
+variable_bytes variable = name_bytes variable.name ++ shape_bytes variable.shape ++ number_bytes variable.offset
+
+abbrev pub procedure_bytes : ProcedureOf → List ℕ
+procedure_bytes procedure =
+    name_bytes procedure.name
+    ++ counted_bytes name_bytes procedure.conditions
+    ++ counted_bytes variable_bytes procedure.variables
+
+-- the lists of a procedure are no longer than they may be
+abbrev pub is_small : ProcedureOf → Bool
+is_small procedure = is_count 201 (length procedure.conditions) && is_count 200 (length procedure.variables)
+
+abbrev pub mark_bytes : Mark → List ℕ
+mark_bytes mark = number_bytes mark.address ++ number_bytes mark.procedure ++ number_bytes mark.place
+
+-- the fields that only version 2 has
+abbrev pub tables_bytes : ℕ → Tables → List ℕ
+tables_bytes version tables =
+    if version == 1 then [] else counted_bytes procedure_bytes tables.procedures ++ counted_bytes mark_bytes tables.marks
+
+-- the fields of version 1, and then those that only version 2 has
 unfoldable pub spelling : ImageOf → List ℕ
 spelling image =
-    opening_bytes
+    opening_bytes image.version
     ++ window_bytes (window_of image)
     ++ numbers_bytes image.registers
     ++ flags_bytes image.flags
@@ -68,6 +93,7 @@ spelling image =
     ++ counted_bytes name_bytes image.conditions
     ++ counted_bytes slot_bytes image.slots
     ++ counted_bytes number_bytes image.words
+    ++ tables_bytes image.version (tables_of image)
 
 -- numbers of 32 bits
 abbrev pub are_words : List ℕ → Bool

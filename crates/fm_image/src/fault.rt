@@ -16,7 +16,7 @@ pub enum Rule {
     Version,
     /// I3: the file ends within a field.
     Truncated,
-    /// I4: the file goes on after its last word.
+    /// I4: the file goes on after its last field.
     Trailing,
     /// I5: a number is beyond its limits.
     Limit,
@@ -24,8 +24,10 @@ pub enum Rule {
     Name,
     /// I7: an address is outside the window.
     Address,
-    /// I8: a name is that of an earlier condition or slot.
+    /// I8: a name came earlier in its own list.
     Repeated,
+    /// I9: the address of a mark is not greater than that of the mark before.
+    Order,
 }
 
 impl Rule {
@@ -42,6 +44,7 @@ impl Rule {
             Rule::Name => 6,
             Rule::Address => 7,
             Rule::Repeated => 8,
+            Rule::Order => 9,
         }
     }
 }
@@ -56,7 +59,7 @@ pub struct Refusal {
 /// Why no image was read: the first fault of the bytes from the left, or out of memory.
 #[derive(Clone, Copy, Debug, PartialEq, Eq, Error)]
 pub enum ImageFault {
-    /// The bytes break rule I1 to I8 of `docs/image-file.md`, at a place that is counted in bytes from 0.
+    /// The bytes break rule I1 to I9 of `docs/image-file.md`, at a place that is counted in bytes from 0.
     #[error("image I{rule} at {place}")]
     Refused { rule: u8, place: u64 },
     /// An allocation failed.

@@ -1,5 +1,10 @@
 //! Images.
 
+ghost use Rattle.std.specs.Prelude.{◌≡◌};
+ghost use Rattle.fm_image.specs.Image.{in_version_2};
+
+use crate::limit::MARKED;
+use crate::procedure::{Mark, ProcInfo};
 use crate::slot::Slot;
 use fm_words::Flags;
 use stack_text::Name;
@@ -10,6 +15,8 @@ use std::marker::Model;
 /// Contracts see an image as a record of the same fields, with lists in place of the vectors.
 #[derive(Debug, Drop)]
 pub struct Image {
+    /// The version of its file: 1, or 2 with procedures and marks.
+    pub version: u32,
     /// The first address of the window.
     pub base: u32,
     /// How many words the window has: 1 to 2^20.
@@ -22,12 +29,17 @@ pub struct Image {
     pub flags: Flags,
     /// The address in the window of the condition word, where there is one.
     pub condition_address: Option<u32>,
-    /// The names of the conditions beside the standing ones: at most 201, all different.
+    /// The names of the conditions beside the standing ones: at most 200, or 201 in version 2, all different.
     pub conditions: Vec<Name>,
     /// The variables: at most 200, their names all different.
     pub slots: Vec<Slot>,
     /// The words of the window from `base` on. The rest of the window is zero.
     pub words: Vec<u32>,
+    /// The procedures of its source: at most 1000, their names all different. Version 1 has none.
+    pub procedures: Vec<ProcInfo>,
+    /// Where memory can be read as a state of its source: at most 2^20 marks, with ascending addresses. Version 1 has
+    /// none.
+    pub marks: Vec<Mark>,
 }
 
 impl Model for Image {
@@ -36,7 +48,41 @@ impl Model for Image {
 
     ghost Value = { ImageOf };
 
-    ghost view = { λ i. record { base = i.base; size = i.size; final_pc = i.final_pc; registers = i.registers.items; flags = i.flags; condition_address = i.condition_address; conditions = i.conditions.items; slots = i.slots.items; words = i.words.items } };
+    ghost view = { λ i. record { version = i.version; base = i.base; size = i.size; final_pc = i.final_pc; registers = i.registers.items; flags = i.flags; condition_address = i.condition_address; conditions = i.conditions.items; slots = i.slots.items; words = i.words.items; procedures = i.procedures.items; marks = i.marks.items } };
 
-    ghost invariant = { λ i. IsTrue (is_image (record { base = i.base; size = i.size; final_pc = i.final_pc; registers = i.registers.items; flags = i.flags; condition_address = i.condition_address; conditions = i.conditions.items; slots = i.slots.items; words = i.words.items })) };
+    ghost invariant = { λ i. IsTrue (is_image (record { version = i.version; base = i.base; size = i.size; final_pc = i.final_pc; registers = i.registers.items; flags = i.flags; condition_address = i.condition_address; conditions = i.conditions.items; slots = i.slots.items; words = i.words.items; procedures = i.procedures.items; marks = i.marks.items })) };
+}
+
+/// The same image in version 2: without procedures and marks, where it was one of version 1.
+pub fn in_version_2(image: Image) -> Image
+    ensures { result ≡ in_version_2 image }
+{
+    let Image {
+        version: _,
+        base,
+        size,
+        final_pc,
+        registers,
+        flags,
+        condition_address,
+        conditions,
+        slots,
+        words,
+        procedures,
+        marks,
+    } = image;
+    Image {
+        version: MARKED,
+        base,
+        size,
+        final_pc,
+        registers,
+        flags,
+        condition_address,
+        conditions,
+        slots,
+        words,
+        procedures,
+        marks,
+    }
 }

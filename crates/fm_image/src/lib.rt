@@ -8,15 +8,17 @@ mod fault;
 mod image;
 mod law;
 mod limit;
+mod procedure;
 mod reading;
 mod slot;
 mod window;
 mod writing;
 
 pub use fault::ImageFault;
-pub use image::Image;
+pub use image::{Image, in_version_2};
 pub use law::one_spelling;
 pub use limit::is_size;
+pub use procedure::{Mark, ProcInfo, VarInfo};
 pub use reading::read_image;
 pub use slot::Slot;
 pub use writing::write_image;

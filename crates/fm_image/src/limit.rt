@@ -1,23 +1,33 @@
-//! The version and the limits of the fields.
+//! The versions and the limits of the fields.
 
-ghost use Rattle.std.specs.Prelude.{◌≡◌};
-ghost use Rattle.fm_image.specs.Image.{is_size, is_inside, is_condition_address, is_condition_count, is_slot_address, is_slot_count};
+ghost use Rattle.std.specs.Prelude.{◌≡◌, ◌≤◌};
+ghost use Rattle.fm_image.specs.Image.{is_version, is_size, is_inside, is_condition_address, is_slot_address, most_conditions, is_after};
 ghost use Rattle.fm_image.specs.Fields.{is_name_length};
 
+use crate::procedure::Mark;
 use crate::window::Window;
 use stack_text::Shape;
 
-/// The only version of the file.
-pub(crate) const VERSION: u32 = 1;
+/// The version without procedures and marks.
+pub(crate) const PLAIN: u32 = 1;
+
+/// The version with procedures and marks.
+pub(crate) const MARKED: u32 = 2;
 
 /// The most words that a window has.
 const MAX_WINDOW_SIZE: u32 = 1 << 20;
 
-/// The most names of conditions: spaceerror, and as many as a procedure has formal ones.
-const MAX_CONDITIONS: u32 = 201;
+/// The most slots, and the most variables of a procedure.
+pub(crate) const MAX_VARIABLES: u32 = 200;
 
-/// The most slots.
-const MAX_SLOTS: u32 = 200;
+/// The most names of conditions of a procedure.
+pub(crate) const MAX_CONDITIONS: u32 = 201;
+
+/// The most procedures.
+pub(crate) const MAX_PROCEDURES: u32 = 1000;
+
+/// The most marks.
+pub(crate) const MAX_MARKS: u32 = 1 << 20;
 
 /// The longest name in bytes.
 const MAX_NAME_LENGTH: u32 = 64;
@@ -46,18 +56,33 @@ pub(crate) fn is_condition_address(window: Window, address: Option<u32>) -> bool
     }
 }
 
-/// Whether there may be so many names of conditions.
-pub(crate) fn is_condition_count(count: u32) -> bool
-    ensures { result ≡ is_condition_count count }
+/// The most names of conditions before the slots.
+pub(crate) fn most_conditions(version: u32) -> u32
+    ensures exact { result ≡ most_conditions version }
+    ensures few { result ≤ 201 }
 {
-    count <= MAX_CONDITIONS
+    if version == PLAIN {
+        200
+    } else {
+        MAX_CONDITIONS
+    }
 }
 
-/// Whether there may be so many slots.
-pub(crate) fn is_slot_count(count: u32) -> bool
-    ensures { result ≡ is_slot_count count }
+/// Whether the file has such a version.
+pub(crate) fn is_version(version: u32) -> bool
+    ensures { result ≡ is_version version }
 {
-    count <= MAX_SLOTS
+    version == PLAIN || version == MARKED
+}
+
+/// Whether the address is greater than that of the mark before.
+pub(crate) fn is_after(before: Option<Mark>, address: u32) -> bool
+    ensures { result ≡ is_after before address }
+{
+    match before {
+        None => true,
+        Some(mark) => mark.address < address,
+    }
 }
 
 /// Whether a name may have so many bytes.

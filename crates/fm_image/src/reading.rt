@@ -1,29 +1,36 @@
 //! Reading images.
 
-ghost use Rattle.std.specs.Prelude.{◌≡◌, ◌-◌, [], length, IfOk, Ok};
-ghost use Rattle.fm_image.specs.Image.{ImageOf};
+ghost use Rattle.std.specs.Prelude.{◌≡◌, ◌∷◌, ◌++◌, [], map, IsTrue, IfOk, OnOk, Ok};
+ghost use Rattle.fm_image.specs.Image.{ImageOf, is_new, last_mark};
 ghost use Rattle.fm_image.specs.Spelling.{Spelled};
-ghost use Rattle.std.specs.List.{list_any};
-ghost use Rattle.std.specs.Str.{bytes_eq};
 ghost use Rattle.fm_image.specs.Rules.{GivesExactly, Gives};
 ghost use Rattle.fm_image.specs.Fields.{place, number_at, bytes_at, text_at};
-ghost use Rattle.fm_image.specs.Reading.{opening_at, window_at, numbers_at, flags_at, condition_address_at, name_at, condition_at, condition_count_at, conditions_at, kind_at, shape_at, slot_name_at, slot_at, slot_count_at, slots_at, words_at, image_at, read_of, ReportsFault};
+ghost use Rattle.fm_image.specs.Reading.{opening_at, window_at, numbers_at, flags_at, condition_address_at, name_at, new_name_at, count_at, conditions_at, kind_at, shape_at, slot_at, slots_at, words_at, variable_at, variables_at, procedure_at, procedures_at, mark_address_at, mark_at, marks_at, both_tables_at, tables_at, image_at, read_of, ReportsFault};
 
 use crate::code::{address_from, kind_from};
 use crate::fault::{ImageFault, Refusal, Rule};
 use crate::image::Image;
 use crate::limit::{
-    VERSION, is_condition_address, is_condition_count, is_inside, is_name_length, is_size,
-    is_slot_address, is_slot_count,
+    MAX_CONDITIONS, MAX_MARKS, MAX_PROCEDURES, MAX_VARIABLES, PLAIN, is_after,
+    is_condition_address, is_inside, is_name_length, is_size, is_slot_address, is_version,
+    most_conditions,
 };
+use crate::procedure::{Mark, ProcInfo, VarInfo};
 use crate::slot::Slot;
 use crate::window::Window;
 use fm_words::Flags;
-use stack_text::{Kind, Name, Shape, read_name};
+use indexmap::IndexSet;
+use stack_text::{Kind, Memory, Name, Shape, read_name};
 use std::alloc::Global;
 
 /// The longest array.
 const MAX_LENGTH: u32 = 4096;
+
+/// The last word of the longest frame.
+const MAX_OFFSET: u32 = 199;
+
+/// How long a source can be, in bytes.
+const MAX_PLACE: u32 = 1 << 20;
 
 /// A broken rule, at the field that begins what is left of a file that ends at a place.
 fn refused(rule: Rule, end: usize, left: &[u8]) -> Refusal
@@ -64,7 +71,7 @@ fn opening(end: usize, left: &[u8]) -> Result<(u32, &[u8]), Refusal>
         return Err(refused(Rule::Magic, end, left));
     }
     let (version, after) = number(end, rest)?;
-    if version != VERSION {
+    if !is_version(version) {
         return Err(refused(Rule::Version, end, rest));
     }
     Ok((version, after))
@@ -145,69 +152,78 @@ fn text(end: usize, left: &[u8]) -> Result<(&[u8], &[u8]), Refusal>
     bytes(end, length as usize, rest)
 }
 
-fn name(alloc: Global, end: usize, left: &[u8]) -> Result<(Name, &[u8]), ImageFault>
-    ensures { Gives (λ x. (x.0, x.1.now)) result (name_at end left.now) }
+/// A name, with its bytes in the file.
+fn name<'a>(
+    alloc: Global,
+    end: usize,
+    left: &'a [u8],
+) -> Result<(Name, &'a [u8], &'a [u8]), ImageFault>
+    ensures name { Gives (λ x. (x.0, x.2.now)) result (name_at end left.now) }
+    ensures bytes { IfOk result (λ x. x.1.now ≡ x.0) }
 {
     let (text, rest) = text(end, left)?;
     match read_name(alloc, text)? {
-        Some(name) => Ok((name, rest)),
+        Some(name) => Ok((name, text, rest)),
         None => Err(refused(Rule::Name, end, left).into()),
     }
 }
 
-/// Whether an earlier condition has the name.
-fn is_among(earlier: &[Name], name: &Name) -> bool
-    ensures { result ≡ list_any (λ other. bytes_eq other name.now) earlier.now }
+/// Enters a name, and says whether it is none of the earlier ones.
+fn enter<'a>(names: &mut IndexSet<&'a [u8]>, name: &'a [u8]) -> Result<bool, Memory>
+    ensures new { IfOk result (λ new. new ≡ is_new (map (λ key. key.now) names.old.keys) name.now) }
+    ensures entered { OnOk result (IsTrue (is_new (map (λ key. key.now) names.old.keys) name.now)
+        → map (λ key. key.now) names.new.keys ≡ map (λ key. key.now) names.old.keys ++ name.now ∷ []) }
 {
-    earlier.iter().any(|other| *other == *name)
+    let new = names.insert(name)?;
+    Ok(new)
 }
 
-/// The name of a condition, after those that were read before.
-fn condition<'a>(
+/// A name after the earlier ones of its list, which is entered among them.
+fn new_name<'a>(
     alloc: Global,
     end: usize,
-    earlier: &[Name],
+    names: &mut IndexSet<&'a [u8]>,
     left: &'a [u8],
 ) -> Result<(Name, &'a [u8]), ImageFault>
-    ensures { Gives (λ x. (x.0, x.1.now)) result (condition_at end earlier.now left.now) }
+    ensures name { Gives (λ x. (x.0, x.1.now)) result
+        (new_name_at end (map (λ key. key.now) names.old.keys) left.now) }
+    ensures entered { IfOk result (λ x. map (λ key. key.now) names.new.keys
+        ≡ map (λ key. key.now) names.old.keys ++ x.0 ∷ []) }
 {
-    let (name, rest) = name(alloc, end, left)?;
-    if is_among(earlier, &name) {
+    let (name, bytes, rest) = name(alloc, end, left)?;
+    let new = enter(names, bytes)?;
+    if !new {
         return Err(refused(Rule::Repeated, end, left).into());
     }
     Ok((name, rest))
 }
 
-/// How many names of conditions follow.
-fn condition_count(end: usize, left: &[u8]) -> Result<(u32, &[u8]), Refusal>
-    ensures { GivesExactly (λ x. (x.0, x.1.now)) result (condition_count_at end left.now) }
+/// How many items follow, where there is a limit.
+fn count(most: u32, end: usize, left: &[u8]) -> Result<(u32, &[u8]), Refusal>
+    ensures { GivesExactly (λ x. (x.0, x.1.now)) result (count_at most end left.now) }
 {
     let (count, rest) = number(end, left)?;
-    if !is_condition_count(count) {
+    if count > most {
         return Err(refused(Rule::Limit, end, left));
     }
     Ok((count, rest))
 }
 
-/// How many slots follow.
-fn slot_count(end: usize, left: &[u8]) -> Result<(u32, &[u8]), Refusal>
-    ensures { GivesExactly (λ x. (x.0, x.1.now)) result (slot_count_at end left.now) }
-{
-    let (count, rest) = number(end, left)?;
-    if !is_slot_count(count) {
-        return Err(refused(Rule::Limit, end, left));
-    }
-    Ok((count, rest))
-}
-
+/// At most so many names of conditions.
 #[tactic(auto, unfolding(crate::specs::Reading::conditions_at))]
-fn conditions(alloc: Global, end: usize, left: &[u8]) -> Result<(Vec<Name>, &[u8]), ImageFault>
-    ensures { Gives (λ x. (x.0.items, x.1.now)) result (conditions_at end left.now) }
+fn conditions(
+    alloc: Global,
+    most: u32,
+    end: usize,
+    left: &[u8],
+) -> Result<(Vec<Name>, &[u8]), ImageFault>
+    ensures { Gives (λ x. (x.0.items, x.1.now)) result (conditions_at most end left.now) }
 {
-    let (count, mut rest) = condition_count(end, left)?;
+    let (count, mut rest) = count(most, end, left)?;
+    let mut names = IndexSet::new(alloc);
     let mut conditions = Vec::new(alloc);
     for _ in 0..count {
-        let (next, after) = condition(alloc, end, &conditions, rest)?;
+        let (next, after) = new_name(alloc, end, &mut names, rest)?;
         conditions.push(next)?;
         rest = after;
     }
@@ -235,41 +251,21 @@ fn shape(end: usize, left: &[u8]) -> Result<(Shape, &[u8]), Refusal>
     Ok((Shape { kind, length }, after))
 }
 
-/// Whether an earlier slot has the name.
-fn is_among_slots(earlier: &[Slot], name: &Name) -> bool
-    ensures { result ≡ list_any (λ other. bytes_eq other.name name.now) earlier.now }
-{
-    earlier.iter().any(|other| other.name == *name)
-}
-
-/// The name of a slot, after the slots that were read before.
-fn slot_name<'a>(
-    alloc: Global,
-    end: usize,
-    earlier: &[Slot],
-    left: &'a [u8],
-) -> Result<(Name, &'a [u8]), ImageFault>
-    ensures { Gives (λ x. (x.0, x.1.now)) result (slot_name_at end earlier.now left.now) }
-{
-    let (name, rest) = name(alloc, end, left)?;
-    if is_among_slots(earlier, &name) {
-        return Err(refused(Rule::Repeated, end, left).into());
-    }
-    Ok((name, rest))
-}
-
 /// A slot, after those that were read before.
 #[tactic(auto, unfolding(crate::specs::Reading::slot_at))]
 fn slot<'a>(
     alloc: Global,
     end: usize,
     window: Window,
-    earlier: &[Slot],
+    names: &mut IndexSet<&'a [u8]>,
     left: &'a [u8],
 ) -> Result<(Slot, &'a [u8]), ImageFault>
-    ensures { Gives (λ x. (x.0, x.1.now)) result (slot_at end window earlier.now left.now) }
+    ensures slot { Gives (λ x. (x.0, x.1.now)) result
+        (slot_at end window (map (λ key. key.now) names.old.keys) left.now) }
+    ensures entered { IfOk result (λ x. map (λ key. key.now) names.new.keys
+        ≡ map (λ key. key.now) names.old.keys ++ x.0.name ∷ []) }
 {
-    let (name, left) = slot_name(alloc, end, earlier, left)?;
+    let (name, left) = new_name(alloc, end, names, left)?;
     let (shape, left) = shape(end, left)?;
     let (address, rest) = number(end, left)?;
     if !is_slot_address(window, shape, address) {
@@ -292,10 +288,11 @@ fn slots(
 ) -> Result<(Vec<Slot>, &[u8]), ImageFault>
     ensures { Gives (λ x. (x.0.items, x.1.now)) result (slots_at end window left.now) }
 {
-    let (count, mut rest) = slot_count(end, left)?;
+    let (count, mut rest) = count(MAX_VARIABLES, end, left)?;
+    let mut names = IndexSet::new(alloc);
     let mut slots = Vec::new(alloc);
     for _ in 0..count {
-        let (next, after) = slot(alloc, end, window, &slots, rest)?;
+        let (next, after) = slot(alloc, end, window, &mut names, rest)?;
         slots.push(next)?;
         rest = after;
     }
@@ -311,30 +308,221 @@ fn words(
 ) -> Result<(Vec<u32>, &[u8]), ImageFault>
     ensures { Gives (λ x. (x.0.items, x.1.now)) result (words_at end window left.now) }
 {
-    let (count, rest) = number(end, left)?;
-    if count > window.size {
-        return Err(refused(Rule::Limit, end, left).into());
-    }
+    let (count, rest) = count(window.size, end, left)?;
     numbers(alloc, end, count, rest)
 }
 
-/// The fields of version 1, and nothing after them.
+/// A variable, after those whose names were entered.
+#[tactic(auto, unfolding(crate::specs::Reading::variable_at))]
+fn variable<'a>(
+    alloc: Global,
+    end: usize,
+    names: &mut IndexSet<&'a [u8]>,
+    left: &'a [u8],
+) -> Result<(VarInfo, &'a [u8]), ImageFault>
+    ensures variable { Gives (λ x. (x.0, x.1.now)) result
+        (variable_at end (map (λ key. key.now) names.old.keys) left.now) }
+    ensures entered { IfOk result (λ x. map (λ key. key.now) names.new.keys
+        ≡ map (λ key. key.now) names.old.keys ++ x.0.name ∷ []) }
+{
+    let (name, left) = new_name(alloc, end, names, left)?;
+    let (shape, left) = shape(end, left)?;
+    let (offset, rest) = number(end, left)?;
+    if offset > MAX_OFFSET {
+        return Err(refused(Rule::Limit, end, left).into());
+    }
+    let variable = VarInfo {
+        name,
+        shape,
+        offset,
+    };
+    Ok((variable, rest))
+}
+
+#[tactic(auto, unfolding(crate::specs::Reading::variables_at))]
+fn variables(alloc: Global, end: usize, left: &[u8]) -> Result<(Vec<VarInfo>, &[u8]), ImageFault>
+    ensures { Gives (λ x. (x.0.items, x.1.now)) result (variables_at end left.now) }
+{
+    let (count, mut rest) = count(MAX_VARIABLES, end, left)?;
+    let mut names = IndexSet::new(alloc);
+    let mut variables = Vec::new(alloc);
+    for _ in 0..count {
+        let (next, after) = variable(alloc, end, &mut names, rest)?;
+        variables.push(next)?;
+        rest = after;
+    }
+    Ok((variables, rest))
+}
+
+/// A procedure, after those whose names were entered.
+#[tactic(auto, unfolding(crate::specs::Reading::procedure_at))]
+fn procedure<'a>(
+    alloc: Global,
+    end: usize,
+    names: &mut IndexSet<&'a [u8]>,
+    left: &'a [u8],
+) -> Result<(ProcInfo, &'a [u8]), ImageFault>
+    ensures procedure { Gives (λ x. (x.0, x.1.now)) result
+        (procedure_at end (map (λ key. key.now) names.old.keys) left.now) }
+    ensures entered { IfOk result (λ x. map (λ key. key.now) names.new.keys
+        ≡ map (λ key. key.now) names.old.keys ++ x.0.name ∷ []) }
+{
+    let (name, left) = new_name(alloc, end, names, left)?;
+    let (conditions, left) = conditions(alloc, MAX_CONDITIONS, end, left)?;
+    let (variables, rest) = variables(alloc, end, left)?;
+    let procedure = ProcInfo {
+        name,
+        conditions,
+        variables,
+    };
+    Ok((procedure, rest))
+}
+
+#[tactic(auto, unfolding(crate::specs::Reading::procedures_at))]
+fn procedures(alloc: Global, end: usize, left: &[u8]) -> Result<(Vec<ProcInfo>, &[u8]), ImageFault>
+    ensures { Gives (λ x. (x.0.items, x.1.now)) result (procedures_at end left.now) }
+{
+    let (count, mut rest) = count(MAX_PROCEDURES, end, left)?;
+    let mut names = IndexSet::new(alloc);
+    let mut procedures = Vec::new(alloc);
+    for _ in 0..count {
+        let (next, after) = procedure(alloc, end, &mut names, rest)?;
+        procedures.push(next)?;
+        rest = after;
+    }
+    Ok((procedures, rest))
+}
+
+/// The last of the marks.
+fn last_mark(marks: &[Mark]) -> Option<Mark>
+    ensures { result ≡ last_mark marks.now }
+{
+    marks.last().copied()
+}
+
+/// The address of a mark, behind the mark before.
+fn mark_address<'a>(
+    end: usize,
+    window: Window,
+    before: Option<Mark>,
+    left: &'a [u8],
+) -> Result<(u32, &'a [u8]), Refusal>
+    ensures { GivesExactly (λ x. (x.0, x.1.now)) result
+        (mark_address_at end window before left.now) }
+{
+    let (address, rest) = number(end, left)?;
+    if !is_inside(window.base, window.size, address) {
+        return Err(refused(Rule::Address, end, left));
+    }
+    if !is_after(before, address) {
+        return Err(refused(Rule::Order, end, left));
+    }
+    Ok((address, rest))
+}
+
+/// A mark, for so many procedures, behind the mark before.
+#[tactic(auto, unfolding(crate::specs::Reading::mark_at))]
+fn mark<'a>(
+    end: usize,
+    window: Window,
+    procedures: u32,
+    before: Option<Mark>,
+    left: &'a [u8],
+) -> Result<(Mark, &'a [u8]), Refusal>
+    ensures { GivesExactly (λ x. (x.0, x.1.now)) result
+        (mark_at end window procedures before left.now) }
+{
+    let (address, left) = mark_address(end, window, before, left)?;
+    let (procedure, rest) = number(end, left)?;
+    if procedure >= procedures {
+        return Err(refused(Rule::Limit, end, left));
+    }
+    let (place, after) = number(end, rest)?;
+    if place >= MAX_PLACE {
+        return Err(refused(Rule::Limit, end, rest));
+    }
+    let mark = Mark {
+        address,
+        procedure,
+        place,
+    };
+    Ok((mark, after))
+}
+
+#[tactic(auto, unfolding(crate::specs::Reading::marks_at))]
+fn marks(
+    alloc: Global,
+    end: usize,
+    window: Window,
+    procedures: u32,
+    left: &[u8],
+) -> Result<(Vec<Mark>, &[u8]), ImageFault>
+    ensures { Gives (λ x. (x.0.items, x.1.now)) result (marks_at end window procedures left.now) }
+{
+    let (count, mut rest) = count(MAX_MARKS, end, left)?;
+    let mut marks: Vec<Mark> = Vec::new(alloc);
+    for _ in 0..count {
+        let before = last_mark(&marks);
+        let (next, after) = mark(end, window, procedures, before, rest)?;
+        marks.push(next)?;
+        rest = after;
+    }
+    Ok((marks, rest))
+}
+
+/// Procedures, and marks that name them by their numbers.
+#[tactic(auto, unfolding(crate::specs::Reading::both_tables_at))]
+fn both_tables(
+    alloc: Global,
+    end: usize,
+    window: Window,
+    left: &[u8],
+) -> Result<(Vec<ProcInfo>, Vec<Mark>, &[u8]), ImageFault>
+    ensures { Gives (λ x. (record { procedures = x.0.items; marks = x.1.items }, x.2.now)) result
+        (both_tables_at end window left.now) }
+{
+    let (procedures, left) = procedures(alloc, end, left)?;
+    let (marks, rest) = marks(alloc, end, window, procedures.len() as u32, left)?;
+    Ok((procedures, marks, rest))
+}
+
+/// The fields that only version 2 has.
+#[tactic(auto, unfolding(crate::specs::Reading::tables_at))]
+fn tables(
+    alloc: Global,
+    version: u32,
+    end: usize,
+    window: Window,
+    left: &[u8],
+) -> Result<(Vec<ProcInfo>, Vec<Mark>, &[u8]), ImageFault>
+    ensures { Gives (λ x. (record { procedures = x.0.items; marks = x.1.items }, x.2.now)) result
+        (tables_at version end window left.now) }
+{
+    if version == PLAIN {
+        return Ok((Vec::new(alloc), Vec::new(alloc), left));
+    }
+    both_tables(alloc, end, window, left)
+}
+
+/// The fields of its version, and nothing after them.
 #[tactic(auto, unfolding(crate::specs::Reading::image_at))]
 fn image(alloc: Global, end: usize, left: &[u8]) -> Result<Image, ImageFault>
     ensures { Gives (λ image. image) result (image_at end left.now) }
 {
-    let (_version, rest) = opening(end, left)?;
+    let (version, rest) = opening(end, left)?;
     let (window, rest) = window(end, rest)?;
     let (registers, rest) = numbers(alloc, end, 16, rest)?;
     let (flags, rest) = flags(end, rest)?;
     let (condition_address, rest) = condition_address(end, window, rest)?;
-    let (conditions, rest) = conditions(alloc, end, rest)?;
+    let (conditions, rest) = conditions(alloc, most_conditions(version), end, rest)?;
     let (slots, rest) = slots(alloc, end, window, rest)?;
     let (words, rest) = words(alloc, end, window, rest)?;
+    let (procedures, marks, rest) = tables(alloc, version, end, window, rest)?;
     if !rest.is_empty() {
         return Err(refused(Rule::Trailing, end, rest).into());
     }
     Ok(Image {
+        version,
         base: window.base,
         size: window.size,
         final_pc: window.final_pc,
@@ -344,6 +532,8 @@ fn image(alloc: Global, end: usize, left: &[u8]) -> Result<Image, ImageFault>
         conditions,
         slots,
         words,
+        procedures,
+        marks,
     })
 }
 

@@ -1,11 +1,15 @@
 //! Writing images.
 
-ghost use Rattle.std.specs.Prelude.{◌≡◌, ◌≤◌, ◌<◌, ◌^◌, ◌++◌, length, IfOk, OnOk};
-ghost use Rattle.fm_image.specs.Spelling.{number_bytes, numbers_bytes, name_bytes, counted_bytes, slot_bytes, opening_bytes, window_bytes, spelling};
+ghost use Rattle.std.specs.Prelude.{◌≡◌, ◌≤◌, ◌<◌, ◌^◌, ◌++◌, length, IfOk, OnOk, IsTrue};
+ghost use Rattle.std.specs.List.{list_all};
+ghost use Rattle.fm_image.specs.Image.{Tables};
+ghost use Rattle.fm_image.specs.Spelling.{is_small};
+ghost use Rattle.fm_image.specs.Spelling.{number_bytes, numbers_bytes, name_bytes, counted_bytes, slot_bytes, opening_bytes, window_bytes, variable_bytes, procedure_bytes, mark_bytes, tables_bytes, spelling};
 
 use crate::code::{address_bits, kind_bits};
 use crate::image::Image;
-use crate::limit::VERSION;
+use crate::limit::PLAIN;
+use crate::procedure::{Mark, ProcInfo, VarInfo};
 use crate::slot::Slot;
 use stack_text::{Memory, Name};
 use std::alloc::Global;
@@ -74,13 +78,103 @@ fn push_words(bytes: &mut Vec<u8>, words: &[u32]) -> Result<(), Memory>
     push_numbers(bytes, words)
 }
 
+/// A variable by its name, the number of its kind, its length and its offset.
+fn push_variable(bytes: &mut Vec<u8>, variable: &VarInfo) -> Result<(), Memory>
+    ensures { OnOk result (bytes.new.items ≡ bytes.old.items ++ variable_bytes variable.now) }
+{
+    push_name(bytes, &variable.name)?;
+    push_number(bytes, kind_bits(variable.shape.kind))?;
+    push_number(bytes, variable.shape.length)?;
+    push_number(bytes, variable.offset)
+}
+
+fn push_variables(bytes: &mut Vec<u8>, variables: &[VarInfo]) -> Result<(), Memory>
+    requires { length variables.now ≤ 200 }
+    ensures { OnOk result (bytes.new.items ≡ bytes.old.items ++ counted_bytes variable_bytes variables.now) }
+{
+    push_number(bytes, variables.len() as u32)?;
+    for variable in variables {
+        push_variable(bytes, variable)?;
+    }
+    Ok(())
+}
+
+/// A procedure by its name, its conditions and its variables.
+fn push_procedure(bytes: &mut Vec<u8>, procedure: &ProcInfo) -> Result<(), Memory>
+    requires conditions { length procedure.now.conditions ≤ 201 }
+    requires variables { length procedure.now.variables ≤ 200 }
+    ensures { OnOk result (bytes.new.items ≡ bytes.old.items ++ procedure_bytes procedure.now) }
+{
+    push_name(bytes, &procedure.name)?;
+    push_conditions(bytes, &procedure.conditions)?;
+    push_variables(bytes, &procedure.variables)
+}
+
+fn push_procedures(bytes: &mut Vec<u8>, procedures: &[ProcInfo]) -> Result<(), Memory>
+    requires count { length procedures.now ≤ 1000 }
+    requires small { IsTrue (list_all is_small procedures.now) }
+    ensures { OnOk result (bytes.new.items ≡ bytes.old.items ++ counted_bytes procedure_bytes procedures.now) }
+{
+    push_number(bytes, procedures.len() as u32)?;
+    for procedure in procedures {
+        push_procedure(bytes, procedure)?;
+    }
+    Ok(())
+}
+
+/// A mark by its address, its procedure and its place.
+fn push_mark(bytes: &mut Vec<u8>, mark: &Mark) -> Result<(), Memory>
+    ensures { OnOk result (bytes.new.items ≡ bytes.old.items ++ mark_bytes mark.now) }
+{
+    push_number(bytes, mark.address)?;
+    push_number(bytes, mark.procedure)?;
+    push_number(bytes, mark.place)
+}
+
+fn push_marks(bytes: &mut Vec<u8>, marks: &[Mark]) -> Result<(), Memory>
+    requires { length marks.now ≤ 2 ^ 20 }
+    ensures { OnOk result (bytes.new.items ≡ bytes.old.items ++ counted_bytes mark_bytes marks.now) }
+{
+    push_number(bytes, marks.len() as u32)?;
+    for mark in marks {
+        push_mark(bytes, mark)?;
+    }
+    Ok(())
+}
+
+/// The fields that only version 2 has.
+fn push_tables(
+    bytes: &mut Vec<u8>,
+    version: u32,
+    procedures: &[ProcInfo],
+    marks: &[Mark],
+) -> Result<(), Memory>
+    requires procedures { length procedures.now ≤ 1000 }
+    requires small { IsTrue (list_all is_small procedures.now) }
+    requires marks { length marks.now ≤ 2 ^ 20 }
+    ensures { let tables : Tables = record { procedures = procedures.now; marks = marks.now } in
+        OnOk result (bytes.new.items ≡ bytes.old.items ++ tables_bytes version tables) }
+{
+    if version == PLAIN {
+        return Ok(());
+    }
+    push_procedures(bytes, procedures)?;
+    push_marks(bytes, marks)
+}
+
 /// The fields before the registers.
-fn opening(alloc: Global, base: u32, size: u32, final_pc: u32) -> Result<Vec<u8>, Memory>
+fn opening(
+    alloc: Global,
+    version: u32,
+    base: u32,
+    size: u32,
+    final_pc: u32,
+) -> Result<Vec<u8>, Memory>
     ensures { IfOk result (λ bytes. bytes.items
-        ≡ opening_bytes ++ window_bytes (record { base = base; size = size; final_pc = final_pc })) }
+        ≡ opening_bytes version ++ window_bytes (record { base = base; size = size; final_pc = final_pc })) }
 {
     let mut bytes = Vec::from_slice(alloc, b"FM91")?;
-    push_numbers(&mut bytes, &[VERSION, base, size, final_pc])?;
+    push_numbers(&mut bytes, &[version, base, size, final_pc])?;
     Ok(bytes)
 }
 
@@ -89,12 +183,13 @@ fn opening(alloc: Global, base: u32, size: u32, final_pc: u32) -> Result<Vec<u8>
 pub fn write_image(alloc: Global, image: &Image) -> Result<Vec<u8>, Memory>
     ensures { IfOk result (λ bytes. bytes.items ≡ spelling image.now) }
 {
-    let mut bytes = opening(alloc, image.base, image.size, image.final_pc)?;
+    let mut bytes = opening(alloc, image.version, image.base, image.size, image.final_pc)?;
     push_numbers(&mut bytes, &image.registers)?;
     push_number(&mut bytes, image.flags.bits())?;
     push_number(&mut bytes, address_bits(image.condition_address))?;
     push_conditions(&mut bytes, &image.conditions)?;
     push_slots(&mut bytes, &image.slots)?;
     push_words(&mut bytes, &image.words)?;
+    push_tables(&mut bytes, image.version, &image.procedures, &image.marks)?;
     Ok(bytes)
 }

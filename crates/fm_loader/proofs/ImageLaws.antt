@@ -1,18 +1,13 @@
 -- What the limits of an image give whoever reads values for it and loads it.
-use Rattle.std.proofs.Common.{◌≡◌, ℕ, ◌+◌, ◌<◌, ◌≤◌, List, [], ◌∷◌, ◌++◌, map, length, Bool, true, false, not, ◌&&◌, ◌||◌, leb, ltb, eqb, refl, sym, ap, subst, ◌∙◌, append_assoc, arith}
+use Rattle.std.proofs.Common.{◌≡◌, ◌+◌, List, [], ◌∷◌, ◌++◌, map, true, false, ◌&&◌, leb, ltb, eqb, refl, arith}
 use Rattle.std.specs.Prelude.{IsTrue}
-use Rattle.std.specs.List.{list_any, IsDistinct}
-use Rattle.std.specs.Str.{bytes_eq}
-use Rattle.std.proofs.lemmas.Bool.{and_parts, and_from, leb-true, lt-leb, eqb-true, ne_eqb, le-ltb}
-use Rattle.std.proofs.lemmas.Cmp.{nat_list_eq_equiv}
-use Rattle.std.proofs.lemmas.List.{append-nil, map_push}
-use Rattle.std.proofs.lemmas.Map.Keys.{IsDistinct-push}
+use Rattle.std.proofs.lemmas.Bool.{and_parts, and_from, lt-leb, ne_eqb, le-ltb}
 use Rattle.stack_text.specs.Names.{is_name}
 use Rattle.stack_text.specs.Values.{item_count}
 use Rattle.fm_machine.specs.State.{is_refused}
 use Rattle.fm_image.specs.declared.slot.Slot.{Slot}
 use Rattle.fm_image.specs.declared.window.Window.{Window}
-use Rattle.fm_image.specs.Image.{ImageOf, window_of, is_size, is_inside, is_slot, is_slot_address, all_after, is_image}
+use Rattle.fm_image.specs.Image.{ImageOf, window_of, is_new, is_slot, is_slot_address, all_after, is_image}
 use Rattle.fm_image.proofs.LimitLaws.{limits_of, sized}
 use Rattle.fm_image.proofs.NameLaws.{slots_differ}
 use Rattle.fm_loader.specs.Values.{HaveOwnNames}
@@ -29,7 +24,7 @@ unfolding all_after
 room_after window earlier [] h = refl
 room_after window earlier (slot ∷ slots) h =
     let p = and_parts (is_slot window earlier slot) (all_after (is_slot window) (earlier ++ slot ∷ []) slots) h in
-    let q = and_parts ((is_name slot.name && not (list_any (λ other. bytes_eq other.name slot.name) earlier)) && leb slot.shape.length 4096) (is_slot_address window slot.shape slot.address) p.0 in
+    let q = and_parts ((is_name slot.name && is_new (map (λ other. other.name) earlier) slot.name) && leb slot.shape.length 4096) (is_slot_address window slot.shape slot.address) p.0 in
     let r = and_parts (leb (window.base + item_count slot.shape) (slot.address + 1)) (ltb slot.address (window.base + window.size)) q.1 in
     and_from _ _ r.0 (room_after window (earlier ++ slot ∷ []) slots p.1)
 

@@ -1,6 +1,6 @@
 -- Reading trees one after the other, as a loop does.
 use Rattle.std.proofs.Common.{◌≡◌, ◌≢◌, ℕ, ◌+◌, ◌<◌, ◌≤◌, List, [], ◌∷◌, ◌++◌, length, get_or, drop, Option, Some, None, Result, Ok, Err, option_map, refl, sym, ap, ◌∙◌, append_assoc, arith}
-use Rattle.std.proofs.lemmas.List.{drop_all, drop_more, append-nil}
+use Rattle.std.proofs.lemmas.List.{drop_all, append-nil}
 use Rattle.stack_text.proofs.Loops.{drop-item}
 use Rattle.stack_text.proofs.ResultLoops.{with_front}
 use Rattle.stack_text.specs.Trees.{Node, more}

@@ -1,10 +1,13 @@
 -- An image as lines of text.
-use Rattle.std.specs.Prelude.{ℕ, List, [], ◌++◌, Option, None, Some, codes}
+use Rattle.std.specs.Prelude.{ℕ, List, [], ◌++◌, Option, None, Some, slice_get, codes}
 use Rattle.std.specs.Fmt.{decimal}
 use Rattle.std.specs.List.{flat_map}
 use Rattle.stack_text.specs.declared.shape.Shape.{Shape}
 use Rattle.stack_text.specs.Values.{kind_name}
+use Rattle.fm_image.specs.declared.procedure.Mark.{Mark}
+use Rattle.fm_image.specs.declared.procedure.VarInfo.{VarInfo}
 use Rattle.fm_image.specs.declared.slot.Slot.{Slot}
+use Rattle.fm_image.specs.Procedure.{ProcedureOf}
 use Rattle.fm_image.specs.Image.{ImageOf}
 use Rattle.fm_show.specs.Digits.{hex_digits}
 use Rattle.fm_show.specs.Disassembly.{disassembly_text}
@@ -38,7 +41,31 @@ slot_line slot = codes "slot " ++ slot.name ++ codes " " ++ shape_text slot.shap
 abbrev pub word_line : ℕ → ℕ → List ℕ
 word_line address word = hex_digits address ++ codes " " ++ hex_digits word ++ codes " " ++ disassembly_text word ++ line_end
 
--- the window, the sixteen registers, the flags, the condition word, the names of conditions, the slots and the words
+-- `variable x integer 0 0`
+abbrev pub variable_line : VarInfo → List ℕ
+variable_line variable =
+    codes "variable " ++ variable.name ++ codes " " ++ shape_text variable.shape ++ codes " " ++ decimal variable.offset ++ line_end
+
+-- `procedure main`, and its variables under it
+abbrev pub procedure_lines : ProcedureOf → List ℕ
+procedure_lines procedure = codes "procedure " ++ procedure.name ++ line_end ++ flat_map variable_line procedure.variables
+
+-- the name of the procedure of a number
+abbrev pub name_or_none : Option ProcedureOf → List ℕ
+name_or_none None = []
+name_or_none (Some procedure) = procedure.name
+
+abbrev pub procedure_name : List ProcedureOf → ℕ → List ℕ
+procedure_name procedures number = name_or_none (slice_get procedures number)
+
+-- `mark 00000004 main 48`
+abbrev pub mark_line : List ProcedureOf → Mark → List ℕ
+mark_line procedures mark =
+    codes "mark " ++ hex_digits mark.address ++ codes " " ++ procedure_name procedures mark.procedure ++ codes " "
+    ++ decimal mark.place ++ line_end
+
+-- the window, the sixteen registers, the flags, the condition word, the names of conditions, the slots, the words, the
+-- procedures and the marks
 abbrev pub image_listing : ImageOf → List ℕ
 image_listing image =
     window_lines image
@@ -48,3 +75,5 @@ image_listing image =
     ++ flat_map name_line image.conditions
     ++ flat_map slot_line image.slots
     ++ numbered_lines word_line image.base image.words
+    ++ flat_map procedure_lines image.procedures
+    ++ flat_map (mark_line image.procedures) image.marks

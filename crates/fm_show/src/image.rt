@@ -3,12 +3,12 @@
 ghost use Rattle.std.specs.Prelude.{◌≡◌, ◌++◌, ◌+◌, ◌<◌, ◌^◌, length, IfOk, OnOk, Some};
 ghost use Rattle.std.specs.List.{flat_map};
 ghost use Rattle.fm_show.specs.Listing.{numbered_lines};
-ghost use Rattle.fm_show.specs.ImageListing.{window_lines, condition_line, name_line, shape_text, slot_line, word_line, image_listing};
+ghost use Rattle.fm_show.specs.ImageListing.{window_lines, condition_line, name_line, shape_text, slot_line, word_line, variable_line, procedure_lines, procedure_name, mark_line, image_listing};
 
 use crate::digits::hex_digits;
 use crate::disassembly::disassemble;
 use crate::listing::{push_flags, push_registers};
-use fm_image::{Image, Slot};
+use fm_image::{Image, Mark, ProcInfo, Slot, VarInfo};
 use stack_text::{Memory, Name, Shape};
 use std::alloc::Global;
 use std::fmt;
@@ -16,7 +16,8 @@ use std::fmt;
 /// An image as lines, each of which ends in LF: `base`, `size` and `final` with the window, the sixteen registers and
 /// the flags as `show_machine` has them, `condition` with the address of the condition word where there is one, `name`
 /// with each condition, `slot` with the name, kind, length and address of each slot, and each word with its address and
-/// its instruction. Addresses and words have eight hexadecimal digits; a simple type's length is 0.
+/// its instruction; then `procedure` with each procedure's name, under it `variable` with the name, kind, length and
+/// offset of each of its variables, and `mark` with each mark's address, procedure and place. Addresses and words have eight hexadecimal digits; a simple type's length is 0.
 ///
 /// The only error is out of memory.
 pub fn show_image(alloc: Global, image: &Image) -> Result<Vec<u8>, Memory>
@@ -30,6 +31,8 @@ pub fn show_image(alloc: Global, image: &Image) -> Result<Vec<u8>, Memory>
     push_names(&mut text, &image.conditions)?;
     push_slots(alloc, &mut text, &image.slots)?;
     push_words(alloc, &mut text, image.base, &image.words)?;
+    push_procedures(alloc, &mut text, &image.procedures)?;
+    push_marks(alloc, &mut text, &image.procedures, &image.marks)?;
     Ok(text)
 }
 
@@ -131,6 +134,95 @@ fn push_words(alloc: Global, text: &mut Vec<u8>, base: u32, words: &[u32]) -> Re
 {
     for (place, word) in words.iter().enumerate() {
         push_word(alloc, text, base + place as u32, *word)?;
+    }
+    Ok(())
+}
+
+/// Appends the line of a variable.
+fn push_variable(alloc: Global, text: &mut Vec<u8>, variable: &VarInfo) -> Result<(), Memory>
+    ensures { OnOk result (text.new.items ≡ text.old.items ++ variable_line variable.now) }
+{
+    let shape = ShapeText(variable.shape);
+    let offset = variable.offset;
+    let rest = format!(in alloc; " {shape} {offset}\n")?;
+    text.extend_from_slice(b"variable ")?;
+    text.extend_from_slice(variable.name.bytes())?;
+    Ok(text.extend_from_slice(rest.as_bytes())?)
+}
+
+/// Appends the lines of variables.
+fn push_variables(alloc: Global, text: &mut Vec<u8>, variables: &[VarInfo]) -> Result<(), Memory>
+    ensures { OnOk result (text.new.items ≡ text.old.items ++ flat_map variable_line variables.now) }
+{
+    for variable in variables {
+        push_variable(alloc, text, variable)?;
+    }
+    Ok(())
+}
+
+/// Appends the line of a procedure, and those of its variables.
+fn push_procedure(alloc: Global, text: &mut Vec<u8>, procedure: &ProcInfo) -> Result<(), Memory>
+    ensures { OnOk result (text.new.items ≡ text.old.items ++ procedure_lines procedure.now) }
+{
+    text.extend_from_slice(b"procedure ")?;
+    text.extend_from_slice(procedure.name.bytes())?;
+    text.push(b'\n')?;
+    push_variables(alloc, text, &procedure.variables)
+}
+
+/// Appends the lines of procedures.
+fn push_procedures(alloc: Global, text: &mut Vec<u8>, procedures: &[ProcInfo]) -> Result<(), Memory>
+    ensures { OnOk result (text.new.items ≡ text.old.items ++ flat_map procedure_lines procedures.now) }
+{
+    for procedure in procedures {
+        push_procedure(alloc, text, procedure)?;
+    }
+    Ok(())
+}
+
+/// Appends the name of the procedure of a number.
+fn push_procedure_name(
+    text: &mut Vec<u8>,
+    procedures: &[ProcInfo],
+    number: u32,
+) -> Result<(), Memory>
+    ensures { OnOk result (text.new.items ≡ text.old.items ++ procedure_name procedures.now number) }
+{
+    let Some(procedure) = procedures.get(number as usize) else {
+        return Ok(());
+    };
+    Ok(text.extend_from_slice(procedure.name.bytes())?)
+}
+
+/// Appends the line of a mark.
+fn push_mark(
+    alloc: Global,
+    text: &mut Vec<u8>,
+    procedures: &[ProcInfo],
+    mark: &Mark,
+) -> Result<(), Memory>
+    ensures { OnOk result (text.new.items ≡ text.old.items ++ mark_line procedures.now mark.now) }
+{
+    let address = hex_digits(alloc, mark.address)?;
+    let place = mark.place;
+    let start = format!(in alloc; "mark {address} ")?;
+    let rest = format!(in alloc; " {place}\n")?;
+    text.extend_from_slice(start.as_bytes())?;
+    push_procedure_name(text, procedures, mark.procedure)?;
+    Ok(text.extend_from_slice(rest.as_bytes())?)
+}
+
+/// Appends the lines of marks.
+fn push_marks(
+    alloc: Global,
+    text: &mut Vec<u8>,
+    procedures: &[ProcInfo],
+    marks: &[Mark],
+) -> Result<(), Memory>
+    ensures { OnOk result (text.new.items ≡ text.old.items ++ flat_map (mark_line procedures.now) marks.now) }
+{
+    for mark in marks {
+        push_mark(alloc, text, procedures, mark)?;
     }
     Ok(())
 }

@@ -8,6 +8,8 @@ mod code;
 #[cfg(test)]
 mod display;
 #[cfg(test)]
+mod image;
+#[cfg(test)]
 mod loader;
 #[cfg(test)]
 mod machine;

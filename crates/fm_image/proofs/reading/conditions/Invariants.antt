@@ -1,8 +1,11 @@
-use Rattle.std.proofs.Common.{◌≡◌, ◌-◌, []}
+use Rattle.std.proofs.Common.{◌≡◌, ◌-◌, [], map}
 use Rattle.fm_image.specs.Fields.{items_at}
-use Rattle.fm_image.specs.Reading.{condition_at}
+use Rattle.fm_image.specs.Reading.{new_name_at}
 use Rattle.fm_image.proofs.reading.conditions.Given as goal
 
--- what was read and what is still read are what all reads
+-- what was read and what is still read are what all reads, and the table has the names of what was read
 abbrev pub invariant-loop : goal.invariant-loop
-invariant-loop l = items_at (condition_at l.end) (l.count - l.counter) l.conditions.items l.rest ≡ items_at (condition_at l.end) l.count [] l.initial.rest
+invariant-loop l = record {
+  read : items_at (new_name_at l.end) (l.count - l.counter) l.conditions.items l.rest ≡ items_at (new_name_at l.end) l.count [] l.initial.rest;
+  known : map (λ key. key.now) l.names.keys ≡ l.conditions.items;
+}

@@ -1,8 +1,11 @@
-use Rattle.std.proofs.Common.{◌≡◌, ◌-◌, []}
+use Rattle.std.proofs.Common.{◌≡◌, ◌-◌, [], map}
 use Rattle.fm_image.specs.Fields.{items_at}
 use Rattle.fm_image.specs.Reading.{slot_at}
 use Rattle.fm_image.proofs.reading.slots.Given as goal
 
--- what was read and what is still read are what all reads
+-- what was read and what is still read are what all reads, and the table has the names of what was read
 abbrev pub invariant-loop : goal.invariant-loop
-invariant-loop l = items_at (slot_at l.end l.window) (l.count - l.counter) l.slots.items l.rest ≡ items_at (slot_at l.end l.window) l.count [] l.initial.rest
+invariant-loop l = record {
+  read : items_at (λ earlier. slot_at l.end l.window (map (λ slot. slot.name) earlier)) (l.count - l.counter) l.slots.items l.rest ≡ items_at (λ earlier. slot_at l.end l.window (map (λ slot. slot.name) earlier)) l.count [] l.initial.rest;
+  known : map (λ key. key.now) l.names.keys ≡ map (λ slot. slot.name) l.slots.items;
+}

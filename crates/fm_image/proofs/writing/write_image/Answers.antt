@@ -1,4 +1,4 @@
-use Rattle.fm_image.proofs.LimitLaws.{condition_count, slot_count, word_count}
+use Rattle.fm_image.proofs.LimitLaws.{condition_count, slot_count, word_count, tables_small}
 use Rattle.fm_image.proofs.writing.write_image.Goals as goal
 
 pub push_conditions-requires : goal.push_conditions-requires
@@ -9,3 +9,12 @@ push_slots-requires c = rw c.deref-3.ensures.value (slot_count _ c.image.invaria
 
 pub push_words-requires : goal.push_words-requires
 push_words-requires c = rw c.deref-4.ensures.value (word_count _ c.image.invariant)
+
+pub push_tables-requires-clause-procedures : goal.push_tables-requires-clause-procedures
+push_tables-requires-clause-procedures c = rw c.deref-5.ensures.value (tables_small _ c.image.invariant).procedures
+
+pub push_tables-requires-clause-small : goal.push_tables-requires-clause-small
+push_tables-requires-clause-small c = rw c.deref-5.ensures.value (tables_small _ c.image.invariant).small
+
+pub push_tables-requires-clause-marks : goal.push_tables-requires-clause-marks
+push_tables-requires-clause-marks c = rw c.deref-6.ensures.value (tables_small _ c.image.invariant).marks
