@@ -34,8 +34,7 @@ use Rattle.gypsy_codegen.specs.declared.fault.GenFault.{GenFault}
 use Rattle.gypsy_codegen.specs.declared.fault.GenFault.TheVariants as gen
 use Rattle.stack_build.specs.declared.fault.BuildFault.{BuildFault}
 use Rattle.stack_build.specs.declared.fault.BuildFault.TheVariants as fault
-use Rattle.stack_build.specs.Formals.{shown_formals, shown_conditions}
-use Rattle.stack_build.specs.Image.{image_with, image_of}
+use Rattle.stack_build.specs.Image.{image_on, image_of}
 use Rattle.stack_build.specs.Build.{reading_fault, checking_fault, generating_fault, linking_fault, fault_of, accepted_unless, accepted_by, source_in, generated_by, built_with, placed_size, linked_of, source_built, built}
 
 -- ---- reading and checking
@@ -87,12 +86,12 @@ module _ (s : SourceOf) (sizes : Words) (base : ℕ) (out : SystemOf) (made : ge
 
 -- what was made is what is to be built
 pub built_is : (s : SourceOf) (sizes : Words) (base : ℕ) (piton : CheckedOf) (image : ImageOf) (bytes : List ℕ) → generation s sizes base ≡ Ok piton.system → IsChecked piton →
-    system_in piton ≡ generated_view (program_of s) sizes base → (placed (system_in piton)).size ≤ 2 ^ 20 → image ≡ image_with (shown_formals s) (shown_conditions s) (system_in piton) → bytes ≡ spelling image →
+    system_in piton ≡ generated_view (program_of s) sizes base → (placed (system_in piton)).size ≤ 2 ^ 20 → image ≡ image_on s (system_in piton) → bytes ≡ spelling image →
     source_built s sizes base ≡ Ok record { piton = piton; image = image; bytes = bytes }
 unfolding image_of
 built_is s sizes base piton image bytes made is view small image_is bytes_are =
     let names = sym is.names in
-    let same : image_of s sizes base ≡ image = ap (image_with (shown_formals s) (shown_conditions s)) (sym view) ∙ sym image_is in
+    let same : image_of s sizes base ≡ image = ap (image_on s) (sym view) ∙ sym image_is in
     let file : spelling (image_of s sizes base) ≡ bytes = ap spelling same ∙ sym bytes_are in
     built_small s sizes base piton.system made (subst (λ (v : SystemView). (placed v).size ≤ 2 ^ 20) view small)
     ∙ (λ i. Ok record { piton = record { system = piton.system; resolved = names i }; image = same i; bytes = file i })

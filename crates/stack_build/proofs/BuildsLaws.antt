@@ -12,6 +12,7 @@ use Rattle.piton_check.specs.Resolved.{resolved}
 use Rattle.piton_check.specs.Sound.{IsSound}
 use Rattle.piton_machine.specs.Fits.{system_in}
 use Rattle.piton_machine.specs.Placed.{placed}
+use Rattle.piton_machine.proofs.ReadyLaws.{end_fits}
 use Rattle.piton_linker.specs.Theorem.{RunsOnProcessor, PitonRunsOnProcessor}
 use Rattle.gypsy_syntax.specs.Sources.{SourceOf}
 use Rattle.gypsy_syntax.specs.Resolved.{program_of}
@@ -25,7 +26,7 @@ use Rattle.gypsy_codegen.specs.Text.{generated}
 use Rattle.gypsy_codegen.specs.Answers as generating
 use Rattle.gypsy_codegen.proofs.AnswerLaws.{limits_fit}
 use Rattle.stack_build.specs.Formals.{shown_formals, shown_conditions}
-use Rattle.stack_build.specs.Image.{image_with, image_of}
+use Rattle.stack_build.specs.Image.{source_tables, image_on, image_of}
 use Rattle.stack_build.specs.declared.fault.BuildFault.{BuildFault}
 use Rattle.stack_build.specs.declared.fault.BuildFault.TheVariants as fault
 use Rattle.gypsy_codegen.specs.declared.fault.GenFault.{GenFault}
@@ -35,7 +36,9 @@ use Rattle.stack_build.proofs.TakesLaws.{takes_values}
 use Rattle.stack_build.proofs.KnownLaws.{source_is_accepted}
 use Rattle.stack_text.specs.Results.{◌>>=◌}
 use Rattle.stack_build.proofs.ImageLimits.{generated_shows}
-use Rattle.stack_build.proofs.ImageBytes.{file_short, file_spells}
+use Rattle.stack_build.proofs.ImageBytes.{file_spells}
+use Rattle.stack_build.proofs.TableLaws.{tables_fit}
+use Rattle.stack_build.proofs.ShortLaws.{text_builds_if}
 use Rattle.stack_build.proofs.Implementing.{RunsAsMeant, image_implements}
 use Rattle.stack_build.proofs.MomentLaws.{MomentsAsMeant, keeps_moments, stays_unfinished}
 
@@ -49,10 +52,12 @@ module _ (s : SourceOf) (sizes : Words) (base : ℕ) (accepted : IsAccepted s) (
   image_builds piton =
       let shows = generated_shows s sizes base (generated_view (program_of s) sizes base) accepted refl in
       let implements = image_implements s sizes base accepted sound theorem runs in
-      let keeps = keeps_moments s sizes base accepted sound theorem moments implements in
+      let keeps = keeps_moments s sizes base accepted sound theorem (end_fits (generated_view (program_of s) sizes base) sound.low_base small) moments implements in
       record {
-        short = file_short (generated_view (program_of s) sizes base) (shown_formals s) (shown_conditions s) sound small shows;
-        spells = file_spells (generated_view (program_of s) sizes base) (shown_formals s) (shown_conditions s) sound small shows;
+        base = base;
+        is = refl;
+        spells = file_spells (generated_view (program_of s) sizes base) (shown_formals s) (shown_conditions s) (source_tables s (generated_view (program_of s) sizes base)) sound small shows
+            (tables_fit s sizes base accepted sound small);
         implements = implements;
         moments = keeps;
         unfinished = stays_unfinished s sizes (image_of s sizes base) keeps;
@@ -60,12 +65,12 @@ module _ (s : SourceOf) (sizes : Words) (base : ℕ) (accepted : IsAccepted s) (
 
 -- what was made by generating and linking
 pub made_builds : (s : SourceOf) (sizes : Words) (base : ℕ) (piton : CheckedOf) (image : ImageOf) (bytes : List ℕ) → IsAccepted s → IsChecked piton → generating.SystemImplements s sizes base piton →
-    RunsOnProcessor (system_in piton) → (placed (system_in piton)).size ≤ 2 ^ 20 → image ≡ image_with (shown_formals s) (shown_conditions s) (system_in piton) → bytes ≡ spelling image →
+    RunsOnProcessor (system_in piton) → (placed (system_in piton)).size ≤ 2 ^ 20 → image ≡ image_on s (system_in piton) → bytes ≡ spelling image →
     Builds s sizes record { piton = piton; image = image; bytes = bytes }
 unfolding image_of
 made_builds s sizes base piton image bytes accepted is meant theorem small image_is bytes_are =
     let view = meant.view in
-    let same : image_of s sizes base ≡ image = ap (image_with (shown_formals s) (shown_conditions s)) (sym view) ∙ sym image_is in
+    let same : image_of s sizes base ≡ image = ap (image_on s) (sym view) ∙ sym image_is in
     let file : spelling (image_of s sizes base) ≡ bytes = ap spelling same ∙ sym bytes_are in
     subst (λ (b : BuiltOf). Builds s sizes b) (λ i. record { piton = piton; image = same i; bytes = file i })
     (image_builds s sizes base accepted (subst IsSound view is.sound) (subst RunsOnProcessor view theorem) (subst (RunsAsMeant (program_of s) sizes) view meant.runs) (subst (MomentsAsMeant (program_of s) sizes) view meant.moments) (subst (λ (v : SystemView). (placed v).size ≤ 2 ^ 20) view small) piton)
@@ -100,12 +105,8 @@ module _ (meaning_runs : MeaningRuns) (each_moment : EachMomentIsReached) (accep
   unfolding built
   built_implements text ctrl temp base short low = by_source (source_in text) refl
     where
-      by_result : (s : SourceOf) → source_in text ≡ Ok s → (r : Result BuiltOf BuildFault) → IfOk r (Builds s (stack_words temp ctrl)) → IfOk r (BuildsText text ctrl temp)
-      by_result s read (Ok b) h = record { source = s; read = read; builds = h }
-      by_result s read (Err f) h = tt
-
       by_source : (r : Result SourceOf BuildFault) → source_in text ≡ r → IfOk (r >>= λ source. source_built source (stack_words temp ctrl) base) (BuildsText text ctrl temp)
-      by_source (Ok s) read = by_result s read (source_built s (stack_words temp ctrl) base) (source_builds s (stack_words temp ctrl) base (source_is_accepted text short s read) low)
+      by_source (Ok s) read = text_builds_if text ctrl temp s (source_built s (stack_words temp ctrl) base) read (source_builds s (stack_words temp ctrl) base (source_is_accepted text short s read) low)
       by_source (Err f) read = tt
 
   -- what was built has the image of the source

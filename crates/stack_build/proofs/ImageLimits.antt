@@ -13,7 +13,7 @@ use Rattle.stack_text.specs.declared.shape.Shape.{Shape}
 use Rattle.stack_text.specs.Values.{ValueOf, item_count}
 use Rattle.fm_image.specs.declared.slot.Slot.{Slot}
 use Rattle.fm_image.specs.declared.window.Window.{Window}
-use Rattle.fm_image.specs.Image.{ImageOf, window_of, is_slot_address, all_after, is_image}
+use Rattle.fm_image.specs.Image.{ImageOf, Tables, window_of, are_tables, is_slot_address, all_after, is_image}
 use Rattle.fm_image.proofs.LimitLaws.{from_limits}
 use Rattle.fm_image.proofs.NameLaws.{fits_window, slots_fit, conditions_fit}
 use Rattle.display_maps.specs.Reading.{space_name}
@@ -49,7 +49,7 @@ use Rattle.stack_build.proofs.MainLaws.{IsMain, main_is, zero_values}
 
 -- ---- names
 
-distinct_names : (names : List (List ℕ)) → Differ names → IsDistinct bytes_eq names
+pub distinct_names : (names : List (List ℕ)) → Differ names → IsDistinct bytes_eq names
 unfolding IsDistinct
 distinct_names [] h = tt
 distinct_names (name ∷ names) h = (others names h.0, distinct_names names h.1)
@@ -66,7 +66,7 @@ differ_front : (xs ys : List (List ℕ)) → Differ (xs ++ ys) → Differ xs
 differ_front [] ys d = tt
 differ_front (x ∷ xs) ys d = (unlike_front x xs ys d.0, differ_front xs ys d.1)
 
-mapped_front : {X : Type 0} (f : X → List ℕ) (g : X → Named) (xs : List X) (ys : List Named) → ((x : X) → (g x).name ≡ f x) → map (λ (n : Named). n.name) (map g xs ++ ys) ≡ map f xs ++ map (λ (n : Named). n.name) ys
+pub mapped_front : {X : Type 0} (f : X → List ℕ) (g : X → Named) (xs : List X) (ys : List Named) → ((x : X) → (g x).name ≡ f x) → map (λ (n : Named). n.name) (map g xs ++ ys) ≡ map f xs ++ map (λ (n : Named). n.name) ys
 mapped_front f g [] ys same = refl
 mapped_front f g (x ∷ xs) ys same = λ i. same x i ∷ mapped_front f g xs ys same i
 
@@ -88,7 +88,7 @@ not_space c e = false_from_ne_true (bytes_eq space_name c.name) is_not
         let same : space_name ≡ c.name = (bytes_eq-Decides space_name c.name).0 k in
         true≢false (ap is_reserved same ∙ fails (is_reserved c.name) c.place 6 e)
 
-others_than_space : (cs ds : List Named) → flat_map condition_breaches (cs ++ ds) ≡ [] → AllByRecursion (λ other. bytes_eq space_name other ≡ false) (map (λ (n : Named). n.name) cs)
+pub others_than_space : (cs ds : List Named) → flat_map condition_breaches (cs ++ ds) ≡ [] → AllByRecursion (λ other. bytes_eq space_name other ≡ false) (map (λ (n : Named). n.name) cs)
 others_than_space [] ds e = tt
 others_than_space (c ∷ cs) ds e =
     let h = two (condition_breaches c) (flat_map condition_breaches (cs ++ ds)) e in
@@ -102,7 +102,7 @@ conditions_differ s p e =
     let all = subst Differ (map-append (λ (n : Named). n.name) p.conds p.local_conds) (differ_source 5 [] (conditions_of p) k.0) in
     (others_than_space p.conds p.local_conds k.1, distinct_names (map (λ (n : Named). n.name) p.conds) (differ_front (map (λ (n : Named). n.name) p.conds) (map (λ (n : Named). n.name) p.local_conds) all))
 
-all_named : {X : Type 0} (P : X → Type 0) (name : X → List ℕ) → ((x : X) → P x → is_name (name x) ≡ true) → (xs : List X) → All P xs → list_all is_name (map name xs) ≡ true
+pub all_named : {X : Type 0} (P : X → Type 0) (name : X → List ℕ) → ((x : X) → P x → is_name (name x) ≡ true) → (xs : List X) → All P xs → list_all is_name (map name xs) ≡ true
 all_named P name fits [] h = refl
 all_named P name fits (x ∷ xs) h = and_from _ _ (fits x (All-head P x xs h)) (all_named P name fits xs (All-tail P x xs h))
 
@@ -129,10 +129,15 @@ each_fits window a (d ∷ ds) named few low high =
 
 -- ---- the image of a placed system
 
-pub system_fits : (s : SystemView) (ds : List Decl) (conditions : List (List ℕ)) → IsSound s → (placed s).size ≤ 2 ^ 20 → Shows s ds conditions → IsTrue (is_image (image_with ds conditions s))
+-- its window
+abbrev pub placed_window : SystemView → Window
+placed_window s = record { base = s.base; size = (placed s).size; final_pc = (placed s).final_pc }
+
+pub system_fits : (s : SystemView) (ds : List Decl) (conditions : List (List ℕ)) (tables : Tables) → IsSound s → (placed s).size ≤ 2 ^ 20 → Shows s ds conditions →
+    are_tables (placed_window s) tables ≡ true → IsTrue (is_image (image_with ds conditions tables s))
 unfolding all_after
-system_fits s ds conditions sound small shows =
-    let image : ImageOf = image_with ds conditions s in
+system_fits s ds conditions tables sound small shows fit_tables =
+    let image : ImageOf = image_with ds conditions tables s in
     let long = length-placed s (known s sound) in
     let size : ℕ = (placed s).size in
     let low = sound.low_base in
@@ -141,6 +146,8 @@ system_fits s ds conditions sound small shows =
     let stand = shows.formals_stand in
     let area = shows.area in
     from_limits image record {
+      version = refl;
+      tables = fit_tables;
       window = and_from _ _ (and_from _ _ (and_from _ _ (le-leb 1 size (omega arith)) (le-leb size 1048576 (omega arith))) (le-leb (s.base + size) 4294967295 (omega arith))) (and_from _ _ (le-leb s.base (final_pc_of s) (omega arith)) (lt-ltb (final_pc_of s) (s.base + size) (omega arith)));
       registers = refl;
       condition_address = and_from _ _ (le-leb s.base (areas_start s) (omega arith)) (lt-ltb (areas_start s) (s.base + size) (omega arith));

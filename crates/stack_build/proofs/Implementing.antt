@@ -6,6 +6,7 @@ use Rattle.std.proofs.lemmas.List.{length-map}
 use Rattle.stack_text.specs.declared.name.Named.{Named}
 use Rattle.stack_text.specs.declared.shape.Shape.{Shape}
 use Rattle.stack_text.specs.Values.{ValueOf}
+use Rattle.fm_image.specs.Image.{Tables}
 use Rattle.piton_check.specs.Instruction.{SystemView}
 use Rattle.piton_check.specs.Sound.{IsSound}
 use Rattle.piton_machine.specs.Seen.{started}
@@ -26,7 +27,7 @@ use Rattle.gypsy_codegen.specs.Generated.{generated_view}
 use Rattle.gypsy_codegen.specs.Whole.{RunsTo, MeaningRuns}
 use Rattle.gypsy_codegen.specs.Acceptable.{GeneratedIsAcceptable}
 use Rattle.stack_build.specs.Formals.{formals_in, formal_conditions_in, conditions_in, main_of}
-use Rattle.stack_build.specs.Image.{image_with, image_of}
+use Rattle.stack_build.specs.Image.{image_with, source_tables, image_of}
 use Rattle.stack_build.specs.Implements.{variable_shown, way_shown, ComesTo, Implements}
 use Rattle.stack_build.specs.Joined.{GeneratedImageImplements}
 use Rattle.stack_build.specs.Showing.{shapes_in}
@@ -41,15 +42,15 @@ RunsAsMeant q sizes system =
     (t : Tally) × (counted_meaning q sizes v n ≡ CountedDone x c t) × RunsTo system (started system (words_of_values (main_start q v))) x c t
 
 -- what the image of a source shows, by its main procedure
-abbrev ComesAs : Option ProcOf → SystemView → List ValueOf → List ValueOf → Way → ℕ → Type 0
-ComesAs main system v x c count =
-    ComesTo (image_with (formals_in main) (conditions_in main) system) v count
+abbrev ComesAs : Option ProcOf → Tables → SystemView → List ValueOf → List ValueOf → Way → ℕ → Type 0
+ComesAs main tables system v x c count =
+    ComesTo (image_with (formals_in main) (conditions_in main) tables system) v count
     record { condition = Some (way_shown (formal_conditions_in main) c); items = map variable_shown (zip (map (λ (d : Decl). d.name.name) (formals_in main)) x) }
 
 module _ (s : SourceOf) (sizes : Words) (base : ℕ) (accepted : IsAccepted s) (sound : IsSound (generated_view (program_of s) sizes base))
     (theorem : RunsOnProcessor (generated_view (program_of s) sizes base)) (runs : RunsAsMeant (program_of s) sizes (generated_view (program_of s) sizes base)) where
   comes : (p : ProcOf) → IsMain s p → (v x : List ValueOf) (c : Way) (n : ℕ) → VarsFit (proc_at (program_of s) (program_of s).main).formals v → meaning (program_of s) sizes v n ≡ Done x c →
-      (t : Tally) × (counted_meaning (program_of s) sizes v n ≡ CountedDone x c t) × ComesAs (Some p) (generated_view (program_of s) sizes base) v x c t.count
+      (t : Tally) × (counted_meaning (program_of s) sizes v n ≡ CountedDone x c t) × ComesAs (Some p) (source_tables s (generated_view (program_of s) sizes base)) (generated_view (program_of s) sizes base) v x c t.count
   unfolding main_start
   comes p main v x c n fits done =
       let q : Program = program_of s in
@@ -63,7 +64,7 @@ module _ (s : SourceOf) (sizes : Words) (base : ℕ) (accepted : IsAccepted s) (
       let count : length (map (λ (m : Named). m.name) p.conds) ≡ (proc_at q q.main).conds = length-map p.conds (λ (m : Named). m.name) ∙ sym (ap (λ (z : Proc). z.conds) main.at) in (
         t,
         r.1,
-        image_comes (generated_view q sizes base) sound theorem p.formals (conditions_in (Some p)) (map (λ (m : Named). m.name) p.conds) (map zero_value (proc_at q q.main).formals) v x (proc_at q q.main).locals c t
+        image_comes (generated_view q sizes base) sound theorem p.formals (conditions_in (Some p)) (source_tables s (generated_view q sizes base)) (map (λ (m : Named). m.name) p.conds) (map zero_value (proc_at q q.main).formals) v x (proc_at q q.main).locals c t
             zeros (subst (λ (shapes : List Shape). VarsFit shapes v) formals fits) (subst (λ (shapes : List Shape). VarsFit shapes x) formals ends.values) here.locals refl r.2
             (way_read q (map (λ (m : Named). m.name) p.conds) c ends.way count),
       )
@@ -75,8 +76,8 @@ module _ (s : SourceOf) (sizes : Words) (base : ℕ) (accepted : IsAccepted s) (
       let r = comes main.0 main.1 v x c finishes.bound fits finishes.done in
       let counted : Some (r.0).count ≡ Some count = sym (ap (λ (o : CountedOutcome). option_map (λ (t : Tally). t.count) (tally_of o)) r.1) ∙ finishes.counted in
       let same : (r.0).count ≡ count = cc in
-      subst (λ (n : ℕ). ComesAs (main_of s) (generated_view (program_of s) sizes base) v x c n) same
-      (subst (λ (o : Option ProcOf). ComesAs o (generated_view (program_of s) sizes base) v x c (r.0).count) (sym main.1.found) r.2)
+      subst (λ (n : ℕ). ComesAs (main_of s) (source_tables s (generated_view (program_of s) sizes base)) (generated_view (program_of s) sizes base) v x c n) same
+      (subst (λ (o : Option ProcOf). ComesAs o (source_tables s (generated_view (program_of s) sizes base)) (generated_view (program_of s) sizes base) v x c (r.0).count) (sym main.1.found) r.2)
 
 -- from the three theorems
 pub images_implement : MeaningRuns → GeneratedIsAcceptable → PitonRunsOnProcessor → GeneratedImageImplements

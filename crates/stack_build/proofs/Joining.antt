@@ -10,6 +10,7 @@ use Rattle.fm_machine.specs.State.{Fm}
 use Rattle.fm_machine.specs.Run.{IsFirst}
 use Rattle.fm_code.specs.Areas.{joined}
 use Rattle.fm_code.specs.Execution.{Holds}
+use Rattle.fm_image.specs.Image.{Tables}
 use Rattle.display_maps.specs.Reading.{word_or_zero, variable_of, condition_of}
 use Rattle.piton_words.specs.declared.word.Word.{Word}
 use Rattle.piton_check.specs.Instruction.{SystemView}
@@ -38,7 +39,7 @@ use Rattle.stack_build.proofs.Initial.{is_initial}
 use Rattle.stack_build.proofs.ReadBack.{word_read, values_read}
 
 -- a sound system whose stack begins with words of values of main's formals
-module _ (s : SystemView) (sound : IsSound s) (theorem : RunsOnProcessor s) (ds : List Decl) (conditions names : List (List ℕ)) (old new finals locals : List ValueOf) (c : Way) (t : Tally)
+module _ (s : SystemView) (sound : IsSound s) (theorem : RunsOnProcessor s) (ds : List Decl) (conditions : List (List ℕ)) (tables : Tables) (names : List (List ℕ)) (old new finals locals : List ValueOf) (c : Way) (t : Tally)
     (f : VarsFit (shapes_in ds) old) (g : VarsFit (shapes_in ds) new) (h : VarsFit (shapes_in ds) finals) (l : Each ValueFits locals)
     (is : s.stack ≡ words_of_values (old ++ locals)) (run : RunsTo s (started s (words_of_values (new ++ locals))) finals c t) where
   begin : List Word
@@ -91,9 +92,9 @@ module _ (s : SystemView) (sound : IsSound s) (theorem : RunsOnProcessor s) (ds 
       address top end all a b n e e1 e2 = omega arith
 
   pub image_comes : condition_of conditions (number_of_way c) ≡ way_shown names c →
-      ComesTo (image_with ds conditions s) new t.count record { condition = Some (way_shown names c); items = map variable_shown (zip (map (λ (d : Decl). d.name.name) ds) finals) }
+      ComesTo (image_with ds conditions tables s) new t.count record { condition = Some (way_shown names c); items = map variable_shown (zip (map (λ (d : Decl). d.name.name) ds) finals) }
   image_comes shown =
-      let machine = image_loaded s (known s sound) ds old new locals f g l is conditions in
+      let machine = image_loaded s (known s sound) ds old new locals f g l is conditions tables in
       record {
         state = comes.state;
         first = subst (λ (m : Fm). IsFirst m (final_pc_of s) t.count comes.state) (sym machine) (record { reached = comes.runs; there = comes.halted.0 run.halted; before = comes.before });

@@ -21,4 +21,9 @@ pub mod BuildLaws
 pub mod KnownLaws
 pub mod TakesLaws
 pub mod BuildsLaws
+pub mod InsideLaws
 pub mod StartLaws
+pub mod TableLaws
+pub mod ListingLaws
+pub mod TextLaws
+pub mod ShortLaws

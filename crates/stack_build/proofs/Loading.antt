@@ -10,6 +10,7 @@ use Rattle.fm_code.specs.Words.{halt_word}
 use Rattle.fm_loader.specs.Loaded.{with_values}
 use Rattle.fm_loader.specs.Loaded as loader
 use Rattle.piton_words.specs.declared.word.Word.{Word}
+use Rattle.fm_image.specs.Image.{Tables}
 use Rattle.piton_check.specs.Instruction.{SystemView}
 use Rattle.piton_machine.specs.Fits.{IsWellFormed}
 use Rattle.piton_machine.specs.Addresses.{word_number, numbers}
@@ -80,8 +81,8 @@ module _ (s : SystemView) (known : IsWellFormed s) (ds : List Decl) (old new loc
       address : (base end a b : ℕ) → a + b ≡ end - base → base ≤ end → end - 1 ≡ base + a + b - 1
       address base end a b e le = omega arith
 
-  pub image_loaded : (conditions : List (List ℕ)) → loader.loaded (image_with ds conditions s) new ≡ loaded s (words_of_values (new ++ locals))
-  image_loaded conditions =
+  pub image_loaded : (conditions : List (List ℕ)) (tables : Tables) → loader.loaded (image_with ds conditions tables s) new ≡ loaded s (words_of_values (new ++ locals))
+  image_loaded conditions tables =
       let all = all_stand s.base (placed s).size (placed s).words (length-placed s known) in
       ap (λ (memory : List ℕ). record { base = s.base; registers = (placed s).registers; flags = no_flags; memory = memory })
       (ap (with_values s.base (slots_from (end_of s - 1) ds) new) all ∙ memory_is)

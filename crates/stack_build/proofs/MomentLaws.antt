@@ -1,20 +1,20 @@
 -- Every moment of a run of the source is one of the processor.
 use Rattle.std.proofs.Common.{◌≡◌, ◌≢◌, ◌+◌, ◌-◌, ◌<◌, ◌≤◌, ℕ, zero, suc, ℤ, List, [], ◌∷◌, ◌++◌, length, map, Bool, true, false, Option, Some, None, Result, Ok, Err, refl, sym, ap, subst, ◌∙◌, ⊎_elim, arith, length-append}
-use Rattle.std.specs.Prelude.{slice_get, slice_index, nat_lt, if◌then◌else◌, IsOk, option_map}
+use Rattle.std.specs.Prelude.{◌^◌, slice_get, slice_index, nat_lt, if◌then◌else◌, IsOk, option_map}
 use Rattle.std.specs.List.{list_all}
 use Rattle.std.proofs.lemmas.Bool.{cases_lt, ltb-true, lt-ltb, and_parts}
 use Rattle.std.proofs.lemmas.List.{length-map}
-use Rattle.stack_text.specs.declared.name.Named.{Named}
 use Rattle.stack_text.specs.declared.shape.Kind.{Kind}
 use Rattle.stack_text.specs.declared.shape.Shape.{Shape}
 use Rattle.stack_text.specs.Values.{ValueOf}
 use Rattle.fm_words.specs.Word.{word_of_int}
 use Rattle.fm_machine.specs.State.{Fm, word_at}
-use Rattle.fm_machine.specs.Run.{fm_run, pc_of, Avoids, IsFirst, IsOutcome, outcome, Outcome}
+use Rattle.fm_machine.specs.Run.{fm_run, pc_of, Avoids, IsOutcome, outcome, Outcome}
 use Rattle.fm_machine.specs.Step as machine_step
 use Rattle.fm_machine.specs.declared.fault.Outside.{Outside}
 use Rattle.fm_machine.specs.declared.processor.Run.TheVariants as run
 use Rattle.fm_machine.proofs.RunLaws.{run_add, outcome_only}
+use Rattle.fm_machine.proofs.WindowLaws.{inside}
 use Rattle.fm_code.specs.Areas.{joined}
 use Rattle.fm_code.specs.Execution.{Holds}
 use Rattle.fm_code.proofs.HoldsLaws.{Holds-get}
@@ -29,14 +29,14 @@ use Rattle.piton_machine.specs.State as piton
 use Rattle.piton_machine.specs.State.{PitonState, locals_of, element}
 use Rattle.piton_machine.specs.Addresses.{Addresses, word_number, numbers}
 use Rattle.piton_machine.specs.Law.{Steps}
-use Rattle.piton_machine.specs.Placed.{placed, areas_start, end_of, addresses_of, final_pc_of, address_of_place, loaded}
+use Rattle.piton_machine.specs.Placed.{areas_start, end_of, addresses_of, final_pc_of, address_of_place, loaded}
 use Rattle.piton_machine.specs.Seen.{started}
 use Rattle.piton_machine.specs.Stands.{Stands, frame_words, pointer_to, address_from, return_address}
 use Rattle.piton_machine.proofs.RunLaws.{steps_run, steps_cost}
 use Rattle.piton_machine.proofs.SoundLaws.{known}
 use Rattle.piton_linker.specs.Theorem.{ComesToStand, RunsOnProcessor}
 use Rattle.gypsy_syntax.specs.Programs.{Proc, Program, proc_at, shapes_of}
-use Rattle.gypsy_syntax.specs.ProgramFits.{ProgramFits, ValueFits, is_in_range}
+use Rattle.gypsy_syntax.specs.ProgramFits.{ValueFits, is_in_range}
 use Rattle.gypsy_syntax.specs.Effects.{value_at}
 use Rattle.gypsy_syntax.specs.Resolved.{program_of}
 use Rattle.gypsy_syntax.specs.Sources.{ProcOf, SourceOf}
@@ -46,22 +46,21 @@ use Rattle.gypsy_space.specs.Costs.{Tally}
 use Rattle.gypsy_space.specs.Needs.{Words, vars_of}
 use Rattle.gypsy_meaning.specs.Calls.{Way, main_start}
 use Rattle.gypsy_meaning.specs.Counted.{CountedOutcome, CountedDone, counted_meaning, uncounted, tally_of}
-use Rattle.gypsy_meaning.specs.Kept.{VarsFit, StateFits}
+use Rattle.gypsy_meaning.specs.Kept.{VarsFit}
 use Rattle.gypsy_meaning.specs.Machine.{Item, Frame, Held, State, At, Move, Next, Ended, start}
-use Rattle.gypsy_meaning.specs.Meaning.{Outcome as Meant, Done}
 use Rattle.gypsy_meaning.specs.Seen.{top_way}
 use Rattle.gypsy_meaning.proofs.CountLaws.{meaning-uncounted}
 use Rattle.gypsy_meaning.proofs.EffectLaws.{value_fits}
 use Rattle.gypsy_meaning.proofs.Runs.{agree}
 use Rattle.gypsy_predef.specs.Runs as stack
-use Rattle.gypsy_predef.specs.Runs.{word_of_item, words_of_value}
+use Rattle.gypsy_predef.specs.Runs.{word_of_item}
 use Rattle.gypsy_codegen.specs.WordsOf.{words_of_values, zero_value, number_of_way}
 use Rattle.gypsy_codegen.specs.Generated.{offset, generated_view}
-use Rattle.gypsy_codegen.specs.Moments.{moment_from, NeverEnds, AreActivations, VariableStands, ReadsAs, ComesToMark, HasMoment, CountsGrow}
+use Rattle.gypsy_codegen.specs.Moments.{moment_from, AreActivations, VariableStands, ReadsAs, ComesToMark, HasMoment}
 use Rattle.gypsy_codegen.proofs.MomentLaws.{moment_over, moment_fits, counts_grow}
 use Rattle.gypsy_codegen.proofs.StackLaws.{get_front, get_after}
-use Rattle.stack_build.specs.Formals.{formals_in, conditions_in, main_of}
-use Rattle.stack_build.specs.Image.{image_with, image_of}
+use Rattle.stack_build.specs.Formals.{formals_in, conditions_in}
+use Rattle.stack_build.specs.Image.{image_with, source_tables, image_of}
 use Rattle.stack_build.specs.Implements.{Implements, meaning_shown, ComesTo}
 use Rattle.stack_build.specs.Moments.{HoldsVariable, HoldsFrames, MemoryReads, ArrivesAtMark, ArrivesAtEnd, ArrivesAt, KeepsMoments, StaysUnfinished}
 use Rattle.stack_build.specs.Showing.{shapes_in}
@@ -218,16 +217,20 @@ module _ (q : Program) (s : SystemView) (m : Fm) (a : PitonState) (stands : Stan
       subst (λ (areas : List (List Word)). Holds s.base m.memory (areas_start s) (joined (map (numbers (addresses_of s)) areas))) reads.condition stands.is.laid.areas_at in
       subst (λ (b : ℕ). word_at b m.memory (areas_start s) ≡ Some n) (sym base_is) areas.0
 
-  variable_here : (image : ImageOf) → image.base ≡ s.base → image.base + image.size ≡ end_of s → (b : ℕ) (v : ValueOf) → ValueFits v → VariableStands q a p b v → HoldsVariable q image m p b v
-  variable_here image base last b v fits var =
+  variable_here : (image : ImageOf) → image.base ≡ s.base → image.base + image.size ≡ end_of s → end_of s < 2 ^ 32 → (b : ℕ) (v : ValueOf) → ValueFits v → VariableStands q a p b v → HoldsVariable q image m p b v
+  variable_here image base last below_32 b v fits var =
       let words = frame_words (addresses_of s) a.frames in
       let held : Holds m.base m.memory (slice_index m.registers 1) words = subst (λ (b : ℕ). Holds b m.memory (slice_index m.registers 1) words) (sym base_is) stands.is.laid.ctrl_at in
       let temp : Holds m.base m.memory (slice_index m.registers 2) (numbers (addresses_of s) a.stack) = subst (λ (b : ℕ). Holds b m.memory (slice_index m.registers 2) (numbers (addresses_of s) a.stack)) (sym base_is) stands.is.laid.temp_at in
       record {
         index = var.index;
         local =
-            subst (λ (c : ℕ). word_in m (c + offset q p b) ≡ Some var.index) (sym frame_is)
-            (local_held (addresses_of s) m.base m.memory (slice_index m.registers 1) (offset q p b) var.index a.frames held var.local);
+            let address : ℕ = slice_index m.registers 0 + offset q p b in
+            let found : word_in m address ≡ Some var.index = subst (λ (c : ℕ). word_in m (c + offset q p b) ≡ Some var.index) (sym frame_is)
+            (local_held (addresses_of s) m.base m.memory (slice_index m.registers 1) (offset q p b) var.index a.frames held var.local) in
+            let within = inside m.base m.memory address var.index found in
+            let low : address < 2 ^ 32 = omega (arith, within.1, base_is, stands.is.laid.size, below_32) in
+            ap (λ (b : Bool). if b then word_in m address else None) (lt-ltb address (2 ^ 32) low) ∙ found;
         items = λ h z e.
             let there = element_there a.stack (var.index + h) (word_of_item v.shape.kind z) (var.words h (word_of_item v.shape.kind z) (get_map (word_of_item v.shape.kind) v.items h z e)) in
             let size : image.size ≡ end_of s - s.base = omega (arith, last, base) in
@@ -249,7 +252,7 @@ MomentsAsMeant q sizes system =
     (v : List ValueOf) (j : ℕ) → VarsFit (proc_at q q.main).formals v → HasMoment q system (started system (words_of_values (main_start q v))) (moment_from q sizes v j)
 
 module _ (s : SourceOf) (sizes : Words) (base : ℕ) (accepted : IsAccepted s) (sound : IsSound (generated_view (program_of s) sizes base))
-    (theorem : RunsOnProcessor (generated_view (program_of s) sizes base)) where
+    (theorem : RunsOnProcessor (generated_view (program_of s) sizes base)) (below_32 : end_of (generated_view (program_of s) sizes base) < 2 ^ 32) where
   -- the machine that is loaded is the placed one with these words on its stack
   loaded_is : (v : List ValueOf) → VarsFit (proc_at (program_of s) (program_of s).main).formals v →
       loader.loaded (image_of s sizes base) v ≡ loaded (generated_view (program_of s) sizes base) (words_of_values (main_start (program_of s) v))
@@ -265,8 +268,8 @@ module _ (s : SourceOf) (sizes : Words) (base : ℕ) (accepted : IsAccepted s) (
       subst (λ (shapes : List Shape). VarsFit shapes (map zero_value (proc_at q q.main).formals)) formals (zero_values (proc_at q q.main).formals here.formals) in
       let new : VarsFit (shapes_in p.formals) v = subst (λ (shapes : List Shape). VarsFit shapes v) formals fits in
       let whole = image_loaded (generated_view q sizes base) (known (generated_view q sizes base) sound) p.formals (map zero_value (proc_at q q.main).formals) v (proc_at q q.main).locals
-      zeros new here.locals refl (conditions_in (Some p)) in
-      subst (λ (o : Option ProcOf). loader.loaded (image_with (formals_in o) (conditions_in o) (generated_view q sizes base)) v ≡ loaded (generated_view q sizes base) (words_of_values (v ++ (proc_at q q.main).locals)))
+      zeros new here.locals refl (conditions_in (Some p)) (source_tables s (generated_view q sizes base)) in
+      subst (λ (o : Option ProcOf). loader.loaded (image_with (formals_in o) (conditions_in o) (source_tables s (generated_view q sizes base)) (generated_view q sizes base)) v ≡ loaded (generated_view q sizes base) (words_of_values (v ++ (proc_at q q.main).locals)))
       (sym main.found) whole
 
   -- it comes to stand for each state that the system comes to
@@ -300,7 +303,7 @@ module _ (s : SourceOf) (sizes : Words) (base : ℕ) (accepted : IsAccepted s) (
         condition = ap (λ (o : Option ℕ). Some o) (condition_here q S m a stands p x w fs reads);
         frames = frames_here q S m a stands p x w fs reads;
         variables = λ b shape e.
-            variable_here q S m a stands p x w fs reads (image_of s sizes base) refl last_is b (value_at x b) (value_fits (shapes_of (proc_at q p)) x b shape vars e).1 (reads.variables b shape e);
+            variable_here q S m a stands p x w fs reads (image_of s sizes base) refl last_is below_32 b (value_at x b) (value_fits (shapes_of (proc_at q p)) x b shape vars e).1 (reads.variables b shape e);
       }
 
   arrives_at_mark : (v : List ValueOf) → VarsFit (proc_at (program_of s) (program_of s).main).formals v → (p : ℕ) (x : List ValueOf) (w : List Item) (fs : List Frame) (t : Tally) → VarsFit (shapes_of (proc_at (program_of s) p)) x →

@@ -1,9 +1,9 @@
 -- An image that is made of the parts of a linked system.
-use Rattle.std.proofs.Common.{◌≡◌, ◌<◌, ◌≤◌, ◌-◌, ℕ, List, Some, sym, ap, subst, ◌∙◌, arith}
+use Rattle.std.proofs.Common.{◌≡◌, ◌<◌, ◌≤◌, ◌-◌, ℕ, List, Some, true, sym, ap, subst, ◌∙◌, arith}
 use Rattle.std.specs.Prelude.{◌^◌, IsTrue}
 use Rattle.fm_words.specs.Code.{no_flags}
 use Rattle.fm_image.specs.declared.slot.Slot.{Slot}
-use Rattle.fm_image.specs.Image.{ImageOf, is_image}
+use Rattle.fm_image.specs.Image.{ImageOf, Tables, are_tables, is_image}
 use Rattle.piton_check.specs.Answers.{CheckedOf, IsChecked}
 use Rattle.piton_machine.specs.Fits.{system_in}
 use Rattle.piton_machine.specs.Placed.{placed, areas_start, end_of}
@@ -13,7 +13,7 @@ use Rattle.piton_linker.proofs.ProcessorLaws.{checked_end}
 use Rattle.gypsy_syntax.specs.declared.literal.Decl.{Decl}
 use Rattle.stack_build.specs.Image.{slots_from, image_with}
 use Rattle.stack_build.specs.Showing.{Shows}
-use Rattle.stack_build.proofs.ImageLimits.{system_fits}
+use Rattle.stack_build.proofs.ImageLimits.{placed_window, system_fits}
 
 -- its addresses are numbers of 32 bits
 pub areas_below : (c : CheckedOf) (layout : Layout) → IsChecked c → (placed (system_in c)).size ≤ 2 ^ 20 → layout ≡ layout_of (system_in c) → layout.areas_start < 2 ^ 32
@@ -29,22 +29,17 @@ end_below c layout is small e =
     let at : layout.end ≡ end_of (system_in c) = ap (λ (l : Layout). l.end) e in
     omega (arith, at, fits)
 
+-- it is the image of the system
+pub parts_are : (c : CheckedOf) (ds : List Decl) (conditions : List (List ℕ)) (tables : Tables) (layout : Layout) (base size final_pc : ℕ) (registers words : List ℕ) (names : List (List ℕ)) (slots : List Slot) (made : Tables) →
+    layout ≡ layout_of (system_in c) → base ≡ (system_in c).base → size ≡ (placed (system_in c)).size → final_pc ≡ (placed (system_in c)).final_pc → registers ≡ (placed (system_in c)).registers →
+    words ≡ trimmed (placed (system_in c)).words → names ≡ conditions → slots ≡ slots_from (layout.end - 1) ds → made ≡ tables →
+    (let image : ImageOf = record { version = 2; base = base; size = size; final_pc = final_pc; registers = registers; flags = no_flags; condition_address = Some layout.areas_start; conditions = names; slots = slots; words = words; procedures = made.procedures; marks = made.marks } in image)
+    ≡ image_with ds conditions tables (system_in c)
+parts_are c ds conditions tables layout base size final_pc registers words names slots made l b n f r w m s t =
+    let s' : slots ≡ slots_from (end_of (system_in c) - 1) ds = s ∙ ap (λ (p : Layout). slots_from (p.end - 1) ds) l in
+    λ i. record { version = 2; base = b i; size = n i; final_pc = f i; registers = r i; flags = no_flags; condition_address = Some (l i).areas_start; conditions = m i; slots = s' i; words = w i; procedures = (t i).procedures; marks = (t i).marks }
+
 -- it keeps the limits
-pub parts_fit : (c : CheckedOf) (ds : List Decl) (conditions : List (List ℕ)) → IsChecked c → (placed (system_in c)).size ≤ 2 ^ 20 → Shows (system_in c) ds conditions →
-    (layout : Layout) (base size final_pc : ℕ) (registers words : List ℕ) (names : List (List ℕ)) (slots : List Slot) → layout ≡ layout_of (system_in c) →
-    base ≡ (system_in c).base → size ≡ (placed (system_in c)).size → final_pc ≡ (placed (system_in c)).final_pc → registers ≡ (placed (system_in c)).registers →
-    words ≡ trimmed (placed (system_in c)).words → names ≡ conditions → slots ≡ slots_from (layout.end - 1) ds →
-    IsTrue (is_image record { base = base; size = size; final_pc = final_pc; registers = registers; flags = no_flags; condition_address = Some layout.areas_start; conditions = names; slots = slots; words = words })
-parts_fit c ds conditions is small shows layout base size final_pc registers words names slots l b n f r w m s =
-    let l' = sym l in
-    let b' = sym b in
-    let n' = sym n in
-    let f' = sym f in
-    let r' = sym r in
-    let w' = sym w in
-    let m' = sym m in
-    let s' : slots_from (end_of (system_in c) - 1) ds ≡ slots = ap (λ (p : Layout). slots_from (p.end - 1) ds) l' ∙ sym s in
-    let image : ImageOf = record { base = base; size = size; final_pc = final_pc; registers = registers; flags = no_flags; condition_address = Some layout.areas_start; conditions = names; slots = slots; words = words } in
-    let whole : image_with ds conditions (system_in c) ≡ image =
-    λ i. record { base = b' i; size = n' i; final_pc = f' i; registers = r' i; flags = no_flags; condition_address = Some (l' i).areas_start; conditions = m' i; slots = s' i; words = w' i } in
-    subst (λ (z : ImageOf). IsTrue (is_image z)) whole (system_fits (system_in c) ds conditions is.sound small shows)
+pub parts_fit : (c : CheckedOf) (ds : List Decl) (conditions : List (List ℕ)) (tables : Tables) → IsChecked c → (placed (system_in c)).size ≤ 2 ^ 20 → Shows (system_in c) ds conditions → are_tables (placed_window (system_in c)) tables ≡ true →
+    (image : ImageOf) → image ≡ image_with ds conditions tables (system_in c) → IsTrue (is_image image)
+parts_fit c ds conditions tables is small shows fit image whole = subst (λ (z : ImageOf). IsTrue (is_image z)) (sym whole) (system_fits (system_in c) ds conditions tables is.sound small shows fit)

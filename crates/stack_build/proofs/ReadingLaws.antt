@@ -1,6 +1,6 @@
--- At each moment memory is read as the state of the step machine.
-use Rattle.std.proofs.Common.{◌≡◌, ◌≢◌, ◌+◌, ◌-◌, ◌<◌, ◌≤◌, ℕ, zero, suc, ℤ, List, [], ◌∷◌, ◌++◌, length, map, Bool, true, false, Option, Some, None, refl, sym, ap, subst, ◌∙◌, ⊎_elim, inl, inr, arith, length-append}
-use Rattle.std.specs.Prelude.{slice_get, slice_index, get_or, ◌==◌, if◌then◌else◌}
+-- At each moment what is read is the state of the step machine.
+use Rattle.std.proofs.Common.{◌≡◌, ◌≢◌, ◌+◌, ◌-◌, ◌<◌, ℕ, zero, suc, ℤ, List, [], ◌∷◌, ◌++◌, length, map, Bool, Option, Some, option_map, cond, refl, sym, ap, subst, ◌∙◌, inl, inr, arith, length-append}
+use Rattle.std.specs.Prelude.{IsTrue, slice_get, get_or, if◌then◌else◌}
 use Rattle.std.specs.List.{Contains}
 use Rattle.std.proofs.lemmas.Bool.{eq-eqb, ne_eqb}
 use Rattle.std.proofs.lemmas.List.{length-map}
@@ -10,31 +10,29 @@ use Rattle.stack_text.specs.Options.{◌>>=◌}
 use Rattle.stack_text.specs.Values.{ValueOf, item_count}
 use Rattle.fm_words.specs.Word.{word_of_int}
 use Rattle.fm_machine.specs.State.{Fm}
-use Rattle.fm_machine.specs.Run.{pc_of}
-use Rattle.fm_image.specs.Image.{ImageOf}
+use Rattle.fm_image.specs.declared.procedure.Mark.{Mark}
+use Rattle.fm_image.specs.Image.{Tables, no_tables}
+use Rattle.fm_image.specs.Procedure.{ProcedureOf}
 use Rattle.display_maps.specs.declared.shown.Shown.{Shown}
 use Rattle.display_maps.specs.Reading.{word_in, condition_of, item_of, space_name}
-use Rattle.display_maps.specs.ReadingAt.{VariableInfo, ProcedureInfo, MarkInfo, SourceMap, ReadingAtOf, word_below, words_below, variable_at, mark_there, read_in, reading_at}
+use Rattle.display_maps.specs.ReadingAt.{StandingOf, ItemsOf, machine_at, words_below, items_below, items_at, mark_there, condition_word, read_in, read_from}
 use Rattle.display_maps.specs.ReadingAt as reading
-use Rattle.display_maps.specs.ValueReading.{item_shown, value_shown}
+use Rattle.display_maps.specs.ValueReading.{value_shown}
 use Rattle.display_maps.proofs.ItemLaws.{items_read}
 use Rattle.piton_check.specs.Instruction.{SystemView}
-use Rattle.piton_machine.specs.Fits.{IsPlace}
 use Rattle.piton_machine.specs.Placed.{address_of_place, areas_start}
 use Rattle.piton_machine.proofs.AddressLaws.{same_places}
-use Rattle.gypsy_syntax.specs.Programs.{Cond, Leave, Routine, Space, Declared, Proc, Program, no_proc, proc_at, shapes_of, conds_of}
-use Rattle.gypsy_syntax.specs.ProgramFits.{Each, ValueFits, CondFits}
+use Rattle.gypsy_syntax.specs.Programs.{Leave, Routine, Space, Declared, Proc, Program, no_proc, proc_at, shapes_of, conds_of}
+use Rattle.gypsy_syntax.specs.ProgramFits.{Each, ValueFits}
 use Rattle.gypsy_syntax.specs.Effects.{value_at}
 use Rattle.gypsy_syntax.specs.Resolved.{shape_of, local_value, condition_names, procedure_names, procedure_of, program_of, variable_names}
 use Rattle.gypsy_syntax.specs.Sources.{LocalOf, ProcOf, SourceOf}
 use Rattle.gypsy_syntax.specs.declared.literal.Decl.{Decl}
 use Rattle.gypsy_check.specs.Accepted.{IsAccepted}
 use Rattle.gypsy_check.proofs.CleanLaws.{get_or_map}
-use Rattle.gypsy_space.specs.Costs.{Tally}
 use Rattle.gypsy_space.specs.Needs.{Words}
-use Rattle.gypsy_meaning.specs.Calls.{Way}
 use Rattle.gypsy_meaning.specs.Kept.{VarsFit, WorkFits, StateFits}
-use Rattle.gypsy_meaning.specs.Machine.{Item, Do, Back, JoinThen, JoinOne, Guard, Out, Frame, State, At, Next, place_of}
+use Rattle.gypsy_meaning.specs.Machine.{Item, Do, Back, JoinThen, JoinOne, Guard, Out, State, At, Next, place_of}
 use Rattle.gypsy_meaning.specs.Seen.{top_way}
 use Rattle.gypsy_meaning.specs.Shown.{conditions_at, variables_at}
 use Rattle.gypsy_codegen.specs.declared.marking.MarkAt.{MarkAt}
@@ -46,10 +44,9 @@ use Rattle.gypsy_codegen.proofs.LayoutLaws.{proc_there}
 use Rattle.gypsy_codegen.proofs.MarkLaws.{each_moment_is_marked}
 use Rattle.gypsy_codegen.proofs.MarkOrderLaws.{marks_ascend, marks_are_places}
 use Rattle.gypsy_codegen.proofs.MomentLaws.{moment_fits}
-use Rattle.stack_build.specs.Image.{image_of}
+use Rattle.stack_build.specs.Image.{variable_infos, procedure_info, procedure_infos, mark_info, places_fit, source_tables, image_of}
 use Rattle.stack_build.specs.Implements.{FitsFormals, way_shown}
-use Rattle.stack_build.specs.Moments.{HoldsVariable, MemoryReads}
-use Rattle.stack_build.specs.SourceMaps.{variable_infos, procedure_info, procedure_infos, mark_info, map_of, variables_shown, moment_shown, IsAtMoment, MomentsAreRead}
+use Rattle.stack_build.specs.SourceMoments.{ShowsVariable, ShowsState, variables_shown, moment_shown, ShownMomentsAreRead, IsAtMoment, MomentsAreRead}
 use Rattle.stack_build.proofs.Ending.{own_read}
 use Rattle.stack_build.proofs.ReadBack.{items_fit}
 
@@ -132,46 +129,48 @@ way_fits q p (Out (Declared i) ∷ w) names f e = own_read names i (omega (arith
 
 -- ---- the variables are read
 
-words_held : (image : ImageOf) (m : Fm) (items : List ℤ) (k n : ℕ) → length items ≡ n → ((h : ℕ) (z : ℤ) → slice_get items h ≡ Some z → word_below image m (k + h) ≡ Some (word_of_int z)) →
-    words_below image m k n ≡ Some (map word_of_int items)
-words_held image m [] k zero e held = refl
-words_held image m [] k (suc n) e held = absurd (omega (arith, e))
-words_held image m (z ∷ items) k zero e held = absurd (omega (arith, e))
-words_held image m (z ∷ items) k (suc n) e held =
+words_held : (run : StandingOf) (items : List ℤ) (k n : ℕ) → length items ≡ n → ((h : ℕ) (z : ℤ) → slice_get items h ≡ Some z → run.below (k + h) ≡ Some (word_of_int z)) →
+    words_below run k n ≡ Some (map word_of_int items)
+words_held run [] k zero e held = refl
+words_held run [] k (suc n) e held = absurd (omega (arith, e))
+words_held run (z ∷ items) k zero e held = absurd (omega (arith, e))
+words_held run (z ∷ items) k (suc n) e held =
     let here : k + 0 ≡ k = omega arith in
-    let first : word_below image m k ≡ Some (word_of_int z) = subst (λ (i : ℕ). word_below image m i ≡ Some (word_of_int z)) here (held 0 z refl) in
-    let rest = words_held image m items (k + 1) n (omega (arith, e)) (λ h y f.
+    let first : run.below k ≡ Some (word_of_int z) = subst (λ (i : ℕ). run.below i ≡ Some (word_of_int z)) here (held 0 z refl) in
+    let rest = words_held run items (k + 1) n (omega (arith, e)) (λ h y f.
     let next : k + suc h ≡ k + 1 + h = omega arith in
-    subst (λ (i : ℕ). word_below image m i ≡ Some (word_of_int y)) next (held (suc h) y f)) in
-    ap (λ (o : Option ℕ). o >>= λ word. words_below image m (k + 1) n >>= λ words. Some (word ∷ words)) first
+    subst (λ (i : ℕ). run.below i ≡ Some (word_of_int y)) next (held (suc h) y f)) in
+    ap (λ (o : Option ℕ). o >>= λ word. words_below run (k + 1) n >>= λ words. Some (word ∷ words)) first
     ∙ ap (λ (o : Option (List ℕ)). o >>= λ words. Some (word_of_int z ∷ words)) rest
 
-module _ (q : Program) (image : ImageOf) (m : Fm) (p : ℕ) where
-  variable_held : (b : ℕ) (name : List ℕ) (shape : Shape) (v : ValueOf) → v.shape ≡ shape → ValueFits v → HoldsVariable q image m p b v →
-      variable_at image m record { name = name; shape = shape; offset = offset q p b } ≡ Some (name, v.shape, value_shown v)
+module _ (run : StandingOf) (offset : ℕ → ℕ) where
+  variable_held : (b : ℕ) (name : List ℕ) (shape : Shape) (v : ValueOf) → v.shape ≡ shape → ValueFits v → ShowsVariable run (offset b) v →
+      items_at run record { name = name; shape = shape; offset = offset b } ≡ Some (value_shown v)
   variable_held b name shape v same fits h =
       let kinds = items_fit v.shape.kind v.items fits.items in
-      let words = words_held image m v.items h.index (item_count v.shape) fits.number h.items in
-      ap (λ (s : Shape). variable_at image m record { name = name; shape = s; offset = offset q p b }) (sym same)
-      ∙ ap (λ (o : Option ℕ). o >>= λ index. words_below image m index (item_count v.shape) >>= λ words. Some (name, v.shape, map (item_of v.shape.kind) words)) h.local
-      ∙ ap (λ (o : Option (List ℕ)). o >>= λ words. Some (name, v.shape, map (item_of v.shape.kind) words)) words
-      ∙ ap (λ (shown : List Shown). Some (name, v.shape, shown)) (items_read v.shape.kind v.items kinds.0 kinds.1)
+      let words = words_held run v.items h.index (item_count v.shape) fits.number h.items in
+      ap (λ (s : Shape). items_at run record { name = name; shape = s; offset = offset b }) (sym same)
+      ∙ ap (λ (o : Option ℕ). o >>= λ index. items_below run index v.shape) h.local
+      ∙ ap (option_map (map (item_of v.shape.kind))) words
+      ∙ ap (λ (shown : List Shown). Some shown) (items_read v.shape.kind v.items kinds.0 kinds.1)
 
   variables_held : (b : ℕ) (names : List (List ℕ)) (shapes : List Shape) (x : List ValueOf) → length names ≡ length shapes → VarsFit shapes x →
-      ((i : ℕ) (shape : Shape) → slice_get shapes i ≡ Some shape → HoldsVariable q image m p (b + i) (value_at x i)) →
-      reading.variables_at image m (variable_infos q p b names shapes) ≡ Some (variables_shown names x)
+      ((i : ℕ) (shape : Shape) → slice_get shapes i ≡ Some shape → ShowsVariable run (offset (b + i)) (value_at x i)) →
+      reading.variables_at run (variable_infos offset b names shapes) ≡ Some (variables_shown names x)
   variables_held b [] shapes x e fit held = refl
   variables_held b (name ∷ names) [] x e fit held = absurd (omega (arith, e))
   variables_held b (name ∷ names) (s ∷ shapes) [] e fit held = absurd fit
   variables_held b (name ∷ names) (s ∷ shapes) (v ∷ x) e fit held =
       let here : b + 0 ≡ b = omega arith in
-      let one : HoldsVariable q image m p b v = subst (λ (i : ℕ). HoldsVariable q image m p i v) here (held 0 s refl) in
+      let one : ShowsVariable run (offset b) v = subst (λ (i : ℕ). ShowsVariable run (offset i) v) here (held 0 s refl) in
       let first = variable_held b name s v fit.0 fit.1 one in
       let rest = variables_held (b + 1) names shapes x (omega (arith, e)) fit.2 (λ i shape f.
       let next : b + suc i ≡ b + 1 + i = omega arith in
-      subst (λ (k : ℕ). HoldsVariable q image m p k (value_at x i)) next (held (suc i) shape f)) in
-      ap (λ (o : Option (List ℕ × Shape × List Shown)). o >>= λ read. reading.variables_at image m (variable_infos q p (b + 1) names shapes) >>= λ others. Some (read ∷ others)) first
-      ∙ ap (λ (o : Option (List (List ℕ × Shape × List Shown))). o >>= λ others. Some ((name, v.shape, value_shown v) ∷ others)) rest
+      subst (λ (k : ℕ). ShowsVariable run (offset k) (value_at x i)) next (held (suc i) shape f)) in
+      let shape : v.shape ≡ s = fit.0 in
+      ap (λ (o : Option (List Shown)). o >>= λ items. reading.variables_at run (variable_infos offset (b + 1) names shapes) >>= λ others. Some ((name, s, items) ∷ others)) first
+      ∙ ap (λ (o : Option (List ItemsOf)). o >>= λ others. Some ((name, s, value_shown v) ∷ others)) rest
+      ∙ ap (λ (z : Shape). Some ((name, z, value_shown v) ∷ variables_shown names x)) (sym shape)
 
 -- ---- all together
 
@@ -198,42 +197,60 @@ module _ (s : SourceOf) (sizes : Words) (base : ℕ) (accepted : IsAccepted s) w
       let conds : conds_of (proc_at (program_of s) p) ≡ length proc.conds + length proc.local_conds = ap conds_of here in
       omega (arith, conds, length-append (map (λ (n : Named). n.name) proc.conds) (map (λ (n : Named). n.name) proc.local_conds), length-map proc.conds (λ (n : Named). n.name), length-map proc.local_conds (λ (n : Named). n.name))
 
-  state_is_read : (v : List ValueOf) (j : ℕ) (m : Fm) (g : State) → FitsFormals s v → moment_from (program_of s) sizes v j ≡ Next g → StateFits (program_of s) g → IsAtMoment s sizes base m g →
-      reading_at (image_of s sizes base) (map_of s sizes base) m ≡ Some (moment_shown s g)
-  unfolding reading_at image_of
-  state_is_read v j m (At p x w fs t) fits e sf at =
+  state_is_read : IsTrue (places_fit (program_of s)) → (v : List ValueOf) (j : ℕ) (run : StandingOf) (g : State) → FitsFormals s v → moment_from (program_of s) sizes v j ≡ Next g →
+      StateFits (program_of s) g → ShowsState s sizes (image_of s sizes base) run g →
+      read_from (image_of s sizes base) run ≡ Some (moment_shown s g)
+  unfolding read_from image_of
+  state_is_read short v j run (At p x w fs t) fits e sf at =
       let q : Program = program_of s in
       let S : SystemView = generated_view q sizes base in
-      let image : ImageOf = image_of s sizes base in
       let there = proc_there q accepted.fits p fs sf.2 in
       let found = item_there s.procs p (omega (arith, there, length-map s.procs (procedure_of s))) in
       let proc : ProcOf = found.0 in
       let here : proc_at q p ≡ procedure_of s proc = get_or_map (procedure_of s) s.procs p proc no_proc found.1 in
       let place : ℕ = place_of q (At p x w fs t) in
+      let full : Tables = record { procedures = procedure_infos q 0 s.procs; marks = map (mark_info S) (marks_of q) } in
+      let tables : source_tables s S ≡ full = ap (λ (b : Bool). cond b full no_tables) short in
       let marked = each_moment_is_marked q sizes v j (At p x w fs t) accepted.fits fits e in
-      let mark : mark_there (pc_of m) (map_of s sizes base).marks ≡ Some record { address = address_of_place S p (top_mark q (At p x w fs t)).at; procedure = p; place = place } =
-      ap (λ (a : ℕ). mark_there a (map_of s sizes base).marks) at.mark ∙ find_mark q sizes base (marks_of q) (top_mark q (At p x w fs t)) (marks_ascend q) (marks_are_places q sizes base) marked in
-      let info : slice_get (map_of s sizes base).procedures p ≡ Some (procedure_info q p proc) =
+      let M : Mark = mark_info S (top_mark q (At p x w fs t)) in
+      let I : ProcedureOf = procedure_info q p proc in
+      let mark : mark_there run.address (source_tables s S).marks ≡ Some M =
+      ap (λ (t : Tables). mark_there run.address t.marks) tables ∙ ap (λ (a : ℕ). mark_there a (map (mark_info S) (marks_of q))) at.mark
+      ∙ find_mark q sizes base (marks_of q) (top_mark q (At p x w fs t)) (marks_ascend q) (marks_are_places q sizes base) marked in
+      let info : slice_get (source_tables s S).procedures p ≡ Some I =
       let zero_on : 0 + p ≡ p = omega arith in
-      info_at q 0 s.procs p proc found.1 ∙ ap (λ (n : ℕ). Some (procedure_info q n proc)) zero_on in
-      let word : word_in m (areas_start S) ≡ Some (number_of_way (top_way w)) = some_is (word_in m (areas_start S)) (Some (number_of_way (top_way w))) at.condition in
-      let items = variables_held q image m p 0 (variable_names proc) (shapes_of (proc_at q p)) x (names_number p proc here) sf.0 (λ b shape f.
+      ap (λ (t : Tables). slice_get t.procedures p) tables ∙ info_at q 0 s.procs p proc found.1 ∙ ap (λ (n : ℕ). Some (procedure_info q n proc)) zero_on in
+      let items = variables_held run (offset q p) 0 (variable_names proc) (shapes_of (proc_at q p)) x (names_number p proc here) sf.0 (λ b shape f.
       let zero_on : b ≡ 0 + b = omega arith in
-      subst (λ (k : ℕ). HoldsVariable q image m p k (value_at x b)) zero_on (at.variables b shape f)) in
+      subst (λ (k : ℕ). ShowsVariable run (offset q p k) (value_at x b)) zero_on (at.variables b shape f)) in
       let names : variable_names proc ≡ variables_at s p = sym (get_or_map variable_names s.procs p proc [] found.1) in
       let conds : condition_names proc ≡ conditions_at s p = sym (get_or_map condition_names s.procs p proc [] found.1) in
       let name : proc.name.name ≡ get_or (procedure_names s) p [] = sym (get_or_map (λ (c : ProcOf). c.name.name) s.procs p proc [] found.1) in
       let way : condition_of (space_name ∷ condition_names proc) (number_of_way (top_way w)) ≡ way_shown (condition_names proc) (top_way w) = way_fits q (proc_at q p) w (condition_names proc) sf.1 (conditions_number p proc here) in
-      let M : MarkInfo = record { address = address_of_place S p (top_mark q (At p x w fs t)).at; procedure = p; place = place } in
-      let I : ProcedureInfo = procedure_info q p proc in
-      ap (λ (o : Option MarkInfo). o >>= λ mark. slice_get (map_of s sizes base).procedures mark.procedure >>= λ procedure. read_in image m mark procedure) mark
-      ∙ ap (λ (o : Option ProcedureInfo). o >>= λ procedure. read_in image m M procedure) info
-      ∙ ap (λ (o : Option ℕ). o >>= λ word. reading.variables_at image m I.variables >>= λ items. Some record { procedure = I.name; place = place; condition = condition_of I.conditions word; items = items }) word
-      ∙ ap (λ (o : Option (List (List ℕ × Shape × List Shown))). o >>= λ items. Some record { procedure = I.name; place = place; condition = condition_of I.conditions (number_of_way (top_way w)); items = items }) items
+      let address : Option ℕ = Some (areas_start S) in
+      ap (λ (o : Option Mark). o >>= λ mark. slice_get (source_tables s S).procedures mark.procedure >>= λ procedure. condition_word run address >>= λ word. read_in run word mark procedure) mark
+      ∙ ap (λ (o : Option ProcedureOf). o >>= λ procedure. condition_word run address >>= λ word. read_in run word M procedure) info
+      ∙ ap (λ (o : Option ℕ). o >>= λ word. read_in run word M I) at.condition
+      ∙ ap (λ (o : Option (List ItemsOf)). o >>= λ items. Some record { procedure = I.name; place = place; condition = condition_of I.conditions (number_of_way (top_way w)); items = items }) items
       ∙ (λ i. Some record { procedure = name i; place = place; condition = (way ∙ ap (λ (ns : List (List ℕ)). way_shown ns (top_way w)) conds) i; items = variables_shown (names i) x })
-    where
-      some_is : (a b : Option ℕ) → Some a ≡ Some b → a ≡ b
-      some_is a b h = cc
+
+pub shown_moments_are_read : ShownMomentsAreRead
+shown_moments_are_read s sizes base j v run g accepted short fits e at = state_is_read s sizes base accepted short v j run g fits e (moment_fits (program_of s) sizes accepted.fits v j g fits e) at
+
+-- the machine of the image shows the state that its memory has
+memory_shows : (s : SourceOf) (sizes : Words) (base : ℕ) (m : Fm) (g : State) → IsAtMoment s sizes base m g → ShowsState s sizes (image_of s sizes base) (machine_at (image_of s sizes base) m) g
+unfolding image_of
+memory_shows s sizes base m (At p x w fs t) at = record {
+  mark = at.mark;
+  condition = some_is (word_in m (areas_start (generated_view (program_of s) sizes base))) (Some (number_of_way (top_way w))) at.condition;
+  variables = λ b shape e.
+      let h = at.variables b shape e in
+      record { index = h.index; local = h.local; items = h.items };
+}
+  where
+    some_is : (a b : Option ℕ) → Some a ≡ Some b → a ≡ b
+    some_is a b h = cc
 
 pub moments_are_read : MomentsAreRead
-moments_are_read s sizes base j v m g accepted fits e at = state_is_read s sizes base accepted v j m g fits e (moment_fits (program_of s) sizes accepted.fits v j g fits e) at
+moments_are_read s sizes base j v m g accepted short fits e at =
+    shown_moments_are_read s sizes base j v (machine_at (image_of s sizes base) m) g accepted short fits e (memory_shows s sizes base m g at)

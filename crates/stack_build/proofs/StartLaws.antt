@@ -28,6 +28,7 @@ use Rattle.gypsy_codegen.specs.Acceptable.{GeneratedIsAcceptable}
 use Rattle.gypsy_codegen.specs.Answers.{size_fault, unless_fault}
 use Rattle.gypsy_codegen.specs.Generated.{generated_view}
 use Rattle.gypsy_codegen.specs.Text.{generated}
+use Rattle.gypsy_codegen.specs.Whole.{SizesFit}
 use Rattle.gypsy_codegen.specs.WordsOf.{words_of_values, zero_value}
 use Rattle.gypsy_codegen.proofs.AnswerLaws.{limits_fit}
 use Rattle.gypsy_codegen.proofs.CallLaws.{values-split}
@@ -44,24 +45,26 @@ use Rattle.stack_build.specs.Starts.{values_fault, start_fault_of, or_build, or_
 
 -- 1. What is built.
 
--- it has a place in memory, and its parts are those of the source
-record IsMade (s : SourceOf) (sizes : Words) (b : BuiltOf) : Type 0 where
+-- the sizes suffice, it has a place in memory, and its parts are those of the source
+pub record IsMade (s : SourceOf) (sizes : Words) (b : BuiltOf) : Type 0 where
+  pub sizes_fit : SizesFit (program_of s) sizes
   pub small : (placed (system_in b.piton)).size ≤ 2 ^ 20
   pub view : system_in b.piton ≡ generated_view (program_of s) sizes 0
   pub image : image_of s sizes 0 ≡ b.image
 
 module _ (acceptable : GeneratedIsAcceptable) (s : SourceOf) (sizes : Words) (accepted : IsAccepted s) (b : BuiltOf) where
-  made : source_built s sizes 0 ≡ Ok b → IsMade s sizes b
+  pub made : source_built s sizes 0 ≡ Ok b → IsMade s sizes b
   unfolding source_built linked_of
   made = by_fault (size_fault (program_of s) sizes) refl
     where
-      by_size : system_in (built_with s sizes 0 (generated s sizes 0)).piton ≡ generated_view (program_of s) sizes 0 → (large : Bool) → nat_lt (2 ^ 20) (placed_size s sizes 0) ≡ large →
+      by_size : SizesFit (program_of s) sizes → system_in (built_with s sizes 0 (generated s sizes 0)).piton ≡ generated_view (program_of s) sizes 0 → (large : Bool) → nat_lt (2 ^ 20) (placed_size s sizes 0) ≡ large →
           cond large (Err (fault.Words (placed_size s sizes 0))) (Ok (built_with s sizes 0 (generated s sizes 0))) ≡ Ok b → IsMade s sizes b
-      by_size view true e h = absurd cc
-      by_size view false e h =
+      by_size suffice view true e h = absurd cc
+      by_size suffice view false e h =
           let same : built_with s sizes 0 (generated s sizes 0) ≡ b = cc in
           let small : placed_size s sizes 0 ≤ 2 ^ 20 = ltb-false (2 ^ 20) (placed_size s sizes 0) e in
           subst (IsMade s sizes) same (record {
+            sizes_fit = suffice;
             small = subst (λ (v : SystemView). (placed v).size ≤ 2 ^ 20) (sym view) small;
             view = view;
             image = refl;
@@ -69,8 +72,9 @@ module _ (acceptable : GeneratedIsAcceptable) (s : SourceOf) (sizes : Words) (ac
 
       by_fault : (f : Option GenFault) → size_fault (program_of s) sizes ≡ f → (generated_by (unless_fault f (generated s sizes 0)) >>= linked_of s sizes 0) ≡ Ok b → IsMade s sizes b
       by_fault None e h =
-          let good = acceptable s sizes 0 accepted (limits_fit (program_of s) sizes 0 (omega arith) e) in
-          by_size good.view (nat_lt (2 ^ 20) (placed_size s sizes 0)) refl h
+          let fit = limits_fit (program_of s) sizes 0 (omega arith) e in
+          let good = acceptable s sizes 0 accepted fit in
+          by_size fit.sizes_fit good.view (nat_lt (2 ^ 20) (placed_size s sizes 0)) refl h
       by_fault (Some f) e h = absurd cc
 
 -- 2. Its initial stack.

@@ -1,5 +1,5 @@
 -- What is built from the text of a source.
-use Rattle.std.specs.Prelude.{◌≡◌, ◌≤◌, ℕ, ◌^◌, List, length, Option, Some, None, Result, Ok, Err, nat_lt, if◌then◌else◌}
+use Rattle.std.specs.Prelude.{◌≡◌, ◌≤◌, ℕ, ◌^◌, List, length, Option, Some, None, Result, Ok, Err, IsTrue, nat_lt, if◌then◌else◌}
 use Rattle.stack_text.specs.declared.breach.Breach.{Breach}
 use Rattle.stack_text.specs.Breaches.{least}
 use Rattle.stack_text.specs.Gives as common
@@ -28,7 +28,7 @@ use Rattle.gypsy_codegen.specs.declared.fault.GenFault.TheVariants as gen
 use Rattle.stack_build.specs.declared.fault.BuildFault.{BuildFault}
 use Rattle.stack_build.specs.declared.fault.BuildFault.TheVariants.{Text, Form, Rule, Size, Control, Temporary}
 use Rattle.stack_build.specs.declared.fault.BuildFault.TheVariants.{Words as TooManyWords, Memory}
-use Rattle.stack_build.specs.Image.{image_of}
+use Rattle.stack_build.specs.Image.{image_of, places_fit}
 use Rattle.stack_build.specs.Implements.{Implements}
 use Rattle.stack_build.specs.Moments.{KeepsMoments, StaysUnfinished}
 
@@ -116,17 +116,20 @@ compiled text ctrl temp base = source_in text >>= λ source. generated_by (gener
 unfoldable pub built : List ℕ → ℕ → ℕ → ℕ → Result BuiltOf BuildFault
 built text ctrl temp base = source_in text >>= λ source. source_built source (stack_words temp ctrl) base
 
--- What was built of a source, for stacks of these sizes: the image does what the source means, and keeps to it at every moment, so
--- that it is unfinished at every budget where the source never ends; and its file of at most 8,388,608 bytes spells the image.
+-- What was built of a source, for stacks of these sizes: its image does what the source means, and keeps to it at every moment, so
+-- that it is unfinished at every budget where the source never ends; and the file spells the image.
 pub record Builds (source : SourceOf) (sizes : Words) (built : BuiltOf) : Type 0 where
-  pub short : length built.bytes ≤ 8388608
+  pub base : ℕ
+  pub is : built.image ≡ image_of source sizes base
   pub spells : Spelled built.bytes built.image
   pub implements : Implements built.image source sizes
   pub moments : KeepsMoments built.image source sizes
   pub unfinished : StaysUnfinished built.image source sizes
 
--- the same of the source in a text
+-- The same of the source in a text. Where that has at most 2^20 bytes, the image has its marks, and its file at most 2^25 bytes.
 pub record BuildsText (text : List ℕ) (ctrl temp : ℕ) (built : BuiltOf) : Type 0 where
   pub source : SourceOf
   pub read : source_in text ≡ Ok source
+  pub marked : length text ≤ 2 ^ 20 → IsTrue (places_fit (program_of source))
+  pub short : length text ≤ 2 ^ 20 → length built.bytes ≤ 33554432
   pub builds : Builds source (stack_words temp ctrl) built

@@ -2,11 +2,13 @@
 pub mod Formals
 pub mod Implements
 pub mod Moments
-pub mod SourceMaps
+pub mod SourceMoments
 pub mod Image
 pub mod PlacedWords
 pub mod Build
 pub mod Joined
+pub mod Inside
 pub mod Starts
 -- what private functions say
 pub mod Showing
+pub mod Listing

@@ -5,18 +5,17 @@ use Rattle.stack_text.specs.declared.shape.Shape.{Shape}
 use Rattle.stack_text.specs.Values.{ValueOf}
 use Rattle.fm_words.specs.Word.{word_of_int}
 use Rattle.fm_machine.specs.State.{Fm}
-use Rattle.fm_machine.specs.Run.{fm_run, pc_of, Avoids, outcome}
+use Rattle.fm_machine.specs.Run.{fm_run, pc_of, outcome}
 use Rattle.fm_machine.specs.declared.processor.Run.TheVariants as run
 use Rattle.fm_image.specs.Image.{ImageOf}
 use Rattle.fm_loader.specs.Loaded.{loaded}
 use Rattle.display_maps.specs.Reading.{word_in}
-use Rattle.display_maps.specs.ReadingAt.{word_below}
+use Rattle.display_maps.specs.ReadingAt.{word_below, word_from_frame}
 use Rattle.piton_machine.specs.Placed.{address_of_place}
 use Rattle.gypsy_syntax.specs.Programs.{Program, proc_at, shapes_of}
 use Rattle.gypsy_syntax.specs.Effects.{value_at}
 use Rattle.gypsy_syntax.specs.Resolved.{program_of}
 use Rattle.gypsy_syntax.specs.Sources.{SourceOf}
-use Rattle.gypsy_space.specs.Costs.{Tally}
 use Rattle.gypsy_space.specs.Needs.{Words, vars_of}
 use Rattle.gypsy_meaning.specs.Machine.{Item, Frame, Held, At, Move, Next, Ended}
 use Rattle.gypsy_meaning.specs.Calls.{Way}
@@ -30,7 +29,7 @@ use Rattle.stack_build.specs.Implements.{FitsFormals, ComesTo, meaning_shown}
 -- the frame at r0 has the index of variable b, and item h of its value is the word that lies the index and h below the window's last
 pub record HoldsVariable (q : Program) (image : ImageOf) (m : Fm) (p b : ℕ) (v : ValueOf) : Type 0 where
   pub index : ℕ
-  pub local : word_in m (slice_index m.registers 0 + offset q p b) ≡ Some index
+  pub local : word_from_frame m (offset q p b) ≡ Some index
   pub items : (h : ℕ) (item : ℤ) → slice_get v.items h ≡ Some item → word_below image m (index + h) ≡ Some (word_of_int item)
 
 -- From this address on the frames of activations: behind the indices of each one's variables lies the address of the next older

@@ -68,10 +68,9 @@ pub fn build_accepted(
     ensures implements { IfOk result (Builds (source_of accepted.now) (stack_words temp ctrl)) }
     ensures accepted { IfOk result (λ _. IsAccepted (source_of accepted.now)) }
 {
-    let source = accepted.source();
     let needs = needs(alloc, accepted)?;
     let piton = generate(alloc, accepted, &needs, ctrl, temp, base)?;
-    let image = image(alloc, source, &piton)?;
+    let image = image(alloc, accepted, &needs, &piton)?;
     let bytes = write_image(alloc, &image)?;
     Ok(Built {
         piton,

@@ -6,21 +6,29 @@ ghost use Rattle.piton_machine.specs.Fits.{system_in};
 ghost use Rattle.piton_machine.specs.Placed.{placed};
 ghost use Rattle.piton_linker.specs.Layouts.{IsFault};
 ghost use Rattle.piton_linker.specs.Theorem.{RunsOnProcessor};
-ghost use Rattle.gypsy_syntax.specs.Resolved.{shape_of};
+ghost use Rattle.gypsy_syntax.specs.Resolved.{program_of, shape_of};
 ghost use Rattle.gypsy_syntax.specs.SourceView.{source_of};
-ghost use Rattle.stack_build.specs.Formals.{shown_formals, shown_conditions};
-ghost use Rattle.stack_build.specs.Image.{slots_from, image_with};
-ghost use Rattle.stack_build.specs.Showing.{AreShort, Shows};
+ghost use Rattle.gypsy_check.specs.Accepted.{IsAccepted};
+ghost use Rattle.gypsy_space.specs.Events.{AreNeeds};
+ghost use Rattle.stack_build.specs.Image.{slots_from, image_on};
+ghost use Rattle.stack_build.specs.Listing.{IsGenerated};
+ghost use Rattle.stack_build.specs.Showing.{AreShort};
 
 use crate::shown::{formal_conditions, shown_formals};
+use crate::tables::tables;
 use display_maps::space_name;
 use fm_image::{Image, Slot};
 use fm_words::Flags;
-use gypsy_syntax::{Decl, Source, TypeText};
+use gypsy_check::Accepted;
+use gypsy_space::Needs;
+use gypsy_syntax::{Decl, TypeText};
 use piton_check::Checked;
 use piton_linker::{LinkFault, Linked, layout, link};
 use stack_text::{Memory, Name, Named, Shape};
 use std::alloc::Global;
+
+/// The version of image files that have procedures and marks.
+const MARKED: u32 = 2;
 
 /// The shape of a type that keeps the rules.
 fn shape_of(text: TypeText) -> Shape
@@ -71,15 +79,20 @@ fn names(alloc: Global, conditions: &[Named]) -> Result<Vec<Name>, Memory>
 }
 
 /// The image of a source from its system.
-pub fn image(alloc: Global, source: &Source, piton: &Checked) -> Result<Image, LinkFault>
+pub fn image(
+    alloc: Global,
+    accepted: &Accepted,
+    needs: &Needs,
+    piton: &Checked,
+) -> Result<Image, LinkFault>
     requires checked { IsChecked piton.now }
-    requires shows { let s = source_of source.now in
-        Shows (system_in piton.now) (shown_formals s) (shown_conditions s) }
-    ensures image { let s = source_of source.now in
-        IfOk result (λ image. image ≡ image_with (shown_formals s) (shown_conditions s) (system_in piton.now)) }
+    requires needs { AreNeeds (program_of (source_of accepted.now)) needs.now.procedures.items }
+    requires generated { IsGenerated (source_of accepted.now) (system_in piton.now) }
+    ensures image { IfOk result (λ image. image ≡ image_on (source_of accepted.now) (system_in piton.now)) }
     ensures small { IfOk result (λ image. (placed (system_in piton.now)).size ≤ 2 ^ 20) }
     ensures fault { IfErr result (IsFault (system_in piton.now)) }
     ensures runs { IfOk result (λ image. RunsOnProcessor (system_in piton.now)) }
+    ensures accepted { IfOk result (λ image. IsAccepted (source_of accepted.now)) }
 {
     let Linked {
         base,
@@ -87,11 +100,14 @@ pub fn image(alloc: Global, source: &Source, piton: &Checked) -> Result<Image, L
         final_pc,
         registers,
         words,
-        places: _,
+        places,
     } = link(alloc, piton)?;
+    let source = accepted.source();
     let parts = layout(piton);
     let bottom = parts.end - 1;
+    let (procedures, marks) = tables(alloc, accepted, needs, &places)?;
     Ok(Image {
+        version: MARKED,
         base,
         size,
         final_pc,
@@ -101,5 +117,7 @@ pub fn image(alloc: Global, source: &Source, piton: &Checked) -> Result<Image, L
         conditions: names(alloc, formal_conditions(source))?,
         slots: slots_from(alloc, bottom as u32, shown_formals(source))?,
         words,
+        procedures,
+        marks,
     })
 }

@@ -1,8 +1,9 @@
 //! Laws. The functions do nothing: their clauses hold of all sources, sizes, texts and systems.
 
+ghost use Rattle.stack_build.specs.Inside.{BuiltAtBase, BuiltRunsInside};
 ghost use Rattle.stack_build.specs.Joined.{GeneratedImageImplements, BuiltImplements, BuiltTakesValues};
 ghost use Rattle.stack_build.specs.PlacedWords.{PlacedAreWords};
-ghost use Rattle.stack_build.specs.SourceMaps.{MomentsAreRead};
+ghost use Rattle.stack_build.specs.SourceMoments.{MomentsAreRead, ShownMomentsAreRead};
 
 /// The image of each accepted source, at sizes and a base within the limits, does what the source means: loaded with
 /// any values that fit main's formals, where the meaning is done, the machine first comes to the final program counter
@@ -24,10 +25,12 @@ pub fn builds_implement()
     gypsy_codegen::generated_is_acceptable();
 }
 
-/// Where the machine of an image stands at a mark with a state of the source's step machine, its memory is read as that state: the
-/// active procedure, the place of what comes next, the condition, and each variable.
+/// Where a run of an image shows a state of the source's step machine at its mark, what is read there is that state: the
+/// active procedure, the place of what comes next, the condition, and each variable. So it is with the memory of the
+/// image's machine.
 pub fn moments_are_read()
-    ensures { MomentsAreRead }
+    ensures shown { ShownMomentsAreRead }
+    ensures memory { MomentsAreRead }
 {}
 
 /// The registers and the words of each sound system that fits a window are numbers of 32 bits. So the file of an image that
@@ -35,3 +38,13 @@ pub fn moments_are_read()
 pub fn placed_are_words()
     ensures { PlacedAreWords }
 {}
+
+/// The window of what is built of a text begins at the base, and each run of its image stays inside: on any values that fit main's
+/// formals, no instruction before the first stand at the final program counter needs an address outside. So images whose windows
+/// lie side by side in one memory leave each other's words alone.
+pub fn builds_stay_inside()
+    ensures base { BuiltAtBase }
+    ensures inside { BuiltRunsInside }
+{
+    builds_implement();
+}

@@ -14,12 +14,15 @@ mod law;
 mod meaning_starts;
 mod shown;
 mod start_fault;
+mod tables;
 mod value_words;
 
 pub use building::{Built, accept, build, build_accepted, compile};
 pub use built_starts::{ImageStart, SystemStart, start_image, start_system};
 pub use fault::BuildFault;
 pub use formals::read_formals;
-pub use law::{builds_implement, images_implement, moments_are_read, placed_are_words};
+pub use law::{
+    builds_implement, builds_stay_inside, images_implement, moments_are_read, placed_are_words,
+};
 pub use meaning_starts::start_meaning;
 pub use start_fault::StartFault;

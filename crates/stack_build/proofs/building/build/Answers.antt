@@ -4,6 +4,7 @@ use Rattle.gypsy_syntax.specs.SourceView.{source_of}
 use Rattle.stack_build.specs.declared.fault.BuildFault.{BuildFault}
 use Rattle.stack_build.specs.Build.{Gives, BuiltOf}
 use Rattle.stack_build.proofs.BuildLaws.{text_fails, text_builds}
+use Rattle.stack_build.proofs.ShortLaws.{text_builds_if}
 use Rattle.stack_build.proofs.building.build.Goals as goal
 
 pub returns-in_err-accepted-clause-value : goal.returns-in_err-accepted-clause-value
@@ -15,3 +16,7 @@ pub returns-clause-value : goal.returns-clause-value
 returns-clause-value c =
     subst (λ (r : Result BuiltOf BuildFault). Gives (λ built. built) c.build_accepted.result r)
     (sym (text_builds c.args.text.now c.args.ctrl c.args.temp c.args.base (source_of c.in_ok-accepted.accepted) c.in_ok-accepted.ensures)) c.build_accepted.ensures.value
+
+pub returns-clause-implements : goal.returns-clause-implements
+returns-clause-implements c =
+    text_builds_if c.args.text.now c.args.ctrl c.args.temp (source_of c.in_ok-accepted.accepted) c.build_accepted.result c.in_ok-accepted.ensures c.build_accepted.ensures.implements
