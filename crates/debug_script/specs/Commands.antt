@@ -28,8 +28,9 @@ verb_of word =
 unfoldable pub watch_of : List ℕ → Result WatchWord ScriptRule
 watch_of word =
     if bytes_eq word (codes "count") then Ok watch.Count
+    else (if bytes_eq word (codes "cost") then Ok watch.Cost
     else (if bytes_eq word (codes "last") then Ok watch.Last
-    else (if bytes_eq word (codes "peak") then Ok watch.Peak else Err rules.Argument))
+    else (if bytes_eq word (codes "peak") then Ok watch.Peak else Err rules.Argument)))
 
 -- a number that is at most 2^40
 abbrev pub in_range : ℤ → Result ℕ ScriptRule

@@ -13,6 +13,7 @@ const MOST_STEPS: i128 = 1 << 40;
 #[derive(Clone, Copy, Debug, PartialEq, Eq)]
 pub enum WatchWord {
     Count,
+    Cost,
     Last,
     Peak,
 }
@@ -65,6 +66,8 @@ fn watch_of(word: &[u8]) -> Result<WatchWord, ScriptRule>
 {
     if word == b"count".as_slice() {
         Ok(WatchWord::Count)
+    } else if word == b"cost".as_slice() {
+        Ok(WatchWord::Cost)
     } else if word == b"last".as_slice() {
         Ok(WatchWord::Last)
     } else if word == b"peak".as_slice() {

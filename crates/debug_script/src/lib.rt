@@ -1,6 +1,7 @@
 //! Scripts of a debugger: a text of lines, each of which is empty or one command.
 //!
-//! `step N`, `show`, `up`, `attach WATCH` and `detach WATCH`, where WATCH is `count`, `last` or `peak`.
+//! `step N`, `show`, `up`, `attach WATCH` and `detach WATCH`, where WATCH is `count`, `cost`, `last` or
+//! `peak`.
 #![tactic(auto)]
 
 mod command;

@@ -4,10 +4,14 @@
 #![tactic(auto)]
 
 #[cfg(test)]
+mod finishing;
+#[cfg(test)]
 mod large;
 #[cfg(test)]
 mod runners;
 #[cfg(test)]
 mod sessions;
+#[cfg(test)]
+mod stepping;
 #[cfg(test)]
 mod transcript;

@@ -141,7 +141,7 @@ pub(crate) fn of_system(alloc: Global, text: &[u8], picture: &Picture) -> Result
 }
 
 /// The source of a text, once it is accepted.
-fn accepted_of(alloc: Global, text: &[u8]) -> Result<Accepted, Fail> {
+pub(crate) fn accepted_of(alloc: Global, text: &[u8]) -> Result<Accepted, Fail> {
     if text.len() > 1 << 31 {
         return Err(Fail::from("too long"));
     }

@@ -8,11 +8,11 @@ use std::test::Fail;
 const NONE: u32 = 0xffff_ffff;
 
 /// An assignment of a constant.
-const ASSIGNS: &[u8] =
+pub(crate) const ASSIGNS: &[u8] =
     b"(program main\n(proc main ((x integer)) () () () (mg-simple-constant-assignment x 7)))\n";
 
 /// A procedure that calls itself.
-const RECURSIVE: &[u8] = b"(program main
+pub(crate) const RECURSIVE: &[u8] = b"(program main
 (proc main ((n integer)) () () () (call p (n) ()))
 (proc p ((n integer)) () ((b boolean false) (one integer 1)) ()
 (seq (mg-simple-constant-eq b n 0)

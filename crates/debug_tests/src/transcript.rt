@@ -6,7 +6,7 @@ ghost use Rattle.level_debuggers.specs.Sessions.{IsSession};
 
 use debug_script::{Line, read_script};
 use level_debuggers::{
-    CountWatch, LastWatch, PeakWatch, Runner, ScriptEnd, Session, Watch, follow,
+    CostWatch, CountWatch, LastWatch, PeakWatch, Runner, ScriptEnd, Session, Watch, follow,
 };
 use piton_machine::ErrorKind;
 use std::alloc::{AllocError, Global};
@@ -99,9 +99,10 @@ fn say_each(
 /// A watch of each rule.
 fn each_watch(alloc: Global) -> Result<Vec<Box<dyn Watch>>, AllocError> {
     let count = Box::new(alloc, CountWatch::new())?;
+    let cost = Box::new(alloc, CostWatch::new())?;
     let last = Box::new(alloc, LastWatch::new())?;
     let peak = Box::new(alloc, PeakWatch::new())?;
-    let watches: [Box<dyn Watch>; 3] = [count, last, peak];
+    let watches: [Box<dyn Watch>; 4] = [count, cost, last, peak];
     Ok(Vec::from_array(alloc, watches)?)
 }
 
@@ -126,7 +127,7 @@ fn said(alloc: Global, session: &mut Session, lines: &[Line], by: Lines) -> Resu
 }
 
 /// A session of a run, with a watch of each rule.
-fn session_of(alloc: Global, runner: Runner) -> Result<Session, Fail>
+pub(crate) fn session_of(alloc: Global, runner: Runner) -> Result<Session, Fail>
     requires { IsRunner runner }
     ensures { IfOk result IsSession }
 {

@@ -4,3 +4,5 @@ pub mod TakenLaws
 pub mod ElementLaws
 pub mod AreaLaws
 pub mod FollowLaws
+pub mod ScriptLaws
+pub mod RunWalkLaws

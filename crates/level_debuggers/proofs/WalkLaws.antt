@@ -1,5 +1,5 @@
 -- Steps that a session makes one after the other are one walk.
-use Rattle.std.proofs.Common.{◌≡◌, ◌+◌, ◌^◌, ◌<◌, ◌≤◌, ◌==◌, ℕ, zero, suc, Bool, false, cond, List, [], ◌∷◌, ◌++◌, length, map, refl, sym, ap, ◌∙◌, add-one, arith, length-append, inl, inr}
+use Rattle.std.proofs.Common.{◌≡◌, ◌+◌, ◌^◌, ◌<◌, ◌≤◌, ◌==◌, ℕ, zero, suc, Bool, false, cond, List, [], ◌∷◌, ◌++◌, length, map, refl, sym, ap, subst, ◌∙◌, add-one, arith, length-append, inl, inr}
 use Rattle.std.proofs.lemmas.Bool.Decides.{eqb_tells}
 use Rattle.std.proofs.lemmas.List.Sums.{fold-append}
 use Rattle.piton_machine.specs.Seen.{saturated}
@@ -11,8 +11,8 @@ use Rattle.level_debuggers.specs.declared.session.SessionRun.{SessionRun}
 use Rattle.level_debuggers.specs.declared.session.SessionRun.TheVariants as run
 use Rattle.level_debuggers.specs.Levels.{LevelOf, next_of}
 use Rattle.level_debuggers.specs.Steps.{Next, Over, Stops, Makes, IsAdvance}
-use Rattle.level_debuggers.specs.Tallies.{Watching, tally_step, noted, told}
-use Rattle.level_debuggers.specs.Walks.{Walk, with_event, walk_on, walk, SessionOf, after_event, after_walk, refused_after, ends_by, stepped_by, stepped, HasMadeSome}
+use Rattle.level_debuggers.specs.Tallies.{Watching, tally_step, told}
+use Rattle.level_debuggers.specs.Walks.{Walk, with_event, walk_on, walk, SessionOf, after_event, after_walk, refused_after, ends_by, stepped_by, stepped, HasMadeSome, SessionsGoOn}
 
 -- One step more.
 more_from : (i : ℕ) (level after : LevelOf) (event : Event) (next : Next LevelOf)
@@ -59,27 +59,29 @@ walk_stays (suc i) (suc n) level le stop =
     same_from level i n (next_of level) (λ start stop. walk_stays i n start (omega arith) stop) stop
 
 -- Watches.
-told_more : (events : List Event) (event : Event) (watch : Watching) → told (events ++ event ∷ []) watch ≡ noted event (told events watch)
-told_more events event watch =
-    ap (λ tally. record watch { tally = tally }) (fold-append (tally_step watch.rule) watch.tally events (event ∷ []))
+told_both : (events more : List Event) (watch : Watching) → told (events ++ more) watch ≡ told more (told events watch)
+told_both events more watch =
+    ap (λ tally. record watch { tally = tally }) (fold-append (tally_step watch.rule) watch.tally events more)
 
-all_told_more : (events : List Event) (event : Event) (watches : List Watching)
-    → map (noted event) (map (told events) watches) ≡ map (told (events ++ event ∷ [])) watches
-all_told_more events event [] = refl
-all_told_more events event (watch ∷ watches) = cc (told_more events event watch, all_told_more events event watches)
+all_told_both : (events more : List Event) (watches : List Watching)
+    → map (told more) (map (told events) watches) ≡ map (told (events ++ more)) watches
+all_told_both events more [] = refl
+all_told_both events more (watch ∷ watches) = cc (told_both events more watch, all_told_both events more watches)
 
 none_told : (watches : List Watching) → map (told []) watches ≡ watches
 none_told [] = refl
 none_told (watch ∷ watches) = ap (λ (ws : List Watching). watch ∷ ws) (none_told watches)
 
-after_more : (s : SessionOf) (events : List Event) (event : Event) (level after : LevelOf)
-    → after_event event (record (after_walk s record { events = events; level = level }) { level = after })
-    ≡ after_walk s record { events = events ++ event ∷ []; level = after }
-after_more s events event level after =
-    let steps : saturated (saturated (s.steps + length events) + 1) ≡ saturated (s.steps + length (events ++ event ∷ []))
-    = omega (arith, length-append events (event ∷ [])) in
-    let attached = all_told_more events event s.attached in
-    λ i. record { level = after; steps = steps i; waiting = s.waiting; attached = attached i }
+-- a walk and one behind it
+abbrev both : Walk → Walk → Walk
+both first second = record { events = first.events ++ second.events; level = second.level }
+
+after_both : (s : SessionOf) (first second : Walk) → after_walk (after_walk s first) second ≡ after_walk s (both first second)
+after_both s first second =
+    let steps : saturated (saturated (s.steps + length first.events) + length second.events) ≡ saturated (s.steps + length (first.events ++ second.events))
+    = omega (arith, length-append first.events second.events) in
+    let attached = all_told_both first.events second.events s.attached in
+    λ i. record { level = second.level; steps = steps i; waiting = s.waiting; attached = attached i }
 
 -- in n steps a session has come from old to new
 pub record Made (n : ℕ) (old new : SessionOf) : Type 0 where
@@ -106,7 +108,7 @@ made_more n old middle new event after made is becomes =
       whole = ap (λ (w : Walk). length w.events) more ∙ omega (arith, made.whole, length-append (walk n old.level).events (event ∷ []));
       comes =
           becomes ∙ ap (λ (s : SessionOf). after_event event (record s { level = after })) made.comes
-          ∙ after_more old (walk n old.level).events event (walk n old.level).level after
+          ∙ after_both old (walk n old.level) record { events = event ∷ []; level = after }
           ∙ ap (after_walk old) (sym more);
     }
 
@@ -196,3 +198,46 @@ pub stepped_some : (n : ℕ) (s : SessionOf) → HasMadeSome n s (stepped n s).s
 stepped_some n s =
     let made = made_of n s.level in
     (length (walk n s.level).events, made.0, ap (λ (w : Walk). length w.events) made.1, ap (after_walk s) (sym made.1))
+
+-- A walk of m steps that were all made, and one of k steps from where it led, are one of all of them.
+both_from : (m k : ℕ) (level : LevelOf) (next : Next LevelOf)
+    → ((start : LevelOf) → length (walk m start).events ≡ m → walk (m + k) start ≡ both (walk m start) (walk k (walk m start).level))
+    → length (walk_on level (walk m) next).events ≡ suc m
+    → walk_on level (walk (m + k)) next ≡ both (walk_on level (walk m) next) (walk k (walk_on level (walk m) next).level)
+both_from m k level Over later whole = absurd (omega arith)
+both_from m k level (Stops stop) later whole = absurd (omega arith)
+both_from m k level (Makes event after) later whole = ap (with_event event) (later after (omega arith))
+
+walk_both : (m k : ℕ) (level : LevelOf) → length (walk m level).events ≡ m → walk (m + k) level ≡ both (walk m level) (walk k (walk m level).level)
+unfolding walk
+walk_both zero k level whole =
+    let same : 0 + k ≡ k = omega arith in
+    ap (λ (n : ℕ). walk n level) same
+walk_both (suc m) k level whole =
+    let same : suc m + k ≡ suc (m + k) = omega arith in
+    ap (λ (n : ℕ). walk n level) same ∙ both_from m k level (next_of level) (λ start whole. walk_both m k start whole) whole
+
+-- a session that has made some steps of a call goes on from them
+pub goes_on : SessionsGoOn
+goes_on n k old left made =
+    ap (λ (s : SessionOf). after_walk s (walk k s.level)) made.3
+    ∙ after_both old (walk made.0 old.level) (walk k (walk made.0 old.level).level)
+    ∙ ap (after_walk old) (sym (walk_both made.0 k old.level made.2))
+
+-- A walk from where another led comes to where both lead together, whether or not all its steps were made.
+level_from : (m k : ℕ) (level : LevelOf) (next : Next LevelOf) → next_of level ≡ next
+    → ((start : LevelOf) → (walk k (walk m start).level).level ≡ (walk (m + k) start).level)
+    → (walk k (walk_on level (walk m) next).level).level ≡ (walk_on level (walk (m + k)) next).level
+unfolding walk IsStop
+level_from m k level Over is later = ap (λ (w : Walk). w.level) (walk_stays 0 k level (omega arith) (subst IsStop (sym is) tt))
+level_from m k level (Stops stop) is later = ap (λ (w : Walk). w.level) (walk_stays 0 k level (omega arith) (subst IsStop (sym is) tt))
+level_from m k level (Makes event after) is later = later after
+
+pub walk_level : (m k : ℕ) (level : LevelOf) → (walk k (walk m level).level).level ≡ (walk (m + k) level).level
+unfolding walk
+walk_level zero k level =
+    let same : k ≡ 0 + k = omega arith in
+    ap (λ (n : ℕ). (walk n level).level) same
+walk_level (suc m) k level =
+    let same : suc (m + k) ≡ suc m + k = omega arith in
+    level_from m k level (next_of level) refl (λ start. walk_level m k start) ∙ ap (λ (n : ℕ). (walk n level).level) same

@@ -6,10 +6,11 @@ use Rattle.fm_machine.specs.Step.{fm_step}
 use Rattle.fm_machine.specs.Run.{pc_of}
 use Rattle.fm_image.specs.Image.{ImageOf}
 use Rattle.display_maps.specs.Reading.{reading}
+use Rattle.display_maps.specs.ReadingAt.{reading_at}
 use Rattle.display_maps.specs.Report.{lines_of_reading}
 use Rattle.level_debuggers.specs.declared.watch.Event.{Event}
 use Rattle.level_debuggers.specs.declared.advance.Stop.TheVariants as stop
-use Rattle.level_debuggers.specs.Texts.{no_mark}
+use Rattle.level_debuggers.specs.Texts.{mark_text}
 use Rattle.level_debuggers.specs.Steps.{Next, Over, Stops, Makes}
 
 -- an image, and a machine that runs it
@@ -38,6 +39,8 @@ fm_after level (Err outside) = Stops (stop.Outside outside.address)
 abbrev pub fm_next : FmLevelOf → Next FmLevelOf
 fm_next level = if fm_over level then Over else fm_after level (fm_step level.state)
 
--- at the end what the memory says
+-- what the memory says: at the end of the image's slots, and before it at a mark
 abbrev pub fm_up : FmLevelOf → List ℕ
-fm_up level = if fm_over level then lines_of_reading level.image (reading level.image level.state) else no_mark
+fm_up level =
+    if fm_over level then lines_of_reading level.image (reading level.image level.state)
+    else mark_text (reading_at level.image level.state)

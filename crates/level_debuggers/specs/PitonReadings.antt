@@ -1,6 +1,6 @@
--- What the end of a run of Piton's machine says of the variables of its source.
+-- What a run of Piton's machine says of the variables of its source, at its end and at the marks of its image.
 use Rattle.std.specs.Prelude.{ℕ, zero, suc, ◌+◌, ◌-◌, List, [], ◌∷◌, length, map, reverse, Bool}
-use Rattle.std.specs.Prelude.{◌&&◌, nat_lt, nat_le, if◌then◌else◌, slice_index, unwrap_or}
+use Rattle.std.specs.Prelude.{◌&&◌, nat_lt, nat_le, if◌then◌else◌, slice_get, slice_index, unwrap_or, Option}
 use Rattle.std.specs.List.{list_all, flat_map}
 use Rattle.std.specs.Option.{option_map}
 use Rattle.stack_text.specs.Values.{item_count}
@@ -9,15 +9,16 @@ use Rattle.fm_image.specs.declared.slot.Slot.{Slot}
 use Rattle.fm_image.specs.Image.{ImageOf}
 use Rattle.display_maps.specs.declared.shown.Shown.{Shown}
 use Rattle.display_maps.specs.Reading.{ReadingOf, condition_of, item_of}
+use Rattle.display_maps.specs.ReadingAt.{StandingOf, read_from}
 use Rattle.display_maps.specs.Report.{lines_of_reading}
 use Rattle.piton_words.specs.declared.word.Word.{Word}
 use Rattle.piton_check.specs.Instruction.{SystemView}
-use Rattle.piton_machine.specs.State.{PitonState}
+use Rattle.piton_machine.specs.State.{PitonState, locals_of}
 use Rattle.piton_machine.specs.Fits.{system_in}
 use Rattle.piton_machine.specs.Addresses.{numbers}
-use Rattle.piton_machine.specs.Placed.{addresses_of, areas_start, end_of}
+use Rattle.piton_machine.specs.Placed.{address_of_place, addresses_of, areas_start, end_of}
 use Rattle.level_debuggers.specs.PitonLevels.{PitonLevelOf, piton_over}
-use Rattle.level_debuggers.specs.Texts.{no_mark}
+use Rattle.level_debuggers.specs.Texts.{mark_text, no_mark}
 
 -- The elements of the stack stand below the end of memory, the bottom one at the highest address.
 abbrev pub element_at : ℕ → List ℕ → ℕ → ℕ
@@ -45,24 +46,40 @@ element_numbers s state = numbers (addresses_of s) (reverse state.stack)
 abbrev pub area_words : PitonState → List Word
 area_words state = flat_map (λ area. area) state.areas
 
--- the number of the word that the areas have at an address; 0 where they have none there
-abbrev pub area_number : SystemView → PitonState → ℕ → ℕ
-area_number s state address = unwrap_or (word_at (areas_start s) (numbers (addresses_of s) (area_words state)) address) 0
+-- the number of the word that the areas have at an address, where they have one there
+abbrev pub area_number : SystemView → PitonState → ℕ → Option ℕ
+area_number s state address = word_at (areas_start s) (numbers (addresses_of s) (area_words state)) address
 
 abbrev pub piton_reading_of : SystemView → ImageOf → PitonState → ReadingOf
 piton_reading_of s image state = record {
-  condition = option_map (λ address. condition_of image.conditions (area_number s state address)) image.condition_address;
+  condition = option_map (λ address. condition_of image.conditions (unwrap_or (area_number s state address) 0)) image.condition_address;
   items = map (variable_at (end_of s) (element_numbers s state)) image.slots;
 }
 
--- whether there is something to read: the run is over, and the stack has an element for each item
-abbrev pub is_readable : PitonLevelOf → Bool
-is_readable level =
+-- whether the stack has an element for each item of the image's slots
+abbrev pub is_covered : PitonLevelOf → Bool
+is_covered level =
     let s = system_in level.checked in
-    piton_over level && list_all (covers (end_of s) (element_numbers s level.seen.state)) level.image.slots
+    list_all (covers (end_of s) (element_numbers s level.seen.state)) level.image.slots
+
+-- at the end
+abbrev pub piton_end : PitonLevelOf → List ℕ
+piton_end level =
+    if is_covered level
+    then lines_of_reading level.image (piton_reading_of (system_in level.checked) level.image level.seen.state)
+    else no_mark
+
+-- Where a state stands, as the processor that stands for it: the address of its place, the areas, the newest frame's locals, and
+-- the stack, whose bottom element is the last word of memory.
+abbrev pub piton_at : SystemView → PitonState → StandingOf
+piton_at s state = record {
+  address = address_of_place s state.program state.place;
+  word = area_number s state;
+  local = slice_get (numbers (addresses_of s) (locals_of state.frames));
+  below = slice_get (element_numbers s state);
+}
 
 unfoldable pub piton_up : PitonLevelOf → List ℕ
 piton_up level =
-    if is_readable level
-    then lines_of_reading level.image (piton_reading_of (system_in level.checked) level.image level.seen.state)
-    else no_mark
+    if piton_over level then piton_end level
+    else mark_text (read_from level.image (piton_at (system_in level.checked) level.seen.state))

@@ -1,13 +1,14 @@
 -- Watches that are attached and detached.
 use Rattle.std.specs.Prelude.{List, [], ◌∷◌, ◌++◌, Bool, true, false, Option, Some, None, if◌then◌else◌}
 use Rattle.level_debuggers.specs.declared.watch.Rule.{Rule}
-use Rattle.level_debuggers.specs.declared.watch.Rule.TheVariants.{Count, Last, Peak}
+use Rattle.level_debuggers.specs.declared.watch.Rule.TheVariants.{Count, Cost, Last, Peak}
 use Rattle.level_debuggers.specs.declared.watch.Tally.{Tally}
 use Rattle.level_debuggers.specs.Tallies.{Watching}
 use Rattle.level_debuggers.specs.Walks.{SessionOf}
 
 abbrev pub is_same : Rule → Rule → Bool
 is_same Count Count = true
+is_same Cost Cost = true
 is_same Last Last = true
 is_same Peak Peak = true
 is_same rule other = false

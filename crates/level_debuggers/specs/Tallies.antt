@@ -4,7 +4,7 @@ use Rattle.piton_machine.specs.Seen.{saturated}
 use Rattle.level_debuggers.specs.declared.watch.Event.{Event}
 use Rattle.level_debuggers.specs.declared.watch.Tally.{Tally}
 use Rattle.level_debuggers.specs.declared.watch.Rule.{Rule}
-use Rattle.level_debuggers.specs.declared.watch.Rule.TheVariants.{Count, Last, Peak}
+use Rattle.level_debuggers.specs.declared.watch.Rule.TheVariants.{Count, Cost, Last, Peak}
 
 abbrev pub no_events : Tally
 no_events = record { count = 0; peak = 0; last = replicate 8 0 }
@@ -12,6 +12,7 @@ no_events = record { count = 0; peak = 0; last = replicate 8 0 }
 -- a tally after one event more
 abbrev pub tally_step : Rule → Tally → Event → Tally
 tally_step Count tally event = record tally { count = saturated (tally.count + 1) }
+tally_step Cost tally event = record tally { count = saturated (tally.count + event.cost) }
 tally_step Last tally event = record tally { count = saturated (tally.count + 1); last = drop 1 tally.last ++ event.place ∷ [] }
 tally_step Peak tally event = record tally { count = saturated (tally.count + 1); peak = max tally.peak event.depth }
 

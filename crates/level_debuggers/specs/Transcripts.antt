@@ -33,11 +33,13 @@ ends_with e s = record { text = []; end = Some e; session = s }
 -- the rule of a watch that a script names, and its name
 abbrev pub rule_of_word : WatchWord → Rule
 rule_of_word word.Count = rule.Count
+rule_of_word word.Cost = rule.Cost
 rule_of_word word.Last = rule.Last
 rule_of_word word.Peak = rule.Peak
 
 abbrev pub watch_name : WatchWord → List ℕ
 watch_name word.Count = codes "count"
+watch_name word.Cost = codes "cost"
 watch_name word.Last = codes "last"
 watch_name word.Peak = codes "peak"
 
@@ -67,7 +69,7 @@ attach_with number word s None = ends_with (end.NoneWaits number) s
 abbrev pub attach_said : ℕ → WatchWord → SessionOf → Said
 attach_said number word s = attach_with number word s (attached_by (rule_of_word word) s)
 
--- `count 3`, `peak 2`, or `last` and the places of the latest events, at most eight, the oldest first
+-- `count 3`, `cost 28`, `peak 2`, or `last` and the places of the latest events, at most eight, the oldest first
 abbrev pub places_said : List ℕ → List ℕ
 places_said [] = []
 places_said (place ∷ places) = codes " " ++ decimal place ++ places_said places
@@ -77,6 +79,7 @@ last_said tally = line (codes "last" ++ places_said (drop (8 - min tally.count 8
 
 abbrev pub tally_said : Rule → Tally → List ℕ
 tally_said rule.Count tally = line (codes "count " ++ decimal tally.count)
+tally_said rule.Cost tally = line (codes "cost " ++ decimal tally.count)
 tally_said rule.Peak tally = line (codes "peak " ++ decimal tally.peak)
 tally_said rule.Last tally = last_said tally
 

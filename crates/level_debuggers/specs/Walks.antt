@@ -74,3 +74,9 @@ stepped n s = stepped_by n s (walk n s.level)
 -- some of n steps were made
 abbrev pub HasMadeSome : ℕ → SessionOf → SessionOf → Type 0
 HasMadeSome n old new = (m : ℕ) × (m ≤ n) × (length (walk m old.level).events ≡ m) × (new ≡ after_walk old (walk m old.level))
+
+-- a session that has made some steps of a call goes on from them: k steps more lead to where all of these lead together
+abbrev pub SessionsGoOn : Type 0
+SessionsGoOn =
+    (n k : ℕ) (old left : SessionOf) → (made : HasMadeSome n old left)
+    → (stepped k left).session ≡ (stepped (made.0 + k) old).session

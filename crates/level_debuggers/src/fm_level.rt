@@ -1,9 +1,10 @@
 //! A run of the processor.
 
 use crate::advance::{Advance, Stop};
-use crate::texts::no_mark;
+use crate::runner::Runner;
+use crate::texts::mark_text;
 use crate::watch::Event;
-use display_maps::{push_reading, read_up};
+use display_maps::{push_reading, read_at, read_up};
 use fm_image::Image;
 use fm_machine::{Machine, Outside};
 use fm_show::show_machine;
@@ -31,11 +32,22 @@ impl FmLevel {
     ghost use Rattle.fm_show.specs.Listing.{machine_listing};
     ghost use Rattle.level_debuggers.specs.Steps.{IsAdvance};
     ghost use Rattle.level_debuggers.specs.FmLevels.{fm_depth, fm_event, fm_next, fm_over, fm_up};
+    ghost use Rattle.level_debuggers.specs.Levels.{Fm, level_of};
 
     pub(crate) fn new(image: Image, machine: Machine) -> FmLevel
         ensures { result ≡ record { image = image; state = machine.state } }
     {
         FmLevel { image, machine }
+    }
+
+    /// The run as a session takes it.
+    pub(crate) fn into_runner(self) -> Runner
+        ensures { level_of result ≡ Fm self }
+    {
+        Runner::Fm {
+            image: self.image,
+            machine: self.machine,
+        }
     }
 
     /// Whether the end is reached.
@@ -91,12 +103,13 @@ impl FmLevel {
         show_machine(alloc, &self.machine, steps)
     }
 
-    /// At the end what the memory says, as lines; before it `no mark`.
+    /// What the memory says of the variables, as lines: at the end of those of the image's slots, and before it of those
+    /// of the procedure at whose mark the machine stands; elsewhere `no mark`.
     pub(crate) fn up(&self, alloc: Global) -> Result<Vec<u8>, Memory>
         ensures { IfOk result (λ text. text.items ≡ fm_up self.now) }
     {
         if !self.is_over() {
-            return no_mark(alloc);
+            return mark_text(alloc, read_at(alloc, &self.machine, &self.image)?);
         }
         let reading = read_up(alloc, &self.machine, &self.image)?;
         let mut text = Vec::new(alloc);

@@ -47,6 +47,28 @@ impl Level {
         }
     }
 
+    /// The run as a session takes it.
+    pub(crate) fn into_runner(self) -> Runner
+        ensures level { level_of result ≡ level_seen self }
+        ensures is { IsLevel self → IsRunner result }
+    {
+        match self {
+            Level::Gypsy(
+                GypsyLevel {
+                    accepted,
+                    needs,
+                    meaning,
+                },
+            ) => Runner::Gypsy {
+                accepted,
+                needs,
+                meaning,
+            },
+            Level::Piton(level) => level.into_runner(),
+            Level::Fm(level) => level.into_runner(),
+        }
+    }
+
     /// Whether the end is reached.
     pub(crate) fn is_over(&self) -> bool
         ensures { result ≡ is_over (next_of (level_seen self.now)) }

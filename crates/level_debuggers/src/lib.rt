@@ -4,10 +4,12 @@
 mod advance;
 mod fm_level;
 mod gypsy_level;
+mod law;
 mod level;
 mod piton_level;
 mod piton_listing;
 mod piton_reading;
+mod piton_standing;
 mod runner;
 mod script_end;
 mod seats;
@@ -18,9 +20,10 @@ mod transcript;
 mod watch;
 mod watches;
 
+pub use law::{runs_walk, scripts_walk, sessions_go_on};
 pub use runner::Runner;
 pub use script_end::ScriptEnd;
 pub use session::{Absent, Session, SessionRun};
 pub use transcript::follow;
 pub use watch::{Event, Rule, Tally, Watch};
-pub use watches::{CountWatch, LastWatch, PeakWatch};
+pub use watches::{CostWatch, CountWatch, LastWatch, PeakWatch};

@@ -3,14 +3,17 @@
 use crate::advance::{Advance, Stop};
 use crate::piton_listing::piton_listing;
 use crate::piton_reading::{area_words, condition, covers_all, variables};
-use crate::texts::no_mark;
+use crate::piton_standing::PitonAt;
+use crate::runner::Runner;
+use crate::texts::{mark_text, no_mark};
 use crate::watch::Event;
-use display_maps::{Reading, push_reading};
+use display_maps::{Reading, push_reading, read_from};
 use fm_image::Image;
 use piton_check::Checked;
 use piton_linker::{layout, word_numbers};
 use piton_machine::{State, Stepped};
 use piton_show::program_name;
+use piton_words::Word;
 use stack_text::{Memory, Name};
 use std::alloc::Global;
 use std::marker::Model;
@@ -43,11 +46,14 @@ impl PitonLevel {
     ghost use Rattle.piton_machine.specs.Addresses.{numbers};
     ghost use Rattle.piton_machine.specs.Fits.{system_in};
     ghost use Rattle.piton_machine.specs.Seen.{IsSeen};
-    ghost use Rattle.piton_machine.specs.Placed.{placed, addresses_of};
+    ghost use Rattle.piton_machine.specs.Placed.{address_of_place, placed, addresses_of};
+    ghost use Rattle.piton_machine.specs.State.{locals_of};
     ghost use Rattle.piton_show.specs.NamedWords.{program_name};
     ghost use Rattle.level_debuggers.specs.Steps.{IsAdvance};
+    ghost use Rattle.level_debuggers.specs.Levels.{IsRunner, Piton, level_of};
     ghost use Rattle.level_debuggers.specs.PitonLevels.{piton_listing, piton_next, piton_over};
-    ghost use Rattle.level_debuggers.specs.PitonReadings.{area_words, element_numbers, is_readable, piton_reading_of, piton_up};
+    ghost use Rattle.level_debuggers.specs.PitonReadings.{area_words, element_numbers, is_covered, piton_at, piton_end, piton_reading_of, piton_up};
+    ghost use Rattle.level_debuggers.specs.Standings.{standing_of};
 
     pub(crate) fn new(checked: Checked, image: Image, state: State) -> PitonLevel
         requires seen { IsSeen (system_in checked) state }
@@ -58,6 +64,18 @@ impl PitonLevel {
             checked,
             image,
             state,
+        }
+    }
+
+    /// The run as a session takes it.
+    pub(crate) fn into_runner(self) -> Runner
+        ensures level { level_of result ≡ Piton self }
+        ensures is { IsRunner result }
+    {
+        Runner::Piton {
+            checked: self.checked,
+            image: self.image,
+            state: self.state,
         }
     }
 
@@ -120,12 +138,12 @@ impl PitonLevel {
         word_numbers(alloc, &self.checked, &words)
     }
 
-    /// Whether there is something to read.
-    fn is_readable(&self, elements: &[u32]) -> bool
+    /// Whether the stack has an element for each item of the image's slots.
+    fn is_covered(&self, elements: &[u32]) -> bool
         requires { elements.now ≡ element_numbers (system_in self.now.checked) self.now.seen.state }
-        ensures { result ≡ is_readable self.now }
+        ensures { result ≡ is_covered self.now }
     {
-        self.is_over() && covers_all(layout(&self.checked).end, elements, &self.image.slots)
+        covers_all(layout(&self.checked).end, elements, &self.image.slots)
     }
 
     /// What the state says of the variables.
@@ -148,20 +166,63 @@ impl PitonLevel {
     }
 
     /// At the end what the state says of the variables, as lines; where that cannot be read `no mark`.
-    #[tactic(auto, unfolding(crate::specs::PitonReadings::piton_up))]
-    pub(crate) fn up(&self, alloc: Global) -> Result<Vec<u8>, Memory>
-        ensures { IfOk result (λ text. text.items ≡ piton_up self.now) }
+    fn end(&self, alloc: Global) -> Result<Vec<u8>, Memory>
+        ensures { IfOk result (λ text. text.items ≡ piton_end self.now) }
     {
-        if !self.is_over() {
-            return no_mark(alloc);
-        }
         let elements = self.elements(alloc)?;
-        if !self.is_readable(&elements) {
+        if !self.is_covered(&elements) {
             return no_mark(alloc);
         }
         let reading = self.reading(alloc, &elements)?;
         let mut text = Vec::new(alloc);
         push_reading(alloc, &mut text, &self.image, &reading)?;
         Ok(text)
+    }
+
+    /// The address of the state's place.
+    fn address(&self, alloc: Global) -> Result<u32, Memory>
+        ensures { let state = self.now.seen.state in
+            IfOk result (λ address. address ≡ address_of_place (system_in self.now.checked) state.program state.place) }
+    {
+        let (program, place) = self.state.at();
+        let numbers = word_numbers(alloc, &self.checked, &[Word::Pc { program, place }])?;
+        match numbers.first() {
+            Some(address) => Ok(*address),
+            None => unreachable!(),
+        }
+    }
+
+    /// The numbers of the locals of the newest frame.
+    fn locals(&self, alloc: Global) -> Result<Vec<u32>, Memory>
+        ensures { IfOk result (λ made. made.items
+            ≡ numbers (addresses_of (system_in self.now.checked)) (locals_of self.now.seen.state.frames)) }
+    {
+        word_numbers(alloc, &self.checked, self.state.locals())
+    }
+
+    /// Where the state stands.
+    fn standing(&self, alloc: Global) -> Result<PitonAt, Memory>
+        ensures { IfOk result (λ run. standing_of run ≡ piton_at (system_in self.now.checked) self.now.seen.state) }
+    {
+        Ok(PitonAt {
+            address: self.address(alloc)?,
+            start: layout(&self.checked).areas_start,
+            areas: self.area_numbers(alloc)?,
+            locals: self.locals(alloc)?,
+            elements: self.elements(alloc)?,
+        })
+    }
+
+    /// What the state says of the variables, as lines: at the end of those of the image's slots, and before it of those of
+    /// the procedure at whose mark it stands; elsewhere, and where that cannot be read, `no mark`.
+    #[tactic(auto, unfolding(crate::specs::PitonReadings::piton_up))]
+    pub(crate) fn up(&self, alloc: Global) -> Result<Vec<u8>, Memory>
+        ensures { IfOk result (λ text. text.items ≡ piton_up self.now) }
+    {
+        if self.is_over() {
+            return self.end(alloc);
+        }
+        let standing = self.standing(alloc)?;
+        mark_text(alloc, read_from(alloc, &standing, &self.image)?)
     }
 }

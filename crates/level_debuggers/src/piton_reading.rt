@@ -1,4 +1,4 @@
-//! What the end of a run of Piton's machine says of variables.
+//! What a run of Piton's machine says of variables.
 
 ghost use Rattle.std.specs.Prelude.{◌≡◌, ◌≤◌, IfOk, length, map, unwrap_or};
 ghost use Rattle.std.specs.List.{list_all};
@@ -74,19 +74,23 @@ pub(crate) fn variables(
     Ok(variables)
 }
 
-/// The number at an address, where the first of these stands at `start`; 0 where there is none.
+/// The number at an address, where the first of these stands at `start`.
 #[tactic(auto, unfolding(fm_machine::specs::State::word_at))]
-fn number_at(start: u64, numbers: &[u32], address: u32) -> u32
-    ensures { result ≡ unwrap_or (word_at start numbers.now address) 0 }
+pub(crate) fn number_there(start: u64, numbers: &[u32], address: u32) -> Option<u32>
+    ensures { result ≡ word_at start numbers.now address }
 {
     let address = u64::from(address);
     if address < start {
-        return 0;
+        return None;
     }
-    numbers
-        .get((address - start) as usize)
-        .copied()
-        .unwrap_or(0)
+    numbers.get((address - start) as usize).copied()
+}
+
+/// The number at an address, where the first of these stands at `start`; 0 where there is none.
+fn number_at(start: u64, numbers: &[u32], address: u32) -> u32
+    ensures { result ≡ unwrap_or (word_at start numbers.now address) 0 }
+{
+    number_there(start, numbers, address).unwrap_or(0)
 }
 
 /// The condition that the number at an image's condition address says, where the first of these stands at `start`.

@@ -31,6 +31,7 @@ fn is_same(rule: Rule, other: Rule) -> bool
 {
     match (rule, other) {
         (Rule::Count, Rule::Count) => true,
+        (Rule::Cost, Rule::Cost) => true,
         (Rule::Last, Rule::Last) => true,
         (Rule::Peak, Rule::Peak) => true,
         _ => false,

@@ -148,7 +148,7 @@ impl Session {
     ///
     /// # Errors
     ///
-    /// Out of memory: the steps that were made stand.
+    /// Out of memory: the steps that were made stand, and a further call goes on from them (`sessions_go_on`).
     pub fn step(&mut self, alloc: Global, n: u64) -> Result<SessionRun, Memory>
         requires { IsSession self.old }
         ensures ran { IfOk result (λ run. stepped n (session_of (λ w. watching (rule_of w) (tally_of w)) self.old)
@@ -196,8 +196,12 @@ impl Session {
 
     /// What the run says of the variables of its source, as lines. At the level of Micro-Gypsy: `top`. At the end of a run
     /// of the FM9001, and at that of a run of Piton whose stack has an element for each item of the image's slots: the
-    /// condition and the variables, as a report has them. Elsewhere: `no mark`. In a run of Piton the condition's word is
-    /// the one that the areas have at the image's condition address, and 0 where they have none there.
+    /// condition and the variables, as a report has them. In a run of Piton the condition's word is then the one that the
+    /// areas have at the image's condition address, and 0 where they have none there.
+    ///
+    /// Where a run of the FM9001 or of Piton stands at a mark of the image before its end: the procedure and the place, the
+    /// condition and the procedure's variables, as `report_at` of `display_maps` has them. Elsewhere, and where a word that
+    /// this needs is not there: `no mark`.
     ///
     /// The only error is out of memory.
     pub fn up(&self, alloc: Global) -> Result<Vec<u8>, Memory>
@@ -205,5 +209,14 @@ impl Session {
             IfOk result (λ text. text.items ≡ up_text session.level) }
     {
         self.level.up(alloc)
+    }
+
+    /// Hands the run back as it stands: a session can begin with it again. Each watch, waiting or attached, is dropped. It
+    /// takes no memory.
+    pub fn finish(self) -> Runner
+        ensures level { level_of result ≡ (session_of (λ w. watching (rule_of w) (tally_of w)) self).level }
+        ensures is { IsSession self → IsRunner result }
+    {
+        self.level.into_runner()
     }
 }

@@ -40,6 +40,7 @@ pub(crate) fn push_tally(
     let (count, peak) = (tally.count, tally.peak);
     let line = match rule {
         Rule::Count => format!(in alloc; "count {count}\n")?,
+        Rule::Cost => format!(in alloc; "cost {count}\n")?,
         Rule::Peak => format!(in alloc; "peak {peak}\n")?,
         Rule::Last => return push_last(alloc, text, tally),
     };

@@ -19,6 +19,7 @@ fn rule_of_word(watch: WatchWord) -> Rule
 {
     match watch {
         WatchWord::Count => Rule::Count,
+        WatchWord::Cost => Rule::Cost,
         WatchWord::Last => Rule::Last,
         WatchWord::Peak => Rule::Peak,
     }
@@ -59,6 +60,7 @@ fn attached_line(watch: WatchWord) -> &'static [u8]
 {
     match watch {
         WatchWord::Count => b"attached count\n",
+        WatchWord::Cost => b"attached cost\n",
         WatchWord::Last => b"attached last\n",
         WatchWord::Peak => b"attached peak\n",
     }

@@ -5,6 +5,8 @@
 pub enum Rule {
     /// Their number.
     Count,
+    /// What they cost together.
+    Cost,
     /// The places of the latest eight.
     Last,
     /// The greatest depth.
@@ -25,7 +27,7 @@ pub struct Event {
 /// What a watch has kept.
 #[derive(Clone, Copy, Debug, PartialEq, Eq)]
 pub struct Tally {
-    /// How many events there were. It stays at 2^64 - 1.
+    /// How many events there were; of a watch of `Rule::Cost`, what they cost together. It stays at 2^64 - 1.
     pub count: u64,
     /// The greatest depth, of a watch of `Rule::Peak`.
     pub peak: u32,

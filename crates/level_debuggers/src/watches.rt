@@ -56,6 +56,49 @@ impl Watch for CountWatch {
     }
 }
 
+/// Adds up what the events cost.
+#[derive(Drop)]
+pub struct CostWatch {
+    tally: Tally,
+}
+
+impl Model for CostWatch {
+    ghost use Rattle.level_debuggers.specs.declared.watch.Tally.{Tally};
+
+    ghost Value = { Tally };
+
+    ghost view = { λ watch. watch.tally };
+}
+
+impl CostWatch {
+    /// One that was told nothing.
+    pub fn new() -> CostWatch
+        ensures { result ≡ no_events }
+    {
+        CostWatch { tally: NO_EVENTS }
+    }
+}
+
+impl Watch for CostWatch {
+    ghost use Rattle.level_debuggers.specs.declared.watch.Rule.TheVariants.{Cost};
+
+    ghost rule_of = { λ _. Cost };
+
+    ghost tally_of = { λ tally. tally };
+
+    fn rule(&self) -> Rule {
+        Rule::Cost
+    }
+
+    fn note(&mut self, event: &Event) {
+        self.tally.count = self.tally.count.saturating_add(event.cost);
+    }
+
+    fn tally(&self) -> Tally {
+        self.tally
+    }
+}
+
 /// Keeps the greatest depth.
 #[derive(Drop)]
 pub struct PeakWatch {

@@ -1,0 +1,103 @@
+-- A walk makes the steps of what the run is a run of.
+use Rattle.std.proofs.Common.{◌≡◌, ◌≢◌, ◌+◌, ◌<◌, ◌^◌, ℕ, zero, suc, Bool, cond, List, [], ◌∷◌, length, Result, Ok, Err, refl, ap, subst, ◌∙◌, arith}
+use Rattle.std.proofs.lemmas.Bool.{ne_eqb}
+use Rattle.fm_machine.specs.State as machine
+use Rattle.fm_machine.specs.Run.{Avoids, fm_run, pc_of}
+use Rattle.fm_machine.specs.Step.{fm_step, then_on}
+use Rattle.fm_machine.specs.declared.fault.Outside.{Outside}
+use Rattle.piton_check.specs.Instruction.{SystemView}
+use Rattle.piton_machine.specs.declared.error_kind.ErrorKind.{ErrorKind}
+use Rattle.piton_machine.specs.Fits.{system_in}
+use Rattle.piton_machine.specs.Law.{Steps, none, more, advanced}
+use Rattle.piton_machine.specs.Seen.{Seen, saturated, seen_after, seen_from, seen_step}
+use Rattle.piton_machine.specs.State.{Frame, PitonState}
+use Rattle.piton_machine.specs.Step.{piton_step, step_cost}
+use Rattle.piton_machine.specs.Views as views
+use Rattle.level_debuggers.specs.declared.watch.Event.{Event}
+use Rattle.level_debuggers.specs.FmLevels.{FmLevelOf, fm_after, fm_event}
+use Rattle.level_debuggers.specs.Levels.{LevelOf, Piton, Fm, lifted, next_of}
+use Rattle.level_debuggers.specs.PitonLevels.{PitonLevelOf, piton_after, piton_event, piton_from}
+use Rattle.level_debuggers.specs.RunWalks.{WalksTo, MachinesWalk, SystemsWalk}
+use Rattle.level_debuggers.specs.Steps.{Over, Makes}
+use Rattle.level_debuggers.specs.Walks.{Walk, with_event, walk_on, walk}
+
+-- one step, and the others
+walks_on : (n : ℕ) (level after to : LevelOf) (event : Event) → next_of level ≡ Makes event after → WalksTo n after to → WalksTo (suc n) level to
+unfolding walk
+walks_on n level after to event is rest =
+    let first : walk (suc n) level ≡ with_event event (walk n after) = ap (walk_on level (walk n)) is in
+    record { whole = ap (λ (w : Walk). length w.events) first ∙ ap suc rest.whole; leads = ap (λ (w : Walk). w.level) first ∙ rest.leads }
+
+walks_none : (level : LevelOf) → WalksTo 0 level level
+unfolding walk
+walks_none level = record { whole = refl; leads = refl }
+
+-- ---- of the processor
+
+fm_makes : (run : FmLevelOf) (u : machine.Fm) → pc_of run.state ≢ run.image.final_pc → fm_step run.state ≡ Ok u → next_of (Fm run) ≡ Makes (fm_event run) (Fm (record run { state = u }))
+fm_makes run u apart step =
+    ap (λ (b : Bool). lifted Fm (cond b Over (fm_after run (fm_step run.state)))) (ne_eqb (pc_of run.state) run.image.final_pc apart)
+    ∙ ap (λ (r : Result machine.Fm Outside). lifted Fm (fm_after run r)) step
+
+same_state : (s t : machine.Fm) → let r : Result machine.Fm Outside = Ok s in r ≡ Ok t → s ≡ t
+same_state s t e = cc
+
+machines_by : (n : ℕ) (run : FmLevelOf) (t : machine.Fm) (r : Result machine.Fm Outside) → fm_step run.state ≡ r → then_on r (fm_run n) ≡ Ok t → Avoids run.state run.image.final_pc (suc n)
+    → ((u : machine.Fm) → fm_run n u ≡ Ok t → Avoids u run.image.final_pc n → WalksTo n (Fm (record run { state = u })) (Fm (record run { state = t })))
+    → WalksTo (suc n) (Fm run) (Fm (record run { state = t }))
+unfolding fm_run
+machines_by n run t (Ok u) is rest apart later =
+    walks_on n (Fm run) (Fm (record run { state = u })) (Fm (record run { state = t })) (fm_event run) (fm_makes run u (apart 0 run.state (omega arith) refl) is)
+    (later u rest (λ j v lt e. apart (suc j) v (omega (arith, lt)) (ap (λ (r : Result machine.Fm Outside). then_on r (fm_run j)) is ∙ e)))
+machines_by n run t (Err fault) is rest apart later = absurd cc
+
+pub machines_walk : MachinesWalk
+unfolding fm_run
+machines_walk zero run t made apart =
+    let same : run.state ≡ t = same_state run.state t made in
+    subst (λ (s : machine.Fm). WalksTo 0 (Fm run) (Fm (record run { state = s }))) same (walks_none (Fm run))
+machines_walk (suc n) run t made apart =
+    machines_by n run t (fm_step run.state) refl made apart (λ u rest avoids. machines_walk n (record run { state = u }) t rest avoids)
+
+-- ---- of Piton's machine
+
+piton_makes : (run : PitonLevelOf) (q : PitonState) (f : Frame) (fs frames : List Frame) → frames ≡ f ∷ fs → piton_step (system_in run.checked) run.seen.state ≡ Ok q →
+    lifted Piton (piton_from run frames) ≡ lifted Piton (piton_after run (seen_step (system_in run.checked) run.seen))
+piton_makes run q f fs [] e step = absurd cc
+piton_makes run q f fs (g ∷ gs) e step = refl
+
+seen_makes : (s : SystemView) (v : Seen) (q : PitonState) (f : Frame) (fs frames : List Frame) → frames ≡ f ∷ fs → piton_step s v.state ≡ Ok q → seen_from s v frames ≡ Ok (seen_after s v q)
+unfolding views.then_on
+seen_makes s v q f fs [] e step = absurd cc
+seen_makes s v q f fs (g ∷ gs) e step = ap (λ (r : Result PitonState ErrorKind). views.then_on r (λ q. Ok (seen_after s v q))) step
+
+system_makes : (run : PitonLevelOf) (q : PitonState) (f : Frame) (fs : List Frame) → run.seen.state.frames ≡ f ∷ fs → piton_step (system_in run.checked) run.seen.state ≡ Ok q →
+    next_of (Piton run) ≡ Makes (piton_event run) (Piton (record run { seen = seen_after (system_in run.checked) run.seen q }))
+system_makes run q f fs e step =
+    piton_makes run q f fs run.seen.state.frames e step
+    ∙ ap (λ (r : Result Seen ErrorKind). lifted Piton (piton_after run r)) (seen_makes (system_in run.checked) run.seen q f fs run.seen.state.frames e step)
+
+walks_from : (s : SystemView) (n cost : ℕ) (p q : PitonState) → Steps s n cost p q → (run : PitonLevelOf) → system_in run.checked ≡ s → run.seen.state ≡ p →
+    run.seen.steps < 2 ^ 64 → run.seen.counted < 2 ^ 64 → WalksTo n (Piton run) (Piton (record run { seen = advanced run.seen n cost q }))
+walks_from s n cost x y (none {p = p}) run same e a b =
+    let v : Seen = run.seen in
+    let steps : v.steps ≡ saturated (v.steps + 0) = omega arith in
+    let counted : v.counted ≡ saturated (v.counted + 0) = omega arith in
+    let seen : v ≡ advanced v 0 0 p = λ i. record { state = e i; ctrl = v.ctrl; temp = v.temp; steps = steps i; counted = counted i } in
+    subst (λ (w : Seen). WalksTo 0 (Piton run) (Piton (record run { seen = w }))) seen (walks_none (Piton run))
+walks_from s n cost x y (more {j = j} {n = m} {p = p} {q = p'} {r = q} f fs here step rest) run same e a b =
+    let v : Seen = run.seen in
+    let S : SystemView = system_in run.checked in
+    let step' : piton_step S v.state ≡ Ok p' = ap (λ (s : SystemView). piton_step s v.state) same ∙ ap (piton_step s) e ∙ step in
+    let w : Seen = seen_after S v p' in
+    let spent : step_cost S v.state ≡ step_cost s p = ap (λ (s : SystemView). step_cost s v.state) same ∙ ap (step_cost s) e in
+    let steps : saturated (saturated (v.steps + 1) + j) ≡ saturated (v.steps + suc j) = omega arith in
+    let counted : saturated (saturated (v.counted + step_cost S v.state) + m) ≡ saturated (v.counted + (step_cost s p + m)) = omega arith in
+    let seen : advanced w j m q ≡ advanced v (suc j) (step_cost s p + m) q = λ i. record { state = q; ctrl = v.ctrl; temp = v.temp; steps = steps i; counted = counted i } in
+    walks_on j (Piton run) (Piton (record run { seen = w })) (Piton (record run { seen = advanced v (suc j) (step_cost s p + m) q })) (piton_event run)
+    (system_makes run p' f fs (ap (λ (p : PitonState). p.frames) e ∙ here) step')
+    (subst (λ (u : Seen). WalksTo j (Piton (record run { seen = w })) (Piton (record run { seen = u }))) seen
+    (walks_from s j m p' q rest (record run { seen = w }) same refl (omega arith) (omega arith)))
+
+pub systems_walk : SystemsWalk
+systems_walk n cost run q steps a b = walks_from (system_in run.checked) n cost run.seen.state q steps run refl refl a b

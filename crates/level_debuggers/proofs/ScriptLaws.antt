@@ -1,0 +1,194 @@
+-- How far a script leads, and what is said at its lines of `up`.
+use Rattle.std.proofs.Common.{◌≡◌, ◌+◌, ℕ, zero, suc, Bool, false, cond, List, [], ◌∷◌, ◌++◌, length, Option, Some, None, refl, sym, ap, subst, ◌∙◌, arith, append_assoc}
+use Rattle.std.proofs.lemmas.Bool.{eq-eqb}
+use Rattle.std.proofs.lemmas.List.{append-nil}
+use Rattle.debug_script.specs.declared.command.Command.{Command}
+use Rattle.debug_script.specs.declared.command.Command.TheVariants as command
+use Rattle.debug_script.specs.declared.command.WatchWord.{WatchWord}
+use Rattle.debug_script.specs.declared.reading.Line.{Line}
+use Rattle.level_debuggers.specs.declared.script_end.ScriptEnd.{ScriptEnd}
+use Rattle.level_debuggers.specs.declared.script_end.ScriptEnd.TheVariants as end
+use Rattle.level_debuggers.specs.declared.session.SessionRun.{SessionRun}
+use Rattle.level_debuggers.specs.declared.session.SessionRun.TheVariants as run
+use Rattle.level_debuggers.specs.declared.watch.Tally.{Tally}
+use Rattle.level_debuggers.specs.Levels.{LevelOf, next_of, up_text}
+use Rattle.level_debuggers.specs.Steps.{Next, Over, Stops, Makes, is_over}
+use Rattle.level_debuggers.specs.Tallies.{Watching}
+use Rattle.level_debuggers.specs.Taken.{taken, attached_with, detached_with}
+use Rattle.level_debuggers.specs.Walks.{SessionOf, walk, walk_on, ends_by, refused_after, stepped}
+use Rattle.level_debuggers.specs.Transcripts.{Said, Followed, attach_with, detach_with, follow_on, followed, rule_of_word, run_end, run_text, said_by, said_to}
+use Rattle.level_debuggers.specs.ScriptSteps.{steps_asked, steps_of, up_line, stepped_lines, GoesOn, ScriptsWalk, UpIsSaid, StepsAreSaid, UpSaysMoment, TextStays}
+use Rattle.level_debuggers.proofs.WalkLaws.{walk_level}
+
+-- ---- one line
+
+-- no line ends a script as if all were carried out
+run_goes_on : (r : SessionRun) → run_end r ≡ Some end.Done → ⊥
+run_goes_on (run.Moved count) e = absurd cc
+run_goes_on (run.Ended count) e = absurd cc
+run_goes_on (run.Error kind program place after) e = absurd cc
+run_goes_on (run.Outside address after) e = absurd cc
+
+attach_goes_on : (number : ℕ) (word : WatchWord) (s : SessionOf) (o : Option SessionOf) → (attach_with number word s o).end ≡ Some end.Done → ⊥
+attach_goes_on number word s (Some after) e = absurd cc
+attach_goes_on number word s None e = absurd cc
+
+detach_goes_on : (number : ℕ) (word : WatchWord) (s : SessionOf) (o : Option (Tally × SessionOf)) → (detach_with number (rule_of_word word) s o).end ≡ Some end.Done → ⊥
+detach_goes_on number word s (Some found) e = absurd cc
+detach_goes_on number word s None e = absurd cc
+
+never_done : (number : ℕ) (c : Command) (s : SessionOf) → (said_by number c s).end ≡ Some end.Done → ⊥
+never_done number (command.Step count) s e = run_goes_on (stepped count s).run e
+never_done number command.Show s e = absurd cc
+never_done number command.Up s e = absurd cc
+never_done number (command.Attach word) s e = attach_goes_on number word s (attached_with s (taken (rule_of_word word) s.waiting)) e
+never_done number (command.Detach word) s e = detach_goes_on number word s (detached_with s (taken (rule_of_word word) s.attached)) e
+
+-- it leads the run as far as the steps that it asks for
+attach_stays : (number : ℕ) (word : WatchWord) (s : SessionOf) (o : Option (Watching × List Watching)) → (attach_with number word s (attached_with s o)).session.level ≡ s.level
+attach_stays number word s (Some found) = refl
+attach_stays number word s None = refl
+
+detach_stays : (number : ℕ) (word : WatchWord) (s : SessionOf) (o : Option (Watching × List Watching)) →
+    (detach_with number (rule_of_word word) s (detached_with s o)).session.level ≡ s.level
+detach_stays number word s (Some found) = refl
+detach_stays number word s None = refl
+
+line_walks : (number : ℕ) (c : Command) (s : SessionOf) → (said_by number c s).session.level ≡ (walk (steps_asked c) s.level).level
+unfolding walk
+line_walks number (command.Step count) s = refl
+line_walks number command.Show s = refl
+line_walks number command.Up s = refl
+line_walks number (command.Attach word) s = attach_stays number word s (taken (rule_of_word word) s.waiting)
+line_walks number (command.Detach word) s = detach_stays number word s (taken (rule_of_word word) s.attached)
+
+-- ---- all lines
+
+walks_by : (text : List ℕ) (said : Said) (e : Option ScriptEnd) (lines : List Line) (n : ℕ) (level : LevelOf) → (e ≡ Some end.Done → ⊥) → said.session.level ≡ (walk n level).level →
+    ((text : List ℕ) (s : SessionOf) → (followed text lines s).end ≡ end.Done → (followed text lines s).session.level ≡ (walk (steps_of lines) s.level).level) →
+    (follow_on text said e (λ text s. followed text lines s)).end ≡ end.Done →
+    (follow_on text said e (λ text s. followed text lines s)).session.level ≡ (walk (n + steps_of lines) level).level
+walks_by text said None lines n level goes here later done =
+    later (text ++ said.text) said.session done ∙ ap (λ (l : LevelOf). (walk (steps_of lines) l).level) here ∙ walk_level n (steps_of lines) level
+walks_by text said (Some e) lines n level goes here later done = absurd (goes (ap (λ (x : ScriptEnd). Some x) done))
+
+pub scripts_walk : ScriptsWalk
+unfolding followed walk
+scripts_walk text [] s done = refl
+scripts_walk text (first ∷ lines) s done =
+    walks_by text (said_to first s) (said_to first s).end lines (steps_asked first.command) s.level (never_done first.line first.command s) (line_walks first.line first.command s)
+    (λ text s. scripts_walk text lines s) done
+
+both_by : (text : List ℕ) (said : Said) (e : Option ScriptEnd) (lines more : List Line) → (e ≡ Some end.Done → ⊥) →
+    ((text : List ℕ) (s : SessionOf) → (followed text lines s).end ≡ end.Done → followed text (lines ++ more) s ≡ followed (followed text lines s).text more (followed text lines s).session) →
+    (follow_on text said e (λ text s. followed text lines s)).end ≡ end.Done →
+    follow_on text said e (λ text s. followed text (lines ++ more) s)
+    ≡ followed (follow_on text said e (λ text s. followed text lines s)).text more (follow_on text said e (λ text s. followed text lines s)).session
+both_by text said None lines more goes later done = later (text ++ said.text) said.session done
+both_by text said (Some e) lines more goes later done = absurd (goes (ap (λ (x : ScriptEnd). Some x) done))
+
+-- a script, and another behind it
+followed_both : (text : List ℕ) (lines more : List Line) (s : SessionOf) → (followed text lines s).end ≡ end.Done →
+    followed text (lines ++ more) s ≡ followed (followed text lines s).text more (followed text lines s).session
+unfolding followed
+followed_both text [] more s done = refl
+followed_both text (first ∷ lines) more s done =
+    both_by text (said_to first s) (said_to first s).end lines more (never_done first.line first.command s) (λ text s. followed_both text lines more s) done
+
+up_said : (text : List ℕ) (after : List Line) (number : ℕ) (s : SessionOf) → followed text (up_line number ∷ after) s ≡ followed (text ++ up_text s.level) after s
+unfolding followed
+up_said text after number s = refl
+
+pub up_is_said : UpIsSaid
+up_is_said text before after number s done =
+    let made : Followed = followed text before s in
+    followed_both text before (up_line number ∷ after) s done ∙ up_said made.text after number made.session
+    ∙ ap (λ (l : LevelOf). followed (made.text ++ up_text l) after made.session) (scripts_walk text before s done)
+
+-- ---- lines that ask for steps
+
+-- a step more was made, so the end was not reached
+not_over : (level : LevelOf) (k : ℕ) (next : Next LevelOf) → length (walk_on level (walk k) next).events ≡ suc k → is_over next ≡ false
+not_over level k Over e = absurd (omega arith)
+not_over level k (Stops stop) e = refl
+not_over level k (Makes event after) e = refl
+
+-- the first of them can be made, and then the others
+first_by : (m k : ℕ) (level : LevelOf) (next : Next LevelOf) →
+    ((start : LevelOf) → GoesOn (m + k) start → GoesOn m start × GoesOn k (walk m start).level) →
+    length (walk_on level (walk (m + k)) next).events ≡ suc (m + k) → is_over (next_of (walk_on level (walk (m + k)) next).level) ≡ false →
+    (length (walk_on level (walk m) next).events ≡ suc m) × (is_over (next_of (walk_on level (walk m) next).level) ≡ false) × GoesOn k (walk_on level (walk m) next).level
+first_by m k level Over later whole going = absurd (omega arith)
+first_by m k level (Stops stop) later whole going = absurd (omega arith)
+first_by m k level (Makes event after) later whole going =
+    let both = later after record { whole = omega arith; going = going } in
+    (ap suc both.0.whole, both.0.going, both.1)
+
+zero_goes : (k : ℕ) (level : LevelOf) → length (walk k level).events ≡ k → is_over (next_of (walk k level).level) ≡ false → is_over (next_of level) ≡ false
+unfolding walk
+zero_goes zero level whole going = going
+zero_goes (suc k) level whole going = not_over level k (next_of level) whole
+
+goes_both : (m k : ℕ) (level : LevelOf) → GoesOn (m + k) level → GoesOn m level × GoesOn k (walk m level).level
+unfolding walk
+goes_both zero k level h =
+    let same : 0 + k ≡ k = omega arith in
+    let all : GoesOn k level = subst (λ (n : ℕ). GoesOn n level) same h in
+    (record { whole = refl; going = zero_goes k level all.whole all.going }, all)
+goes_both (suc m) k level h =
+    let same : suc m + k ≡ suc (m + k) = omega arith in
+    let all : GoesOn (suc (m + k)) level = subst (λ (n : ℕ). GoesOn n level) same h in
+    let made = first_by m k level (next_of level) (λ start. goes_both m k start) all.whole all.going in
+    (record { whole = made.0; going = made.1 }, made.2)
+
+-- all of them were made
+moved_by : (n made steps : ℕ) (next : Next LevelOf) → made ≡ n → is_over next ≡ false → ends_by n made steps next ≡ run.Moved n
+moved_by n made steps Over e going = absurd cc
+moved_by n made steps (Stops stop) e going = ap (λ (b : Bool). cond b (run.Moved n) (refused_after steps stop)) (eq-eqb made n e)
+moved_by n made steps (Makes event after) e going = refl
+
+step_said_by : (text : List ℕ) (r : SessionRun) (n : ℕ) (s t : SessionOf) (lines : List Line) → r ≡ run.Moved n →
+    follow_on text record { text = run_text r; end = run_end r; session = t } (run_end r) (λ text s. followed text lines s) ≡ followed (text ++ run_text (run.Moved n)) lines t
+step_said_by text r n s t lines e =
+    ap (λ (x : SessionRun). follow_on text record { text = run_text x; end = run_end x; session = t } (run_end x) (λ text s. followed text lines s)) e
+
+one_said : (text : List ℕ) (number n : ℕ) (c : Command) (s : SessionOf) (lines : List Line) → c ≡ command.Step n → GoesOn n s.level →
+    follow_on text (said_by number c s) (said_by number c s).end (λ text s. followed text lines s) ≡ followed (text ++ run_text (run.Moved n)) lines (stepped n s).session
+one_said text number n c s lines e h =
+    ap (λ (x : Command). follow_on text (said_by number x s) (said_by number x s).end (λ text s. followed text lines s)) e
+    ∙ step_said_by text (stepped n s).run n s (stepped n s).session lines
+    (moved_by n (length (walk n s.level).events) (stepped n s).session.steps (next_of (walk n s.level).level) h.whole h.going)
+
+pub steps_are_said : StepsAreSaid
+unfolding followed
+steps_are_said text [] s ask h = (refl, sym (append-nil text))
+steps_are_said text (first ∷ lines) s ask h =
+    let n : ℕ = steps_asked first.command in
+    let both = goes_both n (steps_of lines) s.level h in
+    let said = one_said text first.line n first.command s lines ask.0 both.0 in
+    let rest = steps_are_said (text ++ run_text (run.Moved n)) lines (stepped n s).session ask.1 both.1 in (
+      ap (λ (made : Followed). made.end) said ∙ rest.0,
+      ap (λ (made : Followed). made.text) said ∙ rest.1 ∙ append_assoc text (run_text (run.Moved n)) (stepped_lines lines),
+    )
+
+pub up_says_moment : UpSaysMoment
+up_says_moment text said before after number s ask h =
+    let made : Followed = followed text before s in
+    let steps = steps_are_said text before s ask h.goes in
+    up_is_said text before after number s steps.0
+    ∙ ap (λ (t : List ℕ). followed (t ++ up_text (walk (steps_of before) s.level).level) after made.session) steps.1
+    ∙ ap (λ (t : List ℕ). followed (text ++ stepped_lines before ++ t) after made.session) h.says
+
+-- ---- what was said stays
+
+stays_by : (text : List ℕ) (said : Said) (e : Option ScriptEnd) (go : List ℕ → SessionOf → Followed) → ((t : List ℕ) (s : SessionOf) → (more : List ℕ) × ((go t s).text ≡ t ++ more)) →
+    (more : List ℕ) × ((follow_on text said e go).text ≡ text ++ more)
+stays_by text said None go later =
+    let rest = later (text ++ said.text) said.session in
+    (said.text ++ rest.0, rest.1 ∙ append_assoc text said.text rest.0)
+stays_by text said (Some e) go later = (said.text, refl)
+
+pub text_stays : TextStays
+unfolding followed
+text_stays text [] s = ([], sym (append-nil text))
+text_stays text (first ∷ lines) s = stays_by text (said_to first s) (said_to first s).end (λ text s. followed text lines s) (λ t s. text_stays t lines s)

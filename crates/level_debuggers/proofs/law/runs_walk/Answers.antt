@@ -1,0 +1,8 @@
+use Rattle.level_debuggers.proofs.RunWalkLaws.{machines_walk, systems_walk}
+use Rattle.level_debuggers.proofs.law.runs_walk.Goals as goal
+
+pub returns-clause-machines : goal.returns-clause-machines
+returns-clause-machines c = machines_walk
+
+pub returns-clause-systems : goal.returns-clause-systems
+returns-clause-systems c = systems_walk

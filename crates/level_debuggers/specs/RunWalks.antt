@@ -1,0 +1,27 @@
+-- A walk makes the steps of what the run is a run of.
+use Rattle.std.specs.Prelude.{◌≡◌, ◌^◌, ◌<◌, ℕ, Ok, length}
+use Rattle.fm_machine.specs.State as machine
+use Rattle.fm_machine.specs.Run.{Avoids, fm_run}
+use Rattle.piton_machine.specs.Fits.{system_in}
+use Rattle.piton_machine.specs.Law.{Steps, advanced}
+use Rattle.piton_machine.specs.State.{PitonState}
+use Rattle.level_debuggers.specs.FmLevels.{FmLevelOf}
+use Rattle.level_debuggers.specs.Levels.{LevelOf, Piton, Fm}
+use Rattle.level_debuggers.specs.PitonLevels.{PitonLevelOf}
+use Rattle.level_debuggers.specs.Walks.{walk}
+
+-- so many steps can be made, and lead there
+pub record WalksTo (n : ℕ) (level to : LevelOf) : Type 0 where
+  pub whole : length (walk n level).events ≡ n
+  pub leads : (walk n level).level ≡ to
+
+-- of the processor, inside the window and not from the final program counter on
+abbrev pub MachinesWalk : Type 0
+MachinesWalk = (n : ℕ) (run : FmLevelOf) (t : machine.Fm) → fm_run n run.state ≡ Ok t → Avoids run.state run.image.final_pc n →
+    WalksTo n (Fm run) (Fm (record run { state = t }))
+
+-- of Piton's machine, none of them an error or from a halted state
+abbrev pub SystemsWalk : Type 0
+SystemsWalk = (n cost : ℕ) (run : PitonLevelOf) (q : PitonState) → Steps (system_in run.checked) n cost run.seen.state q →
+    run.seen.steps < 2 ^ 64 → run.seen.counted < 2 ^ 64 →
+    WalksTo n (Piton run) (Piton (record run { seen = advanced run.seen n cost q }))
