@@ -30,6 +30,7 @@ plain_fits : (base size final_pc start : ℕ) (ws : List ℕ) → is_size base s
 unfolding all_after
 plain_fits base size final_pc start ws sized inside few begins fit = record {
   limits = from_limits (plain_image base size final_pc start ws) (record {
+    version = refl;
     window = and_from (is_size base size) (is_inside base size final_pc) sized inside;
     registers = refl;
     condition_address = refl;
@@ -38,6 +39,7 @@ plain_fits base size final_pc start ws sized inside few begins fit = record {
     slot_count = refl;
     slots = refl;
     words = le-leb (length ws) size few;
+    tables = refl;
   });
   registers = and_from (nat_lt start (2 ^ 32)) true begins refl;
   words = fit;

@@ -29,7 +29,7 @@ use Rattle.fm_asm.specs.Statements.{Statement, base, size, final, start, word, i
 use Rattle.fm_asm.specs.Lines.{Line, is_plain_line, text_of}
 use Rattle.fm_asm.specs.Sources.{word_count}
 use Rattle.fm_asm.specs.Labels.{offset_of, number_of}
-use Rattle.fm_asm.specs.Printing.{are_clear, has_no_names, are_zero_but_last, is_zero, ends_in_zero, is_plain, plain_image, start_of, is_exact, word_text, word_line, assembly_text}
+use Rattle.fm_asm.specs.Printing.{are_clear, has_no_names, has_no_tables, are_zero_but_last, is_zero, ends_in_zero, is_plain, plain_image, start_of, is_exact, word_text, word_line, assembly_text}
 use Rattle.fm_asm.specs.Assembly.{says, SpellsValue, decimal as in_decimal, hexadecimal, SpellsStatement, says_base, says_size, says_final, says_start, says_word, says_instruction, SpellsSaid, nothing, statement_alone, IsLine, AreLines, no_line, one_line, statements_of, labels_of, are_distinct, statement_word, IsAssembly}
 use Rattle.fm_asm.specs.Answers.{assembly_of}
 use Rattle.fm_asm.proofs.CutLaws.{lacks}
@@ -284,10 +284,14 @@ kept_words (w ∷ v ∷ ws) h =
 plain_is : (image : ImageOf) → IsTrue (is_plain image) → length image.registers ≡ 16 → image ≡ plain_image image.base image.size image.final_pc (start_of image) (without_trailing 0 image.words)
 unfolding is_plain
 plain_is image h sixteen =
-    let a = and_parts (has_no_names image && are_clear image.flags && are_zero_but_last image.registers) (not (ends_in_zero image.words)) h in
-    let b = and_parts (has_no_names image && are_clear image.flags) (are_zero_but_last image.registers) a.0 in
-    let c = and_parts (has_no_names image) (are_clear image.flags) b.0 in
-    let d = and_parts (is_none image.condition_address && length image.conditions == 0) (length image.slots == 0) c.0 in
+    let versioned = image.version == 2 in
+    let a = and_parts (versioned && has_no_names image && has_no_tables image && are_clear image.flags && are_zero_but_last image.registers) (not (ends_in_zero image.words)) h in
+    let b = and_parts (versioned && has_no_names image && has_no_tables image && are_clear image.flags) (are_zero_but_last image.registers) a.0 in
+    let c = and_parts (versioned && has_no_names image && has_no_tables image) (are_clear image.flags) b.0 in
+    let f = and_parts (versioned && has_no_names image) (has_no_tables image) c.0 in
+    let g = and_parts versioned (has_no_names image) f.0 in
+    let t = and_parts (length image.procedures == 0) (length image.marks == 0) f.1 in
+    let d = and_parts (is_none image.condition_address && length image.conditions == 0) (length image.slots == 0) g.1 in
     let e = and_parts (is_none image.condition_address) (length image.conditions == 0) d.0 in
     let registers : image.registers ≡ replicate 15 0 ++ slice_index image.registers 15 ∷ [] = zeros 15 image.registers (omega (arith, sixteen)) b.1 in
     let flags : image.flags ≡ no_flags = clear image.flags.c image.flags.v image.flags.n image.flags.z c.1 in
@@ -295,16 +299,22 @@ plain_is image h sixteen =
     let conditions = nothing_there image.conditions e.1 in
     let slots = nothing_there image.slots d.1 in
     let words = sym (kept_words image.words a.1) in
-    λ t. record {
+    let version : image.version ≡ 2 = eqb-true image.version 2 g.0 in
+    let procedures = nothing_there image.procedures t.0 in
+    let marks = nothing_there image.marks t.1 in
+    λ i. record {
+      version = version i;
       base = image.base;
       size = image.size;
       final_pc = image.final_pc;
-      registers = registers t;
-      flags = flags t;
-      condition_address = address t;
-      conditions = conditions t;
-      slots = slots t;
-      words = words t;
+      registers = registers i;
+      flags = flags i;
+      condition_address = address i;
+      conditions = conditions i;
+      slots = slots i;
+      words = words i;
+      procedures = procedures i;
+      marks = marks i;
     }
 
 words_stated : (b : ℕ) (known : List ℕ → Option ℕ) (ws : List ℕ) → map (statement_word b known) (map (λ p. p.says_so) (word_prints ws)) ≡ map (λ w. Some w) ws

@@ -19,6 +19,10 @@ are_clear f = not (f.c || f.v || f.n || f.z)
 abbrev pub has_no_names : ImageOf → Bool
 has_no_names image = is_none image.condition_address && length image.conditions == 0 && length image.slots == 0
 
+-- there is no procedure and no mark
+abbrev pub has_no_tables : ImageOf → Bool
+has_no_tables image = length image.procedures == 0 && length image.marks == 0
+
 -- all registers but r15 are zero
 abbrev pub are_zero_but_last : List ℕ → Bool
 are_zero_but_last registers = list_all (λ word. word == 0) (take 15 registers)
@@ -31,13 +35,16 @@ is_zero (Some word) = word == 0
 abbrev pub ends_in_zero : List ℕ → Bool
 ends_in_zero words = is_zero (slice_get words (length words - 1))
 
--- assembly text tells all of the image
+-- assembly text tells all of the image, which is one of version 2
 unfoldable pub is_plain : ImageOf → Bool
-is_plain image = has_no_names image && are_clear image.flags && are_zero_but_last image.registers && not (ends_in_zero image.words)
+is_plain image =
+    image.version == 2 && has_no_names image && has_no_tables image
+    && are_clear image.flags && are_zero_but_last image.registers && not (ends_in_zero image.words)
 
 -- the plain image with this window, these addresses at which a run ends and starts, and these words
 abbrev pub plain_image : ℕ → ℕ → ℕ → ℕ → List ℕ → ImageOf
 plain_image base size final_pc start words = record {
+  version = 2;
   base = base;
   size = size;
   final_pc = final_pc;
@@ -47,6 +54,8 @@ plain_image base size final_pc start words = record {
   conditions = [];
   slots = [];
   words = words;
+  procedures = [];
+  marks = [];
 }
 
 -- the address at which a run starts

@@ -17,6 +17,7 @@ use crate::fault::AsmFault;
 use crate::judging::{judge, number_of};
 use crate::labels::labels_of;
 use crate::line::Line;
+use crate::printing::VERSION;
 use crate::source::{Source, source_in};
 use crate::statement::Statement;
 use fm_image::Image;
@@ -159,6 +160,7 @@ fn image(
 {
     let registers = Vec::from_slice(alloc, &[0, 0, 0, 0, 0, 0, 0, 0, 0, 0, 0, 0, 0, 0, 0, start])?;
     Ok(Image {
+        version: VERSION,
         base,
         size,
         final_pc,
@@ -168,6 +170,8 @@ fn image(
         conditions: Vec::new(alloc),
         slots: Vec::new(alloc),
         words,
+        procedures: Vec::new(alloc),
+        marks: Vec::new(alloc),
     })
 }
 

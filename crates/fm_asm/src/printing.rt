@@ -4,7 +4,7 @@ ghost use Rattle.std.specs.Prelude.{◌≡◌, ◌<◌, ◌^◌, ◌++◌, IfOk,
 ghost use Rattle.std.specs.List.{flat_map};
 ghost use Rattle.fm_image.specs.Image.{is_image};
 ghost use Rattle.fm_image.specs.Spelling.{are_words};
-ghost use Rattle.fm_asm.specs.Printing.{are_clear, has_no_names, are_zero_but_last, ends_in_zero, is_plain, start_of, header_text, is_exact, word_line, assembly_text};
+ghost use Rattle.fm_asm.specs.Printing.{are_clear, has_no_names, has_no_tables, are_zero_but_last, ends_in_zero, is_plain, start_of, header_text, is_exact, word_line, assembly_text};
 ghost use Rattle.fm_asm.specs.Assembly.{IsAssembly};
 
 use fm_image::Image;
@@ -12,6 +12,9 @@ use fm_show::{disassemble, hex_digits};
 use fm_words::{Flags, decode, encode};
 use stack_text::Memory;
 use std::alloc::Global;
+
+/// The version of images that are assembled and printed.
+pub(crate) const VERSION: u32 = 2;
 
 /// Whether no flag is set.
 fn are_clear(flags: Flags) -> bool
@@ -25,6 +28,13 @@ fn has_no_names(image: &Image) -> bool
     ensures { result ≡ has_no_names image.now }
 {
     image.condition_address.is_none() && image.conditions.is_empty() && image.slots.is_empty()
+}
+
+/// Whether there is no procedure and no mark.
+fn has_no_tables(image: &Image) -> bool
+    ensures { result ≡ has_no_tables image.now }
+{
+    image.procedures.is_empty() && image.marks.is_empty()
 }
 
 /// Whether all registers but r15 are zero.
@@ -44,13 +54,16 @@ fn ends_in_zero(words: &[u32]) -> bool
     }
 }
 
-/// Whether assembly text tells all of an image: there is no condition word, no name of a condition and no slot, no flag is
-/// set, each register but r15 is zero, and the last word isn't. It takes no memory.
+/// Whether assembly text tells all of an image: it is of version 2, there is no condition word, no name of a condition, no
+/// slot, no procedure and no mark, no flag is set, each register but r15 is zero, and the last word isn't. It takes no
+/// memory.
 #[tactic(auto, unfolding(crate::specs::Printing::is_plain))]
 pub fn plain(image: &Image) -> bool
     ensures { result ≡ is_plain image.now }
 {
-    has_no_names(image)
+    image.version == VERSION
+        && has_no_names(image)
+        && has_no_tables(image)
         && are_clear(image.flags)
         && are_zero_but_last(&image.registers)
         && !ends_in_zero(&image.words)

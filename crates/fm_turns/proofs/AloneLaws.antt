@@ -71,25 +71,25 @@ round_of_end_last count turn lengths before within =
 -- ---- how a task stands that isn't at its final pc
 
 -- it still runs: no round was made, or its turns have not come to the budget
-record Runs (budget : ℕ) (lengths : List ℕ) : Type 0 where
-  within : sum lengths ≤ budget
-  before : 1 ≤ length lengths → sum lengths < budget
-  state : running_or_spent_alone budget lengths ≡ Running (sum lengths)
+pub record Runs (budget : ℕ) (lengths : List ℕ) : Type 0 where
+  pub within : sum lengths ≤ budget
+  pub before : 1 ≤ length lengths → sum lengths < budget
+  pub state : running_or_spent_alone budget lengths ≡ Running (sum lengths)
 
-record IsSpent (budget : ℕ) (lengths : List ℕ) : Type 0 where
-  some : 1 ≤ length lengths
-  within : budget ≤ sum lengths
-  state : running_or_spent_alone budget lengths ≡ Spent budget (round_reaching budget lengths)
+pub record IsSpent (budget : ℕ) (lengths : List ℕ) : Type 0 where
+  pub some : 1 ≤ length lengths
+  pub within : budget ≤ sum lengths
+  pub state : running_or_spent_alone budget lengths ≡ Spent budget (round_reaching budget lengths)
 
 no_sum : (lengths : List ℕ) → length lengths ≡ 0 → sum lengths ≡ 0
 no_sum [] e = refl
 no_sum (x ∷ xs) e = absurd (omega arith)
 
-data Short (budget : ℕ) (lengths : List ℕ) : Type 0 where
+pub data Short (budget : ℕ) (lengths : List ℕ) : Type 0 where
   runs : Runs budget lengths → Short budget lengths
   spent : IsSpent budget lengths → Short budget lengths
 
-short : (budget : ℕ) (lengths : List ℕ) → Short budget lengths
+pub short : (budget : ℕ) (lengths : List ℕ) → Short budget lengths
 short budget lengths = by (eqb (length lengths) 0) (ltb (sum lengths) budget) refl refl
   where
     by : (b c : Bool) → eqb (length lengths) 0 ≡ b → ltb (sum lengths) budget ≡ c → Short budget lengths

@@ -5,5 +5,6 @@ pub mod OwnMachines
 -- what is promised
 pub mod Alone
 pub mod Readings
+pub mod EqualTurns
 -- a window in a wider one
 pub mod Windows

@@ -4,6 +4,7 @@ ghost use Rattle.fm_turns.specs.Windows.{StepsAlike, RunsAlike};
 ghost use Rattle.fm_turns.specs.Turns.{OverIsOver};
 ghost use Rattle.fm_turns.specs.Alone.{AloneIsRun, AloneIsCounted, AloneIsLeast, AloneIsWhole, RoundsAsAlone};
 ghost use Rattle.fm_turns.specs.Readings.{EachAsAlone};
+ghost use Rattle.fm_turns.specs.EqualTurns.{RoundIsQuotient, EachEndsAsAlone};
 
 /// Each task that keeps to its own window is after any rounds as it is alone. The function does nothing: its clauses hold of
 /// all tasks, turns and budgets.
@@ -27,4 +28,11 @@ pub fn each_as_alone()
 
     // A task that isn't running no longer changes.
     ensures over { OverIsOver }
+{}
+
+/// By turns of one length each task that keeps to its own window ends as it ends alone, and the round is its count divided by the
+/// length, rounded up. The function does nothing: its clauses hold of all tasks, lengths and budgets.
+pub fn each_ends_as_alone()
+    ensures round { RoundIsQuotient }
+    ensures ends { EachEndsAsAlone }
 {}

@@ -27,3 +27,15 @@ pub enum Task {
         round: u64,
     },
 }
+
+impl Task {
+    ghost use Rattle.std.specs.Prelude.{◌≡◌};
+    ghost use Rattle.fm_turns.specs.EqualTurns.{is_running};
+
+    /// Whether it goes on in the next round.
+    pub fn is_running(self) -> bool
+        ensures { result ≡ is_running self }
+    {
+        matches!(self, Task::Running { .. })
+    }
+}

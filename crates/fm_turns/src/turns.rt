@@ -1,12 +1,14 @@
 //! Tasks that take turns.
 
 ghost use Rattle.std.specs.Prelude.{◌≡◌, ◌≤◌, ◌<◌, ℕ, length, map, slice_get, Some, IfOk, false};
+ghost use Rattle.std.specs.List.{list_any};
 ghost use Rattle.stack_text.specs.Gives.{Gives};
 ghost use Rattle.fm_machine.specs.State.{is_refused, zeroed};
 ghost use Rattle.display_maps.specs.Reading.{reading};
 ghost use Rattle.fm_turns.specs.Windows.{words_in};
 ghost use Rattle.fm_turns.specs.Turns.{round_of, AreWithin, images_of, states_of, IsPart};
 ghost use Rattle.fm_turns.specs.Readings.{readings_of};
+ghost use Rattle.fm_turns.specs.EqualTurns.{is_running, has_running};
 ghost use Rattle.fm_turns.specs.Starting.{new_tasks, started, fault_of, AllFit};
 
 use crate::context::TaskContext;
@@ -78,6 +80,18 @@ fn read_window(alloc: Global, machine: &Machine, image: &Image) -> Result<Readin
     read_up(alloc, &own, image)
 }
 
+/// Whether a task runs.
+fn has_running(contexts: &[TaskContext]) -> bool
+    ensures { result ≡ list_any is_running (map (λ context. context.state) contexts.now) }
+{
+    for context in contexts {
+        if context.state.is_running() {
+            return true;
+        }
+    }
+    false
+}
+
 impl Turns {
     /// Images that take turns, each with values that fit its slots. Their windows lie side by side, and one machine has
     /// them all. A task that begins at its final program counter has ended.
@@ -125,6 +139,13 @@ impl Turns {
             budget,
         };
         go_round(&mut self.machine, self.contexts.as_mut_slice(), round);
+    }
+
+    /// Whether a task runs. Where none does, no further round changes how one stands.
+    pub fn has_running(&self) -> bool
+        ensures { result ≡ has_running self.now }
+    {
+        has_running(self.contexts.as_slice())
     }
 
     /// How the task `i` stands, counted from 0.

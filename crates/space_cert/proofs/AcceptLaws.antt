@@ -1,6 +1,6 @@
 -- What the code judges is whether the certificate covers the source.
 use Rattle.std.proofs.Common.{◌≡◌, ℕ, zero, suc, ◌+◌, ◌<◌, ◌≤◌, nat_le, cond, slice_get, List, [], ◌∷◌, ◌++◌, map, length, get_or, Bool, true, false, ◌&&◌, ◌==◌, Option, Some, None, inl, inr, refl, ap, sym, ◌∙◌, subst, arith, eq-eqb, leb-true}
-use Rattle.std.proofs.lemmas.Bool.{and_parts, le-leb, eqb-true, cases_lt}
+use Rattle.std.proofs.lemmas.Bool.{and_parts, le-leb, eqb-true, cases_lt, false_from_ne_true}
 use Rattle.std.proofs.lemmas.List.{length-map, get_or_past}
 use Rattle.std.proofs.lemmas.List.Elements.{All-nil, All-cons, All-head, All-tail}
 use Rattle.std.specs.List.{All}
@@ -19,7 +19,7 @@ use Rattle.gypsy_space.specs.declared.need.Need.{Need}
 use Rattle.space_cert.specs.Covers.{Bounds, as_words, bound_at, words_sum, callees, IsAtMost, own_need, call_bound, CoversCall, CoversRun, Covers}
 use Rattle.space_cert.specs.Reaches.{calls_of}
 use Rattle.space_cert.specs.Order.{call_bound_by}
-use Rattle.space_cert.specs.Accepting.{is_at_most, is_some_and, covers_call, covers_calls, covers_run, covers_from, covers_main, covers, source_callees, parts_callees, source_calls}
+use Rattle.space_cert.specs.Accepting.{is_at_most, is_some_and, covers_call, covers_calls, covers_run, covers_from, covers_main, covers, source_callees, parts_callees, source_calls, needs_from, is_covered}
 use Rattle.space_cert.proofs.CoversLaws.{both_true, main_within}
 use Rattle.space_cert.proofs.CertifyLaws.{body_calls, calls_below, calls_same, words_append}
 
@@ -146,6 +146,41 @@ module _ (q : Program) (ns : List Need) (needs : AreNeeds q ns) (fits : ProgramF
       main : (o : Option Words) → bound_at bs q.main ≡ o → IsSome o → covers_main (main_used q) sizes o ≡ true
       main None e k = cc
       main (Some b) e k = at_most_is (words_sum (main_used q) b) sizes (main_within q bs sizes h b e)
+
+-- By the program alone.
+
+needs_at : (q : Program) (n k p : ℕ) → p < n → need_at (needs_from q n k) p ≡ need_of q (k + p)
+needs_at q zero k p lt = absurd (omega (arith, lt))
+needs_at q (suc n) k zero lt = let same : k ≡ k + 0 = omega arith in ap (need_of q) same
+needs_at q (suc n) k (suc p) lt = let same : (k + 1) + p ≡ k + suc p = omega arith in needs_at q n (k + 1) p (omega (arith, lt)) ∙ ap (need_of q) same
+
+needs_many : (q : Program) (n k : ℕ) → length (needs_from q n k) ≡ n
+needs_many q zero k = refl
+needs_many q (suc n) k = let rest = needs_many q n (k + 1) in omega (arith, rest)
+
+are_needs : (q : Program) → AreNeeds q (needs_from q (length q.procs) 0)
+are_needs q = record {
+  number = needs_many q (length q.procs) 0;
+  each = λ p lt. needs_at q (length q.procs) 0 p lt ∙ ap (need_of q) (zero_plus p);
+}
+  where
+    zero_plus : (p : ℕ) → 0 + p ≡ p
+    zero_plus p = omega arith
+
+-- what is judged by the program is whether it is covered
+pub covered_is : (q : Program) → ProgramFits q → (bs : Bounds) (sizes : Words) → (is_covered q bs sizes ≡ true → Covers q bs sizes) × (Covers q bs sizes → is_covered q bs sizes ≡ true)
+unfolding is_covered
+covered_is q fits bs sizes = (
+  λ t. covers_true q (needs_from q (length q.procs) 0) (are_needs q) fits bs sizes t,
+  λ h. covers_is q (needs_from q (length q.procs) 0) (are_needs q) fits bs sizes h,
+)
+
+-- what is judged so is judged as the program has it
+pub is_covered_by : (q : Program) → ProgramFits q → (bs : Bounds) (sizes : Words) (b : Bool) → (b ≡ true → Covers q bs sizes) → (Covers q bs sizes → b ≡ true) → b ≡ is_covered q bs sizes
+unfolding is_covered
+is_covered_by q fits bs sizes true to from = sym (covers_is q (needs_from q (length q.procs) 0) (are_needs q) fits bs sizes (to refl))
+is_covered_by q fits bs sizes false to from =
+    sym (false_from_ne_true (covers (needs_from q (length q.procs) 0) bs (main_used q) sizes q.main (body_calls q)) (λ t. let e : false ≡ true = from (covers_true q (needs_from q (length q.procs) 0) (are_needs q) fits bs sizes t) in cc))
 
 -- The source's callees are its program's.
 

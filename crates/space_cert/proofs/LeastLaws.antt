@@ -28,7 +28,7 @@ greater_left u v = record { temp = omega arith; ctrl = omega arith }
 greater_right : (u v : Words) → IsAtMost v (greater u v)
 greater_right u v = record { temp = omega arith; ctrl = omega arith }
 
-greater_least : {u v w : Words} → IsAtMost u w → IsAtMost v w → IsAtMost (greater u v) w
+pub greater_least : {u v w : Words} → IsAtMost u w → IsAtMost v w → IsAtMost (greater u v) w
 greater_least h g = record { temp = omega (arith, h.temp, g.temp); ctrl = omega (arith, h.ctrl, g.ctrl) }
 
 pub more_taken : (q : Program) (p : ℕ) {b d : Words} → IsAtMost b d → IsAtMost (call_bound q p b) (call_bound q p d)
@@ -56,11 +56,11 @@ pub some_same : {u v : Words} → Some u ≡ Some v → u ≡ v
 some_same {u} {v} e = ap (λ o. unwrap_or o u) e
 
 module _ (q : Program) (bs : Bounds) where
-  calls_rise : (ps : List ℕ) (w : Words) → IsAtMost w (greatest_call q bs ps w)
+  pub calls_rise : (ps : List ℕ) (w : Words) → IsAtMost w (greatest_call q bs ps w)
   calls_rise [] w = refl_at_most w
   calls_rise (p ∷ ps) w = trans_at_most (greater_left w (call_words q bs p)) (calls_rise ps (greater w (call_words q bs p)))
 
-  calls_within : (ps : List ℕ) (w : Words) → All (λ p. IsAtMost (call_words q bs p) (greatest_call q bs ps w)) ps
+  pub calls_within : (ps : List ℕ) (w : Words) → All (λ p. IsAtMost (call_words q bs p) (greatest_call q bs ps w)) ps
   calls_within [] w = All-nil (λ p. IsAtMost (call_words q bs p) w)
   calls_within (p ∷ ps) w =
       let v = greater w (call_words q bs p) in
@@ -109,7 +109,7 @@ module _ (q : Program) where
       ]
 
   -- the callees' bounds are those of calls
-  covered_by : (bs : Bounds) (ps : List ℕ) (w : Words) → All (λ r. IsSome (bound_at bs r)) ps → All (λ r. IsAtMost (call_words q bs r) w) ps → All (CoversCall q bs w) ps
+  pub covered_by : (bs : Bounds) (ps : List ℕ) (w : Words) → All (λ r. IsSome (bound_at bs r)) ps → All (λ r. IsAtMost (call_words q bs r) w) ps → All (CoversCall q bs w) ps
   covered_by bs [] w k h = All-nil (CoversCall q bs w)
   covered_by bs (p ∷ ps) w k h =
       All-cons (CoversCall q bs w) p ps

@@ -3,9 +3,9 @@ mod CoversLaws
 mod OmitLaws
 mod StepLaws
 mod MeaningLaws
-mod NeverLaws
+pub mod NeverLaws
 mod ContainsLaws
-mod LeastLaws
+pub mod LeastLaws
 mod SearchLaws
 mod MarkLaws
 mod SearchingLaws
@@ -13,8 +13,10 @@ mod SearchCode
 mod FollowLaws
 mod CertifyLaws
 mod NameLaws
-mod AcceptLaws
+pub mod AcceptLaws
 mod BoundedLaws
 mod TextLaws
 mod ReadAgainLaws
 mod PrintedLaws
+mod ReachLaws
+pub mod CertifiedLaws

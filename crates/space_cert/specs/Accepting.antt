@@ -1,12 +1,14 @@
 -- Whether a certificate covers a source, as the code judges it: by the source's names and by its needs.
-use Rattle.std.specs.Prelude.{ℕ, ◌+◌, nat_le, List, [], ◌∷◌, ◌++◌, map, length, Bool, true, false, ◌&&◌, ◌==◌, Option, Some, None}
+use Rattle.std.specs.Prelude.{ℕ, zero, suc, ◌+◌, nat_le, List, [], ◌∷◌, ◌++◌, map, length, Option, Some, None}
+use Rattle.std.specs.Prelude.{Bool, true, false, ◌&&◌, ◌==◌}
 use Rattle.std.specs.List.{list_all}
 use Rattle.gypsy_syntax.specs.Resolved.{position_of, procedure_names}
 use Rattle.gypsy_syntax.specs.Sources.{SourceOf, StmtOf, StmtsOf, no_op, signal, seq, loop, branch, begin, call, predef, no_parts, part}
-use Rattle.gypsy_space.specs.Needs.{Words, stack_words}
-use Rattle.gypsy_space.specs.Events.{need_at}
+use Rattle.gypsy_syntax.specs.Programs.{Proc, Program}
+use Rattle.gypsy_space.specs.Needs.{Words, stack_words, main_used}
+use Rattle.gypsy_space.specs.Events.{need_at, need_of}
 use Rattle.gypsy_space.specs.declared.need.Need.{Need}
-use Rattle.space_cert.specs.Covers.{Bounds, bound_at, words_sum}
+use Rattle.space_cert.specs.Covers.{Bounds, bound_at, words_sum, callees}
 use Rattle.space_cert.specs.Order.{call_bound_by}
 
 abbrev pub is_at_most : Words → Words → Bool
@@ -59,3 +61,15 @@ abbrev mutual
 
 abbrev pub source_calls : SourceOf → List (List ℕ)
 source_calls s = map (λ p. source_callees s p.body) s.procs
+
+-- By a program alone.
+
+-- what n procedures from p on need
+abbrev pub needs_from : Program → ℕ → ℕ → List Need
+needs_from q zero p = []
+needs_from q (suc n) p = need_of q p ∷ needs_from q n (p + 1)
+
+-- whether the certificate covers the program at these sizes
+unfoldable pub is_covered : Program → Bounds → Words → Bool
+is_covered q bs sizes =
+    covers (needs_from q (length q.procs) 0) bs (main_used q) sizes q.main (map (λ (p : Proc). callees p.body) q.procs)

@@ -1,5 +1,5 @@
 -- The least certificate.
-use Rattle.std.specs.Prelude.{◌≡◌, ℕ, ◌<◌, Some, None}
+use Rattle.std.specs.Prelude.{◌≡◌, ℕ, ◌<◌, length, Some, None}
 use Rattle.std.specs.Option.{IsSome, IsSomeAnd}
 use Rattle.gypsy_syntax.specs.Programs.{Program}
 use Rattle.gypsy_space.specs.Needs.{Words}
@@ -25,3 +25,8 @@ pub record IsFirstRecursive (q : Program) (p : ℕ) : Type 0 where
 abbrev pub IsCertFault : Program → CertFault → Type 0
 IsCertFault q (Recursive p) = IsFirstRecursive q p
 IsCertFault q Memory = Unit {0}
+
+-- the procedure that a fault tells is one of the program's
+abbrev pub IsThere : Program → CertFault → Type 0
+IsThere q (Recursive p) = p < length q.procs
+IsThere q Memory = Unit {0}

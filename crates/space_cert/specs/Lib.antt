@@ -6,6 +6,7 @@ pub mod Reaches
 pub mod Least
 pub mod Bounded
 pub mod CertText
+pub mod Certified
 -- Scaffold: what only private functions and lemmas say.
 pub mod Omits
 pub mod Order

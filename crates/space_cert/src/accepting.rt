@@ -11,10 +11,10 @@ ghost use Rattle.gypsy_space.specs.Events.{AreNeeds, AreSmall, IsSmall, need_at}
 ghost use Rattle.gypsy_space.specs.Needs.{main_used, stack_words};
 ghost use Rattle.stack_text.specs.Values.{ValueOf, item_count};
 ghost use Rattle.gypsy_check.specs.Accepted.{IsAccepted};
-ghost use Rattle.space_cert.specs.Covers.{Covers, as_words, bound_at};
+ghost use Rattle.space_cert.specs.Covers.{Covers, as_words, bound_at, sizes_for};
 ghost use Rattle.space_cert.specs.Never.{NeverSpaceError};
 ghost use Rattle.space_cert.specs.Accepting.{covers, covers_call, covers_calls, covers_from, covers_main, covers_run};
-ghost use Rattle.space_cert.specs.Accepting.{is_at_most, parts_callees, source_callees, source_calls};
+ghost use Rattle.space_cert.specs.Accepting.{is_at_most, is_covered, parts_callees, source_callees, source_calls};
 
 use crate::certificate::Certificate;
 use crate::certifying::{bound_of, call_bound};
@@ -227,11 +227,27 @@ pub fn accepts(accepted: &Accepted, needs: &Needs, cert: &Certificate, ctrl: u32
     requires small { AreSmall needs.now.procedures.items }
     ensures covers { IsTrue result ↔
         Covers (program_of (source_of accepted.now)) cert.now.bounds.items (stack_words temp ctrl) }
+    ensures exact { result ≡
+        is_covered (program_of (source_of accepted.now)) cert.now.bounds.items (stack_words temp ctrl) }
     ensures never { IsTrue result → (v : List ValueOf) →
         NeverSpaceError (program_of (source_of accepted.now)) (stack_words temp ctrl) v }
 {
     let source = accepted.source();
     covers(source, needs, cert, (temp as u64, ctrl as u64))
+}
+
+/// The sizes of the temporary stack and of the control stack for which a certificate is just large enough: main's words and
+/// frame, and what its bounds of main give beside them. Where it has none of main, they are nothing.
+pub fn sizes_for(accepted: &Accepted, needs: &Needs, cert: &Certificate) -> (u64, u64)
+    requires needs { AreNeeds (program_of (source_of accepted.now)) needs.now.procedures.items }
+    requires small { AreSmall needs.now.procedures.items }
+    ensures { as_words result ≡ sizes_for (program_of (source_of accepted.now)) cert.now.bounds.items }
+{
+    let source = accepted.source();
+    let main = position_of(source, &source.main.name);
+    let used = main_used(source, needs, main);
+    let bound = bound_in(cert, main).unwrap_or((0, 0));
+    (used.0 + bound.0, used.1 + bound.1)
 }
 
 /// Whether a certificate has an entry for each procedure.

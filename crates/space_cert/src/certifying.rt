@@ -1,6 +1,6 @@
 //! The least certificate.
 
-ghost use Rattle.std.specs.Prelude.{◌≡◌, ℕ, ◌+◌, ◌<◌, ◌≤◌, ◌^◌, ◌++◌, None, get_or, length, map, reverse, take, IfOk, OnOk};
+ghost use Rattle.std.specs.Prelude.{◌≡◌, ℕ, ◌+◌, ◌<◌, ◌≤◌, ◌^◌, ◌++◌, None, get_or, length, map, reverse, take, IfErr, IfOk, OnOk};
 ghost use Rattle.std.specs.Result.{MatchResult};
 ghost use Rattle.std.specs.List.{All};
 ghost use Rattle.gypsy_syntax.specs.ProgramFits.{ProgramFits};
@@ -9,8 +9,9 @@ ghost use Rattle.gypsy_syntax.specs.SourceView.{source_of};
 ghost use Rattle.gypsy_space.specs.Events.{AreNeeds, AreSmall, IsSmall};
 ghost use Rattle.gypsy_space.specs.Nodes.{seen_program, seen_statement, seen_statements};
 ghost use Rattle.space_cert.specs.Covers.{as_words, callees};
+ghost use Rattle.space_cert.specs.Certified.{GivesCertified, certified};
 ghost use Rattle.space_cert.specs.Order.{AreBounds, bounds_by_needs, call_bound_by, run_bound_by};
-ghost use Rattle.space_cert.specs.Least.{IsCertFault, IsLeast};
+ghost use Rattle.space_cert.specs.Least.{IsCertFault, IsLeast, IsThere};
 ghost use Rattle.space_cert.specs.SearchView.{seen_calls};
 
 use crate::certificate::Certificate;
@@ -202,8 +203,11 @@ fn least_certificate(
 pub fn certify(alloc: Global, accepted: &Accepted, needs: &Needs) -> Result<Certificate, CertFault>
     requires needs { AreNeeds (program_of (source_of accepted.now)) needs.now.procedures.items }
     requires small { AreSmall needs.now.procedures.items }
-    ensures { MatchResult result (λ c. IsLeast (program_of (source_of accepted.now)) c.bounds.items)
+    ensures least { MatchResult result (λ c. IsLeast (program_of (source_of accepted.now)) c.bounds.items)
         (IsCertFault (program_of (source_of accepted.now))) }
+    ensures there { IfErr result (IsThere (program_of (source_of accepted.now))) }
+    // The same as a function of the source.
+    ensures exact { GivesCertified (λ c. c.bounds.items) result (certified (program_of (source_of accepted.now))) }
 {
     plain_form();
     let program = resolve(alloc, accepted)?;

@@ -1,6 +1,7 @@
 //! Laws of certificates. The functions do nothing: their clauses hold of all programs.
 
-ghost use Rattle.std.specs.Prelude.{◌≡◌, ℕ, List};
+ghost use Rattle.std.specs.Prelude.{◌≡◌, ◌↔◌, ℕ, List, IsTrue};
+ghost use Rattle.std.specs.Result.{MatchResult};
 ghost use Rattle.stack_text.specs.Values.{ValueOf};
 ghost use Rattle.gypsy_syntax.specs.ProgramFits.{ProgramFits};
 ghost use Rattle.gypsy_syntax.specs.Programs.{Program};
@@ -8,7 +9,9 @@ ghost use Rattle.gypsy_space.specs.Needs.{Words};
 ghost use Rattle.gypsy_meaning.specs.Machine.{State, Next, gypsy_step, start};
 ghost use Rattle.space_cert.specs.Covers.{Bounds, Covers, IsAtMost, IsCertificate, sizes_for};
 ghost use Rattle.space_cert.specs.Covered.{StateCovered};
-ghost use Rattle.space_cert.specs.Least.{IsLeast};
+ghost use Rattle.space_cert.specs.Accepting.{is_covered};
+ghost use Rattle.space_cert.specs.Certified.{certified};
+ghost use Rattle.space_cert.specs.Least.{IsFirstRecursive, IsLeast};
 ghost use Rattle.space_cert.specs.Never.{HasCallRoom, NeverSpaceError};
 ghost use Rattle.space_cert.specs.Reaches.{IsRecursive};
 
@@ -37,4 +40,12 @@ pub fn least_at_main()
 /// Where main reaches a procedure that reaches itself, there is no certificate.
 pub fn recursion_has_none()
     ensures { (q : Program) (p : ℕ) (bs : Bounds) → IsRecursive q p → ¬ IsCertificate q bs }
+{}
+
+/// The certificate that is computed is the least one, and where there is none, the procedure that is told is the first recursive
+/// one. A certificate that is judged to cover a program does.
+pub fn computed_as_defined()
+    ensures certified { (q : Program) → ProgramFits q → MatchResult (certified q) (IsLeast q) (IsFirstRecursive q) }
+    ensures covered { (q : Program) (bs : Bounds) (sizes : Words) → ProgramFits q →
+        IsTrue (is_covered q bs sizes) ↔ Covers q bs sizes }
 {}

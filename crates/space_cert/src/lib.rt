@@ -13,9 +13,9 @@ mod printing;
 mod reading;
 mod search;
 
-pub use accepting::accepts;
+pub use accepting::{accepts, sizes_for};
 pub use certificate::Certificate;
 pub use certifying::{CertFault, certify};
-pub use laws::{certificates_hold, least_at_main, recursion_has_none};
+pub use laws::{certificates_hold, computed_as_defined, least_at_main, recursion_has_none};
 pub use printing::print_certificate;
 pub use reading::{CertTextFault, read_certificate};

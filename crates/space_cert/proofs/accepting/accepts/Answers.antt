@@ -4,7 +4,7 @@ use Rattle.gypsy_syntax.specs.SourceView.{source_of}
 use Rattle.gypsy_space.specs.Needs.{main_used, stack_words}
 use Rattle.space_cert.specs.Accepting.{covers, source_calls}
 use Rattle.space_cert.proofs.CertifyLaws.{body_calls}
-use Rattle.space_cert.proofs.AcceptLaws.{covers_true, covers_is, source_calls_are}
+use Rattle.space_cert.proofs.AcceptLaws.{covers_true, covers_is, is_covered_by, source_calls_are}
 use Rattle.space_cert.proofs.NeverLaws.{never}
 use Rattle.space_cert.proofs.accepting.accepts.Goals as goal
 
@@ -27,3 +27,9 @@ returns-clause-never c = λ t v.
     let s = source_of c.args.accepted.now in
     let sizes = stack_words c.args.temp c.args.ctrl in
     never (program_of s) c.args.cert.now.bounds.items sizes ((returns-clause-covers c).0 t) c.source-source.ensures.accepted.fits v
+
+pub returns-clause-exact : goal.returns-clause-exact
+returns-clause-exact c =
+    let s = source_of c.args.accepted.now in
+    let sizes = stack_words c.args.temp c.args.ctrl in
+    is_covered_by (program_of s) c.source-source.ensures.accepted.fits c.args.cert.now.bounds.items sizes c.covers.result (returns-clause-covers c).0 (returns-clause-covers c).1

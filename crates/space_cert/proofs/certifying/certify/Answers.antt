@@ -1,8 +1,12 @@
-use Rattle.std.proofs.Common.{length, ap, arith}
+use Rattle.std.proofs.Common.{length, ap, arith, subst}
 use Rattle.std.proofs.lemmas.List.{length-map}
-use Rattle.gypsy_syntax.specs.Resolved.{procedure_of}
+use Rattle.std.specs.Result.{MatchResult}
+use Rattle.gypsy_syntax.specs.Resolved.{procedure_of, program_of}
 use Rattle.gypsy_syntax.specs.SourceView.{source_of}
 use Rattle.gypsy_space.specs.Nodes.{seen_proc}
+use Rattle.space_cert.specs.declared.certificate.Certificate.{Certificate}
+use Rattle.space_cert.specs.Least.{IsLeast, IsCertFault}
+use Rattle.space_cert.proofs.CertifiedLaws.{certified_gives, fault_there}
 use Rattle.space_cert.proofs.certifying.certify.Goals as goal
 
 pub least_certificate-requires-clause-few : goal.least_certificate-requires-clause-few
@@ -11,3 +15,15 @@ least_certificate-requires-clause-few c =
     let few = (c.plain_form.ensures.fits s c.in_ok-program.ensures.accepted.form).few_procs in
     let many = ap (λ q. length q.procs) c.in_ok-program.ensures.program in
     omega (arith, few, many, length-map c.in_ok-program.program.procedures.items seen_proc, length-map s.procs (procedure_of s))
+
+pub returns-clause-there : goal.returns-clause-there
+returns-clause-there c =
+    let q = program_of (source_of c.args.accepted.now) in
+    let same = subst (λ p. MatchResult c.least_certificate.result (λ (cert : Certificate). IsLeast p cert.bounds.items) (IsCertFault p)) c.in_ok-program.ensures.program c.least_certificate.ensures in
+    fault_there q c.in_ok-program.ensures.accepted.fits (λ (cert : Certificate). IsLeast q cert.bounds.items) c.least_certificate.result same
+
+pub returns-clause-exact : goal.returns-clause-exact
+returns-clause-exact c =
+    let q = program_of (source_of c.args.accepted.now) in
+    let same = subst (λ p. MatchResult c.least_certificate.result (λ (cert : Certificate). IsLeast p cert.bounds.items) (IsCertFault p)) c.in_ok-program.ensures.program c.least_certificate.ensures in
+    certified_gives q c.in_ok-program.ensures.accepted.fits c.least_certificate.result same
