@@ -14,7 +14,7 @@ use Rattle.command_line.specs.declared.command.Command.{Command}
 use Rattle.command_line.specs.declared.command.Command.TheVariants as command
 use Rattle.command_line.specs.declared.early_end.EarlyEnd.{EarlyEnd}
 use Rattle.command_line.specs.declared.role.Role.{Role}
-use Rattle.command_line.specs.declared.role.Role.TheVariants.{Source, Piton, Values, Image}
+use Rattle.command_line.specs.declared.role.Role.TheVariants.{Source, Piton, Values, Image, Assembly, Certificate}
 use Rattle.command_line.specs.Roles.{limit_of}
 use Rattle.command_line.specs.Gathered.{text_or_end}
 use Rattle.command_line.specs.CommandFiles.{inputs_of, output_of}
@@ -32,7 +32,7 @@ is_readable : (text : List ℕ) → length text ≤ 1048576 → length text ≤ 
 is_readable text short = omega (arith, short)
 
 -- what is stored of what was built
-module _ (files : Files) (source text : List ℕ) (control temporary : ℕ) (stored bytes : List ℕ) (there : file_at files source ≡ Some text) where
+module _ (files : Files) (source text : List ℕ) (control temporary : ℕ) (stored bytes : List ℕ) (there : file_at files source ≡ Some text) (few : length text ≤ 1048576) where
   built_holds : (found : Result BuiltOf BuildFault) → IfOk found (BuildsText text control temporary) → (image : Role × List ℕ) → set_file (Some image) (image_stored found) ≡ Some (stored, bytes) → HoldsImplementation files source (stack_words temporary control) bytes
   built_holds (Err fault) builds image sets = absurd (let e : None ≡ Some (stored, bytes) = sets in cc)
   built_holds (Ok found) builds image sets =
@@ -43,7 +43,7 @@ module _ (files : Files) (source text : List ℕ) (control temporary : ℕ) (sto
         source = builds.source;
         read = builds.read;
         image = found.image;
-        short = builds.builds.short;
+        short = builds.short few;
         spells = builds.builds.spells;
         implements = builds.builds.implements;
         moments = builds.builds.moments;
@@ -59,7 +59,7 @@ go_holds laws watches files source values image control temporary budget (Err ea
 go_holds laws watches files source values image control temporary budget (Ok text) (Err early) stored bytes got sets = cc
 go_holds laws watches files source values image control temporary budget (Ok text) (Ok other) stored bytes got sets =
     let file = was_short files (Source, source) text got in
-    built_holds files source text control temporary stored bytes file.0 (built text control temporary 0) (laws text control temporary 0 (is_readable text file.1) (omega arith)) (Image, image) sets
+    built_holds files source text control temporary stored bytes file.0 file.1 (built text control temporary 0) (laws text control temporary 0 (is_readable text file.1) (omega arith)) (Image, image) sets
 
 build_holds : BuiltImplements → (watches : List Watching) (files : Files) (source image : List ℕ) (control temporary : ℕ) (first : Result (List ℕ) EarlyEnd) (stored bytes : List ℕ)
     → text_or_end (Source, source) (fetched files source (limit_of Source)) ≡ first
@@ -69,7 +69,7 @@ unfolding output_of stored_by
 build_holds laws watches files source image control temporary (Err early) stored bytes got sets = cc
 build_holds laws watches files source image control temporary (Ok text) stored bytes got sets =
     let file = was_short files (Source, source) text got in
-    built_holds files source text control temporary stored bytes file.0 (built text control temporary 0) (laws text control temporary 0 (is_readable text file.1) (omega arith)) (Image, image) sets
+    built_holds files source text control temporary stored bytes file.0 file.1 (built text control temporary 0) (laws text control temporary 0 (is_readable text file.1) (omega arith)) (Image, image) sets
 
 -- a name that `build` reads as a source is its source
 build_source : (source name : List ℕ) → Contains {X = Role × List ℕ} ((Source, source) ∷ []) (Source, name) → source ≡ name
@@ -82,13 +82,13 @@ go_source source values name (zero, lt, is) = ap (λ (f : Role × List ℕ). f.1
 go_source source values name (suc zero, lt, is) = absurd (let e : Values ≡ Source = ap (λ (f : Role × List ℕ). f.0) is in cc)
 go_source source values name (suc (suc i), lt, is) = absurd (omega arith)
 
--- a Piton text is no source
-no_source : (piton name : List ℕ) → Contains {X = Role × List ℕ} ((Piton, piton) ∷ []) (Source, name) → ⊥
-no_source piton name (zero, lt, is) = let e : Piton ≡ Source = ap (λ (f : Role × List ℕ). f.0) is in cc
-no_source piton name (suc i, lt, is) = omega arith
+-- who reads one file, of another role, reads no source
+no_source : (role : Role) (first name : List ℕ) → (role ≡ Source → ⊥) → Contains {X = Role × List ℕ} ((role, first) ∷ []) (Source, name) → ⊥
+no_source role first name other (zero, lt, is) = other (ap (λ (f : Role × List ℕ). f.0) is)
+no_source role first name other (suc i, lt, is) = omega arith
 
 -- the role of a file that is written
-abbrev written_role : Option (Role × List ℕ) → Role
+abbrev pub written_role : Option (Role × List ℕ) → Role
 written_role None = Source
 written_role (Some file) = file.0
 
@@ -102,7 +102,13 @@ stores laws (command.Build source control temporary image) watches files = λ na
     (build_holds laws watches files source image control temporary _ stored bytes refl sets)
 stores laws (command.Pit source control temporary piton) watches files = λ name own stored bytes reads writes sets.
     absurd (let e : Piton ≡ Image = ap written_role writes in cc)
-stores laws (command.Pbuild piton image) watches files = λ name own stored bytes reads writes sets. absurd (no_source piton name reads)
+stores laws (command.Pbuild piton image) watches files = λ name own stored bytes reads writes sets. absurd (no_source Piton piton name (λ e. cc) reads)
+stores laws (command.Migrate image output) watches files = λ name own stored bytes reads writes sets. absurd (no_source Image image name (λ e. cc) reads)
+stores laws (command.Asm assembly image) watches files = λ name own stored bytes reads writes sets. absurd (no_source Assembly assembly name (λ e. cc) reads)
+stores laws (command.Unasm image assembly) watches files = λ name own stored bytes reads writes sets.
+    absurd (let e : Assembly ≡ Image = ap written_role writes in cc)
+stores laws (command.Need source certificate) watches files = λ name own stored bytes reads writes sets.
+    absurd (let e : Certificate ≡ Image = ap written_role writes in cc)
 stores laws c watches files = λ name own stored bytes reads writes sets. absurd (let e : None ≡ Some (Image, own) = writes in cc)
 
 -- whatever the command and the files are

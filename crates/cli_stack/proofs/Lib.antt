@@ -1,5 +1,8 @@
+pub mod ByTurnsLaws
+pub mod AssemblesLaws
 pub mod CompletesLaws
 pub mod EndlessLaws
+pub mod ExplainsLaws
 pub mod ImplementsLaws
 pub mod KnownLaws
 pub mod LinkedLaws
@@ -8,9 +11,13 @@ pub mod LoadedLaws
 pub mod MachineLaws
 pub mod MeanLaws
 pub mod MeansLaws
+pub mod NeedLaws
 pub mod PerformLaws
 pub mod PitonTextLaws
 pub mod PromisesLaws
+pub mod RoomLaws
 pub mod SizeLaws
 pub mod SlotLaws
+pub mod TaskLoops
 pub mod TellsLaws
+pub mod TurnsLaws

@@ -1,10 +1,12 @@
 -- The image of a linked system keeps the limits of images, and its file those of files; where the words are too many, there is none.
-use Rattle.std.proofs.Common.{◌≡◌, ◌≤◌, ◌+◌, ℕ, List, [], length, None, true, refl, sym, subst, arith}
+use Rattle.std.proofs.Common.{◌≡◌, ◌≤◌, ◌+◌, ℕ, List, [], length, Some, None, true, false, refl, sym, subst, arith}
 use Rattle.std.specs.Prelude.{◌^◌, IsTrue}
-use Rattle.std.proofs.lemmas.Bool.{and_from, le-leb, lt-ltb}
+use Rattle.std.proofs.lemmas.Bool.{and_from, le-leb, le-ltb, lt-ltb}
 use Rattle.fm_words.specs.Code.{no_flags}
+use Rattle.fm_image.specs.declared.procedure.Mark.{Mark}
 use Rattle.fm_image.specs.declared.slot.Slot.{Slot}
 use Rattle.fm_image.specs.Image.{ImageOf, all_after, is_image}
+use Rattle.fm_image.specs.Procedure.{ProcedureOf}
 use Rattle.fm_image.specs.Spelling.{spelling, Spelled}
 use Rattle.fm_image.proofs.LimitLaws.{from_limits}
 use Rattle.piton_check.specs.Answers.{CheckedOf, IsChecked}
@@ -16,7 +18,7 @@ use Rattle.piton_machine.proofs.SoundLaws.{known}
 use Rattle.piton_linker.specs.declared.fault.LinkFault.TheVariants.{Large}
 use Rattle.piton_linker.specs.Layouts.{trimmed, IsFault}
 use Rattle.stack_build.specs.PlacedWords.{PlacedAreWords}
-use Rattle.stack_build.proofs.ImageBytes.{fields_few}
+use Rattle.stack_build.proofs.ImageBytes.{file_few}
 use Rattle.stack_build.proofs.Windows.{shorter}
 use Rattle.command_line.specs.declared.role.Role.TheVariants.{Image}
 use Rattle.command_line.specs.Roles.{limit_of}
@@ -35,6 +37,8 @@ image_fits c is small =
     let low = is.sound.low_base in
     let some = is.sound.some_temp in
     from_limits (linked_image s) record {
+      version = refl;
+      tables = refl;
       window = and_from _ _ (and_from _ _ (and_from _ _ (le-leb 1 size (omega arith)) (le-leb size 1048576 (omega arith))) (le-leb (s.base + size) 4294967295 (omega arith))) (and_from _ _ (le-leb s.base (final_pc_of s) (omega arith)) (lt-ltb (final_pc_of s) (s.base + size) (omega arith)));
       registers = refl;
       condition_address = refl;
@@ -46,10 +50,10 @@ image_fits c is small =
     }
 
 -- the same of what is made of equal parts
-pub parts_fit : (c : CheckedOf) → IsChecked c → (placed (system_in c)).size ≤ 2 ^ 20 → (base size final_pc : ℕ) (registers : List ℕ) (conditions : List (List ℕ)) (slots : List Slot) (words : List ℕ)
-    → base ≡ (system_in c).base → size ≡ (placed (system_in c)).size → final_pc ≡ (placed (system_in c)).final_pc → registers ≡ (placed (system_in c)).registers → conditions ≡ [] → slots ≡ [] → words ≡ trimmed (placed (system_in c)).words
-    → IsTrue (is_image record { base = base; size = size; final_pc = final_pc; registers = registers; flags = no_flags; condition_address = None; conditions = conditions; slots = slots; words = words })
-parts_fit c is small base size final_pc registers conditions slots words b n f r o l w =
+pub parts_fit : (c : CheckedOf) → IsChecked c → (placed (system_in c)).size ≤ 2 ^ 20 → (base size final_pc : ℕ) (registers : List ℕ) (conditions : List (List ℕ)) (slots : List Slot) (words : List ℕ) (procedures : List ProcedureOf) (marks : List Mark)
+    → base ≡ (system_in c).base → size ≡ (placed (system_in c)).size → final_pc ≡ (placed (system_in c)).final_pc → registers ≡ (placed (system_in c)).registers → conditions ≡ [] → slots ≡ [] → words ≡ trimmed (placed (system_in c)).words → procedures ≡ [] → marks ≡ []
+    → IsTrue (is_image record { version = 2; base = base; size = size; final_pc = final_pc; registers = registers; flags = no_flags; condition_address = None; conditions = conditions; slots = slots; words = words; procedures = procedures; marks = marks })
+parts_fit c is small base size final_pc registers conditions slots words procedures marks b n f r o l w p m =
     let b' = sym b in
     let n' = sym n in
     let f' = sym f in
@@ -57,25 +61,28 @@ parts_fit c is small base size final_pc registers conditions slots words b n f r
     let o' = sym o in
     let l' = sym l in
     let w' = sym w in
-    let image : ImageOf = record { base = base; size = size; final_pc = final_pc; registers = registers; flags = no_flags; condition_address = None; conditions = conditions; slots = slots; words = words } in
+    let p' = sym p in
+    let m' = sym m in
+    let image : ImageOf = record { version = 2; base = base; size = size; final_pc = final_pc; registers = registers; flags = no_flags; condition_address = None; conditions = conditions; slots = slots; words = words; procedures = procedures; marks = marks } in
     let whole : linked_image (system_in c) ≡ image =
-    λ i. record { base = b' i; size = n' i; final_pc = f' i; registers = r' i; flags = no_flags; condition_address = None; conditions = o' i; slots = l' i; words = w' i } in
-    subst (λ (m : ImageOf). IsTrue (is_image m)) whole (image_fits c is small)
+    λ i. record { version = 2; base = b' i; size = n' i; final_pc = f' i; registers = r' i; flags = no_flags; condition_address = None; conditions = o' i; slots = l' i; words = w' i; procedures = p' i; marks = m' i } in
+    subst (λ (z : ImageOf). IsTrue (is_image z)) whole (image_fits c is small)
 
 -- its file is short enough to be read
 pub image_short : (c : CheckedOf) → IsChecked c → (placed (system_in c)).size ≤ 2 ^ 20 → length (spelling (linked_image (system_in c))) ≤ limit_of Image
-image_short c is small =
-    let s : SystemView = system_in c in
-    let long = length-placed s (known s is.sound) in
-    let words : length (trimmed (placed s).words) ≤ 1048576 = omega (arith, shorter (placed s).words) in
-    let all = fields_few (linked_image s) 0 0 1048576 refl (omega arith) (omega arith) words in
-    omega arith
+image_short c is small = let all = file_few (linked_image (system_in c)) (image_fits c is small) in omega (arith, all)
 
 -- and is the one spelling of it
 pub image_spelled : PlacedAreWords → (c : CheckedOf) → IsChecked c → (placed (system_in c)).size ≤ 2 ^ 20 → Spelled (spelling (linked_image (system_in c))) (linked_image (system_in c))
 image_spelled placed_are_words c is small =
     let words = placed_are_words (system_in c) is.sound small in
     record { limits = image_fits c is small; registers = words.0; words = words.1; fields = refl }
+
+-- where the words are few enough, its spelling is stored
+pub small_stored : (s : SystemView) → (placed s).size ≤ 2 ^ 20 → linked_stored s ≡ Some (spelling (linked_image s))
+small_stored s small =
+    let few : is_large s ≡ false = le-ltb (2 ^ 20) (placed s).size small in
+    rw few refl
 
 -- where the words are too many, nothing is stored
 pub large_stored : (s : SystemView) (need : ℕ) → IsFault s (Large need) → linked_stored s ≡ None

@@ -27,7 +27,7 @@ use Rattle.command_line.specs.declared.command.Command.{Command}
 use Rattle.command_line.specs.declared.command.Command.TheVariants as command
 use Rattle.command_line.specs.declared.early_end.EarlyEnd.{EarlyEnd}
 use Rattle.command_line.specs.declared.role.Role.{Role}
-use Rattle.command_line.specs.declared.role.Role.TheVariants.{Source, Piton, Values, Image}
+use Rattle.command_line.specs.declared.role.Role.TheVariants.{Source, Piton, Values, Image, Assembly}
 use Rattle.command_line.specs.Roles.{limit_of}
 use Rattle.command_line.specs.Gathered.{Texts, text_or_end}
 use Rattle.command_line.specs.CommandFiles.{inputs_of, output_of}
@@ -122,28 +122,32 @@ pbuild_holds words watches files piton image (Ok text) stored bytes got sets =
 -- 3. All commands.
 
 -- the one file that is read
-only_file : (role : Role) (first name : List ℕ) → Contains {X = Role × List ℕ} ((role, first) ∷ []) (role, name) → first ≡ name
+pub only_file : (role : Role) (first name : List ℕ) → Contains {X = Role × List ℕ} ((role, first) ∷ []) (role, name) → first ≡ name
 only_file role first name (zero, lt, is) = ap (λ (f : Role × List ℕ). f.1) is
 only_file role first name (suc i, lt, is) = absurd (omega arith)
 
--- a source is no Piton text
-one_source : (source name : List ℕ) → Contains {X = Role × List ℕ} ((Source, source) ∷ []) (Piton, name) → ⊥
-one_source source name (zero, lt, is) = let e : Source ≡ Piton = ap (λ (f : Role × List ℕ). f.0) is in cc
-one_source source name (suc i, lt, is) = omega arith
+-- who reads one file, of another role, reads none of this role
+pub only_role : (role other : Role) (first name : List ℕ) → (other ≡ role → ⊥) → Contains {X = Role × List ℕ} ((other, first) ∷ []) (role, name) → ⊥
+only_role role other first name apart (zero, lt, is) = apart (ap (λ (f : Role × List ℕ). f.0) is)
+only_role role other first name apart (suc i, lt, is) = omega arith
 
--- nor are a source and values
-no_piton : (source values name : List ℕ) → Contains {X = Role × List ℕ} ((Source, source) ∷ (Values, values) ∷ []) (Piton, name) → ⊥
-no_piton source values name (zero, lt, is) = let e : Source ≡ Piton = ap (λ (f : Role × List ℕ). f.0) is in cc
-no_piton source values name (suc zero, lt, is) = let e : Values ≡ Piton = ap (λ (f : Role × List ℕ). f.0) is in cc
-no_piton source values name (suc (suc i), lt, is) = omega arith
+-- nor who reads two files
+pub both_roles : (role other second : Role) (first next name : List ℕ) → (other ≡ role → ⊥) → (second ≡ role → ⊥) → Contains {X = Role × List ℕ} ((other, first) ∷ (second, next) ∷ []) (role, name) → ⊥
+both_roles role other second first next name apart apart' (zero, lt, is) = apart (ap (λ (f : Role × List ℕ). f.0) is)
+both_roles role other second first next name apart apart' (suc zero, lt, is) = apart' (ap (λ (f : Role × List ℕ). f.0) is)
+both_roles role other second first next name apart apart' (suc (suc i), lt, is) = omega arith
 
 links_by : PlacedAreWords → (c : Command) (watches : List Watching) (files : Files) → StoresLinked c files (answer_to c watches files).output
 unfolding inputs_of output_of
 links_by words (command.Pbuild piton image) watches files = λ name own stored bytes reads writes sets.
     subst (λ (n : List ℕ). HoldsLinked files n bytes) (only_file Piton piton name reads) (pbuild_holds words watches files piton image _ stored bytes refl sets)
-links_by words (command.Build source control temporary image) watches files = λ name own stored bytes reads writes sets. absurd (one_source source name reads)
-links_by words (command.Pit source control temporary piton) watches files = λ name own stored bytes reads writes sets. absurd (one_source source name reads)
-links_by words (command.Go source values control temporary budget image) watches files = λ name own stored bytes reads writes sets. absurd (no_piton source values name reads)
+links_by words (command.Build source control temporary image) watches files = λ name own stored bytes reads writes sets. absurd (only_role Piton Source source name (λ e. cc) reads)
+links_by words (command.Pit source control temporary piton) watches files = λ name own stored bytes reads writes sets. absurd (only_role Piton Source source name (λ e. cc) reads)
+links_by words (command.Go source values control temporary budget image) watches files = λ name own stored bytes reads writes sets. absurd (both_roles Piton Source Values source values name (λ e. cc) (λ e. cc) reads)
+links_by words (command.Migrate image output) watches files = λ name own stored bytes reads writes sets. absurd (only_role Piton Image image name (λ e. cc) reads)
+links_by words (command.Asm assembly image) watches files = λ name own stored bytes reads writes sets. absurd (only_role Piton Assembly assembly name (λ e. cc) reads)
+links_by words (command.Unasm image assembly) watches files = λ name own stored bytes reads writes sets. absurd (only_role Piton Image image name (λ e. cc) reads)
+links_by words (command.Need source certificate) watches files = λ name own stored bytes reads writes sets. absurd (only_role Piton Source source name (λ e. cc) reads)
 links_by words c watches files = λ name own stored bytes reads writes sets. absurd (let e : None ≡ Some (Image, own) = writes in cc)
 
 -- whatever the command and the files are

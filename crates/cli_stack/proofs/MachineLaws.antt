@@ -8,6 +8,9 @@ use Rattle.fm_machine.specs.declared.processor.Run.{Run}
 use Rattle.fm_machine.specs.declared.processor.Run.TheVariants as run
 use Rattle.fm_image.specs.Image.{ImageOf}
 use Rattle.fm_image.specs.Reading.{read_of}
+use Rattle.stack_text.specs.declared.breach.Breach.{Breach}
+use Rattle.fm_asm.specs.Answers.{assembly_of}
+use Rattle.fm_asm.specs.Printing.{is_plain}
 use Rattle.fm_loader.specs.Loaded.{loaded}
 use Rattle.fm_loader.specs.Values.{values_in}
 use Rattle.stack_text.specs.Values.{ValueOf}
@@ -20,7 +23,11 @@ use Rattle.piton_machine.specs.declared.stepped.PitonRun.{PitonRun}
 use Rattle.piton_machine.specs.declared.stepped.PitonRun.TheVariants as piton_run
 use Rattle.piton_machine.specs.Seen.{Ran, run_of, opening}
 use Rattle.piton_machine.specs.Seen.{Seen as PitonSeen}
+use Rattle.gypsy_syntax.specs.Resolved.{procedure_names, program_of}
 use Rattle.gypsy_syntax.specs.Sources.{SourceOf}
+use Rattle.space_cert.specs.Certified.{certified}
+use Rattle.space_cert.specs.CertText.{bounds_in}
+use Rattle.space_cert.specs.Covers.{Bounds}
 use Rattle.gypsy_space.specs.Needs.{Words as StackWords, stack_words}
 use Rattle.gypsy_meaning.specs.declared.answers.MeanRun.{MeanRun}
 use Rattle.gypsy_meaning.specs.declared.answers.MeanRun.TheVariants as mean_run
@@ -35,10 +42,13 @@ use Rattle.stack_build.specs.declared.fault.BuildFault.{BuildFault}
 use Rattle.stack_build.specs.declared.start_fault.StartFault.{StartFault}
 use Rattle.stack_build.specs.Starts.{gypsy_start}
 use Rattle.stack_build.specs.Build.{BuiltOf, built, source_built, compiled}
+use Rattle.fm_turns.specs.Starting.{NewTask}
 use Rattle.command_line.specs.declared.command.Command.{Command}
 use Rattle.command_line.specs.declared.command.Command.TheVariants as command
 use Rattle.command_line.specs.declared.role.Role.TheVariants as role
-use Rattle.command_line.specs.Gathered.{Texts, text_of}
+use Rattle.command_line.specs.Gathered.{Texts, text_of, texts_of}
+use Rattle.cli_stack.specs.declared.commands.turns.tasks.TasksFault.{TasksFault}
+use Rattle.cli_stack.specs.declared.commands.turns.tasks.TasksFault.TheVariants as tasks_fault
 use Rattle.cli_stack.specs.declared.reply.Reply.{Reply}
 use Rattle.cli_stack.specs.declared.reply.SizeOf.TheVariants.{Words}
 use Rattle.cli_stack.specs.declared.reply.Verdict.{Verdict}
@@ -51,12 +61,18 @@ use Rattle.cli_stack.specs.Build.{build_reply}
 use Rattle.cli_stack.specs.Debug.{run_in, lines_reply, script_reply, session_reply}
 use Rattle.cli_stack.specs.Mean.{mean_end_reply, mean_run_reply, mean_started_reply, mean_accepted_reply}
 use Rattle.cli_stack.specs.Pbuild.{linked_image, is_large, built_reply, linked_reply, checked_reply}
-use Rattle.cli_stack.specs.Pit.{pit_reply}
+use Rattle.cli_stack.specs.Pit.{written_reply, pit_reply}
 use Rattle.cli_stack.specs.PitonText.{checked_in}
 use Rattle.cli_stack.specs.Prun.{run_end_reply, checked_run_reply, system_run_reply}
 use Rattle.cli_stack.specs.Run.{end_reply, run_reply, values_reply, image_reply}
 use Rattle.cli_stack.specs.Show.{listing_reply}
+use Rattle.cli_stack.specs.Migrate.{migrated_reply}
+use Rattle.cli_stack.specs.Asm.{assembled_reply}
+use Rattle.cli_stack.specs.Unasm.{printed_reply}
+use Rattle.cli_stack.specs.Need.{bounds_reply, certified_reply, need_reply_by}
+use Rattle.cli_stack.specs.Cert.{judged_reply, certificate_reply, cert_reply_by}
 use Rattle.cli_stack.specs.SourceText.{accepted_in}
+use Rattle.cli_stack.specs.Turns.{fault_reply, tasks_of, tasks_reply, turns_by}
 use Rattle.cli_stack.specs.Promises.{RunsImage, IsRunEnd}
 use Rattle.cli_stack.specs.Driver.{IsReplyTo}
 
@@ -100,6 +116,40 @@ NoMachine reply = reply.state ≡ None
 listing_none : (image : Result ImageOf (ℕ × ℕ)) → NoMachine (listing_reply image)
 listing_none (Ok image) = refl
 listing_none (Err fault) = refl
+
+migrated_none : (name : List ℕ) (image : Result ImageOf (ℕ × ℕ)) → NoMachine (migrated_reply name image)
+migrated_none name (Ok image) = refl
+migrated_none name (Err fault) = refl
+
+assembled_none : (found : Result ImageOf Breach) → NoMachine (assembled_reply found)
+assembled_none (Ok image) = refl
+assembled_none (Err breach) = refl
+
+printed_none : (name : List ℕ) (found : Result ImageOf (ℕ × ℕ)) → NoMachine (printed_reply name found)
+printed_none name (Err fault) = refl
+printed_none name (Ok image) = by_plain (is_plain image)
+  where
+    by_plain : (plain : Bool) → NoMachine (if plain then written_reply name else verdict_alone verdict.NotPlain)
+    by_plain true = refl
+    by_plain false = refl
+
+need_none : (found : Result SourceOf Verdict) → NoMachine (need_reply_by found)
+unfolding certified_reply
+need_none (Err verdict) = refl
+need_none (Ok source) = by_bounds (certified (program_of source))
+  where
+    by_bounds : (found : Result Bounds ℕ) → NoMachine (bounds_reply source found)
+    by_bounds (Ok bounds) = refl
+    by_bounds (Err procedure) = refl
+
+cert_none : (found : Result SourceOf Verdict) (sizes : StackWords) (text : List ℕ) → NoMachine (cert_reply_by found sizes text)
+unfolding certificate_reply
+cert_none (Err verdict) sizes text = refl
+cert_none (Ok source) sizes text = by_bounds (bounds_in (procedure_names source) text)
+  where
+    by_bounds : (found : Result Bounds (ℕ × ℕ)) → NoMachine (judged_reply source sizes found)
+    by_bounds (Ok bounds) = refl
+    by_bounds (Err fault) = refl
 
 judgement_none : {X : Type 0} (found : Result X Verdict) → NoMachine (judgement_reply found)
 judgement_none (Ok accepted) = refl
@@ -157,6 +207,17 @@ debug_none : (found : Result LevelOf Verdict) (watches : List Watching) (text : 
 debug_none (Ok run) watches text = script_none run watches (script_of text)
 debug_none (Err verdict) watches text = refl
 
+fault_none : (fault : TasksFault) → NoMachine (fault_reply fault)
+fault_none tasks_fault.Count = refl
+fault_none (tasks_fault.Refused number verdict) = refl
+fault_none (tasks_fault.Large words) = refl
+fault_none tasks_fault.Memory = refl
+
+turns_none : (turn budget : ℕ) (found : Result (List NewTask) TasksFault) → NoMachine (turns_by turn budget found)
+unfolding tasks_reply
+turns_none turn budget (Ok tasks) = refl
+turns_none turn budget (Err fault) = fault_none fault
+
 -- 3. All commands.
 
 -- there is no machine, or the command runs an image, and this is the end of its run
@@ -179,12 +240,19 @@ by_command (command.Mean source values control temporary limit) watches texts = 
 by_command (command.Build source control temporary image) watches texts = inl (build_none (built (text_of role.Source texts) control temporary 0))
 by_command (command.Pit source control temporary piton) watches texts = inl (pit_none piton (compiled (text_of role.Source texts) control temporary 0))
 by_command (command.Show image) watches texts = inl (listing_none (read_of (text_of role.Image texts)))
+by_command (command.Migrate image output) watches texts = inl (migrated_none output (read_of (text_of role.Image texts)))
+by_command (command.Asm assembly image) watches texts = inl (assembled_none (assembly_of (text_of role.Assembly texts)))
+by_command (command.Unasm image assembly) watches texts = inl (printed_none assembly (read_of (text_of role.Image texts)))
+by_command (command.Need source certificate) watches texts = inl (need_none (accepted_in (text_of role.Source texts)))
+by_command (command.Cert source certificate control temporary) watches texts = inl (cert_none (accepted_in (text_of role.Source texts)) (stack_words temporary control) (text_of role.Certificate texts))
 by_command (command.Check source) watches texts = inl (judgement_none (accepted_in (text_of role.Source texts)))
 by_command (command.Pcheck piton) watches texts = inl (judgement_none (checked_in (text_of role.Piton texts)))
 by_command (command.Prun piton limit) watches texts = inl (piton_run_none (checked_in (text_of role.Piton texts)) limit)
 by_command (command.Pbuild piton image) watches texts = inl (checked_none (checked_in (text_of role.Piton texts)))
 by_command (command.Debug level source values control temporary script) watches texts =
     inl (debug_none (run_in level (text_of role.Source texts) (stack_words temporary control) (text_of role.Values texts)) watches (text_of role.Script texts))
+by_command (command.Turns turn budget control temporary tasks) watches texts =
+    inl (turns_none turn budget (tasks_of (stack_words temporary control) (texts_of role.TaskSource texts) (texts_of role.TaskValues texts)))
 
 of_reply : (c : Option Command) (watches : List Watching) (reply : Reply) → IsReplyTo c watches reply → OnlyRuns c (reply_of reply)
 of_reply None watches reply is = inl (ap (λ (r : ReplyOf). r.state) is)

@@ -34,10 +34,11 @@ use Rattle.command_line.specs.declared.command.Command.{Command}
 use Rattle.command_line.specs.declared.command.Command.TheVariants as command
 use Rattle.command_line.specs.declared.early_end.EarlyEnd.{EarlyEnd}
 use Rattle.command_line.specs.declared.role.Role.{Role}
-use Rattle.command_line.specs.declared.role.Role.TheVariants.{Source, Piton, Image, Values, Script}
+use Rattle.command_line.specs.declared.role.Role.TheVariants.{Source, Piton, Image, Values, Script, Assembly, Certificate}
+use Rattle.command_line.specs.declared.command.TaskFiles.{TaskFiles}
 use Rattle.command_line.specs.declared.status.Status.TheVariants.{Done}
 use Rattle.command_line.specs.Gathered.{Texts}
-use Rattle.command_line.specs.CommandFiles.{inputs_of, output_of}
+use Rattle.command_line.specs.CommandFiles.{task_inputs, inputs_of, output_of}
 use Rattle.cli_stack.specs.declared.reply.Verdict.{Verdict}
 use Rattle.cli_stack.specs.declared.reply.Verdict.TheVariants as verdict
 use Rattle.cli_stack.specs.Replies.{ReplyOf, status_of, verdict_line}
@@ -225,6 +226,16 @@ follows (command.Mean source_name values_name control temporary limit) watches f
 follows (command.Go source_name values_name control temporary budget image) watches files = λ source values reads writes. absurd (let e : Some (Image, image) ≡ None = writes in cc)
 follows (command.Run image values_name budget) watches files = λ source values reads writes. absurd (let e : Image ≡ Source = ap first_role reads in cc)
 follows (command.Show image) watches files = λ source values reads writes. absurd (let e : Image ≡ Source = ap first_role reads in cc)
+follows (command.Migrate image output) watches files = λ source values reads writes. absurd (let e : Image ≡ Source = ap first_role reads in cc)
+follows (command.Asm assembly image) watches files = λ source values reads writes. absurd (let e : Assembly ≡ Source = ap first_role reads in cc)
+follows (command.Unasm image assembly) watches files = λ source values reads writes. absurd (let e : Image ≡ Source = ap first_role reads in cc)
+follows (command.Need source_name certificate) watches files = λ source values reads writes. absurd (let e : [] ≡ (Values, values) ∷ [] = ap others reads in cc)
+follows (command.Cert source_name certificate control temporary) watches files = λ source values reads writes. absurd (let e : Certificate ≡ Values = ap (λ (fs : List (Role × List ℕ)). first_role (others fs)) reads in cc)
+follows (command.Turns turn budget control temporary tasks) watches files = λ source values reads writes. absurd (no_source tasks (ap first_role reads))
+  where
+    no_source : (tasks : List TaskFiles) → first_role (task_inputs tasks) ≡ Source → ⊥
+    no_source [] e = cc
+    no_source (task ∷ tasks) e = cc
 follows (command.Check source_name) watches files = λ source values reads writes. absurd (let e : [] ≡ (Values, values) ∷ [] = ap others reads in cc)
 follows (command.Pit source_name control temporary piton) watches files = λ source values reads writes. absurd (let e : Some (Piton, piton) ≡ None = writes in cc)
 follows (command.Build source_name control temporary image) watches files = λ source values reads writes. absurd (let e : Some (Image, image) ≡ None = writes in cc)

@@ -22,14 +22,16 @@ use Rattle.cli_stack.specs.declared.reply.Verdict.TheVariants as verdict
 use Rattle.cli_stack.specs.Replies.{status_of, verdict_line}
 use Rattle.cli_stack.specs.Answer.{Answer, early_answer, files_after, answer_by}
 use Rattle.cli_stack.specs.World.{World}
-use Rattle.cli_stack.specs.Promises.{HoldsMachine, Agrees, RunsImage, IsRunEnd, RoseAt, RoseAndPrinted, opening_by, SizePrinted, HoldsPart, LeavesFiles, PrintsPrefix, PromisesOf}
+use Rattle.cli_stack.specs.Promises.{HoldsMachine, Agrees, RunsImage, IsRunEnd, RoseAt, RoseAndPrinted, SizePrinted, HoldsPart, LeavesFiles, PrintsPrefix, PromisesOf}
 use Rattle.cli_stack.specs.Correct.{Compiles, Tells}
 use Rattle.cli_stack.specs.Means.{Means}
 use Rattle.cli_stack.specs.Linked.{Links}
+use Rattle.cli_stack.specs.Assembles.{Assembles}
+use Rattle.cli_stack.specs.Room.{Needs}
 use Rattle.cli_stack.specs.Driver.{HasReason, IsReplyTo, LeavesAs, Leaves, machine_kept, conclusion_of, Stopped, NotBegun, Concludes}
 use Rattle.cli_stack.proofs.CompletesLaws.{completes}
 use Rattle.cli_stack.proofs.MachineLaws.{only_runs}
-use Rattle.cli_stack.proofs.SizeLaws.{sizes_alone, size_refused}
+use Rattle.cli_stack.proofs.SizeLaws.{size_printed}
 
 -- 1. Statuses.
 
@@ -193,13 +195,11 @@ stopped command watches before after c status s = record {
     other t plain h = ⊎_elim (λ (failed : (status ≡ SinkFault) × Rose before.out.faults after.out.faults). apart is_plain t SinkFault plain refl (sym h ∙ failed.0)) (λ memory. apart is_plain t OutOfMemory plain refl (sym h ∙ memory)) s.cause
 
 -- a reply was printed whose verdict is a size
-size_printed : (command : Option Command) (watches : List Watching) (before after : World) (reply : Reply) (v : Verdict) → reply.verdict ≡ v → status_of v ≡ Size → IsReplyTo command watches reply
+sized : (command : Option Command) (watches : List Watching) (before after : World) (reply : Reply) (v : Verdict) → reply.verdict ≡ v → status_of v ≡ Size → IsReplyTo command watches reply
     → after.out.taken ≡ appended before.out.taken (reply.said ++ verdict_line reply.verdict) → SizePrinted command watches before after
-size_printed command watches before after reply (verdict.Size of need) is size to printed =
-    let alone = sizes_alone command watches reply of need to is in
-    (alone.0, of, need, size_refused command watches reply of need to is, printed ∙ ap (λ (said : List ℕ). appended before.out.taken (said ++ verdict_line reply.verdict)) alone.1 ∙ ap (λ (v : Verdict). appended before.out.taken (opening_by command ++ verdict_line v)) is)
-size_printed command watches before after reply verdict.Done is size to printed = absurd cc
-size_printed command watches before after reply v is size to printed = absurd cc
+sized command watches before after reply (verdict.Size of need) is size to printed = size_printed command watches before after reply of need to is printed
+sized command watches before after reply verdict.Done is size to printed = absurd cc
+sized command watches before after reply v is size to printed = absurd cc
 
 caused : (command : Option Command) (watches : List Watching) (before after : World) (ran : Result Reply EarlyEnd) (status : Status)
     → IfErr ran (HasReason before.shelf.counts after.shelf.counts command) → IfOk ran (IsReplyTo command watches)
@@ -210,7 +210,7 @@ caused command watches before after (Ok reply) status reason to (inr (inl p)) = 
   missing = λ h. absurd (apart is_own (status_of reply.verdict) Missing (own_verdict reply.verdict) refl (sym p.ends ∙ h));
   shelf_fault = λ h. absurd (apart is_own (status_of reply.verdict) ShelfFault (own_verdict reply.verdict) refl (sym p.ends ∙ h));
   sink_fault = λ h. absurd (apart is_own (status_of reply.verdict) SinkFault (own_verdict reply.verdict) refl (sym p.ends ∙ h));
-  too_long = λ h. inr (size_printed command watches before after reply reply.verdict refl (sym p.ends ∙ h) to p.text);
+  too_long = λ h. inr (sized command watches before after reply reply.verdict refl (sym p.ends ∙ h) to p.text);
   kept = λ none. unchanged reply.machine p.machine (only_runs command watches reply to (λ run. none (run.0, subst IsRunEnd (sym p.ends) run.1)));
 }
   where
@@ -272,8 +272,10 @@ pub promises : (command : Option Command) (watches : List Watching) (before afte
     → IfSome before.shelf.files (λ files. Tells command files (answer_by command watches files))
     → IfSome before.shelf.files (λ files. Means command files (answer_by command watches files))
     → IfSome before.shelf.files (λ files. Links command files (answer_by command watches files).output)
+    → IfSome before.shelf.files (λ files. Assembles command files (answer_by command watches files).output)
+    → IfSome before.shelf.files (λ files. Needs command files (answer_by command watches files))
     → PromisesOf command watches (answer_by command watches) before after status
-promises command watches before after ran status leaves reason to ends implements tells means links =
+promises command watches before after ran status leaves reason to ends implements tells means links assembles needs =
     let all : IfSome before.shelf.files (λ files. Known (answer_by command watches files) (file_names command) files before after status) =
     if_known before.shelf.files (λ files. Leaves command watches files before.shelf after.shelf ran) (λ files. Known (answer_by command watches files) (file_names command) files before after status)
     (λ files l. known command (answer_by command watches files) files before after ran status l reason ends) leaves in
@@ -286,6 +288,8 @@ promises command watches before after ran status leaves reason to ends implement
       tells = tells;
       means = means;
       links = links;
+      assembles = assembles;
+      needs = needs;
       completes = completes watches before after status command before.shelf.files agrees causes.shelf_fault causes.sink_fault tells;
       words_read = words_read ran status before after ends;
       missing = causes.missing;

@@ -24,11 +24,12 @@ use Rattle.command_line.specs.declared.command.Command.{Command}
 use Rattle.command_line.specs.declared.command.Command.TheVariants as command
 use Rattle.command_line.specs.declared.early_end.EarlyEnd.{EarlyEnd}
 use Rattle.command_line.specs.declared.role.Role.{Role}
-use Rattle.command_line.specs.declared.role.Role.TheVariants.{Source, Piton, Image, Values, Script}
+use Rattle.command_line.specs.declared.role.Role.TheVariants.{Source, Piton, Image, Values, Script, Assembly, Certificate, TaskSource, TaskValues}
+use Rattle.command_line.specs.declared.command.TaskFiles.{TaskFiles}
 use Rattle.command_line.specs.declared.words.reader.Level.{Level}
 use Rattle.command_line.specs.Roles.{limit_of}
 use Rattle.command_line.specs.Gathered.{Texts, text_or_end, gathered}
-use Rattle.command_line.specs.CommandFiles.{inputs_of, output_of}
+use Rattle.command_line.specs.CommandFiles.{task_inputs, inputs_of, output_of}
 use Rattle.cli_stack.specs.declared.reply.Verdict.{Verdict}
 use Rattle.cli_stack.specs.declared.reply.Verdict.TheVariants.{Done}
 use Rattle.cli_stack.specs.Replies.{ReplyOf, status_of, verdict_line}
@@ -64,7 +65,7 @@ reply_tells image source sizes values finals way count budget output reply does 
 
 -- 2. The files lead to it.
 
-is_there : (files : Files) (input : Role × List ℕ) (text : List ℕ) → IsReadable files input.0 input.1 text → text_or_end input (fetched files input.1 (limit_of input.0)) ≡ Ok text
+pub is_there : (files : Files) (input : Role × List ℕ) (text : List ℕ) → IsReadable files input.0 input.1 text → text_or_end input (fetched files input.1 (limit_of input.0)) ≡ Ok text
 is_there files input text readable =
     let long : nat_lt (limit_of input.0) (length text) ≡ false = le-ltb (limit_of input.0) (length text) readable.short in
     ap (λ (o : Option (List ℕ)). text_or_end input (within (limit_of input.0) o)) readable.there ∙ rw long refl
@@ -121,6 +122,19 @@ no_values : (role : Role) (first name : List ℕ) → (role ≡ Values → ⊥) 
 no_values role first name other (zero, lt, is) = other (ap (λ (f : Role × List ℕ). f.0) is)
 no_values role first name other (suc i, lt, is) = omega arith
 
+-- nor does `cert`
+cert_no_values : (source_name certificate name : List ℕ) → Contains {X = Role × List ℕ} ((Source, source_name) ∷ (Certificate, certificate) ∷ []) (Values, name) → ⊥
+cert_no_values source_name certificate name (zero, lt, is) = let e : Source ≡ Values = ap (λ (f : Role × List ℕ). f.0) is in cc
+cert_no_values source_name certificate name (suc zero, lt, is) = let e : Certificate ≡ Values = ap (λ (f : Role × List ℕ). f.0) is in cc
+cert_no_values source_name certificate name (suc (suc i), lt, is) = omega arith
+
+-- the values of tasks have a role of their own
+tasks_no_values : (tasks : List TaskFiles) (name : List ℕ) → Contains (task_inputs tasks) (Values, name) → ⊥
+tasks_no_values [] name (i, lt, is) = omega (arith, lt)
+tasks_no_values (task ∷ tasks) name (zero, lt, is) = let e : TaskSource ≡ Values = ap (λ (f : Role × List ℕ). f.0) is in cc
+tasks_no_values (task ∷ tasks) name (suc zero, lt, is) = let e : TaskValues ≡ Values = ap (λ (f : Role × List ℕ). f.0) is in cc
+tasks_no_values (task ∷ tasks) name (suc (suc i), lt, is) = tasks_no_values tasks name (i, omega (arith, lt), is)
+
 -- `mean` has no image
 mean_has_none : (source_name values_file : List ℕ) (control temporary limit : ℕ) → HasImage (command.Mean source_name values_file control temporary limit) → ⊥
 unfolding inputs_of output_of
@@ -153,6 +167,12 @@ tells_by implement take (command.Run image_name values_file budget) watches file
 tells_by implement take (command.Mean source_name values_file control temporary limit) watches files = λ name reads has. absurd (mean_has_none source_name values_file control temporary limit has)
 tells_by implement take (command.Debug level source_name values_file control temporary script) watches files = λ name reads has. absurd (debug_has_none level source_name values_file control temporary script has)
 tells_by implement take (command.Show image_name) watches files = λ name reads has. absurd (no_values Image image_name name (λ e. cc) reads)
+tells_by implement take (command.Migrate image_name output) watches files = λ name reads has. absurd (no_values Image image_name name (λ e. cc) reads)
+tells_by implement take (command.Asm assembly image_name) watches files = λ name reads has. absurd (no_values Assembly assembly name (λ e. cc) reads)
+tells_by implement take (command.Unasm image_name assembly) watches files = λ name reads has. absurd (no_values Image image_name name (λ e. cc) reads)
+tells_by implement take (command.Need source_name certificate) watches files = λ name reads has. absurd (no_values Source source_name name (λ e. cc) reads)
+tells_by implement take (command.Cert source_name certificate control temporary) watches files = λ name reads has. absurd (cert_no_values source_name certificate name reads)
+tells_by implement take (command.Turns turn budget control temporary tasks) watches files = λ name reads has. absurd (tasks_no_values tasks name reads)
 tells_by implement take (command.Pit source_name control temporary piton_name) watches files = λ name reads has. absurd (no_values Source source_name name (λ e. cc) reads)
 tells_by implement take (command.Build source_name control temporary image_name) watches files = λ name reads has. absurd (no_values Source source_name name (λ e. cc) reads)
 tells_by implement take (command.Check source_name) watches files = λ name reads has. absurd (no_values Source source_name name (λ e. cc) reads)

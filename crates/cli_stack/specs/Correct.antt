@@ -14,6 +14,7 @@ use Rattle.stack_build.specs.Implements.{meaning_shown, FitsFormals, Finishes, I
 use Rattle.stack_build.specs.Moments.{KeepsMoments, StaysUnfinished}
 use Rattle.command_line.specs.declared.command.Command.{Command}
 use Rattle.command_line.specs.declared.command.Command.TheVariants.{Mean, Pit, Build, Run, Go, Debug, Big}
+use Rattle.command_line.specs.declared.command.Command.TheVariants.{Turns}
 use Rattle.command_line.specs.declared.role.Role.{Role}
 use Rattle.command_line.specs.declared.role.Role.TheVariants.{Source, Image, Values}
 use Rattle.command_line.specs.declared.status.Status.TheVariants.{Done}
@@ -37,6 +38,7 @@ sizes_of (Build source control temporary image) = Some (stack_words temporary co
 sizes_of (Go source values control temporary budget image) = Some (stack_words temporary control)
 sizes_of (Debug level source values control temporary script) = Some (stack_words temporary control)
 sizes_of (Big number procedures) = Some (stack_words 64 64)
+sizes_of (Turns turn budget control temporary tasks) = Some (stack_words temporary control)
 sizes_of _ = None
 
 -- 1. What is stored.

@@ -4,7 +4,11 @@ pub mod Correct
 pub mod Means
 pub mod Linked
 pub mod Completes
+pub mod Assembles
+pub mod Room
 pub mod Endless
+pub mod Explains
+pub mod ByTurns
 pub mod Answer
 pub mod World
 pub mod Replies
@@ -18,7 +22,13 @@ pub mod Go
 pub mod Big
 pub mod Run
 pub mod Show
+pub mod Migrate
+pub mod Asm
+pub mod Unasm
+pub mod Need
+pub mod Cert
 pub mod Debug
+pub mod Turns
 pub mod PitonText
 pub mod Pcheck
 pub mod Prun
@@ -26,3 +36,5 @@ pub mod Pbuild
 -- what private functions say
 pub mod Plans
 pub mod Driver
+pub mod Tasks
+pub mod Told

@@ -16,9 +16,10 @@ use Rattle.cli_stack.specs.declared.reply.Verdict.TheVariants.{Size}
 use Rattle.cli_stack.specs.Replies.{ReplyOf, verdict_alone, all_said}
 use Rattle.cli_stack.specs.PitonText.{checked_in}
 
--- the image of a placed system: without slots, and without a condition word
+-- the image of a placed system: without slots, procedures and marks, and without a condition word
 abbrev pub linked_image : SystemView → ImageOf
 linked_image system = record {
+  version = 2;
   base = system.base;
   size = (placed system).size;
   final_pc = (placed system).final_pc;
@@ -28,6 +29,8 @@ linked_image system = record {
   conditions = [];
   slots = [];
   words = trimmed (placed system).words;
+  procedures = [];
+  marks = [];
 }
 
 -- more words than a window has

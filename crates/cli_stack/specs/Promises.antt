@@ -1,5 +1,5 @@
 -- What the program promises.
-use Rattle.std.specs.Prelude.{◌≡◌, ◌≢◌, ◌⊎◌, ℕ, List, [], ◌++◌, Option, Some, None, Contains, IfSome, IsSome, IsSomeAnd}
+use Rattle.std.specs.Prelude.{◌≡◌, ◌≢◌, ◌⊎◌, ℕ, List, Option, Some, None, Contains, IfSome, IsSome, IsSomeAnd}
 use Rattle.fm_machine.specs.State.{Fm, MachineOf}
 use Rattle.stack_shelf.specs.Files.{Files}
 use Rattle.level_debuggers.specs.Tallies.{Watching}
@@ -19,14 +19,15 @@ use Rattle.command_line.specs.CommandFiles.{input_names, file_names}
 use Rattle.command_line.specs.Gathered.{Texts}
 use Rattle.cli_stack.specs.declared.reply.SizeOf.{SizeOf}
 use Rattle.cli_stack.specs.declared.reply.Verdict.TheVariants as verdict
-use Rattle.cli_stack.specs.Replies.{verdict_line}
+use Rattle.cli_stack.specs.Replies.{reply_text}
 use Rattle.cli_stack.specs.Answer.{Answer, files_after, reply_by, answer}
 use Rattle.cli_stack.specs.World.{World}
 use Rattle.cli_stack.specs.Correct.{StoresFile, sizes_of, Compiles, Tells}
 use Rattle.cli_stack.specs.Means.{Means}
 use Rattle.cli_stack.specs.Linked.{Links}
+use Rattle.cli_stack.specs.Assembles.{Assembles}
+use Rattle.cli_stack.specs.Room.{Needs}
 use Rattle.cli_stack.specs.Completes.{Completes}
-use Rattle.cli_stack.specs.Big.{source_line}
 
 -- 1. What no failure spoils.
 
@@ -74,22 +75,13 @@ abbrev pub HasSizes : Option Command → Type 0
 HasSizes None = ⊥
 HasSizes (Some command) = IsSome (sizes_of command) ⊎ ((image : List ℕ) × StoresFile command Image image)
 
--- what a command says before its sizes are judged: `big` the length of its source
-abbrev pub opening_by : Option Command → List ℕ
-opening_by (Some (Big number procedures)) = source_line number procedures
-opening_by _ = []
-
--- the command replies to some texts of its files that this size is refused
-abbrev pub RefusesSize : Option Command → List Watching → SizeOf → ℕ → Type 0
-RefusesSize None watches of need = ⊥
-RefusesSize (Some command) watches of need =
-    (texts : Texts) × ((reply_by command watches texts).verdict ≡ verdict.Size of need)
-
--- such a command refused a size, and its line is what was printed
+-- such a command replied to some texts of its files that a size is refused, and what was printed is that reply
 abbrev pub SizePrinted : Option Command → List Watching → World → World → Type 0
-SizePrinted command watches before after =
-    HasSizes command × (of : SizeOf) × (need : ℕ) × RefusesSize command watches of need
-    × (after.out.taken ≡ appended before.out.taken (opening_by command ++ verdict_line (verdict.Size of need)))
+SizePrinted None watches before after = ⊥
+SizePrinted (Some command) watches before after =
+    HasSizes (Some command) × (texts : Texts) × (of : SizeOf) × (need : ℕ)
+    × ((reply_by command watches texts).verdict ≡ verdict.Size of need)
+    × (after.out.taken ≡ appended before.out.taken (reply_text (reply_by command watches texts)))
 
 -- 3. What a failure leaves.
 
@@ -129,6 +121,10 @@ pub record PromisesOf (command : Option Command) (watches : List Watching) (answ
   pub means : IfSome before.shelf.files (λ files. Means command files (answer files))
   -- who reads a Piton text and stores an image stores what does as the text's system
   pub links : IfSome before.shelf.files (λ files. Links command files (answer files).output)
+  -- who reads an assembly text and stores an image stores the one that it spells, and the other way round
+  pub assembles : IfSome before.shelf.files (λ files. Assembles command files (answer files).output)
+  -- at the sizes that `need` tells, and where `cert` says yes, no run of the source sets spaceerror
+  pub needs : IfSome before.shelf.files (λ files. Needs command files (answer files))
   -- who reads a source and values and stores an image does all that it is for, where nothing is wrong and no device fails
   pub completes : IfSome before.shelf.files (λ files. Completes command files before after status)
   -- a call that has its words never ends for want of them

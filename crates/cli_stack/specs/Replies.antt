@@ -12,12 +12,13 @@ use Rattle.command_line.specs.declared.status.Status.{Status}
 use Rattle.command_line.specs.declared.status.Status.TheVariants as status
 use Rattle.stack_text.specs.Lines.{line}
 use Rattle.cli_stack.specs.declared.reply.RuleLetter.{RuleLetter}
-use Rattle.cli_stack.specs.declared.reply.RuleLetter.TheVariants.{G, M, S, P, Q}
+use Rattle.cli_stack.specs.declared.reply.RuleLetter.TheVariants.{G, M, S, P, Q, A}
 use Rattle.cli_stack.specs.declared.reply.SizeOf.{SizeOf}
 use Rattle.cli_stack.specs.declared.reply.SizeOf.TheVariants.{Control, Temporary, Words}
 use Rattle.cli_stack.specs.declared.reply.Verdict.{Verdict}
 use Rattle.cli_stack.specs.declared.reply.Verdict.TheVariants.{Done, Usage, Refused, Values, Image, Unfinished}
-use Rattle.cli_stack.specs.declared.reply.Verdict.TheVariants.{Outside, Error, Script, Size}
+use Rattle.cli_stack.specs.declared.reply.Verdict.TheVariants.{Outside, Error, Script, NotPlain}
+use Rattle.cli_stack.specs.declared.reply.Verdict.TheVariants.{Recursive, Certificate, Size, SomeUnfinished}
 use Rattle.cli_stack.specs.declared.reply.Reply.{Reply}
 
 -- the letter of a rule
@@ -27,6 +28,7 @@ letter_text M = codes "M"
 letter_text S = codes "S"
 letter_text P = codes "P"
 letter_text Q = codes "Q"
+letter_text A = codes "A"
 
 -- the number of a rule of the form of texts, whose letter is G
 abbrev pub text_rule_number : TextRule → ℕ
@@ -58,12 +60,16 @@ status_of (Refused letter number place) = status.Refused
 status_of (Values rule place) = status.Values
 status_of (Image rule place) = status.Image
 status_of (Unfinished limit) = status.Unfinished
+status_of SomeUnfinished = status.Unfinished
 status_of (Outside address count) = status.Outside
 status_of (Error kind program place count) = status.Error
 status_of (Script rule number) = status.Script
+status_of NotPlain = status.NotPlain
+status_of (Recursive procedure) = status.Recursive
+status_of (Certificate rule place) = status.Certificate
 status_of (Size of need) = status.Size
 
--- the last line; a command that came to its defined end has said all
+-- the last line; a command that came to its defined end, or told of each task, has said all
 abbrev pub verdict_line : Verdict → List ℕ
 verdict_line Done = []
 verdict_line Usage = line (codes "usage")
@@ -71,11 +77,15 @@ verdict_line (Refused letter number place) =
     line (codes "refused " ++ letter_text letter ++ decimal number ++ codes " at " ++ decimal place)
 verdict_line (Values rule place) = line (codes "values V" ++ decimal rule ++ codes " at " ++ decimal place)
 verdict_line (Image rule place) = line (codes "image I" ++ decimal rule ++ codes " at " ++ decimal place)
+verdict_line SomeUnfinished = []
 verdict_line (Unfinished limit) = line (codes "unfinished " ++ decimal limit)
 verdict_line (Outside address count) = line (codes "outside " ++ hex_digits address ++ codes " after " ++ decimal count)
 verdict_line (Error kind program place count) =
     line (codes "error " ++ kind_text kind ++ codes " at " ++ program ++ codes " " ++ decimal place ++ codes " after " ++ decimal count)
 verdict_line (Script rule number) = line (codes "script D" ++ decimal rule ++ codes " at line " ++ decimal number)
+verdict_line NotPlain = line (codes "not plain")
+verdict_line (Recursive procedure) = line (codes "recursive " ++ procedure)
+verdict_line (Certificate rule place) = line (codes "certificate Z" ++ decimal rule ++ codes " at " ++ decimal place)
 verdict_line (Size of need) = line (codes "size " ++ size_of_text of ++ codes " " ++ decimal need)
 
 -- what a command replies: what it says before its last line, how it ended, and the state of the machine that was run

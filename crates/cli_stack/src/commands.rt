@@ -5,13 +5,17 @@ ghost use Rattle.cli_stack.specs.Answer.{stored_by, reply_by};
 ghost use Rattle.cli_stack.specs.Replies.{reply_of};
 ghost use Rattle.cli_stack.specs.Plans.{pending_reply};
 
+mod asm;
 mod big;
 mod build;
+mod cert;
 mod check;
 mod debug;
 mod go;
 mod image_run;
 mod mean;
+mod migrate;
+mod need;
 mod pbuild;
 mod pcheck;
 mod pit;
@@ -21,8 +25,10 @@ mod prun;
 mod run;
 mod show;
 mod source_text;
+mod turns;
+mod unasm;
 
-use crate::reply::Reply;
+use crate::reply::{Reply, Verdict};
 use command_line::{Command, Role, Texts};
 use level_debuggers::Watch;
 pub use plan::{Pending, Plan};
@@ -79,7 +85,29 @@ pub fn prepare(
         Command::Pbuild { .. } => pbuild::prepare(alloc, piton),
         Command::Run { budget, .. } => run::prepare(alloc, image, values, *budget),
         Command::Show { .. } => show::prepare(alloc, image),
+        Command::Migrate { output, .. } => migrate::prepare(alloc, image, output),
+        Command::Asm { .. } => asm::prepare(alloc, texts.of(Role::Assembly)),
+        Command::Unasm { assembly: name, .. } => unasm::prepare(alloc, image, name),
+        Command::Need { .. } => need::prepare(alloc, source),
+        Command::Cert {
+            control,
+            temporary,
+            ..
+        } => cert::prepare(
+            alloc,
+            source,
+            texts.of(Role::Certificate),
+            control,
+            temporary,
+        ),
         Command::Big { number, procedures } => big::prepare(alloc, *number, procedures),
+        Command::Turns {
+            turn,
+            budget,
+            control,
+            temporary,
+            ..
+        } => turns::prepare(alloc, texts, turn, *budget, control, temporary),
     }
 }
 

@@ -7,7 +7,7 @@ mod program;
 mod reply;
 
 use command_line::exit_code;
-use level_debuggers::{CountWatch, LastWatch, PeakWatch, Watch};
+use level_debuggers::{CostWatch, CountWatch, LastWatch, PeakWatch, Watch};
 use program::cli;
 use stack_shelf::{FolderShelf, StdoutSink};
 use std::alloc::Global;
@@ -30,9 +30,10 @@ fn run(rt: HostRuntime) -> io::Result<u8> {
     let alloc = rt.alloc();
     let words = arguments(alloc, &rt)?;
     let count = Box::new(alloc, CountWatch::new())?;
+    let cost = Box::new(alloc, CostWatch::new())?;
     let last = Box::new(alloc, LastWatch::new())?;
     let peak = Box::new(alloc, PeakWatch::new())?;
-    let watches: [Box<dyn Watch>; 3] = [count, last, peak];
+    let watches: [Box<dyn Watch>; 4] = [count, cost, last, peak];
     let watches = Vec::from_array(alloc, watches)?;
     let mut shelf = FolderShelf::new(alloc, rt, PathBuf::new(alloc));
     let mut out = StdoutSink::new(rt);

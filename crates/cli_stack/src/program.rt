@@ -2,13 +2,16 @@
 ghost use Rattle.std.specs.Prelude.{map};
 ghost use Rattle.level_debuggers.specs.Tallies.{watching};
 ghost use Rattle.command_line.specs.Words.{spelled};
+ghost use Rattle.cli_stack.specs.ByTurns.{EachTaskIsTold};
 ghost use Rattle.cli_stack.specs.Endless.{EndlessStaysOn};
+ghost use Rattle.cli_stack.specs.Explains.{Explains};
 ghost use Rattle.cli_stack.specs.World.{world};
 ghost use Rattle.cli_stack.specs.Promises.{Promises};
 
 use crate::driver::{conclude, run_words};
+use debug_moments::moments_are_said;
 use fm_machine::Machine;
-use level_debuggers::Watch;
+use level_debuggers::{Watch, scripts_walk};
 use stack_build::{builds_implement, placed_are_words};
 use stack_shelf::{Shelf, Sink};
 use std::alloc::Global;
@@ -38,9 +41,17 @@ pub fn cli<S: Shelf, K: Sink>(
     // Where a source never ends, the answer is `unfinished`, whatever the budget.
     ensures endless { EndlessStaysOn (spelled words.now) (map (λ w. watching (rule_of w) (tally_of w)) watches.items)
         (S.files shelf.old) }
+    // Where the source's step machine comes to a state, a session says it.
+    ensures explains { Explains (spelled words.now) (map (λ w. watching (rule_of w) (tally_of w)) watches.items)
+        (S.files shelf.old) }
+    // Sources whose images take turns are told each as it is alone.
+    ensures turns { EachTaskIsTold (spelled words.now) (map (λ w. watching (rule_of w) (tally_of w)) watches.items)
+        (S.files shelf.old) }
 {
     builds_implement();
     placed_are_words();
+    scripts_walk();
+    moments_are_said();
     let ran = run_words(alloc, words, shelf, watches);
     conclude(alloc, ran, out, kept).code()
 }

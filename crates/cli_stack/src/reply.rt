@@ -1,5 +1,7 @@
 //! What a command replies.
-ghost use Rattle.std.specs.Prelude.{◌≡◌, IfOk};
+ghost use Rattle.std.specs.Prelude.{◌≡◌, ◌++◌, IfOk, codes};
+ghost use Rattle.std.specs.Fmt.{decimal};
+ghost use Rattle.stack_text.specs.Lines.{line};
 ghost use Rattle.cli_stack.specs.Replies.{letter_text, text_rule_number, size_of_text, kind_text, verdict_line};
 
 use command_line::Status;
@@ -9,7 +11,8 @@ use piton_machine::ErrorKind;
 use stack_text::{Memory, Name, Seq, TextRule};
 use std::alloc::Global;
 
-/// The letter of a rule by which a text is refused: G for the form of trees, M and S for sources, P and Q for Piton.
+/// The letter of a rule by which a text is refused: G for the form of trees, M and S for sources, P and Q for Piton, A for
+/// assembly texts.
 #[derive(Clone, Copy, PartialEq, Eq)]
 pub enum RuleLetter {
     G,
@@ -17,6 +20,7 @@ pub enum RuleLetter {
     S,
     P,
     Q,
+    A,
 }
 
 /// What is too small or too large: a stack, or the words of a program.
@@ -34,7 +38,7 @@ pub enum Verdict {
     Done,
     /// The words are no command.
     Usage,
-    /// The source or the Piton text breaks the rule of a letter and a number, at a place of its text.
+    /// The source, the Piton text or the assembly text breaks the rule of a letter and a number, at a place of its text.
     Refused {
         letter: RuleLetter,
         number: u8,
@@ -54,6 +58,8 @@ pub enum Verdict {
     Unfinished {
         limit: u64,
     },
+    /// Of several tasks some did not reach their ends, and all that is to be said of each is said.
+    SomeUnfinished,
     /// After so many instructions the next one needs an address outside the window.
     Outside {
         address: u32,
@@ -70,6 +76,17 @@ pub enum Verdict {
     Script {
         rule: u8,
         line: u32,
+    },
+    /// The image is not one that an assembly text spells.
+    NotPlain,
+    /// Main reaches this procedure by calls, and it reaches itself.
+    Recursive {
+        procedure: Name,
+    },
+    /// The certificate breaks a rule of certificates, Z1 to Z3, at a place of its text.
+    Certificate {
+        rule: u8,
+        place: u32,
     },
     /// A size is refused: a stack needs at least so many words, or a program has so many.
     Size {
@@ -88,6 +105,7 @@ fn letter_text(letter: RuleLetter) -> &'static str
         RuleLetter::S => "S",
         RuleLetter::P => "P",
         RuleLetter::Q => "Q",
+        RuleLetter::A => "A",
     }
 }
 
@@ -158,6 +176,30 @@ fn script_line(alloc: Global, rule: u8, line: u32) -> Result<Vec<u8>, Memory>
     Ok(format!(in alloc; "script D{rule} at line {line}\n")?.into_bytes())
 }
 
+/// The line of a procedure that reaches itself.
+fn recursive_line(alloc: Global, procedure: &Name) -> Result<Vec<u8>, Memory>
+    ensures { IfOk result (λ line. line.items ≡ verdict_line (Verdict.Recursive procedure.now)) }
+{
+    let mut line = b"recursive ".to_vec(alloc)?;
+    line.extend_from_slice(procedure.bytes())?;
+    line.push(b'\n')?;
+    Ok(line)
+}
+
+/// The line of a rule, after this front, that is broken at a place.
+fn broken_line(alloc: Global, front: &str, rule: u8, place: u32) -> Result<Vec<u8>, Memory>
+    ensures { IfOk result (λ text. text.items ≡ line (front.now ++ decimal rule ++ codes " at " ++ decimal place)) }
+{
+    Ok(format!(in alloc; "{front}{rule} at {place}\n")?.into_bytes())
+}
+
+/// The line of a certificate that breaks a rule.
+fn certificate_line(alloc: Global, rule: u8, place: u32) -> Result<Vec<u8>, Memory>
+    ensures { IfOk result (λ line. line.items ≡ verdict_line (Verdict.Certificate rule place)) }
+{
+    broken_line(alloc, "certificate Z", rule, place)
+}
+
 /// The line of a size that is refused.
 fn size_line(alloc: Global, of: SizeOf, need: u64) -> Result<Vec<u8>, Memory>
     ensures { IfOk result (λ line. line.items ≡ verdict_line (Verdict.Size of need)) }
@@ -210,10 +252,13 @@ impl Verdict {
             Verdict::Refused { .. } => Status::Refused,
             Verdict::Values { .. } => Status::Values,
             Verdict::Image { .. } => Status::Image,
-            Verdict::Unfinished { .. } => Status::Unfinished,
+            Verdict::Unfinished { .. } | Verdict::SomeUnfinished => Status::Unfinished,
             Verdict::Outside { .. } => Status::Outside,
             Verdict::Error { .. } => Status::Error,
             Verdict::Script { .. } => Status::Script,
+            Verdict::NotPlain => Status::NotPlain,
+            Verdict::Recursive { .. } => Status::Recursive,
+            Verdict::Certificate { .. } => Status::Certificate,
             Verdict::Size { .. } => Status::Size,
         }
     }
@@ -223,7 +268,7 @@ impl Verdict {
         ensures { IfOk result (λ line. line.items ≡ verdict_line self.now) }
     {
         match self {
-            Verdict::Done => Ok(Vec::new(alloc)),
+            Verdict::Done | Verdict::SomeUnfinished => Ok(Vec::new(alloc)),
             Verdict::Usage => Ok(b"usage\n".to_vec(alloc)?),
             Verdict::Refused {
                 letter,
@@ -241,6 +286,9 @@ impl Verdict {
                 count,
             } => error_line(alloc, *kind, program, *place, *count),
             Verdict::Script { rule, line } => script_line(alloc, *rule, *line),
+            Verdict::NotPlain => Ok(b"not plain\n".to_vec(alloc)?),
+            Verdict::Recursive { procedure } => recursive_line(alloc, procedure),
+            Verdict::Certificate { rule, place } => certificate_line(alloc, *rule, *place),
             Verdict::Size { of, need } => size_line(alloc, *of, *need),
         }
     }

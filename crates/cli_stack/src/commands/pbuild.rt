@@ -1,21 +1,20 @@
 //! The command `pbuild`.
-ghost use Rattle.std.specs.Prelude.{◌≡◌, ◌≤◌, ◌^◌, Some, IfOk, IfErr, length};
-ghost use Rattle.fm_image.specs.Spelling.{spelling};
+ghost use Rattle.std.specs.Prelude.{◌≡◌, ◌≤◌, ◌^◌, IfOk, IfErr, length};
 ghost use Rattle.piton_check.specs.Answers.{IsChecked};
 ghost use Rattle.piton_machine.specs.Fits.{system_in};
 ghost use Rattle.piton_machine.specs.Placed.{placed};
 ghost use Rattle.piton_linker.specs.Layouts.{IsFault};
-ghost use Rattle.cli_stack.specs.Pbuild.{linked_image, linked_stored, linked_reply, built_reply, pbuild_stored, pbuild_reply};
+ghost use Rattle.cli_stack.specs.Pbuild.{linked_image, linked_stored, linked_reply, pbuild_stored, pbuild_reply};
 ghost use Rattle.cli_stack.specs.Plans.{pending_reply};
 
 use crate::commands::piton_text::read_checked;
 use crate::commands::plan::Plan;
 use crate::reply::{SizeOf, Verdict};
-use fm_image::{Image, write_image};
+use fm_image::Image;
 use fm_words::Flags;
 use piton_check::Checked;
 use piton_linker::{LinkFault, Linked, link};
-use stack_text::{Memory, Seq};
+use stack_text::Memory;
 use std::alloc::Global;
 
 /// What `pbuild` stores, and what is left to do.
@@ -37,7 +36,7 @@ fn link_system(alloc: Global, checked: &Checked) -> Result<Plan, Memory>
     ensures reply { IfOk result (λ plan. pending_reply plan.pending ≡ linked_reply (system_in checked.now)) }
 {
     match linked_image(alloc, checked) {
-        Ok(image) => store(alloc, &image),
+        Ok(image) => Plan::holds_image(alloc, &image),
         Err(LinkFault::Large { words: need }) => Ok(Plan::verdict_alone(
             alloc,
             Verdict::Size {
@@ -65,6 +64,7 @@ fn linked_image(alloc: Global, checked: &Checked) -> Result<Image, LinkFault>
         places: _,
     } = link(alloc, checked)?;
     Ok(Image {
+        version: 2,
         base,
         size,
         final_pc,
@@ -74,14 +74,7 @@ fn linked_image(alloc: Global, checked: &Checked) -> Result<Image, LinkFault>
         conditions: Vec::new(alloc),
         slots: Vec::new(alloc),
         words,
+        procedures: Vec::new(alloc),
+        marks: Vec::new(alloc),
     })
-}
-
-/// Stores an image, and says how many words its window has.
-fn store(alloc: Global, image: &Image) -> Result<Plan, Memory>
-    ensures stored { IfOk result (λ plan. plan.stored ≡ Some (spelling image.now)) }
-    ensures reply { IfOk result (λ plan. pending_reply plan.pending ≡ built_reply image.now.size) }
-{
-    let file = Seq::from_vec(write_image(alloc, image)?);
-    Plan::stores_image(alloc, image.size, file)
 }

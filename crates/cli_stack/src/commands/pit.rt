@@ -6,9 +6,8 @@ ghost use Rattle.stack_build.specs.Build.{compiled};
 ghost use Rattle.cli_stack.specs.Pit.{written_reply, pit_stored, pit_reply};
 ghost use Rattle.cli_stack.specs.Plans.{pending_reply};
 
-use crate::commands::plan::{Pending, Plan};
+use crate::commands::plan::Plan;
 use crate::commands::source_text::refused;
-use crate::reply::{Reply, Verdict};
 use command_line::{FileName, StackSize};
 use piton_syntax::{System, print_piton};
 use stack_build::compile;
@@ -41,14 +40,6 @@ fn store(alloc: Global, system: &System, name: &FileName) -> Result<Plan, Memory
     ensures stored { IfOk result (λ plan. plan.stored ≡ Some (piton_text system.now)) }
     ensures reply { IfOk result (λ plan. pending_reply plan.pending ≡ written_reply name.now) }
 {
-    let name = name.as_str();
-    let said = format!(in alloc; "written {name}\n")?;
-    Ok(Plan {
-        stored: Some(Seq::from_vec(print_piton(alloc, system)?)),
-        pending: Pending::Reply(Reply {
-            said: Seq::from_vec(said.into_bytes()),
-            verdict: Verdict::Done,
-            machine: None,
-        }),
-    })
+    let file = Seq::from_vec(print_piton(alloc, system)?);
+    Plan::written(alloc, name, file)
 }

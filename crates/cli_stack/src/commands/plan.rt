@@ -2,6 +2,8 @@
 
 use crate::commands::image_run::ImageRun;
 use crate::reply::{Reply, Verdict};
+use command_line::FileName;
+use fm_image::{Image, write_image};
 use stack_text::{Memory, Seq};
 use std::alloc::Global;
 
@@ -22,7 +24,9 @@ pub struct Plan {
 impl Plan {
     ghost use Rattle.std.specs.Prelude.{◌≡◌, Some, None, IfOk, codes};
     ghost use Rattle.stack_text.specs.Lines.{line};
+    ghost use Rattle.fm_image.specs.Spelling.{spelling};
     ghost use Rattle.cli_stack.specs.Pbuild.{built_reply};
+    ghost use Rattle.cli_stack.specs.Pit.{written_reply};
     ghost use Rattle.cli_stack.specs.Replies.{verdict_alone, all_said};
     ghost use Rattle.cli_stack.specs.Plans.{pending_reply};
 
@@ -53,6 +57,23 @@ impl Plan {
         })
     }
 
+    /// Stores a file, and says under which name.
+    pub fn written(alloc: Global, name: &FileName, file: Seq<u8>) -> Result<Plan, Memory>
+        ensures stored { IfOk result (λ plan. plan.stored ≡ Some file) }
+        ensures reply { IfOk result (λ plan. pending_reply plan.pending ≡ written_reply name.now) }
+    {
+        let name = name.as_str();
+        let said = format!(in alloc; "written {name}\n")?;
+        Ok(Plan {
+            stored: Some(file),
+            pending: Pending::Reply(Reply {
+                said: Seq::from_vec(said.into_bytes()),
+                verdict: Verdict::Done,
+                machine: None,
+            }),
+        })
+    }
+
     /// Stores nothing, and replies a text after which the command came to its defined end.
     pub fn all_said(said: Seq<u8>) -> Plan
         ensures stored { result.stored ≡ None }
@@ -66,6 +87,15 @@ impl Plan {
                 machine: None,
             }),
         }
+    }
+
+    /// Stores an image, and says how many words its window has.
+    pub fn holds_image(alloc: Global, image: &Image) -> Result<Plan, Memory>
+        ensures stored { IfOk result (λ plan. plan.stored ≡ Some (spelling image.now)) }
+        ensures reply { IfOk result (λ plan. pending_reply plan.pending ≡ built_reply image.now.size) }
+    {
+        let file = Seq::from_vec(write_image(alloc, image)?);
+        Plan::stores_image(alloc, image.size, file)
     }
 
     /// Stores nothing, and replies that a text was accepted.
