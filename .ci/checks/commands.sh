@@ -1,9 +1,9 @@
 #!/usr/bin/env bash
-# The commands that README.md, docs/WALK.md, docs/cli.md and docs/debug.md show, run in a folder of their own: what they print, their statuses, and
-# the images' sizes.
+# The commands that README.md and docs/WALK.md, cli.md, debug.md and turns.md show, run in a folder of their own: what they print, their statuses,
+# and the images' sizes.
 set -u
 top=$(cd "$(dirname "${BASH_SOURCE[0]}")/../.." && pwd)
-folder=$(mktemp -d)
+folder=$(mktemp -d) || exit 1
 trap 'rm -rf "$folder"' EXIT
 cp -r "$top/examples" "$folder/"
 cd "$folder" || exit 1
@@ -37,9 +37,9 @@ misses() {
 # One assignment: docs/WALK.md, the first walk.
 seven=$'finished 28\ncondition normal\nx = 7'
 wants 0 "$seven" go examples/assign.gypsy examples/assign.values 100 100 1000000 assign.image
-holds assign.image 3891
+holds assign.image 3994
 wants 0 "$seven" go examples/seven.gypsy examples/nine.values 7 3 28 seven.image
-holds seven.image 3519
+holds seven.image 3622
 wants 5 "unfinished 27" run seven.image examples/nine.values 27
 wants 0 $'steps 2\ncounted 28\ncondition normal\nx = 7' mean examples/seven.gypsy examples/nine.values 7 3 2
 wants 0 $'finished 28\ncondition normal\nx = 5\ny = -3' go examples/two.gypsy examples/two.values 100 100 1000000 two.image
@@ -48,7 +48,7 @@ wants 0 $'finished 28\ncondition normal\nx = 5\ny = -3' go examples/two.gypsy ex
 counted=$'condition normal\nx = 2000000000'
 wants 0 "ok" check examples/count.gypsy
 wants 0 $'finished 226\n'"$counted" go examples/count.gypsy examples/count.values 13 5 226 count.image
-holds count.image 4007
+holds count.image 4283
 wants 5 "unfinished 225" run count.image examples/count.values 225
 wants 0 $'steps 12\ncounted 226\n'"$counted" mean examples/count.gypsy examples/count.values 13 5 12
 wants 5 "unfinished 11" mean examples/count.gypsy examples/count.values 13 5 11
@@ -90,8 +90,23 @@ wants 0 "ok" pcheck less.piton
 wants 0 $'halted 4\ncounted 7\nstack (nat 2)' prun less.piton 4
 wants 5 "unfinished 3" prun less.piton 3
 wants 0 "built 18" pbuild less.piton less.image
-holds less.image 164
+holds less.image 172
 wants 0 "finished 7" run less.image none.values 7
+
+# An assembly text and back, and certificates: docs/cli.md.
+wants 0 "built 17" asm examples/sum.asm sum.image
+wants 0 "finished 23" run sum.image none.values 23
+wants 5 "unfinished 22" run sum.image none.values 22
+wants 0 "written words.asm" unasm sum.image words.asm
+wants 0 "built 17" asm words.asm again.image
+cmp -s sum.image again.image || { echo "the printed text has another image"; failed=1; }
+wants 16 "not plain" unasm seven.image none.asm
+misses none.asm
+wants 0 $'control 13\ntemporary 5' need examples/count.gypsy count.cert
+wants 0 "yes" cert examples/count.gypsy count.cert 13 5
+wants 0 "no" cert examples/count.gypsy count.cert 12 5
+wants 17 "recursive p" need examples/down.gypsy none.cert
+misses none.cert
 
 # A session at each level: docs/debug.md.
 session() { echo "debug $1 examples/seven.gypsy examples/nine.values 7 3 examples/steps.script"; }
@@ -102,6 +117,10 @@ wants 0 "$attached"$'\nstepped 5\nat mg-simple-constant-assignment 2 frames 2\nd
 wants 0 "$attached"$'\nstepped 5\ncount 5\nr0 0000034b\nr1 0000034a\nr2 0000034e\nr3 0000034b\n'"$(zeros 4 14)"$'\nr15 0000000c\nflags ----\nstepped 23 ended\n'"$read_up"$'\nlast 68 70 71 14 21 22 24 25\npeak 3' $(session fm9001)
 printf 'attach count\nstep 28\ndetach count\ndetach count' >twice.script
 wants 13 $'attached count\nstepped 28 ended\ncount 28\nscript D5 at line 4' debug fm9001 examples/seven.gypsy examples/nine.values 7 3 twice.script
+
+# Two programs by turns: docs/turns.md.
+by_turns=$'task 1 round 3\nfinished 28\ncondition normal\nx = 7\ntask 2 round 43\nfinished 423\ncondition normal\nn = 0'
+wants 0 "$by_turns" turns 10 1000 24 10 examples/seven.gypsy examples/nine.values examples/down.gypsy examples/down.values
 
 # Refusals, which store nothing.
 printf '(program main (proc main ((x integer)) () () () (mg-simple-constant-assignment y 7)))' >unknown.gypsy

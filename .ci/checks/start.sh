@@ -3,7 +3,7 @@
 # (.ci/tools/stub_kit.sh): so it takes no proof.
 set -u
 top=$(cd "$(dirname "${BASH_SOURCE[0]}")/../.." && pwd)
-folder=$(mktemp -d)
+folder=$(mktemp -d) || exit 1
 trap 'rm -rf "$folder"' EXIT
 copy=$folder/copy
 caller=$folder/caller

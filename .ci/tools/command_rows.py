@@ -113,6 +113,14 @@ class Rows:
                 ending = self.run(f"run i v {words.split()[5]}", {"i": ending.files.get("i", b""), "v": values})
                 self.note("images of sources that are run", ending.says(status, printed), row, ending)
 
+    def turns(self):
+        """Tasks that take turns; no file is stored."""
+        for row in tables.TURNS:
+            words, tasks, status, printed = row
+            files = {f"{letter}{number}": text for number, task in enumerate(tasks, 1) for letter, text in zip("sv", task)}
+            ending = self.run(f"turns {words} {' '.join(files)}", files)
+            self.note("tasks that take turns", ending.says(status, printed) and ending.files.keys() == files.keys(), row, ending)
+
     def sessions(self):
         for row in tables.SESSIONS:
             words, source, values, script, status, printed = row
@@ -165,13 +173,18 @@ class Rows:
         self.note("predefined programs", " ".join(text.split()).endswith(" ".join(programs.split()) + ")"), "the programs of a generated text")
 
     def meanings(self):
-        """What a source means, and that its image finishes with the same."""
+        """What a source means, in just so many steps, and that its image finishes with the same."""
         for answer, values, source in rows_of("mean"):
-            counted = numbers_in(answer)[1]
+            steps, counted = numbers_in(answer)[:2]
             finished = f"finished {counted}\n" + "".join(answer.splitlines(keepends=True)[2:])
-            for words, printed in (("mean s v 100 100 1000", answer), (f"go s v 100 100 {counted} i", finished)):
+            for words, status, printed in (
+                ("mean s v 100 100 1000", 0, answer),
+                (f"mean s v 100 100 {steps}", 0, answer),
+                (f"mean s v 100 100 {steps - 1}", 5, f"unfinished {steps - 1}\n"),
+                (f"go s v 100 100 {counted} i", 0, finished),
+            ):
                 ending = self.run(words, {"s": source, "v": values})
-                self.note("meanings", ending.says(0, printed), (words, answer, values, source), ending)
+                self.note("meanings", ending.says(status, printed), (words, answer, values, source), ending)
 
     def generated(self):
         """The texts that are generated of sources, run as Piton."""
@@ -198,18 +211,24 @@ class Rows:
         for opening, fault in images.OPENINGS:
             self.show(opening, opening, fault)
         for index, number, fault in images.NUMBERS:
-            self.show((index, number), images.returning(index, number), fault)
+            self.show((index, number), images.returning((index, number)), fault)
+        for index, number, fault in images.NUMBERS_IN_2:
+            self.show((index, number), images.returning((0, 2), (index, number)), fault)
         for tail, fault in images.TAILS:
             self.show(tail, images.returning()[:92] + tail, fault)
-        image = images.returning()
-        for length in range(len(image)):
-            self.show(length, image[:length], (3, length))
-        self.show("a byte more", image + b"\0", (4, 144))
+        for tail, fault in images.TABLES:
+            self.show(tail, images.returning((0, 2)) + tail, fault)
+        for image in (images.returning(), images.returning((0, 2)) + images.TABLES[-1][0]):
+            for length in range(len(image)):
+                self.show(length, image[:length], (3, length))
+            self.show("a byte more", image + b"\0", (4, len(image)))
         built = self.run("build s 7 3 i", {"s": tables.SEVEN}).files["i"]
         for image, window, place in ((bytes.fromhex(tables.IMAGE_OF_SEVEN), 59, 113), (built, 849, 127)):
             image = image[:place] + window.to_bytes(4, "big") + image[place + 4:]
             ending = self.run("run i v 9", {"i": image, "v": "()"})
             self.note("images that show judges", ending.says(4, f"image I7 at {place}\n"), f"a slot at {window}", ending)
+        ending = self.run("show i", {"i": built[:3586] + (4).to_bytes(4, "big") + built[3590:]})
+        self.note("images that show judges", ending.says(4, "image I9 at 3586\n"), "two marks at one address", ending)
         ending = self.run("show i", {"i": images.returning()})
         self.note("images that show judges", ending.says(0, images.SMALL_LISTING), "the listing of a return", ending)
 
@@ -245,9 +264,23 @@ class Rows:
         built = self.run(f"build s {sizes} i", {"s": source}).files.get("i", b"")
         text = self.run(f"pit s {sizes} t", {"s": source}).files.get("t", b"")
         linked = self.run("pbuild t i", {"t": text}).files.get("i", b"")
-        # without conditions and slots the number of words stands at 100
-        same = len(linked) > 2400 and built[:84] == linked[:84] and built.endswith(linked[100:])
+        # without conditions and slots the number of words stands at 100, and no procedures and no marks are behind them
+        same = len(linked) > 2400 and built[:84] == linked[:84] and linked[100:-8] in built
         self.note("linked texts", same, (sizes, source))
+
+    def migrated_images(self):
+        """An image of version 1 is stored as one of version 2 with two empty lists, which runs as before; one of version 2 as it is."""
+        old = bytes.fromhex(tables.IMAGE_OF_SEVEN)
+        new = self.run("migrate i o", {"i": old})
+        wanted = old[:4] + (2).to_bytes(4, "big") + old[8:] + bytes(8)
+        self.note("migrated images", new.says(0, "written o\n") and new.files.get("o") == wanted, "version 1", new)
+        ending = self.run("run o v 28", {"o": wanted, "v": "((x 9))"})
+        self.note("migrated images", ending.says(0, "finished 28\ncondition normal\nx = 7\n"), "run", ending)
+        built = self.run("build s 7 3 i", {"s": tables.SEVEN}).files.get("i", b"")
+        again = self.run("migrate i o", {"i": built})
+        self.note("migrated images", again.files.get("o") == built != b"", "version 2", again)
+        ending = self.run("migrate i o", {"i": old[:-1]})
+        self.note("migrated images", ending.says(4, "image I3 at 344\n") and "o" not in ending.files, "cut short", ending)
 
     def stored_images(self):
         """An image that `go` stored runs on its own, on other values, and is the one that `build` stores; its bytes are those of its page."""
@@ -266,6 +299,51 @@ class Rows:
         ending = self.run("run i v 61544", {"i": long, "v": "()"})
         self.note("stored images", len(long) > 400_000 and ending.says(0, "finished 61544\ncondition normal\n"), "a long one", ending)
 
+    def assembled(self):
+        """An assembly text is refused, or its image is stored; the text of that image spells it again."""
+        for answer, text in rows_of("asm"):
+            ending = self.run("asm t i", {"t": text})
+            built = answer.startswith("built ")
+            holds = ending.says(0 if built else 2, answer) and ("i" in ending.files) == built
+            self.note("assembly texts", holds, (answer, text), ending)
+            if built:
+                image = ending.files.get("i", b"")
+                printed = self.run("unasm i o", {"i": image})
+                again = self.run("asm o i", {"o": printed.files.get("o", b"")}).files.get("i")
+                self.note("assembly texts", printed.says(0, "written o\n") and again == image, ("again", text), printed)
+        image = self.run("asm t i", {"t": tables.ASSEMBLY}).files.get("i", b"")
+        ending = self.run("show i", {"i": image})
+        self.note("assembly texts", ending.printed.endswith(tables.ASSEMBLY_WORDS), "the words", ending)
+        ending = self.run("run i v 1", {"i": image, "v": "()"})
+        self.note("assembly texts", ending.says(0, "finished 1\n"), "run", ending)
+        for image, text in ((image, tables.ASSEMBLY), (bytes.fromhex(tables.PLAIN_IMAGE_OF_NOTHING), tables.TEXT_OF_NOTHING)):
+            ending = self.run("unasm i o", {"i": image})
+            self.note("assembly texts", ending.files.get("o") == text.encode(), ("printed", text), ending)
+        for image in tables.NOT_PLAIN:
+            ending = self.run("unasm i o", {"i": bytes.fromhex(image)})
+            self.note("assembly texts", ending.says(16, "not plain\n") and "o" not in ending.files, image, ending)
+        ending = self.run("unasm i o", {"i": ""})
+        self.note("assembly texts", ending.says(4, "image I3 at 0\n") and "o" not in ending.files, "no image", ending)
+
+    def certificates(self):
+        """What a source needs at least, with its certificate, which covers the source at these sizes and at none below; or why there is none."""
+        for answer, source, *certificate in rows_of("need"):
+            ending = self.run("need s c", {"s": source})
+            status = 0 if certificate else 17 if answer.startswith("recursive ") else 2
+            stored = certificate[0].encode() if certificate else None
+            self.note("certificates", ending.says(status, answer) and ending.files.get("c") == stored, (answer, source), ending)
+            if certificate:
+                control, temporary = numbers_in(answer)
+                for sizes, says in (((control, temporary), "yes"), ((control - 1, temporary), "no"), ((control, temporary - 1), "no")):
+                    if min(sizes) > 0 and max(sizes) <= 65536:
+                        ending = self.run(f"cert s c {sizes[0]} {sizes[1]}", {"s": source, "c": stored})
+                        self.note("certificates", ending.says(0, f"{says}\n"), (sizes, source), ending)
+        for answer, sizes, source, certificate in rows_of("cert"):
+            files = {"s": source, "c": certificate}
+            ending = self.run(f"cert s c {sizes}", files)
+            status = {"yes": 0, "no": 0, "certificate": 18, "refused": 2}[answer.split()[0]]
+            self.note("certificates", ending.says(status, answer) and ending.files.keys() == files.keys(), (answer, sizes, certificate), ending)
+
     def limits(self):
         whole = {
             "s": (tables.SEVEN.encode(), b" "),
@@ -273,6 +351,8 @@ class Rows:
             "i": (bytes.fromhex(tables.IMAGE_OF_SEVEN), b"\0"),
             "p": (tables.RETURN.encode(), b")"),
             "d": (b"up", b"\n"),
+            "a": (tables.ASSEMBLY.encode(), b" "),
+            "c": (b"((main 2 4))", b" "),
         }
         for row in tables.LIMITS:
             words, lengths, status, printed = row
@@ -295,8 +375,8 @@ class Rows:
         whole = self.run("build s 7 3 i", files).files.get("i", b"")
         self.note("failing devices", len(whole) == tables.WHOLE, "the whole image")
         for row in tables.FAILING_RUNS:
-            file_call, line_call, status, printed, stored = row
-            ending = self.run("go s v 7 3 28 i", files, file_call, line_call)
+            words, file_call, line_call, status, printed, stored = row
+            ending = self.run(words, files, file_call, line_call)
             is_first = ending.files.get("i", b"") == whole[:stored]
             self.note("failing devices", ending.says(status, printed) and is_first, row, ending)
         for words, names in tables.FAILING_IN_TURN:
@@ -324,9 +404,10 @@ class Rows:
 
 def main(program, failing_devices=None):
     rows = Rows(Path(program).resolve(), failing_devices and Path(failing_devices).resolve())
-    themes = [rows.words, rows.runs, rows.sessions, rows.scripts, rows.texts, rows.judged, rows.systems]
+    themes = [rows.words, rows.runs, rows.turns, rows.sessions, rows.scripts, rows.texts, rows.judged, rows.systems]
     themes += [rows.meanings, rows.generated, rows.images, rows.judged_images, rows.judged_values, rows.largest_image]
-    themes += [rows.linked, rows.stored_images, rows.limits, rows.at_limits]
+    themes += [rows.linked, rows.migrated_images, rows.stored_images, rows.limits, rows.at_limits]
+    themes += [rows.assembled, rows.certificates]
     for theme in themes + [rows.failing] * (failing_devices is not None):
         theme()
     for theme, count in rows.counts.items():

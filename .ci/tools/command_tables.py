@@ -126,6 +126,18 @@ WORDS = [
     ("show i", 9, "missing i\n"),
     ("show", 1, "usage\n"),
     ("show i j", 1, "usage\n"),
+    ("migrate i o", 9, "missing i\n"),
+    ("migrate i", 1, "usage\n"),
+    ("migrate i o p", 1, "usage\n"),
+    ("asm t i", 9, "missing t\n"),
+    ("asm t", 1, "usage\n"),
+    ("unasm i t", 9, "missing i\n"),
+    ("unasm i t o", 1, "usage\n"),
+    ("need s c", 9, "missing s\n"),
+    ("need s", 1, "usage\n"),
+    ("cert s c 7 3", 9, "missing s\n"),
+    ("cert s c 7", 1, "usage\n"),
+    ("cert s c 7 0", 1, "usage\n"),
     ("check s", 9, "missing s\n"),
     ("check", 1, "usage\n"),
     ("mean s v 7 3 1", 9, "missing s\n"),
@@ -144,9 +156,25 @@ WORDS = [
     ("debug piton s v 7 3", 1, "usage\n"),
     ("debug piton s v 7 65537 d", 1, "usage\n"),
     ("debug c s v 7 3 d", 1, "usage\n"),
+    ("turns 10 100 7 3 s v", 9, "missing s\n"),
+    ("turns 1099511627776 1099511627776 7 3" + " s v" * 8, 9, "missing s\n"),
+    ("turns 10 100 7 3" + " s v" * 9, 1, "usage\n"),
+    ("turns 10 100 7 3 s v s", 1, "usage\n"),
+    ("turns 10 100 7 3", 1, "usage\n"),
+    ("turns 0 100 7 3 s v", 1, "usage\n"),
+    ("turns 1099511627777 100 7 3 s v", 1, "usage\n"),
+    ("turns 10 100 7 65537 s v", 1, "usage\n"),
     ("big 1 0", 1, "usage\n"),
     ("big 4294967296 900", 1, "usage\n"),
     ("big 1 901", 1, "usage\n"),
+    ("turns 1 0 1 1 s v", 9, "missing s\n"),
+    ("turns 1099511627776 1099511627776 65536 65536" + " s v" * 8, 9, "missing s\n"),
+    ("turns 1 0 1 1" + " s v" * 9, 1, "usage\n"),
+    ("turns 1 0 1 1 s v s", 1, "usage\n"),
+    ("turns 1 0 1 1 s", 1, "usage\n"),
+    ("turns 1 0 1 1", 1, "usage\n"),
+    ("turns 0 0 1 1 s v", 1, "usage\n"),
+    ("turns 1099511627777 0 1 1 s v", 1, "usage\n"),
 ]
 
 # 3. Commands on a source and values: the status and what is printed.
@@ -303,8 +331,43 @@ SESSIONS = [
     ("debug gypsy s v 100 100 d", SEVEN, "((x 0))", "attach peak\nattach peak", 13, "attached peak\nscript D4 at line 2\n"),
     ("debug fm9001 s v 100 100 d", SEVEN, "((x 0))", "step 27\nup", 0, "stepped 27\nno mark\n"),
     (
+        "debug fm9001 s v 7 3 d", SEVEN, "((x 0))", "up\nstep 1\nup\nstep 22\nup\nstep 5\nup", 0,
+        "in main at 48\ncondition normal\nx = 0\nstepped 1\nno mark\nstepped 22\nin main at 14\ncondition normal\nx = 7\n"
+        "stepped 5 ended\ncondition normal\nx = 7\n",
+    ),
+    (
+        "debug piton s v 7 3 d", SEVEN, "((x 0))", "up\nstep 1\nup\nstep 6\nup\nstep 2\nup", 0,
+        "in main at 48\ncondition normal\nx = 0\nstepped 1\nno mark\nstepped 6\nin main at 14\ncondition normal\nx = 7\n"
+        "stepped 2 ended\ncondition normal\nx = 7\n",
+    ),
+    (
         "debug fm9001 s v 100 100 d", SEVEN, "((x 0))", "attach count\nstep 28\ndetach count\ndetach count", 13,
         "attached count\nstepped 28 ended\ncount 28\nscript D5 at line 4\n",
+    ),
+    *(
+        (
+            f"debug {level} s v 7 3 d", SEVEN, "((x 9))", "attach cost\nstep 100\ndetach cost", 0,
+            f"attached cost\nstepped {steps} ended\ncost 28\n",
+        )
+        for level, steps in (("gypsy", 2), ("piton", 9), ("fm9001", 28))
+    ),
+    # The first step, a call that costs 40 of 423, comes before the watches.
+    (
+        "debug gypsy s v 24 10 d", RECURSIVE, "((n 2))",
+        "step 1\nattach cost\nattach count\nstep 1\nstep 100\ndetach count\ndetach cost\nattach cost", 13,
+        "stepped 1\nattached cost\nattached count\nstepped 1\nstepped 17 ended\ncount 18\ncost 383\nscript D4 at line 8\n",
+    ),
+    # In the middle of a call: `p` has counted once and is about to call itself.
+    *(
+        (
+            f"debug {level} s v 100 100 d", RECURSIVE, "((n 2))", f"attach cost\nstep {steps}\ndetach cost\nup\nstep 1\nup", 0,
+            f"attached cost\nstepped {steps}\ncost 146\nin p at 213\ncondition normal\nn = 1\nb = false\none = 1\nstepped 1\nno mark\n",
+        )
+        for level, steps in (("piton", 48), ("fm9001", 146))
+    ),
+    (
+        "debug gypsy s v 100 100 d", RECURSIVE, "((n 2))", "attach cost\nstep 4\ndetach cost\nshow\nup", 0,
+        "attached cost\nstepped 4\ncost 146\nat 213 depth 2\ncondition normal\nn = 1\nb = false\none = 1\ntop\n",
     ),
     ("debug fm9001 s v 7 3 d", SEVEN, "((x -1))", "step 28\nup", 0, "stepped 28 ended\ncondition normal\nx = 7\n"),
     ("debug piton s v 100 100 d", SEVEN, "((x 0))", "step 9\nup", 0, "stepped 9 ended\ncondition normal\nx = 7\n"),
@@ -446,10 +509,13 @@ IMAGE_OF_SEVEN = (
 
 # The image of RETURN. It has no condition word and no variables.
 IMAGE_OF_RETURN = (
-    "464d393100000001000000000000000b0000000700000008000000080000000b0000000000000000000000000000000000000000000000000000000000000000"
+    "464d393100000002000000000000000b0000000700000008000000080000000b0000000000000000000000000000000000000000000000000000000000000000"
     "000000000000000000000000000000000000000200000000ffffffff00000000000000000000000a00e0840000e0000100e0040003e0043f0000000000e00031"
-    "00e03c3105e03c0f0000000000000007"
+    "00e03c3105e03c0f00000000000000070000000000000000"
 )
+
+# The same, but for the program counter, which is after the window.
+BEGINS_AFTER_ITS_WINDOW = IMAGE_OF_RETURN.replace("0000000200000000ffffffff", "0000000b00000000ffffffff")
 
 # An image of one word whose program counter is after it.
 IMAGE_OF_NOTHING = (
@@ -482,6 +548,7 @@ LISTING = (
 IMAGES = [
     ("run i v 27", IMAGE_OF_SEVEN, "((x -5))", 5, "unfinished 27\n"),
     ("run i v 1000000", IMAGE_OF_RETURN, "()", 0, "finished 4\n"),
+    ("run i v 4", BEGINS_AFTER_ITS_WINDOW, "()", 6, "outside 0000000b after 0\n"),
     ("run i v 1000000", IMAGE_OF_NOTHING, "()", 6, "outside 00000001 after 0\n"),
     ("run i v 0", IMAGE_OF_NOTHING, "()", 5, "unfinished 0\n"),
     ("show i", IMAGE_OF_ALL, "", 0, LISTING),
@@ -500,14 +567,27 @@ IMAGES = [
     ("run i v 1", IMAGE_OF_THREE, "", 3, "values V1 at 0\n"),
 ]
 
+# An assembly text, and the lines of the listing of its words. `unasm` of its image stores the same text.
+ASSEMBLY = ".base 0\n.size 4\n.final 1\n.start 0\nMOVE r3,#5\nDEC r15,r15\n"
+
+ASSEMBLY_WORDS = "00000000 00e00e05 MOVE r3,#5\n00000001 05e03c0f DEC r15,r15\n"
+
+# IMAGE_OF_NOTHING in version 2, where it is plain, and its text.
+PLAIN_IMAGE_OF_NOTHING = IMAGE_OF_NOTHING.replace("464d393100000001", "464d393100000002") + "00" * 8
+
+TEXT_OF_NOTHING = ".base 0\n.size 1\n.final 0\n.start 1\n"
+
+# Images that no assembly text spells.
+NOT_PLAIN = [IMAGE_OF_SEVEN, IMAGE_OF_RETURN, IMAGE_OF_THREE, IMAGE_OF_ALL, IMAGE_OF_NOTHING]
+
 # 7. Files at their limits and one byte over: how long the source, the values, the image, the text and the script are, where they are
 # padded; the status and what is printed. The source is SEVEN, the text RETURN, the image that of SEVEN.
 LIMITS = [
     ("go s v 7 3 28 o", {"s": 1_048_576, "v": 1_048_576}, 0, "finished 28\ncondition normal\nx = 7\n"),
     ("go s v 7 3 28 o", {"s": 1_048_577}, 12, "size file 1048576\n"),
     ("go s v 7 3 28 o", {"v": 1_048_577}, 12, "size file 1048576\n"),
-    ("run i v 28", {"i": 8_388_608}, 4, "image I4 at 345\n"),
-    ("run i v 28", {"i": 8_388_609}, 12, "size file 8388608\n"),
+    ("run i v 28", {"i": 33_554_432}, 4, "image I4 at 345\n"),
+    ("run i v 28", {"i": 33_554_433}, 12, "size file 33554432\n"),
     ("run i v 28", {"v": 1_048_577}, 12, "size file 1048576\n"),
     ("check s", {"s": 1_048_576}, 0, "ok\n"),
     ("check s", {"s": 1_048_577}, 12, "size file 1048576\n"),
@@ -515,6 +595,10 @@ LIMITS = [
     ("pcheck p", {"p": 16_777_217}, 12, "size file 16777216\n"),
     ("debug gypsy s v 7 3 d", {"d": 1_048_576}, 0, "top\n"),
     ("debug gypsy s v 7 3 d", {"d": 1_048_577}, 12, "size file 1048576\n"),
+    ("asm a o", {"a": 33_554_432}, 2, "refused A1 at 57\n"),
+    ("asm a o", {"a": 33_554_433}, 12, "size file 33554432\n"),
+    ("cert s c 7 3", {"c": 1_048_576}, 0, "yes\n"),
+    ("cert s c 7 3", {"c": 1_048_577}, 12, "size file 1048576\n"),
 ]
 
 # 8. Devices that fail: the call of the shelf or of the sink that fails, from 0, and how many bytes it keeps; the status, what is printed,
@@ -522,19 +606,22 @@ LIMITS = [
 NEVER = None
 
 # How many bytes the image of SEVEN has.
-WHOLE = 3519
+WHOLE = 3622
+
+GO, BUILD = "go s v 7 3 28 i", "build s 7 3 i"
 
 FAILING_RUNS = [
-    ((0, 3), NEVER, 10, "shelf fault s\n", 0),
-    ((1, 3), NEVER, 10, "shelf fault v\n", 0),
-    ((2, 5), NEVER, 10, "shelf fault i\n", 5),
-    ((2, 99_999), NEVER, 10, "shelf fault i\n", WHOLE),
-    ((3, 5), NEVER, 0, "finished 28\ncondition normal\nx = 7\n", WHOLE),
-    (NEVER, (0, 0), 11, "", WHOLE),
-    (NEVER, (0, 4), 11, "fini", WHOLE),
-    (NEVER, (1, 4), 11, "finished 28\ncond", WHOLE),
-    (NEVER, (2, 99), 11, "finished 28\ncondition normal\nx = 7\n", WHOLE),
-    ((2, 0), (0, 5), 11, "shelf", 0),
+    (GO, (0, 3), NEVER, 10, "shelf fault s\n", 0),
+    (GO, (1, 3), NEVER, 10, "shelf fault v\n", 0),
+    (GO, (2, 5), NEVER, 10, "shelf fault i\n", 5),
+    (GO, (2, 99_999), NEVER, 10, "shelf fault i\n", WHOLE),
+    (GO, (3, 5), NEVER, 0, "finished 28\ncondition normal\nx = 7\n", WHOLE),
+    (GO, NEVER, (0, 0), 11, "", WHOLE),
+    (GO, NEVER, (0, 4), 11, "fini", WHOLE),
+    (GO, NEVER, (1, 4), 11, "finished 28\ncond", WHOLE),
+    (GO, NEVER, (2, 99), 11, "finished 28\ncondition normal\nx = 7\n", WHOLE),
+    (GO, (2, 0), (0, 5), 11, "shelf", 0),
+    (BUILD, (1, 5), NEVER, 10, "shelf fault i\n", 5),
 ]
 
 # Commands with the files that they read and store, in this order; each call of a device fails in turn.
@@ -545,12 +632,20 @@ FAILING_IN_TURN = [
     ("build s 7 3 o", "s o"),
     ("go s v 7 3 28 o", "s v o"),
     ("big 1 1", ""),
+    ("debug gypsy s v 7 3 d", "s v d"),
     ("debug piton s v 7 3 d", "s v d"),
+    ("debug fm9001 s v 7 3 d", "s v d"),
+    ("turns 10 28 7 3 s v", "s v"),
     ("pcheck t", "t"),
     ("prun t 5", "t"),
     ("pbuild t o", "t o"),
     ("run i v 28", "i v"),
     ("show j", "j"),
+    ("migrate j o", "j o"),
+    ("asm a o", "a o"),
+    ("unasm k o", "k o"),
+    ("need s o", "s o"),
+    ("cert s c 7 3", "s c"),
 ]
 
 FILES = {
@@ -560,4 +655,76 @@ FILES = {
     "t": RETURN,
     "i": bytes.fromhex(IMAGE_OF_SEVEN),
     "j": bytes.fromhex(IMAGE_OF_ALL),
+    "a": ASSEMBLY,
+    "k": bytes.fromhex(PLAIN_IMAGE_OF_NOTHING),
+    "c": "((main 2 4))",
 }
+
+# 9. Tasks that take turns: the words before the files; for each task a source and its values; the status and what is printed.
+SEVEN_AND_CALLS = [(SEVEN, "((x 0))"), (CALLS, "()")]
+
+def seven_and_calls(first, second):
+    """What is printed of these two, whose runs end in these rounds."""
+    return f"task 1 round {first}\nfinished 28\ncondition normal\nx = 7\ntask 2 round {second}\nfinished 44\ncondition normal\n"
+
+
+# Eight tasks that have stacks of 100 words, and how many instructions each makes; the sixth never ends.
+EIGHT = [
+    (SEVEN, "((x 0))"),
+    (CALLS, "()"),
+    (NOTHING, "()"),
+    (LEAVES, "()"),
+    (SIGNALS, "()"),
+    (FOREVER, "()"),
+    (RECURSIVE, "((n 2))"),
+    (INDEXES, "((x 0) (a (10 20 30)) (i 2))"),
+]
+
+EIGHT_COUNTS = [28, 44, 6, 13, 11, 1000, 423, 74]
+
+EIGHT_ENDS = [
+    "condition normal\nx = 7\n",
+    "condition normal\n",
+    "condition normal\n",
+    "condition normal\n",
+    "condition routineerror\n",
+    None,
+    "condition normal\nn = 0\n",
+    "condition normal\nx = 30\na = (10 20 30)\ni = 2\n",
+]
+
+
+def eight(turn):
+    """What is printed of the eight, where each turn has so many instructions and the budget is 1,000."""
+    text = ""
+    for number, (count, end) in enumerate(zip(EIGHT_COUNTS, EIGHT_ENDS)):
+        text += f"task {number + 1} round {-(-count // turn)}\n"
+        text += "unfinished 1000\n" if end is None else f"finished {count}\n{end}"
+    return text
+
+
+TURNS = [
+    ("10 1000 100 100", SEVEN_AND_CALLS, 0, seven_and_calls(3, 5)),
+    ("1 1000 100 100", SEVEN_AND_CALLS, 0, seven_and_calls(28, 44)),
+    ("1099511627776 1099511627776 100 100", SEVEN_AND_CALLS, 0, seven_and_calls(1, 1)),
+    ("44 44 100 100", SEVEN_AND_CALLS, 0, seven_and_calls(1, 1)),
+    ("43 44 100 100", SEVEN_AND_CALLS, 0, seven_and_calls(1, 2)),
+    ("7 100 100 100", [(SEVEN, "((x 0))"), (FOREVER, "()")], 5,
+     "task 1 round 4\nfinished 28\ncondition normal\nx = 7\ntask 2 round 15\nunfinished 100\n"),
+    ("7 27 100 100", [(SEVEN, "((x 0))")], 5, "task 1 round 4\nunfinished 27\n"),
+    ("7 28 7 3", [(SEVEN, "((x 0))")], 0, "task 1 round 4\nfinished 28\ncondition normal\nx = 7\n"),
+    ("7 0 100 100", SEVEN_AND_CALLS, 5, "task 1 round 0\nunfinished 0\ntask 2 round 0\nunfinished 0\n"),
+    ("10 1000 100 100", EIGHT, 5, eight(10)),
+    ("1 1000 100 100", EIGHT, 5, eight(1)),
+    ("1000 1000 100 100", EIGHT, 5, eight(1000)),
+    # The sources and the sizes of all tasks are judged first, and then the values; only the first refusal is printed.
+    ("10 1000 100 100", [(SEVEN, "((x 0))"), (REPEATED, "((x 0))")], 2, "task 2\nrefused S20 at 59\n"),
+    ("10 1000 100 100", [("", "()"), (REPEATED, "((x 0))")], 2, "task 1\nrefused G6 at 0\n"),
+    ("10 1000 100 100", [(SEVEN, "()"), (REPEATED, "((x 0))")], 2, "task 2\nrefused S20 at 59\n"),
+    ("10 1000 100 100", [(NOTHING, "()"), (SEVEN, "()"), (SEVEN, "(")], 3, "task 2\nvalues V4 at 0\n"),
+    ("10 1000 6 100", [(NOTHING, "()"), (NOTHING, ""), (SEVEN, "((x 0))")], 12, "task 3\nsize control 7\n"),
+    ("10 1000 100 1", [(NOTHING, "()"), (CALLS, "()")], 12, "task 2\nsize temporary 2\n"),
+    # Seven windows are small enough, eight aren't; the values aren't judged then.
+    ("1 6 65536 65536", [(NOTHING, "()")] * 7, 0, "".join(f"task {it} round 6\nfinished 6\ncondition normal\n" for it in range(1, 8))),
+    ("1 6 65536 65536", [(NOTHING, "")] * 8, 12, "size words 1055200\n"),
+]

@@ -1,18 +1,24 @@
 /* Makes one allocation of a program fail: loaded before the C library, it counts the calls that take memory, and lets the call fail
- * whose number is in the variable FAILING. */
+ * whose number is in the variable FAILING. Where that call came, the file that the variable CAME names is there afterwards. */
 #define _GNU_SOURCE
 #include <dlfcn.h>
 #include <errno.h>
+#include <fcntl.h>
 #include <stddef.h>
 #include <stdlib.h>
+#include <unistd.h>
 
 static long calls;
 
 static int fails(void)
 {
-    const char *failing = getenv("FAILING");
+    const char *failing = getenv("FAILING"), *came = getenv("CAME");
     calls++;
-    return failing != NULL && calls == atol(failing);
+    if (failing == NULL || calls != atol(failing))
+        return 0;
+    if (came != NULL)
+        close(open(came, O_WRONLY | O_CREAT, 0666));
+    return 1;
 }
 
 void *malloc(size_t size)

@@ -24,10 +24,10 @@ FIELDS = [1, 0, 11, 7, 8, 8, 11, *[0] * 12, 2, 0, NO_CONDITION, 0, 0, 10]
 WORDS = [0x00E08400, 0x00E00001, 0x00E00400, 0x03E0043F, 0, 0x00E00031, 0x00E03C31, 0x05E03C0F, 0, 7]
 
 
-def returning(index=None, number=None):
-    """The image of a single return, with another number at an index of its fields."""
+def returning(*changes):
+    """The image of a single return, with other numbers at these indices of its fields."""
     fields = list(FIELDS)
-    if index is not None:
+    for index, number in changes:
         fields[index] = number
     return b"FM91" + numbers(*fields, *WORDS)
 
@@ -38,13 +38,15 @@ OPENINGS = [
     (b"FM92", (1, 0)),
     (b"fm91\0\0\0\x02", (1, 0)),
     (b"GM9", (3, 3)),
-    (b"FM91\0\0\0\x02", (2, 4)),
+    (b"FM91\0\0\0\x02", (3, 8)),
+    (b"FM91\0\0\0\x03", (2, 4)),
     (b"FM91\0\0\0\0", (2, 4)),
 ]
 
 # Another number at an index of the fields.
 NUMBERS = [
-    (0, 2, (2, 4)),
+    (0, 3, (2, 4)),
+    (0, 2, (3, 144)),
     (1, 1, None),
     (1, 4294967285, (5, 12)),
     (1, 4294967284, (5, 16)),
@@ -59,12 +61,17 @@ NUMBERS = [
     (21, 11, (7, 88)),
     (21, 4294967294, (7, 88)),
     (22, 200, (6, 96)),
-    (22, 201, (6, 96)),
-    (22, 202, (5, 92)),
+    (22, 201, (5, 92)),
     (23, 201, (5, 96)),
     (24, 9, (4, 140)),
     (24, 11, (3, 144)),
     (24, 12, (5, 100)),
+]
+
+# The same in version 2.
+NUMBERS_IN_2 = [
+    (22, 201, (6, 96)),
+    (22, 202, (5, 92)),
 ]
 
 # Other bytes after the condition address, from place 92 on.
@@ -90,6 +97,32 @@ TAILS = [
     # Two slots of one name; a condition and a slot of one name.
     (numbers(0, 2) + slot("a", 0, 0, 10) + name("a"), (8, 117)),
     (numbers(1) + name("a") + numbers(1) + slot("a", 0, 0, 10) + numbers(0), None),
+]
+
+# What stands behind the words in version 2, from place 144 on.
+ONE = numbers(1) + name("p") + numbers(0, 0)
+TABLES = [
+    (numbers(0, 0), None),
+    # Procedures: their number, names, conditions and variables.
+    (numbers(1001), (5, 144)),
+    (numbers(1, 0), (6, 148)),
+    (numbers(1) + name("p") + numbers(202), (5, 153)),
+    (numbers(1) + name("p") + numbers(2) + name("a") + name("a"), (8, 162)),
+    (numbers(1) + name("p") + numbers(0, 201), (5, 157)),
+    (numbers(1) + name("p") + numbers(0, 1) + slot("x", 0, 0, 200), (5, 174)),
+    (numbers(1) + name("p") + numbers(0, 1) + slot("x", 3, 0, 0), (5, 166)),
+    (numbers(1) + name("p") + numbers(0, 1) + slot("x", 0, 4097, 0), (5, 170)),
+    (numbers(1) + name("p") + numbers(0, 2) + slot("x", 0, 0, 199) + name("x"), (8, 178)),
+    (numbers(2) + name("p") + numbers(0, 0) + name("p"), (8, 161)),
+    # Marks: their number, addresses, procedures and places.
+    (numbers(0, 1048577), (5, 148)),
+    (numbers(0, 1048576), (3, 152)),
+    (ONE + numbers(1, 11, 0, 0), (7, 165)),
+    (ONE + numbers(1, 10, 1, 0), (5, 169)),
+    (ONE + numbers(1, 10, 0, 1048576), (5, 173)),
+    (ONE + numbers(2, 3, 0, 0, 3, 0, 0), (9, 177)),
+    (ONE + numbers(2, 3, 0, 0, 11, 0, 0), (7, 177)),
+    (ONE + numbers(2, 3, 0, 0, 4, 0, 1048575), None),
 ]
 
 # 2. Values: a window of 20 words from 100, two words, registers 1 to 16, and the flags c and z. What is printed stands in values.rows.

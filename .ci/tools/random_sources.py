@@ -576,14 +576,14 @@ def answers(case: Case) -> Iterator[Answer]:
     if zeros.end == "done":
         yield f"prun p {zeros.piton_steps}", 0, piton_text(zeros)
     at_start = f"at {run.places[0]} depth 1\ncondition normal\n" + value_lines(run.source.main.variables, run.start)
-    at_start += "attached last\nattached peak\n"
+    at_start += "attached last\nattached peak\nattached cost\n"
     end, latest = report(run), " ".join(str(place) for place in run.places[-8:])
     yield f"mean s v {sizes} {steps - 1}", 5, f"unfinished {steps - 1}\n"
     yield f"go s v {sizes} {count} i", 0, f"finished {count}\n{end}"
     yield f"go s v {sizes} {count - 1} i", 5, f"unfinished {count - 1}\n"
     yield f"run i v {count}", 0, f"finished {count}\n{end}"
     yield (f"debug gypsy s v {sizes} watched", 0,
-           f"{at_start}stepped {steps} ended\ntop\nended\n{end}last {latest}\npeak {run.deepest}\n")
+           f"{at_start}stepped {steps} ended\ntop\nended\n{end}last {latest}\npeak {run.deepest}\ncost {count}\n")
     yield f"debug piton s v {sizes} script", 0, f"stepped {run.piton_steps} ended\n{end}"
     yield f"debug fm9001 s v {sizes} script", 0, f"stepped {count} ended\n{end}"
 
@@ -604,7 +604,7 @@ def difference(program: str, seed: int) -> str:
     case = random_case(Random(seed))
     run = case.run
     values = listed(f"({v.name} {Literal(v.type.kind, run.start[v.name])})" for v in run.source.main.formals)
-    watched = f"show\nattach last\nattach peak\n{SCRIPT}show\ndetach last\ndetach peak\n"
+    watched = f"show\nattach last\nattach peak\nattach cost\n{SCRIPT}show\ndetach last\ndetach peak\ndetach cost\n"
     with tempfile.TemporaryDirectory() as folder:
         for name, text in {"s": run.source.text, "v": values, "script": SCRIPT, "watched": watched}.items():
             Path(folder, name).write_text(text)

@@ -1,0 +1,150 @@
+#!/usr/bin/env python3
+"""Damaged files: every truncation of a file, and the file with each of its bytes changed to 0, to 255 and to its two neighbours, is read by
+each command that reads such a file.
+
+    python3 .ci/tools/damage.py PROGRAM
+
+PROGRAM is `cli_stack`. The files are the sources, values, scripts and assembly texts of `examples/`, a text of Piton, the images of these
+two texts and of one source, and a certificate. No command ends by a signal, or with a status that isn't among those of its texts; none takes
+over a second of processor time, or 64 MB.
+"""
+import multiprocessing
+import os
+import resource
+import shutil
+import sys
+import tempfile
+from pathlib import Path
+
+SECONDS, KILOBYTES = 1.0, 64 * 1024
+EXAMPLES = Path(__file__).resolve().parents[2] / "examples"
+PITON = "(piton main 2 2 0 ((g (nat 4) (nat 5))) () (main () () (push-global g) (add1-nat) (pop-global g) (ret)))"
+
+# The statuses of a command whose files are there: what reading its texts and running them can end with. Memory isn't short here.
+REFUSED, VALUES, IMAGE, UNFINISHED, OUTSIDE, ERROR, SIZE, SCRIPT = 2, 3, 4, 5, 6, 8, 12, 13
+NOT_PLAIN, RECURSIVE, CERTIFICATE = 16, 17, 18
+STATUSES = {
+    "check": {0, REFUSED},
+    "mean": {0, REFUSED, VALUES, UNFINISHED, SIZE},
+    "pit": {0, REFUSED, SIZE},
+    "build": {0, REFUSED, SIZE},
+    "go": {0, REFUSED, VALUES, UNFINISHED, SIZE},
+    "debug": {0, REFUSED, VALUES, SIZE, SCRIPT},
+    "pcheck": {0, REFUSED},
+    "prun": {0, REFUSED, UNFINISHED, ERROR},
+    "pbuild": {0, REFUSED, SIZE},
+    "run": {0, VALUES, IMAGE, UNFINISHED, OUTSIDE},
+    "show": {0, IMAGE},
+    "migrate": {0, IMAGE},
+    "asm": {0, REFUSED},
+    "unasm": {0, IMAGE, NOT_PLAIN},
+    "need": {0, REFUSED, RECURSIVE},
+    "cert": {0, REFUSED, CERTIFICATE},
+    "turns": {0, REFUSED, VALUES, UNFINISHED, SIZE},
+}
+
+# What reads a file of each kind: DAMAGED is the damaged one, and VALUES, SOURCE the whole ones beside it.
+READERS = {
+    "gypsy": [
+        "check DAMAGED",
+        "mean DAMAGED VALUES 20 20 1000",
+        "pit DAMAGED 20 20 out",
+        "build DAMAGED 20 20 out",
+        "go DAMAGED VALUES 20 20 1000 out",
+        "need DAMAGED out",
+        "cert DAMAGED CERTIFICATE 20 20",
+        "turns 10 1000 20 20 DAMAGED VALUES",
+    ],
+    "values": ["mean SOURCE DAMAGED 20 20 1000", "go SOURCE DAMAGED 20 20 1000 out", "run IMAGE DAMAGED 1000"],
+    "script": [f"debug {level} SOURCE VALUES 20 20 DAMAGED" for level in ("gypsy", "piton", "fm9001")],
+    "piton": ["pcheck DAMAGED", "prun DAMAGED 1000", "pbuild DAMAGED out"],
+    "image": ["show DAMAGED", "run DAMAGED VALUES 1000", "migrate DAMAGED out"],
+    "plain image": ["unasm DAMAGED out"],
+    "assembly": ["asm DAMAGED out"],
+    "certificate": ["cert SOURCE DAMAGED 20 20"],
+}
+
+
+def damaged(content):
+    """The file's truncations, and the file with one byte changed."""
+    for at, byte in enumerate(content):
+        yield f"cut at {at}", content[:at]
+        for other in sorted({0, 255, (byte + 1) % 256, (byte - 1) % 256} - {byte}):
+            yield f"byte {at} is {other}", content[:at] + bytes([other]) + content[at + 1 :]
+
+
+def ends(program, words):
+    """The status of a command, or minus its signal; its seconds of processor time, and its most memory in kilobytes."""
+    nothing = [(os.POSIX_SPAWN_OPEN, 1, "/dev/null", os.O_WRONLY, 0)]
+    child = os.posix_spawn(program, [program, *words], os.environ, file_actions=nothing)
+    _, status, used = os.wait4(child, 0)
+    return os.waitstatus_to_exitcode(status), used.ru_utime + used.ru_stime, used.ru_maxrss
+
+
+def judge(job):
+    """What is wrong with the reply of one command to each damaged file of one kind, and how many were tried."""
+    program, folder, kind, name, words = job
+    content = Path(folder, name).read_bytes()
+    command, count, wrong = words[0], 0, []
+    with tempfile.TemporaryDirectory() as own:
+        for file in Path(folder).iterdir():
+            shutil.copy(file, own)
+        os.chdir(own)
+        for how, bytes_of in damaged(content):
+            Path("damaged").write_bytes(bytes_of)
+            status, seconds, kilobytes = ends(program, words)
+            count += 1
+            if status not in STATUSES[command] or seconds > SECONDS or kilobytes > KILOBYTES:
+                wrong.append(f"{' '.join(words)}, {kind} {name}, {how}: status {status}, {seconds:.2f} s, {kilobytes} KB")
+        os.chdir("/")
+    return count, wrong
+
+
+def whole_files(program, folder):
+    """Puts the whole files into a folder, and tells for each its kind, its name, and the files that stand beside it."""
+    files = []
+    for source in sorted(EXAMPLES.glob("*.gypsy")):
+        stem = source.stem
+        values = "nine.values" if stem == "seven" else f"{stem}.values"
+        beside = {"SOURCE": source.name, "VALUES": values, "IMAGE": f"{stem}.image", "CERTIFICATE": f"{stem}.certificate"}
+        for name in (source.name, values):
+            shutil.copy(EXAMPLES / name, folder)
+        ends(program, ["build", source.name, "20", "20", f"{stem}.image"])
+        ends(program, ["need", source.name, f"{stem}.certificate"])
+        files += [("gypsy", source.name, beside), ("values", values, beside)]
+        if stem == "seven":
+            files += [("image", f"{stem}.image", beside), ("certificate", f"{stem}.certificate", beside)]
+            files += [("script", script.name, beside) for script in EXAMPLES.glob("*.script") if shutil.copy(script, folder)]
+    Path(folder, "seven.piton").write_text(PITON, encoding="ascii")
+    Path(folder, "no.values").write_text("()", encoding="ascii")
+    ends(program, ["pbuild", "seven.piton", "piton.image"])
+    shutil.copy(EXAMPLES / "sum.asm", folder)
+    ends(program, ["asm", "sum.asm", "sum.image"])
+    files += [("piton", "seven.piton", {}), ("image", "piton.image", {"VALUES": "no.values"})]
+    return files + [("assembly", "sum.asm", {}), ("plain image", "sum.image", {})]
+
+
+def main(program):
+    program = str(Path(program).resolve())
+    with tempfile.TemporaryDirectory() as folder:
+        os.chdir(folder)
+        jobs = []
+        for kind, name, beside in whole_files(program, folder):
+            for row in READERS[kind]:
+                words = [{"DAMAGED": "damaged", **beside}.get(word, word) for word in row.split()]
+                jobs.append((program, folder, kind, name, words))
+        jobs.sort(key=lambda job: -Path(folder, job[3]).stat().st_size)
+        with multiprocessing.Pool(len(os.sched_getaffinity(0))) as pool:
+            found = pool.map(judge, jobs, chunksize=1)
+        os.chdir("/")
+    wrong = [line for _, lines in found for line in lines]
+    print("\n".join(wrong[:20]))
+    print(f"damage: {sum(count for count, _ in found)} runs, {len(wrong)} of them wrong")
+    return bool(wrong)
+
+
+if __name__ == "__main__":
+    resource.setrlimit(resource.RLIMIT_CORE, (0, 0))
+    if len(sys.argv) != 2:
+        sys.exit(__doc__)
+    sys.exit(main(sys.argv[1]))
