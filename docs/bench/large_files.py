@@ -3,10 +3,11 @@
 
     python3 docs/bench/large_files.py PROGRAM
 
-Images of version 2 with so many words, each with a mark: listed, migrated and run for one instruction. The same words, without marks, as
-assembly text and back; its lines are padded so that the largest text has the 33,554,432 bytes that `asm` takes. A source of 1,000
-procedures, each of which calls the next 50 times: its least certificate, and whether that covers it. For each: the bytes of the file that is
-read, the least time of some turns, the whole process's own and the system's, and the most memory that it had.
+Sources of so many statements, built: each has a mark in the image. Images of version 2 with so many words, each with a mark: listed,
+migrated and run for one instruction. The same words, without marks, as assembly text and back; its lines are padded so that the largest
+text has nearly the 33,554,432 bytes that `asm` takes. A source of 1,000 procedures, each of which calls the next 50 times: its least
+certificate, and whether that covers it. For each: the bytes of the file that is read, the least time of some turns, the whole process's own
+and the system's, and the most memory that it had.
 """
 import os
 import struct
@@ -21,6 +22,7 @@ NO_OPERATION = 0x00EE0000    # MOVE r0,r0
 LARGEST = 1 << 20
 LARGEST_TEXT = 1 << 25
 PROCEDURES, CALLS = 1000, 50
+STATEMENTS = 130_000
 
 
 def image(count, marked):
@@ -48,8 +50,15 @@ def chain():
     return f"(program main {' '.join(f'(proc {name} () () () () {body})' for name, body in zip(names, [*calls, '(no-op)']))})"
 
 
+def statements(count):
+    """A main of so many statements, each of which has a mark."""
+    return f"(program main (proc main () () () () (seq {' '.join(['(no-op)'] * count)})))"
+
+
 def rows():
     """What stands before each row in the folder, the command, and its file."""
+    for count in (STATEMENTS // 4, STATEMENTS // 2, STATEMENTS):
+        yield f"{count:,} statements", "build s 10 10 i", "s", lambda count=count: statements(count).encode()
     for count in (LARGEST // 4, LARGEST // 2, LARGEST):
         for words in ("show i", "migrate i o", "run i v 1"):
             yield f"{count:,} words and marks", words, "i", lambda count=count: image(count, True)
