@@ -38,6 +38,8 @@ misses() {
 seven=$'finished 28\ncondition normal\nx = 7'
 wants 0 "$seven" go examples/assign.gypsy examples/assign.values 100 100 1000000 assign.image
 holds assign.image 3994
+printf 'step 23\nup\n' >up.script
+wants 0 $'stepped 23\nin main at 14\ncondition normal\nx = 7' debug fm9001 examples/assign.gypsy examples/assign.values 100 100 up.script
 wants 0 "$seven" go examples/seven.gypsy examples/nine.values 7 3 28 seven.image
 holds seven.image 3622
 wants 5 "unfinished 27" run seven.image examples/nine.values 27
