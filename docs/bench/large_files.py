@@ -9,14 +9,15 @@ text has nearly the 33,554,432 bytes that `asm` takes. A source of 1,000 procedu
 certificate, and whether that covers it. For each: the bytes of the file that is read, the least time of some turns, the whole process's own
 and the system's, and the most memory that it had.
 """
-import os
 import struct
 import subprocess
 import sys
 import tempfile
 from pathlib import Path
 
-TURNS = 5
+sys.dont_write_bytecode = True
+from measure import taken
+
 NO_ADDRESS = 0xFFFFFFFF
 NO_OPERATION = 0x00EE0000    # MOVE r0,r0
 LARGEST = 1 << 20
@@ -75,16 +76,6 @@ def write(number, folder):
     Path(folder, "v").write_text("()", encoding="ascii")
 
 
-def taken(program, words, folder):
-    """The least time of some turns, and the memory of that turn, with the status."""
-    turns = []
-    for _ in range(TURNS):
-        process = subprocess.Popen([program, *words.split()], cwd=folder, stdout=subprocess.DEVNULL)
-        _, status, usage = os.wait4(process.pid, 0)
-        turns.append((usage.ru_utime + usage.ru_stime, usage.ru_maxrss // 1024, os.waitstatus_to_exitcode(status)))
-    return min(turns)
-
-
 def main(program):
     program = str(Path(program).resolve())
     print("| File | Command | Bytes | Status | Time | Memory |\n|---|---|---|---|---|---|")
@@ -92,7 +83,7 @@ def main(program):
         for number, (what, words, name, _) in enumerate(rows()):
             subprocess.run([sys.executable, __file__, "--write", str(number), folder], check=True)
             length = Path(folder, name).stat().st_size
-            seconds, memory, status = taken(program, words, folder)
+            seconds, memory, status, _ = taken(program, words, folder, is_read=False)
             print(f"| {what} | `{words.split()[0]}` | {length:,} | {status} | {seconds:.2f} s | {memory} MB |", flush=True)
 
 

@@ -6,7 +6,6 @@
 A layer is `trees`, `piton`, `gypsy` or `meaning`; without one all are timed. For each row: the bytes of its text, what is printed, the least
 time of some turns, the whole process's own and the system's, and the most memory that it had.
 """
-import os
 import subprocess
 import sys
 import tempfile
@@ -15,8 +14,7 @@ from pathlib import Path
 sys.path.insert(0, str(Path(__file__).resolve().parents[2] / ".ci/tools"))
 sys.dont_write_bytecode = True
 import limit_tables
-
-TURNS = 5
+from measure import taken
 
 
 def write(number, folder):
@@ -28,17 +26,6 @@ def write(number, folder):
     Path(folder, "v").write_text("" if is_text else row[4])
 
 
-def taken(program, words, folder):
-    """What a command prints, the least time of some turns, and the memory of that turn."""
-    turns = []
-    for _ in range(TURNS):
-        process = subprocess.Popen([program, *words.split()], cwd=folder, stdout=subprocess.PIPE)
-        printed = process.stdout.read().decode().strip().replace("\n", " / ")
-        _, _, usage = os.wait4(process.pid, 0)
-        turns.append((usage.ru_utime + usage.ru_stime, usage.ru_maxrss // 1024, printed))
-    return min(turns)
-
-
 def main(program, layer=None):
     program = str(Path(program).resolve())
     print("| Text | Command | Bytes | Printed | Time | Memory |\n|---|---|---|---|---|---|")
@@ -48,7 +35,7 @@ def main(program, layer=None):
             with tempfile.TemporaryDirectory() as folder:
                 subprocess.run([sys.executable, __file__, "--write", str(number), folder], check=True)
                 length = Path(folder, "t").stat().st_size
-                seconds, memory, printed = taken(program, words, folder)
+                seconds, memory, _, printed = taken(program, words, folder)
             print(f"| {name} | `{words.split()[0]}` | {length:,} | `{printed}` | {seconds:.2f} s | {memory} MB |", flush=True)
 
 

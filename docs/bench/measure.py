@@ -1,0 +1,17 @@
+"""What a command of the program takes."""
+import os
+import subprocess
+
+TURNS = 5
+
+
+def taken(program, words, folder, is_read=True):
+    """The least time of some turns, the process's own and the system's, the most memory of that turn in megabytes, its status, and what it
+    printed. Where that isn't read, it goes nowhere: a process begins with the most memory of its parent, which would hold it."""
+    turns = []
+    for _ in range(TURNS):
+        process = subprocess.Popen([program, *words.split()], cwd=folder, stdout=subprocess.PIPE if is_read else subprocess.DEVNULL)
+        printed = process.stdout.read().decode().strip().replace("\n", " / ") if is_read else ""
+        _, status, usage = os.wait4(process.pid, 0)
+        turns.append((usage.ru_utime + usage.ru_stime, usage.ru_maxrss // 1024, os.waitstatus_to_exitcode(status), printed))
+    return min(turns)
