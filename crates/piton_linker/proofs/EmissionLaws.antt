@@ -1,25 +1,25 @@
 -- What is known of the pieces of a checked system's places and preludes, in its resolved form.
-use Rattle.std.proofs.Common.{◌≡◌, ℕ, zero, suc, ◌+◌, ◌<◌, ◌≤◌, Some, None, List, [], ◌∷◌, ◌++◌, length, map, take, refl, sym, ap, ◌∙◌, subst, arith, length-append, append_assoc}
-use Rattle.std.specs.Prelude.{◌^◌, Option, slice_get, slice_index_or}
+use Rattle.std.proofs.Common.{◌≡◌, ℕ, zero, suc, ◌+◌, ◌<◌, ◌≤◌, Some, List, [], ◌∷◌, ◌++◌, length, map, take, refl, sym, ap, ◌∙◌, subst, arith, length-append, append_assoc}
+use Rattle.std.specs.Prelude.{◌^◌, slice_get, slice_index_or}
 use Rattle.std.proofs.lemmas.List.{append-nil}
 use Rattle.piton_check.specs.Answers.{CheckedOf, IsChecked}
 use Rattle.piton_check.specs.Resolved.{ResolvedOf}
 use Rattle.piton_check.specs.Instruction.{Instruction, ProgramView, SystemView, system_view}
 use Rattle.piton_check.specs.Sound.{IsSound, local_count}
 use Rattle.piton_machine.specs.State.{program_of, instruction_at}
-use Rattle.piton_machine.specs.Fits.{Each, IsPlace, IsInstructionOf, system_in}
+use Rattle.piton_machine.specs.Fits.{Each, IsPlace, system_in}
 use Rattle.piton_machine.proofs.SoundLaws.{known}
 use Rattle.piton_machine.specs.Addresses.{Addresses}
 use Rattle.piton_machine.specs.Placed.{entry_of, address_of_place, final_pc_of, prelude_size, instruction_size, instructions_size, program_size, programs_size, addresses_of}
 use Rattle.piton_machine.specs.Templates.{pieces_of, pieces_by, pieces_at, prelude_pieces, words_of, template, prelude_words, instructions_words, program_words, programs_words}
 use Rattle.piton_machine.proofs.SizeLaws.{length-words_of, length-template, length-prelude_pieces, length-prelude_words, length-instructions_words, length-programs_words}
 use Rattle.piton_machine.proofs.AddressLaws.{program_there}
-use Rattle.piton_machine.proofs.ReadyLaws.{place_below, programs_end}
+use Rattle.piton_machine.proofs.ReadyLaws.{programs_end}
 use Rattle.piton_linker.specs.Tables.{TableOf, starts, table_of, words_at, PieceExists}
 use Rattle.piton_linker.proofs.NameLaws.{pieces_named, prelude_named}
 
 -- the instruction at a place
-found_at : (is : List Instruction) (k : ℕ) → k < length is → (x : Instruction) × (slice_get is k ≡ Some x)
+pub found_at : (is : List Instruction) (k : ℕ) → k < length is → (x : Instruction) × (slice_get is k ≡ Some x)
 found_at [] k h = absurd (omega arith)
 found_at (x ∷ is) zero h = (x, refl)
 found_at (x ∷ is) (suc k) h = found_at is k (omega arith)
@@ -114,14 +114,6 @@ programs_next s k h = programs_snoc s 0 k k s.programs record { formals = 0; tem
 
 pub program_here : (s : SystemView) (k : ℕ) → s.base + length (programs_words (addresses_of s) 0 (take k s.programs)) ≡ entry_of s k
 program_here s k = ap (λ n. s.base + n) (length-programs_words (addresses_of s) 0 (take k s.programs))
-
--- how many programs the table has
-entries_length : (a : ℕ) (ps : List ProgramView) → length (starts a (map program_size ps)) ≡ length ps
-entries_length a [] = refl
-entries_length a (p ∷ ps) = ap suc (entries_length (a + program_size p) ps)
-
-pub entries_count : (s : SystemView) (t : TableOf) → t ≡ table_of s → length t.entries ≡ length s.programs
-entries_count s t same = ap (λ (u : TableOf). length u.entries) same ∙ entries_length s.base s.programs
 
 pub places_few : (c : CheckedOf) (r : ResolvedOf) (program : ℕ) → r ≡ c.resolved → IsChecked c → length (program_of (system_view r) program).instructions ≤ 2 ^ 20
 places_few c r program same h = subst (λ (u : ResolvedOf). length (program_of (system_view u) program).instructions ≤ 2 ^ 20) (sym same) ((known (system_in c) h.sound).lengths program)

@@ -6,3 +6,4 @@ pub mod EmissionLaws
 pub mod DataLaws
 pub mod PlaceLaws
 pub mod TrimLaws
+pub mod DraftLaws

@@ -1,5 +1,5 @@
 -- What a table of addresses has, and how it grows.
-use Rattle.std.proofs.Common.{◌≡◌, ℕ, zero, suc, ◌+◌, ◌<◌, ◌≤◌, Some, List, [], ◌∷◌, ◌++◌, length, map, take, refl, sym, ap, ◌∙◌, subst, arith}
+use Rattle.std.proofs.Common.{◌≡◌, ℕ, zero, suc, ◌+◌, ◌<◌, ◌≤◌, Some, List, [], ◌∷◌, ◌++◌, length, map, take, refl, ap, ◌∙◌, arith}
 use Rattle.std.specs.Prelude.{◌^◌, unwrap_or, get_or, slice_get, slice_index_or}
 use Rattle.piton_words.specs.declared.word.Word.{Word}
 use Rattle.piton_check.specs.Instruction.{Instruction, ProgramView, SystemView}
@@ -7,7 +7,7 @@ use Rattle.piton_machine.specs.State.{no_program, program_of}
 use Rattle.piton_machine.specs.Fits.{IsPlace}
 use Rattle.piton_machine.specs.Placed.{instruction_size, instructions_size, prelude_size, program_size, programs_size, areas_size, entry_of, address_of_place, address_of_area, areas_start, end_of}
 use Rattle.piton_machine.proofs.AddressLaws.{program_there}
-use Rattle.piton_linker.specs.Tables.{TableOf, starts, place_rows, table_of, place_by, place_in}
+use Rattle.piton_linker.specs.Tables.{TableOf, starts, row_at, place_rows, table_of, place_by, place_in}
 use Rattle.piton_machine.proofs.ReadyLaws.{area_end}
 
 -- the next address, where so many words stand before
@@ -37,9 +37,6 @@ areas_more a (suc k) (ys ∷ xss) xs h =
     let place : a + length ys + areas_size (take k xss) ≡ a + (length ys + areas_size (take k xss)) = omega arith in
     ap (λ n. take n (starts a (map length (ys ∷ xss)))) count
     ∙ ap (λ ns. a ∷ ns) (areas_more (a + length ys) k xss xs h ∙ ap (λ n. take k (starts (a + length ys) (map length xss)) ++ n ∷ []) place)
-
-abbrev pub row_at : ℕ → ProgramView → List ℕ
-row_at a p = starts (a + prelude_size p) (map instruction_size p.instructions)
 
 pub rows_more : (a k : ℕ) (ps : List ProgramView) (p : ProgramView) → slice_get ps k ≡ Some p → take (k + 1) (place_rows a ps) ≡ take k (place_rows a ps) ++ row_at (a + programs_size (take k ps)) p ∷ []
 rows_more a k [] p h = cc

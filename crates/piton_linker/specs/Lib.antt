@@ -3,3 +3,4 @@ pub mod Layouts
 pub mod Theorem
 -- Scaffold: what only private functions say.
 pub mod Tables
+pub mod Drafts

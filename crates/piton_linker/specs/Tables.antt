@@ -1,11 +1,11 @@
 -- Scaffold: the addresses of all places, programs and areas of a placed system, as the code lists them.
-use Rattle.std.specs.Prelude.{ℕ, ◌+◌, ◌<◌, ◌^◌, List, [], ◌∷◌, length, map, get_or, slice_get, Option, Some, None}
+use Rattle.std.specs.Prelude.{ℕ, ◌+◌, ◌<◌, List, [], ◌∷◌, length, map, get_or, slice_get, Option, Some, None}
 use Rattle.piton_words.specs.declared.word.Word.{Word}
 use Rattle.piton_check.specs.Instruction.{ProgramView, SystemView}
 use Rattle.piton_machine.specs.Fits.{IsPlace}
 use Rattle.fm_code.specs.Areas.{joined}
 use Rattle.piton_check.specs.declared.piece.Piece.{Piece}
-use Rattle.piton_check.specs.declared.piece.Piece.TheVariants.{Code, Number, Place, Entry, Area, TempEnd, TempStart, CtrlStart, Table}
+use Rattle.piton_check.specs.declared.piece.Piece.TheVariants.{Place, Entry, Area}
 use Rattle.piton_machine.specs.Addresses.{numbers}
 use Rattle.piton_machine.specs.Placed.{address_of_place, instruction_size, prelude_size, program_size}
 use Rattle.piton_machine.specs.Placed.{areas_start, ctrl_start, temp_start, end_of, addresses_of}
@@ -16,10 +16,13 @@ abbrev pub starts : ℕ → List ℕ → List ℕ
 starts a [] = []
 starts a (n ∷ ns) = a ∷ starts (a + n) ns
 
--- the address of each place of each program
+-- the address of each place of a program that stands at an address, and of each place of each program
+abbrev pub row_at : ℕ → ProgramView → List ℕ
+row_at a p = starts (a + prelude_size p) (map instruction_size p.instructions)
+
 abbrev pub place_rows : ℕ → List ProgramView → List (List ℕ)
 place_rows a [] = []
-place_rows a (p ∷ ps) = starts (a + prelude_size p) (map instruction_size p.instructions) ∷ place_rows (a + program_size p) ps
+place_rows a (p ∷ ps) = row_at a p ∷ place_rows (a + program_size p) ps
 
 pub record TableOf : Type 0 where
   pub entries : List ℕ

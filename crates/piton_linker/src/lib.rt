@@ -5,6 +5,7 @@
 #![tactic(auto)]
 
 mod data;
+mod draft;
 mod fault;
 mod linking;
 mod memory;

@@ -3,13 +3,15 @@
 ghost use Rattle.std.specs.Prelude.{◌≡◌, ◌≤◌, ◌^◌, IfOk, IfErr, map};
 ghost use Rattle.piton_machine.specs.Fits.{system_in};
 ghost use Rattle.piton_machine.specs.Placed.{placed};
-ghost use Rattle.piton_linker.specs.Layouts.{places_of, trimmed, IsFault};
+ghost use Rattle.piton_linker.specs.Layouts.{layout_of, places_of, trimmed, IsFault};
 ghost use Rattle.piton_linker.specs.Theorem.{RunsOnProcessor};
 
 use crate::fault::LinkFault;
 use crate::memory::{memory, registers, trim};
+use crate::placement::Layout;
 use crate::sizes::layout;
-use crate::table::tabulated;
+use crate::table::completed;
+use crate::words::{Pass, code};
 use piton_check::Checked;
 use stack_text::Memory;
 use std::alloc::Global;
@@ -56,13 +58,14 @@ pub fn link(alloc: Global, checked: &Checked) -> Result<Linked, LinkFault>
     if parts.size > 1_048_576 {
         return Err(LinkFault::Large { words: parts.size });
     }
-    Ok(link_small(alloc, checked)?)
+    Ok(link_small(alloc, checked, parts)?)
 }
 
 /// Links a system whose placed words are few enough.
 #[tactic(auto, using(crate::proofs::ProcessorLaws::checked_end))]
-fn link_small(alloc: Global, checked: &Checked) -> Result<Linked, Memory>
+fn link_small(alloc: Global, checked: &Checked, parts: Layout) -> Result<Linked, Memory>
     requires small { (placed (system_in checked.now)).size ≤ 2 ^ 20 }
+    requires parts { parts ≡ layout_of (system_in checked.now) }
     ensures base { IfOk result (λ linked. linked.base ≡ (system_in checked.now).base) }
     ensures size { IfOk result (λ linked. linked.size ≡ (placed (system_in checked.now)).size) }
     ensures final_pc { IfOk result (λ linked. linked.final_pc ≡ (placed (system_in checked.now)).final_pc) }
@@ -73,11 +76,16 @@ fn link_small(alloc: Global, checked: &Checked) -> Result<Linked, Memory>
         ≡ places_of (system_in checked.now) 0 (system_in checked.now).programs) }
     ensures runs { IfOk result (λ linked. RunsOnProcessor (system_in checked.now)) }
 {
-    let parts = layout(checked);
     let resolved = checked.resolved();
-    let table = tabulated(alloc, resolved, parts)?;
+    let Pass {
+        draft,
+        entries,
+        places,
+    } = code(alloc, checked)?;
+    let table = completed(alloc, resolved, parts, entries, places)?;
     let registers = registers(alloc, &table, checked, parts)?;
-    let mut words = memory(alloc, &table, checked, parts.final_pc as u32)?;
+    let code = draft.complete(&table, resolved);
+    let mut words = memory(code, &table, checked, parts.final_pc as u32)?;
     trim(&mut words);
     Ok(Linked {
         base: resolved.base,

@@ -4,7 +4,7 @@ ghost use Rattle.std.specs.Prelude.{◌≡◌, ◌+◌, ◌-◌, ◌++◌, ◌<�
 ghost use Rattle.piton_machine.specs.Fits.{system_in};
 ghost use Rattle.piton_machine.specs.State.{program_of};
 ghost use Rattle.piton_machine.specs.Addresses.{numbers};
-ghost use Rattle.piton_machine.specs.Placed.{end_of, final_pc_of, first_frame, first_frame_at, first_top, address_of_place, placed_registers, placed, addresses_of};
+ghost use Rattle.piton_machine.specs.Placed.{end_of, final_pc_of, first_frame, first_frame_at, first_top, address_of_place, placed_registers, placed, addresses_of, code_of};
 ghost use Rattle.piton_linker.specs.Tables.{areas_words};
 ghost use Rattle.piton_linker.specs.Layouts.{layout_of, trimmed};
 ghost use Rattle.piton_linker.specs.Tables.{table_of};
@@ -12,26 +12,26 @@ ghost use Rattle.piton_linker.specs.Tables.{table_of};
 use crate::data::{append_areas, append_reversed, append_words};
 use crate::placement::Layout;
 use crate::table::{Table, at_place};
-use crate::words::code;
 use fm_code::word::HALT_WORD;
 use piton_check::Checked;
 use piton_words::Word;
 use stack_text::Memory;
 use std::alloc::Global;
 
-/// All words of a placed system.
+/// All words of a placed system, behind those of its code.
 pub(crate) fn memory(
-    alloc: Global,
+    code: Vec<u32>,
     table: &Table,
     checked: &Checked,
     final_pc: u32,
 ) -> Result<Vec<u32>, Memory>
+    requires code { code.items ≡ code_of (system_in checked.now) }
     requires table { table.now ≡ table_of (system_in checked.now) }
     requires fits { end_of (system_in checked.now) + 2 < 2 ^ 32 }
     requires final_pc { final_pc ≡ final_pc_of (system_in checked.now) }
     ensures { IfOk result (λ words. words.items ≡ (placed (system_in checked.now)).words) }
 {
-    let mut words = code(alloc, table, checked)?;
+    let mut words = code;
     words.push(HALT_WORD)?;
     append_data(&mut words, table, checked)?;
     append_zeros(&mut words, ctrl_gap(checked))?;

@@ -46,6 +46,25 @@ pub(crate) fn tabulated(alloc: Global, checked: &Resolved, layout: Layout) -> Re
 {
     let entries = entries(alloc, checked.base, checked.programs.as_slice())?;
     let places = places(alloc, checked.base, checked.programs.as_slice())?;
+    completed(alloc, checked, layout, entries, places)
+}
+
+/// The addresses of a system that is placed so, where those of programs and places are known.
+pub(crate) fn completed(
+    alloc: Global,
+    checked: &Resolved,
+    layout: Layout,
+    entries: Vec<u32>,
+    places: Vec<Vec<u32>>,
+) -> Result<Table, Memory>
+    requires fits { end_of (system_view checked.now) < 2 ^ 32 }
+    requires layout { layout ≡ layout_of (system_view checked.now) }
+    requires entries { entries.items
+        ≡ starts (system_view checked.now).base (map program_size (system_view checked.now).programs) }
+    requires places { map (λ row. row.items) places.items
+        ≡ place_rows (system_view checked.now).base (system_view checked.now).programs }
+    ensures { IfOk result (λ table. table ≡ table_of (system_view checked.now)) }
+{
     let areas = starts(alloc, layout.areas_start as u32, checked.areas.as_slice())?;
     Ok(Table {
         entries,

@@ -1,61 +1,46 @@
 //! The words of placed code.
 
-ghost use Rattle.std.specs.Prelude.{◌≡◌, ◌+◌, ◌<◌, ◌^◌, ◌++◌, IfOk, OnOk, length};
-ghost use Rattle.piton_check.specs.Instruction.{system_view};
-ghost use Rattle.piton_machine.specs.Fits.{Each, IsPlace, system_in};
+ghost use Rattle.std.specs.Prelude.{◌≡◌, ◌+◌, ◌<◌, ◌^◌, ◌++◌, IfOk, OnOk, length, map};
+ghost use Rattle.piton_machine.specs.Fits.{IsPlace, system_in};
 ghost use Rattle.piton_machine.specs.State.{program_of};
-ghost use Rattle.piton_machine.specs.Placed.{entry_of, address_of_place, end_of, addresses_of};
+ghost use Rattle.piton_machine.specs.Placed.{entry_of, address_of_place, end_of, addresses_of, program_size};
 ghost use Rattle.piton_machine.specs.Templates.{prelude_words, program_words, programs_words, pieces_at};
-ghost use Rattle.piton_machine.specs.Templates.{words_of, pieces_at};
-ghost use Rattle.piton_linker.specs.Tables.{table_of, words_at, PieceExists};
+ghost use Rattle.piton_linker.specs.Tables.{starts, row_at, place_rows, words_at};
+ghost use Rattle.piton_linker.specs.Drafts.{drafted, IsDraft, IsRow};
 
-use crate::table::{Table, word};
-use piton_check::{Checked, Piece, Resolved};
+use crate::draft::Draft;
+use piton_check::{Checked, Piece};
 use piton_code_jump::prelude;
 use piton_machine::{Group, group_of, instruction};
 use stack_text::Memory;
 use std::alloc::Global;
 
-/// Appends the words of pieces that stand behind the words so far.
-pub(crate) fn append(
-    words: &mut Vec<u32>,
-    table: &Table,
-    checked: &Resolved,
-    pieces: &[Piece],
-) -> Result<(), Memory>
-    requires table { table.now ≡ table_of (system_view checked.now) }
-    requires fits { end_of (system_view checked.now) < 2 ^ 32 }
-    requires named { Each (PieceExists (system_view checked.now)) pieces.now }
-    requires room { (system_view checked.now).base + length words.old.items + length pieces.now + 2 < 2 ^ 32 }
-    ensures { OnOk result (words.new.items
-        ≡ words.old.items ++ words_of (addresses_of (system_view checked.now))
-        ((system_view checked.now).base + length words.old.items) pieces.now) }
-{
-    for piece in pieces {
-        let at = table.base + words.len() as u32;
-        words.push(word(table, checked, at, *piece))?;
-    }
-    Ok(())
+/// What a pass over the programs makes: their words, and the addresses of programs and places.
+#[derive(Drop)]
+pub(crate) struct Pass {
+    pub(crate) draft: Draft,
+    pub(crate) entries: Vec<u32>,
+    pub(crate) places: Vec<Vec<u32>>,
 }
 
 /// Appends the words of a program's prelude.
 fn append_prelude(
     alloc: Global,
-    words: &mut Vec<u32>,
-    table: &Table,
+    draft: &mut Draft,
     checked: &Checked,
     program: u32,
 ) -> Result<(), Memory>
-    requires table { table.now ≡ table_of (system_in checked.now) }
+    requires draft { IsDraft (system_in checked.now) draft.old }
     requires fits { end_of (system_in checked.now) + 2 < 2 ^ 32 }
     requires there { program < length (system_in checked.now).programs }
-    requires at { (system_in checked.now).base + length words.old.items ≡ entry_of (system_in checked.now) program }
-    ensures { OnOk result (words.new.items
-        ≡ words.old.items ++ prelude_words (addresses_of (system_in checked.now)) program
+    requires at { (system_in checked.now).base + length draft.old.words ≡ entry_of (system_in checked.now) program }
+    ensures draft { OnOk result (IsDraft (system_in checked.now) draft.new) }
+    ensures words { OnOk result (drafted (system_in checked.now) draft.new
+        ≡ drafted (system_in checked.now) draft.old ++ prelude_words (addresses_of (system_in checked.now)) program
         (program_of (system_in checked.now) program)) }
 {
     let pieces = prelude(alloc, checked, program)?;
-    append(words, table, checked.resolved(), pieces.as_slice())?;
+    draft.append(checked.resolved(), program, &[], pieces.as_slice())?;
     Ok(())
 }
 
@@ -73,24 +58,27 @@ fn emit(alloc: Global, checked: &Checked, program: u32, place: u32) -> Result<Ve
     }
 }
 
-/// Appends the words of the instruction at a place.
+/// Appends the words of the instruction at a place of a program, whose first places have these addresses.
 fn append_place(
     alloc: Global,
-    words: &mut Vec<u32>,
-    table: &Table,
+    draft: &mut Draft,
     checked: &Checked,
     program: u32,
     place: u32,
+    row: &[u32],
 ) -> Result<(), Memory>
-    requires table { table.now ≡ table_of (system_in checked.now) }
+    requires draft { IsDraft (system_in checked.now) draft.old }
     requires fits { end_of (system_in checked.now) + 2 < 2 ^ 32 }
+    requires row { IsRow (system_in checked.now) program row.now }
     requires there { IsPlace (system_in checked.now) program place }
-    requires at { (system_in checked.now).base + length words.old.items
+    requires at { (system_in checked.now).base + length draft.old.words
         ≡ address_of_place (system_in checked.now) program place }
-    ensures { OnOk result (words.new.items ≡ words.old.items ++ words_at (system_in checked.now) program place) }
+    ensures draft { OnOk result (IsDraft (system_in checked.now) draft.new) }
+    ensures words { OnOk result (drafted (system_in checked.now) draft.new
+        ≡ drafted (system_in checked.now) draft.old ++ words_at (system_in checked.now) program place) }
 {
     let pieces = emit(alloc, checked, program, place)?;
-    append(words, table, checked.resolved(), pieces.as_slice())?;
+    draft.append(checked.resolved(), program, row, pieces.as_slice())?;
     Ok(())
 }
 
@@ -104,41 +92,64 @@ fn place_count(checked: &Checked, program: u32) -> u32
     }
 }
 
-/// Appends the words of a program.
-fn append_program(
-    alloc: Global,
-    words: &mut Vec<u32>,
-    table: &Table,
-    checked: &Checked,
-    program: u32,
-) -> Result<(), Memory>
-    requires table { table.now ≡ table_of (system_in checked.now) }
+/// How many programs there are.
+fn program_count(checked: &Checked) -> u32
     requires fits { end_of (system_in checked.now) + 2 < 2 ^ 32 }
-    requires there { program < length (system_in checked.now).programs }
-    requires at { (system_in checked.now).base + length words.old.items ≡ entry_of (system_in checked.now) program }
-    ensures { OnOk result (words.new.items
-        ≡ words.old.items ++ program_words (addresses_of (system_in checked.now)) program
-        (program_of (system_in checked.now) program)) }
+    ensures { result ≡ length (system_in checked.now).programs }
 {
-    append_prelude(alloc, words, table, checked, program)?;
-    let count = place_count(checked, program);
-    for place in 0..count {
-        append_place(alloc, words, table, checked, program, place)?;
-    }
-    Ok(())
+    checked.resolved().programs.len() as u32
 }
 
-/// The words of all programs.
-pub(crate) fn code(alloc: Global, table: &Table, checked: &Checked) -> Result<Vec<u32>, Memory>
-    requires table { table.now ≡ table_of (system_in checked.now) }
+/// Appends the words of a program, and tells the addresses of its places.
+fn append_program(
+    alloc: Global,
+    draft: &mut Draft,
+    checked: &Checked,
+    program: u32,
+) -> Result<Vec<u32>, Memory>
+    requires draft { IsDraft (system_in checked.now) draft.old }
     requires fits { end_of (system_in checked.now) + 2 < 2 ^ 32 }
-    ensures { IfOk result (λ words. words.items
-        ≡ programs_words (addresses_of (system_in checked.now)) 0 (system_in checked.now).programs) }
+    requires there { program < length (system_in checked.now).programs }
+    requires at { (system_in checked.now).base + length draft.old.words ≡ entry_of (system_in checked.now) program }
+    ensures draft { OnOk result (IsDraft (system_in checked.now) draft.new) }
+    ensures words { OnOk result (drafted (system_in checked.now) draft.new
+        ≡ drafted (system_in checked.now) draft.old ++ program_words (addresses_of (system_in checked.now)) program
+        (program_of (system_in checked.now) program)) }
+    ensures places { IfOk result (λ row. row.items
+        ≡ row_at (entry_of (system_in checked.now) program) (program_of (system_in checked.now) program)) }
 {
-    let mut words = Vec::new(alloc);
-    let count = table.entries.len() as u32;
-    for program in 0..count {
-        append_program(alloc, &mut words, table, checked, program)?;
+    append_prelude(alloc, draft, checked, program)?;
+    let mut row = Vec::new(alloc);
+    let count = place_count(checked, program);
+    for place in 0..count {
+        row.push(draft.next(checked.resolved()))?;
+        append_place(alloc, draft, checked, program, place, row.as_slice())?;
     }
-    Ok(words)
+    Ok(row)
+}
+
+/// Goes once over all programs.
+pub(crate) fn code(alloc: Global, checked: &Checked) -> Result<Pass, Memory>
+    requires fits { end_of (system_in checked.now) + 2 < 2 ^ 32 }
+    ensures draft { IfOk result (λ pass. IsDraft (system_in checked.now) pass.draft) }
+    ensures words { IfOk result (λ pass. drafted (system_in checked.now) pass.draft
+        ≡ programs_words (addresses_of (system_in checked.now)) 0 (system_in checked.now).programs) }
+    ensures entries { IfOk result (λ pass. pass.entries.items
+        ≡ starts (system_in checked.now).base (map program_size (system_in checked.now).programs)) }
+    ensures places { IfOk result (λ pass. map (λ row. row.items) pass.places.items
+        ≡ place_rows (system_in checked.now).base (system_in checked.now).programs) }
+{
+    let mut draft = Draft::new(alloc);
+    let mut entries = Vec::new(alloc);
+    let mut places = Vec::new(alloc);
+    let count = program_count(checked);
+    for program in 0..count {
+        entries.push(draft.next(checked.resolved()))?;
+        places.push(append_program(alloc, &mut draft, checked, program)?)?;
+    }
+    Ok(Pass {
+        draft,
+        entries,
+        places,
+    })
 }

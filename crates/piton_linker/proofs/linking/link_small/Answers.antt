@@ -1,11 +1,23 @@
-use Rattle.std.proofs.Common.{◌≡◌, ap, ◌∙◌}
+use Rattle.std.proofs.Common.{◌≡◌, length, ap, sym, ◌∙◌, arith}
 use Rattle.piton_check.specs.Instruction.{system_view}
 use Rattle.piton_check.specs.Resolved.{ResolvedOf}
 use Rattle.piton_machine.specs.Fits.{system_in}
 use Rattle.piton_linker.specs.Tables.{TableOf, table_of}
+use Rattle.piton_machine.specs.Placed.{addresses_of, programs_size}
+use Rattle.piton_machine.proofs.SizeLaws.{length-programs_words}
+use Rattle.piton_linker.proofs.DraftLaws.{length-drafted}
 use Rattle.piton_linker.proofs.PlaceLaws.{rows_are}
-use Rattle.piton_linker.proofs.ProcessorLaws.{checked_runs}
+use Rattle.piton_linker.proofs.ProcessorLaws.{checked_runs, checked_end}
 use Rattle.piton_linker.proofs.linking.link_small.Goals as goal
+
+pub complete-code-requires-clause-room : goal.complete-code-requires-clause-room
+complete-code-requires-clause-room c =
+    let s = system_in c.args.checked.now in
+    let d = c.in_ok-draft.field-0.draft in
+    let base : c.resolved-resolved.result.now.base ≡ s.base = ap (λ (u : ResolvedOf). u.base) c.resolved-resolved.ensures.value in
+    let size : length d.words ≡ programs_size s.programs =
+    sym (length-drafted s d) ∙ ap length c.in_ok-draft.ensures.words ∙ length-programs_words (addresses_of s) 0 s.programs in
+    omega (arith, base, size, checked_end c.args.checked.now c.resolved-resolved.ensures.checked c.requires.small)
 
 pub returns-clause-places : goal.returns-clause-places
 returns-clause-places c =

@@ -21,7 +21,7 @@ returns c =
     let below : c.ctrl_gap.result ≡ first_frame_at s - ctrl_start s = omega (arith, c.ctrl_gap.ensures) in
     let empty : c.temp_gap.result ≡ first_top s - temp_start s = omega (arith, c.temp_gap.ensures) in
     let one : c.push.new.self.items ≡ code ++ halt_word ∷ [] =
-    c.in_ok-push.ensures.items ∙ ap (λ ws. ws ++ halt_word ∷ []) c.in_ok-words.ensures in
+    c.in_ok-push.ensures.items ∙ ap (λ ws. ws ++ halt_word ∷ []) c.requires.code in
     let two : c.append_data.new.words.items ≡ (code ++ halt_word ∷ []) ++ areas = c.in_ok-append_data.ensures ∙ ap (λ ws. ws ++ areas) one in
     let three : c.append_zeros.new.words.items ≡ ((code ++ halt_word ∷ []) ++ areas) ++ gap =
     c.in_ok-append_zeros.ensures ∙ (λ t. two t ++ replicate (below t) 0) in

@@ -1,11 +1,11 @@
-use Rattle.std.proofs.Common.{◌≡◌, ◌+◌, ◌≤◌, ◌++◌, ◌∷◌, [], Some, length, map, take, ap, sym, ◌∙◌, arith}
+use Rattle.std.proofs.Common.{◌≡◌, ◌+◌, ◌≤◌, ◌++◌, ◌∷◌, [], length, map, take, ap, sym, ◌∙◌, arith}
 use Rattle.std.proofs.lemmas.List.{length-map, map_push}
 use Rattle.piton_check.specs.Instruction.{program_view, instruction_view}
 use Rattle.piton_check.specs.Resolved.{ResolvedProgramOf}
-use Rattle.piton_machine.specs.Placed.{programs_size, program_size, prelude_size, instruction_size, instructions_size}
+use Rattle.piton_machine.specs.Placed.{programs_size, prelude_size, instruction_size, instructions_size}
 use Rattle.piton_linker.specs.Tables.{place_rows, starts}
 use Rattle.piton_linker.proofs.BoundLaws.{programs_next, programs_within, seen_at}
-use Rattle.piton_linker.proofs.LookupLaws.{rows_more, row_at, whole_rows}
+use Rattle.piton_linker.proofs.LookupLaws.{rows_more, whole_rows}
 use Rattle.piton_linker.proofs.table.places.Goals as goal
 
 pub prelude_size-requires : goal.prelude_size-requires

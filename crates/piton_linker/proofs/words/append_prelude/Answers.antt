@@ -1,5 +1,4 @@
-use Rattle.std.proofs.Common.{◌≡◌, ◌+◌, ◌<◌, ◌++◌, length, ap, sym, ◌∙◌, subst, arith}
-use Rattle.std.specs.Prelude.{◌^◌}
+use Rattle.std.proofs.Common.{◌≡◌, ◌+◌, ◌++◌, length, ap, sym, ◌∙◌, subst, arith}
 use Rattle.piton_check.specs.Resolved.{ResolvedOf}
 use Rattle.piton_check.specs.Instruction.{system_view}
 use Rattle.piton_machine.specs.Fits.{Each, system_in}
@@ -9,7 +8,14 @@ use Rattle.piton_machine.specs.Templates.{prelude_pieces}
 use Rattle.piton_linker.proofs.EmissionLaws.{prelude_known}
 use Rattle.piton_machine.specs.Templates.{words_of}
 use Rattle.piton_linker.specs.Tables.{PieceExists}
+use Rattle.piton_linker.specs.Drafts.{drafted, IsDraft}
 use Rattle.piton_linker.proofs.words.append_prelude.Goals as goal
+
+pub append-requires-clause-draft : goal.append-requires-clause-draft
+append-requires-clause-draft c = subst (λ (u : ResolvedOf). IsDraft (system_view u) c.args.draft.now) (sym c.resolved.ensures.value) c.requires.draft
+
+pub append-requires-clause-row : goal.append-requires-clause-row
+append-requires-clause-row c = λ place a h. absurd cc
 
 pub append-requires-clause-named : goal.append-requires-clause-named
 append-requires-clause-named c =
@@ -28,14 +34,19 @@ append-requires-clause-room c =
     let base : c.resolved.result.now.base ≡ s.base = ap (λ (u : ResolvedOf). u.base) value in
     omega (arith, base, ap length pieces, known.room, c.requires.at, c.requires.fits)
 
-pub returns : goal.returns
-returns c =
+pub returns-clause-draft : goal.returns-clause-draft
+returns-clause-draft c = subst (λ (u : ResolvedOf). IsDraft (system_view u) c.append.new.self) c.resolved.ensures.value c.in_ok-append.ensures.draft
+
+pub returns-clause-words : goal.returns-clause-words
+returns-clause-words c =
     let s = system_in c.args.checked.now in
     let value = c.resolved.ensures.value in
     let known = prelude_known s c.resolved.ensures.checked.sound c.args.program c.requires.there in
     let pieces : c.as_slice.result.now ≡ prelude_pieces (program_of s c.args.program) = c.as_slice.ensures.value ∙ c.in_ok-pieces.ensures in
-    let old = c.args.words.now.items in
-    c.in_ok-append.ensures
-    ∙ ap (λ (u : ResolvedOf). old ++ words_of (addresses_of (system_view u)) (u.base + length old) c.as_slice.result.now) value
+    let old = drafted s c.args.draft.now in
+    let n = length c.args.draft.now.words in
+    ap (λ (u : ResolvedOf). drafted (system_view u) c.append.new.self) (sym value)
+    ∙ c.in_ok-append.ensures.words
+    ∙ ap (λ (u : ResolvedOf). drafted (system_view u) c.args.draft.now ++ words_of (addresses_of (system_view u)) (u.base + n) c.as_slice.result.now) value
     ∙ ap (λ a. old ++ words_of (addresses_of s) a c.as_slice.result.now) c.requires.at
     ∙ ap (λ ps. old ++ words_of (addresses_of s) (entry_of s c.args.program) ps) pieces

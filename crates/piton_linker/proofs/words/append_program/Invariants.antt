@@ -2,10 +2,16 @@ use Rattle.std.proofs.Common.{◌≡◌, ◌++◌, take}
 use Rattle.piton_check.specs.Sound.{local_count}
 use Rattle.piton_machine.specs.Fits.{system_in}
 use Rattle.piton_machine.specs.State.{program_of}
-use Rattle.piton_machine.specs.Placed.{address_of_place, addresses_of}
+use Rattle.piton_machine.specs.Placed.{entry_of, addresses_of}
 use Rattle.piton_machine.specs.Templates.{prelude_words, instructions_words}
+use Rattle.piton_linker.specs.Tables.{row_at}
+use Rattle.piton_linker.specs.Drafts.{drafted, IsDraft}
 use Rattle.piton_linker.proofs.words.append_program.Given as goal
 
--- the words so far
+-- the words so far, once all addresses are known, and the addresses of the places so far
 abbrev pub invariant-loop-place : goal.invariant-loop-place
-invariant-loop-place l = l.words.items ≡ l.fn.words.items ++ (prelude_words (addresses_of (system_in l.checked)) l.program (program_of (system_in l.checked) l.program) ++ instructions_words (addresses_of (system_in l.checked)) l.program (local_count (program_of (system_in l.checked) l.program)) 0 (take l.place (program_of (system_in l.checked) l.program).instructions))
+invariant-loop-place l = record {
+  draft : IsDraft (system_in l.checked) l.draft;
+  words : drafted (system_in l.checked) l.draft ≡ drafted (system_in l.checked) l.fn.draft ++ (prelude_words (addresses_of (system_in l.checked)) l.program (program_of (system_in l.checked) l.program) ++ instructions_words (addresses_of (system_in l.checked)) l.program (local_count (program_of (system_in l.checked) l.program)) 0 (take l.place (program_of (system_in l.checked) l.program).instructions));
+  row : l.row.items ≡ take l.place (row_at (entry_of (system_in l.checked) l.program) (program_of (system_in l.checked) l.program));
+}

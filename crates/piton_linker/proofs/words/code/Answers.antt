@@ -1,49 +1,83 @@
-use Rattle.std.proofs.Common.{◌≡◌, ◌+◌, ◌<◌, ◌++◌, length, take, ap, sym, ◌∙◌, arith}
+use Rattle.std.proofs.Common.{◌≡◌, ◌+◌, ◌<◌, ◌≤◌, ◌++◌, ◌∷◌, [], length, map, take, ap, sym, ◌∙◌, arith}
+use Rattle.std.proofs.lemmas.List.{length-map, map_push}
+use Rattle.std.proofs.lemmas.Option.{slice_get-get_or}
+use Rattle.piton_check.specs.Resolved.{ResolvedOf}
 use Rattle.piton_machine.specs.Fits.{system_in}
-use Rattle.piton_machine.specs.State.{program_of}
-use Rattle.piton_machine.specs.Placed.{addresses_of}
+use Rattle.piton_machine.specs.State.{no_program, program_of}
+use Rattle.piton_machine.specs.Placed.{entry_of, addresses_of, program_size}
 use Rattle.piton_machine.specs.Templates.{program_words, programs_words}
-use Rattle.piton_linker.specs.Tables.{TableOf}
-use Rattle.piton_linker.proofs.EmissionLaws.{programs_next, program_here, programs_count, entries_count, take_whole}
+use Rattle.piton_linker.specs.Tables.{starts, place_rows}
+use Rattle.piton_linker.proofs.BoundLaws.{programs_within}
+use Rattle.piton_linker.proofs.DraftLaws.{length-drafted}
+use Rattle.piton_linker.proofs.LookupLaws.{programs_more, rows_more, whole, whole_rows}
+use Rattle.piton_linker.proofs.EmissionLaws.{programs_next, program_here, take_whole}
 use Rattle.piton_linker.proofs.words.code.Goals as goal
+
+pub next-requires : goal.next-requires
+next-requires c =
+    let s = system_in c.args.checked.now in
+    let k = c.loop-program.program in
+    let new = c.loop-program.draft in
+    let there : k < length s.programs = omega (arith, c.program_count-count.ensures, c.loop-program-test.true) in
+    let at : s.base + length new.words ≡ entry_of s k =
+    ap (λ n. s.base + n) (sym (length-drafted s new) ∙ ap length c.loop-program.invariant.words) ∙ program_here s k in
+    let base : c.resolved.result.now.base ≡ s.base = ap (λ (u : ResolvedOf). u.base) c.resolved.ensures.value in
+    omega (arith, at, base, programs_within s.programs k, c.requires.fits)
 
 pub append_program-requires-clause-at : goal.append_program-requires-clause-at
 append_program-requires-clause-at c =
     let s = system_in c.args.checked.now in
-    ap (λ ws. s.base + length ws) c.loop-program.invariant ∙ program_here s c.loop-program.program
-
-pub overflow_cast-count : goal.overflow_cast-count
-overflow_cast-count c =
-    let s = system_in c.args.checked.now in
-    let held : c.table.inside.entries.items ≡ c.args.table.now.entries = ap (λ (t : TableOf). t.entries) c.table.view_is in
-    let all = entries_count s c.args.table.now c.requires.table in
-    let count : c.len-count.result ≡ length s.programs = omega (arith, c.len-count.ensures, c.table.inside.entries.ok.0, ap length held, all) in
-    omega (arith, count, programs_count s.programs, c.requires.fits)
-
-pub append_program-requires-clause-there : goal.append_program-requires-clause-there
-append_program-requires-clause-there c =
-    let s = system_in c.args.checked.now in
-    let held : c.table.inside.entries.items ≡ c.args.table.now.entries = ap (λ (t : TableOf). t.entries) c.table.view_is in
-    let all = entries_count s c.args.table.now c.requires.table in
-    let count : c.len-count.result ≡ length s.programs = omega (arith, c.len-count.ensures, c.table.inside.entries.ok.0, ap length held, all) in
-    omega (arith, count, c.loop-program-test.true)
+    let k = c.loop-program.program in
+    let new = c.loop-program.draft in
+    let there : k < length s.programs = omega (arith, c.program_count-count.ensures, c.loop-program-test.true) in
+    let at : s.base + length new.words ≡ entry_of s k =
+    ap (λ n. s.base + n) (sym (length-drafted s new) ∙ ap length c.loop-program.invariant.words) ∙ program_here s k in
+    at
 
 pub loop-program-preserved : goal.loop-program-preserved
 loop-program-preserved c =
     let s = system_in c.args.checked.now in
-    let held : c.table.inside.entries.items ≡ c.args.table.now.entries = ap (λ (t : TableOf). t.entries) c.table.view_is in
-    let all = entries_count s c.args.table.now c.requires.table in
-    let count : c.len-count.result ≡ length s.programs = omega (arith, c.len-count.ensures, c.table.inside.entries.ok.0, ap length held, all) in
     let k = c.loop-program.program in
-    let there : k < length s.programs = omega (arith, count, c.loop-program-test.true) in
-    c.in_ok-append_program.ensures
-    ∙ ap (λ ws. ws ++ program_words (addresses_of s) k (program_of s k)) c.loop-program.invariant
-    ∙ sym (programs_next s k there)
+    let new = c.loop-program.draft in
+    let there : k < length s.programs = omega (arith, c.program_count-count.ensures, c.loop-program-test.true) in
+    let at : s.base + length new.words ≡ entry_of s k =
+    ap (λ n. s.base + n) (sym (length-drafted s new) ∙ ap length c.loop-program.invariant.words) ∙ program_here s k in
+    let p = program_of s k in
+    let found = slice_get-get_or s.programs k no_program there in
+    let next : c.next.result ≡ entry_of s k = c.next.ensures ∙ ap (λ (u : ResolvedOf). u.base + length new.words) c.resolved.ensures.value ∙ at in
+    record {
+      draft = c.in_ok-append_program.ensures.draft;
+      words = c.in_ok-append_program.ensures.words
+          ∙ ap (λ ws. ws ++ program_words (addresses_of s) k p) c.loop-program.invariant.words
+          ∙ sym (programs_next s k there);
+      entries = c.in_ok-push.ensures.items
+          ∙ ap (λ ns. ns ++ c.next.result ∷ []) c.loop-program.invariant.entries
+          ∙ ap (λ n. take k (starts s.base (map program_size s.programs)) ++ n ∷ []) next
+          ∙ sym (programs_more s.base k s.programs p found);
+      places = ap (map (λ row. row.items)) c.in_ok-push-2.ensures.items
+          ∙ map_push (λ row. row.items) c.loop-program.places.items c.in_ok-append_program.field-0
+          ∙ ap (λ ns. ns ++ c.in_ok-append_program.field-0.items ∷ []) c.loop-program.invariant.places
+          ∙ ap (λ ns. take k (place_rows s.base s.programs) ++ ns ∷ []) c.in_ok-append_program.ensures.places
+          ∙ sym (rows_more s.base k s.programs p found);
+    }
 
-pub returns : goal.returns
-returns c =
+pub returns-clause-words : goal.returns-clause-words
+returns-clause-words c =
     let s = system_in c.args.checked.now in
-    let held : c.table.inside.entries.items ≡ c.args.table.now.entries = ap (λ (t : TableOf). t.entries) c.table.view_is in
-    let all = entries_count s c.args.table.now c.requires.table in
-    let count : c.len-count.result ≡ length s.programs = omega (arith, c.len-count.ensures, c.table.inside.entries.ok.0, ap length held, all) in
-    c.loop-program.invariant ∙ ap (programs_words (addresses_of s) 0) (take_whole s.programs c.loop-program.program (omega (arith, count, c.loop-program-test.false)))
+    let k = c.loop-program.program in
+    let done : length s.programs ≤ k = omega (arith, c.program_count-count.ensures, c.loop-program-test.false) in
+    c.loop-program.invariant.words ∙ ap (programs_words (addresses_of s) 0) (take_whole s.programs k done)
+
+pub returns-clause-entries : goal.returns-clause-entries
+returns-clause-entries c =
+    let s = system_in c.args.checked.now in
+    let k = c.loop-program.program in
+    let done : length (map program_size s.programs) ≤ k = omega (arith, length-map s.programs program_size, c.program_count-count.ensures, c.loop-program-test.false) in
+    c.loop-program.invariant.entries ∙ whole s.base k (map program_size s.programs) done
+
+pub returns-clause-places : goal.returns-clause-places
+returns-clause-places c =
+    let s = system_in c.args.checked.now in
+    let k = c.loop-program.program in
+    let done : length s.programs ≤ k = omega (arith, c.program_count-count.ensures, c.loop-program-test.false) in
+    c.loop-program.invariant.places ∙ whole_rows s.base k s.programs done

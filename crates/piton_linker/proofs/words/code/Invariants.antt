@@ -1,9 +1,16 @@
-use Rattle.std.proofs.Common.{◌≡◌, take}
+use Rattle.std.proofs.Common.{◌≡◌, map, take}
 use Rattle.piton_machine.specs.Fits.{system_in}
-use Rattle.piton_machine.specs.Placed.{addresses_of}
+use Rattle.piton_machine.specs.Placed.{addresses_of, program_size}
 use Rattle.piton_machine.specs.Templates.{programs_words}
+use Rattle.piton_linker.specs.Tables.{starts, place_rows}
+use Rattle.piton_linker.specs.Drafts.{drafted, IsDraft}
 use Rattle.piton_linker.proofs.words.code.Given as goal
 
--- the words so far
+-- the words so far, once all addresses are known, and the addresses so far
 abbrev pub invariant-loop-program : goal.invariant-loop-program
-invariant-loop-program l = l.words.items ≡ programs_words (addresses_of (system_in l.checked)) 0 (take l.program (system_in l.checked).programs)
+invariant-loop-program l = record {
+  draft : IsDraft (system_in l.checked) l.draft;
+  words : drafted (system_in l.checked) l.draft ≡ programs_words (addresses_of (system_in l.checked)) 0 (take l.program (system_in l.checked).programs);
+  entries : l.entries.items ≡ take l.program (starts (system_in l.checked).base (map program_size (system_in l.checked).programs));
+  places : map (λ row. row.items) l.places.items ≡ take l.program (place_rows (system_in l.checked).base (system_in l.checked).programs);
+}

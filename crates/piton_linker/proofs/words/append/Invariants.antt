@@ -1,9 +1,0 @@
-use Rattle.std.proofs.Common.{◌≡◌, ◌+◌, ◌++◌, length, take}
-use Rattle.piton_machine.specs.Placed.{addresses_of}
-use Rattle.piton_check.specs.Instruction.{system_view}
-use Rattle.piton_machine.specs.Templates.{words_of}
-use Rattle.piton_linker.proofs.words.append.Given as goal
-
--- the words of the pieces so far
-abbrev pub invariant-loop-piece : goal.invariant-loop-piece
-invariant-loop-piece l = l.words.items ≡ l.fn.words.items ++ words_of (addresses_of (system_view l.checked)) ((system_view l.checked).base + length l.fn.words.items) (take l.piece-index l.pieces)
