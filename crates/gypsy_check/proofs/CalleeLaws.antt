@@ -37,7 +37,7 @@ entered_last {V} eq is (e ∷ es) key v absent other = by_test (bytes_eq key.now
         ap (λ (b : Bool). lookup (sought other) (cond b ((e.0, v) ∷ es) (e ∷ insert_entry eq es key v))) (is key e.0 ∙ h)
         ∙ by_other (bytes_eq other e.0.now) (lookup (sought other) (insert_entry eq es key v)) (later none)
 
-past_map : {V W : Type 0} (f : V → W) (o : Option V) (b : Bool) (v : V) → option_map f (first_or o b v) ≡ first_or (option_map f o) b (f v)
+pub past_map : {V W : Type 0} (f : V → W) (o : Option V) (b : Bool) (v : V) → option_map f (first_or o b v) ≡ first_or (option_map f o) b (f v)
 past_map f (Some x) b v = refl
 past_map f None true v = refl
 past_map f None false v = refl
@@ -51,7 +51,7 @@ declared es key proc absent other =
 
 -- ---- the first of one more
 
-find-push : {X : Type 0} (test : X → Bool) (xs : List X) (x : X) → find test (xs ++ x ∷ []) ≡ first_or (find test xs) (test x) x
+pub find-push : {X : Type 0} (test : X → Bool) (xs : List X) (x : X) → find test (xs ++ x ∷ []) ≡ first_or (find test xs) (test x) x
 find-push test [] x = by_test (test x)
   where
     by_test : (b : Bool) → cond b (Some x) None ≡ first_or None b x

@@ -8,3 +8,4 @@ pub mod NoteLaws
 pub mod DeclarationLaws
 pub mod RepeatLaws
 pub mod CalleeLaws
+pub mod VariableLaws

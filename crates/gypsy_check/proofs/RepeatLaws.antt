@@ -40,17 +40,17 @@ repeats-push rule earlier (m ∷ ns) n =
     first false true c = refl
     first false false c = refl
 
--- ---- the names of a list, one item after the other
+-- ---- a list, one item after the other
 
-pub items_more : {X : Type 0} (key : X → Named) (front : List Named) (xs : List X) (i : ℕ) (x : X) → i < length xs → x ≡ get_or xs i x →
+pub items_more : {X Y : Type 0} (key : X → Y) (front : List Y) (xs : List X) (i : ℕ) (x : X) → i < length xs → x ≡ get_or xs i x →
     front ++ map key (take (i + 1) xs) ≡ (front ++ map key (take i xs)) ++ key x ∷ []
-items_more {X} key front xs i x lt is =
+items_more {X} {Y} key front xs i x lt is =
     let more = ap (map key) (take_more xs i x lt ∙ ap (λ (y : X). take i xs ++ y ∷ []) (sym is)) ∙ map_push key (take i xs) x in
-    ap (λ (ns : List Named). front ++ ns) more ∙ sym (append_assoc front (map key (take i xs)) (key x ∷ []))
+    ap (λ (ns : List Y). front ++ ns) more ∙ sym (append_assoc front (map key (take i xs)) (key x ∷ []))
 
-pub names_more : (front ns : List Named) (i : ℕ) (n : Named) → i < length ns → n ≡ get_or ns i n → front ++ take (i + 1) ns ≡ (front ++ take i ns) ++ n ∷ []
-names_more front ns i n lt is =
-    ap (λ (ms : List Named). front ++ ms) (take_more ns i n lt ∙ ap (λ (m : Named). take i ns ++ m ∷ []) (sym is)) ∙ sym (append_assoc front (take i ns) (n ∷ []))
+pub list_more : {X : Type 0} (front xs : List X) (i : ℕ) (x : X) → i < length xs → x ≡ get_or xs i x → front ++ take (i + 1) xs ≡ (front ++ take i xs) ++ x ∷ []
+list_more {X} front xs i x lt is =
+    ap (λ (ys : List X). front ++ ys) (take_more xs i x lt ∙ ap (λ (y : X). take i xs ++ y ∷ []) (sym is)) ∙ sym (append_assoc front (take i xs) (x ∷ []))
 
 -- the set has those so far, and one more
 pub known_more : (before after : List Named) (n : Named) (old new : List ℕ → Bool) → after ≡ before ++ n ∷ [] →

@@ -1,5 +1,5 @@
 -- Tables of names.
-use Rattle.std.specs.Prelude.{◌≡◌, ℕ, List, find, Bool, true, false, Option, Some, None, option_map}
+use Rattle.std.specs.Prelude.{◌≡◌, ℕ, List, ◌++◌, map, find, Bool, true, false, Option, Some, None, option_map}
 use Rattle.std.specs.Borrow.{Bor}
 use Rattle.std.specs.List.{list_any}
 use Rattle.std.specs.Map.{lookup}
@@ -7,6 +7,8 @@ use Rattle.std.specs.Str.{bytes_eq}
 use Rattle.indexmap.specs.IndexMap.{IndexMap}
 use Rattle.indexmap.specs.IndexSet.{IndexSet}
 use Rattle.stack_text.specs.declared.name.Named.{Named}
+use Rattle.gypsy_syntax.specs.declared.literal.Decl.{Decl}
+use Rattle.gypsy_syntax.specs.declared.literal.TypeText.{TypeText}
 use Rattle.gypsy_syntax.specs.declared.proc.Proc.{Proc}
 use Rattle.gypsy_check.specs.declared.callees.Callees.{Callees}
 
@@ -38,3 +40,19 @@ KnowsProcs table procs = (name : List ℕ) → look_up table name ≡ find (λ p
 
 abbrev pub KnowsCallees : Callees → Type 0
 KnowsCallees callees = KnowsProcs callees.procs callees.source.now.procs.items
+
+-- the type that the table has for a name
+abbrev pub type_in : {S : Type 0} → IndexMap (Bor (List ℕ)) TypeText S → List ℕ → Option TypeText
+type_in table name = lookup (λ key. bytes_eq name key.now) table.entries
+
+-- the variables that a procedure declares, formals before locals
+abbrev pub declared : Proc → List Decl
+declared p = p.formals.items ++ map (λ l. l.decl) p.locals.items
+
+-- the type of the first of a name
+abbrev pub first_type : List Decl → List ℕ → Option TypeText
+first_type decls name = option_map (λ d. d.shape) (find (λ d. bytes_eq name d.name.name) decls)
+
+-- the table has the type of the first of each name
+abbrev pub KnowsTypes : {S : Type 0} → IndexMap (Bor (List ℕ)) TypeText S → List Decl → Type 0
+KnowsTypes table decls = (name : List ℕ) → type_in table name ≡ first_type decls name

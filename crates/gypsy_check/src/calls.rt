@@ -10,6 +10,7 @@ ghost use Rattle.gypsy_check.specs.Tables.{KnowsCallees};
 use crate::callees::Callees;
 use crate::conditions::check_all_raised;
 use crate::names::check_repeats;
+use crate::scope::Scope;
 use crate::variables::{check_actuals, check_all_declared};
 use gypsy_syntax::Proc;
 use stack_text::{Breach, Memory, Name, Named, note_if};
@@ -52,52 +53,58 @@ fn check_callee_name(best: &mut Option<Breach>, callees: &Callees, callee: &Name
 fn check_actual_names(
     alloc: Global,
     best: &mut Option<Breach>,
-    proc: &Proc,
+    scope: &Scope,
     actuals: &[Named],
 ) -> Result<(), Memory>
-    ensures { OnOk result (Notes best.old (actual_name_breaches (proc_of proc.now) actuals.now) best.new) }
+    ensures { OnOk result (Notes best.old (actual_name_breaches (proc_of scope.now) actuals.now) best.new) }
 {
-    check_all_declared(best, proc, actuals);
+    check_all_declared(best, scope, actuals);
     check_repeats(alloc, best, 20, actuals)?;
     Ok(())
 }
 
 /// Notes a number of data actuals that isn't the callee's, or else each that has another type than its formal.
-fn check_data(best: &mut Option<Breach>, proc: &Proc, callee: &Proc, place: u32, actuals: &[Named])
-    ensures { Notes best.old (data_breaches (proc_of proc.now) (proc_of callee.now) place actuals.now) best.new }
+fn check_data(
+    best: &mut Option<Breach>,
+    scope: &Scope,
+    callee: &Proc,
+    place: u32,
+    actuals: &[Named],
+)
+    ensures { Notes best.old (data_breaches (proc_of scope.now) (proc_of callee.now) place actuals.now) best.new }
 {
     let formals = callee.formals.as_slice();
     if actuals.len() == formals.len() {
-        check_actuals(best, proc, formals, actuals);
+        check_actuals(best, scope, formals, actuals);
     } else {
         note_if(best, true, place, 18);
     }
 }
 
 /// Notes actuals that don't fit the callee.
-fn check_callee(best: &mut Option<Breach>, proc: &Proc, callee: &Proc, call: CallText)
+fn check_callee(best: &mut Option<Breach>, scope: &Scope, callee: &Proc, call: CallText)
     ensures { let found = Some (proc_of callee.now) in
-        let breaches = callee_breaches (proc_of proc.now) found in
+        let breaches = callee_breaches (proc_of scope.now) found in
         let with_data = breaches call.entry.actuals_place call.entry.actuals.now in
         Notes best.old (with_data call.entry.conds_place call.entry.conds.now) best.new }
 {
-    check_data(best, proc, callee, call.actuals_place, call.actuals);
+    check_data(best, scope, callee, call.actuals_place, call.actuals);
     let formal = callee.conds.as_slice();
     let is_count = call.conds.len() == formal.len();
     note_if(best, !is_count, call.conds_place, 19);
 }
 
 /// The same where the callee is there.
-fn check_callee_if_any(best: &mut Option<Breach>, callees: &Callees, proc: &Proc, call: CallText)
+fn check_callee_if_any(best: &mut Option<Breach>, callees: &Callees, scope: &Scope, call: CallText)
     requires { KnowsCallees callees.now }
     ensures { let found = procedure_named (source_of callees.now.source.now) call.entry.callee.now.name in
-        let breaches = callee_breaches (proc_of proc.now) found in
+        let breaches = callee_breaches (proc_of scope.now) found in
         let with_data = breaches call.entry.actuals_place call.entry.actuals.now in
         Notes best.old (with_data call.entry.conds_place call.entry.conds.now) best.new }
 {
     match callees.named(&call.callee.name) {
         None => {}
-        Some(callee) => check_callee(best, proc, callee, call),
+        Some(callee) => check_callee(best, scope, callee, call),
     }
 }
 
@@ -106,18 +113,18 @@ pub(crate) fn check_call(
     alloc: Global,
     best: &mut Option<Breach>,
     callees: &Callees,
-    proc: &Proc,
+    scope: &Scope,
     in_loop: bool,
     call: CallText,
 ) -> Result<(), Memory>
     requires { KnowsCallees callees.now }
-    ensures { let breaches = call_breaches (source_of callees.now.source.now) (proc_of proc.now) in_loop in
+    ensures { let breaches = call_breaches (source_of callees.now.source.now) (proc_of scope.now) in_loop in
         let with_data = breaches call.entry.callee.now call.entry.actuals_place call.entry.actuals.now in
         OnOk result (Notes best.old (with_data call.entry.conds_place call.entry.conds.now) best.new) }
 {
     check_callee_name(best, callees, call.callee);
-    check_actual_names(alloc, best, proc, call.actuals)?;
-    check_all_raised(best, proc, in_loop, call.conds);
-    check_callee_if_any(best, callees, proc, call);
+    check_actual_names(alloc, best, scope, call.actuals)?;
+    check_all_raised(best, scope, in_loop, call.conds);
+    check_callee_if_any(best, callees, scope, call);
     Ok(())
 }

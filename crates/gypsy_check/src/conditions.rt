@@ -1,16 +1,14 @@
 //! Conditions: those that are declared, signalled, given and handled.
 
 ghost use Rattle.std.specs.Prelude.{◌≡◌, OnOk};
-ghost use Rattle.std.specs.List.{flat_map, list_any};
-ghost use Rattle.std.specs.Str.{bytes_eq};
+ghost use Rattle.std.specs.List.{flat_map};
 ghost use Rattle.stack_text.specs.Breaches.{Notes};
 ghost use Rattle.gypsy_syntax.specs.Resolved.{is_leave_name, is_routine_name, is_space_name};
 ghost use Rattle.gypsy_syntax.specs.SourceView.{proc_of};
-ghost use Rattle.gypsy_check.specs.Declarations.{is_condition};
 ghost use Rattle.gypsy_check.specs.Rules.{condition_breaches, handled_breaches, handlers_breaches, is_reserved, raised_breaches};
 
 use crate::names::check_repeats;
-use gypsy_syntax::Proc;
+use crate::scope::Scope;
 use stack_text::{Breach, Memory, Name, Named, note_if};
 use std::alloc::Global;
 
@@ -33,20 +31,6 @@ fn is_space(name: &Name) -> bool
     ensures { result ≡ is_space_name name.now }
 {
     name.bytes() == b"spaceerror".as_slice()
-}
-
-/// Whether the name is among these.
-fn is_among(name: &Name, names: &[Named]) -> bool
-    ensures { result ≡ list_any (λ n. bytes_eq name.now n.name) names.now }
-{
-    names.iter().any(|other| *name == other.name)
-}
-
-/// Whether a condition of the name is declared, formal or local.
-fn is_condition(proc: &Proc, name: &Name) -> bool
-    ensures { result ≡ is_condition (proc_of proc.now) name.now }
-{
-    is_among(name, proc.conds.as_slice()) || is_among(name, proc.local_conds.as_slice())
 }
 
 /// Whether the name has a meaning of its own.
@@ -73,12 +57,12 @@ pub(crate) fn check_conditions(best: &mut Option<Breach>, conds: &[Named])
 }
 
 /// Notes a condition that is signalled or given and isn't declared, and `leave` with no loop round it.
-pub(crate) fn check_raised(best: &mut Option<Breach>, proc: &Proc, in_loop: bool, cond: &Named)
-    ensures { Notes best.old (raised_breaches (proc_of proc.now) in_loop cond.now) best.new }
+pub(crate) fn check_raised(best: &mut Option<Breach>, scope: &Scope, in_loop: bool, cond: &Named)
+    ensures { Notes best.old (raised_breaches (proc_of scope.now) in_loop cond.now) best.new }
 {
     let leave = is_leave(&cond.name);
     let routine = is_routine(&cond.name);
-    let declared = is_condition(proc, &cond.name);
+    let declared = scope.has_condition(&cond.name);
     note_if(best, !(leave || routine || declared), cond.place, 10);
     note_if(best, leave && !in_loop, cond.place, 11);
 }
@@ -86,33 +70,33 @@ pub(crate) fn check_raised(best: &mut Option<Breach>, proc: &Proc, in_loop: bool
 /// The same of each.
 pub(crate) fn check_all_raised(
     best: &mut Option<Breach>,
-    proc: &Proc,
+    scope: &Scope,
     in_loop: bool,
     conds: &[Named],
 )
-    ensures { Notes best.old (flat_map (raised_breaches (proc_of proc.now) in_loop) conds.now) best.new }
+    ensures { Notes best.old (flat_map (raised_breaches (proc_of scope.now) in_loop) conds.now) best.new }
 {
     for cond in conds {
-        check_raised(best, proc, in_loop, cond);
+        check_raised(best, scope, in_loop, cond);
     }
 }
 
 /// Notes a condition that is handled and neither declared nor raised by the language.
-fn check_handled(best: &mut Option<Breach>, proc: &Proc, cond: &Named)
-    ensures { Notes best.old (handled_breaches (proc_of proc.now) cond.now) best.new }
+fn check_handled(best: &mut Option<Breach>, scope: &Scope, cond: &Named)
+    ensures { Notes best.old (handled_breaches (proc_of scope.now) cond.now) best.new }
 {
     let routine = is_routine(&cond.name);
     let space = is_space(&cond.name);
-    let declared = is_condition(proc, &cond.name);
+    let declared = scope.has_condition(&cond.name);
     note_if(best, !(routine || space || declared), cond.place, 12);
 }
 
 /// The same of each.
-fn check_all_handled(best: &mut Option<Breach>, proc: &Proc, conds: &[Named])
-    ensures { Notes best.old (flat_map (handled_breaches (proc_of proc.now)) conds.now) best.new }
+fn check_all_handled(best: &mut Option<Breach>, scope: &Scope, conds: &[Named])
+    ensures { Notes best.old (flat_map (handled_breaches (proc_of scope.now)) conds.now) best.new }
 {
     for cond in conds {
-        check_handled(best, proc, cond);
+        check_handled(best, scope, cond);
     }
 }
 
@@ -120,12 +104,12 @@ fn check_all_handled(best: &mut Option<Breach>, proc: &Proc, conds: &[Named])
 pub(crate) fn check_handlers(
     alloc: Global,
     best: &mut Option<Breach>,
-    proc: &Proc,
+    scope: &Scope,
     conds: &[Named],
 ) -> Result<(), Memory>
-    ensures { OnOk result (Notes best.old (handlers_breaches (proc_of proc.now) conds.now) best.new) }
+    ensures { OnOk result (Notes best.old (handlers_breaches (proc_of scope.now) conds.now) best.new) }
 {
-    check_all_handled(best, proc, conds);
+    check_all_handled(best, scope, conds);
     check_repeats(alloc, best, 13, conds)?;
     Ok(())
 }

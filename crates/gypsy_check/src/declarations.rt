@@ -1,19 +1,21 @@
 //! What a procedure declares.
 
-ghost use Rattle.std.specs.Prelude.{◌≡◌, ◌+◌, ◌≤◌, nat_lt, map, min, OnOk};
+ghost use Rattle.std.specs.Prelude.{◌≡◌, ◌+◌, ◌≤◌, ◌++◌, nat_lt, map, min, IfOk, OnOk};
 ghost use Rattle.std.specs.List.{flat_map};
 ghost use Rattle.stack_text.specs.Breaches.{Notes};
 ghost use Rattle.gypsy_syntax.specs.Resolved.{variable_types};
 ghost use Rattle.gypsy_syntax.specs.SourceView.{proc_of};
 ghost use Rattle.gypsy_check.specs.Declarations.{conditions_of};
 ghost use Rattle.gypsy_check.specs.Rules.{condition_breaches, condition_name_breaches, size_breaches, type_breaches, variable_breaches};
+ghost use Rattle.gypsy_check.specs.Tables.{KnowsNames, KnowsTypes, declared};
 ghost use Rattle.gypsy_check.specs.Types.{words_of_types};
 
 use crate::conditions::check_conditions;
-use crate::names::{check_condition_names, check_variable_names};
+use crate::names::{conditions_of, variables_of};
 use crate::types::{check_type, words_of_length};
 use crate::values::check_locals;
-use gypsy_syntax::{Decl, Local, Proc};
+use gypsy_syntax::{Decl, Local, Proc, TypeText};
+use indexmap::{IndexMap, IndexSet};
 use stack_text::{Breach, Memory, note_if};
 use std::alloc::Global;
 
@@ -46,18 +48,19 @@ fn check_types(best: &mut Option<Breach>, proc: &Proc)
     check_local_types(best, proc.locals.as_slice());
 }
 
-/// Notes the breaches of the variables' declarations.
-pub(crate) fn check_variables(
+/// The types of the variables by their names; the breaches of their declarations are noted.
+pub(crate) fn declared_variables<'a>(
     alloc: Global,
     best: &mut Option<Breach>,
-    proc: &Proc,
-) -> Result<(), Memory>
-    ensures { OnOk result (Notes best.old (variable_breaches (proc_of proc.now)) best.new) }
+    proc: &'a Proc,
+) -> Result<IndexMap<&'a [u8], TypeText>, Memory>
+    ensures known { IfOk result (λ variables. KnowsTypes variables (declared proc.now)) }
+    ensures noted { OnOk result (Notes best.old (variable_breaches (proc_of proc.now)) best.new) }
 {
-    check_variable_names(alloc, best, proc.formals.as_slice(), proc.locals.as_slice())?;
+    let variables = variables_of(alloc, best, proc.formals.as_slice(), proc.locals.as_slice())?;
     check_types(best, proc);
     check_locals(best, proc.locals.as_slice());
-    Ok(())
+    Ok(variables)
 }
 
 /// Notes each declared condition whose name has a meaning of its own.
@@ -68,22 +71,23 @@ fn check_all_conditions(best: &mut Option<Breach>, proc: &Proc)
     check_conditions(best, proc.local_conds.as_slice());
 }
 
-/// Notes the breaches of the conditions' declarations.
-pub(crate) fn check_declared_conditions(
+/// The names of the conditions; the breaches of their declarations are noted.
+pub(crate) fn declared_conditions<'a>(
     alloc: Global,
     best: &mut Option<Breach>,
-    proc: &Proc,
-) -> Result<(), Memory>
-    ensures { OnOk result (Notes best.old (condition_name_breaches (proc_of proc.now)) best.new) }
+    proc: &'a Proc,
+) -> Result<IndexSet<&'a [u8]>, Memory>
+    ensures known { IfOk result (λ conds. KnowsNames conds (proc.now.conds.items ++ proc.now.local_conds.items)) }
+    ensures noted { OnOk result (Notes best.old (condition_name_breaches (proc_of proc.now)) best.new) }
 {
-    check_condition_names(
+    let conds = conditions_of(
         alloc,
         best,
         proc.conds.as_slice(),
         proc.local_conds.as_slice(),
     )?;
     check_all_conditions(best, proc);
-    Ok(())
+    Ok(conds)
 }
 
 /// The words of the formals, exact up to the most that variables may take.

@@ -13,6 +13,7 @@ mod literals;
 mod names;
 mod predefs;
 mod procedures;
+mod scope;
 mod statements;
 mod types;
 mod values;

@@ -1,13 +1,13 @@
-//! Names that stand more than once.
+//! Tables of names, and names that stand more than once.
 
-ghost use Rattle.std.specs.Prelude.{◌≡◌, ℕ, List, [], ◌++◌, ◌||◌, map, OnOk};
+ghost use Rattle.std.specs.Prelude.{◌≡◌, ℕ, List, [], ◌++◌, ◌||◌, map, is_some, IfOk, OnOk};
 ghost use Rattle.std.specs.Str.{bytes_eq};
 ghost use Rattle.stack_text.specs.Breaches.{when, Notes};
 ghost use Rattle.gypsy_check.specs.Declarations.{repeats};
-ghost use Rattle.gypsy_check.specs.Tables.{has};
+ghost use Rattle.gypsy_check.specs.Tables.{has, first_or, type_in, KnowsNames, KnowsTypes};
 
-use gypsy_syntax::{Decl, Local};
-use indexmap::IndexSet;
+use gypsy_syntax::{Decl, Local, TypeText};
+use indexmap::{IndexMap, IndexSet};
 use stack_text::{Breach, Memory, Named, note_if};
 use std::alloc::Global;
 
@@ -43,34 +43,60 @@ pub(crate) fn check_repeats(
     Ok(())
 }
 
-/// Notes each variable whose name was used earlier, formals before locals.
-pub(crate) fn check_variable_names(
-    alloc: Global,
+/// Enters a variable by its name with its type, or notes that the name was entered before.
+fn declare<'a>(
     best: &mut Option<Breach>,
-    formals: &[Decl],
-    locals: &[Local],
+    variables: &mut IndexMap<&'a [u8], TypeText>,
+    decl: &'a Decl,
 ) -> Result<(), Memory>
-    ensures { let names = map (λ d. d.name) formals.now ++ map (λ l. l.decl.name) locals.now in
-        OnOk result (Notes best.old (repeats 4 [] names) best.new) }
+    ensures entered { OnOk result
+        ((other : List ℕ) →
+        type_in variables.new other
+        ≡ first_or (type_in variables.old other) (bytes_eq other decl.now.name.name) decl.now.shape) }
+    ensures noted { let is_known = is_some (type_in variables.old decl.now.name.name) in
+        OnOk result (Notes best.old (when is_known decl.now.name.place 4) best.new) }
 {
-    let mut earlier = IndexSet::new(alloc);
-    for formal in formals {
-        enter(best, &mut earlier, &formal.name, 4)?;
+    let name = decl.name.name.bytes();
+    let is_known = variables.contains_key(name);
+    note_if(best, is_known, decl.name.place, 4);
+    if is_known {
+        return Ok(());
     }
-    for local in locals {
-        enter(best, &mut earlier, &local.decl.name, 4)?;
-    }
+    variables.insert(name, decl.shape)?;
     Ok(())
 }
 
-/// Notes each condition whose name was used earlier, formal before local.
-pub(crate) fn check_condition_names(
+/// The types of variables by their names, formals before locals; each name that was used earlier is noted.
+pub(crate) fn variables_of<'a>(
     alloc: Global,
     best: &mut Option<Breach>,
-    conds: &[Named],
-    local_conds: &[Named],
-) -> Result<(), Memory>
-    ensures { OnOk result (Notes best.old (repeats 5 [] (conds.now ++ local_conds.now)) best.new) }
+    formals: &'a [Decl],
+    locals: &'a [Local],
+) -> Result<IndexMap<&'a [u8], TypeText>, Memory>
+    ensures known { IfOk result
+        (λ variables. KnowsTypes variables (formals.now ++ map (λ l. l.decl) locals.now)) }
+    ensures noted { let names = map (λ d. d.name) formals.now ++ map (λ l. l.decl.name) locals.now in
+        OnOk result (Notes best.old (repeats 4 [] names) best.new) }
+{
+    let mut variables = IndexMap::new(alloc);
+    for formal in formals {
+        declare(best, &mut variables, formal)?;
+    }
+    for local in locals {
+        declare(best, &mut variables, &local.decl)?;
+    }
+    Ok(variables)
+}
+
+/// The names of conditions, formal before local; each that was used earlier is noted.
+pub(crate) fn conditions_of<'a>(
+    alloc: Global,
+    best: &mut Option<Breach>,
+    conds: &'a [Named],
+    local_conds: &'a [Named],
+) -> Result<IndexSet<&'a [u8]>, Memory>
+    ensures known { IfOk result (λ names. KnowsNames names (conds.now ++ local_conds.now)) }
+    ensures noted { OnOk result (Notes best.old (repeats 5 [] (conds.now ++ local_conds.now)) best.new) }
 {
     let mut earlier = IndexSet::new(alloc);
     for cond in conds {
@@ -79,5 +105,5 @@ pub(crate) fn check_condition_names(
     for local in local_conds {
         enter(best, &mut earlier, local, 5)?;
     }
-    Ok(())
+    Ok(earlier)
 }

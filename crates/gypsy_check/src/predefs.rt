@@ -10,9 +10,10 @@ ghost use Rattle.gypsy_check.specs.Arguments.{is_undeclared, is_wanted, kind_of,
 ghost use Rattle.gypsy_check.specs.Rules.{argument_breaches, declared_breaches, number_breaches, predef_breaches, slots_breaches};
 
 use crate::literals::{check_literal, literal_kind, literal_place};
+use crate::scope::Scope;
 use crate::types::same_kind;
-use crate::variables::{check_declared, variable_type};
-use gypsy_syntax::{Arg, Form, Literal, Predef, Proc, Slot, TypeText, slots_of};
+use crate::variables::check_declared;
+use gypsy_syntax::{Arg, Form, Literal, Predef, Slot, TypeText, slots_of};
 use stack_text::{Breach, Kind, note_if};
 
 /// The kind of a variable of the type, where it has the form.
@@ -51,11 +52,11 @@ fn kind_of_literal(form: Form, literal: &Literal) -> Option<Kind>
 }
 
 /// The kind of an argument, where it has the form.
-fn kind_of(proc: &Proc, form: Form, arg: &Arg) -> Option<Kind>
-    ensures { result ≡ kind_of (proc_of proc.now) form (arg_of arg.now) }
+fn kind_of(scope: &Scope, form: Form, arg: &Arg) -> Option<Kind>
+    ensures { result ≡ kind_of (proc_of scope.now) form (arg_of arg.now) }
 {
     match arg {
-        Arg::Variable(name) => kind_of_type(form, variable_type(proc, &name.name)),
+        Arg::Variable(name) => kind_of_type(form, scope.type_of(&name.name)),
         Arg::Constant(literal) => kind_of_literal(form, literal),
     }
 }
@@ -100,39 +101,39 @@ fn arg_place(arg: &Arg) -> u32
 }
 
 /// Notes a variable that isn't declared, or a number that is out of range.
-fn check_argument(best: &mut Option<Breach>, proc: &Proc, arg: &Arg)
-    ensures { Notes best.old (argument_breaches (proc_of proc.now) (arg_of arg.now)) best.new }
+fn check_argument(best: &mut Option<Breach>, scope: &Scope, arg: &Arg)
+    ensures { Notes best.old (argument_breaches (proc_of scope.now) (arg_of arg.now)) best.new }
 {
     match arg {
-        Arg::Variable(name) => check_declared(best, proc, name),
+        Arg::Variable(name) => check_declared(best, scope, name),
         Arg::Constant(literal) => check_literal(best, literal),
     }
 }
 
 /// The same of each argument.
-fn check_arguments(best: &mut Option<Breach>, proc: &Proc, args: &[Arg])
-    ensures { Notes best.old (flat_map (λ a. argument_breaches (proc_of proc.now) (arg_of a)) args.now) best.new }
+fn check_arguments(best: &mut Option<Breach>, scope: &Scope, args: &[Arg])
+    ensures { Notes best.old (flat_map (λ a. argument_breaches (proc_of scope.now) (arg_of a)) args.now) best.new }
 {
     for arg in args {
-        check_argument(best, proc, arg);
+        check_argument(best, scope, arg);
     }
 }
 
 /// Whether the argument is a variable that isn't declared.
-fn is_undeclared(proc: &Proc, arg: &Arg) -> bool
-    ensures { result ≡ is_undeclared (proc_of proc.now) (arg_of arg.now) }
+fn is_undeclared(scope: &Scope, arg: &Arg) -> bool
+    ensures { result ≡ is_undeclared (proc_of scope.now) (arg_of arg.now) }
 {
     match arg {
-        Arg::Variable(name) => variable_type(proc, &name.name).is_none(),
+        Arg::Variable(name) => scope.type_of(&name.name).is_none(),
         Arg::Constant(_) => false,
     }
 }
 
 /// Whether one of the arguments is such a variable.
-fn lacks_declaration(proc: &Proc, args: &[Arg]) -> bool
-    ensures { result ≡ list_any (λ a. is_undeclared (proc_of proc.now) (arg_of a)) args.now }
+fn lacks_declaration(scope: &Scope, args: &[Arg]) -> bool
+    ensures { result ≡ list_any (λ a. is_undeclared (proc_of scope.now) (arg_of a)) args.now }
 {
-    args.iter().any(|arg| is_undeclared(proc, arg))
+    args.iter().any(|arg| is_undeclared(scope, arg))
 }
 
 /// The slot at an index.
@@ -145,14 +146,14 @@ fn slot_at(slots: &[Slot], index: usize) -> Slot
 }
 
 /// Notes each argument that isn't what its slot wants.
-fn check_slots(best: &mut Option<Breach>, proc: &Proc, slots: &[Slot], args: &[Arg])
+fn check_slots(best: &mut Option<Breach>, scope: &Scope, slots: &[Slot], args: &[Arg])
     requires { length args.now ≡ length slots.now }
-    ensures { Notes best.old (slots_breaches (proc_of proc.now) None slots.now (map arg_of args.now)) best.new }
+    ensures { Notes best.old (slots_breaches (proc_of scope.now) None slots.now (map arg_of args.now)) best.new }
 {
     let mut settled = None;
     for (index, arg) in args.iter().enumerate() {
         let slot = slot_at(slots, index);
-        let kind = kind_of(proc, slot.form, arg);
+        let kind = kind_of(scope, slot.form, arg);
         let wanted = is_wanted(settled, slot.kind, kind);
         let place = arg_place(arg);
         note_if(best, !wanted, place, 23);
@@ -161,22 +162,22 @@ fn check_slots(best: &mut Option<Breach>, proc: &Proc, slots: &[Slot], args: &[A
 }
 
 /// The same where each name among the arguments is declared.
-fn check_slots_if_declared(best: &mut Option<Breach>, proc: &Proc, slots: &[Slot], args: &[Arg])
+fn check_slots_if_declared(best: &mut Option<Breach>, scope: &Scope, slots: &[Slot], args: &[Arg])
     requires { length args.now ≡ length slots.now }
-    ensures { Notes best.old (declared_breaches (proc_of proc.now) slots.now (map arg_of args.now)) best.new }
+    ensures { Notes best.old (declared_breaches (proc_of scope.now) slots.now (map arg_of args.now)) best.new }
 {
-    if lacks_declaration(proc, args) {
+    if lacks_declaration(scope, args) {
         return;
     }
-    check_slots(best, proc, slots, args);
+    check_slots(best, scope, slots, args);
 }
 
 /// Notes a wrong number of arguments, or else each that isn't what its slot wants.
-fn check_number(best: &mut Option<Breach>, proc: &Proc, place: u32, slots: &[Slot], args: &[Arg])
-    ensures { Notes best.old (number_breaches (proc_of proc.now) place slots.now (map arg_of args.now)) best.new }
+fn check_number(best: &mut Option<Breach>, scope: &Scope, place: u32, slots: &[Slot], args: &[Arg])
+    ensures { Notes best.old (number_breaches (proc_of scope.now) place slots.now (map arg_of args.now)) best.new }
 {
     if args.len() == slots.len() {
-        check_slots_if_declared(best, proc, slots, args);
+        check_slots_if_declared(best, scope, slots, args);
     } else {
         note_if(best, true, place, 22);
     }
@@ -185,14 +186,14 @@ fn check_number(best: &mut Option<Breach>, proc: &Proc, place: u32, slots: &[Slo
 /// Notes the breaches of a predefined call.
 pub(crate) fn check_predef(
     best: &mut Option<Breach>,
-    proc: &Proc,
+    scope: &Scope,
     place: u32,
     which: Predef,
     args: &[Arg],
 )
-    ensures { let breaches = predef_breaches (proc_of proc.now) place (slots_of which) (map arg_of args.now) in
+    ensures { let breaches = predef_breaches (proc_of scope.now) place (slots_of which) (map arg_of args.now) in
         Notes best.old breaches best.new }
 {
-    check_arguments(best, proc, args);
-    check_number(best, proc, place, slots_of(which), args);
+    check_arguments(best, scope, args);
+    check_number(best, scope, place, slots_of(which), args);
 }

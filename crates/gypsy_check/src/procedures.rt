@@ -10,7 +10,8 @@ ghost use Rattle.gypsy_check.specs.Tables.{KnowsCallees};
 
 use crate::callees::{Callees, callees_of};
 use crate::calls::is_missing;
-use crate::declarations::{check_declared_conditions, check_variables, check_words};
+use crate::declarations::{check_words, declared_conditions, declared_variables};
+use crate::scope::Scope;
 use crate::statements::check_statement;
 use gypsy_syntax::{Keyword, Proc, Source, keyword_named};
 use stack_text::{Breach, Memory, Name, note_if};
@@ -27,10 +28,11 @@ fn check_procedure(
     ensures { let breaches = procedure_breaches (source_of callees.now.source.now) (proc_of proc.now) in
         OnOk result (Notes best.old breaches best.new) }
 {
-    check_variables(alloc, best, proc)?;
-    check_declared_conditions(alloc, best, proc)?;
+    let variables = declared_variables(alloc, best, proc)?;
+    let conds = declared_conditions(alloc, best, proc)?;
     check_words(best, proc);
-    check_statement(alloc, best, callees, proc, false, &proc.body)?;
+    let scope = Scope::new(proc, variables, conds);
+    check_statement(alloc, best, callees, &scope, false, &proc.body)?;
     Ok(())
 }
 

@@ -11,8 +11,9 @@ use crate::callees::Callees;
 use crate::calls::{CallText, check_call};
 use crate::conditions::{check_handlers, check_raised};
 use crate::predefs::check_predef;
+use crate::scope::Scope;
 use crate::variables::check_test;
-use gypsy_syntax::{Proc, Stmt};
+use gypsy_syntax::Stmt;
 use stack_text::{Breach, Memory};
 use std::alloc::Global;
 
@@ -22,23 +23,23 @@ pub(crate) fn check_statement(
     alloc: Global,
     best: &mut Option<Breach>,
     callees: &Callees,
-    proc: &Proc,
+    scope: &Scope,
     in_loop: bool,
     stmt: &Stmt,
 ) -> Result<(), Memory>
     requires { KnowsCallees callees.now }
-    ensures { let breaches = statement_breaches (source_of callees.now.source.now) (proc_of proc.now) in_loop in
+    ensures { let breaches = statement_breaches (source_of callees.now.source.now) (proc_of scope.now) in_loop in
         OnOk result (Notes best.old (breaches (stmt_of stmt.now)) best.new) }
 {
     match stmt {
         Stmt::NoOp { .. } => {}
-        Stmt::Signal { cond, .. } => check_raised(best, proc, in_loop, cond),
-        Stmt::Seq { parts, .. } => check_parts(alloc, best, callees, proc, in_loop, parts)?,
-        Stmt::Loop { body, .. } => check_statement(alloc, best, callees, proc, true, body)?,
+        Stmt::Signal { cond, .. } => check_raised(best, scope, in_loop, cond),
+        Stmt::Seq { parts, .. } => check_parts(alloc, best, callees, scope, in_loop, parts)?,
+        Stmt::Loop { body, .. } => check_statement(alloc, best, callees, scope, true, body)?,
         Stmt::If { test, yes, no, .. } => {
-            check_test(best, proc, test);
-            check_statement(alloc, best, callees, proc, in_loop, yes)?;
-            check_statement(alloc, best, callees, proc, in_loop, no)?;
+            check_test(best, scope, test);
+            check_statement(alloc, best, callees, scope, in_loop, yes)?;
+            check_statement(alloc, best, callees, scope, in_loop, no)?;
         }
         Stmt::Begin {
             body,
@@ -46,9 +47,9 @@ pub(crate) fn check_statement(
             arm,
             ..
         } => {
-            check_statement(alloc, best, callees, proc, in_loop, body)?;
-            check_handlers(alloc, best, proc, conds.as_slice())?;
-            check_statement(alloc, best, callees, proc, in_loop, arm)?;
+            check_statement(alloc, best, callees, scope, in_loop, body)?;
+            check_handlers(alloc, best, scope, conds.as_slice())?;
+            check_statement(alloc, best, callees, scope, in_loop, arm)?;
         }
         Stmt::Call {
             callee,
@@ -65,9 +66,9 @@ pub(crate) fn check_statement(
                 conds_place: *conds_place,
                 conds: conds.as_slice(),
             };
-            check_call(alloc, best, callees, proc, in_loop, call)?;
+            check_call(alloc, best, callees, scope, in_loop, call)?;
         }
-        Stmt::Predef { place, which, args } => check_predef(best, proc, *place, *which, args),
+        Stmt::Predef { place, which, args } => check_predef(best, scope, *place, *which, args),
     }
     Ok(())
 }
@@ -78,16 +79,16 @@ fn check_parts(
     alloc: Global,
     best: &mut Option<Breach>,
     callees: &Callees,
-    proc: &Proc,
+    scope: &Scope,
     in_loop: bool,
     parts: &[Stmt],
 ) -> Result<(), Memory>
     requires { KnowsCallees callees.now }
-    ensures { let breaches = statement_breaches (source_of callees.now.source.now) (proc_of proc.now) in_loop in
+    ensures { let breaches = statement_breaches (source_of callees.now.source.now) (proc_of scope.now) in_loop in
         OnOk result (Notes best.old (flat_map (λ s. breaches (stmt_of s)) parts.now) best.new) }
 {
     for part in parts {
-        check_statement(alloc, best, callees, proc, in_loop, part)?;
+        check_statement(alloc, best, callees, scope, in_loop, part)?;
     }
     Ok(())
 }

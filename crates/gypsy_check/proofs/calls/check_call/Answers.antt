@@ -9,7 +9,7 @@ use Rattle.gypsy_check.proofs.calls.check_call.Goals as goal
 pub returns : goal.returns
 returns c =
     let s = source_of c.args.callees.now.source.now in
-    let p = proc_of c.args.proc.now in
+    let p = proc_of c.args.scope.now in
     let call = c.args.call in
     let names = callee_name_breaches s call.callee.now in
     let actuals = actual_name_breaches p call.actuals.now in

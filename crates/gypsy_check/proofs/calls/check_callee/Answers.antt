@@ -8,7 +8,7 @@ use Rattle.gypsy_check.proofs.calls.check_callee.Goals as goal
 
 pub returns : goal.returns
 returns c =
-    let p = proc_of c.args.proc.now in
+    let p = proc_of c.args.scope.now in
     let callee = c.args.callee.now in
     let call = c.args.call in
     let f1 = c.check_data.new.best in

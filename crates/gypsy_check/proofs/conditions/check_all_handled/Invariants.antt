@@ -7,4 +7,4 @@ use Rattle.gypsy_check.proofs.conditions.check_all_handled.Given as goal
 
 -- those so far
 abbrev pub invariant-loop-cond : goal.invariant-loop-cond
-invariant-loop-cond l = Notes l.fn.best (flat_map (handled_breaches (proc_of l.proc)) (take l.cond-index l.conds)) l.best
+invariant-loop-cond l = Notes l.fn.best (flat_map (handled_breaches (proc_of l.scope)) (take l.cond-index l.conds)) l.best

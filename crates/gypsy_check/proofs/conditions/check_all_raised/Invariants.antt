@@ -7,4 +7,4 @@ use Rattle.gypsy_check.proofs.conditions.check_all_raised.Given as goal
 
 -- those so far
 abbrev pub invariant-loop-cond : goal.invariant-loop-cond
-invariant-loop-cond l = Notes l.fn.best (flat_map (raised_breaches (proc_of l.proc) l.in_loop) (take l.cond-index l.conds)) l.best
+invariant-loop-cond l = Notes l.fn.best (flat_map (raised_breaches (proc_of l.scope) l.in_loop) (take l.cond-index l.conds)) l.best

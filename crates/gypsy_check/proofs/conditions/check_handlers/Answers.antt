@@ -8,5 +8,5 @@ use Rattle.gypsy_check.proofs.conditions.check_handlers.Goals as goal
 
 pub returns : goal.returns
 returns c =
-    noted_two c.args.best.now c.check_all_handled.new.best c.check_repeats.new.best (flat_map (handled_breaches (proc_of c.args.proc.now)) c.args.conds.now) (repeats 13 [] c.args.conds.now)
+    noted_two c.args.best.now c.check_all_handled.new.best c.check_repeats.new.best (flat_map (handled_breaches (proc_of c.args.scope.now)) c.args.conds.now) (repeats 13 [] c.args.conds.now)
     c.check_all_handled.ensures c.in_ok-check_repeats.ensures

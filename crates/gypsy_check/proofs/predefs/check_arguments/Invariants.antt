@@ -8,4 +8,4 @@ use Rattle.gypsy_check.proofs.predefs.check_arguments.Given as goal
 
 -- those so far
 abbrev pub invariant-loop-arg : goal.invariant-loop-arg
-invariant-loop-arg l = Notes l.fn.best (flat_map (λ (a : Arg). argument_breaches (proc_of l.proc) (arg_of a)) (take l.arg-index l.args)) l.best
+invariant-loop-arg l = Notes l.fn.best (flat_map (λ (a : Arg). argument_breaches (proc_of l.scope) (arg_of a)) (take l.arg-index l.args)) l.best

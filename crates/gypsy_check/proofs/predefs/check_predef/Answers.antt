@@ -8,7 +8,7 @@ use Rattle.gypsy_check.proofs.predefs.check_predef.Goals as goal
 
 pub returns : goal.returns
 returns c =
-    let p = proc_of c.args.proc.now in
+    let p = proc_of c.args.scope.now in
     let f0 = c.args.best.now in
     let f1 = c.check_arguments.new.best in
     let args = map arg_of c.args.args.now in

@@ -6,5 +6,5 @@ use Rattle.gypsy_check.proofs.predefs.check_slots.Given as goal
 
 abbrev pub invariant-loop-index : goal.invariant-loop-index
 invariant-loop-index l =
-    noted l.best (slots_breaches (proc_of l.proc) l.settled (drop l.index l.slots) (map arg_of (drop l.index l.args))) ≡
-    noted l.fn.best (slots_breaches (proc_of l.proc) None l.slots (map arg_of l.args))
+    noted l.best (slots_breaches (proc_of l.scope) l.settled (drop l.index l.slots) (map arg_of (drop l.index l.args))) ≡
+    noted l.fn.best (slots_breaches (proc_of l.scope) None l.slots (map arg_of l.args))

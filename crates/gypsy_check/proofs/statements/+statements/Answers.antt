@@ -11,13 +11,13 @@ use Rattle.gypsy_check.proofs.statements.+statements.Goals as goal
 
 pub check_parts-loop-part-preserved : goal.check_parts-loop-part-preserved
 check_parts-loop-part-preserved t c =
-    notes_next (statement_breaks (source_of c.args.callees.now.source.now) (proc_of c.args.proc.now) c.args.in_loop) c.args.parts.now c.loop-part.part-index c.part-item.result c.args.best.now c.loop-part.best c.check_statement.new.best
+    notes_next (statement_breaks (source_of c.args.callees.now.source.now) (proc_of c.args.scope.now) c.args.in_loop) c.args.parts.now c.loop-part.part-index c.part-item.result c.args.best.now c.loop-part.best c.check_statement.new.best
     c.loop-part-test.true c.part-item.is c.loop-part.invariant c.in_ok-check_statement.ensures
 
 pub check_statement-returns-in_ok-check_parts-in-Seq : goal.check_statement-returns-in_ok-check_parts-in-Seq
 check_statement-returns-in_ok-check_parts-in-Seq t c =
     let s = source_of c.args.callees.now.source.now in
-    let p = proc_of c.args.proc.now in
+    let p = proc_of c.args.scope.now in
     let g : Stmt → List Breach = statement_breaks s p c.args.in_loop in
     c.in_ok-check_parts-in-Seq.ensures
     ∙ ap (λ bs. noted c.args.best.now (flat_map g bs)) c.deref.ensures.value
@@ -25,7 +25,7 @@ check_statement-returns-in_ok-check_parts-in-Seq t c =
 
 pub check_statement-returns-in_ok-check_statement-in-If-2 : goal.check_statement-returns-in_ok-check_statement-in-If-2
 check_statement-returns-in_ok-check_statement-in-If-2 t c =
-    let p = proc_of c.args.proc.now in
+    let p = proc_of c.args.scope.now in
     let g : Stmt → List Breach = statement_breaks (source_of c.args.callees.now.source.now) p c.args.in_loop in
     let f0 = c.args.best.now in
     let f1 = c.check_test.new.best in
@@ -40,7 +40,7 @@ check_statement-returns-in_ok-check_statement-in-If-2 t c =
 
 pub check_statement-returns-in_ok-check_statement-in-Begin-2 : goal.check_statement-returns-in_ok-check_statement-in-Begin-2
 check_statement-returns-in_ok-check_statement-in-Begin-2 t c =
-    let p = proc_of c.args.proc.now in
+    let p = proc_of c.args.scope.now in
     let g : Stmt → List Breach = statement_breaks (source_of c.args.callees.now.source.now) p c.args.in_loop in
     let f0 = c.args.best.now in
     let f1 = c.check_statement-in-Begin.new.best in

@@ -7,4 +7,4 @@ use Rattle.gypsy_check.proofs.variables.check_all_declared.Given as goal
 
 -- those so far
 abbrev pub invariant-loop-name : goal.invariant-loop-name
-invariant-loop-name l = Notes l.fn.best (flat_map (undeclared (proc_of l.proc)) (take l.name-index l.names)) l.best
+invariant-loop-name l = Notes l.fn.best (flat_map (undeclared (proc_of l.scope)) (take l.name-index l.names)) l.best

@@ -3,19 +3,19 @@ use Rattle.stack_text.specs.Breaches.{Notes}
 use Rattle.gypsy_syntax.specs.declared.literal.Decl.{Decl}
 use Rattle.gypsy_syntax.specs.declared.literal.Local.{Local}
 use Rattle.gypsy_check.specs.Declarations.{repeats}
-use Rattle.gypsy_check.specs.Tables.{KnowsNames}
-use Rattle.gypsy_check.proofs.names.check_variable_names.Given as goal
+use Rattle.gypsy_check.specs.Tables.{KnowsTypes}
+use Rattle.gypsy_check.proofs.names.variables_of.Given as goal
 
 -- the formals so far
 abbrev pub invariant-loop-formal : goal.invariant-loop-formal
 invariant-loop-formal l = record {
-  known : KnowsNames l.earlier (map (λ (d : Decl). d.name) (take l.formal-index l.formals));
+  known : KnowsTypes l.variables (take l.formal-index l.formals);
   noted : Notes l.fn.best (repeats 4 [] (map (λ (d : Decl). d.name) (take l.formal-index l.formals))) l.best;
 }
 
 -- the formals, and the locals so far
 abbrev pub invariant-loop-local : goal.invariant-loop-local
 invariant-loop-local l = record {
-  known : KnowsNames l.earlier (map (λ (d : Decl). d.name) l.formals ++ map (λ (x : Local). x.decl.name) (take l.local-index l.locals));
-  noted : Notes l.fn.best (repeats 4 [] (map (λ (d : Decl). d.name) l.formals ++ map (λ (x : Local). x.decl.name) (take l.local-index l.locals))) l.best;
+  known : KnowsTypes l.variables (l.formals ++ map (λ (x : Local). x.decl) (take l.local-index l.locals));
+  noted : Notes l.fn.best (repeats 4 [] (map (λ (d : Decl). d.name) (l.formals ++ map (λ (x : Local). x.decl) (take l.local-index l.locals)))) l.best;
 }

@@ -8,17 +8,17 @@ use Rattle.gypsy_syntax.specs.SourceView.{local_of, proc_of}
 use Rattle.gypsy_check.specs.Declarations.{variables_of, repeats}
 use Rattle.gypsy_check.specs.Rules.{type_breaches, local_breaches}
 use Rattle.gypsy_check.proofs.NoteLaws.{noted, noted_two, flat_over, local_names_over}
-use Rattle.gypsy_check.proofs.declarations.check_variables.Goals as goal
+use Rattle.gypsy_check.proofs.declarations.declared_variables.Goals as goal
 
-pub returns : goal.returns
-returns c =
+pub returns-clause-noted : goal.returns-clause-noted
+returns-clause-noted c =
     let raw = c.args.proc.now in
     let p = proc_of raw in
     let f0 = c.args.best.now in
-    let f1 = c.check_variable_names.new.best in
+    let f1 = c.variables_of.new.best in
     let f2 = c.check_types.new.best in
     let names : Notes f0 (repeats 4 [] (variables_of p)) f1 =
-    c.in_ok-check_variable_names.ensures ∙ ap₂ (λ ds ls. noted f0 (repeats 4 [] (map (λ (d : Decl). d.name) ds ++ map (λ (l : Local). l.decl.name) ls))) c.as_slice.ensures.value c.as_slice-2.ensures.value
+    c.in_ok-variables.ensures.noted ∙ ap₂ (λ ds ls. noted f0 (repeats 4 [] (map (λ (d : Decl). d.name) ds ++ map (λ (l : Local). l.decl.name) ls))) c.as_slice.ensures.value c.as_slice-2.ensures.value
     ∙ ap (λ ns. noted f0 (repeats 4 [] (map (λ (d : Decl). d.name) raw.formals.items ++ ns))) (local_names_over raw.locals.items) in
     let locals : Notes f2 (flat_map local_breaches p.locals) c.check_locals.new.best =
     c.check_locals.ensures ∙ ap (λ ls. noted f2 (flat_map (λ (l : Local). local_breaches (local_of l)) ls)) c.as_slice-3.ensures.value ∙ ap (noted f2) (sym (flat_over local_of local_breaches raw.locals.items)) in

@@ -2,7 +2,7 @@ use Rattle.std.proofs.Common.{◌++◌, [], take}
 use Rattle.stack_text.specs.Breaches.{Notes}
 use Rattle.gypsy_check.specs.Declarations.{repeats}
 use Rattle.gypsy_check.specs.Tables.{KnowsNames}
-use Rattle.gypsy_check.proofs.names.check_condition_names.Given as goal
+use Rattle.gypsy_check.proofs.names.conditions_of.Given as goal
 
 -- the formal conditions so far
 abbrev pub invariant-loop-cond : goal.invariant-loop-cond
