@@ -16,7 +16,7 @@ use Rattle.gypsy_meaning.specs.Finishing.{IsFinished, end_price}
 use Rattle.gypsy_meaning.specs.Held.{EndsRun, Keeps}
 use Rattle.gypsy_meaning.specs.Machine.{Item, Out, At, Ended, gypsy_step}
 use Rattle.gypsy_meaning.specs.Machine as machine
-use Rattle.gypsy_meaning.specs.Running.{frames_of, sizes_of, state_of, way_of, paid}
+use Rattle.gypsy_meaning.specs.Running.{frames_in, frames_of, sizes_of, state_of, way_of, paid}
 use Rattle.gypsy_meaning.specs.Seen.{added}
 use Rattle.gypsy_meaning.specs.Work.{work_of}
 use Rattle.gypsy_meaning.specs.declared.running.Ending.{Ending}
@@ -65,8 +65,8 @@ end_finishes ns m n nothing alone f =
     let q = seen_program m.program in
     let x = map (λ v. v.1) m.variables.items in
     finishes ending.Normal 5 m n (spend 5 2 start_tally) alone f refl
-    (ap (λ (w : List Item). gypsy_step q (sizes_of m) (At m.procedure x w (frames_of m.waiting.items) start_tally)) nothing
-    ∙ ap (λ (fs : List machine.Frame). gypsy_step q (sizes_of m) (At m.procedure x [] fs start_tally)) (ap frames_of alone))
+    (ap (λ (w : List Item). gypsy_step q (sizes_of m) (At m.procedure x w (frames_in m) start_tally)) nothing
+    ∙ ap (λ (fs : List machine.Frame). gypsy_step q (sizes_of m) (At m.procedure x [] fs start_tally)) (ap (frames_of x) alone))
 
 price_is : (passed : Bool) → (main_spend passed start_tally).count ≡ end_price passed
 unfolding spend main_spend
@@ -80,6 +80,6 @@ leave_finishes m n c d below out alone way f =
     let x = map (λ v. v.1) m.variables.items in
     let passed = is_passed_on q q.main (seen_cond c) in
     finishes (ending.Raised d) (end_price passed) m n (main_spend passed start_tally) alone f (price_is passed)
-    (ap (λ (w : List Item). gypsy_step q (sizes_of m) (At m.procedure x w (frames_of m.waiting.items) start_tally)) out
-    ∙ ap (λ (fs : List machine.Frame). gypsy_step q (sizes_of m) (At m.procedure x (Out (seen_cond c) ∷ below) fs start_tally)) (ap frames_of alone)
+    (ap (λ (w : List Item). gypsy_step q (sizes_of m) (At m.procedure x w (frames_in m) start_tally)) out
+    ∙ ap (λ (fs : List machine.Frame). gypsy_step q (sizes_of m) (At m.procedure x (Out (seen_cond c) ∷ below) fs start_tally)) (ap (frames_of x) alone)
     ∙ ap (λ (k : Cond). Ended (main_formals q x) (Some k) (main_spend passed start_tally)) (sym way))

@@ -2,6 +2,7 @@ pub mod CountLaws
 pub mod Runs
 pub mod EffectLaws
 pub mod Keeping
+mod LendingLaws
 pub mod Rooms
 mod OpenLaws
 mod CondLaws

@@ -8,11 +8,12 @@ use Rattle.gypsy_space.specs.Needs.{Words}
 use Rattle.gypsy_meaning.specs.Calls.{Way}
 use Rattle.gypsy_meaning.specs.Meaning.{Done, meaning}
 use Rattle.gypsy_meaning.specs.Counted.{CountedDone, CountedOutcome, CountedUnfinished, counted_meaning, tally_of, uncounted}
-use Rattle.gypsy_meaning.specs.Machine.{At, Ended, Going, Move, Next, Over, State, go_on, gypsy_step, run, start}
-use Rattle.gypsy_meaning.specs.Seen.{Finished, IsEnd, Running, Seen, Shows, Stage, added, after, after_move, answer_by, answer_from, answer_of, bare, end_by, left_from, left_of, opening, ran_on, run_of}
+use Rattle.gypsy_meaning.specs.Machine.{At, Ended, Frame, Going, Item, Move, Next, Over, State, go_on, gypsy_step, run, start}
+use Rattle.gypsy_meaning.specs.Seen.{Finished, IsEnd, Running, Seen, Shows, Stage, added, after, after_move, answer_by, answer_from, answer_of, bare, end_by, handed_back, left_from, left_of, opening, ran_on, run_of}
 use Rattle.gypsy_meaning.specs.Agreed.{MeansEnd}
 use Rattle.gypsy_meaning.proofs.ApartLaws.{add, add_to, plus, plus-nothing, step_apart}
 use Rattle.gypsy_meaning.proofs.CountLaws.{meaning-uncounted}
+use Rattle.gypsy_meaning.proofs.LendingLaws.{run_lent}
 use Rattle.gypsy_meaning.proofs.Runs.{agree, longer, one_end}
 
 -- after so many steps from the start, with so much spent
@@ -44,8 +45,11 @@ added_shows shown n m h = omega (arith, h)
 stepped : (q : Program) (sizes : Words) (g : State) (t : Tally) (a : Move) (k : ℕ) → gypsy_step q sizes g ≡ a → run q sizes (suc k) (add t g) ≡ go_on (add_to t a) (run q sizes k)
 stepped q sizes g t a k e = ap (λ m. go_on m (run q sizes k)) (step_apart t q sizes g ∙ ap (add_to t) e)
 
-bare_add : (t : Tally) (p : ℕ) (x : List ValueOf) (w : _) (fs : _) (u : Tally) → add t (At p x w fs u) ≡ add (plus t u) (bare (At p x w fs u))
-bare_add t p x w fs u = ap (At p x w fs) (sym (plus-nothing (plus t u)))
+-- what is spent is counted apart, and what is lent changes no run
+bare_run : (q : Program) (sizes : Words) (k : ℕ) (t : Tally) (p : ℕ) (x : List ValueOf) (w : List Item) (fs : List Frame) (u : Tally) → run q sizes k (add t (At p x w fs u)) ≡ run q sizes k (add (plus t u) (bare (At p x w fs u)))
+bare_run q sizes k t p x w fs u =
+    sym (run_lent q sizes k (At p x w fs (plus t u)))
+    ∙ ap (λ (v : Tally). run q sizes k (At p x w (handed_back x fs) v)) (sym (plus-nothing (plus t u)))
 
 pub move_reached : (v : Seen) (g : State) (made : ℕ) (t : Tally) (a : Move) → Reached v → Shows v.steps made → Shows v.counted t.count → IsAt v (Running g) made t → gypsy_step v.program v.sizes g ≡ a → Reached (after_move v a)
 move_reached v g made t (Next (At p x w fs u)) r steps counted at e = record {
@@ -59,7 +63,7 @@ move_reached v g made t (Next (At p x w fs u)) r steps counted at e = record {
       ap (λ n. run q v.sizes n (start q v.values)) shift
       ∙ at (suc k)
       ∙ stepped q v.sizes g t (Next (At p x w fs u)) k e
-      ∙ ap (run q v.sizes k) (bare_add t p x w fs u);
+      ∙ bare_run q v.sizes k t p x w fs u;
 }
 move_reached v g made t (Ended x c u) r steps counted at e = record {
   made = made + 1;
@@ -117,7 +121,7 @@ module _ (x : List ValueOf) (c : Way) where
   move_ends : (k : ℕ) (v : Seen) (t u : Tally) (a : Move) → ((w : Seen) → EndsWithin w w.stage k x c → IsEnd (run_of k w) x c) → go_on (add_to t a) (run v.program v.sizes k) ≡ Over x c u →
       IsEnd (ran_on (answer_by a) (after_move v a) (run_of k)) x c
   move_ends k v t u (Next (At p y w fs s)) rest h =
-      rest (after_move v (Next (At p y w fs s))) (plus t s, u, ap (run v.program v.sizes k) (sym (bare_add t p y w fs s)) ∙ h)
+      rest (after_move v (Next (At p y w fs s))) (plus t s, u, sym (bare_run v.program v.sizes k t p y w fs s) ∙ h)
   move_ends k v t u (Ended y d s) rest h =
       let same = same_end y x d c (plus t s) u h in
       record { run = refl; stage = ap₂ Finished same.0 same.1 }

@@ -1,5 +1,6 @@
 -- What a step of a state that fits has.
 use Rattle.std.proofs.Common.{◌≡◌, ℕ, ◌+◌, List, [], ◌∷◌, length, map, true, refl, ap₂, ◌∙◌, subst, arith}
+use Rattle.std.proofs.lemmas.List.{length-map}
 use Rattle.stack_text.specs.declared.shape.Kind.{Kind}
 use Rattle.stack_text.specs.declared.shape.Shape.{Shape}
 use Rattle.stack_text.specs.Values.{ValueOf, is_item}
@@ -14,7 +15,7 @@ use Rattle.gypsy_space.specs.declared.need.Need.{Need}
 use Rattle.gypsy_space.specs.declared.program.Argument.{Argument}
 use Rattle.gypsy_space.specs.declared.program.CallSite.{CallSite}
 use Rattle.gypsy_meaning.specs.Applying.{Suits}
-use Rattle.gypsy_meaning.specs.Calling.{call_top}
+use Rattle.gypsy_meaning.specs.Calling.{AreLent, call_top}
 use Rattle.gypsy_meaning.specs.Calls.{values_of}
 use Rattle.gypsy_meaning.specs.Kept.{VarsFit, WorkFits}
 use Rattle.gypsy_meaning.specs.Machine.{Item}
@@ -25,6 +26,7 @@ use Rattle.gypsy_meaning.specs.Work.{work_of}
 use Rattle.gypsy_meaning.specs.declared.running.Meaning.{Meaning}
 use Rattle.gypsy_meaning.proofs.ApplyLaws.{value_listed}
 use Rattle.gypsy_meaning.proofs.EffectLaws.{stored_item}
+use Rattle.gypsy_meaning.proofs.LendingLaws.{actuals_there, as_many}
 use Rattle.gypsy_meaning.proofs.ValueLaws.{range_item}
 
 -- as many actuals as formals
@@ -44,6 +46,20 @@ call_sized ns m site below ready turn =
     let sized : length (variables_of m.names.items site.callee) ≡ length (proc_at q site.callee).formals + length (proc_at q site.callee).locals = ready.sized site.callee in
     let same : length site.actuals.items ≡ length (proc_at q site.callee).formals = actuals_length (shapes_of (proc_at q m.procedure)) (proc_at q site.callee).formals site.actuals.items fits.0.actuals in
     omega (arith, sized, same)
+
+-- its actuals may be lent
+pub call_lent : (ns : List Need) (m : Meaning) (site : CallSite) (below : List Item) → IsReady ns m → work_of m.work.value ≡ call_top site ∷ below → AreLent (length m.variables.items) site.actuals.items
+call_lent ns m site below ready turn =
+    let q = seen_program m.program in
+    let p = proc_at q m.procedure in
+    let P : List Item → Type 0 = WorkFits q p in
+    let fits = subst P turn ready.state_fits.1 in
+    let x : List ValueOf = map (λ v. v.1) m.variables.items in
+    let number : length (shapes_of p) ≡ length m.variables.items = as_many (shapes_of p) x ready.state_fits.0 ∙ length-map m.variables.items (λ v. v.1) in
+    record {
+      there = actuals_there (shapes_of p) (proc_at q site.callee).formals site.actuals.items (length m.variables.items) fits.0.actuals number;
+      distinct = fits.0.distinct;
+    }
 
 suits : (r : Predef) (shapes : List Shape) (k : Kind) (x : List ValueOf) (args : List Argument) → VarsFit shapes x → ArgsFit shapes k (slots_of r) (map seen_arg args) → Suits r x args
 unfolding Suits values_of

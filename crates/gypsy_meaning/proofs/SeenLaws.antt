@@ -12,6 +12,7 @@ use Rattle.gypsy_meaning.specs.Seen.{Finished, IsOfRun, Running, Seen, Stage, af
 use Rattle.gypsy_meaning.specs.declared.answers.Moved.{Moved}
 use Rattle.gypsy_meaning.specs.declared.answers.Moved.TheVariants as moved
 use Rattle.gypsy_meaning.proofs.Keeping.{start_fits, step_keeps}
+use Rattle.gypsy_meaning.proofs.LendingLaws.{back_fits, back_words}
 use Rattle.gypsy_meaning.proofs.Rooms.{start_room, step_room}
 
 -- one more step, made last
@@ -62,7 +63,7 @@ abbrev pub Fits : Seen → Type 0
 Fits v = StageFits v.program v.stage × StageRoom v.program v.sizes v.stage
 
 move_fits : (v : Seen) (a : Move) → Fits v → MoveFits v.program a → MoveRoom v.program v.sizes a → Fits (after_move v a)
-move_fits v (Next (At p x w fs t)) h f r = (f, r)
+move_fits v (Next (At p x w fs t)) h f r = ((f.0, f.1, back_fits v.program p x fs f.0 f.2), (r.0, back_words v.program v.sizes p x fs r.1))
 move_fits v (Ended x c t) h f r = (f, tt)
 
 from_fits : (v : Seen) (s : Stage) → ProgramFits v.program → Fits v → StageFits v.program s → StageRoom v.program v.sizes s → Fits (left_from v s)

@@ -14,13 +14,14 @@ use Rattle.gypsy_meaning.specs.Belongs.{BelongsTo, IsKept}
 use Rattle.gypsy_meaning.specs.Room.{HaveWords}
 use Rattle.gypsy_meaning.specs.Machine.{Frame, Held, statement_place, used}
 use Rattle.gypsy_meaning.specs.Named.{conditions_of, current_or, shown_names, variables_of}
-use Rattle.gypsy_meaning.specs.Running.{frame_of, frames_of, seen, sizes_of, stage_by}
+use Rattle.gypsy_meaning.specs.Running.{frame_of, frames_in, kept_frames, seen, sizes_of, stage_by}
 use Rattle.gypsy_meaning.specs.Seen.{depth_at, procedure_at, way_at}
 use Rattle.gypsy_meaning.specs.Shown.{condition_at, conditions_at, current_by, named_or, names_at}
 use Rattle.gypsy_meaning.specs.declared.conditions.Current.{Current}
 use Rattle.gypsy_meaning.specs.declared.conditions.Current.TheVariants as current
 use Rattle.gypsy_meaning.specs.declared.running.Ending.{Ending}
 use Rattle.gypsy_meaning.specs.declared.running.Meaning.{Meaning}
+use Rattle.gypsy_meaning.proofs.LendingLaws.{length-back}
 use Rattle.gypsy_meaning.proofs.NamedLaws.{conditions_same, variables_same}
 use Rattle.gypsy_meaning.proofs.SeenLaws.{StageRoom}
 use Rattle.gypsy_meaning.proofs.StepLaws.{program_is, seen_fits}
@@ -78,10 +79,11 @@ pub depth_shown : (s : SourceOf) (ns : List Need) (m : Meaning) → BelongsTo s 
 unfolding seen
 depth_shown s ns m b e lt =
     let q = seen_program m.program in
-    let fs = frames_of m.waiting.items in
+    let fs = frames_in m in
     let P : Option Ending → Type 0 = λ o. StageRoom q (sizes_of m) (stage_by o m) in
     let room = subst P e (seen_fits s ns m b).1 in
     let words : (used q m.procedure fs).ctrl + ctrl_need (proc_at q m.procedure) ≤ m.ctrl = has_words q (sizes_of m) m.procedure fs room.1 in
     let twice : 2 * (length fs + 1) ≤ (used q m.procedure fs).ctrl = two_words q m.procedure fs in
-    let same : length fs ≡ length m.waiting.items = length-map (reverse m.waiting.items) frame_of ∙ length-reverse m.waiting.items in
+    let same : length fs ≡ length m.waiting.items =
+    length-back (map (λ v. v.1) m.variables.items) (kept_frames m.waiting.items) ∙ length-map (reverse m.waiting.items) frame_of ∙ length-reverse m.waiting.items in
     (omega (arith, words, twice, same, lt), ap (λ (o : Option Ending). depth_at (stage_by o m)) e ∙ ap (λ (n : ℕ). n + 1) same)

@@ -21,7 +21,7 @@ use Rattle.gypsy_meaning.specs.Held.{AreActivations, IsHeld}
 use Rattle.gypsy_meaning.specs.Kept.{VarsFit}
 use Rattle.gypsy_meaning.specs.Machine.{At, Frame, Item, open_on, start, used}
 use Rattle.gypsy_meaning.specs.Named.{proc_names, seen_names, unnamed, variables_of}
-use Rattle.gypsy_meaning.specs.Running.{frames_of, seen, sizes_of, stage_by}
+use Rattle.gypsy_meaning.specs.Running.{frames_in, frames_of, kept_frames, seen, sizes_of, stage_by}
 use Rattle.gypsy_meaning.specs.Seen.{Running, after, opening}
 use Rattle.gypsy_meaning.specs.Work.{work_of}
 use Rattle.gypsy_meaning.specs.declared.names.Names.{Names}
@@ -86,8 +86,8 @@ module _ (s : SourceOf) (m : Meaning) (accepted : IsAccepted s) (program : seen_
       let v = m.values.items in
       let stage : stage_by m.ending m ≡ Running (start (program_of s) v) =
       ap (λ o. stage_by o m) ending
-      ∙ same_stage m.procedure m.program.main (map (λ v. v.1) m.variables.items) (main_start q v) (work_of m.work.value) (open_on (body_of q m.program.main) []) (frames_of m.waiting.items) []
-      procedure vars work (ap frames_of waiting)
+      ∙ same_stage m.procedure m.program.main (map (λ v. v.1) m.variables.items) (main_start q v) (work_of m.work.value) (open_on (body_of q m.program.main) []) (frames_in m) []
+      procedure vars work (ap (frames_of (map (λ v. v.1) m.variables.items)) waiting)
       ∙ ap (λ (r : Program). Running (start r v)) program in
       λ i. record {
         program = program i;
@@ -116,7 +116,7 @@ module _ (s : SourceOf) (m : Meaning) (accepted : IsAccepted s) (program : seen_
         top = record {
           named = named ∙ ap (variables_of m.names.items) (sym procedure);
           used_words =
-              ap (λ (fs : List Waiting). used q m.procedure (frames_of fs)) waiting
+              ap (λ (fs : List Waiting). used q m.procedure (kept_frames fs)) waiting
               ∙ ap₂ stack_words (ap words_of (sym shapes) ∙ sym temp) (sym number);
         };
         waiting = subst P (sym waiting) tt;

@@ -16,8 +16,8 @@ use Rattle.gypsy_meaning.specs.Calling.{IsUnchanged}
 use Rattle.gypsy_meaning.specs.Held.{AreActivations, EndsRun, IsActivation, Keeps, Moves}
 use Rattle.gypsy_meaning.specs.Machine.{At, Ended, Move, Next, gypsy_step}
 use Rattle.gypsy_meaning.specs.Named.{seen_names, variables_of}
-use Rattle.gypsy_meaning.specs.Running.{Costs, frames_of, seen, sizes_of, stage_by, state_of, way_of}
-use Rattle.gypsy_meaning.specs.Seen.{Finished, Running, Seen, Stage, added, after, after_move, answer_by, answer_from, answer_of, is_over, left_from, left_of, opening}
+use Rattle.gypsy_meaning.specs.Running.{Costs, frames_of, kept_frames, seen, sizes_of, stage_by, state_of, way_of}
+use Rattle.gypsy_meaning.specs.Seen.{Finished, Running, Seen, Stage, added, after, after_move, answer_by, answer_from, answer_of, bare, is_over, left_from, left_of, opening, spent_at}
 use Rattle.gypsy_meaning.specs.Stepping.{Does, IsReady}
 use Rattle.gypsy_meaning.specs.Work.{work_of}
 use Rattle.gypsy_meaning.specs.declared.answers.Moved.{Moved}
@@ -66,7 +66,8 @@ alike m n s cost k e f = λ i. record {
 
 stage_waiting : (o : Option Ending) (m : Meaning) (ws : Vec Frame) → ws.items ≡ m.waiting.items → stage_by o (record m { waiting = ws }) ≡ stage_by o m
 stage_waiting None m ws e =
-    ap (λ (fs : List Frame). Running (At m.procedure (map (λ v. v.1) m.variables.items) (work_of m.work.value) (frames_of fs) start_tally)) e
+    let x = map (λ v. v.1) m.variables.items in
+    ap (λ (fs : List Frame). Running (At m.procedure x (work_of m.work.value) (frames_of x fs) start_tally)) e
 stage_waiting (Some o) m ws e = refl
 
 -- where the vector of those that wait may differ
@@ -102,10 +103,9 @@ module _ (m : Meaning) (e : m.ending ≡ None) where
 
   pub moves_step : (n : Meaning) → Moves m n → IsStep m n moved.Moved
   moves_step n h =
-      let u = h.goes.0 in
-      let g = At n.procedure (map (λ v. v.1) n.variables.items) (work_of n.work.value) (frames_of n.waiting.items) u in
-      let stage : stage_by n.ending n ≡ Running (state_of n) = ap (λ o. stage_by o n) (h.ending ∙ e) in
-      by_move n moved.Moved (Next g) h.goes.1 refl (alike m n (Running (state_of n)) u.count h.keeps stage h.goes.2)
+      let g = h.goes.0 in
+      let stage : stage_by n.ending n ≡ Running (bare g) = ap (λ o. stage_by o n) (h.ending ∙ e) ∙ ap Running (sym h.goes.2) in
+      by_move n moved.Moved (Next g) h.goes.1 refl (alike m n (Running (bare g)) (spent_at g) h.keeps stage h.goes.3)
 
   pub finishes_step : (n : Meaning) → EndsRun m n → IsStep m n moved.Ended
   finishes_step n h =
@@ -192,7 +192,7 @@ module _ (s : SourceOf) (ns : List Need) (m : Meaning) (b : BelongsTo s ns m) wh
   finishes_belongs e n h =
       let P : Option Ending → Type 0 = IsKept n in
       let q = seen_program m.program in
-      let Q : List Frame → Type 0 = λ fs. FramesFit q m.procedure (frames_of fs) in
+      let Q : List Frame → Type 0 = λ fs. FramesFit q m.procedure (frames_of (map (λ v. v.1) m.variables.items) fs) in
       let main : m.procedure ≡ q.main = subst Q h.alone (state_fits e).2 in
       let top = (ready e).held.top.named in
       let named : map (λ v. v.0) n.variables.items ≡ take (length (proc_at q q.main).formals) (variables_of m.names.items q.main) =
@@ -214,7 +214,7 @@ module _ (s : SourceOf) (ns : List Need) (m : Meaning) (b : BelongsTo s ns m) wh
   kept_waiting : (o : Option Ending) (ws : Vec Frame) → ws.items ≡ m.waiting.items → IsKept m o → IsKept (record m { waiting = ws }) o
   kept_waiting None ws e h =
       let q = seen_program m.program in
-      let P : List Frame → Type 0 = λ fs. IsActivation q m.names.items m.procedure m.variables.items m.used_temp m.used_ctrl (frames_of fs) in
+      let P : List Frame → Type 0 = λ fs. IsActivation q m.names.items m.procedure m.variables.items m.used_temp m.used_ctrl (kept_frames fs) in
       let Q : List Frame → Type 0 = λ fs. AreActivations q m.names.items (reverse fs) in
       record { top = subst P (sym e) h.top; waiting = subst Q (sym e) h.waiting }
   kept_waiting (Some o) ws e h = h

@@ -10,7 +10,7 @@ use Rattle.gypsy_meaning.specs.Machine.{Ended, gypsy_step, used}
 use Rattle.gypsy_meaning.specs.Machine as machine
 use Rattle.gypsy_meaning.specs.Named.{variables_of}
 use Rattle.gypsy_meaning.specs.Seen.{added}
-use Rattle.gypsy_meaning.specs.Running.{Costs, Goes, frame_of, frames_of, sizes_of, state_of, way_of}
+use Rattle.gypsy_meaning.specs.Running.{Costs, Goes, frame_of, kept_frames, sizes_of, state_of, way_of}
 use Rattle.gypsy_meaning.specs.declared.names.Names.{Names}
 use Rattle.gypsy_meaning.specs.declared.running.Ending.{Ending}
 use Rattle.gypsy_meaning.specs.declared.running.Frame.{Frame}
@@ -32,7 +32,7 @@ AreActivations q names (f ∷ fs) =
     IsActivation q names f.procedure f.variables.items f.used_temp f.used_ctrl (map frame_of fs) × AreActivations q names fs
 
 pub record IsHeld (m : Meaning) : Type 0 where
-  pub top : let fs = frames_of m.waiting.items in
+  pub top : let fs = kept_frames m.waiting.items in
       IsActivation (seen_program m.program) m.names.items m.procedure m.variables.items m.used_temp m.used_ctrl fs
   pub waiting : AreActivations (seen_program m.program) m.names.items (reverse m.waiting.items)
 

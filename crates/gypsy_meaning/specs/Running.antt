@@ -1,8 +1,12 @@
 -- The state of the step machine, as the code keeps it.
+--
+-- The code moves the actuals of a call into the callee, and leaves something else in their places: what an activation that
+-- waits has there is told by its callee.
 use Rattle.std.specs.Prelude.{◌≡◌, ℕ, ◌+◌, List, map, reverse, Bool, true, false, Option, Some, None}
+use Rattle.stack_text.specs.Values.{ValueOf}
 use Rattle.gypsy_syntax.specs.Programs.{Program}
 use Rattle.gypsy_space.specs.Nodes.{seen_cond, seen_program}
-use Rattle.gypsy_space.specs.Costs.{Tally, start_tally}
+use Rattle.gypsy_space.specs.Costs.{start_tally}
 use Rattle.gypsy_space.specs.Needs.{Words, stack_words}
 use Rattle.gypsy_space.specs.Events.{event_count}
 use Rattle.gypsy_space.specs.declared.event.CostEvent.{CostEvent}
@@ -10,7 +14,7 @@ use Rattle.gypsy_space.specs.declared.need.Need.{Need}
 use Rattle.gypsy_meaning.specs.Calls.{Way}
 use Rattle.gypsy_meaning.specs.Machine.{State, At, Held, Next, gypsy_step}
 use Rattle.gypsy_meaning.specs.Machine as machine
-use Rattle.gypsy_meaning.specs.Seen.{Seen, Stage, Running, Finished, added}
+use Rattle.gypsy_meaning.specs.Seen.{Seen, Stage, Running, Finished, added, bare, handed_back, spent_at}
 use Rattle.gypsy_meaning.specs.Work.{work_of}
 use Rattle.gypsy_meaning.specs.declared.turn.Advance.{Advance}
 use Rattle.gypsy_meaning.specs.declared.running.Ending.{Ending}
@@ -23,13 +27,20 @@ frame_of f =
     Held f.procedure (map (λ v. v.1) f.variables.items) (work_of f.work.value)
     f.call.value.actuals.items (map seen_cond f.call.value.conds.items)
 
--- the last one is the top
-abbrev pub frames_of : List Frame → List machine.Frame
-frames_of fs = map frame_of (reverse fs)
+-- as they are kept, the top first: the last one is the top
+abbrev pub kept_frames : List Frame → List machine.Frame
+kept_frames fs = map frame_of (reverse fs)
+
+-- with what is lent, below an activation with these variables
+abbrev pub frames_of : List ValueOf → List Frame → List machine.Frame
+frames_of y fs = handed_back y (kept_frames fs)
+
+abbrev pub frames_in : Meaning → List machine.Frame
+frames_in m = frames_of (map (λ v. v.1) m.variables.items) m.waiting.items
 
 -- with nothing spent
 abbrev pub state_of : Meaning → State
-state_of m = At m.procedure (map (λ v. v.1) m.variables.items) (work_of m.work.value) (frames_of m.waiting.items) start_tally
+state_of m = At m.procedure (map (λ v. v.1) m.variables.items) (work_of m.work.value) (frames_in m) start_tally
 
 abbrev pub sizes_of : Meaning → Words
 sizes_of m = stack_words m.temp m.ctrl
@@ -75,5 +86,4 @@ advanced ns a m = paid (price ns a.event a.caught) (record m { work = a.work })
 -- one step leads from a state to another, at the cost that is counted
 abbrev pub Goes : Program → Words → Meaning → Meaning → Type 0
 Goes q sizes m n =
-    (u : Tally) × (gypsy_step q sizes (state_of m) ≡ Next (At n.procedure (map (λ v. v.1) n.variables.items)
-    (work_of n.work.value) (frames_of n.waiting.items) u)) × Costs u.count m n
+    (g : State) × (gypsy_step q sizes (state_of m) ≡ Next g) × (bare g ≡ state_of n) × Costs (spent_at g) m n

@@ -4,8 +4,8 @@ use Rattle.stack_text.specs.Values.{ValueOf}
 use Rattle.gypsy_syntax.specs.Programs.{Program, proc_at}
 use Rattle.gypsy_space.specs.Costs.{start_tally}
 use Rattle.gypsy_space.specs.Needs.{Words}
-use Rattle.gypsy_meaning.specs.Calls.{Way}
-use Rattle.gypsy_meaning.specs.Machine.{Item, Do, Back, JoinThen, JoinOne, Guard, Out, State, At, Move, Next, Ended}
+use Rattle.gypsy_meaning.specs.Calls.{Way, copied_out}
+use Rattle.gypsy_meaning.specs.Machine.{Item, Do, Back, JoinThen, JoinOne, Guard, Out, Frame, Held, State, At, Move, Next, Ended}
 use Rattle.gypsy_meaning.specs.Machine.{gypsy_step, place_of, start}
 use Rattle.gypsy_meaning.specs.declared.answers.Moved.{Moved}
 use Rattle.gypsy_meaning.specs.declared.answers.Moved.TheVariants as moved
@@ -36,9 +36,23 @@ added a n = min (a + n) (2 ^ 64 - 1)
 abbrev pub Shows : ℕ → ℕ → Type 0
 Shows shown n = shown ≡ min n (2 ^ 64 - 1)
 
--- the state with nothing spent, and what was spent in it
+-- Those that wait have lent their actuals to their callees: each with what it would get back now, where the activation above
+-- has these variables.
+abbrev pub handed_back : List ValueOf → List Frame → List Frame
+handed_back y [] = []
+handed_back y (Held p x w xs cs ∷ fs) = let z = copied_out xs y x in Held p z w xs cs ∷ handed_back z fs
+
+-- so a state, and what a step comes to: no step looks at what is lent before it writes it
+abbrev pub lending : State → State
+lending (At p x w fs t) = At p x w (handed_back x fs) t
+
+abbrev pub lending_move : Move → Move
+lending_move (Next g) = Next (lending g)
+lending_move (Ended x c t) = Ended x c t
+
+-- so the state with nothing spent, and what was spent in it
 abbrev pub bare : State → State
-bare (At p x w fs t) = At p x w fs start_tally
+bare (At p x w fs t) = At p x w (handed_back x fs) start_tally
 
 abbrev pub spent_at : State → ℕ
 spent_at (At p x w fs t) = t.count

@@ -1,20 +1,19 @@
 //! What a step does where a procedure is called.
 
-ghost use Rattle.std.specs.Prelude.{◌≡◌, ◌<◌, ◌+◌, [], ◌∷◌, IfErr, IfOk, length, map};
+ghost use Rattle.std.specs.Prelude.{◌≡◌, ◌<◌, ◌≤◌, ◌+◌, [], ◌∷◌, IfErr, IfOk, drop, length, map};
 ghost use Rattle.gypsy_syntax.specs.Programs.{body_of, proc_at};
 ghost use Rattle.gypsy_space.specs.Events.{AreNeeds, AreSmall, lack_by, need_at};
 ghost use Rattle.gypsy_space.specs.Needs.{stack_words};
 ghost use Rattle.gypsy_space.specs.Nodes.{seen_program};
 ghost use Rattle.gypsy_space.specs.declared.need.Lack.TheVariants as lack;
-ghost use Rattle.gypsy_meaning.specs.Calling.{IsUnchanged, RaisesSpace, Waits, call_top, with_words};
-ghost use Rattle.gypsy_meaning.specs.Calls.{copied_in};
+ghost use Rattle.gypsy_meaning.specs.Calling.{AreLent, IsUnchanged, RaisesSpace, Waits, call_top, with_words};
 ghost use Rattle.gypsy_meaning.specs.Held.{IsHeld, Moves};
 ghost use Rattle.gypsy_meaning.specs.Machine.{open_on};
 ghost use Rattle.gypsy_meaning.specs.Named.{variables_of};
 ghost use Rattle.gypsy_meaning.specs.Turns.{IsPlain};
 ghost use Rattle.gypsy_meaning.specs.Work.{work_of};
 
-use crate::copying::copy_in;
+use crate::copying::{callee_variables, lend};
 use crate::names::Names;
 use crate::running::{Frame, Meaning};
 use crate::starting::{body_at, locals_at, names_at};
@@ -33,32 +32,29 @@ pub struct Start {
     pub work: Rc<Work>,
 }
 
-/// The callee of a call at its start: copies of the actuals and its locals, and its body to be done.
-#[tactic(auto, unfolding(crate::specs::Calls::copied_in))]
+/// The callee of a call at its start, before the actuals are moved into its formals: its locals, and its body to be done.
 pub fn callee_start(
     alloc: Global,
     program: &Program,
     names: &[Names],
-    variables: &[(Name, Value)],
     site: &CallSite,
 ) -> Result<Start, AllocError>
     requires callee { site.now.callee < length program.now.procedures.items }
     requires there { site.now.callee < length names.now }
     requires sized { let callee = proc_at (seen_program program.now) site.now.callee in
         length (variables_of names.now site.now.callee) ≡ length site.now.actuals.items + length callee.locals }
-    ensures variables { IfOk result (λ start. map (λ v. v.1) start.variables.items
-        ≡ copied_in (seen_program program.now) site.now.callee site.now.actuals.items (map (λ v. v.1) variables.now)) }
+    ensures locals { IfOk result (λ start. drop (length site.now.actuals.items) (map (λ v. v.1) start.variables.items)
+        ≡ (proc_at (seen_program program.now) site.now.callee).locals) }
     ensures names { IfOk result (λ start. map (λ v. v.0) start.variables.items
         ≡ variables_of names.now site.now.callee) }
     ensures work { IfOk result (λ start. work_of start.work.value
         ≡ open_on (body_of (seen_program program.now) site.now.callee) []) }
 {
     let callee = site.callee;
-    let variables = copy_in(
+    let variables = callee_variables(
         alloc,
         names_at(names, callee),
-        variables,
-        site.actuals.as_slice(),
+        site.actuals.len(),
         locals_at(program, callee),
     )?;
     let work = begun(alloc, body_at(program, callee))?;
@@ -66,17 +62,22 @@ pub fn callee_start(
 }
 
 impl Meaning {
-    /// Puts the active procedure to those that wait, at this call and with this work behind it; the callee's variables
-    /// are then the active ones.
+    /// Puts the active procedure to those that wait, at this call and with this work behind it. Its actuals are moved into
+    /// the callee's formals, and the callee's variables are then the active ones.
     fn wait(
         &mut self,
-        variables: Vec<(Name, Value)>,
+        callee: Vec<(Name, Value)>,
         below: Rc<Work>,
         site: Rc<CallSite>,
     ) -> Result<(), AllocError>
-        ensures done { IfOk result (λ u. Waits self.old variables below site self.new) }
+        requires few { length site.value.actuals.items ≤ length callee.items }
+        requires lent { AreLent (length self.old.variables.items) site.value.actuals.items }
+        ensures done { IfOk result (λ u. Waits self.old callee below site self.new) }
         ensures unchanged { IfErr result (λ e. IsUnchanged self.old self.new) }
     {
+        self.waiting.reserve(1)?;
+        let mut variables = callee;
+        lend(&mut self.variables, site.actuals.as_slice(), &mut variables);
         let frame = Frame {
             procedure: self.procedure,
             variables: mem::replace(&mut self.variables, variables),
@@ -87,18 +88,7 @@ impl Meaning {
         };
         match self.waiting.push(frame) {
             Ok(()) => Ok(()),
-            Err(failed) => {
-                let Frame {
-                    procedure: _,
-                    variables,
-                    work: _,
-                    call: _,
-                    used_temp: _,
-                    used_ctrl: _,
-                } = failed.value;
-                self.variables = variables;
-                Err(AllocError)
-            }
+            Err(_failed) => unreachable!(),
         }
     }
 
@@ -150,6 +140,7 @@ impl Meaning {
         requires sized { let callee = proc_at (seen_program self.old.program) site.value.callee in
             let number = length (variables_of self.old.names.items site.value.callee) in
             number ≡ length site.value.actuals.items + length callee.locals }
+        requires lent { AreLent (length self.old.variables.items) site.value.actuals.items }
         requires turn { work_of self.old.work.value ≡ call_top site.value ∷ work_of below.value }
         requires held { IsHeld self.old }
         requires room { let need = need_at needs.now.procedures.items site.value.callee in
@@ -166,7 +157,6 @@ impl Meaning {
             alloc,
             &self.program,
             self.names.as_slice(),
-            self.variables.as_slice(),
             &site,
         )?;
         self.wait(variables, below, site)?;
@@ -192,6 +182,7 @@ impl Meaning {
         requires sized { let callee = proc_at (seen_program self.old.program) site.value.callee in
             let number = length (variables_of self.old.names.items site.value.callee) in
             number ≡ length site.value.actuals.items + length callee.locals }
+        requires lent { AreLent (length self.old.variables.items) site.value.actuals.items }
         requires turn { work_of self.old.work.value ≡ call_top site.value ∷ work_of below.value }
         requires held { IsHeld self.old }
         ensures done { IfOk result (λ u. Moves self.old self.new) }

@@ -1,25 +1,15 @@
 //! Variables that go into a call, and come back from it.
 
-ghost use Rattle.std.specs.Prelude.{◌≡◌, ◌≤◌, ◌+◌, ◌++◌, IfOk, OnOk, length, map, take};
+ghost use Rattle.std.specs.Prelude.{◌≡◌, ◌≤◌, ◌<◌, ◌+◌, ◌++◌, IfOk, OnOk, drop, length, map, slice_set};
 ghost use Rattle.gypsy_syntax.specs.Effects.{value_at};
+ghost use Rattle.gypsy_meaning.specs.Calling.{AreLent};
 ghost use Rattle.gypsy_meaning.specs.Calls.{copied_out};
 
-use crate::effects::value_in;
+use crate::effects::simple_value;
 use crate::writing::write;
-use stack_text::{Name, Value};
+use stack_text::{Kind, Name, Value};
 use std::alloc::{AllocError, Global};
-
-/// A copy of a variable's value, under this name.
-fn renamed(
-    alloc: Global,
-    name: &Name,
-    variables: &[(Name, Value)],
-    variable: u32,
-) -> Result<(Name, Value), AllocError>
-    ensures { IfOk result (λ v. v ≡ (name.now, value_at (map (λ v. v.1) variables.now) variable)) }
-{
-    Ok((name.clone()?, value_in(alloc, variables, variable)?))
-}
+use std::mem;
 
 /// Copies of a name and a value.
 pub fn named_copy(name: &Name, value: &Value) -> Result<(Name, Value), AllocError>
@@ -28,26 +18,22 @@ pub fn named_copy(name: &Name, value: &Value) -> Result<(Name, Value), AllocErro
     Ok((name.clone()?, value.clone()?))
 }
 
-/// Copies of the actuals, under the first names.
-fn copies(
-    alloc: Global,
-    names: &[Name],
-    variables: &[(Name, Value)],
-    actuals: &[u32],
-) -> Result<Vec<(Name, Value)>, AllocError>
-    requires { length actuals.now ≤ length names.now }
-    ensures values { IfOk result (λ r. map (λ v. v.1) r.items
-        ≡ map (value_at (map (λ v. v.1) variables.now)) actuals.now) }
-    ensures names { IfOk result (λ r. map (λ v. v.0) r.items ≡ take (length actuals.now) names.now) }
+/// A variable with this name, before its value is moved into it.
+fn unfilled(alloc: Global, name: &Name) -> Result<(Name, Value), AllocError>
+    ensures { IfOk result (λ v. v.0 ≡ name.now) }
 {
-    let mut copies = Vec::new(alloc);
-    for (place, actual) in actuals.iter().enumerate() {
-        match names.get(place) {
-            Some(name) => copies.push(renamed(alloc, name, variables, *actual)?)?,
-            None => unreachable!(),
-        }
+    Ok((name.clone()?, simple_value(alloc, Kind::Integer, 0)?))
+}
+
+/// Variables with these names, before their values are moved into them.
+fn unfilled_all(alloc: Global, names: &[Name]) -> Result<Vec<(Name, Value)>, AllocError>
+    ensures { IfOk result (λ r. map (λ v. v.0) r.items ≡ names.now) }
+{
+    let mut all = Vec::new(alloc);
+    for name in names {
+        all.push(unfilled(alloc, name)?)?;
     }
-    Ok(copies)
+    Ok(all)
 }
 
 /// Appends locals with their initial values, under these names.
@@ -70,22 +56,57 @@ pub fn append_locals(
     Ok(())
 }
 
-/// The callee's variables under these names: copies of the actuals, and the locals with their initial values.
-pub fn copy_in(
+/// The callee's variables under these names: so many formals, before the actuals are moved into them, and the locals with
+/// their initial values.
+pub fn callee_variables(
     alloc: Global,
     names: &[Name],
-    variables: &[(Name, Value)],
-    actuals: &[u32],
+    formals: usize,
     locals: &[(Name, Value)],
 ) -> Result<Vec<(Name, Value)>, AllocError>
-    requires { length names.now ≡ length actuals.now + length locals.now }
-    ensures values { let copies = map (value_at (map (λ v. v.1) variables.now)) actuals.now in
-        IfOk result (λ r. map (λ v. v.1) r.items ≡ copies ++ map (λ v. v.1) locals.now) }
+    requires { length names.now ≡ formals + length locals.now }
+    ensures locals { IfOk result (λ r. drop formals (map (λ v. v.1) r.items) ≡ map (λ v. v.1) locals.now) }
     ensures names { IfOk result (λ r. map (λ v. v.0) r.items ≡ names.now) }
 {
-    let mut all = copies(alloc, names, variables, actuals)?;
-    append_locals(&mut all, &names[actuals.len()..], locals)?;
+    let mut all = unfilled_all(alloc, &names[..formals])?;
+    append_locals(&mut all, &names[formals..], locals)?;
     Ok(all)
+}
+
+/// Exchanges the value of a caller's variable with that of a callee's.
+fn exchange(
+    caller: &mut Vec<(Name, Value)>,
+    variable: u32,
+    callee: &mut Vec<(Name, Value)>,
+    place: usize,
+)
+    requires variable { variable < length caller.old.items }
+    requires place { place < length callee.old.items }
+    ensures caller { map (λ v. v.1) caller.new.items
+        ≡ slice_set (map (λ v. v.1) caller.old.items) variable (value_at (map (λ v. v.1) callee.old.items) place) }
+    ensures caller_names { map (λ v. v.0) caller.new.items ≡ map (λ v. v.0) caller.old.items }
+    ensures callee { map (λ v. v.1) callee.new.items
+        ≡ slice_set (map (λ v. v.1) callee.old.items) place (value_at (map (λ v. v.1) caller.old.items) variable) }
+    ensures callee_names { map (λ v. v.0) callee.new.items ≡ map (λ v. v.0) callee.old.items }
+{
+    mem::swap(&mut caller[variable as usize].1, &mut callee[place].1);
+}
+
+/// Moves the actuals of a caller into the first variables of a callee; the caller gets what stood there.
+pub fn lend(caller: &mut Vec<(Name, Value)>, actuals: &[u32], callee: &mut Vec<(Name, Value)>)
+    requires few { length actuals.now ≤ length callee.old.items }
+    requires lent { AreLent (length caller.old.items) actuals.now }
+    ensures left { map (λ v. v.1) caller.new.items
+        ≡ copied_out actuals.now (map (λ v. v.1) callee.old.items) (map (λ v. v.1) caller.old.items) }
+    ensures left_names { map (λ v. v.0) caller.new.items ≡ map (λ v. v.0) caller.old.items }
+    ensures lent { map (λ v. v.1) callee.new.items
+        ≡ map (value_at (map (λ v. v.1) caller.old.items)) actuals.now
+        ++ drop (length actuals.now) (map (λ v. v.1) callee.old.items) }
+    ensures lent_names { map (λ v. v.0) callee.new.items ≡ map (λ v. v.0) callee.old.items }
+{
+    for (place, actual) in actuals.iter().enumerate() {
+        exchange(caller, *actual, callee, place);
+    }
 }
 
 /// Puts the values of a callee's formals back.

@@ -72,7 +72,7 @@ fn truth_at(variables: &[(Name, Value)], args: &[Argument], index: usize) -> boo
 }
 
 /// A value of a simple kind with this item, which is of the kind.
-fn simple_value(alloc: Global, kind: Kind, item: i32) -> Result<Value, AllocError>
+pub fn simple_value(alloc: Global, kind: Kind, item: i32) -> Result<Value, AllocError>
     requires { IsTrue (is_item kind item) }
     ensures { IfOk result (λ v. v ≡ record { shape = simple kind; items = item ∷ [] }) }
 {
@@ -80,20 +80,6 @@ fn simple_value(alloc: Global, kind: Kind, item: i32) -> Result<Value, AllocErro
     match Value::new(Shape { kind, length: 0 }, items) {
         Some(value) => Ok(value),
         None => unreachable!(),
-    }
-}
-
-/// A copy of a variable's value.
-pub fn value_in(
-    alloc: Global,
-    variables: &[(Name, Value)],
-    variable: u32,
-) -> Result<Value, AllocError>
-    ensures { IfOk result (λ v. v ≡ value_at (map (λ v. v.1) variables.now) variable) }
-{
-    match variable_at(variables, variable) {
-        Some(value) => value.clone(),
-        None => simple_value(alloc, Kind::Integer, 0),
     }
 }
 

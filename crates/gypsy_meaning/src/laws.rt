@@ -9,7 +9,7 @@ ghost use Rattle.gypsy_syntax.specs.Sources.{SourceOf};
 ghost use Rattle.gypsy_space.specs.declared.need.Need.{Need};
 ghost use Rattle.gypsy_meaning.specs.Agree.{Agree};
 ghost use Rattle.gypsy_meaning.specs.Belongs.{BelongsTo, IsRunOf};
-ghost use Rattle.gypsy_meaning.specs.Seen.{IsOfRun, Seen, left_of, run_of};
+ghost use Rattle.gypsy_meaning.specs.Seen.{IsOfRun, Seen, left_of, lending, lending_move, run_of};
 ghost use Rattle.gypsy_meaning.specs.declared.running.Meaning.{Meaning};
 ghost use Rattle.gypsy_meaning.specs.Counted.{counted_meaning, uncounted};
 ghost use Rattle.gypsy_meaning.specs.Machine.{State, start, gypsy_step};
@@ -46,6 +46,12 @@ pub fn steps_keep_room()
         (main_need q).temp ≤ sizes.temp → (main_need q).ctrl ≤ sizes.ctrl → StateRoom q sizes (start q v) }
     ensures step { (q : Program) (sizes : Words) (g : State) → StateRoom q sizes g →
         MoveRoom q sizes (gypsy_step q sizes g) }
+{}
+
+/// What those that wait have lent to their callees changes no step: `bare` leaves it out, and each step comes to the same.
+pub fn lending_changes_no_step()
+    ensures { (q : Program) (sizes : Words) (g : State) →
+        lending_move (gypsy_step q sizes (lending g)) ≡ lending_move (gypsy_step q sizes g) }
 {}
 
 /// No step and no run changes the program, the sizes or the values with which a run was started; and what belongs to a

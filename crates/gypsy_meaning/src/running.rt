@@ -24,6 +24,7 @@ use std::rc::Rc;
 #[derive(Drop)]
 pub struct Frame {
     pub procedure: u32,
+    /// Its actuals are with the callee, and come back from there; their places hold what doesn't count.
     pub variables: Vec<(Name, Value)>,
     pub work: Rc<Work>,
     pub call: Rc<CallSite>,
@@ -57,10 +58,10 @@ pub enum Crossing {
 /// and each call keeps it.
 ///
 /// A step's time doesn't grow with the activations that wait, and nothing calls itself by the nesting of calls. A
-/// condition that is raised passes over the work of its procedure and the lists of its handlers, and a call copies the
-/// callee's variables, arrays whole: memory grows by the words of all variables for each call that is going on. A list
-/// of work is no longer than twice the depth at which its procedure's statements nest, so it is dropped in as few nested
-/// calls; activations stand in a vector.
+/// condition that is raised passes over the work of its procedure and the lists of its handlers. A call moves its actuals
+/// into the callee's formals, and makes the callee's locals: memory grows with the words that both stacks have in use. A
+/// list of work is no longer than twice the depth at which its procedure's statements nest, so it is dropped in as few
+/// nested calls; activations stand in a vector.
 #[derive(Drop)]
 pub struct Meaning {
     pub(crate) program: Program,

@@ -1,11 +1,8 @@
-use Rattle.std.proofs.Common.{◌≡◌, ℕ, ◌<◌, List, [], length, map, ap, ap₂, ◌∙◌, arith}
+use Rattle.std.proofs.Common.{◌≡◌, ℕ, ◌<◌, ◌+◌, List, [], length, map, drop, sym, ap, ap₂, ◌∙◌, arith}
 use Rattle.std.proofs.lemmas.List.{length-map}
-use Rattle.stack_text.specs.declared.name.Name.{Name}
-use Rattle.stack_text.specs.declared.value.Value.{Value}
-use Rattle.gypsy_syntax.specs.Programs.{body_of}
+use Rattle.gypsy_syntax.specs.Programs.{body_of, proc_at}
 use Rattle.gypsy_space.specs.Nodes.{seen_proc, seen_program}
 use Rattle.gypsy_space.specs.declared.program.CallSite.{CallSite}
-use Rattle.gypsy_meaning.specs.Calls.{copied_in}
 use Rattle.gypsy_meaning.specs.Machine.{open_on}
 use Rattle.gypsy_meaning.specs.Named.{variables_of}
 use Rattle.gypsy_meaning.specs.Running.{paid}
@@ -13,6 +10,19 @@ use Rattle.gypsy_meaning.specs.Work.{work_of}
 use Rattle.gypsy_meaning.specs.declared.names.Names.{Names}
 use Rattle.gypsy_meaning.proofs.CallingLaws.{after_call, enters}
 use Rattle.gypsy_meaning.proofs.running.Meaning.enter_call.Goals as goal
+
+pub wait-requires-clause-few : goal.wait-requires-clause-few
+wait-requires-clause-few c =
+    let m = c.args.self.now in
+    let site = c.args.site.value in
+    let callee_vars = c.in_ok-variables.field-0.variables in
+    let named : map (λ v. v.0) callee_vars.items ≡ variables_of m.names.items site.callee =
+    c.in_ok-variables.ensures.names
+    ∙ ap (λ (s : CallSite). variables_of c.as_slice.result.now s.callee) c.deref-2.ensures
+    ∙ ap (λ (t : List Names). variables_of t site.callee) c.as_slice.ensures.value in
+    let number : length callee_vars.items ≡ length (variables_of m.names.items site.callee) = sym (length-map callee_vars.items (λ v. v.0)) ∙ ap length named in
+    let sized : length (variables_of m.names.items site.callee) ≡ length site.actuals.items + length (proc_at (seen_program m.program) site.callee).locals = c.requires.sized in
+    omega (arith, number, sized)
 
 pub returns-clause-done : goal.returns-clause-done
 returns-clause-done c =
@@ -23,13 +33,13 @@ returns-clause-done c =
     let there : site.callee < length (seen_program m.program).procs = omega (arith, c.requires.callee, length-map m.program.procedures.items seen_proc) in
     let callee : c.deref.result.now.callee ≡ site.callee = ap (λ (s : CallSite). s.callee) c.deref.ensures in
     let a = c.wait.new.self in
-    let vars = c.in_ok-variables.field-0.variables in
+    let callee_vars = c.in_ok-variables.field-0.variables in
     let w = c.in_ok-variables.field-0.work in
-    let values : map (λ v. v.1) vars.items ≡ copied_in q site.callee site.actuals.items (map (λ v. v.1) m.variables.items) =
-    c.in_ok-variables.ensures.variables
-    ∙ ap (λ (s : CallSite). copied_in q s.callee s.actuals.items (map (λ v. v.1) c.as_slice-2.result.now)) c.deref-2.ensures
-    ∙ ap (λ (xs : List (Name × Value)). copied_in q site.callee site.actuals.items (map (λ v. v.1) xs)) c.as_slice-2.ensures.value in
-    let named : map (λ v. v.0) vars.items ≡ variables_of m.names.items site.callee =
+    let locals : drop (length site.actuals.items) (map (λ v. v.1) callee_vars.items) ≡ (proc_at q site.callee).locals =
+    ap (λ (s : CallSite). drop (length s.actuals.items) (map (λ v. v.1) callee_vars.items)) (sym c.deref-2.ensures)
+    ∙ c.in_ok-variables.ensures.locals
+    ∙ ap (λ (s : CallSite). (proc_at q s.callee).locals) c.deref-2.ensures in
+    let named : map (λ v. v.0) callee_vars.items ≡ variables_of m.names.items site.callee =
     c.in_ok-variables.ensures.names
     ∙ ap (λ (s : CallSite). variables_of c.as_slice.result.now s.callee) c.deref-2.ensures
     ∙ ap (λ (t : List Names). variables_of t site.callee) c.as_slice.ensures.value in
@@ -39,4 +49,4 @@ returns-clause-done c =
     let final : c.pay.new.self ≡ after_call ns site.callee w a =
     c.pay.ensures ∙ ap₂ paid c.cost.ensures.count c.use_words.ensures
     ∙ ap (λ (k : ℕ). after_call ns k w a) callee in
-    enters m a ns c.args.site c.args.below w vars c.requires.needs there c.requires.turn c.requires.held c.requires.room values named body waits c.pay.new.self final (omega arith) (omega arith)
+    enters m a ns c.args.site c.args.below w callee_vars c.requires.needs there c.requires.turn c.requires.held c.requires.room locals named body waits c.pay.new.self final (omega arith) (omega arith)

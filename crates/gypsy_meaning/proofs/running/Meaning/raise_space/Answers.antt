@@ -4,7 +4,7 @@ use Rattle.gypsy_space.specs.Events.{event_spend}
 use Rattle.gypsy_space.specs.Nodes.{seen_program}
 use Rattle.gypsy_meaning.specs.Held.{Moves}
 use Rattle.gypsy_meaning.specs.Machine.{Next}
-use Rattle.gypsy_meaning.specs.Running.{frames_of}
+use Rattle.gypsy_meaning.specs.Running.{frames_in}
 use Rattle.gypsy_meaning.specs.declared.running.Meaning.{Meaning}
 use Rattle.gypsy_meaning.specs.declared.turn.Advance.{Advance}
 use Rattle.gypsy_meaning.proofs.RunningLaws.{step_moves}
@@ -19,4 +19,4 @@ returns-clause-done c =
     let P : Meaning → Type 0 = Moves m in
     subst P (sym c.advance.ensures)
     (step_moves c.args.needs.now.procedures.items a m c.requires.plain
-    (c.requires.turn ∙ ap Next (c.in_ok-raised.ensures m.procedure (map (λ v. v.1) m.variables.items) (frames_of m.waiting.items) spent)))
+    (c.requires.turn ∙ ap Next (c.in_ok-raised.ensures m.procedure (map (λ v. v.1) m.variables.items) (frames_in m) spent)))

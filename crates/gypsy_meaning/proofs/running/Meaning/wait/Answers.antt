@@ -1,0 +1,33 @@
+use Rattle.std.proofs.Common.{◌≡◌, ℕ, List, [], ◌∷◌, ◌++◌, length, map, drop, refl, ap, ◌∙◌}
+use Rattle.stack_text.specs.declared.name.Name.{Name}
+use Rattle.stack_text.specs.declared.value.Value.{Value}
+use Rattle.std.specs.Global.{Vec}
+use Rattle.gypsy_syntax.specs.Effects.{value_at}
+use Rattle.gypsy_space.specs.declared.program.CallSite.{CallSite}
+use Rattle.gypsy_meaning.specs.Calls.{copied_out}
+use Rattle.gypsy_meaning.specs.declared.running.Frame.{Frame}
+use Rattle.gypsy_meaning.proofs.running.Meaning.wait.Goals as goal
+
+pub returns-clause-done : goal.returns-clause-done
+returns-clause-done c =
+    let m = c.args.self.now in
+    let x = map (λ v. v.1) m.variables.items in
+    let y = map (λ v. v.1) c.args.callee.items in
+    let actuals : c.as_slice.result.now ≡ c.args.site.value.actuals.items = c.as_slice.ensures.value ∙ ap (λ (s : CallSite). s.actuals.items) c.deref.ensures in
+    let f : Frame = record {
+      procedure = m.procedure;
+      variables = c.replace.result;
+      work = c.args.below;
+      call = c.args.site;
+      used_temp = m.used_temp;
+      used_ctrl = m.used_ctrl;
+    } in
+    record {
+      caller = c.replace.result;
+      waiting = c.in-Ok.ensures.items ∙ ap (λ (fs : List Frame). fs ++ f ∷ []) c.in_ok-reserve.ensures.items;
+      left = ap (λ (v : Vec (Name × Value)). map (λ w. w.1) v.items) c.replace.ensures.value ∙ c.lend.ensures.left ∙ ap (λ (xs : List ℕ). copied_out xs y x) actuals;
+      left_names = ap (λ (v : Vec (Name × Value)). map (λ w. w.0) v.items) c.replace.ensures.value ∙ c.lend.ensures.left_names;
+      lent = ap (λ (v : Vec (Name × Value)). map (λ w. w.1) v.items) c.replace.ensures.after ∙ c.lend.ensures.lent ∙ ap (λ (xs : List ℕ). map (value_at x) xs ++ drop (length xs) y) actuals;
+      lent_names = ap (λ (v : Vec (Name × Value)). map (λ w. w.0) v.items) c.replace.ensures.after ∙ c.lend.ensures.lent_names;
+      others = refl;
+    }
