@@ -5,6 +5,8 @@ mod commands;
 mod driver;
 mod program;
 mod reply;
+#[cfg(test)]
+mod tests;
 
 use command_line::exit_code;
 use level_debuggers::{CostWatch, CountWatch, LastWatch, PeakWatch, Watch};

@@ -93,7 +93,7 @@ fn push_condition(
 /// Appends the lines of a reading, each of which ends in LF: `condition` with the condition, where there is one, and
 /// each variable as `NAME = VALUE`.
 ///
-/// The only error is out of memory; the text may then end with a part of these lines.
+/// The only error is out of memory; no clause says what the text holds then.
 pub(crate) fn push_lines(
     alloc: Global,
     text: &mut Vec<u8>,

@@ -82,7 +82,7 @@ fn push_variables(
 
 /// Appends the lines of a run of a source: `condition` with its condition, and each variable as `NAME = VALUE`.
 ///
-/// The only error is out of memory; the text may then end with a part of these lines.
+/// The only error is out of memory; no clause says what the text holds then.
 pub fn push_run(
     alloc: Global,
     text: &mut Vec<u8>,

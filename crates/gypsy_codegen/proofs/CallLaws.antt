@@ -26,7 +26,7 @@ use Rattle.gypsy_codegen.specs.WordsOf.{words_of_values, starts, local_shapes, n
 use Rattle.gypsy_codegen.specs.Guard.{guard_code, guard_size}
 use Rattle.gypsy_codegen.specs.Generated.{Scope, out_place, raise_code, raises, raise_places, after_size, after_code, push_words, push_indices, push_actuals, before_size, size, code_of, generated_view, generated_program}
 use Rattle.gypsy_codegen.specs.Memory.{stack_of, base_of, index_of, index_words}
-use Rattle.gypsy_codegen.specs.Showing.{HasAt, gen_in, Stands, Waits, frame_with}
+use Rattle.gypsy_codegen.specs.Showing.{HasAt, IsBehindCall, gen_in, Stands, Waits, frame_with}
 use Rattle.gypsy_codegen.specs.Law.{Halts}
 use Rattle.gypsy_meaning.proofs.Keeping.{locals_fit}
 use Rattle.gypsy_codegen.proofs.CopyLaws.{copied_back, actuals_below, actuals_number}
@@ -214,7 +214,9 @@ module _ {q : Program} {sizes : Words} {base p : ℕ} {fs : List Frame} {fr : Li
       subst (λ z. Goes S (Pt p at3 2 z fr u3) (Pt c 0 2 s1 fr' u4)) (push_all-append local_indices actual_indices s1) (subst (λ z. Goes S (Pt p at3 2 (push_all (local_indices ++ actual_indices) s1) fr u3) (Pt c 0 2 s1 (z ∷ fr) u4)) frame_is go4) in
       let at_ra = subst (λ r. HasAt code r after) here_ra hc.1 in
       let g : at + (guard_size + (before_size q c xs + after_size cs)) ≡ ra + after_size cs = omega arith in
-      let waits : Waits q c (Held p x w xs cs ∷ fs) fr' = (ra, fr, refl, env, at_ra, moved q p env _ _ w g st.1, a.waits) in
+      let before : ra - 1 ≡ at3 = omega (arith, here_ra) in
+      let behind_call : IsBehindCall code ra c = (omega (arith, here_ra), ap (slice_get code) before ∙ hc.0) in
+      let waits : Waits q c (Held p x w xs cs ∷ fs) fr' = (ra, fr, refl, env, at_ra, moved q p env _ _ w g st.1, a.waits, behind_call) in
       let a' : Live q sizes base c (Held p x w xs cs ∷ fs) fr' = record { fits = a.fits; small = a.small; bodies = a.bodies; frames_fit = (cf, v, wf, a.frames_fit); waits = waits; words = (room.callee, cw, a.words) } in
       let tally : u4 ≡ call_spend q c t =
       ap (spend last 1) (three (3 * n) n (3 * length sh) (length sh) (length ws) (length ws) u0)

@@ -1,5 +1,5 @@
 -- The states of the generated system that read as states of the step machine.
-use Rattle.std.specs.Prelude.{◌≡◌, ℕ, ◌+◌, ◌-◌, List, [], ◌∷◌, ◌++◌, Some, None, slice_get}
+use Rattle.std.specs.Prelude.{◌≡◌, ◌≤◌, ℕ, ◌+◌, ◌-◌, List, [], ◌∷◌, ◌++◌, Some, None, slice_get}
 use Rattle.stack_text.specs.Values.{ValueOf}
 use Rattle.piton_words.specs.declared.word.Word.TheVariants.{Nat}
 use Rattle.piton_check.specs.Instruction as i
@@ -81,13 +81,17 @@ cc_of (Guard place cs v ∷ w) = number_of_way None
 abbrev pub frame_with : Program → ℕ → List Frame → ℕ → ℕ → piton.Frame
 frame_with q p fs program place = record { locals = index_words (frame_of q p fs); program = program; place = place }
 
+-- the instruction before a place calls this procedure
+abbrev pub IsBehindCall : List Instruction → ℕ → ℕ → Type 0
+IsBehindCall code place p = (1 ≤ place) × (slice_get code (place - 1) ≡ Some (i.Call p))
+
 -- the frames: one for each activation, each above main's with the place behind the call that made it
 abbrev pub Waits : Program → ℕ → List Frame → List piton.Frame → Type 0
 Waits q p [] fr = (rp : ℕ) × (ra : ℕ) × (fr ≡ frame_with q p [] rp ra ∷ [])
 Waits q p (Held c x w xs cs ∷ fs) fr =
     (ra : ℕ) × (frs : List piton.Frame) × (fr ≡ frame_with q p (Held c x w xs cs ∷ fs) c ra ∷ frs) × (env : List Scope) ×
     HasAt (code_of q c) ra (after_code q c (size q (body_of q c)) env ra (local_words (proc_at q p)) cs) ×
-    Stands q c env (ra + after_size cs) w × Waits q c fs frs
+    Stands q c env (ra + after_size cs) w × Waits q c fs frs × IsBehindCall (code_of q c) ra p
 
 -- a state that stands at the code of the top item and reads as this state of the step machine
 pub record Reads (q : Program) (a : PitonState) (p : ℕ) (x : List ValueOf) (w : List Item) (fs : List Frame) : Type 0 where

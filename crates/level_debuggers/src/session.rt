@@ -144,7 +144,7 @@ impl Session {
     }
 
     /// Makes at most `n` steps: fewer only where the end is reached or the next step is refused. Each attached watch is told
-    /// each step, in the order of attaching.
+    /// each step; which of them first, no clause says.
     ///
     /// # Errors
     ///

@@ -161,8 +161,7 @@ fn push_answer(
 ///
 /// # Errors
 ///
-/// Out of memory: the commands and the steps that were carried out stand, and the text may have gained a part of what the
-/// session said to them.
+/// Out of memory: the commands and the steps that were carried out stand; no clause says what the text holds then.
 pub fn follow(
     alloc: Global,
     session: &mut Session,
