@@ -1,0 +1,91 @@
+//! The source that a program becomes.
+
+ghost use Rattle.std.specs.Prelude.{◌≡◌, ◌≤◌, ◌^◌, IfOk, length};
+ghost use Rattle.gypsy_syntax.specs.SourceView.{proc_of, source_of};
+ghost use Rattle.gypsy_check.specs.Accepted.{IsAccepted};
+ghost use Rattle.mini_syntax.specs.Lawful.{IsLawful};
+ghost use Rattle.mini_gypsy.specs.Lowered.{lowered, main_procedure};
+ghost use Rattle.mini_gypsy.specs.Promises.{Lowers};
+ghost use Rattle.mini_syntax.specs.Answers.{RefusesText};
+ghost use Rattle.mini_syntax.specs.ProgramView.{block_in};
+
+use crate::statements::block;
+use crate::temporaries::{formals, temporaries};
+use gypsy_check::{Accepted, CheckFault, check};
+use gypsy_syntax::{Proc, Source, plain_form};
+use mini_syntax::{MiniFault, Program, read_mini};
+use stack_text::{Memory, Named};
+use std::alloc::Global;
+
+/// The procedure that a program becomes.
+fn main_procedure(alloc: Global, program: &Program) -> Result<Proc, Memory>
+    requires lawful { IsLawful program.now.declared.items (block_in program.now.body.items) }
+    ensures { IfOk result (λ made.
+        proc_of made ≡ main_procedure program.now.declared.items (block_in program.now.body.items)) }
+{
+    let declared = program.declared.as_slice();
+    Ok(Proc {
+        place: 0,
+        name: Named::unplaced(alloc, b"main".as_slice())?,
+        formals: formals(alloc, declared)?,
+        conds: Vec::new(alloc),
+        locals: temporaries(alloc)?,
+        local_conds: Vec::new(alloc),
+        body: block(alloc, declared, program.body.as_slice())?,
+    })
+}
+
+/// The source that a program becomes.
+fn source(alloc: Global, program: &Program) -> Result<Source, Memory>
+    requires lawful { IsLawful program.now.declared.items (block_in program.now.body.items) }
+    ensures { IfOk result (λ made.
+        source_of made ≡ lowered program.now.declared.items (block_in program.now.body.items)) }
+{
+    let mut procs = Vec::new(alloc);
+    procs.push(main_procedure(alloc, program)?)?;
+    Ok(Source {
+        place: 0,
+        main: Named::unplaced(alloc, b"main".as_slice())?,
+        procs,
+    })
+}
+
+/// The accepted source that a program becomes, which breaks no rule.
+///
+/// It has one procedure `main`, whose formals are the declared variables in order, and means the same as the program. The
+/// only error is out of memory.
+fn lower_program(alloc: Global, program: &Program) -> Result<Accepted, Memory>
+    requires lawful { IsLawful program.now.declared.items (block_in program.now.body.items) }
+    ensures lowered { IfOk result (λ accepted.
+        source_of accepted ≡ lowered program.now.declared.items (block_in program.now.body.items)) }
+    ensures accepted { IfOk result (λ accepted. IsAccepted (source_of accepted)) }
+{
+    plain_form();
+    let source = source(alloc, program)?;
+    match check(alloc, source) {
+        Ok(accepted) => Ok(accepted),
+        Err(CheckFault::Memory) => Err(Memory),
+        Err(CheckFault::Violation { rule: _, place: _ }) => unreachable!(),
+    }
+}
+
+/// Lowers a text of at most 2^20 bytes to Micro-Gypsy.
+///
+/// The source has one procedure `main`, whose formals are the declared variables in order. From all values that fit, with
+/// every size of both stacks that is main's own need or more, and at every bound it means the same as the text's program.
+/// Its text is read again, and has at most 60 bytes for each byte of this one, and 2,000 more. The time is linear in the
+/// text, but for names that were picked so that they meet in a hash table, whose seed is fixed.
+///
+/// # Errors
+///
+/// The first token that breaks one of the rules 1 to 4, with the least rule that it breaks; or else the least place and
+/// then the least rule of 5 to 9; or out of memory.
+pub fn lower(alloc: Global, text: &[u8]) -> Result<Accepted, MiniFault>
+    requires { length text.now ≤ 2 ^ 20 }
+    ensures lowers { IfOk result (λ accepted. Lowers text.now (source_of accepted)) }
+    ensures fault { RefusesText text.now result }
+{
+    let program = read_mini(alloc, text)?;
+    let accepted = lower_program(alloc, &program)?;
+    Ok(accepted)
+}

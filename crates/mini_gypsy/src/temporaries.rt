@@ -1,0 +1,109 @@
+//! The names and declarations of variables: the declared ones, and the temporaries.
+
+ghost use Rattle.std.specs.Prelude.{◌≡◌, ◌++◌, ◌<◌, IfOk, OnOk, length, map};
+ghost use Rattle.stack_text.specs.Grammar.Printed.{unplaced};
+ghost use Rattle.gypsy_syntax.specs.Made.{new_decl, new_simple};
+ghost use Rattle.gypsy_syntax.specs.SourceView.{local_of};
+ghost use Rattle.mini_gypsy.specs.Lowered.{decl_of, kind_of, locals_from, temporaries, temporary_local, temporary_name};
+ghost use Rattle.mini_syntax.specs.Lawful.{nth_name};
+ghost use Rattle.mini_syntax.specs.Sorted.{depths};
+
+use crate::rows::{kind_of, letter_of};
+use gypsy_syntax::{Decl, Literal, Local, TypeText};
+use mini_syntax::{Declared, Sort};
+use stack_text::{Memory, Named};
+use std::alloc::Global;
+
+/// How deep an expression goes.
+const DEPTHS: u32 = 41;
+
+/// The name of a sort's temporary at a depth.
+#[tactic(auto, using(crate::proofs::NameLaws::temporary_is_name))]
+pub(crate) fn temporary(alloc: Global, sort: Sort, depth: u32) -> Result<Named, Memory>
+    requires { depth < depths }
+    ensures { IfOk result (λ named. named ≡ unplaced (temporary_name sort depth)) }
+{
+    let tens = b'0' + (depth / 10) as u8;
+    let ones = b'0' + (depth % 10) as u8;
+    let name = [letter_of(sort), b'$', tens, ones];
+    Named::unplaced(alloc, name.as_slice())
+}
+
+/// The name of a declared variable.
+pub(crate) fn variable(declared: &[Declared], index: u32) -> Result<Named, Memory>
+    requires { index < length declared.now }
+    ensures { IfOk result (λ named. named ≡ unplaced (nth_name (map (λ d. d.name) declared.now) index)) }
+{
+    match declared.get(index as usize) {
+        Some(variable) => variable.name.unplaced(),
+        None => unreachable!(),
+    }
+}
+
+/// The declaration of a variable of a sort.
+fn declaration(name: Named, sort: Sort) -> Decl
+    ensures { result ≡ new_decl name (new_simple 0 (kind_of sort)) }
+{
+    let shape = TypeText {
+        place: 0,
+        kind: kind_of(sort),
+        length: None,
+    };
+    Decl { name, shape }
+}
+
+/// The declaration of a temporary.
+fn temporary_local(alloc: Global, sort: Sort, depth: u32) -> Result<Local, Memory>
+    requires { depth < depths }
+    ensures { IfOk result (λ local. local_of local ≡ temporary_local sort depth) }
+{
+    let decl = declaration(temporary(alloc, sort, depth)?, sort);
+    match sort {
+        Sort::Int => Ok(Local {
+            decl,
+            value: Literal::Integer {
+                place: 0,
+                number: 0,
+            },
+        }),
+        Sort::Bool => Ok(Local {
+            decl,
+            value: Literal::Truth {
+                place: 0,
+                truth: false,
+            },
+        }),
+    }
+}
+
+/// Appends the temporaries of a sort.
+fn append_locals(alloc: Global, locals: &mut Vec<Local>, sort: Sort) -> Result<(), Memory>
+    ensures { OnOk result (map local_of locals.new.items ≡ map local_of locals.old.items ++ locals_from sort 0 depths) }
+{
+    for depth in 0..DEPTHS {
+        locals.push(temporary_local(alloc, sort, depth)?)?;
+    }
+    Ok(())
+}
+
+/// All temporaries.
+#[tactic(auto, unfolding(crate::specs::Lowered::temporaries))]
+pub(crate) fn temporaries(alloc: Global) -> Result<Vec<Local>, Memory>
+    ensures { IfOk result (λ locals. map local_of locals.items ≡ temporaries) }
+{
+    let mut locals = Vec::new(alloc);
+    append_locals(alloc, &mut locals, Sort::Int)?;
+    append_locals(alloc, &mut locals, Sort::Bool)?;
+    Ok(locals)
+}
+
+/// The declared variables.
+pub(crate) fn formals(alloc: Global, declared: &[Declared]) -> Result<Vec<Decl>, Memory>
+    ensures { IfOk result (λ formals. formals.items ≡ map (λ d. decl_of d.name d.sort) declared.now) }
+{
+    let mut formals = Vec::new(alloc);
+    for variable in declared {
+        formals.push(declaration(variable.name.unplaced()?, variable.sort))?;
+    }
+    Ok(formals)
+}

@@ -1,0 +1,301 @@
+-- What the tokens that are left complete, token by token and tree by tree.
+use Rattle.std.proofs.Common.{◌≡◌, ◌≢◌, ℕ, List, [], ◌∷◌, ◌++◌, Option, Some, None, true, false, refl, sym, ap, ◌∙◌}
+use Rattle.std.specs.Prelude.{◌&&◌}
+use Rattle.std.specs.Prelude as std
+use Rattle.mini_syntax.specs.declared.blocks.StatementKind.TheVariants as a_statement
+use Rattle.mini_syntax.specs.declared.expected.Expected.{Expected}
+use Rattle.mini_syntax.specs.declared.expected.Expected.TheVariants as wants
+use Rattle.mini_syntax.specs.declared.expressions.FactorKind.TheVariants as a_factor
+use Rattle.mini_syntax.specs.declared.lexer.TokenKind.{TokenKind}
+use Rattle.mini_syntax.specs.declared.lexer.TokenKind.TheVariants as kind
+use Rattle.mini_syntax.specs.declared.mark.Mark.{Mark}
+use Rattle.mini_syntax.specs.declared.mark.Mark.TheVariants as mark
+use Rattle.mini_syntax.specs.declared.sort.Sort.{Sort}
+use Rattle.mini_syntax.specs.declared.word.Word.TheVariants as word
+use Rattle.mini_syntax.specs.declared.operator.Infix.{Infix}
+use Rattle.mini_syntax.specs.declared.operator.Prefix.{Prefix}
+use Rattle.mini_syntax.specs.declared.operator.Prefix.TheVariants as before
+use Rattle.mini_syntax.specs.Expected.{is_over, may_be_empty, same_mark, taken, takes}
+use Rattle.mini_syntax.specs.Lexemes.{next_kind}
+use Rattle.mini_syntax.specs.Phrases.{Completes, factor_kind, more_after, sort_declared, statement_kind}
+use Rattle.mini_syntax.specs.Phrases.{term_operator, sum_operator, relation_operator, conjunction_operator, disjunction_operator}
+use Rattle.mini_syntax.specs.Tokens.{Token, mark_at, word_at, kind_of, place_of, token_of}
+use Rattle.mini_syntax.proofs.ExpectedLaws.{Leads, none_taken}
+use Rattle.mini_syntax.proofs.GoesOnLaws.{bytes_of, same_marks, token_is}
+
+-- ---- trees and tokens in front
+
+pub moved : {from to : List Expected} (old ts us : List Token) → old ≡ ts ++ us → Leads from ts to → Completes from old → Completes to us
+moved {from} {to} old ts us e l c = record { last = c.last; taken_is = sym (l.on us) ∙ sym (ap (taken (Some from)) e) ∙ c.taken_is; over = c.over }
+
+pub stepped : (st st' : List Expected) (t : Token) (old ts : List Token) → old ≡ t ∷ ts → takes st (kind_of t) ≡ Some st' → Completes st old → Completes st' ts
+stepped st st' t old ts is e c = record {
+  last = c.last;
+  taken_is = sym (ap (λ (o : Option (List Expected)). taken o ts) e) ∙ sym (ap (taken (Some st)) is) ∙ c.taken_is;
+  over = c.over;
+}
+
+pub refused : (st : List Expected) (t : Token) (old ts : List Token) → old ≡ t ∷ ts → takes st (kind_of t) ≡ None → Completes st old → ⊥
+refused st t old ts is e c =
+    let both : None ≡ Some c.last = sym (none_taken ts) ∙ sym (ap (λ (o : Option (List Expected)). taken o ts) e) ∙ sym (ap (taken (Some st)) is) ∙ c.taken_is in
+    cc
+
+-- where something is wanted, a token is left
+pub not_over : (x : Expected) (st : List Expected) (ts : List Token) → may_be_empty x ≡ false → Completes (x ∷ st) ts → ts ≢ []
+not_over x st ts e c none =
+    let same : Some (x ∷ st) ≡ Some c.last = ap (taken (Some (x ∷ st))) (sym none) ∙ c.taken_is in
+    let stack : x ∷ st ≡ c.last = cc in
+    let bad : false ≡ true = sym (ap (λ (b : std.Bool). b && is_over st) e) ∙ ap is_over stack ∙ c.over in
+    cc
+
+-- nothing more is left
+pub nothing_left : (ts : List Token) → Completes [] ts → ts ≡ []
+nothing_left [] c = refl
+nothing_left (t ∷ ts) c = absurd (refused [] t (t ∷ ts) ts refl refl c)
+
+-- ---- what is left out at the next token
+
+skipped : (x : Expected) (st : List Expected) (ts : List Token) → may_be_empty x ≡ true → (ts ≢ [] → takes (x ∷ st) (next_kind ts) ≡ takes st (next_kind ts)) → Completes (x ∷ st) ts → Completes st ts
+skipped x st [] e skip c =
+    let stack : x ∷ st ≡ c.last = let same : Some (x ∷ st) ≡ Some c.last = c.taken_is in cc in
+    record { last = st; taken_is = refl; over = sym (ap (λ (b : std.Bool). b && is_over st) e) ∙ ap is_over stack ∙ c.over }
+skipped x st (t ∷ ts) e skip c =
+    let there : t ∷ ts ≢ [] = λ is. cc in
+    record { last = c.last; taken_is = sym (ap (λ (o : Option (List Expected)). taken o ts) (skip there)) ∙ c.taken_is; over = c.over }
+
+term_skips : (k : TokenKind) (st : List Expected) → term_operator k ≡ None → takes (wants.MoreTerm ∷ st) k ≡ takes st k
+term_skips (kind.Mark mark.Times) st e = cc
+term_skips k st e = refl
+
+sum_skips : (k : TokenKind) (st : List Expected) → sum_operator k ≡ None → takes (wants.MoreSum ∷ st) k ≡ takes st k
+sum_skips (kind.Mark mark.Plus) st e = cc
+sum_skips (kind.Mark mark.Minus) st e = cc
+sum_skips k st e = refl
+
+relation_skips : (k : TokenKind) (st : List Expected) → relation_operator k ≡ None → takes (wants.MoreRelation ∷ st) k ≡ takes st k
+relation_skips (kind.Mark mark.AtMost) st e = cc
+relation_skips (kind.Mark mark.Equals) st e = cc
+relation_skips k st e = refl
+
+conjunction_skips : (k : TokenKind) (st : List Expected) → conjunction_operator k ≡ None → takes (wants.MoreAnd ∷ st) k ≡ takes st k
+conjunction_skips (kind.Word word.And) st e = cc
+conjunction_skips k st e = refl
+
+disjunction_skips : (k : TokenKind) (st : List Expected) → disjunction_operator k ≡ None → takes (wants.MoreOr ∷ st) k ≡ takes st k
+disjunction_skips (kind.Word word.Or) st e = cc
+disjunction_skips k st e = refl
+
+declaration_skips : (k : TokenKind) (st : List Expected) → sort_declared k ≡ None → takes (wants.MoreDeclarations ∷ st) k ≡ takes st k
+declaration_skips (kind.Word (word.Sort s)) st e = cc
+declaration_skips k st e = refl
+
+statement_skips : (k : TokenKind) (st : List Expected) → statement_kind k ≡ None → takes (wants.MoreStatements ∷ st) k ≡ takes st k
+statement_skips kind.Name st e = cc
+statement_skips (kind.Word word.While) st e = cc
+statement_skips (kind.Word word.If) st e = cc
+statement_skips k st e = refl
+
+pub no_term : (st : List Expected) (ts : List Token) → None ≡ term_operator (next_kind ts) → Completes (wants.MoreTerm ∷ st) ts → Completes st ts
+no_term st ts e c = skipped wants.MoreTerm st ts refl (λ h. term_skips (next_kind ts) st (sym e)) c
+
+pub no_sum : (st : List Expected) (ts : List Token) → None ≡ sum_operator (next_kind ts) → Completes (wants.MoreSum ∷ st) ts → Completes st ts
+no_sum st ts e c = skipped wants.MoreSum st ts refl (λ h. sum_skips (next_kind ts) st (sym e)) c
+
+pub no_relation : (st : List Expected) (ts : List Token) → None ≡ relation_operator (next_kind ts) → Completes (wants.MoreRelation ∷ st) ts → Completes st ts
+no_relation st ts e c = skipped wants.MoreRelation st ts refl (λ h. relation_skips (next_kind ts) st (sym e)) c
+
+pub no_conjunction : (st : List Expected) (ts : List Token) → None ≡ conjunction_operator (next_kind ts) → Completes (wants.MoreAnd ∷ st) ts → Completes st ts
+no_conjunction st ts e c = skipped wants.MoreAnd st ts refl (λ h. conjunction_skips (next_kind ts) st (sym e)) c
+
+pub no_disjunction : (st : List Expected) (ts : List Token) → None ≡ disjunction_operator (next_kind ts) → Completes (wants.MoreOr ∷ st) ts → Completes st ts
+no_disjunction st ts e c = skipped wants.MoreOr st ts refl (λ h. disjunction_skips (next_kind ts) st (sym e)) c
+
+pub no_declaration : (st : List Expected) (ts : List Token) → None ≡ sort_declared (next_kind ts) → Completes (wants.MoreDeclarations ∷ st) ts → Completes st ts
+no_declaration st ts e c = skipped wants.MoreDeclarations st ts refl (λ h. declaration_skips (next_kind ts) st (sym e)) c
+
+pub no_statement : (st : List Expected) (ts : List Token) → None ≡ statement_kind (next_kind ts) → Completes (wants.MoreStatements ∷ st) ts → Completes st ts
+no_statement st ts e c = skipped wants.MoreStatements st ts refl (λ h. statement_skips (next_kind ts) st (sym e)) c
+
+-- ---- operators
+
+pub term_goes_on : (k : TokenKind) (op : Infix) (st : List Expected) → Some op ≡ term_operator k → takes (wants.MoreTerm ∷ st) k ≡ Some (wants.Operand ∷ wants.MoreTerm ∷ st)
+term_goes_on (kind.Mark mark.Times) op st e = refl
+term_goes_on k op st e = cc
+
+pub sum_goes_on : (k : TokenKind) (op : Infix) (st : List Expected) → Some op ≡ sum_operator k →
+    takes (wants.MoreTerm ∷ wants.MoreSum ∷ st) k ≡ Some (wants.Operand ∷ wants.MoreTerm ∷ wants.MoreSum ∷ st)
+sum_goes_on (kind.Mark mark.Plus) op st e = refl
+sum_goes_on (kind.Mark mark.Minus) op st e = refl
+sum_goes_on k op st e = cc
+
+pub relation_goes_on : (k : TokenKind) (op : Infix) (st : List Expected) → Some op ≡ relation_operator k →
+    takes (wants.MoreTerm ∷ wants.MoreSum ∷ wants.MoreRelation ∷ st) k ≡ Some (wants.Operand ∷ wants.MoreTerm ∷ wants.MoreSum ∷ st)
+relation_goes_on (kind.Mark mark.AtMost) op st e = refl
+relation_goes_on (kind.Mark mark.Equals) op st e = refl
+relation_goes_on k op st e = cc
+
+pub conjunction_goes_on : (k : TokenKind) (op : Infix) (b : std.Bool) (st : List Expected) → Some op ≡ conjunction_operator k →
+    takes (more_after b (wants.MoreAnd ∷ st)) k ≡ Some (wants.Operand ∷ wants.MoreTerm ∷ wants.MoreSum ∷ wants.MoreRelation ∷ wants.MoreAnd ∷ st)
+conjunction_goes_on (kind.Word word.And) op true st e = refl
+conjunction_goes_on (kind.Word word.And) op false st e = refl
+conjunction_goes_on k op b st e = cc
+
+pub disjunction_goes_on : (k : TokenKind) (op : Infix) (b : std.Bool) (st : List Expected) → Some op ≡ disjunction_operator k →
+    takes (more_after b (wants.MoreAnd ∷ wants.MoreOr ∷ st)) k ≡ Some (wants.Operand ∷ wants.MoreTerm ∷ wants.MoreSum ∷ wants.MoreRelation ∷ wants.MoreAnd ∷ wants.MoreOr ∷ st)
+disjunction_goes_on (kind.Word word.Or) op true st e = refl
+disjunction_goes_on (kind.Word word.Or) op false st e = refl
+disjunction_goes_on k op b st e = cc
+
+-- ---- a mark that is wanted
+
+mark_wanted : (m : Mark) (st : List Expected) (k : TokenKind) (last : List Expected) (ts : List Token) → taken (takes (wants.Mark m ∷ st) k) ts ≡ Some last → k ≡ kind.Mark m
+mark_wanted m st (kind.Mark n) last ts e = pick (same_mark m n) refl
+  where
+    pick : (b : std.Bool) → same_mark m n ≡ b → kind.Mark n ≡ kind.Mark m
+    pick true p = ap kind.Mark (sym (same_marks m n p))
+    pick false p =
+        let none : takes (wants.Mark m ∷ st) (kind.Mark n) ≡ None = rw p refl in
+        let both : None ≡ Some last = sym (none_taken ts) ∙ sym (ap (λ (o : Option (List Expected)). taken o ts) none) ∙ e in
+        cc
+mark_wanted m st k last ts e = let both : None ≡ Some last = sym (none_taken ts) ∙ e in cc
+
+-- a declaration begins with its sort
+pub sort_is : (sort : Sort) (k : TokenKind) → Some sort ≡ sort_declared k → k ≡ kind.Word (word.Sort sort)
+sort_is sort (kind.Word (word.Sort s)) e = let same : sort ≡ s = cc in ap (λ (x : Sort). kind.Word (word.Sort x)) (sym same)
+sort_is sort k e = cc
+
+-- the mark is the next token
+pub next_is_mark : (m : Mark) (st : List Expected) (t : Token) (old ts : List Token) → old ≡ t ∷ ts → Completes (wants.Mark m ∷ st) old → t ≡ mark_at (place_of t) m
+next_is_mark m st t old ts is c =
+    let e : taken (takes (wants.Mark m ∷ st) (kind_of t)) ts ≡ Some c.last = sym (ap (taken (Some (wants.Mark m ∷ st))) is) ∙ c.taken_is in
+    token_is t ∙ ap (λ (k : TokenKind). token_of k (place_of t) (bytes_of t)) (mark_wanted m st (kind_of t) c.last ts e)
+
+same_is : (m : Mark) → same_mark m m ≡ true
+same_is mark.Semicolon = refl
+same_is mark.Becomes = refl
+same_is mark.AtMost = refl
+same_is mark.Equals = refl
+same_is mark.Plus = refl
+same_is mark.Minus = refl
+same_is mark.Times = refl
+same_is mark.Open = refl
+same_is mark.Close = refl
+same_is mark.OpenBlock = refl
+same_is mark.CloseBlock = refl
+
+-- and then the rest is wanted
+pub after_mark : (m : Mark) (place : ℕ) (st : List Expected) (old ts : List Token) → old ≡ mark_at place m ∷ ts → Completes (wants.Mark m ∷ st) old → Completes st ts
+after_mark m place st old ts is c =
+    let here : takes (wants.Mark m ∷ st) (kind.Mark m) ≡ Some st = rw (same_is m) refl in
+    stepped (wants.Mark m ∷ st) st (mark_at place m) old ts is here c
+
+-- `else`
+else_wanted : (st : List Expected) (k : TokenKind) (last : List Expected) (ts : List Token) → taken (takes (wants.Else ∷ st) k) ts ≡ Some last → k ≡ kind.Word word.Else
+else_wanted st (kind.Word word.Else) last ts e = refl
+else_wanted st k last ts e = let both : None ≡ Some last = sym (none_taken ts) ∙ e in cc
+
+pub next_is_else : (st : List Expected) (t : Token) (old ts : List Token) → old ≡ t ∷ ts → Completes (wants.Else ∷ st) old → t ≡ word_at (place_of t) word.Else
+next_is_else st t old ts is c =
+    let e : taken (takes (wants.Else ∷ st) (kind_of t)) ts ≡ Some c.last = sym (ap (taken (Some (wants.Else ∷ st))) is) ∙ c.taken_is in
+    token_is t ∙ ap (λ (k : TokenKind). token_of k (place_of t) (bytes_of t)) (else_wanted st (kind_of t) c.last ts e)
+
+-- a name
+name_wanted : (st : List Expected) (k : TokenKind) (last : List Expected) (ts : List Token) → taken (takes (wants.Name ∷ st) k) ts ≡ Some last → k ≡ kind.Name
+name_wanted st kind.Name last ts e = refl
+name_wanted st k last ts e = let both : None ≡ Some last = sym (none_taken ts) ∙ e in cc
+
+pub next_is_name : (st : List Expected) (t : Token) (old ts : List Token) → old ≡ t ∷ ts → Completes (wants.Name ∷ st) old → kind_of t ≡ kind.Name
+next_is_name st t old ts is c =
+    let e : taken (takes (wants.Name ∷ st) (kind_of t)) ts ≡ Some c.last = sym (ap (taken (Some (wants.Name ∷ st))) is) ∙ c.taken_is in
+    name_wanted st (kind_of t) c.last ts e
+
+-- an operand begins with one of these
+operand_wanted : (st : List Expected) (k : TokenKind) (last : List Expected) (ts : List Token) → taken (takes (wants.Operand ∷ st) k) ts ≡ Some last → None ≡ factor_kind k → ⊥
+operand_wanted st kind.Name last ts e none = cc
+operand_wanted st kind.Number last ts e none = cc
+operand_wanted st (kind.Word (word.Truth b)) last ts e none = cc
+operand_wanted st (kind.Word word.Not) last ts e none = cc
+operand_wanted st (kind.Mark mark.Minus) last ts e none = cc
+operand_wanted st (kind.Mark mark.Open) last ts e none = cc
+operand_wanted st k last ts e none = let both : None ≡ Some last = sym (none_taken ts) ∙ e in cc
+
+pub next_is_operand : (st : List Expected) (t : Token) (old ts : List Token) → old ≡ t ∷ ts → Completes (wants.Operand ∷ st) old → None ≡ factor_kind (kind_of t) → ⊥
+next_is_operand st t old ts is c none =
+    let e : taken (takes (wants.Operand ∷ st) (kind_of t)) ts ≡ Some c.last = sym (ap (taken (Some (wants.Operand ∷ st))) is) ∙ c.taken_is in
+    operand_wanted st (kind_of t) c.last ts e none
+
+-- what the token is that begins a factor
+
+pub opens_name : (k : TokenKind) → Some a_factor.Variable ≡ factor_kind k → k ≡ kind.Name
+opens_name kind.Name e = refl
+opens_name (kind.Word (word.Truth b)) e = cc
+opens_name (kind.Word word.Not) e = cc
+opens_name (kind.Mark mark.Minus) e = cc
+opens_name (kind.Mark mark.Open) e = cc
+opens_name kind.Number e = cc
+opens_name k e = cc
+
+pub opens_number : (k : TokenKind) → Some a_factor.Number ≡ factor_kind k → k ≡ kind.Number
+opens_number kind.Number e = refl
+opens_number (kind.Word (word.Truth b)) e = cc
+opens_number (kind.Word word.Not) e = cc
+opens_number (kind.Mark mark.Minus) e = cc
+opens_number (kind.Mark mark.Open) e = cc
+opens_number kind.Name e = cc
+opens_number k e = cc
+
+pub opens_truth : (b : std.Bool) (k : TokenKind) → Some (a_factor.Truth b) ≡ factor_kind k → k ≡ kind.Word (word.Truth b)
+opens_truth b (kind.Word (word.Truth c)) e = let same : b ≡ c = cc in ap (λ (x : std.Bool). kind.Word (word.Truth x)) (sym same)
+opens_truth b (kind.Word word.Not) e = cc
+opens_truth b (kind.Mark mark.Minus) e = cc
+opens_truth b (kind.Mark mark.Open) e = cc
+opens_truth b kind.Name e = cc
+opens_truth b kind.Number e = cc
+opens_truth b k e = cc
+
+pub opens_bracket : (k : TokenKind) → Some a_factor.Bracket ≡ factor_kind k → k ≡ kind.Mark mark.Open
+opens_bracket (kind.Mark mark.Open) e = refl
+opens_bracket (kind.Word (word.Truth b)) e = cc
+opens_bracket (kind.Word word.Not) e = cc
+opens_bracket (kind.Mark mark.Minus) e = cc
+opens_bracket kind.Name e = cc
+opens_bracket kind.Number e = cc
+opens_bracket k e = cc
+
+-- the token of an operator before its operand
+abbrev pub prefix_kind : Prefix → TokenKind
+prefix_kind before.Not = kind.Word word.Not
+prefix_kind before.Minus = kind.Mark mark.Minus
+
+pub opens_prefix : (op : Prefix) (k : TokenKind) → Some (a_factor.Operator op) ≡ factor_kind k → k ≡ prefix_kind op
+opens_prefix op (kind.Word word.Not) e = let same : op ≡ before.Not = cc in ap prefix_kind (sym same)
+opens_prefix op (kind.Mark mark.Minus) e = let same : op ≡ before.Minus = cc in ap prefix_kind (sym same)
+opens_prefix op (kind.Word (word.Truth b)) e = cc
+opens_prefix op (kind.Mark mark.Open) e = cc
+opens_prefix op kind.Name e = cc
+opens_prefix op kind.Number e = cc
+opens_prefix op k e = cc
+
+pub prefix_goes_on : (op : Prefix) (st : List Expected) → takes (wants.Operand ∷ st) (prefix_kind op) ≡ Some (wants.Operand ∷ st)
+prefix_goes_on before.Not st = refl
+prefix_goes_on before.Minus st = refl
+
+-- and of a statement
+
+pub begins_with_name : (k : TokenKind) → Some a_statement.Assignment ≡ statement_kind k → k ≡ kind.Name
+begins_with_name kind.Name e = refl
+begins_with_name (kind.Word word.While) e = cc
+begins_with_name (kind.Word word.If) e = cc
+begins_with_name k e = cc
+
+pub begins_with_while : (k : TokenKind) → Some a_statement.While ≡ statement_kind k → k ≡ kind.Word word.While
+begins_with_while (kind.Word word.While) e = refl
+begins_with_while (kind.Word word.If) e = cc
+begins_with_while kind.Name e = cc
+begins_with_while k e = cc
+
+pub begins_with_if : (k : TokenKind) → Some a_statement.If ≡ statement_kind k → k ≡ kind.Word word.If
+begins_with_if (kind.Word word.If) e = refl
+begins_with_if (kind.Word word.While) e = cc
+begins_with_if kind.Name e = cc
+begins_with_if k e = cc

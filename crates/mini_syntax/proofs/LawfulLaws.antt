@@ -1,0 +1,326 @@
+-- A program within the limits that breaks no rule can be lowered.
+use Rattle.std.proofs.Common.{◌≡◌, ℕ, zero, suc, ◌+◌, ◌^◌, ◌<◌, ◌≤◌, max, List, [], ◌∷◌, ◌++◌, map, length, bytes_eq, true, false, cond, Option, Some, None, is_none, is_some, option_map, refl, sym, ap, ap₂, subst, ◌∙◌, append_assoc, arith}
+use Rattle.std.specs.Prelude.{slice_get, ◌==◌, ◌&&◌, nat_lt}
+use Rattle.std.specs.Prelude as std
+use Rattle.std.specs.List.{list_all}
+use Rattle.std.proofs.lemmas.Bool.{eqb-false, ltb-false}
+use Rattle.std.proofs.lemmas.List.{length-append}
+use Rattle.std.proofs.lemmas.Slice.Eq.{bytes_eq-Decides}
+use Rattle.stack_text.specs.Breaches.{when}
+use Rattle.mini_syntax.specs.Breaches.{breaches, body_of, decl_breaches, decls_breaches, declared_by, declared_of, is_too_large, named_from, names_of, number_of, or_first, variable_named, sort_named, infix_breaches, prefix_breaches, same_sort, assigns_breaches, test_breaches}
+use Rattle.mini_syntax.specs.Breaches.{disjunction_breaches, conjunction_breaches, relation_breaches, sum_breaches, term_breaches, factor_breaches}
+use Rattle.mini_syntax.specs.Breaches.{disjunction_sort, conjunction_sort, relation_sort, sum_sort, term_sort, factor_sort}
+use Rattle.mini_syntax.specs.Breaches.{disjunction_exp, conjunction_exp, relation_exp, sum_exp, term_exp, factor_exp}
+use Rattle.mini_syntax.specs.Breaches.{form_breaches, block_breaches, forms_breaches, form_stmt, block_stmt, forms_stmt}
+use Rattle.mini_syntax.specs.declared.program.Declared.{Declared}
+use Rattle.mini_syntax.specs.declared.scope.Variable.{Variable}
+use Rattle.mini_syntax.specs.declared.sort.Sort.{Sort}
+use Rattle.mini_syntax.specs.declared.sort.Sort.TheVariants.{Int, Bool}
+use Rattle.mini_syntax.specs.declared.operator.Prefix.{Prefix}
+use Rattle.mini_syntax.specs.declared.operator.Prefix.TheVariants as before
+use Rattle.mini_syntax.specs.declared.operator.Infix.{Infix}
+use Rattle.mini_syntax.specs.declared.operator.Infix.TheVariants as between
+use Rattle.mini_syntax.specs.Grammar.{Disjunction, conjunction, or, Conjunction, relation, and, Relation, sum, at_most, equals}
+use Rattle.mini_syntax.specs.Grammar.{Sum, term, add, subtract, Term, factor, multiply, Factor, variable, number, truth, not, minus, group}
+use Rattle.mini_syntax.specs.Grammar.{Form, assign, loop, branch, Block, block, Forms, no_forms, form, Decl, Program}
+use Rattle.mini_syntax.specs.Operands.{prefix_takes, infix_takes, prefix_sort, infix_sort, sort_of}
+use Rattle.mini_syntax.specs.Language.{Exp, Stmt}
+use Rattle.mini_syntax.specs.Language as language
+use Rattle.mini_syntax.specs.Lawful.{AreApart, IsLawful, levels, part_count, nth_name}
+use Rattle.mini_syntax.specs.Limits.{disjunction_operators, conjunction_operators, relation_operators, sum_operators, term_operators, factor_operators}
+use Rattle.mini_syntax.specs.Limits.{form_blocks, block_blocks, forms_blocks, FormIsSmall, BlockIsSmall, FormsAreSmall, KeepsLimits}
+use Rattle.mini_syntax.specs.Names.{is_variable_name}
+use Rattle.mini_syntax.specs.Sorted.{depth, IsSorted, IsFine, AreFine}
+use Rattle.mini_syntax.proofs.EmptyLaws.{two, three, fails, holds}
+
+-- ---- how deep an expression is
+
+mutual
+  disjunction_depth : (ds : List Declared) (e : Disjunction) → depth (disjunction_exp ds e) ≤ suc (disjunction_operators e)
+  disjunction_depth ds (conjunction c) = conjunction_depth ds c
+  disjunction_depth ds (or e place c) = let a = disjunction_depth ds e in let b = conjunction_depth ds c in omega (arith, a, b)
+
+  conjunction_depth : (ds : List Declared) (c : Conjunction) → depth (conjunction_exp ds c) ≤ suc (conjunction_operators c)
+  conjunction_depth ds (relation r) = relation_depth ds r
+  conjunction_depth ds (and c place r) = let a = conjunction_depth ds c in let b = relation_depth ds r in omega (arith, a, b)
+
+  relation_depth : (ds : List Declared) (r : Relation) → depth (relation_exp ds r) ≤ suc (relation_operators r)
+  relation_depth ds (sum s) = sum_depth ds s
+  relation_depth ds (at_most s place t) = let a = sum_depth ds s in let b = sum_depth ds t in omega (arith, a, b)
+  relation_depth ds (equals s place t) = let a = sum_depth ds s in let b = sum_depth ds t in omega (arith, a, b)
+
+  sum_depth : (ds : List Declared) (s : Sum) → depth (sum_exp ds s) ≤ suc (sum_operators s)
+  sum_depth ds (term t) = term_depth ds t
+  sum_depth ds (add s place t) = let a = sum_depth ds s in let b = term_depth ds t in omega (arith, a, b)
+  sum_depth ds (subtract s place t) = let a = sum_depth ds s in let b = term_depth ds t in omega (arith, a, b)
+
+  term_depth : (ds : List Declared) (t : Term) → depth (term_exp ds t) ≤ suc (term_operators t)
+  term_depth ds (factor f) = factor_depth ds f
+  term_depth ds (multiply t place f) = let a = term_depth ds t in let b = factor_depth ds f in omega (arith, a, b)
+
+  factor_depth : (ds : List Declared) (f : Factor) → depth (factor_exp ds f) ≤ suc (factor_operators f)
+  factor_depth ds (variable place name) = omega arith
+  factor_depth ds (number place digits) = omega arith
+  factor_depth ds (truth place b) = omega arith
+  factor_depth ds (not place f) = let a = factor_depth ds f in omega (arith, a)
+  factor_depth ds (minus place f) = let a = factor_depth ds f in omega (arith, a)
+  factor_depth ds (group place e closing) = disjunction_depth ds e
+
+-- ---- names
+
+-- what is known of a variable that is found behind n others
+record IsThere (n : ℕ) (ds : List Declared) (name : List ℕ) (v : Variable) : Type 0 where
+  i : ℕ
+  index : v.index ≡ n + i
+  sort : slice_get (map (λ (d : Declared). d.sort) ds) i ≡ Some v.sort
+  name_is : nth_name (names_of ds) i ≡ name
+
+found_there : (n : ℕ) (ds : List Declared) (name : List ℕ) (v : Variable) → named_from n ds name ≡ Some v → IsThere n ds name v
+found_there n [] name v e = cc
+found_there n (d ∷ ds) name v e = pick (bytes_eq name d.name) refl e (λ rest. found_there (n + 1) ds name v rest)
+  where
+    pick : (b : std.Bool) → bytes_eq name d.name ≡ b → cond b (Some record { index = n; sort = d.sort }) (named_from (n + 1) ds name) ≡ Some v → (named_from (n + 1) ds name ≡ Some v → IsThere (n + 1) ds name v) → IsThere n (d ∷ ds) name v
+    pick true p q later =
+        let same : record { index = n; sort = d.sort } ≡ v = cc in
+        record {
+          i = 0;
+          index = ap (λ (w : Variable). w.index) (sym same) ∙ (let e : n ≡ n + 0 = omega arith in e);
+          sort = ap (λ (w : Variable). Some w.sort) same;
+          name_is = sym ((bytes_eq-Decides name d.name).0 p);
+        }
+    pick false p q later =
+        let there = later q in
+        record { i = suc there.i; index = omega (arith, there.index); sort = there.sort; name_is = there.name_is }
+
+some_found : (o : Option Variable) → is_none o ≡ false → o ≡ Some (or_first o)
+some_found None e = cc
+some_found (Some v) e = refl
+
+variable_there : (ds : List Declared) (name : List ℕ) → is_none (variable_named ds name) ≡ false → IsThere 0 ds name (or_first (variable_named ds name))
+variable_there ds name e = found_there 0 ds name (or_first (variable_named ds name)) (some_found (variable_named ds name) e)
+
+-- a name that is declared is the one at its position
+pub name_there : (ds : List Declared) (name : List ℕ) → is_none (variable_named ds name) ≡ false → nth_name (names_of ds) (or_first (variable_named ds name)).index ≡ name
+name_there ds name e =
+    let v = variable_there ds name e in
+    let at : (or_first (variable_named ds name)).index ≡ v.i = omega (arith, v.index) in
+    ap (nth_name (names_of ds)) at ∙ v.name_is
+
+-- ---- sorts
+
+-- an expression is sorted, and its sort is known
+record Known (ds : List Declared) (s : Option Sort) (e : Exp) : Type 0 where
+  sorted : IsSorted (map (λ (d : Declared). d.sort) ds) e
+  sort : s ≡ Some (sort_of e)
+
+variable_known : (ds : List Declared) (name : List ℕ) → is_none (variable_named ds name) ≡ false →
+    Known ds (sort_named ds name) (language.Variable (or_first (variable_named ds name)).sort (or_first (variable_named ds name)).index)
+variable_known ds name e =
+    let v = variable_there ds name e in
+    let at : (or_first (variable_named ds name)).index ≡ v.i = omega (arith, v.index) in
+    record {
+      sorted = ap (slice_get (map (λ (d : Declared). d.sort) ds)) at ∙ v.sort;
+      sort = ap (option_map (λ (w : Variable). w.sort)) (some_found (variable_named ds name) e);
+    }
+
+infix_known : (ds : List Declared) (place : ℕ) (op : Infix) (s t : Option Sort) (a b : Exp) → Known ds s a → Known ds t b → infix_breaches place op s t ≡ [] →
+    Known ds (Some (infix_sort op)) (language.Between op a b)
+infix_known ds place op s t a b p r e = record {
+  sorted = (p.sorted, r.sorted, holds (infix_takes op (sort_of a) (sort_of b)) place 7 (sym (ap₂ (infix_breaches place op) p.sort r.sort) ∙ e));
+  sort = refl;
+}
+
+prefix_known : (ds : List Declared) (place : ℕ) (op : Prefix) (s : Option Sort) (a : Exp) → Known ds s a → prefix_breaches place op s ≡ [] → Known ds (Some (prefix_sort op)) (language.Before op a)
+prefix_known ds place op s a p e = record {
+  sorted = (p.sorted, holds (prefix_takes op (sort_of a)) place 7 (sym (ap (prefix_breaches place op) p.sort) ∙ e));
+  sort = refl;
+}
+
+mutual
+  disjunction_known : (ds : List Declared) (e : Disjunction) → disjunction_breaches ds e ≡ [] → Known ds (disjunction_sort ds e) (disjunction_exp ds e)
+  disjunction_known ds (conjunction c) h = conjunction_known ds c h
+  disjunction_known ds (or e place c) h =
+      let k = three (disjunction_breaches ds e) (conjunction_breaches ds c) (infix_breaches place between.Or (disjunction_sort ds e) (conjunction_sort ds c)) h in
+      infix_known ds place between.Or (disjunction_sort ds e) (conjunction_sort ds c) (disjunction_exp ds e) (conjunction_exp ds c) (disjunction_known ds e k.0) (conjunction_known ds c k.1) k.2
+
+  conjunction_known : (ds : List Declared) (c : Conjunction) → conjunction_breaches ds c ≡ [] → Known ds (conjunction_sort ds c) (conjunction_exp ds c)
+  conjunction_known ds (relation r) h = relation_known ds r h
+  conjunction_known ds (and c place r) h =
+      let k = three (conjunction_breaches ds c) (relation_breaches ds r) (infix_breaches place between.And (conjunction_sort ds c) (relation_sort ds r)) h in
+      infix_known ds place between.And (conjunction_sort ds c) (relation_sort ds r) (conjunction_exp ds c) (relation_exp ds r) (conjunction_known ds c k.0) (relation_known ds r k.1) k.2
+
+  relation_known : (ds : List Declared) (r : Relation) → relation_breaches ds r ≡ [] → Known ds (relation_sort ds r) (relation_exp ds r)
+  relation_known ds (sum s) h = sum_known ds s h
+  relation_known ds (at_most s place t) h =
+      let k = three (sum_breaches ds s) (sum_breaches ds t) (infix_breaches place between.AtMost (sum_sort ds s) (sum_sort ds t)) h in
+      infix_known ds place between.AtMost (sum_sort ds s) (sum_sort ds t) (sum_exp ds s) (sum_exp ds t) (sum_known ds s k.0) (sum_known ds t k.1) k.2
+  relation_known ds (equals s place t) h =
+      let k = three (sum_breaches ds s) (sum_breaches ds t) (infix_breaches place between.Equals (sum_sort ds s) (sum_sort ds t)) h in
+      infix_known ds place between.Equals (sum_sort ds s) (sum_sort ds t) (sum_exp ds s) (sum_exp ds t) (sum_known ds s k.0) (sum_known ds t k.1) k.2
+
+  sum_known : (ds : List Declared) (s : Sum) → sum_breaches ds s ≡ [] → Known ds (sum_sort ds s) (sum_exp ds s)
+  sum_known ds (term t) h = term_known ds t h
+  sum_known ds (add s place t) h =
+      let k = three (sum_breaches ds s) (term_breaches ds t) (infix_breaches place between.Add (sum_sort ds s) (term_sort ds t)) h in
+      infix_known ds place between.Add (sum_sort ds s) (term_sort ds t) (sum_exp ds s) (term_exp ds t) (sum_known ds s k.0) (term_known ds t k.1) k.2
+  sum_known ds (subtract s place t) h =
+      let k = three (sum_breaches ds s) (term_breaches ds t) (infix_breaches place between.Subtract (sum_sort ds s) (term_sort ds t)) h in
+      infix_known ds place between.Subtract (sum_sort ds s) (term_sort ds t) (sum_exp ds s) (term_exp ds t) (sum_known ds s k.0) (term_known ds t k.1) k.2
+
+  term_known : (ds : List Declared) (t : Term) → term_breaches ds t ≡ [] → Known ds (term_sort ds t) (term_exp ds t)
+  term_known ds (factor f) h = factor_known ds f h
+  term_known ds (multiply t place f) h =
+      let k = three (term_breaches ds t) (factor_breaches ds f) (infix_breaches place between.Multiply (term_sort ds t) (factor_sort ds f)) h in
+      infix_known ds place between.Multiply (term_sort ds t) (factor_sort ds f) (term_exp ds t) (factor_exp ds f) (term_known ds t k.0) (factor_known ds f k.1) k.2
+
+  factor_known : (ds : List Declared) (f : Factor) → factor_breaches ds f ≡ [] → Known ds (factor_sort ds f) (factor_exp ds f)
+  factor_known ds (variable place name) h = variable_known ds name (fails (is_none (variable_named ds name)) place 6 h)
+  factor_known ds (number place digits) h = record { sorted = small (is_too_large (number_of digits)) refl; sort = refl }
+    where
+      small : (b : std.Bool) → is_too_large (number_of digits) ≡ b → cond b 0 (number_of digits) < 2 ^ 31
+      small true e = omega arith
+      small false e = let le : number_of digits ≤ 2147483647 = ltb-false 2147483647 (number_of digits) e in omega (arith, le)
+  factor_known ds (truth place b) h = record { sorted = tt; sort = refl }
+  factor_known ds (not place f) h =
+      let k = two (factor_breaches ds f) (prefix_breaches place before.Not (factor_sort ds f)) h in
+      prefix_known ds place before.Not (factor_sort ds f) (factor_exp ds f) (factor_known ds f k.0) k.1
+  factor_known ds (minus place f) h =
+      let k = two (factor_breaches ds f) (prefix_breaches place before.Minus (factor_sort ds f)) h in
+      prefix_known ds place before.Minus (factor_sort ds f) (factor_exp ds f) (factor_known ds f k.0) k.1
+  factor_known ds (group place e closing) h = disjunction_known ds e h
+
+-- ---- statements
+
+same_sorts : (s t : Sort) → same_sort s t ≡ true → s ≡ t
+same_sorts Int Int e = refl
+same_sorts Int Bool e = cc
+same_sorts Bool Int e = cc
+same_sorts Bool Bool e = refl
+
+fine_of : (ds : List Declared) (e : Disjunction) (s : Sort) → disjunction_breaches ds e ≡ [] → disjunction_operators e ≤ 40 → sort_of (disjunction_exp ds e) ≡ s → IsFine (map (λ (d : Declared). d.sort) ds) s (disjunction_exp ds e)
+fine_of ds e s clean small same = record {
+  sorted = (disjunction_known ds e clean).sorted;
+  same = same;
+  shallow = let deep = disjunction_depth ds e in omega (arith, deep, small);
+}
+
+test_fine : (ds : List Declared) (place : ℕ) (e : Disjunction) → test_breaches place (disjunction_sort ds e) ≡ [] → disjunction_breaches ds e ≡ [] → disjunction_operators e ≤ 40 → IsFine (map (λ (d : Declared). d.sort) ds) Bool (disjunction_exp ds e)
+test_fine ds place e test clean small =
+    fine_of ds e Bool clean small
+    (same_sorts (sort_of (disjunction_exp ds e)) Bool (holds (same_sort (sort_of (disjunction_exp ds e)) Bool) place 7 (sym (ap (test_breaches place) (disjunction_known ds e clean).sort) ∙ test)))
+
+mutual
+  form_fine : (ds : List Declared) (f : Form) → form_breaches ds f ≡ [] → FormIsSmall f → AreFine (map (λ (d : Declared). d.sort) ds) (form_stmt ds f)
+  form_fine ds (assign place name becomes e closing) h small =
+      let k = three (when (is_none (variable_named ds name)) place 6) (disjunction_breaches ds e) (assigns_breaches becomes (sort_named ds name) (disjunction_sort ds e)) h in
+      let known = variable_known ds name (fails (is_none (variable_named ds name)) place 6 k.0) in
+      let s = (or_first (variable_named ds name)).sort in
+      let same : s ≡ sort_of (disjunction_exp ds e) =
+      same_sorts s (sort_of (disjunction_exp ds e))
+      (holds (same_sort s (sort_of (disjunction_exp ds e))) becomes 7
+      (sym (ap₂ (assigns_breaches becomes) known.sort (disjunction_known ds e k.1).sort) ∙ k.2)) in
+      (known.sorted ∙ ap Some same, fine_of ds e (sort_of (disjunction_exp ds e)) k.1 small.0 refl)
+  form_fine ds (loop place e b) h small =
+      let k = three (disjunction_breaches ds e) (test_breaches place (disjunction_sort ds e)) (block_breaches ds b) h in
+      (test_fine ds place e k.1 k.0 small.0.0, block_fine ds b k.2 small.1)
+  form_fine ds (branch place e b otherwise c) h small =
+      let k = three (disjunction_breaches ds e) (test_breaches place (disjunction_sort ds e)) (block_breaches ds b ++ block_breaches ds c) h in
+      let l = two (block_breaches ds b) (block_breaches ds c) k.2 in
+      (test_fine ds place e k.1 k.0 small.0.0, block_fine ds b l.0 small.1, block_fine ds c l.1 small.2)
+
+  block_fine : (ds : List Declared) (b : Block) → block_breaches ds b ≡ [] → BlockIsSmall b → AreFine (map (λ (d : Declared). d.sort) ds) (block_stmt ds b)
+  block_fine ds (block place fs closing) h small = forms_fine ds fs h small
+
+  forms_fine : (ds : List Declared) (fs : Forms) → forms_breaches ds fs ≡ [] → FormsAreSmall fs → AreFine (map (λ (d : Declared). d.sort) ds) (forms_stmt ds fs)
+  forms_fine ds no_forms h small = tt
+  forms_fine ds (form f rest) h small =
+      let k = two (form_breaches ds f) (forms_breaches ds rest) h in
+      (form_fine ds f k.0 small.0, forms_fine ds rest k.1 small.1)
+
+-- blocks nest as in the text
+mutual
+  form_levels : (ds : List Declared) (f : Form) → levels (form_stmt ds f) ≡ form_blocks f
+  form_levels ds (assign place name becomes e closing) = refl
+  form_levels ds (loop place e b) = block_levels ds b
+  form_levels ds (branch place e b otherwise c) = let a = block_levels ds b in let d = block_levels ds c in omega (arith, a, d)
+
+  block_levels : (ds : List Declared) (b : Block) → suc (levels (block_stmt ds b)) ≡ block_blocks b
+  block_levels ds (block place fs closing) = ap suc (forms_levels ds fs)
+
+  forms_levels : (ds : List Declared) (fs : Forms) → levels (forms_stmt ds fs) ≡ forms_blocks fs
+  forms_levels ds no_forms = refl
+  forms_levels ds (form f rest) = ap₂ max (form_levels ds f) (forms_levels ds rest)
+
+-- ---- declarations
+
+few_declared : (earlier : List Declared) (ds : List Decl) → length earlier ≤ 100 → decls_breaches earlier ds ≡ [] → length earlier + length ds ≤ 100
+few_declared earlier [] le h = omega arith
+few_declared earlier (d ∷ ds) le h =
+    let k = two (decl_breaches earlier d) (decls_breaches (earlier ++ declared_by d ∷ []) ds) h in
+    let l = two (when (is_some (variable_named earlier d.name)) d.place 5) (when (length earlier == 100) d.place 9) k.0 in
+    let differs = eqb-false (length earlier) 100 (fails (length earlier == 100) d.place 9 l.1) in
+    let longer = length-append earlier (declared_by d ∷ []) in
+    let rest = few_declared (earlier ++ declared_by d ∷ []) ds (omega (arith, differs, longer)) k.1 in
+    omega (arith, rest, longer)
+
+-- a name that isn't found is none of these
+none_named : (n : ℕ) (front : List Declared) (d : Declared) (back : List Declared) (name : List ℕ) → is_some (named_from n (front ++ d ∷ back) name) ≡ false → bytes_eq name d.name ≡ false
+none_named n [] d back name e = pick (bytes_eq name d.name) e
+  where
+    pick : (b : std.Bool) → is_some (cond b (Some record { index = n; sort = d.sort }) (named_from (n + 1) back name)) ≡ false → b ≡ false
+    pick true q = cc
+    pick false q = refl
+none_named n (c ∷ front) d back name e = pick (bytes_eq name c.name) e (λ rest. none_named (n + 1) front d back name rest)
+  where
+    pick : (b : std.Bool) → is_some (cond b (Some record { index = n; sort = c.sort }) (named_from (n + 1) (front ++ d ∷ back) name)) ≡ false →
+        (is_some (named_from (n + 1) (front ++ d ∷ back) name) ≡ false → bytes_eq name d.name ≡ false) → bytes_eq name d.name ≡ false
+    pick true q later = cc
+    pick false q later = later q
+
+-- a later name is none of the earlier ones
+new_names : (front : List Declared) (d : Declared) (back : List Declared) (ds : List Decl) → decls_breaches (front ++ d ∷ back) ds ≡ [] → (i : ℕ) → i < length (map (λ (e : Decl). e.name) ds) →
+    bytes_eq (nth_name (map (λ (e : Decl). e.name) ds) i) d.name ≡ false
+new_names front d back [] h i lt = absurd (omega arith)
+new_names front d back (e ∷ ds) h zero lt =
+    let k = two (decl_breaches (front ++ d ∷ back) e) (decls_breaches ((front ++ d ∷ back) ++ declared_by e ∷ []) ds) h in
+    let l = two (when (is_some (variable_named (front ++ d ∷ back) e.name)) e.place 5) (when (length (front ++ d ∷ back) == 100) e.place 9) k.0 in
+    none_named 0 front d back e.name (fails (is_some (variable_named (front ++ d ∷ back) e.name)) e.place 5 l.0)
+new_names front d back (e ∷ ds) h (suc i) lt =
+    let k = two (decl_breaches (front ++ d ∷ back) e) (decls_breaches ((front ++ d ∷ back) ++ declared_by e ∷ []) ds) h in
+    let moved : (front ++ d ∷ back) ++ declared_by e ∷ [] ≡ front ++ d ∷ (back ++ declared_by e ∷ []) = append_assoc front (d ∷ back) (declared_by e ∷ []) in
+    new_names front d (back ++ declared_by e ∷ []) ds (ap (λ (earlier : List Declared). decls_breaches earlier ds) (sym moved) ∙ k.1) i (omega arith)
+
+apart_names : (earlier : List Declared) (ds : List Decl) → decls_breaches earlier ds ≡ [] → AreApart (map (λ (d : Decl). d.name) ds)
+apart_names earlier [] h = tt
+apart_names earlier (d ∷ ds) h =
+    let k = two (decl_breaches earlier d) (decls_breaches (earlier ++ declared_by d ∷ []) ds) h in
+    (new_names earlier (declared_by d) [] ds k.1, apart_names (earlier ++ declared_by d ∷ []) ds k.1)
+
+declared_names : (ds : List Decl) → map (λ (d : Declared). d.name) (map declared_by ds) ≡ map (λ (d : Decl). d.name) ds
+declared_names [] = refl
+declared_names (d ∷ ds) = ap (λ (ns : List (List ℕ)). d.name ∷ ns) (declared_names ds)
+
+declared_good : (ds : List Decl) → list_all (λ (d : Decl). is_variable_name d.name) ds ≡ true → list_all (λ (d : Declared). is_variable_name d.name) (map declared_by ds) ≡ true
+declared_good [] h = refl
+declared_good (d ∷ ds) h = pick (is_variable_name d.name) (list_all (λ (e : Decl). is_variable_name e.name) ds) (declared_good ds) h
+  where
+    pick : (p q : std.Bool) → (q ≡ true → list_all (λ (e : Declared). is_variable_name e.name) (map declared_by ds) ≡ true) → (p && q) ≡ true →
+        (p && list_all (λ (e : Declared). is_variable_name e.name) (map declared_by ds)) ≡ true
+    pick true q later e = later e
+    pick false q later e = cc
+
+declared_count : (ds : List Decl) → length (map declared_by ds) ≡ length ds
+declared_count [] = refl
+declared_count (d ∷ ds) = ap suc (declared_count ds)
+
+pub rules_make_lawful : (p : Program) → KeepsLimits p → breaches p ≡ [] → part_count (body_of p) ≤ 2 ^ 20 → IsLawful (declared_of p) (body_of p)
+rules_make_lawful p limits clean short =
+    let k = two (decls_breaches [] p.decls) (forms_breaches (declared_of p) p.forms) clean in
+    record {
+      names = declared_good p.decls limits.names;
+      apart = subst AreApart (sym (declared_names p.decls)) (apart_names [] p.decls k.0);
+      few = let few = few_declared [] p.decls (omega arith) k.0 in omega (arith, few, declared_count p.decls);
+      fine = forms_fine (declared_of p) p.forms k.1 limits.expressions;
+      shallow = let same = forms_levels (declared_of p) p.forms in omega (arith, same, limits.blocks);
+      short = short;
+    }

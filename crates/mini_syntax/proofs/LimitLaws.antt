@@ -1,0 +1,405 @@
+-- A program of whose tokens none breaks rule 3 or 4 is within the limits.
+use Rattle.std.proofs.Common.{◌≡◌, ℕ, suc, ◌+◌, ◌<◌, ◌≤◌, max, List, [], ◌∷◌, ◌++◌, true, false, cond, refl, sym, ap, subst, ◌∙◌, append_assoc, ⊎_elim, arith}
+use Rattle.std.specs.Prelude.{◌^◌, length}
+use Rattle.std.specs.Prelude as std
+use Rattle.std.proofs.lemmas.Bool.{cases_lt}
+use Rattle.std.proofs.lemmas.List.{append-nil}
+use Rattle.mini_syntax.specs.Breaches.{breaches}
+use Rattle.mini_syntax.specs.declared.lexer.TokenKind.{TokenKind}
+use Rattle.mini_syntax.specs.declared.lexer.TokenKind.TheVariants as kind
+use Rattle.mini_syntax.specs.declared.mark.Mark.{Mark}
+use Rattle.mini_syntax.specs.declared.mark.Mark.TheVariants as mark
+use Rattle.mini_syntax.specs.declared.word.Word.{Word}
+use Rattle.mini_syntax.specs.declared.word.Word.TheVariants as word
+use Rattle.mini_syntax.specs.Faults.{AreFree, blocks, brackets, too_many, begins_expression, closes_block, closes_bracket, count_of, is_operator, open_blocks, open_brackets, operators, operators_from, opens_block, opens_bracket}
+use Rattle.mini_syntax.specs.Grammar.{Disjunction, conjunction, or, Conjunction, relation, and, Relation, sum, at_most, equals}
+use Rattle.mini_syntax.specs.Grammar.{Sum, term, add, subtract, Term, factor, multiply, Factor, variable, number, truth, not, minus, group}
+use Rattle.mini_syntax.specs.Grammar.{Form, assign, loop, branch, Block, block, Forms, no_forms, form, Decl, Program, GoesOn, IsProgram}
+use Rattle.mini_syntax.specs.Grammar.{disjunction_tokens, conjunction_tokens, relation_tokens, sum_tokens, term_tokens, factor_tokens}
+use Rattle.mini_syntax.specs.Grammar.{form_tokens, block_tokens, forms_tokens, decl_tokens, decls_tokens, program_tokens}
+use Rattle.mini_syntax.specs.Limits.{disjunction_operators, conjunction_operators, relation_operators, sum_operators, term_operators, factor_operators}
+use Rattle.mini_syntax.specs.Limits.{disjunction_brackets, conjunction_brackets, relation_brackets, sum_brackets, term_brackets, factor_brackets}
+use Rattle.mini_syntax.specs.Limits.{form_blocks, block_blocks, forms_blocks, IsSmall, FormIsSmall, BlockIsSmall, FormsAreSmall}
+use Rattle.mini_syntax.specs.Tokens.{Token, name_at, word_at, mark_at, kind_of, tokens_in}
+use Rattle.mini_syntax.proofs.SpanLaws.{IsShort, text_is_lawful}
+
+-- ---- each token within the limits, after those before it
+
+record Fits (before : List Token) (t : Token) : Type 0 where
+  bracket : opens_bracket (kind_of t) ≡ true → open_brackets before < 40
+  block : opens_block (kind_of t) ≡ true → open_blocks before < 40
+  operator : is_operator (kind_of t) ≡ true → operators before < 40
+
+abbrev Keeps : List Token → List Token → Type 0
+Keeps before [] = Unit {0}
+Keeps before (t ∷ ts) = Fits before t × Keeps (before ++ t ∷ []) ts
+
+fits_at : (p : Program) (before : List Token) (t : Token) (after : List Token) → AreFree (program_tokens p) → program_tokens p ≡ before ++ t ∷ after → Fits before t
+fits_at p before t after free is = record {
+  bracket = λ h. ⊎_elim (λ lt. lt) (λ le. absurd (free before t after 3 is (brackets t goes h le))) (cases_lt (open_brackets before) 40);
+  block = λ h. ⊎_elim (λ lt. lt) (λ le. absurd (free before t after 3 is (blocks t goes h le))) (cases_lt (open_blocks before) 40);
+  operator = λ h. ⊎_elim (λ lt. lt) (λ le. absurd (free before t after 4 is (too_many t goes h le))) (cases_lt (operators before) 40);
+}
+  where
+    goes : GoesOn (before ++ t ∷ [])
+    goes = (p, after, is ∙ sym (append_assoc before (t ∷ []) after))
+
+keeps_all : (p : Program) (before ts : List Token) → AreFree (program_tokens p) → program_tokens p ≡ before ++ ts → Keeps before ts
+keeps_all p before [] free is = tt
+keeps_all p before (t ∷ ts) free is = (fits_at p before t ts free is, keeps_all p (before ++ t ∷ []) ts free (is ∙ sym (append_assoc before (t ∷ []) ts)))
+
+record Parts (before a b : List Token) : Type 0 where
+  first : Keeps before a
+  second : Keeps (before ++ a) b
+
+keeps_parts : (before a b : List Token) → Keeps before (a ++ b) → Parts before a b
+keeps_parts before [] b k = record { first = tt; second = subst (λ (x : List Token). Keeps x b) (sym (append-nil before)) k }
+keeps_parts before (t ∷ a) b k =
+    let rest = keeps_parts (before ++ t ∷ []) a b k.1 in
+    record { first = (k.0, rest.first); second = subst (λ (x : List Token). Keeps x b) (append_assoc before (t ∷ []) a) rest.second }
+
+-- ---- counts
+
+pub count_append : (test : TokenKind → std.Bool) (a b : List Token) → count_of test (a ++ b) ≡ count_of test a + count_of test b
+count_append test [] b = omega arith
+count_append test (t ∷ a) b = let rest = count_append test a b in omega (arith, rest)
+
+pub operators_append : (n : ℕ) (a b : List Token) → operators_from n (a ++ b) ≡ operators_from (operators_from n a) b
+operators_append n [] b = refl
+operators_append n (t ∷ a) b = operators_append (cond (begins_expression (kind_of t)) 0 (cond (is_operator (kind_of t)) (n + 1) n)) a b
+
+-- what an expression's tokens do to the counts: as many brackets are closed as are opened, and no blocks
+record Even (ts : List Token) (ops : ℕ) : Type 0 where
+  brackets : count_of opens_bracket ts ≡ count_of closes_bracket ts
+  opened : count_of opens_block ts ≡ 0
+  closed : count_of closes_block ts ≡ 0
+  operators : (n : ℕ) → operators_from n ts ≡ n + ops
+
+-- an operator between
+even_infix : (a b : List Token) (t : Token) (m n : ℕ) → Even a m → Even b n → Even (t ∷ []) 1 → Even (a ++ t ∷ b) (suc (m + n))
+even_infix a b t m n l r o = record {
+  brackets = omega (arith, l.brackets, r.brackets, o.brackets, count_append opens_bracket a (t ∷ b), count_append closes_bracket a (t ∷ b), count_append opens_bracket (t ∷ []) b, count_append closes_bracket (t ∷ []) b);
+  opened = omega (arith, l.opened, r.opened, o.opened, count_append opens_block a (t ∷ b), count_append opens_block (t ∷ []) b);
+  closed = omega (arith, l.closed, r.closed, o.closed, count_append closes_block a (t ∷ b), count_append closes_block (t ∷ []) b);
+  operators = λ k.
+      operators_append k a (t ∷ b) ∙ operators_append (operators_from k a) (t ∷ []) b ∙ r.operators (operators_from (operators_from k a) (t ∷ []))
+      ∙ ap (λ (x : ℕ). x + n) (o.operators (operators_from k a) ∙ ap (λ (x : ℕ). x + 1) (l.operators k))
+      ∙ (let sums : k + m + 1 + n ≡ k + suc (m + n) = omega arith in sums);
+}
+
+even_mark : (place : ℕ) (m : Mark) → opens_bracket (kind.Mark m) ≡ false → closes_bracket (kind.Mark m) ≡ false → opens_block (kind.Mark m) ≡ false → closes_block (kind.Mark m) ≡ false
+    → begins_expression (kind.Mark m) ≡ false → is_operator (kind.Mark m) ≡ true → Even (mark_at place m ∷ []) 1
+even_mark place m a b c d e f = record {
+  brackets = rw (a, b) refl;
+  opened = rw c refl;
+  closed = rw d refl;
+  operators = λ n. rw (e, f) refl;
+}
+
+even_word : (place : ℕ) (w : Word) → begins_expression (kind.Word w) ≡ false → is_operator (kind.Word w) ≡ true → Even (word_at place w ∷ []) 1
+even_word place w e f = record { brackets = refl; opened = refl; closed = refl; operators = λ n. rw (e, f) refl }
+
+even_prefix : (a : List Token) (t : Token) (m : ℕ) → Even (t ∷ []) 1 → Even a m → Even (t ∷ a) (suc m)
+even_prefix a t m o l = record {
+  brackets = omega (arith, l.brackets, o.brackets, count_append opens_bracket (t ∷ []) a, count_append closes_bracket (t ∷ []) a);
+  opened = omega (arith, l.opened, o.opened, count_append opens_block (t ∷ []) a);
+  closed = omega (arith, l.closed, o.closed, count_append closes_block (t ∷ []) a);
+  operators = λ k. operators_append k (t ∷ []) a ∙ l.operators (operators_from k (t ∷ [])) ∙ ap (λ (x : ℕ). x + m) (o.operators k) ∙ (let sums : k + 1 + m ≡ k + suc m = omega arith in sums);
+}
+
+mutual
+  disjunction_even : (e : Disjunction) → Even (disjunction_tokens e) (disjunction_operators e)
+  disjunction_even (conjunction c) = conjunction_even c
+  disjunction_even (or e place c) = even_infix (disjunction_tokens e) (conjunction_tokens c) (word_at place word.Or) (disjunction_operators e) (conjunction_operators c) (disjunction_even e) (conjunction_even c) (even_word place word.Or refl refl)
+
+  conjunction_even : (c : Conjunction) → Even (conjunction_tokens c) (conjunction_operators c)
+  conjunction_even (relation r) = relation_even r
+  conjunction_even (and c place r) = even_infix (conjunction_tokens c) (relation_tokens r) (word_at place word.And) (conjunction_operators c) (relation_operators r) (conjunction_even c) (relation_even r) (even_word place word.And refl refl)
+
+  relation_even : (r : Relation) → Even (relation_tokens r) (relation_operators r)
+  relation_even (sum s) = sum_even s
+  relation_even (at_most s place t) = even_infix (sum_tokens s) (sum_tokens t) (mark_at place mark.AtMost) (sum_operators s) (sum_operators t) (sum_even s) (sum_even t) (even_mark place mark.AtMost refl refl refl refl refl refl)
+  relation_even (equals s place t) = even_infix (sum_tokens s) (sum_tokens t) (mark_at place mark.Equals) (sum_operators s) (sum_operators t) (sum_even s) (sum_even t) (even_mark place mark.Equals refl refl refl refl refl refl)
+
+  sum_even : (s : Sum) → Even (sum_tokens s) (sum_operators s)
+  sum_even (term t) = term_even t
+  sum_even (add s place t) = even_infix (sum_tokens s) (term_tokens t) (mark_at place mark.Plus) (sum_operators s) (term_operators t) (sum_even s) (term_even t) (even_mark place mark.Plus refl refl refl refl refl refl)
+  sum_even (subtract s place t) = even_infix (sum_tokens s) (term_tokens t) (mark_at place mark.Minus) (sum_operators s) (term_operators t) (sum_even s) (term_even t) (even_mark place mark.Minus refl refl refl refl refl refl)
+
+  term_even : (t : Term) → Even (term_tokens t) (term_operators t)
+  term_even (factor f) = factor_even f
+  term_even (multiply t place f) = even_infix (term_tokens t) (factor_tokens f) (mark_at place mark.Times) (term_operators t) (factor_operators f) (term_even t) (factor_even f) (even_mark place mark.Times refl refl refl refl refl refl)
+
+  factor_even : (f : Factor) → Even (factor_tokens f) (factor_operators f)
+  factor_even (variable place name) = record { brackets = refl; opened = refl; closed = refl; operators = λ n. omega arith }
+  factor_even (number place digits) = record { brackets = refl; opened = refl; closed = refl; operators = λ n. omega arith }
+  factor_even (truth place b) = record { brackets = refl; opened = refl; closed = refl; operators = λ n. omega arith }
+  factor_even (not place f) = even_prefix (factor_tokens f) (word_at place word.Not) (factor_operators f) (even_word place word.Not refl refl) (factor_even f)
+  factor_even (minus place f) = even_prefix (factor_tokens f) (mark_at place mark.Minus) (factor_operators f) (even_mark place mark.Minus refl refl refl refl refl refl) (factor_even f)
+  factor_even (group place e closing) =
+      let l = disjunction_even e in
+      record {
+        brackets = omega (arith, l.brackets, count_append opens_bracket (disjunction_tokens e) (mark_at closing mark.Close ∷ []), count_append closes_bracket (disjunction_tokens e) (mark_at closing mark.Close ∷ []));
+        opened = omega (arith, l.opened, count_append opens_block (disjunction_tokens e) (mark_at closing mark.Close ∷ []));
+        closed = omega (arith, l.closed, count_append closes_block (disjunction_tokens e) (mark_at closing mark.Close ∷ []));
+        operators = λ n. operators_append n (disjunction_tokens e) (mark_at closing mark.Close ∷ []) ∙ l.operators n;
+      }
+
+-- ---- the limits of an expression
+
+-- so many brackets are open, and so many operators came before
+record Stands (before : List Token) (n k : ℕ) : Type 0 where
+  brackets : count_of opens_bracket before ≡ count_of closes_bracket before + n
+  operators : operators before ≡ k
+  few : n ≤ 40
+  small : k ≤ 40
+
+record Within (n k b ops : ℕ) : Type 0 where
+  brackets : n + b ≤ 40
+  operators : k + ops ≤ 40
+
+after_even : (before ts : List Token) (n k ops : ℕ) → Even ts ops → k + ops ≤ 40 → Stands before n k → Stands (before ++ ts) n (k + ops)
+after_even before ts n k ops even le s = record {
+  brackets = omega (arith, s.brackets, even.brackets, count_append opens_bracket before ts, count_append closes_bracket before ts);
+  operators = operators_append 0 before ts ∙ even.operators (operators before) ∙ ap (λ (x : ℕ). x + ops) s.operators;
+  few = s.few;
+  small = le;
+}
+
+infix_within : (before a b : List Token) (t : Token) (n k l m c d : ℕ) → Keeps before (a ++ t ∷ b) → Stands before n k → Even a l → Even (t ∷ []) 1 → is_operator (kind_of t) ≡ true
+    → (Keeps before a → Within n k c l) → ((before' : List Token) (k' : ℕ) → Keeps before' b → Stands before' n k' → Within n k' d m) → Within n k (max c d) (suc (l + m))
+infix_within before a b t n k l m c d keeps s even one is left right =
+    let parts = keeps_parts before a (t ∷ b) keeps in
+    let first = left parts.first in
+    let here = after_even before a n k l even first.operators s in
+    let lt = parts.second.0.operator is in
+    let next = after_even (before ++ a) (t ∷ []) n (k + l) 1 one (omega (arith, lt, here.operators)) here in
+    let second = right ((before ++ a) ++ t ∷ []) (k + l + 1) parts.second.1 next in
+    record { brackets = omega (arith, first.brackets, second.brackets); operators = omega (arith, second.operators) }
+
+prefix_within : (before a : List Token) (t : Token) (n k m d : ℕ) → Keeps before (t ∷ a) → Stands before n k → Even (t ∷ []) 1 → is_operator (kind_of t) ≡ true
+    → ((before' : List Token) (k' : ℕ) → Keeps before' a → Stands before' n k' → Within n k' d m) → Within n k d (suc m)
+prefix_within before a t n k m d keeps s one is right =
+    let lt = keeps.0.operator is in
+    let next = after_even before (t ∷ []) n k 1 one (omega (arith, lt, s.operators)) s in
+    let second = right (before ++ t ∷ []) (k + 1) keeps.1 next in
+    record { brackets = second.brackets; operators = omega (arith, second.operators) }
+
+leaf_within : (before : List Token) (n k : ℕ) → Stands before n k → Within n k 0 0
+leaf_within before n k s = record { brackets = omega (arith, s.few); operators = omega (arith, s.small) }
+
+mutual
+  disjunction_within : (e : Disjunction) (before : List Token) (n k : ℕ) → Keeps before (disjunction_tokens e) → Stands before n k → Within n k (disjunction_brackets e) (disjunction_operators e)
+  disjunction_within (conjunction c) before n k keeps s = conjunction_within c before n k keeps s
+  disjunction_within (or e place c) before n k keeps s =
+      infix_within before (disjunction_tokens e) (conjunction_tokens c) (word_at place word.Or) n k (disjunction_operators e) (conjunction_operators c) (disjunction_brackets e) (conjunction_brackets c) keeps s (disjunction_even e) (even_word place word.Or refl refl) refl
+      (λ h. disjunction_within e before n k h s) (λ before' k' h s'. conjunction_within c before' n k' h s')
+
+  conjunction_within : (c : Conjunction) (before : List Token) (n k : ℕ) → Keeps before (conjunction_tokens c) → Stands before n k → Within n k (conjunction_brackets c) (conjunction_operators c)
+  conjunction_within (relation r) before n k keeps s = relation_within r before n k keeps s
+  conjunction_within (and c place r) before n k keeps s =
+      infix_within before (conjunction_tokens c) (relation_tokens r) (word_at place word.And) n k (conjunction_operators c) (relation_operators r) (conjunction_brackets c) (relation_brackets r) keeps s (conjunction_even c) (even_word place word.And refl refl) refl
+      (λ h. conjunction_within c before n k h s) (λ before' k' h s'. relation_within r before' n k' h s')
+
+  relation_within : (r : Relation) (before : List Token) (n k : ℕ) → Keeps before (relation_tokens r) → Stands before n k → Within n k (relation_brackets r) (relation_operators r)
+  relation_within (sum s) before n k keeps st = sum_within s before n k keeps st
+  relation_within (at_most s place t) before n k keeps st =
+      infix_within before (sum_tokens s) (sum_tokens t) (mark_at place mark.AtMost) n k (sum_operators s) (sum_operators t) (sum_brackets s) (sum_brackets t) keeps st (sum_even s) (even_mark place mark.AtMost refl refl refl refl refl refl) refl
+      (λ h. sum_within s before n k h st) (λ before' k' h s'. sum_within t before' n k' h s')
+  relation_within (equals s place t) before n k keeps st =
+      infix_within before (sum_tokens s) (sum_tokens t) (mark_at place mark.Equals) n k (sum_operators s) (sum_operators t) (sum_brackets s) (sum_brackets t) keeps st (sum_even s) (even_mark place mark.Equals refl refl refl refl refl refl) refl
+      (λ h. sum_within s before n k h st) (λ before' k' h s'. sum_within t before' n k' h s')
+
+  sum_within : (s : Sum) (before : List Token) (n k : ℕ) → Keeps before (sum_tokens s) → Stands before n k → Within n k (sum_brackets s) (sum_operators s)
+  sum_within (term t) before n k keeps st = term_within t before n k keeps st
+  sum_within (add s place t) before n k keeps st =
+      infix_within before (sum_tokens s) (term_tokens t) (mark_at place mark.Plus) n k (sum_operators s) (term_operators t) (sum_brackets s) (term_brackets t) keeps st (sum_even s) (even_mark place mark.Plus refl refl refl refl refl refl) refl
+      (λ h. sum_within s before n k h st) (λ before' k' h s'. term_within t before' n k' h s')
+  sum_within (subtract s place t) before n k keeps st =
+      infix_within before (sum_tokens s) (term_tokens t) (mark_at place mark.Minus) n k (sum_operators s) (term_operators t) (sum_brackets s) (term_brackets t) keeps st (sum_even s) (even_mark place mark.Minus refl refl refl refl refl refl) refl
+      (λ h. sum_within s before n k h st) (λ before' k' h s'. term_within t before' n k' h s')
+
+  term_within : (t : Term) (before : List Token) (n k : ℕ) → Keeps before (term_tokens t) → Stands before n k → Within n k (term_brackets t) (term_operators t)
+  term_within (factor f) before n k keeps st = factor_within f before n k keeps st
+  term_within (multiply t place f) before n k keeps st =
+      infix_within before (term_tokens t) (factor_tokens f) (mark_at place mark.Times) n k (term_operators t) (factor_operators f) (term_brackets t) (factor_brackets f) keeps st (term_even t) (even_mark place mark.Times refl refl refl refl refl refl) refl
+      (λ h. term_within t before n k h st) (λ before' k' h s'. factor_within f before' n k' h s')
+
+  factor_within : (f : Factor) (before : List Token) (n k : ℕ) → Keeps before (factor_tokens f) → Stands before n k → Within n k (factor_brackets f) (factor_operators f)
+  factor_within (variable place name) before n k keeps s = leaf_within before n k s
+  factor_within (number place digits) before n k keeps s = leaf_within before n k s
+  factor_within (truth place b) before n k keeps s = leaf_within before n k s
+  factor_within (not place f) before n k keeps s =
+      prefix_within before (factor_tokens f) (word_at place word.Not) n k (factor_operators f) (factor_brackets f) keeps s (even_word place word.Not refl refl) refl (λ before' k' h s'. factor_within f before' n k' h s')
+  factor_within (minus place f) before n k keeps s =
+      prefix_within before (factor_tokens f) (mark_at place mark.Minus) n k (factor_operators f) (factor_brackets f) keeps s (even_mark place mark.Minus refl refl refl refl refl refl) refl (λ before' k' h s'. factor_within f before' n k' h s')
+  factor_within (group place e closing) before n k keeps s =
+      let lt = keeps.0.bracket refl in
+      let opening : Token = mark_at place mark.Open in
+      let next : Stands (before ++ opening ∷ []) (suc n) k =
+      record {
+        brackets = omega (arith, s.brackets, count_append opens_bracket before (opening ∷ []), count_append closes_bracket before (opening ∷ []));
+        operators = operators_append 0 before (opening ∷ []) ∙ s.operators;
+        few = omega (arith, lt, s.brackets);
+        small = s.small;
+      } in
+      let inner = disjunction_within e (before ++ opening ∷ []) (suc n) k (keeps_parts (before ++ opening ∷ []) (disjunction_tokens e) (mark_at closing mark.Close ∷ []) keeps.1).first next in
+      record { brackets = omega (arith, inner.brackets); operators = inner.operators }
+
+-- ---- statements
+
+-- brackets and blocks are closed as often as they are opened
+record Closed (ts : List Token) : Type 0 where
+  brackets : count_of opens_bracket ts ≡ count_of closes_bracket ts
+  blocks : count_of opens_block ts ≡ count_of closes_block ts
+
+closed_append : (a b : List Token) → Closed a → Closed b → Closed (a ++ b)
+closed_append a b l r = record {
+  brackets = omega (arith, l.brackets, r.brackets, count_append opens_bracket a b, count_append closes_bracket a b);
+  blocks = omega (arith, l.blocks, r.blocks, count_append opens_block a b, count_append closes_block a b);
+}
+
+closed_even : (a : List Token) (n : ℕ) → Even a n → Closed a
+closed_even a n e = record { brackets = e.brackets; blocks = e.opened ∙ sym e.closed }
+
+closed_word : (place : ℕ) (w : Word) → Closed (word_at place w ∷ [])
+closed_word place w = record { brackets = refl; blocks = refl }
+
+mutual
+  form_closed : (f : Form) → Closed (form_tokens f)
+  form_closed (assign place name becomes e closing) =
+      closed_append (name_at place name ∷ mark_at becomes mark.Becomes ∷ []) (disjunction_tokens e ++ mark_at closing mark.Semicolon ∷ []) record { brackets = refl; blocks = refl }
+      (closed_append (disjunction_tokens e) (mark_at closing mark.Semicolon ∷ []) (closed_even (disjunction_tokens e) (disjunction_operators e) (disjunction_even e)) record { brackets = refl; blocks = refl })
+  form_closed (loop place e b) =
+      closed_append (word_at place word.While ∷ []) (disjunction_tokens e ++ block_tokens b) (closed_word place word.While)
+      (closed_append (disjunction_tokens e) (block_tokens b) (closed_even (disjunction_tokens e) (disjunction_operators e) (disjunction_even e)) (block_closed b))
+  form_closed (branch place e b otherwise c) =
+      closed_append (word_at place word.If ∷ []) (disjunction_tokens e ++ (block_tokens b ++ word_at otherwise word.Else ∷ block_tokens c)) (closed_word place word.If)
+      (closed_append (disjunction_tokens e) (block_tokens b ++ word_at otherwise word.Else ∷ block_tokens c) (closed_even (disjunction_tokens e) (disjunction_operators e) (disjunction_even e))
+      (closed_append (block_tokens b) (word_at otherwise word.Else ∷ block_tokens c) (block_closed b)
+      (closed_append (word_at otherwise word.Else ∷ []) (block_tokens c) (closed_word otherwise word.Else) (block_closed c))))
+
+  block_closed : (b : Block) → Closed (block_tokens b)
+  block_closed (block place fs closing) =
+      let c = forms_closed fs in
+      let close : List Token = mark_at closing mark.CloseBlock ∷ [] in
+      record {
+        brackets = omega (arith, c.brackets, count_append opens_bracket (forms_tokens fs) close, count_append closes_bracket (forms_tokens fs) close);
+        blocks = omega (arith, c.blocks, count_append opens_block (forms_tokens fs) close, count_append closes_block (forms_tokens fs) close);
+      }
+
+  forms_closed : (fs : Forms) → Closed (forms_tokens fs)
+  forms_closed no_forms = record { brackets = refl; blocks = refl }
+  forms_closed (form f rest) = closed_append (form_tokens f) (forms_tokens rest) (form_closed f) (forms_closed rest)
+
+-- no bracket is open, and so many blocks
+record Level (before : List Token) (m : ℕ) : Type 0 where
+  brackets : count_of opens_bracket before ≡ count_of closes_bracket before
+  blocks : count_of opens_block before ≡ count_of closes_block before + m
+  few : m ≤ 40
+
+level_after : (before ts : List Token) (m : ℕ) → Level before m → Closed ts → Level (before ++ ts) m
+level_after before ts m l c = record {
+  brackets = omega (arith, l.brackets, c.brackets, count_append opens_bracket before ts, count_append closes_bracket before ts);
+  blocks = omega (arith, l.blocks, c.blocks, count_append opens_block before ts, count_append closes_block before ts);
+  few = l.few;
+}
+
+-- where an expression begins
+stands_at : (before : List Token) (t : Token) (m : ℕ) → Level before m → opens_bracket (kind_of t) ≡ false → closes_bracket (kind_of t) ≡ false → begins_expression (kind_of t) ≡ true → Stands (before ++ t ∷ []) 0 0
+stands_at before t m l a b c = record {
+  brackets =
+      let one : count_of opens_bracket (t ∷ []) ≡ 0 = rw a refl in
+      let two : count_of closes_bracket (t ∷ []) ≡ 0 = rw b refl in
+      omega (arith, l.brackets, one, two, count_append opens_bracket before (t ∷ []), count_append closes_bracket before (t ∷ []));
+  operators = operators_append 0 before (t ∷ []) ∙ rw c refl;
+  few = omega arith;
+  small = omega arith;
+}
+
+record SmallForm (f : Form) (m : ℕ) : Type 0 where
+  small : FormIsSmall f
+  blocks : m + form_blocks f ≤ 40
+
+record SmallBlock (b : Block) (m : ℕ) : Type 0 where
+  small : BlockIsSmall b
+  blocks : m + block_blocks b ≤ 40
+
+record SmallForms (fs : Forms) (m : ℕ) : Type 0 where
+  small : FormsAreSmall fs
+  blocks : m + forms_blocks fs ≤ 40
+
+expression_small : (before : List Token) (e : Disjunction) → Keeps before (disjunction_tokens e) → Stands before 0 0 → IsSmall e
+expression_small before e keeps s = let w = disjunction_within e before 0 0 keeps s in (omega (arith, w.operators), omega (arith, w.brackets))
+
+mutual
+  form_within : (f : Form) (before : List Token) (m : ℕ) → Keeps before (form_tokens f) → Level before m → SmallForm f m
+  form_within (assign place name becomes e closing) before m keeps l =
+      let named : List Token = before ++ name_at place name ∷ [] in
+      let s = stands_at named (mark_at becomes mark.Becomes) m (level_after before (name_at place name ∷ []) m l record { brackets = refl; blocks = refl }) refl refl refl in
+      let parts = keeps_parts (named ++ mark_at becomes mark.Becomes ∷ []) (disjunction_tokens e) (mark_at closing mark.Semicolon ∷ []) keeps.1.1 in
+      record { small = expression_small (named ++ mark_at becomes mark.Becomes ∷ []) e parts.first s; blocks = omega (arith, l.few) }
+  form_within (loop place e b) before m keeps l =
+      let w : Token = word_at place word.While in
+      let s = stands_at before w m l refl refl refl in
+      let parts = keeps_parts (before ++ w ∷ []) (disjunction_tokens e) (block_tokens b) keeps.1 in
+      let here = level_after (before ++ w ∷ []) (disjunction_tokens e) m (level_after before (w ∷ []) m l (closed_word place word.While)) (closed_even (disjunction_tokens e) (disjunction_operators e) (disjunction_even e)) in
+      let inner = block_within b ((before ++ w ∷ []) ++ disjunction_tokens e) m parts.second here in
+      record { small = (expression_small (before ++ w ∷ []) e parts.first s, inner.small); blocks = inner.blocks }
+  form_within (branch place e b otherwise c) before m keeps l =
+      let w : Token = word_at place word.If in
+      let other : Token = word_at otherwise word.Else in
+      let s = stands_at before w m l refl refl refl in
+      let parts = keeps_parts (before ++ w ∷ []) (disjunction_tokens e) (block_tokens b ++ other ∷ block_tokens c) keeps.1 in
+      let here = level_after (before ++ w ∷ []) (disjunction_tokens e) m (level_after before (w ∷ []) m l (closed_word place word.If)) (closed_even (disjunction_tokens e) (disjunction_operators e) (disjunction_even e)) in
+      let at : List Token = (before ++ w ∷ []) ++ disjunction_tokens e in
+      let two = keeps_parts at (block_tokens b) (other ∷ block_tokens c) parts.second in
+      let first = block_within b at m two.first here in
+      let there = level_after (at ++ block_tokens b) (other ∷ []) m (level_after at (block_tokens b) m here (block_closed b)) (closed_word otherwise word.Else) in
+      let second = block_within c ((at ++ block_tokens b) ++ other ∷ []) m two.second.1 there in
+      record { small = (expression_small (before ++ w ∷ []) e parts.first s, first.small, second.small); blocks = omega (arith, first.blocks, second.blocks) }
+
+  block_within : (b : Block) (before : List Token) (m : ℕ) → Keeps before (block_tokens b) → Level before m → SmallBlock b m
+  block_within (block place fs closing) before m keeps l =
+      let opening : Token = mark_at place mark.OpenBlock in
+      let lt = keeps.0.block refl in
+      let next : Level (before ++ opening ∷ []) (suc m) =
+      record {
+        brackets = omega (arith, l.brackets, count_append opens_bracket before (opening ∷ []), count_append closes_bracket before (opening ∷ []));
+        blocks = omega (arith, l.blocks, count_append opens_block before (opening ∷ []), count_append closes_block before (opening ∷ []));
+        few = omega (arith, lt, l.blocks);
+      } in
+      let inner = forms_within fs (before ++ opening ∷ []) (suc m) (keeps_parts (before ++ opening ∷ []) (forms_tokens fs) (mark_at closing mark.CloseBlock ∷ []) keeps.1).first next in
+      record { small = inner.small; blocks = omega (arith, inner.blocks) }
+
+  forms_within : (fs : Forms) (before : List Token) (m : ℕ) → Keeps before (forms_tokens fs) → Level before m → SmallForms fs m
+  forms_within no_forms before m keeps l = record { small = tt; blocks = omega (arith, l.few) }
+  forms_within (form f rest) before m keeps l =
+      let parts = keeps_parts before (form_tokens f) (forms_tokens rest) keeps in
+      let first = form_within f before m parts.first l in
+      let others = forms_within rest (before ++ form_tokens f) m parts.second (level_after before (form_tokens f) m l (form_closed f)) in
+      record { small = (first.small, others.small); blocks = omega (arith, first.blocks, others.blocks) }
+
+-- ---- programs
+
+decls_closed : (ds : List Decl) → Closed (decls_tokens ds)
+decls_closed [] = record { brackets = refl; blocks = refl }
+decls_closed (d ∷ ds) =
+    closed_append (decl_tokens d) (decls_tokens ds) record { brackets = refl; blocks = refl } (decls_closed ds)
+
+pub record IsWithin (p : Program) : Type 0 where
+  pub small : FormsAreSmall p.forms
+  pub blocks : forms_blocks p.forms ≤ 40
+
+pub free_within : (p : Program) → AreFree (program_tokens p) → IsWithin p
+free_within p free =
+    let parts = keeps_parts [] (decls_tokens p.decls) (forms_tokens p.forms) (keeps_all p [] (program_tokens p) free refl) in
+    let closed = decls_closed p.decls in
+    let w = forms_within p.forms (decls_tokens p.decls) 0 parts.second record { brackets = closed.brackets; blocks = omega (arith, closed.blocks); few = omega arith } in
+    record { small = w.small; blocks = omega (arith, w.blocks) }
+
+-- a text of which no token breaks a rule, and whose program breaks none
+pub free_is_lawful : (text : List ℕ) (p : Program) → IsProgram text p → length text ≤ 2 ^ 20 → AreFree (tokens_in text) → breaches p ≡ [] → IsShort text p
+free_is_lawful text p is few free clean =
+    let within = free_within p (subst AreFree is free) in
+    text_is_lawful text p is few within.small within.blocks clean

@@ -1,0 +1,419 @@
+-- What a text's length and its tokens say of its program.
+use Rattle.std.proofs.Common.{◌≡◌, ℕ, suc, ◌+◌, ◌^◌, ◌≤◌, max, List, [], ◌∷◌, ◌++◌, map, length, find, true, false, cond, Option, Some, None, is_none, bytes_eq, refl, sym, ap, ap₂, ◌∙◌, arith}
+use Rattle.std.specs.Prelude.{◌&&◌, ◌||◌, ◌==◌, nat_le}
+use Rattle.std.specs.Prelude as std
+use Rattle.std.specs.Char.{is_ascii_alphabetic, is_ascii_digit, is_ascii_lowercase, is_ascii_uppercase}
+use Rattle.std.specs.List.{list_all}
+use Rattle.std.proofs.lemmas.List.{length-append}
+use Rattle.std.proofs.lemmas.Slice.Eq.{bytes_eq-Decides}
+use Rattle.stack_text.specs.Breaches.{when}
+use Rattle.stack_text.specs.Names.{begins_with_letter}
+use Rattle.mini_syntax.specs.Breaches.{breaches, body_of, decls_breaches, declared_by, declared_of, variable_named, sort_named, infix_breaches, prefix_breaches, assigns_breaches, test_breaches}
+use Rattle.mini_syntax.specs.Breaches.{disjunction_breaches, conjunction_breaches, relation_breaches, sum_breaches, term_breaches, factor_breaches}
+use Rattle.mini_syntax.specs.Breaches.{disjunction_sort, conjunction_sort, relation_sort, sum_sort, term_sort, factor_sort}
+use Rattle.mini_syntax.specs.Breaches.{disjunction_exp, conjunction_exp, relation_exp, sum_exp, term_exp, factor_exp}
+use Rattle.mini_syntax.specs.Breaches.{form_breaches, block_breaches, forms_breaches, form_stmt, block_stmt, forms_stmt}
+use Rattle.mini_syntax.specs.Declaring.{are_proper, is_proper}
+use Rattle.mini_syntax.specs.declared.lexer.TokenKind.TheVariants as kind
+use Rattle.mini_syntax.specs.declared.mark.Mark.{Mark}
+use Rattle.mini_syntax.specs.declared.mark.Mark.TheVariants as mark
+use Rattle.mini_syntax.specs.declared.word.Word.{Word}
+use Rattle.mini_syntax.specs.declared.word.Word.TheVariants as word
+use Rattle.mini_syntax.specs.declared.program.Declared.{Declared}
+use Rattle.mini_syntax.specs.declared.sort.Sort.{Sort}
+use Rattle.mini_syntax.specs.declared.sort.Sort.TheVariants.{Int, Bool}
+use Rattle.mini_syntax.specs.declared.operator.Prefix.TheVariants as before
+use Rattle.mini_syntax.specs.declared.operator.Infix.{Infix}
+use Rattle.mini_syntax.specs.declared.operator.Infix.TheVariants as between
+use Rattle.mini_syntax.specs.Grammar.{Disjunction, conjunction, or, Conjunction, relation, and, Relation, sum, at_most, equals}
+use Rattle.mini_syntax.specs.Grammar.{Sum, term, add, subtract, Term, factor, multiply, Factor, variable, number, truth, not, minus, group}
+use Rattle.mini_syntax.specs.Grammar.{Form, assign, loop, branch, Block, block, Forms, no_forms, form, Decl, Program, IsProgram}
+use Rattle.mini_syntax.specs.Grammar.{disjunction_tokens, conjunction_tokens, relation_tokens, sum_tokens, term_tokens, factor_tokens}
+use Rattle.mini_syntax.specs.Grammar.{form_tokens, block_tokens, forms_tokens, decls_tokens}
+use Rattle.mini_syntax.specs.Language.{Exp, Stmt}
+use Rattle.mini_syntax.specs.Language as language
+use Rattle.mini_syntax.specs.Lawful.{IsLawful, part_count, size_of}
+use Rattle.mini_syntax.specs.Limits.{FormsAreSmall, forms_blocks}
+use Rattle.mini_syntax.specs.Names.{is_variable_name, is_word_byte, spelling, word_named, words}
+use Rattle.mini_syntax.specs.Spelled.{bytes_of_all, declared_bytes, exp_bytes, program_bytes, stmt_bytes, token_bytes}
+use Rattle.mini_syntax.specs.Tokens.{Token, name_at, number_at, word_at, mark_at, wrong_at, Mode, after_fresh, begins, fresh, is_blank, is_pair, mark_of, mark_token, named_kind, next, run_of, second_is, token_of, tokens, tokens_in, word_token}
+use Rattle.mini_syntax.specs.Tokens as mode
+use Rattle.mini_syntax.proofs.EmptyLaws.{two, three, fails}
+use Rattle.mini_syntax.proofs.LawfulLaws.{name_there, rules_make_lawful}
+use Rattle.mini_syntax.proofs.VariableLaws.{and_parts}
+
+-- ---- the bytes of the tokens are those of the text, or fewer
+
+-- bytes that were counted at the token's beginning
+abbrev covered : Mode → List ℕ → ℕ
+covered mode.between text = 0
+covered mode.in_word text = length (run_of is_word_byte text)
+covered mode.in_number text = length (run_of is_ascii_digit text)
+covered mode.in_pair [] = 0
+covered mode.in_pair (b ∷ text) = 1
+
+run_more : (test : ℕ → std.Bool) (b : ℕ) (text : List ℕ) → length (run_of test (b ∷ text)) ≤ suc (length (run_of test text))
+run_more test b text = pick (test b)
+  where
+    pick : (c : std.Bool) → length (cond c (b ∷ run_of test text) []) ≤ suc (length (run_of test text))
+    pick true = omega arith
+    pick false = omega arith
+
+found_passes : (test : Word → std.Bool) (ws : List Word) (w : Word) → find test ws ≡ Some w → test w ≡ true
+found_passes test [] w e = cc
+found_passes test (v ∷ ws) w e = pick (test v) refl e (λ rest. found_passes test ws w rest)
+  where
+    pick : (b : std.Bool) → test v ≡ b → cond b (Some v) (find test ws) ≡ Some w → (find test ws ≡ Some w → test w ≡ true) → test w ≡ true
+    pick true p q later = let same : v ≡ w = cc in ap test (sym same) ∙ p
+    pick false p q later = later q
+
+-- a word is as long as its bytes
+spelling_length : (bytes : List ℕ) (w : Word) → word_named bytes ≡ Some w → length (spelling w) ≡ length bytes
+spelling_length bytes w e = ap length (sym ((bytes_eq-Decides bytes (spelling w)).0 (found_passes (λ v. bytes_eq bytes (spelling v)) words w e)))
+
+word_bytes : (at : ℕ) (bytes : List ℕ) → token_bytes (word_token at bytes) ≤ max 1 (length bytes)
+word_bytes at bytes = pick (nat_le (length bytes) 60) (word_named bytes) refl
+  where
+    pick : (c : std.Bool) (o : Option Word) → word_named bytes ≡ o → token_bytes (token_of (cond c (named_kind o) kind.Wrong) at bytes) ≤ max 1 (length bytes)
+    pick true None e = omega arith
+    pick true (Some w) e = let same = spelling_length bytes w e in omega (arith, same)
+    pick false o e = omega arith
+
+pub no_pair : (byte : ℕ) → is_pair (mark_of byte []) ≡ false
+no_pair byte = pick (byte == 59) (byte == 58) (byte == 60) (byte == 61) (byte == 43) (byte == 45) (byte == 42) (byte == 40) (byte == 41) (byte == 123) (byte == 125)
+  where
+    pick : (a b c d e f g h i j k : std.Bool) → is_pair (cond a (Some mark.Semicolon) (cond b None (cond c None (cond d (Some mark.Equals) (cond e (Some mark.Plus) (cond f (Some mark.Minus)
+        (cond g (Some mark.Times) (cond h (Some mark.Open) (cond i (Some mark.Close) (cond j (Some mark.OpenBlock) (cond k (Some mark.CloseBlock) None))))))))))) ≡ false
+    pick true b c d e f g h i j k = refl
+    pick false true c d e f g h i j k = refl
+    pick false false true d e f g h i j k = refl
+    pick false false false true e f g h i j k = refl
+    pick false false false false true f g h i j k = refl
+    pick false false false false false true g h i j k = refl
+    pick false false false false false false true h i j k = refl
+    pick false false false false false false false true i j k = refl
+    pick false false false false false false false false true j k = refl
+    pick false false false false false false false false false true k = refl
+    pick false false false false false false false false false false true = refl
+    pick false false false false false false false false false false false = refl
+
+pair_more : (byte : ℕ) (rest : List ℕ) → is_pair (mark_of byte rest) ≡ true → 1 ≤ covered mode.in_pair rest
+pair_more byte [] e = let n = no_pair byte in cc
+pair_more byte (b ∷ rest) e = omega arith
+
+-- so many bytes are left for each way to go on
+record Enough (at : ℕ) (rest : List ℕ) : Type 0 where
+  enough : (m : Mode) → bytes_of_all (tokens m at rest) + covered m rest ≤ length rest
+
+fresh_fits : (at byte : ℕ) (rest : List ℕ) → Enough (at + 1) rest → bytes_of_all (fresh at byte rest ++ tokens (after_fresh byte rest) (at + 1) rest) ≤ suc (length rest)
+fresh_fits at byte rest later = pick (is_blank byte) (is_ascii_alphabetic byte) (is_ascii_digit byte) (mark_of byte rest) (pair_more byte rest)
+  where
+    by_mark : (m : Mark) → (is_pair (Some m) ≡ true → 1 ≤ covered mode.in_pair rest) →
+        bytes_of_all (mark_at at m ∷ tokens (cond (is_pair (Some m)) mode.in_pair mode.between) (at + 1) rest) ≤ suc (length rest)
+    by_mark m more = by_pair (is_pair (Some m)) more
+      where
+        by_pair : (c : std.Bool) → (c ≡ true → 1 ≤ covered mode.in_pair rest) → cond c 2 1 + bytes_of_all (tokens (cond c mode.in_pair mode.between) (at + 1) rest) ≤ suc (length rest)
+        by_pair true more = let e = later.enough mode.in_pair in let one = more refl in omega (arith, e, one)
+        by_pair false more = let e = later.enough mode.between in omega (arith, e)
+
+    pick : (blank letter digit : std.Bool) (mk : Option Mark) → (is_pair mk ≡ true → 1 ≤ covered mode.in_pair rest) →
+        bytes_of_all (cond blank [] (cond letter (word_token at (run_of is_word_byte (byte ∷ rest)) ∷ []) (cond digit (number_at at (run_of is_ascii_digit (byte ∷ rest)) ∷ []) (mark_token at mk ∷ []))) ++
+        tokens (cond letter mode.in_word (cond digit mode.in_number (cond (is_pair mk) mode.in_pair mode.between))) (at + 1) rest) ≤ suc (length rest)
+    pick true letter digit mk more = let e = later.enough (cond letter mode.in_word (cond digit mode.in_number (cond (is_pair mk) mode.in_pair mode.between))) in omega (arith, e)
+    pick false true digit mk more =
+        let e = later.enough mode.in_word in
+        omega (arith, e, word_bytes at (run_of is_word_byte (byte ∷ rest)), run_more is_word_byte byte rest)
+    pick false false true mk more = let e = later.enough mode.in_number in omega (arith, e, run_more is_ascii_digit byte rest)
+    pick false false false None more = let e = later.enough mode.between in omega (arith, e)
+    pick false false false (Some m) more = by_mark m more
+
+all_fit : (text : List ℕ) (at : ℕ) → Enough at text
+unfolding tokens
+all_fit [] at = record { enough = none }
+  where
+    none : (m : Mode) → bytes_of_all (tokens m at []) + covered m [] ≤ 0
+    none mode.between = omega arith
+    none mode.in_word = omega arith
+    none mode.in_number = omega arith
+    none mode.in_pair = omega arith
+all_fit (b ∷ text) at = record { enough = some (all_fit text (at + 1)) }
+  where
+    some : Enough (at + 1) text → (m : Mode) → bytes_of_all (tokens m at (b ∷ text)) + covered m (b ∷ text) ≤ suc (length text)
+    some later mode.between = let e = fresh_fits at b text later in omega (arith, e)
+    some later mode.in_word = pick (is_word_byte b)
+      where
+        pick : (c : std.Bool) → bytes_of_all (cond c [] (fresh at b text) ++ tokens (cond c mode.in_word (after_fresh b text)) (at + 1) text) + length (cond c (b ∷ run_of is_word_byte text) []) ≤ suc (length text)
+        pick true = let e = later.enough mode.in_word in omega (arith, e)
+        pick false = let e = fresh_fits at b text later in omega (arith, e)
+    some later mode.in_number = pick (is_ascii_digit b)
+      where
+        pick : (c : std.Bool) → bytes_of_all (cond c [] (fresh at b text) ++ tokens (cond c mode.in_number (after_fresh b text)) (at + 1) text) + length (cond c (b ∷ run_of is_ascii_digit text) []) ≤ suc (length text)
+        pick true = let e = later.enough mode.in_number in omega (arith, e)
+        pick false = let e = fresh_fits at b text later in omega (arith, e)
+    some later mode.in_pair = let e = later.enough mode.between in omega (arith, e)
+
+pub tokens_fit : (text : List ℕ) → bytes_of_all (tokens_in text) ≤ length text
+tokens_fit text = let e = (all_fit text 0).enough mode.between in omega (arith, e)
+
+-- ---- there are no more tokens than bytes
+
+fresh_few : (at byte : ℕ) (rest : List ℕ) → length (fresh at byte rest) ≤ 1
+fresh_few at byte rest = pick (is_blank byte) (is_ascii_alphabetic byte) (is_ascii_digit byte)
+  where
+    pick : (blank letter digit : std.Bool) → length (cond blank [] (cond letter (word_token at (run_of is_word_byte (byte ∷ rest)) ∷ [])
+        (cond digit (number_at at (run_of is_ascii_digit (byte ∷ rest)) ∷ []) (mark_token at (mark_of byte rest) ∷ [])))) ≤ 1
+    pick true letter digit = omega arith
+    pick false true digit = omega arith
+    pick false false true = omega arith
+    pick false false false = omega arith
+
+begins_few : (m : Mode) (at byte : ℕ) (rest : List ℕ) → length (begins m at byte rest) ≤ 1
+begins_few mode.between at byte rest = fresh_few at byte rest
+begins_few mode.in_word at byte rest = pick (is_word_byte byte)
+  where
+    pick : (c : std.Bool) → length (cond c [] (fresh at byte rest)) ≤ 1
+    pick true = omega arith
+    pick false = fresh_few at byte rest
+begins_few mode.in_number at byte rest = pick (is_ascii_digit byte)
+  where
+    pick : (c : std.Bool) → length (cond c [] (fresh at byte rest)) ≤ 1
+    pick true = omega arith
+    pick false = fresh_few at byte rest
+begins_few mode.in_pair at byte rest = omega arith
+
+few_tokens : (text : List ℕ) (m : Mode) (at : ℕ) → length (tokens m at text) ≤ length text
+unfolding tokens
+few_tokens [] m at = omega arith
+few_tokens (b ∷ text) m at =
+    let rest = few_tokens text (next m b text) (at + 1) in
+    omega (arith, rest, begins_few m at b text, length-append (begins m at b text) (tokens (next m b text) (at + 1) text))
+
+pub tokens_few : (text : List ℕ) → length (tokens_in text) ≤ length text
+tokens_few text = few_tokens text mode.between 0
+
+-- ---- the names of a text are names
+
+run_all : (text : List ℕ) → list_all is_word_byte (run_of is_word_byte text) ≡ true
+run_all [] = refl
+run_all (b ∷ text) = pick (is_word_byte b) refl (run_all text)
+  where
+    pick : (c : std.Bool) → is_word_byte b ≡ c → list_all is_word_byte (run_of is_word_byte text) ≡ true → list_all is_word_byte (cond c (b ∷ run_of is_word_byte text) []) ≡ true
+    pick true e all = ap₂ (λ (x y : std.Bool). x && y) e all
+    pick false e all = refl
+
+letter_word : (digit upper lower line : std.Bool) → (upper || lower) ≡ true → (((digit || upper) || lower) || line) ≡ true
+letter_word true upper lower line e = refl
+letter_word false true lower line e = refl
+letter_word false false true line e = refl
+letter_word false false false line e = cc
+
+word_good : (at byte : ℕ) (rest : List ℕ) → is_ascii_alphabetic byte ≡ true → is_proper (word_token at (run_of is_word_byte (byte ∷ rest))) ≡ true
+word_good at byte rest letter = pick (nat_le (length (run_of is_word_byte (byte ∷ rest))) 60) refl (word_named (run_of is_word_byte (byte ∷ rest))) refl
+  where
+    first : is_word_byte byte ≡ true
+    first = letter_word (is_ascii_digit byte) (is_ascii_uppercase byte) (is_ascii_lowercase byte) (byte == 95) letter
+
+    begun : begins_with_letter (run_of is_word_byte (byte ∷ rest)) ≡ true
+    begun = ap (λ (c : std.Bool). begins_with_letter (cond c (byte ∷ run_of is_word_byte rest) [])) first ∙ letter
+
+    pick : (c : std.Bool) → nat_le (length (run_of is_word_byte (byte ∷ rest))) 60 ≡ c → (o : Option Word) → word_named (run_of is_word_byte (byte ∷ rest)) ≡ o →
+        is_proper (token_of (cond c (named_kind o) kind.Wrong) at (run_of is_word_byte (byte ∷ rest))) ≡ true
+    pick true e None f = rw (begun, run_all (byte ∷ rest), e, f) refl
+    pick true e (Some w) f = refl
+    pick false e o f = refl
+
+mark_good : (at : ℕ) (mk : Option Mark) → is_proper (mark_token at mk) ≡ true
+mark_good at None = refl
+mark_good at (Some m) = refl
+
+one_good : (t : Token) (more : List Token) → is_proper t ≡ true → are_proper more ≡ true → are_proper (t ∷ more) ≡ true
+one_good t more e f = ap₂ (λ (x y : std.Bool). x && y) e f
+
+fresh_good : (at byte : ℕ) (rest : List ℕ) (more : List Token) → are_proper more ≡ true → are_proper (fresh at byte rest ++ more) ≡ true
+fresh_good at byte rest more good = pick (is_blank byte) (is_ascii_alphabetic byte) refl (is_ascii_digit byte)
+  where
+    pick : (blank letter : std.Bool) → is_ascii_alphabetic byte ≡ letter → (digit : std.Bool) →
+        are_proper (cond blank [] (cond letter (word_token at (run_of is_word_byte (byte ∷ rest)) ∷ []) (cond digit (number_at at (run_of is_ascii_digit (byte ∷ rest)) ∷ []) (mark_token at (mark_of byte rest) ∷ []))) ++ more) ≡ true
+    pick true letter e digit = good
+    pick false true e digit = one_good (word_token at (run_of is_word_byte (byte ∷ rest))) more (word_good at byte rest e) good
+    pick false false e true = good
+    pick false false e false = one_good (mark_token at (mark_of byte rest)) more (mark_good at (mark_of byte rest)) good
+
+pub all_good : (text : List ℕ) (m : Mode) (at : ℕ) → are_proper (tokens m at text) ≡ true
+unfolding tokens
+all_good [] m at = refl
+all_good (b ∷ text) mode.between at = fresh_good at b text (tokens (after_fresh b text) (at + 1) text) (all_good text (after_fresh b text) (at + 1))
+all_good (b ∷ text) mode.in_word at = pick (is_word_byte b) (λ m. all_good text m (at + 1))
+  where
+    pick : (c : std.Bool) → ((m : Mode) → are_proper (tokens m (at + 1) text) ≡ true) → are_proper (cond c [] (fresh at b text) ++ tokens (cond c mode.in_word (after_fresh b text)) (at + 1) text) ≡ true
+    pick true later = later mode.in_word
+    pick false later = fresh_good at b text (tokens (after_fresh b text) (at + 1) text) (later (after_fresh b text))
+all_good (b ∷ text) mode.in_number at = pick (is_ascii_digit b) (λ m. all_good text m (at + 1))
+  where
+    pick : (c : std.Bool) → ((m : Mode) → are_proper (tokens m (at + 1) text) ≡ true) → are_proper (cond c [] (fresh at b text) ++ tokens (cond c mode.in_number (after_fresh b text)) (at + 1) text) ≡ true
+    pick true later = later mode.in_number
+    pick false later = fresh_good at b text (tokens (after_fresh b text) (at + 1) text) (later (after_fresh b text))
+all_good (b ∷ text) mode.in_pair at = all_good text mode.between (at + 1)
+
+decls_good : (ds : List Decl) (more : List Token) → are_proper (decls_tokens ds ++ more) ≡ true → list_all (λ (d : Decl). is_variable_name d.name) ds ≡ true
+decls_good [] more good = refl
+decls_good (d ∷ ds) more good =
+    let k = and_parts (is_variable_name d.name) (are_proper (decls_tokens ds ++ more)) good in
+    ap₂ (λ (x y : std.Bool). x && y) k.0 (decls_good ds more k.1)
+
+pub names_are_names : (text : List ℕ) (p : Program) → IsProgram text p → list_all (λ (d : Decl). is_variable_name d.name) p.decls ≡ true
+names_are_names text p is = decls_good p.decls (forms_tokens p.forms) (ap are_proper (sym is) ∙ all_good text mode.between 0)
+
+-- ---- the bytes of a program's tokens
+
+bytes_append : (ts us : List Token) → bytes_of_all (ts ++ us) ≡ bytes_of_all ts + bytes_of_all us
+bytes_append [] us = omega arith
+bytes_append (t ∷ ts) us = let rest = bytes_append ts us in omega (arith, rest)
+
+bytes_middle : (ts us : List Token) (t : Token) → bytes_of_all (ts ++ t ∷ us) ≡ bytes_of_all ts + token_bytes t + bytes_of_all us
+bytes_middle ts us t = omega (arith, bytes_append ts (t ∷ us))
+
+-- what an expression has at least
+record Spans (ds : List Declared) (e : Exp) (ts : List Token) : Type 0 where
+  bytes : exp_bytes (map (λ (d : Declared). d.name) ds) e ≤ bytes_of_all ts
+  size : size_of e ≤ bytes_of_all ts
+
+-- an operator between
+spans_infix : (ds : List Declared) (op : Infix) (a b : Exp) (us vs : List Token) (t : Token) → 1 ≤ token_bytes t → Spans ds a us → Spans ds b vs → Spans ds (language.Between op a b) (us ++ t ∷ vs)
+spans_infix ds op a b us vs t one l r =
+    let all = bytes_middle us vs t in
+    record { bytes = omega (arith, l.bytes, r.bytes, all, one); size = omega (arith, l.size, r.size, all, one) }
+
+mutual
+  disjunction_spans : (ds : List Declared) (e : Disjunction) → disjunction_breaches ds e ≡ [] → Spans ds (disjunction_exp ds e) (disjunction_tokens e)
+  disjunction_spans ds (conjunction c) h = conjunction_spans ds c h
+  disjunction_spans ds (or e place c) h =
+      let k = three (disjunction_breaches ds e) (conjunction_breaches ds c) (infix_breaches place between.Or (disjunction_sort ds e) (conjunction_sort ds c)) h in
+      spans_infix ds between.Or (disjunction_exp ds e) (conjunction_exp ds c) (disjunction_tokens e) (conjunction_tokens c) (word_at place word.Or) (omega arith) (disjunction_spans ds e k.0) (conjunction_spans ds c k.1)
+
+  conjunction_spans : (ds : List Declared) (c : Conjunction) → conjunction_breaches ds c ≡ [] → Spans ds (conjunction_exp ds c) (conjunction_tokens c)
+  conjunction_spans ds (relation r) h = relation_spans ds r h
+  conjunction_spans ds (and c place r) h =
+      let k = three (conjunction_breaches ds c) (relation_breaches ds r) (infix_breaches place between.And (conjunction_sort ds c) (relation_sort ds r)) h in
+      spans_infix ds between.And (conjunction_exp ds c) (relation_exp ds r) (conjunction_tokens c) (relation_tokens r) (word_at place word.And) (omega arith) (conjunction_spans ds c k.0) (relation_spans ds r k.1)
+
+  relation_spans : (ds : List Declared) (r : Relation) → relation_breaches ds r ≡ [] → Spans ds (relation_exp ds r) (relation_tokens r)
+  relation_spans ds (sum s) h = sum_spans ds s h
+  relation_spans ds (at_most s place t) h =
+      let k = three (sum_breaches ds s) (sum_breaches ds t) (infix_breaches place between.AtMost (sum_sort ds s) (sum_sort ds t)) h in
+      spans_infix ds between.AtMost (sum_exp ds s) (sum_exp ds t) (sum_tokens s) (sum_tokens t) (mark_at place mark.AtMost) (omega arith) (sum_spans ds s k.0) (sum_spans ds t k.1)
+  relation_spans ds (equals s place t) h =
+      let k = three (sum_breaches ds s) (sum_breaches ds t) (infix_breaches place between.Equals (sum_sort ds s) (sum_sort ds t)) h in
+      spans_infix ds between.Equals (sum_exp ds s) (sum_exp ds t) (sum_tokens s) (sum_tokens t) (mark_at place mark.Equals) (omega arith) (sum_spans ds s k.0) (sum_spans ds t k.1)
+
+  sum_spans : (ds : List Declared) (s : Sum) → sum_breaches ds s ≡ [] → Spans ds (sum_exp ds s) (sum_tokens s)
+  sum_spans ds (term t) h = term_spans ds t h
+  sum_spans ds (add s place t) h =
+      let k = three (sum_breaches ds s) (term_breaches ds t) (infix_breaches place between.Add (sum_sort ds s) (term_sort ds t)) h in
+      spans_infix ds between.Add (sum_exp ds s) (term_exp ds t) (sum_tokens s) (term_tokens t) (mark_at place mark.Plus) (omega arith) (sum_spans ds s k.0) (term_spans ds t k.1)
+  sum_spans ds (subtract s place t) h =
+      let k = three (sum_breaches ds s) (term_breaches ds t) (infix_breaches place between.Subtract (sum_sort ds s) (term_sort ds t)) h in
+      spans_infix ds between.Subtract (sum_exp ds s) (term_exp ds t) (sum_tokens s) (term_tokens t) (mark_at place mark.Minus) (omega arith) (sum_spans ds s k.0) (term_spans ds t k.1)
+
+  term_spans : (ds : List Declared) (t : Term) → term_breaches ds t ≡ [] → Spans ds (term_exp ds t) (term_tokens t)
+  term_spans ds (factor f) h = factor_spans ds f h
+  term_spans ds (multiply t place f) h =
+      let k = three (term_breaches ds t) (factor_breaches ds f) (infix_breaches place between.Multiply (term_sort ds t) (factor_sort ds f)) h in
+      spans_infix ds between.Multiply (term_exp ds t) (factor_exp ds f) (term_tokens t) (factor_tokens f) (mark_at place mark.Times) (omega arith) (term_spans ds t k.0) (factor_spans ds f k.1)
+
+  factor_spans : (ds : List Declared) (f : Factor) → factor_breaches ds f ≡ [] → Spans ds (factor_exp ds f) (factor_tokens f)
+  factor_spans ds (variable place name) h =
+      let same = ap length (name_there ds name (fails (is_none (variable_named ds name)) place 6 h)) in
+      record { bytes = omega (arith, same); size = omega arith }
+  factor_spans ds (number place digits) h = record { bytes = omega arith; size = omega arith }
+  factor_spans ds (truth place true) h = record { bytes = omega arith; size = omega arith }
+  factor_spans ds (truth place false) h = record { bytes = omega arith; size = omega arith }
+  factor_spans ds (not place f) h =
+      let k = two (factor_breaches ds f) (prefix_breaches place before.Not (factor_sort ds f)) h in
+      let a = factor_spans ds f k.0 in
+      record { bytes = omega (arith, a.bytes); size = omega (arith, a.size) }
+  factor_spans ds (minus place f) h =
+      let k = two (factor_breaches ds f) (prefix_breaches place before.Minus (factor_sort ds f)) h in
+      let a = factor_spans ds f k.0 in
+      record { bytes = omega (arith, a.bytes); size = omega (arith, a.size) }
+  factor_spans ds (group place e closing) h =
+      let a = disjunction_spans ds e h in
+      let all = bytes_append (disjunction_tokens e) (mark_at closing mark.Close ∷ []) in
+      record { bytes = omega (arith, a.bytes, all); size = omega (arith, a.size, all) }
+
+-- what statements have at least
+record Covers (ds : List Declared) (s : Stmt) (ts : List Token) : Type 0 where
+  bytes : stmt_bytes (map (λ (d : Declared). d.name) ds) s ≤ bytes_of_all ts
+  count : part_count s ≤ bytes_of_all ts
+
+-- the same of a block with its two braces
+record BlockCovers (ds : List Declared) (b : Block) : Type 0 where
+  bytes : stmt_bytes (map (λ (d : Declared). d.name) ds) (block_stmt ds b) + 2 ≤ bytes_of_all (block_tokens b)
+  count : part_count (block_stmt ds b) + 2 ≤ bytes_of_all (block_tokens b)
+
+mutual
+  form_covers : (ds : List Declared) (f : Form) → form_breaches ds f ≡ [] → Covers ds (form_stmt ds f) (form_tokens f)
+  form_covers ds (assign place name becomes e closing) h =
+      let k = three (when (is_none (variable_named ds name)) place 6) (disjunction_breaches ds e) (assigns_breaches becomes (sort_named ds name) (disjunction_sort ds e)) h in
+      let same = ap length (name_there ds name (fails (is_none (variable_named ds name)) place 6 k.0)) in
+      let a = disjunction_spans ds e k.1 in
+      let all = bytes_append (disjunction_tokens e) (mark_at closing mark.Semicolon ∷ []) in
+      record { bytes = omega (arith, a.bytes, all, same); count = omega (arith, a.size, all) }
+  form_covers ds (loop place e b) h =
+      let k = three (disjunction_breaches ds e) (test_breaches place (disjunction_sort ds e)) (block_breaches ds b) h in
+      let a = disjunction_spans ds e k.0 in
+      let c = block_covers ds b k.2 in
+      let all = bytes_append (disjunction_tokens e) (block_tokens b) in
+      record { bytes = omega (arith, a.bytes, c.bytes, all); count = omega (arith, a.size, c.count, all) }
+  form_covers ds (branch place e b otherwise d) h =
+      let k = three (disjunction_breaches ds e) (test_breaches place (disjunction_sort ds e)) (block_breaches ds b ++ block_breaches ds d) h in
+      let l = two (block_breaches ds b) (block_breaches ds d) k.2 in
+      let a = disjunction_spans ds e k.0 in
+      let c = block_covers ds b l.0 in
+      let g = block_covers ds d l.1 in
+      let all = bytes_append (disjunction_tokens e) (block_tokens b ++ word_at otherwise word.Else ∷ block_tokens d) in
+      let rest = bytes_middle (block_tokens b) (block_tokens d) (word_at otherwise word.Else) in
+      record { bytes = omega (arith, a.bytes, c.bytes, g.bytes, all, rest); count = omega (arith, a.size, c.count, g.count, all, rest) }
+
+  -- with two braces
+  block_covers : (ds : List Declared) (b : Block) → block_breaches ds b ≡ [] → BlockCovers ds b
+  block_covers ds (block place fs closing) h =
+      let a = forms_cover ds fs h in
+      let all = bytes_append (forms_tokens fs) (mark_at closing mark.CloseBlock ∷ []) in
+      record { bytes = omega (arith, a.bytes, all); count = omega (arith, a.count, all) }
+
+  forms_cover : (ds : List Declared) (fs : Forms) → forms_breaches ds fs ≡ [] → Covers ds (forms_stmt ds fs) (forms_tokens fs)
+  forms_cover ds no_forms h = record { bytes = omega arith; count = omega arith }
+  forms_cover ds (form f rest) h =
+      let k = two (form_breaches ds f) (forms_breaches ds rest) h in
+      let a = form_covers ds f k.0 in
+      let b = forms_cover ds rest k.1 in
+      let all = bytes_append (form_tokens f) (forms_tokens rest) in
+      record { bytes = omega (arith, a.bytes, b.bytes, all); count = omega (arith, a.count, b.count, all) }
+
+decls_cover : (ds : List Decl) → declared_bytes (map declared_by ds) ≤ bytes_of_all (decls_tokens ds)
+decls_cover [] = omega arith
+decls_cover (d ∷ ds) = by_sort d.sort (decls_cover ds)
+  where
+    by_sort : (s : Sort) → declared_bytes (map declared_by ds) ≤ bytes_of_all (decls_tokens ds) →
+        length d.name + 4 + declared_bytes (map declared_by ds) ≤ token_bytes (word_at d.start (word.Sort s)) + (max 1 (length d.name) + (1 + bytes_of_all (decls_tokens ds)))
+    by_sort Int rest = omega (arith, rest)
+    by_sort Bool rest = omega (arith, rest)
+
+-- a program of a text that breaks no rule is lawful, and no longer than the text
+pub record IsShort (text : List ℕ) (p : Program) : Type 0 where
+  pub lawful : IsLawful (declared_of p) (body_of p)
+  pub short : program_bytes (declared_of p) (body_of p) ≤ length text
+
+pub text_is_lawful : (text : List ℕ) (p : Program) → IsProgram text p → length text ≤ 2 ^ 20 → FormsAreSmall p.forms → forms_blocks p.forms ≤ 40 → breaches p ≡ [] → IsShort text p
+text_is_lawful text p is few small blocks clean =
+    let k = two (decls_breaches [] p.decls) (forms_breaches (declared_of p) p.forms) clean in
+    let fit = tokens_fit text in
+    let same = ap bytes_of_all is in
+    let both = bytes_append (decls_tokens p.decls) (forms_tokens p.forms) in
+    let body = forms_cover (declared_of p) p.forms k.1 in
+    let decls = decls_cover p.decls in
+    record {
+      lawful = rules_make_lawful p record { names = names_are_names text p is; expressions = small; blocks = blocks } clean (omega (arith, body.count, both, same, fit, few));
+      short = omega (arith, body.bytes, decls, both, same, fit);
+    }

@@ -1,0 +1,184 @@
+-- What the reader awaits after each part of a program, and the factors, statements and declarations that it makes of the parts.
+use Rattle.std.proofs.Common.{◌≡◌, ◌≢◌, ℕ, List, [], ◌∷◌, ◌++◌, Option, Some, None, true, false, refl, sym, ap, ap₂, ◌∙◌, append_assoc}
+use Rattle.std.specs.Prelude.{◌==◌, is_some, length}
+use Rattle.stack_text.specs.declared.breach.Breach.{Breach}
+use Rattle.stack_text.specs.Breaches.{Notes, when}
+use Rattle.stack_text.proofs.BreachLaws.{notes_more}
+use Rattle.mini_syntax.specs.Breaches.{decl_breaches, variable_named}
+use Rattle.mini_syntax.specs.Combined.{IsPrefix}
+use Rattle.mini_syntax.specs.Declaring.{ReadsDecl, ReadsDecls, are_proper, is_proper}
+use Rattle.mini_syntax.specs.declared.expected.Expected.{Expected}
+use Rattle.mini_syntax.specs.declared.expected.Expected.TheVariants as wants
+use Rattle.mini_syntax.specs.declared.lexeme.Lexeme.{Lexeme}
+use Rattle.mini_syntax.specs.declared.lexer.TokenKind.{TokenKind}
+use Rattle.mini_syntax.specs.declared.lexer.TokenKind.TheVariants as kind
+use Rattle.mini_syntax.specs.declared.mark.Mark.{Mark}
+use Rattle.mini_syntax.specs.declared.mark.Mark.TheVariants as mark
+use Rattle.mini_syntax.specs.declared.operator.Prefix.{Prefix}
+use Rattle.mini_syntax.specs.declared.operator.Prefix.TheVariants as before
+use Rattle.mini_syntax.specs.declared.program.Declared.{Declared}
+use Rattle.mini_syntax.specs.declared.program.Statement.{Statement}
+use Rattle.mini_syntax.specs.declared.sort.Sort.{Sort}
+use Rattle.mini_syntax.specs.declared.typed.Typed.{Typed}
+use Rattle.mini_syntax.specs.declared.word.Word.TheVariants as word
+use Rattle.mini_syntax.specs.Expected.{a_block, at_start, expression, may_be_empty, taken, takes}
+use Rattle.mini_syntax.specs.Grammar.{not, minus, group, Decl, Program}
+use Rattle.mini_syntax.specs.Grammar.{block_tokens, decl_tokens, decls_tokens, disjunction_tokens, form_tokens, forms_tokens, program_tokens}
+use Rattle.mini_syntax.specs.Lexemes.{next_kind, token_seen}
+use Rattle.mini_syntax.specs.Names.{is_variable_name}
+use Rattle.mini_syntax.specs.Phrases.{Awaits, Completes, Reads, ReadsBlock, ReadsForm, ReadsForms, disjunctions, factors, is_open_at, more_after, factor_kind}
+use Rattle.mini_syntax.specs.Tokens.{Token, name_at, word_at, mark_at, kind_of, place_of}
+use Rattle.mini_syntax.proofs.AwaitLaws.{after_mark, moved, next_is_else, next_is_mark, next_is_name, next_is_operand, not_over, prefix_kind, stepped}
+use Rattle.mini_syntax.proofs.ExpectedLaws.{block_leads, decl_leads, decls_lead, end_of, form_leads, forms_leads, over_end, program_taken}
+use Rattle.mini_syntax.proofs.JoinLaws.{prefix_exp, prefix_noted}
+use Rattle.mini_syntax.proofs.ReadingLaws.{after_expression, behind, kind_seen, token_by_kind}
+use Rattle.mini_syntax.proofs.VariableLaws.{and_parts}
+
+-- ---- what is awaited
+
+-- a token is left where something is wanted
+pub token_left : {x : Expected} {more : List Expected} {ts : List Token} → Awaits (x ∷ more) ts → may_be_empty x ≡ false → ts ≢ []
+token_left {x} {more} {ts} a e = not_over x (more ++ a.rest) ts e a.completes
+
+pub kind_next : {old new : List Token} (l : Lexeme) (k : TokenKind) → old ≡ token_seen l ∷ new → next_kind old ≡ k → l.kind ≡ k
+kind_next l k is e = sym (kind_seen l) ∙ sym (ap next_kind is) ∙ e
+
+-- less is awaited first
+pub first_awaited : (x : Expected) (more : List Expected) {ts : List Token} → Awaits (x ∷ more) ts → Awaits (x ∷ []) ts
+first_awaited x more a = record { rest = more ++ a.rest; completes = a.completes }
+
+pub expression_first : (more : List Expected) {ts : List Token} → Awaits (expression more) ts → Awaits (expression []) ts
+expression_first more a = record { rest = more ++ a.rest; completes = a.completes }
+
+pub block_first : (more : List Expected) {ts : List Token} → Awaits (a_block more) ts → Awaits (a_block []) ts
+block_first more a = record { rest = more ++ a.rest; completes = a.completes }
+
+-- after a token of a kind
+pub after_kind : (front to : List Expected) (l : Lexeme) (k : TokenKind) {old new : List Token} → Awaits front old → old ≡ token_seen l ∷ new → l.kind ≡ k →
+    ((rest : List Expected) → takes (front ++ rest) k ≡ Some (to ++ rest)) → Awaits to new
+after_kind front to l k {old} {new} a is e goes = record {
+  rest = a.rest;
+  completes = stepped (front ++ a.rest) (to ++ a.rest) (token_seen l) old new is (ap (takes (front ++ a.rest)) (kind_seen l ∙ e) ∙ goes a.rest) a.completes;
+}
+
+-- the mark that is wanted is the next token
+pub mark_is : (m : Mark) {more : List Expected} {old new : List Token} (l : Lexeme) → Awaits (wants.Mark m ∷ more) old → old ≡ token_seen l ∷ new → old ≡ mark_at l.place m ∷ new
+mark_is m {more} {old} {new} l a is =
+    let k : l.kind ≡ kind.Mark m = sym (kind_seen l) ∙ ap kind_of (next_is_mark m (more ++ a.rest) (token_seen l) old new is a.completes) in
+    is ∙ ap (λ (t : Token). t ∷ new) (token_by_kind l (kind.Mark m) k)
+
+-- after a mark
+pub mark_passed : (m : Mark) (place : ℕ) (more : List Expected) {old new : List Token} → Awaits (wants.Mark m ∷ more) old → old ≡ mark_at place m ∷ new → Awaits more new
+mark_passed m place more {old} {new} a is = record { rest = a.rest; completes = after_mark m place (more ++ a.rest) old new is a.completes }
+
+-- after an expression, a statement, a block and statements
+pub expression_passed : (more : List Expected) {ds : List Declared} {old new : List Token} {best next : Option Breach} {typed : Typed} → Awaits (expression more) old →
+    Reads disjunctions (λ tree rest. more_after (is_open_at tree) (wants.MoreAnd ∷ wants.MoreOr ∷ rest)) ds old new best next typed → Awaits more new
+expression_passed more {ds} {old} {new} {best} {next} {typed} a r = record { rest = a.rest; completes = after_expression ds old new best next typed (more ++ a.rest) r a.completes }
+
+pub form_passed : {ds : List Declared} {old new : List Token} {best next : Option Breach} {statement : Statement} → Awaits (wants.MoreStatements ∷ []) old → ReadsForm ds old new best next statement →
+    Awaits (wants.MoreStatements ∷ []) new
+form_passed {old = old} {new = new} a r = record { rest = a.rest; completes = moved old (form_tokens r.tree) new r.tokens_are (form_leads r.tree a.rest) a.completes }
+
+pub block_passed : (more : List Expected) {ds : List Declared} {old new : List Token} {best next : Option Breach} {body : List Statement} → Awaits (a_block more) old → ReadsBlock ds old new best next body →
+    Awaits more new
+block_passed more {old = old} {new = new} a r = record { rest = a.rest; completes = moved old (block_tokens r.tree) new r.tokens_are (block_leads r.tree (more ++ a.rest)) a.completes }
+
+pub forms_passed : (more : List Expected) {ds : List Declared} {old new : List Token} {best next : Option Breach} {body : List Statement} → Awaits (wants.MoreStatements ∷ more) old →
+    ReadsForms ds old new best next body → Awaits more new
+forms_passed more {old = old} {new = new} a r = record {
+  rest = a.rest;
+  completes = r.ends (more ++ a.rest) (moved old (forms_tokens r.tree) new r.tokens_are (forms_leads r.tree (more ++ a.rest)) a.completes);
+}
+
+-- `else`
+pub else_is : {more : List Expected} {old new : List Token} (l : Lexeme) → Awaits (wants.Else ∷ more) old → old ≡ token_seen l ∷ new → old ≡ word_at (place_of (token_seen l)) word.Else ∷ new
+else_is {more} {old} {new} l a is = is ∙ ap (λ (t : Token). t ∷ new) (next_is_else (more ++ a.rest) (token_seen l) old new is a.completes)
+
+pub else_passed : (more : List Expected) {old new : List Token} (l : Lexeme) → Awaits (wants.Else ∷ more) old → old ≡ token_seen l ∷ new → Awaits more new
+else_passed more {old} {new} l a is =
+    let here : takes (wants.Else ∷ (more ++ a.rest)) (kind_of (token_seen l)) ≡ Some (more ++ a.rest) =
+    ap (λ (t : Token). takes (wants.Else ∷ (more ++ a.rest)) (kind_of t)) (next_is_else (more ++ a.rest) (token_seen l) old new is a.completes) in
+    record { rest = a.rest; completes = stepped (wants.Else ∷ (more ++ a.rest)) (more ++ a.rest) (token_seen l) old new is here a.completes }
+
+-- ---- factors
+
+pub operand_is : {more : List Expected} {old new : List Token} (l : Lexeme) → Awaits (wants.Operand ∷ more) old → old ≡ token_seen l ∷ new → None ≡ factor_kind l.kind → ⊥
+operand_is {more} {old} {new} l a is none = next_is_operand (more ++ a.rest) (token_seen l) old new is a.completes (none ∙ ap factor_kind (sym (kind_seen l)))
+
+not_read : {ds : List Declared} {old mid new : List Token} {b1 b2 b3 : Option Breach} {operand typed : Typed} (l : Lexeme) → old ≡ token_seen l ∷ mid → l.kind ≡ kind.Word word.Not →
+    Reads factors (λ f st. st) ds mid new b1 b2 operand → IsPrefix l.place before.Not operand b2 b3 typed → Reads factors (λ f st. st) ds old new b1 b3 typed
+not_read {ds} {old} {mid} {new} {b1} {b2} {b3} {operand} {typed} l is e r made =
+    behind ds l (kind.Word word.Not) (not l.place r.tree) r.tree old mid new b1 b3 typed is e r.tokens_are refl
+    record { exp_is = prefix_exp ds l.place before.Not r.tree b1 b2 b3 operand typed r.typed_as made; sort_is = made.sort_is; noted = prefix_noted ds l.place before.Not r.tree b1 b2 b3 operand typed r.typed_as made }
+
+minus_read : {ds : List Declared} {old mid new : List Token} {b1 b2 b3 : Option Breach} {operand typed : Typed} (l : Lexeme) → old ≡ token_seen l ∷ mid → l.kind ≡ kind.Mark mark.Minus →
+    Reads factors (λ f st. st) ds mid new b1 b2 operand → IsPrefix l.place before.Minus operand b2 b3 typed → Reads factors (λ f st. st) ds old new b1 b3 typed
+minus_read {ds} {old} {mid} {new} {b1} {b2} {b3} {operand} {typed} l is e r made =
+    behind ds l (kind.Mark mark.Minus) (minus l.place r.tree) r.tree old mid new b1 b3 typed is e r.tokens_are refl
+    record { exp_is = prefix_exp ds l.place before.Minus r.tree b1 b2 b3 operand typed r.typed_as made; sort_is = made.sort_is; noted = prefix_noted ds l.place before.Minus r.tree b1 b2 b3 operand typed r.typed_as made }
+
+pub prefix_read : {ds : List Declared} {old mid new : List Token} {b1 b2 b3 : Option Breach} {operand typed : Typed} (op : Prefix) (l : Lexeme) → old ≡ token_seen l ∷ mid → l.kind ≡ prefix_kind op →
+    Reads factors (λ f st. st) ds mid new b1 b2 operand → IsPrefix l.place op operand b2 b3 typed → Reads factors (λ f st. st) ds old new b1 b3 typed
+prefix_read before.Not l is e r made = not_read l is e r made
+prefix_read before.Minus l is e r made = minus_read l is e r made
+
+pub group_read : {ds : List Declared} {old t1 t2 new : List Token} {best next : Option Breach} {typed : Typed} (l : Lexeme) (closing : ℕ) → old ≡ token_seen l ∷ t1 → l.kind ≡ kind.Mark mark.Open →
+    Reads disjunctions (λ tree rest. more_after (is_open_at tree) (wants.MoreAnd ∷ wants.MoreOr ∷ rest)) ds t1 t2 best next typed → t2 ≡ mark_at closing mark.Close ∷ new →
+    Reads factors (λ f st. st) ds old new best next typed
+group_read {new = new} l closing is e r closes = record {
+  tree = group l.place r.tree closing;
+  tokens_are =
+      is ∙ ap₂ (λ (t : Token) (ts : List Token). t ∷ ts) (token_by_kind l (kind.Mark mark.Open) e)
+      (r.tokens_are ∙ ap (λ (ts : List Token). disjunction_tokens r.tree ++ ts) closes ∙ sym (append_assoc (disjunction_tokens r.tree) (mark_at closing mark.Close ∷ []) new));
+  typed_as = record { exp_is = r.typed_as.exp_is; sort_is = r.typed_as.sort_is; noted = r.typed_as.noted };
+  ends = λ st c. c;
+}
+
+-- ---- declarations
+
+-- the tokens behind some are proper too
+pub proper_rest : (ts us vs : List Token) → are_proper us ≡ true → us ≡ ts ++ vs → are_proper vs ≡ true
+proper_rest [] us vs e is = ap are_proper (sym is) ∙ e
+proper_rest (t ∷ ts) us vs e is =
+    let all : are_proper (t ∷ (ts ++ vs)) ≡ true = ap are_proper (sym is) ∙ e in
+    proper_rest ts (ts ++ vs) vs (and_parts (is_proper t) (are_proper (ts ++ vs)) all).1 refl
+
+-- a name is one
+pub proper_name : {new : List Token} (l : Lexeme) (old : List Token) → are_proper old ≡ true → old ≡ token_seen l ∷ new → l.kind ≡ kind.Name → is_variable_name l.bytes.now ≡ true
+proper_name {new} l old e is k =
+    let all : are_proper (name_at l.place l.bytes.now ∷ new) ≡ true = ap are_proper (sym (is ∙ ap (λ (t : Token). t ∷ new) (token_by_kind l kind.Name k))) ∙ e in
+    (and_parts (is_variable_name l.bytes.now) (are_proper new) all).0
+
+pub name_is : {more : List Expected} {old new : List Token} (l : Lexeme) → Awaits (wants.Name ∷ more) old → old ≡ token_seen l ∷ new → l.kind ≡ kind.Name
+name_is {more} {old} {new} l a is = sym (kind_seen l) ∙ next_is_name (more ++ a.rest) (token_seen l) old new is a.completes
+
+pub decl_tokens_read : {old t1 t2 new : List Token} (l name : Lexeme) (sort : Sort) (closing : ℕ) → old ≡ token_seen l ∷ t1 → l.kind ≡ kind.Word (word.Sort sort) →
+    t1 ≡ token_seen name ∷ t2 → name.kind ≡ kind.Name → t2 ≡ mark_at closing mark.Semicolon ∷ new →
+    old ≡ decl_tokens record { start = l.place; sort = sort; place = name.place; name = name.bytes.now; closing = closing } ++ new
+decl_tokens_read l name sort closing is1 k1 is2 k2 is3 =
+    is1 ∙ ap₂ (λ (t : Token) (ts : List Token). t ∷ ts) (token_by_kind l (kind.Word (word.Sort sort)) k1)
+    (is2 ∙ ap₂ (λ (t : Token) (ts : List Token). t ∷ ts) (token_by_kind name kind.Name k2) is3)
+
+-- what a declaration breaks
+pub decl_noted : (ds : List Declared) (d : Decl) (b1 b2 b3 : Option Breach) → Notes b1 (when (is_some (variable_named ds d.name)) d.place 5) b2 → Notes b2 (when (length ds == 100) d.place 9) b3 →
+    Notes b1 (decl_breaches ds d) b3
+decl_noted ds d b1 b2 b3 first second = notes_more b1 b2 b3 (when (is_some (variable_named ds d.name)) d.place 5) (when (length ds == 100) d.place 9) first second
+
+pub decl_passed : {before after : List Declared} {old new : List Token} {best next : Option Breach} → Awaits (wants.MoreDeclarations ∷ []) old → ReadsDecl before after old new best next →
+    Awaits (wants.MoreDeclarations ∷ []) new
+decl_passed {old = old} {new = new} a r = record { rest = a.rest; completes = moved old (decl_tokens r.tree) new r.tokens_are (decl_leads r.tree a.rest) a.completes }
+
+-- ---- programs
+
+-- what a program's tokens complete
+pub program_completes : (ts : List Token) (p : Program) → ts ≡ program_tokens p → Completes at_start ts
+program_completes ts p e = record { last = end_of p.forms; taken_is = ap (taken (Some at_start)) e ∙ program_taken p; over = over_end p.forms }
+
+-- after the declarations, statements are awaited, and after them nothing
+pub decls_passed : {ds : List Declared} {old new : List Token} {best next : Option Breach} → Completes at_start old → ReadsDecls ds old new best next → Completes (wants.MoreStatements ∷ []) new
+decls_passed {old = old} {new = new} c r =
+    r.ends (wants.MoreStatements ∷ []) (moved old (decls_tokens r.trees) new r.tokens_are (decls_lead r.trees (wants.MoreStatements ∷ [])) c)
+
+pub all_passed : {ds : List Declared} {old new : List Token} {best next : Option Breach} {body : List Statement} → Completes (wants.MoreStatements ∷ []) old → ReadsForms ds old new best next body → Completes [] new
+all_passed {old = old} {new = new} c r = r.ends [] (moved old (forms_tokens r.tree) new r.tokens_are (forms_leads r.tree []) c)

@@ -1,0 +1,21 @@
+use Rattle.std.proofs.Common.{◌≡◌, ◌+◌, ◌≤◌, true, [], ◌∷◌, length}
+use Rattle.mini_syntax.specs.declared.expected.Expected.TheVariants as wants
+use Rattle.mini_syntax.specs.Declaring.{are_proper}
+use Rattle.mini_syntax.specs.Lexemes.{left_of}
+use Rattle.mini_syntax.specs.Phrases.{Awaits}
+use Rattle.mini_syntax.specs.Scopes.{IsScope}
+use Rattle.mini_syntax.proofs.ReadingLaws.{DeclaredSoFar}
+use Rattle.mini_syntax.proofs.reading.declarations.Given as goal
+
+-- each declaration has three tokens
+abbrev pub invariant-loop-sort : goal.invariant-loop-sort
+invariant-loop-sort l = record {
+  scope : IsScope l.scope;
+  awaits : Awaits (wants.MoreDeclarations ∷ []) (left_of l.cursor);
+  named : are_proper (left_of l.cursor) ≡ true;
+  few : length l.scope.declared.items + length (left_of l.cursor) ≤ length (left_of l.fn.cursor);
+  read : DeclaredSoFar l.scope.declared.items (left_of l.fn.cursor) (left_of l.cursor) l.fn.best l.best;
+}
+
+abbrev pub decreases-loop-sort : goal.decreases-loop-sort
+decreases-loop-sort l = length (left_of l.cursor)

@@ -1,0 +1,289 @@
+//! What may come next in a program, token by token.
+
+ghost use Rattle.std.specs.Prelude.{◌≡◌, IfOk, reverse};
+ghost use Rattle.std.specs.List.{list_all};
+ghost use Rattle.mini_syntax.specs.Expected.{answer_of, is_over, may_be_empty, more, Pushes, Takes, wanted};
+ghost use Rattle.mini_syntax.specs.declared.expected.Expected.TheVariants as wants;
+
+use crate::lexer::TokenKind;
+use crate::mark::Mark;
+use crate::word::Word;
+use stack_text::Memory;
+
+/// What is expected.
+#[derive(Clone, Copy, Debug, PartialEq, Eq)]
+pub enum Expected {
+    Name,
+    Mark(Mark),
+    Else,
+    Operand,
+    MoreTerm,
+    MoreSum,
+    MoreRelation,
+    MoreAnd,
+    MoreOr,
+    MoreDeclarations,
+    MoreStatements,
+}
+
+/// What is expected in place of the expectation that a token met.
+#[derive(Clone, Copy, Debug, PartialEq, Eq)]
+pub enum Push {
+    Nothing,
+    Operand,
+    Bracket,
+    Term,
+    Sum,
+    Conjunction,
+    Expression,
+    Declaration,
+    Assignment,
+    Loop,
+    Branch,
+}
+
+/// How what is expected meets a token.
+#[derive(Clone, Copy, Debug, PartialEq, Eq)]
+pub enum Answer {
+    /// The token isn't taken.
+    Refused,
+    /// It is left out, and what is expected next decides.
+    LeftOut,
+    /// The token is taken.
+    Then(Push),
+}
+
+/// How an operand meets a token.
+fn operand_answer(kind: TokenKind) -> Answer
+    ensures { result ≡ answer_of wants.Operand kind }
+{
+    match kind {
+        TokenKind::Name | TokenKind::Number | TokenKind::Word(Word::Truth(_)) => {
+            Answer::Then(Push::Nothing)
+        }
+        TokenKind::Word(Word::Not) | TokenKind::Mark(Mark::Minus) => Answer::Then(Push::Operand),
+        TokenKind::Mark(Mark::Open) => Answer::Then(Push::Bracket),
+        _ => Answer::Refused,
+    }
+}
+
+/// How more of a sum meets a token.
+fn sum_answer(kind: TokenKind) -> Answer
+    ensures { result ≡ answer_of wants.MoreSum kind }
+{
+    match kind {
+        TokenKind::Mark(Mark::Plus | Mark::Minus) => Answer::Then(Push::Sum),
+        _ => Answer::LeftOut,
+    }
+}
+
+/// How more of a relation meets a token.
+fn relation_answer(kind: TokenKind) -> Answer
+    ensures { result ≡ answer_of wants.MoreRelation kind }
+{
+    match kind {
+        TokenKind::Mark(Mark::AtMost | Mark::Equals) => Answer::Then(Push::Sum),
+        _ => Answer::LeftOut,
+    }
+}
+
+/// How more statements meet a token.
+fn statement_answer(kind: TokenKind) -> Answer
+    ensures { result ≡ answer_of wants.MoreStatements kind }
+{
+    match kind {
+        TokenKind::Name => Answer::Then(Push::Assignment),
+        TokenKind::Word(Word::While) => Answer::Then(Push::Loop),
+        TokenKind::Word(Word::If) => Answer::Then(Push::Branch),
+        _ => Answer::LeftOut,
+    }
+}
+
+/// How a mark meets a token.
+fn mark_answer(mark: Mark, kind: TokenKind) -> Answer
+    ensures { result ≡ answer_of (wants.Mark mark) kind }
+{
+    match kind {
+        TokenKind::Mark(other) => {
+            if mark == other {
+                Answer::Then(Push::Nothing)
+            } else {
+                Answer::Refused
+            }
+        }
+        _ => Answer::Refused,
+    }
+}
+
+/// The token is taken where it is the one that is wanted.
+fn wanted(test: bool) -> Answer
+    ensures { result ≡ wanted test }
+{
+    if test {
+        Answer::Then(Push::Nothing)
+    } else {
+        Answer::Refused
+    }
+}
+
+/// More is expected where the token is the one with which more begins.
+fn more(test: bool, push: Push) -> Answer
+    ensures { result ≡ more test push }
+{
+    if test {
+        Answer::Then(push)
+    } else {
+        Answer::LeftOut
+    }
+}
+
+/// How what is expected meets a token.
+fn meet(top: Expected, kind: TokenKind) -> Answer
+    ensures { result ≡ answer_of top kind }
+{
+    match top {
+        Expected::Name => wanted(matches!(kind, TokenKind::Name)),
+        Expected::Mark(mark) => mark_answer(mark, kind),
+        Expected::Else => wanted(matches!(kind, TokenKind::Word(Word::Else))),
+        Expected::Operand => operand_answer(kind),
+        Expected::MoreTerm => more(matches!(kind, TokenKind::Mark(Mark::Times)), Push::Term),
+        Expected::MoreSum => sum_answer(kind),
+        Expected::MoreRelation => relation_answer(kind),
+        Expected::MoreAnd => more(
+            matches!(kind, TokenKind::Word(Word::And)),
+            Push::Conjunction,
+        ),
+        Expected::MoreOr => more(matches!(kind, TokenKind::Word(Word::Or)), Push::Expression),
+        Expected::MoreDeclarations => more(
+            matches!(kind, TokenKind::Word(Word::Sort(_))),
+            Push::Declaration,
+        ),
+        Expected::MoreStatements => statement_answer(kind),
+    }
+}
+
+/// Expects something more. What is expected first is pushed last.
+fn expect(stack: &mut Vec<Expected>, what: Push) -> Result<(), Memory>
+    ensures { Pushes stack.old.items what result stack.new.items }
+{
+    match what {
+        Push::Nothing => {}
+        Push::Operand => stack.extend_from_slice(&[Expected::Operand])?,
+        Push::Bracket => stack.extend_from_slice(&[
+            Expected::Mark(Mark::Close),
+            Expected::MoreOr,
+            Expected::MoreAnd,
+            Expected::MoreRelation,
+            Expected::MoreSum,
+            Expected::MoreTerm,
+            Expected::Operand,
+        ])?,
+        Push::Term => stack.extend_from_slice(&[Expected::MoreTerm, Expected::Operand])?,
+        Push::Sum => stack.extend_from_slice(&[
+            Expected::MoreSum,
+            Expected::MoreTerm,
+            Expected::Operand,
+        ])?,
+        Push::Conjunction => stack.extend_from_slice(&[
+            Expected::MoreAnd,
+            Expected::MoreRelation,
+            Expected::MoreSum,
+            Expected::MoreTerm,
+            Expected::Operand,
+        ])?,
+        Push::Expression => stack.extend_from_slice(&[
+            Expected::MoreOr,
+            Expected::MoreAnd,
+            Expected::MoreRelation,
+            Expected::MoreSum,
+            Expected::MoreTerm,
+            Expected::Operand,
+        ])?,
+        Push::Declaration => stack.extend_from_slice(&[
+            Expected::MoreDeclarations,
+            Expected::Mark(Mark::Semicolon),
+            Expected::Name,
+        ])?,
+        Push::Assignment => stack.extend_from_slice(&[
+            Expected::MoreStatements,
+            Expected::Mark(Mark::Semicolon),
+            Expected::MoreOr,
+            Expected::MoreAnd,
+            Expected::MoreRelation,
+            Expected::MoreSum,
+            Expected::MoreTerm,
+            Expected::Operand,
+            Expected::Mark(Mark::Becomes),
+        ])?,
+        Push::Loop => stack.extend_from_slice(&[
+            Expected::MoreStatements,
+            Expected::Mark(Mark::CloseBlock),
+            Expected::MoreStatements,
+            Expected::Mark(Mark::OpenBlock),
+            Expected::MoreOr,
+            Expected::MoreAnd,
+            Expected::MoreRelation,
+            Expected::MoreSum,
+            Expected::MoreTerm,
+            Expected::Operand,
+        ])?,
+        Push::Branch => stack.extend_from_slice(&[
+            Expected::MoreStatements,
+            Expected::Mark(Mark::CloseBlock),
+            Expected::MoreStatements,
+            Expected::Mark(Mark::OpenBlock),
+            Expected::Else,
+            Expected::Mark(Mark::CloseBlock),
+            Expected::MoreStatements,
+            Expected::Mark(Mark::OpenBlock),
+            Expected::MoreOr,
+            Expected::MoreAnd,
+            Expected::MoreRelation,
+            Expected::MoreSum,
+            Expected::MoreTerm,
+            Expected::Operand,
+        ])?,
+    }
+    Ok(())
+}
+
+/// Takes a token of the kind, if it is expected.
+pub(crate) fn take(stack: &mut Vec<Expected>, kind: TokenKind) -> Result<bool, Memory>
+    ensures { IfOk result (λ taken. Takes stack.old.items kind taken stack.new.items) }
+{
+    while let Some(top) = stack.pop() {
+        match meet(top, kind) {
+            Answer::Refused => return Ok(false),
+            Answer::LeftOut => {}
+            Answer::Then(what) => {
+                expect(stack, what)?;
+                return Ok(true);
+            }
+        }
+    }
+    Ok(false)
+}
+
+/// Whether what is expected may be left out.
+fn may_be_empty(expected: Expected) -> bool
+    ensures { result ≡ may_be_empty expected }
+{
+    match expected {
+        Expected::Name | Expected::Mark(_) | Expected::Else | Expected::Operand => false,
+        _ => true,
+    }
+}
+
+/// Whether each of what is expected may be left out.
+fn may_all_be_empty(stack: &[Expected]) -> bool
+    ensures { result ≡ list_all may_be_empty stack.now }
+{
+    stack.iter().all(|expected| may_be_empty(*expected))
+}
+
+/// Whether all that is expected may be left out.
+pub(crate) fn is_over(stack: &[Expected]) -> bool
+    ensures { result ≡ is_over (reverse stack.now) }
+{
+    may_all_be_empty(stack)
+}

@@ -1,0 +1,89 @@
+//! The declared variables, found by their names.
+
+ghost use Rattle.std.specs.Prelude.{◌≡◌, ℕ, ◌<◌, ◌^◌, List, ◌++◌, [], ◌∷◌, length, OnOk, option_map};
+ghost use Rattle.std.specs.Str.{bytes_eq};
+ghost use Rattle.mini_syntax.specs.Breaches.{or_first, variable_named};
+ghost use Rattle.mini_syntax.specs.declared.program.Declared.{Declared};
+ghost use Rattle.mini_syntax.specs.Scopes.{first_or, IsScope, look_up};
+
+use crate::program::Declared;
+use crate::sort::Sort;
+use indexmap::IndexMap;
+use stack_text::{Memory, Name};
+
+/// A declared variable: its position among the declarations, and its sort.
+#[derive(Clone, Copy, Debug)]
+pub struct Variable {
+    pub index: u32,
+    pub sort: Sort,
+}
+
+/// The declared variables, and the first one of each name.
+#[derive(Drop)]
+pub struct Scope<'a> {
+    pub declared: Vec<Declared>,
+    pub variables: IndexMap<&'a [u8], Variable>,
+}
+
+impl<'a> Scope<'a> {
+    /// The first variable of a name.
+    pub(crate) fn named(&self, name: &[u8]) -> Option<Variable>
+        requires { IsScope self.now }
+        ensures { result ≡ variable_named self.now.declared.items name.now }
+    {
+        self.variables.get(name).copied()
+    }
+}
+
+/// The sort of a variable that was found.
+pub(crate) fn sort_of(found: Option<Variable>) -> Option<Sort>
+    ensures { result ≡ option_map (λ v. v.sort) found }
+{
+    found.map(|variable| variable.sort)
+}
+
+/// The position of a variable that was found, or 0.
+pub(crate) fn index_of(found: Option<Variable>) -> u32
+    ensures { result ≡ (or_first found).index }
+{
+    match found {
+        Some(variable) => variable.index,
+        None => 0,
+    }
+}
+
+/// Enters a variable, unless its name is known.
+fn declare<'a>(
+    variables: &mut IndexMap<&'a [u8], Variable>,
+    name: &'a [u8],
+    variable: Variable,
+) -> Result<(), Memory>
+    ensures { OnOk result ((other : List ℕ) →
+        look_up variables.new other ≡ first_or (look_up variables.old other) (bytes_eq other name.now) variable) }
+{
+    if variables.contains_key(name) {
+        return Ok(());
+    }
+    variables.insert(name, variable)?;
+    Ok(())
+}
+
+/// Enters a variable behind those that are declared, unless its name is known.
+pub(crate) fn enter<'a>(
+    scope: &mut Scope<'a>,
+    name: Name,
+    bytes: &'a [u8],
+    sort: Sort,
+) -> Result<(), Memory>
+    requires scope { IsScope scope.old }
+    requires few { length scope.old.declared.items < 2 ^ 32 }
+    requires same { name ≡ bytes.now }
+    ensures scope { OnOk result (IsScope scope.new) }
+    ensures declared { let one : Declared = record { name = name; sort = sort } in
+        OnOk result (scope.new.declared.items ≡ scope.old.declared.items ++ one ∷ []) }
+{
+    let index = scope.declared.len() as u32;
+    declare(&mut scope.variables, bytes, Variable { index, sort })?;
+    scope.declared.push(Declared { name, sort })?;
+    Ok(())
+}
