@@ -1,6 +1,7 @@
 #!/usr/bin/env bash
 # Each allocation of each command fails in turn: how the command ends, what it prints, and what it leaves.
 set -u
+export STACK_EXPLAIN=0
 top=$(cd "$(dirname "${BASH_SOURCE[0]}")/../.." && pwd)
 folder=$(mktemp -d) || exit 1
 trap 'rm -rf "$folder"' EXIT

@@ -1,6 +1,7 @@
 #!/usr/bin/env bash
 # Random sources and products: what the program says of them, beside what an evaluator in Python says; and random words, as text and back.
 set -u
+export STACK_EXPLAIN=0
 top=$(cd "$(dirname "${BASH_SOURCE[0]}")/../.." && pwd)
 
 # Without words the program only says how it is used. So it is built where it isn't built yet.

@@ -1,6 +1,8 @@
 #!/usr/bin/env bash
-# Worked rows of all commands, on the built program: what it prints, its status and what it stores, also where a device fails.
+# The rows of the folder conformance, on the built program; that a program with a mistake fails there, by the name of the row; and what the
+# program does where a device fails.
 set -u
+export STACK_EXPLAIN=0
 top=$(cd "$(dirname "${BASH_SOURCE[0]}")/../.." && pwd)
 folder=$(mktemp -d) || exit 1
 trap 'rm -rf "$folder"' EXIT
@@ -8,7 +10,36 @@ command -v cc >/dev/null || { echo "rows: FAILED, not run: there is no C compile
 
 # Without words the program only says how it is used. So it is built where it isn't built yet.
 "$top/stack" >/dev/null
-program=$top/crates/cli_stack/out/cli_stack
+export PROGRAM=$top/crates/cli_stack/out/cli_stack
+failed=0
+"$top/conformance/run" "$PROGRAM" || failed=1
+
+# A program whose replies to one command are edited.
+cat >"$folder/mistaken" <<'END'
+#!/usr/bin/env bash
+[ "${1-}" = "$COMMAND" ] || exec "$PROGRAM" "$@"
+"$PROGRAM" "$@" | sed "$MISTAKE"
+exit "${PIPESTATUS[0]}"
+END
+chmod +x "$folder/mistaken"
+
+# tells COMMAND MISTAKE FILE ROW: the program with this mistake fails in that file of rows, and a line tells the row.
+tells() {
+    local told status
+    told=$(COMMAND=$1 MISTAKE=$2 "$top/conformance/run" "$folder/mistaken" "$3")
+    status=$?
+    if [ "$status" != 1 ] || ! grep -q "^$3:$4: " <<<"$told"; then
+        echo "rows: $1 with the mistake $2 ends with status $status, and $3 doesn't tell $4:"
+        head -5 <<<"$told"
+        failed=1
+    fi
+}
+tells check 's/^refused M3 at 9$/refused M3 at 8/' check.rows '[0-9]*: check t'
+tells show 's/^flags c--z$/flags c--y/' show.rows '[0-9]*: show i'
+tells go 's/^finished 28$/finished 29/' go.rows '[0-9]*: go s v 7 3 28 i'
+tells run 's/^image I7 at 113$/image I7 at 112/' run.rows '[0-9]*: run i v 9'
+
 cc -shared -fPIC -O1 -o "$folder/failing.so" "$top/.ci/tools/failing_devices.c" -ldl || exit 1
-PYTHONDONTWRITEBYTECODE=1 python3 "$top/.ci/tools/command_rows.py" "$program" "$folder/failing.so" || exit 1
-echo "rows: ok"
+PYTHONDONTWRITEBYTECODE=1 python3 "$top/.ci/tools/failing_devices.py" "$PROGRAM" "$folder/failing.so" || failed=1
+[ "$failed" = 0 ] && echo "rows: ok"
+exit "$failed"

@@ -4,8 +4,8 @@ each command that reads such a file.
 
     python3 .ci/tools/damage.py PROGRAM
 
-PROGRAM is `cli_stack`. The files are the sources, values, scripts and assembly texts of `examples/`, a text of Piton, the images of these
-two texts and of one source, and a certificate. No command ends by a signal, or with a status that isn't among those of its texts; none takes
+PROGRAM is `cli_stack`. The files are five sources of `examples/` with their values, a script, an assembly text, a text of Piton, the images of
+these two texts and of one source, and a certificate. No command ends by a signal, or with a status that isn't among those of its texts; none takes
 over a second of processor time, or 64 MB.
 """
 import itertools
@@ -24,6 +24,14 @@ TURNS = 3
 # Files are written by the ten thousand: where there is memory for them, not to a disk.
 FOLDERS = "/dev/shm" if os.access("/dev/shm", os.W_OK) else None
 EXAMPLES = Path(__file__).resolve().parents[2] / "examples"
+# Larger sources take longer, and have no other forms.
+SOURCES = {
+    "first/seven.gypsy": "first/nine.values",
+    "first/two.gypsy": "first/two.values",
+    "first/report.gypsy": "first/report.values",
+    "conditions/count.gypsy": "conditions/count.values",
+    "calls/down.gypsy": "calls/down.values",
+}
 PITON = "(piton main 2 2 0 ((g (nat 4) (nat 5))) () (main () () (push-global g) (add1-nat) (pop-global g) (ret)))"
 
 # The statuses of a command whose files are there: what reading its texts and running them can end with. Memory isn't short here.
@@ -115,21 +123,21 @@ def whole_files(program, folder):
     """Puts the whole files into a folder, and tells for each its kind, its name, and the files that stand beside it."""
     files = []
     Path(folder, "main.certificate").write_text("((main 2 4))", encoding="ascii")
-    for source in sorted(EXAMPLES.glob("*.gypsy")):
+    for source, values in ((EXAMPLES / source, EXAMPLES / values) for source, values in SOURCES.items()):
         stem = source.stem
-        values = "nine.values" if stem == "seven" else f"{stem}.values"
-        beside = {"SOURCE": source.name, "VALUES": values, "IMAGE": f"{stem}.image", "CERTIFICATE": "main.certificate"}
-        for name in (source.name, values):
-            shutil.copy(EXAMPLES / name, folder)
+        beside = {"SOURCE": source.name, "VALUES": values.name, "IMAGE": f"{stem}.image", "CERTIFICATE": "main.certificate"}
+        for example in (source, values):
+            shutil.copy(example, folder)
         ends(program, ["build", source.name, "20", "20", f"{stem}.image"])
-        files += [("gypsy", source.name, beside), ("values", values, beside)]
+        files += [("gypsy", source.name, beside), ("values", values.name, beside)]
         if stem == "seven":
             files += [("image", f"{stem}.image", beside), ("certificate", "main.certificate", beside)]
-            files += [("script", script.name, beside) for script in EXAMPLES.glob("*.script") if shutil.copy(script, folder)]
+            shutil.copy(EXAMPLES / "sessions/steps.script", folder)
+            files.append(("script", "steps.script", beside))
     Path(folder, "seven.piton").write_text(PITON, encoding="ascii")
     Path(folder, "no.values").write_text("()", encoding="ascii")
     ends(program, ["pbuild", "seven.piton", "piton.image"])
-    shutil.copy(EXAMPLES / "sum.asm", folder)
+    shutil.copy(EXAMPLES / "assembly/sum.asm", folder)
     ends(program, ["asm", "sum.asm", "sum.image"])
     files += [("piton", "seven.piton", {}), ("small image", "piton.image", {"VALUES": "no.values"})]
     return files + [("assembly", "sum.asm", {}), ("plain image", "sum.image", {})]

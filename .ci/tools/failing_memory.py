@@ -106,7 +106,7 @@ def sweep(job):
 def main(program, failing):
     program, failing = str(Path(program).resolve()), str(Path(failing).resolve())
     with tempfile.TemporaryDirectory() as folder:
-        for file in EXAMPLES.iterdir():
+        for file in EXAMPLES.glob("*/*"):
             shutil.copy(file, folder)
         for words in MADE:
             subprocess.run([program, *words.split()], cwd=folder, stdout=subprocess.DEVNULL, check=True)

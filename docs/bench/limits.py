@@ -1,5 +1,5 @@
 #!/usr/bin/env python3
-"""Times the built program on the texts at the limits of each layer and on the long runs of .ci/tools/limit_tables.py.
+"""Times the built program on the texts at the limits of each layer and on the long runs of conformance/made/large.py.
 
     python3 docs/bench/limits.py PROGRAM [LAYER]
 
@@ -11,15 +11,16 @@ import sys
 import tempfile
 from pathlib import Path
 
-sys.path.insert(0, str(Path(__file__).resolve().parents[2] / ".ci/tools"))
 sys.dont_write_bytecode = True
-import limit_tables
+CONFORMANCE = Path(__file__).resolve().parents[2] / "conformance"
+sys.path[:0] = [str(CONFORMANCE), str(CONFORMANCE / "made")]
+import large
 from measure import taken
 
 
 def write(number, folder):
     """Writes the text and the values of a row. It is done by a process of its own, since a process begins with the most memory of its parent."""
-    rows = limit_tables.TEXTS + limit_tables.RUNS
+    rows = large.TEXTS + large.RUNS
     row = rows[int(number)]
     is_text = callable(row[3])
     Path(folder, "t").write_text(row[3]() if is_text else row[3])
@@ -29,7 +30,7 @@ def write(number, folder):
 def main(program, layer=None):
     program = str(Path(program).resolve())
     print("| Text | Command | Bytes | Printed | Time | Memory |\n|---|---|---|---|---|---|")
-    for number, row in enumerate(limit_tables.TEXTS + limit_tables.RUNS):
+    for number, row in enumerate(large.TEXTS + large.RUNS):
         of, name, words = row[:3]
         if layer in (None, of):
             with tempfile.TemporaryDirectory() as folder:

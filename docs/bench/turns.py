@@ -3,7 +3,7 @@
 
     python3 docs/bench/turns.py PROGRAM
 
-The source is the first long run of .ci/tools/limit_tables.py. For each length of a turn, and for `go` eight times: the instructions, the rounds,
+The source is the first long run of conformance/made/large.py. For each length of a turn, and for `go` eight times: the instructions, the rounds,
 and the least time of some trials, the processes' own and the system's.
 """
 import os
@@ -13,9 +13,10 @@ import sys
 import tempfile
 from pathlib import Path
 
-sys.path.insert(0, str(Path(__file__).resolve().parents[2] / ".ci/tools"))
 sys.dont_write_bytecode = True
-import limit_tables
+CONFORMANCE = Path(__file__).resolve().parents[2] / "conformance"
+sys.path[:0] = [str(CONFORMANCE), str(CONFORMANCE / "made")]
+import large
 
 TRIALS = 3
 TASKS = 8
@@ -38,7 +39,7 @@ def taken(program, lines, folder):
 
 def main(program):
     program = str(Path(program).resolve())
-    _, _, _, source, values, _ = limit_tables.RUNS[0]
+    _, _, _, source, values, _ = large.RUNS[0]
     runs = [("alone", [f"go s v 100 100 {BUDGET} i"] * TASKS)]
     runs += [(f"{turn:,}", [f"turns {turn} {BUDGET} 100 100" + " s v" * TASKS]) for turn in (1, 10, 1_000, 1_000_000)]
     print("| Turn | Instructions | Rounds | Time |\n|---|---|---|---|")

@@ -6,7 +6,7 @@ use fm_machine::Run;
 use std::alloc::Global;
 use std::test::Fail;
 
-/// `examples/sum.asm`.
+/// `examples/assembly/sum.asm`.
 const SUM: &str = concat!(
     "; Adds the words of a table, and stores the sum in the word after the table.\n",
     "        .base 0\n",

@@ -1,4 +1,4 @@
-//! The machine of a small image. `.ci/rows` has values that are refused.
+//! The machine of a small image. `conformance` has values that are refused.
 
 use fm_image::{Image, read_image};
 use fm_loader::{load, read_values};

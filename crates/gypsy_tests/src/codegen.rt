@@ -1,4 +1,4 @@
-//! Sizes for which nothing is generated, and marks. `.ci/rows` has generated texts, and how they end.
+//! Sizes for which nothing is generated, and marks. `conformance` has generated texts, and how they end.
 
 use gypsy_check::{Accepted, check};
 use gypsy_codegen::{GenFault, MarkAt, generate, marks};

@@ -1,4 +1,4 @@
-//! Names replaced by positions. `.ci/rows` has texts of systems that break one rule or two.
+//! Names replaced by positions. `conformance` has texts of systems that break one rule or two.
 
 use crate::texts::checked_of;
 use piton_check::{Resolved, ResolvedArg, ResolvedProgram};

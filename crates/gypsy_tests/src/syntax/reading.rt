@@ -1,4 +1,4 @@
-//! Long texts, and texts of parentheses. `.ci/rows` has texts that break one rule or two.
+//! Long texts, and texts of parentheses. `conformance` has texts that break one rule or two.
 
 use gypsy_syntax::{GypsyFault, print_gypsy, read_gypsy};
 use stack_text::TextRule;

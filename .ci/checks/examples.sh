@@ -1,0 +1,20 @@
+#!/usr/bin/env bash
+# Each example with the line that runs it, and the answers of the course: what the documents show as transcripts is run. No file stands
+# twice.
+set -u
+export STACK_EXPLAIN=0
+cd "$(dirname "${BASH_SOURCE[0]}")/../.." || exit 1
+status=0
+
+# Without words the program only says how it is used. So it is built where it isn't built yet.
+./stack >/dev/null
+mapfile -t documents < <(git grep -l '^```console$' -- '*.md')
+python3 .ci/tools/transcripts.py crates/cli_stack/out/cli_stack "${documents[@]}" || status=1
+
+for file in $(git ls-files examples ':!*.md'); do
+    grep -qF "${file#examples/}" examples/README.md || { echo "examples/README.md doesn't name $file"; status=1; }
+done
+twice=$(git ls-files -z examples crates/cli_stack/data | xargs -0 sha256sum | sort | uniq -w 64 -D)
+[ -z "$twice" ] || { echo "the same file stands twice:"; echo "$twice"; status=1; }
+[ "$status" = 0 ] && echo "examples: ok"
+exit "$status"
