@@ -8,9 +8,9 @@ trap 'rm -rf "$folder"' EXIT
 copy=$folder/copy
 caller=$folder/caller
 export STUB=$folder/stub TMPDIR=$folder/tmp
-unset RATTLE_KIT STACK_TRIAL
+unset RATTLE_KIT STACK_TRIAL STACK_EXPLAIN
 mkdir -p "$copy" "$folder/kit/bin" "$folder/empty"
-(cd "$top" && git ls-files -z stack crates.txt crates examples | xargs -0 cp --parents -t "$copy") || exit 1
+(cd "$top" && git ls-files -z stack guide docs/ERRORS.md crates.txt crates examples | xargs -0 cp --parents -t "$copy") || exit 1
 cp "$top/.ci/tools/stub_kit.sh" "$folder/kit/bin/rt"
 bare_path=$(tr : '\n' <<<"$PATH" | while read -r one; do [ -x "$one/rt" ] || echo "$one"; done | paste -sd :)
 crates=$(grep -c '^[a-z]' "$copy/crates.txt")
@@ -94,6 +94,18 @@ stack: its command rt, which needs Python 3, is looked for on the PATH, and then
     [ -z "$(find "$copy/crates" -name out)" ] || says "something was built"
 done
 
+# Help needs neither the program nor the kit, and words that fit no command are no reason to prove anything.
+begins "help, before the program is built"
+for words in help --help "help go" "chekc a.gypsy" "check" ""; do
+    # shellcheck disable=SC2086
+    (cd "$caller" && STACK_EXPLAIN=1 PATH=$bare_path RATTLE_KIT=$folder/empty "$copy/stack" $words) >"$folder/out" 2>"$folder/err" </dev/null
+    status=$?
+    ends 1 usage
+    grep -q "check SRC\|go SRC" "$folder/err" || says "no help on $words: $(<"$folder/err")"
+    [ -z "$(find "$copy/crates" -name out)" ] || says "something was built"
+done
+calls ""
+
 begins "with the kit of RATTLE_KIT, and without a trial"
 (cd "$caller" && STACK_TRIAL=0 PATH=$bare_path RATTLE_KIT=$folder/kit "$copy/stack" check a.gypsy) >"$folder/out" 2>"$folder/err"
 status=$?
@@ -108,6 +120,17 @@ errs ""
 starts
 ends 1 usage
 errs ""
+calls ""
+
+STACK_EXPLAIN=1 starts check a.gypsy
+ends 7 "printed by the program: check a.gypsy"
+errs ""
+starts help
+ends 7 "printed by the program: help"
+grep -q "check SRC" "$folder/err" || says "no help"
+STACK_EXPLAIN=1 starts
+ends 1 usage
+grep -q "check SRC" "$folder/err" || says "no help"
 calls ""
 
 begins "what was changed since" built

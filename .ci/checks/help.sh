@@ -1,0 +1,7 @@
+#!/usr/bin/env bash
+# What the script `stack` tells a person beside the program's own output.
+set -u
+top=$(cd "$(dirname "${BASH_SOURCE[0]}")/../.." && pwd)
+STACK_EXPLAIN=0 "$top/stack" >/dev/null
+PYTHONDONTWRITEBYTECODE=1 python3 "$top/.ci/tools/help_rows.py" "$top/stack" || exit 1
+echo "help: ok"
