@@ -16,7 +16,7 @@ import tempfile
 from pathlib import Path
 
 sys.dont_write_bytecode = True
-from measure import taken
+from measure import start, taken
 
 NO_ADDRESS = 0xFFFFFFFF
 NO_OPERATION = 0x00EE0000    # MOVE r0,r0
@@ -88,9 +88,4 @@ def main(program):
 
 
 if __name__ == "__main__":
-    if len(sys.argv) < 2:
-        sys.exit(__doc__)
-    if sys.argv[1] == "--write":
-        write(*sys.argv[2:])
-    else:
-        main(sys.argv[1])
+    start(__doc__, write, main)

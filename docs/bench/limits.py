@@ -15,7 +15,7 @@ sys.dont_write_bytecode = True
 CONFORMANCE = Path(__file__).resolve().parents[2] / "conformance"
 sys.path[:0] = [str(CONFORMANCE), str(CONFORMANCE / "made")]
 import large
-from measure import taken
+from measure import start, taken
 
 
 def write(number, folder):
@@ -41,9 +41,4 @@ def main(program, layer=None):
 
 
 if __name__ == "__main__":
-    if len(sys.argv) < 2:
-        sys.exit(__doc__)
-    if sys.argv[1] == "--write":
-        write(*sys.argv[2:])
-    else:
-        main(*sys.argv[1:])
+    start(__doc__, write, main)

@@ -1,6 +1,7 @@
 """What a command of the program takes."""
 import os
 import subprocess
+import sys
 
 TURNS = 5
 
@@ -15,3 +16,13 @@ def taken(program, words, folder, is_read=True):
         _, status, usage = os.wait4(process.pid, 0)
         turns.append((usage.ru_utime + usage.ru_stime, usage.ru_maxrss // 1024, os.waitstatus_to_exitcode(status), printed))
     return min(turns)
+
+
+def start(doc, write, main):
+    """Starts a script that measures: it calls itself with `--write` where a file is to be written by a process of its own."""
+    if len(sys.argv) < 2:
+        sys.exit(doc)
+    if sys.argv[1] == "--write":
+        write(*sys.argv[2:])
+    else:
+        main(*sys.argv[1:])
