@@ -23,6 +23,19 @@ wants() {
     fi
 }
 
+# tells TEXT WORD..: the program ends well on these words, and prints the text after its first line.
+tells() {
+    local wanted_text=$1 printed status
+    shift
+    printed=$("$top/stack" "$@")
+    status=$?
+    if [ "$status" != 0 ] || [ "${printed#*$'\n'}" != "$wanted_text" ]; then
+        echo "stack $*: status $status, wanted 0; printed:"
+        echo "$printed"
+        failed=1
+    fi
+}
+
 # holds FILE BYTES: the file has so many bytes.
 holds() {
     local bytes
@@ -102,6 +115,16 @@ wants 0 "yes" cert examples/conditions/count.gypsy count.cert 13 5
 wants 0 "no" cert examples/conditions/count.gypsy count.cert 12 5
 wants 17 "recursive p" need examples/calls/down.gypsy none.cert
 misses none.cert
+
+# A program of the infix language: docs/cli.md.
+wants 0 "written squares.gypsy" mini examples/infix/squares.mini squares.gypsy
+wants 0 "ok" check squares.gypsy
+tells $'condition normal\nx = 0\ns = 14' go squares.gypsy examples/infix/squares.values 300 300 1000000 squares.image
+wants 0 "written gcd.gypsy" mini examples/infix/gcd.mini gcd.gypsy
+tells $'condition normal\nx = 6\ny = 6' go gcd.gypsy examples/infix/gcd.values 300 300 1000000 gcd.image
+printf 'int x; x := x + y;' >unknown.mini
+wants 2 "refused Y6 at 16" mini unknown.mini none.gypsy
+misses none.gypsy
 
 # A session at each level: docs/debug.md.
 session() { echo "debug $1 examples/first/seven.gypsy examples/first/nine.values 7 3 examples/sessions/steps.script"; }

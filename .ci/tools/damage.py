@@ -4,9 +4,9 @@ each command that reads such a file.
 
     python3 .ci/tools/damage.py PROGRAM
 
-PROGRAM is `cli_stack`. The files are five sources of `examples/` with their values, a script, an assembly text, a text of Piton, the images of
-these two texts and of one source, and a certificate. No command ends by a signal, or with a status that isn't among those of its texts; none takes
-over a second of processor time, or 64 MB.
+PROGRAM is `cli_stack`. The files are five sources of `examples/` with their values, a script, an assembly text, the infix programs, a text of
+Piton, the images of the assembly text, of the text of Piton and of one source, and a certificate. No command ends by a signal, or with a status
+that isn't among those of its texts; none takes over a second of processor time, or 64 MB.
 """
 import itertools
 import multiprocessing
@@ -52,6 +52,7 @@ STATUSES = {
     "migrate": {0, IMAGE},
     "asm": {0, REFUSED},
     "unasm": {0, IMAGE, NOT_PLAIN},
+    "mini": {0, REFUSED},
     "need": {0, REFUSED, RECURSIVE},
     "cert": {0, REFUSED, CERTIFICATE},
     "turns": {0, REFUSED, VALUES, UNFINISHED, SIZE},
@@ -76,6 +77,7 @@ READERS = {
     "small image": ["show DAMAGED", "run DAMAGED VALUES 1000", "migrate DAMAGED out"],
     "plain image": ["unasm DAMAGED out"],
     "assembly": ["asm DAMAGED out"],
+    "infix": ["mini DAMAGED out"],
     "certificate": ["cert SOURCE DAMAGED 20 20"],
 }
 
@@ -140,6 +142,9 @@ def whole_files(program, folder):
     shutil.copy(EXAMPLES / "assembly/sum.asm", folder)
     ends(program, ["asm", "sum.asm", "sum.image"])
     files += [("piton", "seven.piton", {}), ("small image", "piton.image", {"VALUES": "no.values"})]
+    for infix in EXAMPLES.glob("infix/*.mini"):
+        shutil.copy(infix, folder)
+        files.append(("infix", infix.name, {}))
     return files + [("assembly", "sum.asm", {}), ("plain image", "sum.image", {})]
 
 

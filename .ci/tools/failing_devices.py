@@ -62,6 +62,7 @@ IN_TURN = [
     ("unasm k o", "k o"),
     ("need s o", "s o"),
     ("cert s c 7 3", "s c"),
+    ("mini m o", "m o"),
 ]
 
 
@@ -78,6 +79,7 @@ FILES = {
     "k": first_file("unasm.rows", "i"),
     "a": b".base 0\n.size 4\n.final 1\n.start 0\nMOVE r3,#5\nDEC r15,r15\n",
     "c": b"((main 2 4))",
+    "m": (TOP / "examples/infix/squares.mini").read_bytes(),
 }
 
 

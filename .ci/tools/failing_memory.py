@@ -44,6 +44,7 @@ COMMANDS = [
     "migrate seven.image made",
     "asm sum.asm made",
     "unasm sum.image made",
+    "mini squares.mini made",
     "need seven.gypsy made",
     "cert seven.gypsy seven.cert 7 3",
     "turns 10 1000 100 100 seven.gypsy nine.values two.gypsy two.values",

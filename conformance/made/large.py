@@ -228,6 +228,7 @@ WHOLE = {
     "d": (b"up", b"\n"),
     "a": (b".base 0\n.size 4\n.final 1\n.start 0\nMOVE r3,#5\nDEC r15,r15\n", b" "),
     "c": (b"((main 2 4))", b" "),
+    "m": (b"int x; while 1 <= x { x := x - 1; }\n", b" "),
 }
 
 # Files at their limits and one byte over: how long they are; the status and what is printed.
@@ -246,6 +247,8 @@ FILES = [
     ("debug gypsy s v 7 3 d", {"d": 1_048_577}, 12, "size file 1048576"),
     ("asm a o", {"a": 33_554_432}, 2, "refused A1 at 57"),
     ("asm a o", {"a": 33_554_433}, 12, "size file 33554432"),
+    ("mini m o", {"m": 1_048_576}, 0, "written o"),
+    ("mini m o", {"m": 1_048_577}, 12, "size file 1048576"),
     ("cert s c 7 3", {"c": 1_048_576}, 0, "yes"),
     ("cert s c 7 3", {"c": 1_048_577}, 12, "size file 1048576"),
 ]
@@ -298,7 +301,7 @@ def large():
 def run_of(words, status, printed):
     """A run that stores its last word where its command stores a file."""
     parts = words.split()
-    stored = parts[-1] if parts[0] in ("go", "build", "pit", "pbuild", "asm") else None
+    stored = parts[-1] if parts[0] in ("go", "build", "pit", "pbuild", "asm", "mini") else None
     return Run(words.encode(), printed.encode() + b"\n", status, stored)
 
 

@@ -34,8 +34,7 @@ use Rattle.cli_stack.specs.Asm.{assembled_stored}
 use Rattle.cli_stack.specs.Unasm.{printed_stored}
 use Rattle.cli_stack.specs.Answer.{set_file, stored_by, answer_on, answer_to, answer_by}
 use Rattle.cli_stack.specs.Assembles.{HoldsAssembled, SpellsAgain, HoldsAssembly, StoresAssembled, StoresAssembly, Assembles}
-use Rattle.cli_stack.proofs.ImplementsLaws.{set_bytes, written_role}
-use Rattle.cli_stack.proofs.LinksLaws.{only_file, only_role, both_roles}
+use Rattle.cli_stack.proofs.RoleLaws.{set_bytes, written_role, only_file, only_role, both_roles}
 
 -- 1. The image of a text.
 
@@ -130,6 +129,7 @@ images_by (command.Migrate image output) watches files = λ name own stored byte
 images_by (command.Pit source control temporary piton) watches files = λ name own stored bytes reads writes sets. absurd (let e : Piton ≡ Image = ap written_role writes in cc)
 images_by (command.Unasm image assembly) watches files = λ name own stored bytes reads writes sets. absurd (let e : Assembly ≡ Image = ap written_role writes in cc)
 images_by (command.Need source certificate) watches files = λ name own stored bytes reads writes sets. absurd (let e : Certificate ≡ Image = ap written_role writes in cc)
+images_by (command.Mini program source) watches files = λ name own stored bytes reads writes sets. absurd (let e : Source ≡ Image = ap written_role writes in cc)
 images_by c watches files = λ name own stored bytes reads writes sets. absurd (let e : None ≡ Some (Image, own) = writes in cc)
 
 texts_by : (c : Command) (watches : List Watching) (files : Files) → StoresAssembly c files (answer_to c watches files).output
@@ -143,6 +143,7 @@ texts_by (command.Pbuild piton image) watches files = λ name own stored written
 texts_by (command.Migrate image output) watches files = λ name own stored written reads writes sets. absurd (let e : Image ≡ Assembly = ap written_role writes in cc)
 texts_by (command.Pit source control temporary piton) watches files = λ name own stored written reads writes sets. absurd (let e : Piton ≡ Assembly = ap written_role writes in cc)
 texts_by (command.Need source certificate) watches files = λ name own stored written reads writes sets. absurd (let e : Certificate ≡ Assembly = ap written_role writes in cc)
+texts_by (command.Mini program source) watches files = λ name own stored written reads writes sets. absurd (let e : Source ≡ Assembly = ap written_role writes in cc)
 texts_by c watches files = λ name own stored written reads writes sets. absurd (let e : None ≡ Some (Assembly, own) = writes in cc)
 
 -- whatever the command and the files are

@@ -115,7 +115,7 @@ module _ (watches : List Watching) (files : Files) (source_name values_name name
   unfolding inputs_of output_of
   is_told tells values finals way count gives done enough =
       let run = tells values_name (1, omega arith, refl) (inr (name, refl)) in
-      run.1 (stack_words temporary control) source (image_of source (stack_words temporary control) 0) values_text values finals way count (refl, made) there (image_takes source (stack_words temporary control) values_text ∙ gives) done enough
+      run.1 (stack_words temporary control) source (image_of source (stack_words temporary control) 0) values_text values finals way count (refl, made) there (image_takes source (stack_words temporary control) 0 values_text ∙ gives) done enough
 
   -- the command comes to its answer
   module _ (before after : World) (status : Status) where
@@ -178,6 +178,7 @@ module _ (watches : List Watching) (before after : World) (status : Status) wher
   completes_on (command.Asm assembly name) files answers shelf_fault sink_fault tells = λ source values image reads writes. absurd (let e : [] ≡ (Values, values) ∷ [] = ap others reads in cc)
   completes_on (command.Unasm name assembly) files answers shelf_fault sink_fault tells = λ source values image reads writes. absurd (let e : [] ≡ (Values, values) ∷ [] = ap others reads in cc)
   completes_on (command.Need source_name certificate) files answers shelf_fault sink_fault tells = λ source values image reads writes. absurd (let e : [] ≡ (Values, values) ∷ [] = ap others reads in cc)
+  completes_on (command.Mini program name) files answers shelf_fault sink_fault tells = λ source values image reads writes. absurd (let e : [] ≡ (Values, values) ∷ [] = ap others reads in cc)
   completes_on c files answers shelf_fault sink_fault tells = λ source values image reads writes. absurd (let e : None ≡ Some (Image, image) = writes in cc)
 
   pub completes : (command : Option Command) (o : Option Files) → IfSome o (λ files. status ≢ ShelfFault → status ≢ SinkFault → status ≢ OutOfMemory → Agrees (answer_by command watches files) files before after status)

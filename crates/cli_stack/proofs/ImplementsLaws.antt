@@ -21,11 +21,7 @@ use Rattle.command_line.specs.CommandFiles.{inputs_of, output_of}
 use Rattle.cli_stack.specs.Answer.{set_file, stored_by, answer_on, answer_to, answer_by}
 use Rattle.cli_stack.specs.Build.{image_stored}
 use Rattle.cli_stack.specs.Correct.{HoldsImplementation, StoresImplementation, Compiles}
-
--- the bytes of a file that is set
-abbrev pub set_bytes : Option (List ℕ × List ℕ) → List ℕ
-set_bytes None = []
-set_bytes (Some output) = output.1
+use Rattle.cli_stack.proofs.RoleLaws.{set_bytes, written_role, only_file, only_role}
 
 -- a source's text is short enough to be read
 is_readable : (text : List ℕ) → length text ≤ 1048576 → length text ≤ 2 ^ 31
@@ -71,44 +67,30 @@ build_holds laws watches files source image control temporary (Ok text) stored b
     let file = was_short files (Source, source) text got in
     built_holds files source text control temporary stored bytes file.0 file.1 (built text control temporary 0) (laws text control temporary 0 (is_readable text file.1) (omega arith)) (Image, image) sets
 
--- a name that `build` reads as a source is its source
-build_source : (source name : List ℕ) → Contains {X = Role × List ℕ} ((Source, source) ∷ []) (Source, name) → source ≡ name
-build_source source name (zero, lt, is) = ap (λ (f : Role × List ℕ). f.1) is
-build_source source name (suc i, lt, is) = absurd (omega arith)
-
--- so is one that `go` reads
+-- a name that `go` reads as a source is its source
 go_source : (source values name : List ℕ) → Contains {X = Role × List ℕ} ((Source, source) ∷ (Values, values) ∷ []) (Source, name) → source ≡ name
 go_source source values name (zero, lt, is) = ap (λ (f : Role × List ℕ). f.1) is
 go_source source values name (suc zero, lt, is) = absurd (let e : Values ≡ Source = ap (λ (f : Role × List ℕ). f.0) is in cc)
 go_source source values name (suc (suc i), lt, is) = absurd (omega arith)
 
--- who reads one file, of another role, reads no source
-no_source : (role : Role) (first name : List ℕ) → (role ≡ Source → ⊥) → Contains {X = Role × List ℕ} ((role, first) ∷ []) (Source, name) → ⊥
-no_source role first name other (zero, lt, is) = other (ap (λ (f : Role × List ℕ). f.0) is)
-no_source role first name other (suc i, lt, is) = omega arith
-
--- the role of a file that is written
-abbrev pub written_role : Option (Role × List ℕ) → Role
-written_role None = Source
-written_role (Some file) = file.0
-
-stores : BuiltImplements → (c : Command) (watches : List Watching) (files : Files) → StoresImplementation c files (answer_to c watches files).output
+pub stores : BuiltImplements → (c : Command) (watches : List Watching) (files : Files) → StoresImplementation c files (answer_to c watches files).output
 unfolding inputs_of output_of
 stores laws (command.Go source values control temporary budget image) watches files = λ name own stored bytes reads writes sets.
     subst (λ (n : List ℕ). HoldsImplementation files n (stack_words temporary control) bytes) (go_source source values name reads)
     (go_holds laws watches files source values image control temporary budget _ _ stored bytes refl sets)
 stores laws (command.Build source control temporary image) watches files = λ name own stored bytes reads writes sets.
-    subst (λ (n : List ℕ). HoldsImplementation files n (stack_words temporary control) bytes) (build_source source name reads)
+    subst (λ (n : List ℕ). HoldsImplementation files n (stack_words temporary control) bytes) (only_file Source source name reads)
     (build_holds laws watches files source image control temporary _ stored bytes refl sets)
 stores laws (command.Pit source control temporary piton) watches files = λ name own stored bytes reads writes sets.
     absurd (let e : Piton ≡ Image = ap written_role writes in cc)
-stores laws (command.Pbuild piton image) watches files = λ name own stored bytes reads writes sets. absurd (no_source Piton piton name (λ e. cc) reads)
-stores laws (command.Migrate image output) watches files = λ name own stored bytes reads writes sets. absurd (no_source Image image name (λ e. cc) reads)
-stores laws (command.Asm assembly image) watches files = λ name own stored bytes reads writes sets. absurd (no_source Assembly assembly name (λ e. cc) reads)
+stores laws (command.Pbuild piton image) watches files = λ name own stored bytes reads writes sets. absurd (only_role Source Piton piton name (λ e. cc) reads)
+stores laws (command.Migrate image output) watches files = λ name own stored bytes reads writes sets. absurd (only_role Source Image image name (λ e. cc) reads)
+stores laws (command.Asm assembly image) watches files = λ name own stored bytes reads writes sets. absurd (only_role Source Assembly assembly name (λ e. cc) reads)
 stores laws (command.Unasm image assembly) watches files = λ name own stored bytes reads writes sets.
     absurd (let e : Assembly ≡ Image = ap written_role writes in cc)
 stores laws (command.Need source certificate) watches files = λ name own stored bytes reads writes sets.
     absurd (let e : Certificate ≡ Image = ap written_role writes in cc)
+stores laws (command.Mini program source) watches files = λ name own stored bytes reads writes sets. absurd (let e : Source ≡ Image = ap written_role writes in cc)
 stores laws c watches files = λ name own stored bytes reads writes sets. absurd (let e : None ≡ Some (Image, own) = writes in cc)
 
 -- whatever the command and the files are

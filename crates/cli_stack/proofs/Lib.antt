@@ -3,11 +3,13 @@ pub mod AssemblesLaws
 pub mod CompletesLaws
 pub mod EndlessLaws
 pub mod ExplainsLaws
+pub mod GoLaws
 pub mod ImplementsLaws
 pub mod KnownLaws
 pub mod LinkedLaws
 pub mod LinksLaws
 pub mod LoadedLaws
+pub mod LowersLaws
 pub mod MachineLaws
 pub mod MeanLaws
 pub mod MeansLaws
@@ -15,6 +17,7 @@ pub mod NeedLaws
 pub mod PerformLaws
 pub mod PitonTextLaws
 pub mod PromisesLaws
+pub mod RoleLaws
 pub mod RoomLaws
 pub mod SizeLaws
 pub mod SlotLaws

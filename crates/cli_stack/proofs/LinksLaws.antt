@@ -1,6 +1,6 @@
 -- What is stored of a Piton text does what its system does.
-use Rattle.std.proofs.Common.{◌≡◌, ◌≤◌, ℕ, zero, suc, Bool, true, false, List, [], ◌∷◌, ◌++◌, Option, Some, None, IfSome, Result, Ok, Err, length, refl, sym, ap, ◌∙◌, subst, append-nil, arith}
-use Rattle.std.specs.Prelude.{◌^◌, Contains, if◌then◌else◌, codes}
+use Rattle.std.proofs.Common.{◌≡◌, ◌≤◌, ℕ, Bool, true, false, List, [], ◌∷◌, ◌++◌, Option, Some, None, IfSome, Result, Ok, Err, length, refl, sym, ap, ◌∙◌, subst, append-nil, arith}
+use Rattle.std.specs.Prelude.{◌^◌, if◌then◌else◌, codes}
 use Rattle.std.specs.Fmt.{decimal}
 use Rattle.std.proofs.lemmas.Bool.{ltb-false}
 use Rattle.stack_text.specs.Results.{◌>>=◌}
@@ -42,7 +42,7 @@ use Rattle.cli_stack.specs.Pbuild.{linked_image, is_large, checked_stored}
 use Rattle.cli_stack.specs.Answer.{set_file, stored_by, reply_by, answer_on, answer_to, answer_by}
 use Rattle.cli_stack.specs.Correct.{IsReadable}
 use Rattle.cli_stack.specs.Linked.{cost_of, RunsAs, TellsCost, TellsCosts, HoldsLinked, StoresLinked, Links}
-use Rattle.cli_stack.proofs.ImplementsLaws.{set_bytes}
+use Rattle.cli_stack.proofs.RoleLaws.{set_bytes, written_role, only_file, only_role, both_roles}
 use Rattle.cli_stack.proofs.KnownLaws.{text_is_checked}
 use Rattle.cli_stack.proofs.LinkedLaws.{image_short, image_spelled}
 use Rattle.cli_stack.proofs.LoadedLaws.{image_loaded}
@@ -121,22 +121,6 @@ pbuild_holds words watches files piton image (Ok text) stored bytes got sets =
 
 -- 3. All commands.
 
--- the one file that is read
-pub only_file : (role : Role) (first name : List ℕ) → Contains {X = Role × List ℕ} ((role, first) ∷ []) (role, name) → first ≡ name
-only_file role first name (zero, lt, is) = ap (λ (f : Role × List ℕ). f.1) is
-only_file role first name (suc i, lt, is) = absurd (omega arith)
-
--- who reads one file, of another role, reads none of this role
-pub only_role : (role other : Role) (first name : List ℕ) → (other ≡ role → ⊥) → Contains {X = Role × List ℕ} ((other, first) ∷ []) (role, name) → ⊥
-only_role role other first name apart (zero, lt, is) = apart (ap (λ (f : Role × List ℕ). f.0) is)
-only_role role other first name apart (suc i, lt, is) = omega arith
-
--- nor who reads two files
-pub both_roles : (role other second : Role) (first next name : List ℕ) → (other ≡ role → ⊥) → (second ≡ role → ⊥) → Contains {X = Role × List ℕ} ((other, first) ∷ (second, next) ∷ []) (role, name) → ⊥
-both_roles role other second first next name apart apart' (zero, lt, is) = apart (ap (λ (f : Role × List ℕ). f.0) is)
-both_roles role other second first next name apart apart' (suc zero, lt, is) = apart' (ap (λ (f : Role × List ℕ). f.0) is)
-both_roles role other second first next name apart apart' (suc (suc i), lt, is) = omega arith
-
 links_by : PlacedAreWords → (c : Command) (watches : List Watching) (files : Files) → StoresLinked c files (answer_to c watches files).output
 unfolding inputs_of output_of
 links_by words (command.Pbuild piton image) watches files = λ name own stored bytes reads writes sets.
@@ -148,6 +132,7 @@ links_by words (command.Migrate image output) watches files = λ name own stored
 links_by words (command.Asm assembly image) watches files = λ name own stored bytes reads writes sets. absurd (only_role Piton Assembly assembly name (λ e. cc) reads)
 links_by words (command.Unasm image assembly) watches files = λ name own stored bytes reads writes sets. absurd (only_role Piton Image image name (λ e. cc) reads)
 links_by words (command.Need source certificate) watches files = λ name own stored bytes reads writes sets. absurd (only_role Piton Source source name (λ e. cc) reads)
+links_by words (command.Mini program source) watches files = λ name own stored bytes reads writes sets. absurd (let e : Source ≡ Image = ap written_role writes in cc)
 links_by words c watches files = λ name own stored bytes reads writes sets. absurd (let e : None ≡ Some (Image, own) = writes in cc)
 
 -- whatever the command and the files are

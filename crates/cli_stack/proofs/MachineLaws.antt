@@ -68,6 +68,7 @@ use Rattle.cli_stack.specs.Run.{end_reply, run_reply, values_reply, image_reply}
 use Rattle.cli_stack.specs.Show.{listing_reply}
 use Rattle.cli_stack.specs.Migrate.{migrated_reply}
 use Rattle.cli_stack.specs.Asm.{assembled_reply}
+use Rattle.cli_stack.specs.Mini.{lowering_of, lowered_reply}
 use Rattle.cli_stack.specs.Unasm.{printed_reply}
 use Rattle.cli_stack.specs.Need.{bounds_reply, certified_reply, need_reply_by}
 use Rattle.cli_stack.specs.Cert.{judged_reply, certificate_reply, cert_reply_by}
@@ -124,6 +125,10 @@ migrated_none name (Err fault) = refl
 assembled_none : (found : Result ImageOf Breach) → NoMachine (assembled_reply found)
 assembled_none (Ok image) = refl
 assembled_none (Err breach) = refl
+
+lowered_none : (name : List ℕ) (found : Result SourceOf Breach) → NoMachine (lowered_reply name found)
+lowered_none name (Ok source) = refl
+lowered_none name (Err breach) = refl
 
 printed_none : (name : List ℕ) (found : Result ImageOf (ℕ × ℕ)) → NoMachine (printed_reply name found)
 printed_none name (Err fault) = refl
@@ -245,6 +250,7 @@ by_command (command.Asm assembly image) watches texts = inl (assembled_none (ass
 by_command (command.Unasm image assembly) watches texts = inl (printed_none assembly (read_of (text_of role.Image texts)))
 by_command (command.Need source certificate) watches texts = inl (need_none (accepted_in (text_of role.Source texts)))
 by_command (command.Cert source certificate control temporary) watches texts = inl (cert_none (accepted_in (text_of role.Source texts)) (stack_words temporary control) (text_of role.Certificate texts))
+by_command (command.Mini program source) watches texts = inl (lowered_none source (lowering_of (text_of role.Infix texts)))
 by_command (command.Check source) watches texts = inl (judgement_none (accepted_in (text_of role.Source texts)))
 by_command (command.Pcheck piton) watches texts = inl (judgement_none (checked_in (text_of role.Piton texts)))
 by_command (command.Prun piton limit) watches texts = inl (piton_run_none (checked_in (text_of role.Piton texts)) limit)

@@ -34,7 +34,7 @@ use Rattle.command_line.specs.declared.command.Command.{Command}
 use Rattle.command_line.specs.declared.command.Command.TheVariants as command
 use Rattle.command_line.specs.declared.early_end.EarlyEnd.{EarlyEnd}
 use Rattle.command_line.specs.declared.role.Role.{Role}
-use Rattle.command_line.specs.declared.role.Role.TheVariants.{Source, Piton, Image, Values, Script, Assembly, Certificate}
+use Rattle.command_line.specs.declared.role.Role.TheVariants.{Source, Piton, Image, Values, Script, Assembly, Certificate, Infix}
 use Rattle.command_line.specs.declared.command.TaskFiles.{TaskFiles}
 use Rattle.command_line.specs.declared.status.Status.TheVariants.{Done}
 use Rattle.command_line.specs.Gathered.{Texts}
@@ -229,6 +229,7 @@ follows (command.Show image) watches files = λ source values reads writes. absu
 follows (command.Migrate image output) watches files = λ source values reads writes. absurd (let e : Image ≡ Source = ap first_role reads in cc)
 follows (command.Asm assembly image) watches files = λ source values reads writes. absurd (let e : Assembly ≡ Source = ap first_role reads in cc)
 follows (command.Unasm image assembly) watches files = λ source values reads writes. absurd (let e : Image ≡ Source = ap first_role reads in cc)
+follows (command.Mini program stored) watches files = λ source values reads writes. absurd (let e : Infix ≡ Source = ap first_role reads in cc)
 follows (command.Need source_name certificate) watches files = λ source values reads writes. absurd (let e : [] ≡ (Values, values) ∷ [] = ap others reads in cc)
 follows (command.Cert source_name certificate control temporary) watches files = λ source values reads writes. absurd (let e : Certificate ≡ Values = ap (λ (fs : List (Role × List ℕ)). first_role (others fs)) reads in cc)
 follows (command.Turns turn budget control temporary tasks) watches files = λ source values reads writes. absurd (no_source tasks (ap first_role reads))

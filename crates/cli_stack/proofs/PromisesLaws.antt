@@ -28,6 +28,7 @@ use Rattle.cli_stack.specs.Means.{Means}
 use Rattle.cli_stack.specs.Linked.{Links}
 use Rattle.cli_stack.specs.Assembles.{Assembles}
 use Rattle.cli_stack.specs.Room.{Needs}
+use Rattle.cli_stack.specs.Lowers.{LowersPrograms}
 use Rattle.cli_stack.specs.Driver.{HasReason, IsReplyTo, LeavesAs, Leaves, machine_kept, conclusion_of, Stopped, NotBegun, Concludes}
 use Rattle.cli_stack.proofs.CompletesLaws.{completes}
 use Rattle.cli_stack.proofs.MachineLaws.{only_runs}
@@ -274,8 +275,9 @@ pub promises : (command : Option Command) (watches : List Watching) (before afte
     → IfSome before.shelf.files (λ files. Links command files (answer_by command watches files).output)
     → IfSome before.shelf.files (λ files. Assembles command files (answer_by command watches files).output)
     → IfSome before.shelf.files (λ files. Needs command files (answer_by command watches files))
+    → IfSome before.shelf.files (λ files. LowersPrograms command files (answer_by command watches files))
     → PromisesOf command watches (answer_by command watches) before after status
-promises command watches before after ran status leaves reason to ends implements tells means links assembles needs =
+promises command watches before after ran status leaves reason to ends implements tells means links assembles needs lowers =
     let all : IfSome before.shelf.files (λ files. Known (answer_by command watches files) (file_names command) files before after status) =
     if_known before.shelf.files (λ files. Leaves command watches files before.shelf after.shelf ran) (λ files. Known (answer_by command watches files) (file_names command) files before after status)
     (λ files l. known command (answer_by command watches files) files before after ran status l reason ends) leaves in
@@ -290,6 +292,7 @@ promises command watches before after ran status leaves reason to ends implement
       links = links;
       assembles = assembles;
       needs = needs;
+      lowers = lowers;
       completes = completes watches before after status command before.shelf.files agrees causes.shelf_fault causes.sink_fault tells;
       words_read = words_read ran status before after ends;
       missing = causes.missing;

@@ -1,21 +1,19 @@
 -- Where a certificate is enough, no run of the source sets spaceerror.
-use Rattle.std.proofs.Common.{◌≡◌, ◌≤◌, ◌∷◌, [], ◌++◌, inl, inr, ℕ, suc, List, Bool, true, false, Option, Some, None, IfSome, IfOk, Result, Ok, Err, length, get_or, refl, sym, ap, ◌∙◌, subst, arith, append-nil}
+use Rattle.std.proofs.Common.{◌≡◌, ◌≤◌, ◌∷◌, [], ◌++◌, ℕ, suc, List, Bool, true, false, Option, Some, None, IfSome, Result, Ok, Err, length, get_or, refl, sym, ap, ◌∙◌, subst, arith, append-nil}
 use Rattle.std.specs.Prelude.{◌^◌, codes}
 use Rattle.std.specs.Result.{MatchResult}
-use Rattle.std.proofs.lemmas.Bool.{cases_lt}
 use Rattle.stack_text.specs.Lines.{line}
 use Rattle.stack_text.specs.Results.{◌>>=◌}
 use Rattle.stack_text.specs.Values.{ValueOf}
 use Rattle.stack_shelf.specs.Files.{Files}
 use Rattle.stack_shelf.specs.Shelf.{fetched}
 use Rattle.fm_machine.specs.State.{Fm}
-use Rattle.fm_machine.specs.Run.{Outcome, IsFirst, IsOutcome, outcome, fm_run}
+use Rattle.fm_machine.specs.Run.{Outcome, IsFirst, IsOutcome, outcome}
 use Rattle.fm_machine.specs.declared.processor.Run.{Run}
 use Rattle.fm_machine.specs.declared.processor.Run.TheVariants as run
 use Rattle.fm_machine.proofs.RunLaws.{outcome_is}
 use Rattle.fm_image.specs.Image.{ImageOf}
 use Rattle.fm_loader.specs.Loaded.{loaded}
-use Rattle.fm_loader.specs.Values.{values_in}
 use Rattle.display_maps.specs.Reading.{ReadingOf, reading}
 use Rattle.display_maps.specs.Report.{report_text}
 use Rattle.level_debuggers.specs.Tallies.{Watching}
@@ -39,7 +37,7 @@ use Rattle.space_cert.proofs.LeastLaws.{covers_main}
 use Rattle.space_cert.proofs.NeverLaws.{never}
 use Rattle.stack_build.specs.declared.fault.BuildFault.{BuildFault}
 use Rattle.stack_build.specs.declared.fault.BuildFault.TheVariants as fault
-use Rattle.stack_build.specs.Build.{BuiltOf, BuildsText, built, source_in}
+use Rattle.stack_build.specs.Build.{source_in}
 use Rattle.stack_build.specs.Implements.{FitsFormals, meaning_shown}
 use Rattle.stack_build.specs.Joined.{BuiltImplements, BuiltTakesValues}
 use Rattle.stack_build.specs.Moments.{ArrivesAt, KeepsMoments}
@@ -57,33 +55,17 @@ use Rattle.command_line.specs.Gathered.{text_or_end}
 use Rattle.command_line.proofs.FileLaws.{was_short}
 use Rattle.cli_stack.specs.declared.reply.Verdict.TheVariants as verdict
 use Rattle.cli_stack.specs.Replies.{status_of, verdict_line, reply_text}
-use Rattle.cli_stack.specs.Run.{end_reply, run_reply, values_reply}
+use Rattle.cli_stack.specs.Run.{end_reply, run_reply}
 use Rattle.cli_stack.specs.SourceText.{build_verdict, unless_refused, accepted_in}
-use Rattle.cli_stack.specs.Go.{go_reply}
 use Rattle.cli_stack.specs.Need.{bounds_stored, bounds_reply, certified_stored, certified_reply, need_stored_by, need_reply_by}
 use Rattle.cli_stack.specs.Cert.{yes_or_no, judged_reply, certificate_reply, cert_reply_by}
 use Rattle.cli_stack.specs.Answer.{Answer, set_file, stored_by, reply_by, answer_with, answer_on, answer_by}
 use Rattle.cli_stack.specs.Correct.{IsReadable}
 use Rattle.cli_stack.specs.Room.{TellsOther, GoesOther, HasRoom, TellsNeed, Needs}
+use Rattle.cli_stack.proofs.GoLaws.{first_once, early_done, build_done, go_done}
 use Rattle.cli_stack.proofs.TellsLaws.{is_there}
 
 -- 1. A run that ended.
-
--- a machine comes to a program counter first once
-first_once : (m : Fm) (pc k j : ℕ) (s t : Fm) → IsFirst m pc k s → IsFirst m pc j t → (k ≡ j) × (s ≡ t)
-first_once m pc k j s t f g =
-    elim (cases_lt k j) [
-      | inl lt ↦ absurd (g.before k s lt f.reached f.there)
-      | inr le ↦ elim (cases_lt j k) [
-        | inl lt ↦ absurd (f.before j t lt g.reached g.there)
-        | inr le' ↦
-            let same : k ≡ j = omega (arith, le, le') in
-            let first : fm_run j m ≡ Ok s = ap (λ n. fm_run n m) (sym same) ∙ f.reached in
-            let second : fm_run j m ≡ Ok t = g.reached in
-            let state : s ≡ t = cc in
-            (same, state)
-      ]
-    ]
 
 module _ (source : SourceOf) (sizes : Words) (never_set : (values : List ValueOf) → NeverSpaceError (program_of source) sizes values) (image : ImageOf) (values : List ValueOf)
     (keeps : KeepsMoments image source sizes) (fits : FitsFormals source values) (budget : ℕ) (output : Option (List ℕ × List ℕ)) where
@@ -119,40 +101,10 @@ module _ (source : SourceOf) (sizes : Words) (never_set : (values : List ValueOf
 
 -- 2. `go`.
 
-early_done : (e : EarlyEnd) → end_status e ≡ Done → ⊥
-early_done (early.Missing name) h = cc
-early_done (early.TooLong limit) h = cc
-early_done (early.ShelfFault name) h = cc
-early_done early.OutOfMemory h = cc
-
-build_done : (f : BuildFault) → status_of (build_verdict f) ≡ Done → ⊥
-build_done (fault.Text rule place) h = cc
-build_done (fault.Form rule place) h = cc
-build_done (fault.Rule rule place) h = cc
-build_done fault.Size h = cc
-build_done (fault.Control need) h = cc
-build_done (fault.Temporary need) h = cc
-build_done (fault.Words count) h = cc
-build_done fault.Memory h = cc
-
 module _ (implement : BuiltImplements) (take : BuiltTakesValues) (files : Files) (name text : List ℕ) (readable : IsReadable files Source name text) (source : SourceOf) (read : source_in text ≡ Ok source) (sizes : Words)
     (never_set : (values : List ValueOf) → NeverSpaceError (program_of source) sizes values) where
   short : length text ≤ 2 ^ 31
   short = omega (arith, readable.short)
-
-  module _ (values_text : List ℕ) (budget : ℕ) (output : Option (List ℕ × List ℕ)) where
-    by_built : (found : Result BuiltOf BuildFault) → built text sizes.ctrl sizes.temp 0 ≡ found → IfOk found (BuildsText text sizes.ctrl sizes.temp) → status_of (go_reply found values_text budget).verdict ≡ Done
-        → TellsOther source (answer_with output (go_reply found values_text budget))
-    by_built (Err f) is builds done = absurd (build_done f done)
-    by_built (Ok b) is builds done = by_values (values_in b.image.slots values_text) refl done
-      where
-        by_values : (found : Result (List ValueOf) (ℕ × ℕ)) → values_in b.image.slots values_text ≡ found → status_of (values_reply b.image budget found).verdict ≡ Done → TellsOther source (answer_with output (values_reply b.image budget found))
-        by_values (Err f) gives done = absurd cc
-        by_values (Ok values) gives done =
-            let same_read : Ok builds.source ≡ Ok source = sym builds.read ∙ read in
-            let same : builds.source ≡ source = cc in
-            let keeps : KeepsMoments b.image source sizes = subst (λ (s : SourceOf). KeepsMoments b.image s sizes) same builds.builds.moments in
-            run_other source sizes never_set b.image values keeps (take text sizes.ctrl sizes.temp 0 source b values_text values short (omega arith) read is gives) budget output done
 
   goes_other : GoesOther files name source sizes
   unfolding inputs_of reply_by
@@ -165,7 +117,9 @@ module _ (implement : BuiltImplements) (take : BuiltTakesValues) (files : Files)
       by_second : (second : Result (List ℕ) EarlyEnd) → (answer_on (command.Go name values sizes.ctrl sizes.temp budget image) watches ((second >>= λ other. Ok ((Values, other) ∷ [])) >>= λ texts. Ok ((Source, text) ∷ texts))).status ≡ Done
           → TellsOther source (answer_on (command.Go name values sizes.ctrl sizes.temp budget image) watches ((second >>= λ other. Ok ((Values, other) ∷ [])) >>= λ texts. Ok ((Source, text) ∷ texts)))
       by_second (Err e) done = absurd (early_done e done)
-      by_second (Ok other) done = by_built other budget _ (built text sizes.ctrl sizes.temp 0) refl (implement text sizes.ctrl sizes.temp 0 short (omega arith)) done
+      by_second (Ok other) done =
+          go_done implement take text short source read sizes (TellsOther source) other budget _
+          (λ b values builds gives fits ends. run_other source sizes never_set b.image values builds.moments fits budget _ ends) done
 
   abbrev has_room : HasRoom files name sizes
   has_room = record { text = text; readable = readable; source = source; read = read; never = never_set; goes = goes_other }

@@ -54,6 +54,7 @@ use Rattle.cli_stack.specs.Run.{end_reply, run_reply, values_reply, image_reply}
 use Rattle.cli_stack.specs.Show.{listing_reply}
 use Rattle.cli_stack.specs.Migrate.{migrated_reply}
 use Rattle.cli_stack.specs.Asm.{assembled_reply}
+use Rattle.cli_stack.specs.Mini.{lowering_of, lowered_reply}
 use Rattle.cli_stack.specs.Unasm.{printed_reply}
 use Rattle.cli_stack.specs.Need.{bounds_reply, certified_reply, need_reply_by}
 use Rattle.cli_stack.specs.Cert.{judged_reply, certificate_reply, cert_reply_by}
@@ -100,6 +101,10 @@ migrated_no_size name (Err fault) = refl
 assembled_no_size : (found : Result ImageOf Breach) → is_size (assembled_reply found).verdict ≡ false
 assembled_no_size (Ok image) = refl
 assembled_no_size (Err breach) = refl
+
+lowered_no_size : (name : List ℕ) (found : Result SourceOf Breach) → is_size (lowered_reply name found).verdict ≡ false
+lowered_no_size name (Ok source) = refl
+lowered_no_size name (Err breach) = refl
 
 printed_no_size : (name : List ℕ) (found : Result ImageOf (ℕ × ℕ)) → is_size (printed_reply name found).verdict ≡ false
 printed_no_size name (Err fault) = refl
@@ -205,6 +210,8 @@ sizes_by (command.Need source certificate) watches texts =
 sizes_by (command.Cert source certificate control temporary) watches texts =
     no_sizes (command.Cert source certificate control temporary) (reply_by (command.Cert source certificate control temporary) watches texts)
     (cert_no_size (accepted_in (text_of role.Source texts)) (stack_words temporary control) (text_of role.Certificate texts) (source_no_size (text_of role.Source texts)))
+sizes_by (command.Mini program source) watches texts =
+    no_sizes (command.Mini program source) (reply_by (command.Mini program source) watches texts) (lowered_no_size source (lowering_of (text_of role.Infix texts)))
 sizes_by (command.Check source) watches texts = no_sizes (command.Check source) (reply_by (command.Check source) watches texts) (judgement_no_size (accepted_in (text_of role.Source texts)) (source_no_size (text_of role.Source texts)))
 sizes_by (command.Pcheck piton) watches texts = no_sizes (command.Pcheck piton) (reply_by (command.Pcheck piton) watches texts) (judgement_no_size (checked_in (text_of role.Piton texts)) (refused_no_size (text_of role.Piton texts)))
 sizes_by (command.Prun piton limit) watches texts = no_sizes (command.Prun piton limit) (reply_by (command.Prun piton limit) watches texts) (checked_run_no_size (checked_in (text_of role.Piton texts)) limit (refused_no_size (text_of role.Piton texts)))

@@ -74,6 +74,6 @@ same_on a b ds (Err fault) = refl
 same_on a b ds (Ok tree) = same_at a b ds tree
 
 -- the image's slots take the values that main's formals take
-pub image_takes : (source : SourceOf) (sizes : Words) (text : List ℕ) → values_in (image_of source sizes 0).slots text ≡ values_in (formal_slots source) text
+pub image_takes : (source : SourceOf) (sizes : Words) (base : ℕ) (text : List ℕ) → values_in (image_of source sizes base).slots text ≡ values_in (formal_slots source) text
 unfolding values_in image_of
-image_takes source sizes text = same_on _ 0 (shown_formals source) (tree_in text)
+image_takes source sizes base text = same_on _ 0 (shown_formals source) (tree_in text)

@@ -24,7 +24,7 @@ use Rattle.command_line.specs.declared.command.Command.{Command}
 use Rattle.command_line.specs.declared.command.Command.TheVariants as command
 use Rattle.command_line.specs.declared.early_end.EarlyEnd.{EarlyEnd}
 use Rattle.command_line.specs.declared.role.Role.{Role}
-use Rattle.command_line.specs.declared.role.Role.TheVariants.{Source, Piton, Image, Values, Script, Assembly, Certificate, TaskSource, TaskValues}
+use Rattle.command_line.specs.declared.role.Role.TheVariants.{Source, Piton, Image, Values, Script, Assembly, Certificate, Infix, TaskSource, TaskValues}
 use Rattle.command_line.specs.declared.command.TaskFiles.{TaskFiles}
 use Rattle.command_line.specs.declared.words.reader.Level.{Level}
 use Rattle.command_line.specs.Roles.{limit_of}
@@ -37,6 +37,7 @@ use Rattle.cli_stack.specs.Go.{go_reply}
 use Rattle.cli_stack.specs.Run.{outcome_reply, run_reply, image_file_reply}
 use Rattle.cli_stack.specs.Answer.{reply_by, answer_with, answer_on, answer_to, answer_by}
 use Rattle.cli_stack.specs.Correct.{IsReadable, IsBuilt, IsRead, TellsMeaning, HasImage, TellsMeanings, Tells}
+use Rattle.cli_stack.proofs.RoleLaws.{only_role, both_roles}
 
 -- 1. A run that is long enough tells the meaning.
 
@@ -51,7 +52,7 @@ run_tells image source sizes values finals way count budget does fits done enoug
     (ap (λ (o : Outcome). (outcome_reply image budget o).verdict) is, ap (λ (o : Outcome). (outcome_reply image budget o).said) is ∙ ap (λ r. report_text image r count) end.reads)
 
 -- so does the answer that has its reply
-reply_tells : (image : ImageOf) (source : SourceOf) (sizes : Words) (values finals : List ValueOf) (way : Way) (count budget : ℕ) (output : Option (List ℕ × List ℕ)) (reply : ReplyOf) → Implements image source sizes → FitsFormals source values
+pub reply_tells : (image : ImageOf) (source : SourceOf) (sizes : Words) (values finals : List ValueOf) (way : Way) (count budget : ℕ) (output : Option (List ℕ × List ℕ)) (reply : ReplyOf) → Implements image source sizes → FitsFormals source values
     → Finishes source sizes values finals way count → count ≤ budget → reply ≡ run_reply image values budget
     → TellsMeaning source image finals way count (answer_with output reply)
 reply_tells image source sizes values finals way count budget output reply does fits done enough is =
@@ -117,17 +118,6 @@ values_name role first second name other (zero, lt, is) = absurd (other (ap (λ 
 values_name role first second name other (suc zero, lt, is) = ap (λ (f : Role × List ℕ). f.1) is
 values_name role first second name other (suc (suc i), lt, is) = absurd (omega arith)
 
--- who reads one file, of another role, reads no values
-no_values : (role : Role) (first name : List ℕ) → (role ≡ Values → ⊥) → Contains {X = Role × List ℕ} ((role, first) ∷ []) (Values, name) → ⊥
-no_values role first name other (zero, lt, is) = other (ap (λ (f : Role × List ℕ). f.0) is)
-no_values role first name other (suc i, lt, is) = omega arith
-
--- nor does `cert`
-cert_no_values : (source_name certificate name : List ℕ) → Contains {X = Role × List ℕ} ((Source, source_name) ∷ (Certificate, certificate) ∷ []) (Values, name) → ⊥
-cert_no_values source_name certificate name (zero, lt, is) = let e : Source ≡ Values = ap (λ (f : Role × List ℕ). f.0) is in cc
-cert_no_values source_name certificate name (suc zero, lt, is) = let e : Certificate ≡ Values = ap (λ (f : Role × List ℕ). f.0) is in cc
-cert_no_values source_name certificate name (suc (suc i), lt, is) = omega arith
-
 -- the values of tasks have a role of their own
 tasks_no_values : (tasks : List TaskFiles) (name : List ℕ) → Contains (task_inputs tasks) (Values, name) → ⊥
 tasks_no_values [] name (i, lt, is) = omega (arith, lt)
@@ -166,19 +156,20 @@ tells_by implement take (command.Run image_name values_file budget) watches file
 )
 tells_by implement take (command.Mean source_name values_file control temporary limit) watches files = λ name reads has. absurd (mean_has_none source_name values_file control temporary limit has)
 tells_by implement take (command.Debug level source_name values_file control temporary script) watches files = λ name reads has. absurd (debug_has_none level source_name values_file control temporary script has)
-tells_by implement take (command.Show image_name) watches files = λ name reads has. absurd (no_values Image image_name name (λ e. cc) reads)
-tells_by implement take (command.Migrate image_name output) watches files = λ name reads has. absurd (no_values Image image_name name (λ e. cc) reads)
-tells_by implement take (command.Asm assembly image_name) watches files = λ name reads has. absurd (no_values Assembly assembly name (λ e. cc) reads)
-tells_by implement take (command.Unasm image_name assembly) watches files = λ name reads has. absurd (no_values Image image_name name (λ e. cc) reads)
-tells_by implement take (command.Need source_name certificate) watches files = λ name reads has. absurd (no_values Source source_name name (λ e. cc) reads)
-tells_by implement take (command.Cert source_name certificate control temporary) watches files = λ name reads has. absurd (cert_no_values source_name certificate name reads)
+tells_by implement take (command.Show image_name) watches files = λ name reads has. absurd (only_role Values Image image_name name (λ e. cc) reads)
+tells_by implement take (command.Migrate image_name output) watches files = λ name reads has. absurd (only_role Values Image image_name name (λ e. cc) reads)
+tells_by implement take (command.Asm assembly image_name) watches files = λ name reads has. absurd (only_role Values Assembly assembly name (λ e. cc) reads)
+tells_by implement take (command.Unasm image_name assembly) watches files = λ name reads has. absurd (only_role Values Image image_name name (λ e. cc) reads)
+tells_by implement take (command.Need source_name certificate) watches files = λ name reads has. absurd (only_role Values Source source_name name (λ e. cc) reads)
+tells_by implement take (command.Cert source_name certificate control temporary) watches files = λ name reads has. absurd (both_roles Values Source Certificate source_name certificate name (λ e. cc) (λ e. cc) reads)
+tells_by implement take (command.Mini program stored) watches files = λ name reads has. absurd (only_role Values Infix program name (λ e. cc) reads)
 tells_by implement take (command.Turns turn budget control temporary tasks) watches files = λ name reads has. absurd (tasks_no_values tasks name reads)
-tells_by implement take (command.Pit source_name control temporary piton_name) watches files = λ name reads has. absurd (no_values Source source_name name (λ e. cc) reads)
-tells_by implement take (command.Build source_name control temporary image_name) watches files = λ name reads has. absurd (no_values Source source_name name (λ e. cc) reads)
-tells_by implement take (command.Check source_name) watches files = λ name reads has. absurd (no_values Source source_name name (λ e. cc) reads)
-tells_by implement take (command.Pcheck piton_name) watches files = λ name reads has. absurd (no_values Piton piton_name name (λ e. cc) reads)
-tells_by implement take (command.Pbuild piton_name image_name) watches files = λ name reads has. absurd (no_values Piton piton_name name (λ e. cc) reads)
-tells_by implement take (command.Prun piton_name limit) watches files = λ name reads has. absurd (no_values Piton piton_name name (λ e. cc) reads)
+tells_by implement take (command.Pit source_name control temporary piton_name) watches files = λ name reads has. absurd (only_role Values Source source_name name (λ e. cc) reads)
+tells_by implement take (command.Build source_name control temporary image_name) watches files = λ name reads has. absurd (only_role Values Source source_name name (λ e. cc) reads)
+tells_by implement take (command.Check source_name) watches files = λ name reads has. absurd (only_role Values Source source_name name (λ e. cc) reads)
+tells_by implement take (command.Pcheck piton_name) watches files = λ name reads has. absurd (only_role Values Piton piton_name name (λ e. cc) reads)
+tells_by implement take (command.Pbuild piton_name image_name) watches files = λ name reads has. absurd (only_role Values Piton piton_name name (λ e. cc) reads)
+tells_by implement take (command.Prun piton_name limit) watches files = λ name reads has. absurd (only_role Values Piton piton_name name (λ e. cc) reads)
 tells_by implement take c watches files = λ name reads has. absurd (nothing name reads)
   where
     nothing : (name : List ℕ) → Contains {X = Role × List ℕ} [] (Values, name) → ⊥

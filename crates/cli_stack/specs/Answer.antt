@@ -7,7 +7,7 @@ use Rattle.stack_build.specs.Build.{built, compiled}
 use Rattle.level_debuggers.specs.Tallies.{Watching}
 use Rattle.command_line.specs.declared.command.Command.{Command}
 use Rattle.command_line.specs.declared.command.Command.TheVariants.{Check, Mean, Pit, Build, Pcheck, Prun, Pbuild}
-use Rattle.command_line.specs.declared.command.Command.TheVariants.{Run, Go, Show, Migrate, Asm, Unasm, Need, Cert, Debug, Big, Turns}
+use Rattle.command_line.specs.declared.command.Command.TheVariants.{Run, Go, Show, Migrate, Asm, Unasm, Need, Cert, Mini, Debug, Big, Turns}
 use Rattle.command_line.specs.declared.early_end.EarlyEnd.{EarlyEnd}
 use Rattle.command_line.specs.declared.role.Role.{Role}
 use Rattle.command_line.specs.declared.role.Role.TheVariants as role
@@ -30,6 +30,7 @@ use Rattle.cli_stack.specs.Asm.{asm_stored, asm_reply}
 use Rattle.cli_stack.specs.Unasm.{unasm_stored, unasm_reply}
 use Rattle.cli_stack.specs.Need.{need_stored, need_reply}
 use Rattle.cli_stack.specs.Cert.{cert_reply}
+use Rattle.cli_stack.specs.Mini.{mini_stored, mini_reply}
 use Rattle.cli_stack.specs.Debug.{debug_reply}
 use Rattle.cli_stack.specs.Check.{check_reply}
 use Rattle.cli_stack.specs.Pcheck.{pcheck_reply}
@@ -49,6 +50,7 @@ stored_by (Migrate image output) texts = migrate_stored (text_of role.Image text
 stored_by (Asm assembly image) texts = asm_stored (text_of role.Assembly texts)
 stored_by (Unasm image assembly) texts = unasm_stored (text_of role.Image texts)
 stored_by (Need source certificate) texts = need_stored (text_of role.Source texts)
+stored_by (Mini program source) texts = mini_stored (text_of role.Infix texts)
 stored_by _ texts = None
 
 unfoldable pub reply_by : Command → List Watching → Texts → ReplyOf
@@ -67,6 +69,7 @@ reply_by (Unasm image assembly) watches texts = unasm_reply assembly (text_of ro
 reply_by (Need source certificate) watches texts = need_reply (text_of role.Source texts)
 reply_by (Cert source certificate control temporary) watches texts =
     cert_reply (text_of role.Source texts) (text_of role.Certificate texts) control temporary
+reply_by (Mini program source) watches texts = mini_reply source (text_of role.Infix texts)
 reply_by (Check source) watches texts = check_reply (text_of role.Source texts)
 reply_by (Pcheck piton) watches texts = pcheck_reply (text_of role.Piton texts)
 reply_by (Prun piton limit) watches texts = prun_reply (text_of role.Piton texts) limit

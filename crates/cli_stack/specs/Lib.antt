@@ -6,6 +6,7 @@ pub mod Linked
 pub mod Completes
 pub mod Assembles
 pub mod Room
+pub mod Lowers
 pub mod Endless
 pub mod Explains
 pub mod ByTurns
@@ -27,6 +28,7 @@ pub mod Asm
 pub mod Unasm
 pub mod Need
 pub mod Cert
+pub mod Mini
 pub mod Debug
 pub mod Turns
 pub mod PitonText

@@ -27,6 +27,7 @@ use Rattle.cli_stack.specs.Means.{Means}
 use Rattle.cli_stack.specs.Linked.{Links}
 use Rattle.cli_stack.specs.Assembles.{Assembles}
 use Rattle.cli_stack.specs.Room.{Needs}
+use Rattle.cli_stack.specs.Lowers.{LowersPrograms}
 use Rattle.cli_stack.specs.Completes.{Completes}
 
 -- 1. What no failure spoils.
@@ -125,6 +126,8 @@ pub record PromisesOf (command : Option Command) (watches : List Watching) (answ
   pub assembles : IfSome before.shelf.files (λ files. Assembles command files (answer files).output)
   -- at the sizes that `need` tells, and where `cert` says yes, no run of the source sets spaceerror
   pub needs : IfSome before.shelf.files (λ files. Needs command files (answer files))
+  -- what `mini` stores means what its program does; the image that is built of it carries the program's runs, and `go` tells them
+  pub lowers : IfSome before.shelf.files (λ files. LowersPrograms command files (answer files))
   -- who reads a source and values and stores an image does all that it is for, where nothing is wrong and no device fails
   pub completes : IfSome before.shelf.files (λ files. Completes command files before after status)
   -- a call that has its words never ends for want of them

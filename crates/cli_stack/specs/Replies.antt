@@ -12,7 +12,7 @@ use Rattle.command_line.specs.declared.status.Status.{Status}
 use Rattle.command_line.specs.declared.status.Status.TheVariants as status
 use Rattle.stack_text.specs.Lines.{line}
 use Rattle.cli_stack.specs.declared.reply.RuleLetter.{RuleLetter}
-use Rattle.cli_stack.specs.declared.reply.RuleLetter.TheVariants.{G, M, S, P, Q, A}
+use Rattle.cli_stack.specs.declared.reply.RuleLetter.TheVariants.{G, M, S, P, Q, A, Y}
 use Rattle.cli_stack.specs.declared.reply.SizeOf.{SizeOf}
 use Rattle.cli_stack.specs.declared.reply.SizeOf.TheVariants.{Control, Temporary, Words}
 use Rattle.cli_stack.specs.declared.reply.Verdict.{Verdict}
@@ -29,6 +29,7 @@ letter_text S = codes "S"
 letter_text P = codes "P"
 letter_text Q = codes "Q"
 letter_text A = codes "A"
+letter_text Y = codes "Y"
 
 -- the number of a rule of the form of texts, whose letter is G
 abbrev pub text_rule_number : TextRule → ℕ

@@ -15,6 +15,7 @@ mod go;
 mod image_run;
 mod mean;
 mod migrate;
+mod mini;
 mod need;
 mod pbuild;
 mod pcheck;
@@ -100,6 +101,7 @@ pub fn prepare(
             control,
             temporary,
         ),
+        Command::Mini { source: name, .. } => { mini::prepare(alloc, texts.of(Role::Infix), name) }
         Command::Big { number, procedures } => big::prepare(alloc, *number, procedures),
         Command::Turns {
             turn,

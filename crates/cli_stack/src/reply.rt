@@ -12,7 +12,7 @@ use stack_text::{Memory, Name, Seq, TextRule};
 use std::alloc::Global;
 
 /// The letter of a rule by which a text is refused: G for the form of trees, M and S for sources, P and Q for Piton, A for
-/// assembly texts.
+/// assembly texts, Y for programs of the infix language.
 #[derive(Clone, Copy, PartialEq, Eq)]
 pub enum RuleLetter {
     G,
@@ -21,6 +21,7 @@ pub enum RuleLetter {
     P,
     Q,
     A,
+    Y,
 }
 
 /// What is too small or too large: a stack, or the words of a program.
@@ -38,7 +39,7 @@ pub enum Verdict {
     Done,
     /// The words are no command.
     Usage,
-    /// The source, the Piton text or the assembly text breaks the rule of a letter and a number, at a place of its text.
+    /// The source, the Piton text, the assembly text or the infix program breaks the rule of a letter and a number, at a place of its text.
     Refused {
         letter: RuleLetter,
         number: u8,
@@ -106,6 +107,7 @@ fn letter_text(letter: RuleLetter) -> &'static str
         RuleLetter::P => "P",
         RuleLetter::Q => "Q",
         RuleLetter::A => "A",
+        RuleLetter::Y => "Y",
     }
 }
 

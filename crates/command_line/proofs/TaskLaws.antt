@@ -7,7 +7,7 @@ use Rattle.stack_shelf.specs.Shelf.{fetched}
 use Rattle.command_line.specs.declared.command.TaskFiles.{TaskFiles}
 use Rattle.command_line.specs.declared.early_end.EarlyEnd.{EarlyEnd}
 use Rattle.command_line.specs.declared.role.Role.{Role}
-use Rattle.command_line.specs.declared.role.Role.TheVariants.{Source, Piton, Image, Values, Script, Assembly, Certificate, TaskSource, TaskValues}
+use Rattle.command_line.specs.declared.role.Role.TheVariants.{Source, Piton, Image, Values, Script, Assembly, Certificate, Infix, TaskSource, TaskValues}
 use Rattle.command_line.specs.Roles.{limit_of, is_role}
 use Rattle.command_line.specs.Gathered.{Texts, texts_of, AreRead, text_or_end, gathered}
 use Rattle.command_line.specs.CommandFiles.{task_inputs, names_in}
@@ -21,6 +21,7 @@ same_role Values Values h = refl
 same_role Script Script h = refl
 same_role Assembly Assembly h = refl
 same_role Certificate Certificate h = refl
+same_role Infix Infix h = refl
 same_role TaskSource TaskSource h = refl
 same_role TaskValues TaskValues h = refl
 same_role a b h = absurd cc

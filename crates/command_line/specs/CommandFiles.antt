@@ -3,7 +3,7 @@ use Rattle.std.specs.Prelude.{ℕ, List, [], ◌∷◌, ◌++◌, Option, Some, 
 use Rattle.std.specs.Option.{option_to_list}
 use Rattle.command_line.specs.declared.command.Command.{Command}
 use Rattle.command_line.specs.declared.command.Command.TheVariants.{Check, Mean, Pit, Build, Pcheck, Prun, Pbuild}
-use Rattle.command_line.specs.declared.command.Command.TheVariants.{Run, Go, Show, Migrate, Asm, Unasm, Need, Cert, Debug, Big, Turns}
+use Rattle.command_line.specs.declared.command.Command.TheVariants.{Run, Go, Show, Migrate, Asm, Unasm, Need, Cert, Mini, Debug, Big, Turns}
 use Rattle.command_line.specs.declared.command.TaskFiles.{TaskFiles}
 use Rattle.command_line.specs.declared.role.Role.{Role}
 use Rattle.command_line.specs.declared.role.Role.TheVariants as role
@@ -24,6 +24,7 @@ inputs_of (Asm assembly image) = (role.Assembly, assembly) ∷ []
 inputs_of (Unasm image assembly) = (role.Image, image) ∷ []
 inputs_of (Need source certificate) = (role.Source, source) ∷ []
 inputs_of (Cert source certificate control temporary) = (role.Source, source) ∷ (role.Certificate, certificate) ∷ []
+inputs_of (Mini program source) = (role.Infix, program) ∷ []
 inputs_of (Check source) = (role.Source, source) ∷ []
 inputs_of (Pit source control temporary piton) = (role.Source, source) ∷ []
 inputs_of (Build source control temporary image) = (role.Source, source) ∷ []
@@ -44,6 +45,7 @@ output_of (Pit source control temporary piton) = Some (role.Piton, piton)
 output_of (Asm assembly image) = Some (role.Image, image)
 output_of (Unasm image assembly) = Some (role.Assembly, assembly)
 output_of (Need source certificate) = Some (role.Certificate, certificate)
+output_of (Mini program source) = Some (role.Source, source)
 output_of _ = None
 
 -- the names of the files of a role, in order

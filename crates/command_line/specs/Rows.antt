@@ -3,7 +3,7 @@ use Rattle.std.specs.Prelude.{ℕ, List, [], ◌∷◌, Option, Some, None, code
 use Rattle.std.specs.Str.{bytes_eq}
 use Rattle.command_line.specs.declared.command.Command.{Command}
 use Rattle.command_line.specs.declared.command.Command.TheVariants.{Check, Mean, Pit, Build, Pcheck, Prun, Pbuild}
-use Rattle.command_line.specs.declared.command.Command.TheVariants.{Run, Go, Show, Migrate, Asm, Unasm, Need, Cert, Debug, Big, Turns}
+use Rattle.command_line.specs.declared.command.Command.TheVariants.{Run, Go, Show, Migrate, Asm, Unasm, Need, Cert, Mini, Debug, Big, Turns}
 use Rattle.command_line.specs.declared.words.verb.Verb.{Verb}
 use Rattle.command_line.specs.declared.words.verb.Verb.TheVariants as verb
 use Rattle.command_line.specs.Words.{Words, Reader, file, size, limit, seed, procedures, debug_level, turn_length, tasks, end}
@@ -141,6 +141,13 @@ cert_row = do
   temporary ← size
   at_end (Cert source certificate control temporary)
 
+-- `mini SRC OUT`
+unfoldable pub mini_row : Words → Option Command
+mini_row = do
+  program ← file
+  source ← file
+  at_end (Mini program source)
+
 -- `debug LEVEL SRC VALS CTRL TEMP SCRIPT`
 unfoldable pub debug_row : Words → Option Command
 debug_row = do
@@ -186,9 +193,10 @@ verb_of word =
     else (if bytes_eq word (codes "unasm") then Some verb.Unasm
     else (if bytes_eq word (codes "need") then Some verb.Need
     else (if bytes_eq word (codes "cert") then Some verb.Cert
+    else (if bytes_eq word (codes "mini") then Some verb.Mini
     else (if bytes_eq word (codes "debug") then Some verb.Debug
     else (if bytes_eq word (codes "big") then Some verb.Big
-    else (if bytes_eq word (codes "turns") then Some verb.Turns else None)))))))))))))))))
+    else (if bytes_eq word (codes "turns") then Some verb.Turns else None))))))))))))))))))
 
 -- the row of each verb
 abbrev pub row_of : Verb → Words → Option Command
@@ -207,6 +215,7 @@ row_of verb.Asm = asm_row
 row_of verb.Unasm = unasm_row
 row_of verb.Need = need_row
 row_of verb.Cert = cert_row
+row_of verb.Mini = mini_row
 row_of verb.Debug = debug_row
 row_of verb.Big = big_row
 row_of verb.Turns = turns_row

@@ -96,6 +96,11 @@ pub enum Command {
         control: StackSize,
         temporary: StackSize,
     },
+    /// Lowers a program of the infix language to a source, and stores that.
+    Mini {
+        program: FileName,
+        source: FileName,
+    },
     /// Follows a script of a debugger in a session of a source's program, at a level.
     Debug {
         level: Level,
@@ -152,6 +157,7 @@ impl Command {
             | Command::Migrate { image, .. }
             | Command::Unasm { image, .. } => Ok(vec![in alloc; Role::Image.file(image)]?),
             Command::Asm { assembly, .. } => Ok(vec![in alloc; Role::Assembly.file(assembly)]?),
+            Command::Mini { program, .. } => Ok(vec![in alloc; Role::Infix.file(program)]?),
             Command::Check { source }
             | Command::Pit { source, .. }
             | Command::Build { source, .. }
@@ -196,6 +202,7 @@ impl Command {
             Command::Pit { piton, .. } => Some(Role::Piton.file(piton)),
             Command::Unasm { assembly, .. } => Some(Role::Assembly.file(assembly)),
             Command::Need { certificate, .. } => Some(Role::Certificate.file(certificate)),
+            Command::Mini { source, .. } => Some(Role::Source.file(source)),
             _ => None,
         }
     }

@@ -1,5 +1,5 @@
 //! Fetches the files that a command reads.
-ghost use Rattle.std.specs.Prelude.{◌≡◌, IfErr, IfSome, map};
+ghost use Rattle.std.specs.Prelude.{◌≡◌, ◌≤◌, IfErr, IfOk, IfSome, length, map};
 ghost use Rattle.stack_shelf.specs.Causes.{NoneFell};
 ghost use Rattle.stack_shelf.specs.Shelf.{fetched};
 ghost use Rattle.command_line.specs.Roles.{limit_of};
@@ -18,6 +18,7 @@ use std::alloc::Global;
 fn fetch<S: Shelf>(alloc: Global, shelf: &mut S, role: Role, name: &str) -> Result<Text, EarlyEnd>
     ensures text { IfSome (S.files shelf.old) (λ files.
         Gives (λ text. text) result (text_or_end (role, name.now) (fetched files name.now (limit_of role)))) }
+    ensures within { IfOk result (λ text. length text ≤ limit_of role) }
     ensures cause { IfErr result (EndsAt (S.counts shelf.old) (S.counts shelf.new) name.now) }
     ensures files { S.files shelf.new ≡ S.files shelf.old }
     ensures counts { NoneFell (S.counts shelf.old) (S.counts shelf.new) }

@@ -18,6 +18,8 @@ pub enum Role {
     Assembly,
     /// A certificate that calls have room.
     Certificate,
+    /// A program of the infix language.
+    Infix,
     /// A source of a task.
     TaskSource,
     /// Values of a task's variables.
@@ -53,6 +55,7 @@ impl Role {
             | Role::Values
             | Role::Script
             | Role::Certificate
+            | Role::Infix
             | Role::TaskSource
             | Role::TaskValues => 1 << 20,
             Role::Piton => 1 << 24,

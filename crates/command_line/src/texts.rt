@@ -39,24 +39,28 @@ impl Text {
     }
 }
 
-/// The texts of the files that a command reads, each with its role. Contracts see them as a list.
+/// The texts of the files that a command reads, each with its role, and no longer than that allows. Contracts see them as a list.
 #[derive(Drop)]
 pub struct Texts {
     texts: Vec<(Role, Text)>,
 }
 
 impl Model for Texts {
-    ghost use Rattle.std.specs.Prelude.{List, ℕ};
+    ghost use Rattle.std.specs.Prelude.{List, ℕ, ◌≤◌, All, length};
     ghost use Rattle.command_line.specs.declared.role.Role.{Role};
+    ghost use Rattle.command_line.specs.Roles.{limit_of};
 
     ghost Value = { List (Role × List ℕ) };
 
     ghost view = { λ t. t.texts.items };
+
+    ghost invariant = { λ t. All (λ text. length text.1 ≤ limit_of text.0) t.texts.items };
 }
 
 impl Texts {
     ghost use Rattle.std.specs.Prelude.{◌≡◌, ◌≤◌, ◌^◌, ◌++◌, ◌∷◌, [], length, map, All, IfOk, OnOk, OnErr};
     ghost use Rattle.command_line.specs.Gathered.{text_of, texts_of};
+    ghost use Rattle.command_line.specs.Roles.{limit_of};
 
     /// No texts. It takes no memory.
     pub fn new(alloc: Global) -> Texts
@@ -69,6 +73,7 @@ impl Texts {
 
     /// Puts a text after the others. Out of memory leaves them as they were.
     pub fn push(&mut self, role: Role, text: Text) -> Result<(), AllocFailed<(Role, Text)>>
+        requires { length text ≤ limit_of role }
         ensures ok { OnOk result (self.new ≡ self.old ++ (role, text) ∷ []) }
         ensures err { OnErr result (self.new ≡ self.old) }
     {
@@ -78,6 +83,7 @@ impl Texts {
     /// The bytes of the first text of a role, or none.
     pub fn of(&self, role: Role) -> &[u8]
         ensures value { result.now ≡ text_of role self.now }
+        ensures within { length result.now ≤ limit_of role }
         ensures short { length result.now ≤ 2 ^ 31 }
     {
         for text in &self.texts {

@@ -10,6 +10,10 @@ const JUMP_TO_ITSELF: u32 = 0x05e0_3c0f;
 
 const SUB_R3_FROM_R3_UP: u32 = 0x07e0_0c33;
 
+const MOVE_R2_FROM_R3_UP: u32 = 0x00e0_0833;
+
+const MOVE_R3_UP_FROM_R2: u32 = 0x00e0_cc02;
+
 #[test]
 fn windows(rt: HostRuntime) {
     let rows = [
@@ -30,6 +34,59 @@ fn windows(rt: HostRuntime) {
         );
         assert!(rt; !matches!(answer, Err(NewFault::Memory)));
     }
+}
+
+#[test]
+fn pages(rt: HostRuntime) -> Result<(), Fail> {
+    let mut machine = Machine::new(rt.alloc(), 5, 257)?;
+    assert_eq!(rt; machine.pages(), 0);
+    machine.poke(261, 9)?;
+    let words = [machine.peek(260), machine.peek(261), machine.peek(262)];
+    assert_eq!(rt; words, [Some(0), Some(9), None]);
+    assert_eq!(rt; machine.pages(), 1);
+
+    machine.poke(5, 0)?;
+    assert_eq!(rt; machine.pages(), 1);
+    machine.poke(260, 3)?;
+    machine.poke(261, 0)?;
+    assert_eq!(rt;
+        (machine.pages(), machine.peek(260), machine.peek(261)),
+        (2, Some(3), Some(0))
+    );
+    Ok(())
+}
+
+#[test]
+fn a_short_last_page_ends_with_the_window(rt: HostRuntime) -> Result<(), Fail> {
+    let mut machine = Machine::new(rt.alloc(), 5, 257)?;
+    machine.poke(5, MOVE_R2_FROM_R3_UP)?;
+    machine.poke(6, MOVE_R2_FROM_R3_UP)?;
+    machine.poke(261, 9)?;
+    machine.set_register(3, 261);
+    machine.set_register(15, 5);
+    machine.step()?;
+    assert_eq!(rt; (machine.register(2), machine.register(3)), (9, 262));
+    assert_eq!(rt; machine.step(), Err(Outside { address: 262 }));
+    assert_eq!(rt; machine.pages(), 2);
+    Ok(())
+}
+
+#[test]
+fn steps_take_pages(rt: HostRuntime) -> Result<(), Fail> {
+    let mut machine = Machine::new(rt.alloc(), 0, 1024)?;
+    for address in 0..4 {
+        machine.poke(address, MOVE_R3_UP_FROM_R2)?;
+    }
+    machine.set_register(3, 510);
+    machine.step()?;
+    assert_eq!(rt; machine.pages(), 1);
+
+    machine.set_register(2, 7);
+    assert_eq!(rt; machine.run(10, 3), Run::Ended { count: 2 });
+    assert_eq!(rt; machine.pages(), 3);
+    let words = [510, 511, 512, 513, 768].map(|address| machine.peek(address));
+    assert_eq!(rt; words, [Some(0), Some(7), Some(7), Some(0), Some(0)]);
+    Ok(())
 }
 
 #[test]

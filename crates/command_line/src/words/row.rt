@@ -1,6 +1,6 @@
 //! The words of each command.
 ghost use Rattle.command_line.specs.Words.{Reads, ReadsExactly, spelled};
-ghost use Rattle.command_line.specs.Rows.{check_row, mean_row, pit_row, build_row, pcheck_row, prun_row, pbuild_row, run_row, go_row, show_row, migrate_row, asm_row, unasm_row, need_row, cert_row, debug_row, big_row, turns_row, row_of, command_of};
+ghost use Rattle.command_line.specs.Rows.{check_row, mean_row, pit_row, build_row, pcheck_row, prun_row, pbuild_row, run_row, go_row, show_row, migrate_row, asm_row, unasm_row, need_row, cert_row, mini_row, debug_row, big_row, turns_row, row_of, command_of};
 
 use crate::command::Command;
 use crate::words::reader::{
@@ -220,6 +220,17 @@ fn cert_row(alloc: Global, words: &[String]) -> Result<Command, WordsFault>
     })
 }
 
+/// `mini SRC OUT`
+#[tactic(auto, unfolding(crate::specs::Rows::mini_row))]
+fn mini_row(alloc: Global, words: &[String]) -> Result<Command, WordsFault>
+    ensures { Reads (λ command. command) result (mini_row (spelled words.now)) }
+{
+    let (program, words) = file(alloc, words)?;
+    let (source, words) = file(alloc, words)?;
+    end(words)?;
+    Ok(Command::Mini { program, source })
+}
+
 /// `debug LEVEL SRC VALS CTRL TEMP SCRIPT`
 #[tactic(auto, unfolding(crate::specs::Rows::debug_row))]
 fn debug_row(alloc: Global, words: &[String]) -> Result<Command, WordsFault>
@@ -293,6 +304,7 @@ fn row_of(alloc: Global, verb: Verb, words: &[String]) -> Result<Command, WordsF
         Verb::Unasm => unasm_row(alloc, words),
         Verb::Need => need_row(alloc, words),
         Verb::Cert => cert_row(alloc, words),
+        Verb::Mini => mini_row(alloc, words),
         Verb::Debug => debug_row(alloc, words),
         Verb::Big => big_row(words),
         Verb::Turns => turns_row(alloc, words),

@@ -9,6 +9,7 @@ use Rattle.cli_stack.proofs.ExplainsLaws.{explains}
 use Rattle.cli_stack.proofs.ImplementsLaws.{implements}
 use Rattle.cli_stack.proofs.TellsLaws.{tells}
 use Rattle.cli_stack.proofs.LinksLaws.{links}
+use Rattle.cli_stack.proofs.LowersLaws.{lowers}
 use Rattle.cli_stack.proofs.MeansLaws.{means}
 use Rattle.cli_stack.proofs.PromisesLaws.{promises}
 use Rattle.cli_stack.proofs.RoomLaws.{needs}
@@ -24,7 +25,7 @@ returns-clause-promises g c =
       c.code.ensures,
       promises command watches _ _ c.run_words-ran.result c.conclude.result c.run_words-ran.ensures.leaves c.run_words-ran.ensures.reason c.run_words-ran.ensures.reply c.conclude.ensures
           (implements built.implements command watches files) (tells built.implements built.values command watches files) (means command watches files) (links c.placed_are_words.ensures command watches files)
-          (assembles command watches files) (needs built.implements built.values command watches files),
+          (assembles command watches files) (needs built.implements built.values command watches files) (lowers built.implements built.values command watches files),
     )
 
 pub returns-clause-endless : goal.returns-clause-endless

@@ -1,0 +1,119 @@
+-- That the source which is stored of an infix program means what the program does, so that the images which are built of it carry the
+-- program's runs to memory, and `go` tells them.
+use Rattle.std.specs.Prelude.{◌≡◌, ◌≤◌, ℕ, ◌+◌, ◌*◌, List, length, Option, Some, None, Ok}
+use Rattle.stack_text.specs.Values.{ValueOf}
+use Rattle.stack_shelf.specs.Files.{Files, file_at}
+use Rattle.fm_image.specs.Image.{ImageOf}
+use Rattle.fm_image.specs.Spelling.{Spelled}
+use Rattle.fm_loader.specs.Values.{values_in}
+use Rattle.gypsy_syntax.specs.Resolved.{program_of}
+use Rattle.gypsy_syntax.specs.Sources.{SourceOf}
+use Rattle.gypsy_meaning.specs.Calls.{Way}
+use Rattle.gypsy_meaning.specs.Meaning.{Done as RunDone}
+use Rattle.stack_build.specs.Build.{source_in}
+use Rattle.stack_build.specs.Formals.{shown_names}
+use Rattle.stack_build.specs.Image.{formal_slots}
+use Rattle.stack_build.specs.Implements.{meaning_shown, FitsFormals, ComesTo}
+use Rattle.mini_syntax.specs.Answers.{IsFault, IsFaultless}
+use Rattle.mini_syntax.specs.Breaches.{body_of, declared_of, names_of}
+use Rattle.mini_syntax.specs.Grammar.{Program}
+use Rattle.mini_gypsy.specs.Meant.{program_run}
+use Rattle.mini_texts.specs.Stored.{MeansAlways}
+use Rattle.command_line.specs.declared.command.Command.{Command}
+use Rattle.command_line.specs.declared.command.Command.TheVariants.{Mini, Go}
+use Rattle.command_line.specs.declared.role.Role.TheVariants.{Infix, Source, Values, Image}
+use Rattle.command_line.specs.declared.status.Status.TheVariants.{Done, Refused}
+use Rattle.cli_stack.specs.declared.reply.RuleLetter.TheVariants.{Y}
+use Rattle.cli_stack.specs.declared.reply.Verdict.TheVariants as verdict
+use Rattle.cli_stack.specs.Replies.{verdict_line}
+use Rattle.cli_stack.specs.Answer.{Answer}
+use Rattle.cli_stack.specs.Correct.{ReadsFile, StoresFile, IsReadable, TellsMeaning}
+
+-- 1. What is stored of a program.
+
+-- the text is read as a source that is accepted, has the program's variables, and means what the program does
+pub record MeansProgram (text : List ℕ) (program : Program) : Type 0 where
+  pub source : SourceOf
+  pub read : source_in text ≡ Ok source
+  pub names : shown_names source ≡ names_of (declared_of program)
+  pub means : MeansAlways (program_of source) (body_of program)
+
+-- a file has a program that breaks no rule, and what is stored under this name is a source that means what the program does
+pub record StoresLowered (files : Files) (name stored : List ℕ) (answer : Answer) : Type 0 where
+  pub text : List ℕ
+  pub readable : IsReadable files Infix name text
+  pub program : Program
+  pub faultless : IsFaultless text program
+  pub bytes : List ℕ
+  pub output : answer.output ≡ Some (stored, bytes)
+  pub means : MeansProgram bytes program
+  pub short : length bytes ≤ 60 * length text + 2000
+
+-- a file has a text with a fault, which is told, and nothing is stored
+pub record TellsFault (files : Files) (name : List ℕ) (answer : Answer) : Type 0 where
+  pub text : List ℕ
+  pub readable : IsReadable files Infix name text
+  pub rule : ℕ
+  pub place : ℕ
+  pub fault : IsFault text rule place
+  pub told : answer.text ≡ verdict_line (verdict.Refused Y rule place)
+  pub output : answer.output ≡ None
+
+pub record TellsMini (files : Files) (name stored : List ℕ) (answer : Answer) : Type 0 where
+  pub done : answer.status ≡ Done → StoresLowered files name stored answer
+  pub refused : answer.status ≡ Refused → TellsFault files name answer
+
+-- 2. What is built of that.
+
+-- the program's run on these values is done within some bound, with these variables and this condition
+abbrev pub RunEnds : Program → List ValueOf → List ValueOf → Way → Type 0
+RunEnds program values finals way = (n : ℕ) × (program_run (body_of program) values n ≡ RunDone finals way)
+
+-- on all values that fit, where the program's run is done, the loaded machine comes to its end, and memory shows how the run ended
+abbrev pub CarriesRuns : ImageOf → SourceOf → Program → Type 0
+CarriesRuns image source program =
+    (values finals : List ValueOf) (way : Way) → FitsFormals source values → RunEnds program values finals way
+    → (count : ℕ) × ComesTo image values count (meaning_shown source finals way)
+
+-- the bytes are the file of such an image
+pub record HoldsRuns (bytes : List ℕ) (source : SourceOf) (program : Program) : Type 0 where
+  pub image : ImageOf
+  pub spells : Spelled bytes image
+  pub runs : CarriesRuns image source program
+
+-- who reads a source that means what a program does, and stores an image, stores one that carries the program's runs
+abbrev pub StoresRuns : Command → Files → Option (List ℕ × List ℕ) → Type 0
+StoresRuns command files output =
+    (source image stored bytes text : List ℕ) (program : Program) → ReadsFile command Source source → StoresFile command Image image
+    → output ≡ Some (stored, bytes) → file_at files source ≡ Some text → (means : MeansProgram text program)
+    → HoldsRuns bytes means.source program
+
+-- the answer is the report of these variables and this condition, after some number of instructions
+pub record TellsEnd (source : SourceOf) (finals : List ValueOf) (way : Way) (answer : Answer) : Type 0 where
+  pub image : ImageOf
+  pub count : ℕ
+  pub tells : TellsMeaning source image finals way count answer
+
+-- where all goes well with such a source and values on which the program's run is done, what is told is how the run ended
+abbrev pub TellsRuns : Files → List ℕ → List ℕ → Answer → Type 0
+TellsRuns files source values answer =
+    (text values_text : List ℕ) (program : Program) (means : MeansProgram text program) (x finals : List ValueOf) (way : Way)
+    → IsReadable files Source source text → IsReadable files Values values values_text
+    → values_in (formal_slots means.source) values_text ≡ Ok x → RunEnds program x finals way
+    → answer.status ≡ Done → TellsEnd means.source finals way answer
+
+-- 3. All commands.
+
+-- `mini` stores or tells a fault so, and `go` tells runs so
+abbrev pub TellsOwn : Command → Files → Answer → Type 0
+TellsOwn (Mini program source) files answer = TellsMini files program source answer
+TellsOwn (Go source values control temporary budget image) files answer = TellsRuns files source values answer
+TellsOwn command files answer = Unit {0}
+
+pub record LowersCommand (command : Command) (files : Files) (answer : Answer) : Type 0 where
+  pub own : TellsOwn command files answer
+  pub images : StoresRuns command files answer.output
+
+abbrev pub LowersPrograms : Option Command → Files → Answer → Type 0
+LowersPrograms None files answer = Unit {0}
+LowersPrograms (Some command) files answer = LowersCommand command files answer
