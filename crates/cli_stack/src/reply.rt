@@ -11,24 +11,33 @@ use piton_machine::ErrorKind;
 use stack_text::{Memory, Name, Seq, TextRule};
 use std::alloc::Global;
 
-/// The letter of a rule by which a text is refused: G for the form of trees, M and S for sources, P and Q for Piton, A for
-/// assembly texts, Y for programs of the infix language.
+/// The letter of a rule by which a text is refused.
 #[derive(Clone, Copy, PartialEq, Eq)]
 pub enum RuleLetter {
+    /// The form of trees, G1 to G6, of a source or a Piton text.
     G,
+    /// The form of sources, M1 to M12.
     M,
+    /// The static rules of sources, S1 to S24.
     S,
+    /// The form of Piton texts, P1 to P9.
     P,
+    /// The rules of Piton's systems, Q1 to Q14.
     Q,
+    /// The rules of assembly texts, A1 to A7.
     A,
+    /// The rules of the infix language, Y1 to Y9.
     Y,
 }
 
 /// What is too small or too large: a stack, or the words of a program.
 #[derive(Clone, Copy, PartialEq, Eq)]
 pub enum SizeOf {
+    /// The control stack, in words.
     Control,
+    /// The temporary stack, in words.
     Temporary,
+    /// The words of the code, of an image, or of the windows of all tasks together.
     Words,
 }
 
@@ -41,8 +50,11 @@ pub enum Verdict {
     Usage,
     /// The source, the Piton text, the assembly text or the infix program breaks the rule of a letter and a number, at a place of its text.
     Refused {
+        /// Which of the sets of rules it belongs to.
         letter: RuleLetter,
+        /// The number behind the letter, from 1.
         number: u8,
+        /// Where the text breaks it, in bytes from 0.
         place: u32,
     },
     /// The values break a rule of values files, V1 to V7, at a place of their text.
@@ -50,7 +62,7 @@ pub enum Verdict {
         rule: u8,
         place: u32,
     },
-    /// The image breaks a rule of image files, I1 to I8, at a place of the file.
+    /// The image breaks a rule of image files, I1 to I9, at a place of the file.
     Image {
         rule: u8,
         place: u64,
@@ -61,16 +73,20 @@ pub enum Verdict {
     },
     /// Of several tasks some did not reach their ends, and all that is to be said of each is said.
     SomeUnfinished,
-    /// After so many instructions the next one needs an address outside the window.
+    /// After `count` instructions the next one needs an address outside the window.
     Outside {
         address: u32,
         count: u64,
     },
     /// After so many steps a run of Piton met an error, at a place of a program.
     Error {
+        /// Why the next step is refused.
         kind: ErrorKind,
+        /// The name of the program whose instruction is refused.
         program: Name,
+        /// The position of that instruction in the program, from 0.
         place: u32,
+        /// How many steps were made before it.
         count: u64,
     },
     /// A line of the script breaks a rule of scripts, D1 to D6. Lines are counted from 1.
@@ -299,8 +315,11 @@ impl Verdict {
 /// What a command says before its last line, how it ended, and the machine that was run.
 #[derive(Drop)]
 pub struct Reply {
+    /// The lines before the last one.
     pub said: Seq<u8>,
+    /// How the command ended, which gives the last line and the status.
     pub verdict: Verdict,
+    /// The machine as its run left it, or none where no machine was run.
     pub machine: Option<Machine>,
 }
 

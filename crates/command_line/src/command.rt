@@ -16,31 +16,44 @@ pub enum Command {
     },
     /// Follows the meaning of a source.
     Mean {
+        /// The source that is followed.
         source: FileName,
+        /// The values of main's formals.
         values: FileName,
+        /// How many words the control stack has.
         control: StackSize,
+        /// How many words the temporary stack has.
         temporary: StackSize,
+        /// The most steps that are made, 0 to 2^40.
         limit: u64,
     },
     /// Compiles a source to a Piton text, and stores that.
     Pit {
+        /// The source that is compiled.
         source: FileName,
+        /// How many words the control stack has.
         control: StackSize,
+        /// How many words the temporary stack has.
         temporary: StackSize,
+        /// Where the Piton text is stored.
         piton: FileName,
     },
     /// Compiles a source to an image, and stores that.
     Build {
+        /// The source that is compiled.
         source: FileName,
+        /// How many words the control stack has.
         control: StackSize,
+        /// How many words the temporary stack has.
         temporary: StackSize,
+        /// Where the image is stored.
         image: FileName,
     },
     /// Judges a Piton text.
     Pcheck {
         piton: FileName,
     },
-    /// Runs a Piton text.
+    /// Runs a Piton text for at most `limit` steps, which is 0 to 2^40.
     Prun {
         piton: FileName,
         limit: u64,
@@ -52,24 +65,33 @@ pub enum Command {
     },
     /// Runs an image on values.
     Run {
+        /// The image that is run.
         image: FileName,
+        /// The values of the image's slots.
         values: FileName,
+        /// The most instructions that are made, 0 to 2^40.
         budget: u64,
     },
     /// Compiles a source to an image, stores that, and runs it on values.
     Go {
+        /// The source that is compiled.
         source: FileName,
+        /// The values of main's formals.
         values: FileName,
+        /// How many words the control stack has.
         control: StackSize,
+        /// How many words the temporary stack has.
         temporary: StackSize,
+        /// The most instructions that are made, 0 to 2^40.
         budget: u64,
+        /// Where the image is stored.
         image: FileName,
     },
     /// Lists an image.
     Show {
         image: FileName,
     },
-    /// Stores an image as one of version 2.
+    /// Stores an image as one of version 2, under the name `output`.
     Migrate {
         image: FileName,
         output: FileName,
@@ -91,9 +113,13 @@ pub enum Command {
     },
     /// Judges whether a certificate covers a source in stacks of these sizes.
     Cert {
+        /// The source that the certificate is to cover.
         source: FileName,
+        /// The certificate that is judged.
         certificate: FileName,
+        /// How many words the control stack has.
         control: StackSize,
+        /// How many words the temporary stack has.
         temporary: StackSize,
     },
     /// Lowers a program of the infix language to a source, and stores that.
@@ -103,24 +129,35 @@ pub enum Command {
     },
     /// Follows a script of a debugger in a session of a source's program, at a level.
     Debug {
+        /// At which level the steps are made.
         level: Level,
+        /// The source whose program is run.
         source: FileName,
+        /// The values of main's formals.
         values: FileName,
+        /// How many words the control stack has.
         control: StackSize,
+        /// How many words the temporary stack has.
         temporary: StackSize,
+        /// The script that is followed.
         script: FileName,
     },
-    /// Builds and runs a large source that is made from a number.
+    /// Builds and runs a large source of so many procedures, which is made from a number.
     Big {
         number: u32,
         procedures: ProcedureCount,
     },
     /// Builds sources, and runs their images by turns in one memory.
     Turns {
+        /// How many instructions a turn has at most.
         turn: TurnLength,
+        /// The most instructions of each task, 0 to 2^40.
         budget: u64,
+        /// How many words the control stack of each task has.
         control: StackSize,
+        /// How many words the temporary stack of each task has.
         temporary: StackSize,
+        /// The files of one to eight tasks, in the order of their turns.
         tasks: Seq<TaskFiles>,
     },
 }

@@ -24,6 +24,7 @@ impl Model for Text {
 impl Text {
     ghost use Rattle.std.specs.Prelude.{◌≡◌, ◌≤◌, ◌^◌, length};
 
+    /// The text of these bytes, at most 2^31.
     pub fn new(bytes: Vec<u8>) -> Text
         requires { length bytes.items ≤ 2 ^ 31 }
         ensures { result ≡ bytes.items }
@@ -31,6 +32,7 @@ impl Text {
         Text { bytes }
     }
 
+    /// Its bytes.
     pub fn as_slice(&self) -> &[u8]
         ensures value { result.now ≡ self.now }
         ensures short { length result.now ≤ 2 ^ 31 }

@@ -20,7 +20,9 @@ use std::rc::Rc;
 /// What a step does with a predefined call: it writes a variable and goes on, or it fails.
 #[derive(Drop)]
 pub enum Applied {
+    /// The variable at this position takes the value, and the run goes on.
     Writes(u32, Value, Advance),
+    /// No variable is written, and routineerror is raised.
     Fails(Advance),
 }
 

@@ -28,7 +28,9 @@ use std::rc::Rc;
 /// An activation at its start.
 #[derive(Drop)]
 pub struct Start {
+    /// The formals, whose values don't count yet, and the locals with their initial values, each with its name.
     pub variables: Vec<(Name, Value)>,
+    /// The procedure's body, opened.
     pub work: Rc<Work>,
 }
 

@@ -16,8 +16,11 @@ use std::alloc::{AllocError, Global};
 /// The value that a predefined call writes, or how it fails.
 #[derive(Drop)]
 pub enum Effected {
+    /// The value that the variable takes.
     Normal(Value),
+    /// A number that doesn't fit 32 signed bits, or a negative index.
     Fault,
+    /// An index that isn't below the array's length.
     Beyond,
 }
 

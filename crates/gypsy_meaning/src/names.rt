@@ -9,23 +9,30 @@ use gypsy_syntax::{Decl, Local, Proc, Source};
 use stack_text::{Name, Named};
 use std::alloc::{AllocError, Global};
 
-/// The names of a procedure: its variables, formals and then locals, and its conditions, formal and then local.
+/// The names of a procedure.
 #[derive(Drop)]
 pub struct Names {
+    /// Those of its variables, formals and then locals.
     pub variables: Vec<Name>,
+    /// Its conditions, formal and then local, as they are shown.
     pub conditions: Vec<Current>,
 }
 
 /// The conditions that have no name of a source, to be shown.
 #[derive(Drop)]
 pub struct Unnamed {
+    /// The condition in which nothing is raised.
     pub normal: Current,
+    /// The condition of a predefined call that fails.
     pub routine: Current,
+    /// The condition that ends a loop.
     pub leave: Current,
+    /// The condition of a call without room.
     pub space: Current,
 }
 
 impl Unnamed {
+    /// The four of them. It takes no memory.
     pub fn new() -> Unnamed
         ensures { result ≡ unnamed }
     {

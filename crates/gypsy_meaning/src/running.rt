@@ -23,19 +23,24 @@ use std::rc::Rc;
 /// An activation that waits for a call.
 #[derive(Drop)]
 pub struct Frame {
+    /// The position of its procedure in the program.
     pub procedure: u32,
     /// Its actuals are with the callee, and come back from there; their places hold what doesn't count.
     pub variables: Vec<(Name, Value)>,
+    /// Its work behind the call.
     pub work: Rc<Work>,
+    /// The call for which it waits.
     pub call: Rc<CallSite>,
-    /// The words in use of both stacks while it runs.
+    /// How many words of the temporary stack are in use while it runs.
     pub used_temp: u64,
+    /// How many words of the control stack are in use while it runs.
     pub used_ctrl: u64,
 }
 
 /// How a run ended.
 #[derive(Clone, Copy)]
 pub enum Ending {
+    /// In the normal condition, with main's work done.
     Normal,
     /// With a formal condition of main, spaceerror or routineerror.
     Raised(Condition),
@@ -44,9 +49,11 @@ pub enum Ending {
 /// What leaves the active procedure: a call, its normal end, or a condition.
 #[derive(Drop)]
 pub enum Crossing {
-    /// With the work behind it.
+    /// A call, with the work behind it.
     Calls(Rc<CallSite>, Rc<Work>),
+    /// The end of its work, in the normal condition.
     Ends,
+    /// A condition that nothing in the procedure caught.
     Leaves(Condition),
 }
 

@@ -16,11 +16,14 @@ use stack_text::{Name, Value};
 use std::alloc::{AllocError, Global};
 use std::rc::Rc;
 
-/// The work that is left by a step, and what the step costs: an event, and a condition's stop where one was caught.
+/// The work that is left by a step, and what the step costs.
 #[derive(Drop)]
 pub struct Advance {
+    /// The work that is left.
     pub work: Rc<Work>,
+    /// The row of the table of costs that the step pays.
     pub event: CostEvent,
+    /// Whether a condition was raised and caught, whose stop is paid too.
     pub caught: bool,
 }
 
@@ -30,10 +33,15 @@ pub struct Advance {
 pub enum Turn {
     /// A sequence or a handled body is opened, at no cost. Work is kept opened, so no step meets one.
     Opens(Rc<Work>),
+    /// The work alone is changed.
     Goes(Advance),
+    /// A procedure of the source is called, over this work.
     Calls(Rc<CallSite>, Rc<Work>),
+    /// A predefined procedure is called, over this work.
     Applies(Rc<Application>, Rc<Work>),
+    /// No work is left, and the procedure ends normally.
     Ends,
+    /// A condition that nothing caught leaves the procedure; below it is this work.
     Leaves(Condition, Rc<Work>),
 }
 

@@ -16,20 +16,28 @@ use std::rc::Rc;
 /// One item of work.
 #[derive(Drop)]
 pub enum Item {
+    /// A statement that is still to be done.
     Do(Rc<Node>),
     /// The parts of a sequence from a position on.
     Parts(Rc<Vec<Rc<Node>>>, usize),
+    /// *Back*, below the body of a loop: the loop's place and body, with which it is done again.
     Back(u32, Rc<Node>),
+    /// *Join-then*, below the first arm of an `if`: the place of the `if`, and its second arm.
     JoinThen(u32, Rc<Node>),
+    /// *Join-one*, below the second arm of an `if` or the arm of a `begin`: the place of that statement.
     JoinOne(u32),
+    /// *Guard*, below the body of a `begin`: its place, the conditions that it handles, and its arm.
     Guard(u32, Rc<Vec<Condition>>, Rc<Node>),
+    /// *Out*, a condition that nothing caught.
     Out(Condition),
 }
 
 /// The items, the top first.
 #[derive(Drop)]
 pub enum Work {
+    /// Nothing is left to be done.
     End,
+    /// The top item, and the items below it.
     More(Item, Rc<Work>),
 }
 
@@ -177,7 +185,9 @@ pub fn settled(alloc: Global, rest: &Rc<Work>) -> Result<Rc<Work>, AllocError>
 /// The work on which a raised condition comes to rest, and whether it was caught there.
 #[derive(Drop)]
 pub struct Raised {
+    /// The work that is left, with the guard's arm on top, or *out* where nothing caught the condition.
     pub work: Rc<Work>,
+    /// Whether a loop or a guard stopped it.
     pub caught: bool,
 }
 

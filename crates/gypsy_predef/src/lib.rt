@@ -6,6 +6,7 @@ ghost use Rattle.gypsy_predef.specs.Examples.{ProductRows};
 ghost use Rattle.gypsy_predef.specs.Calls.{PredefCallRuns, BodiesStand, ArgumentsHold, ValuesKept};
 ghost use Rattle.gypsy_predef.specs.Resolving.{BodiesFit, BodiesKeepRules, BodiesResolve, BodiesStandResolved};
 
+/// Instructions of a text, as the bodies here and other writers of Piton texts put them.
 pub mod instruction_text;
 mod line;
 mod rows;

@@ -25,11 +25,14 @@ const MOST: u64 = 1 << 60;
 /// The words of the temporary stack that a call compares before it has room.
 const CALL_TEMP: u64 = 2;
 
-/// The greatest words of calls on both stacks, those of callees apart, and the words of code.
+/// What a statement needs.
 #[derive(Clone, Copy, Debug)]
 pub struct StatementNeed {
+    /// The most words of the temporary stack that one of its calls takes, those of its callee apart.
     pub temp: u64,
+    /// The greatest frame of its predefined calls, in words of the control stack.
     pub ctrl: u64,
+    /// The words of its code, exact up to 2^60.
     pub words: u64,
 }
 

@@ -44,6 +44,7 @@ impl Need {
 /// What each procedure of a source needs, in the order of the source.
 #[derive(Debug, Drop)]
 pub struct Needs {
+    /// One for each procedure, by its position.
     pub procedures: Vec<Need>,
 }
 
@@ -52,6 +53,7 @@ pub struct Needs {
 pub enum Lack {
     /// The call has room.
     Nothing,
+    /// The temporary stack, whether or not the control stack has room.
     Temporary,
     /// The control stack alone.
     Control,

@@ -9,12 +9,16 @@ pub enum ScriptEnd {
     Done,
     /// The next step is an error of Piton's machine.
     Error {
+        /// Why the step is refused.
         kind: ErrorKind,
+        /// The position of its program in the system.
         program: u32,
+        /// The position of the instruction in the program, from 0.
         place: u32,
+        /// How many steps the session has made.
         after: u64,
     },
-    /// The next step needs an address outside the window.
+    /// The next step needs an address outside the window. `after` is the session's number of steps.
     Outside {
         address: u32,
         after: u64,

@@ -15,7 +15,7 @@ use thiserror::Error;
 /// How a call of `step` ended.
 #[derive(Clone, Copy, Debug, PartialEq, Eq)]
 pub enum SessionRun {
-    /// All steps that were asked for were made, and the end is not reached.
+    /// All `count` steps that were asked for were made, and the end is not reached.
     Moved {
         count: u64,
     },
@@ -23,15 +23,18 @@ pub enum SessionRun {
     Ended {
         count: u64,
     },
-    /// The next step is an error of Piton's machine, in a program, by its position, at a place. `after` is the session's
-    /// number of steps, here and below.
+    /// The next step is an error of Piton's machine.
     Error {
+        /// Why the step is refused.
         kind: ErrorKind,
+        /// The position of its program in the system.
         program: u32,
+        /// The position of the instruction in the program, from 0.
         place: u32,
+        /// How many steps the session has made.
         after: u64,
     },
-    /// The next step needs an address outside the window.
+    /// The next step needs an address outside the window. `after` is the session's number of steps.
     Outside {
         address: u32,
         after: u64,

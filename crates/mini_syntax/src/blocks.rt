@@ -24,8 +24,11 @@ use std::alloc::Global;
 /// The kinds of statements.
 #[derive(Clone, Copy, Debug)]
 pub enum StatementKind {
+    /// `NAME := EXP ;`, which begins with a name.
     Assignment,
+    /// `while EXP BLOCK`
     While,
+    /// `if EXP BLOCK else BLOCK`
     If,
 }
 

@@ -13,32 +13,54 @@ use stack_text::Memory;
 /// What is expected.
 #[derive(Clone, Copy, Debug, PartialEq, Eq)]
 pub enum Expected {
+    /// A name.
     Name,
+    /// This mark.
     Mark(Mark),
+    /// `else`
     Else,
+    /// An operand: a name, a number, `true`, `false`, an operand behind `not` or `-`, or an expression in brackets.
     Operand,
+    /// More of a term: `*` and an operand, and so on, or nothing.
     MoreTerm,
+    /// More of a sum: `+` or `-` and a term, and so on, or nothing.
     MoreSum,
+    /// More of a relation: `<=` or `=` and a sum, or nothing.
     MoreRelation,
+    /// More of a conjunction: `and` and a relation, and so on, or nothing.
     MoreAnd,
+    /// More of an expression: `or` and a conjunction, and so on, or nothing.
     MoreOr,
+    /// Declarations, or none.
     MoreDeclarations,
+    /// Statements, or none.
     MoreStatements,
 }
 
 /// What is expected in place of the expectation that a token met.
 #[derive(Clone, Copy, Debug, PartialEq, Eq)]
 pub enum Push {
+    /// Nothing: the expectation is met.
     Nothing,
+    /// An operand, behind a prefix operator.
     Operand,
+    /// An expression and its closing bracket, behind the opening one.
     Bracket,
+    /// An operand and more of the term, behind `*`.
     Term,
+    /// A term and more of the sum, behind an operator of a sum or a relation.
     Sum,
+    /// A relation and more of the conjunction, behind `and`.
     Conjunction,
+    /// A conjunction and more of the expression, behind `or`.
     Expression,
+    /// The rest of a declaration and more declarations, behind the sort.
     Declaration,
+    /// The rest of an assignment and more statements, behind the name.
     Assignment,
+    /// The rest of a loop and more statements, behind `while`.
     Loop,
+    /// The rest of a branch and more statements, behind `if`.
     Branch,
 }
 

@@ -22,10 +22,15 @@ use std::alloc::Global;
 /// The kinds of factors, by what they begin with.
 #[derive(Clone, Copy, Debug)]
 pub enum FactorKind {
+    /// The name of a variable.
     Variable,
+    /// A number of one or more digits.
     Number,
+    /// `true` or `false`.
     Truth(bool),
+    /// `not` or `-`, before the factor that is its operand.
     Operator(Prefix),
+    /// `(`, before an expression and a `)`.
     Bracket,
 }
 

@@ -25,10 +25,15 @@ const LIMIT: u32 = 40;
 /// How many brackets and blocks were opened and closed, and how many operators the last expression has.
 #[derive(Clone, Copy, Debug)]
 pub struct Counts {
+    /// How many `(` came so far.
     pub opened_brackets: u32,
+    /// How many `)` came so far.
     pub closed_brackets: u32,
+    /// How many `{` came so far.
     pub opened_blocks: u32,
+    /// How many `}` came so far.
     pub closed_blocks: u32,
+    /// How many operators the last expression has so far, `not` and both minus signs among them.
     pub operators: u32,
 }
 

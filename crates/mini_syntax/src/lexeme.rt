@@ -6,14 +6,18 @@ use crate::mark::Mark;
 /// A token of a text, with the place of its first byte.
 #[derive(Clone, Copy, Debug)]
 pub struct Lexeme<'a> {
+    /// What the token is, with its word or mark.
     pub kind: TokenKind,
+    /// The place of its first byte, in bytes from 0.
     pub place: u32,
+    /// All of its bytes, as they stand in the text.
     pub bytes: &'a [u8],
 }
 
 /// The tokens that are still to be read.
 #[derive(Clone, Copy, Debug)]
 pub struct Cursor<'t, 'a> {
+    /// Those tokens, the next one first.
     pub left: &'t [Lexeme<'a>],
 }
 

@@ -11,28 +11,38 @@ use crate::word::{Word, word_named};
 /// The most bytes that a name has.
 const MAX_NAME_LENGTH: usize = 60;
 
-/// What a token is. A byte that no token begins with, and a name that is too long, are tokens too.
+/// What a token is.
 #[derive(Clone, Copy, Debug, PartialEq, Eq)]
 pub enum TokenKind {
+    /// A name of at most 60 bytes.
     Name,
+    /// A number of one or more digits.
     Number,
+    /// A word of the language.
     Word(Word),
+    /// A mark of one byte or two.
     Mark(Mark),
+    /// A byte that no token begins with, or a name that is too long.
     Wrong,
 }
 
 /// A token of a kind, from byte `start` up to byte `end`.
 #[derive(Clone, Copy, Debug)]
 pub struct TokenSpan {
+    /// What the token is.
     pub kind: TokenKind,
+    /// Where its first byte stands, in bytes from 0.
     pub start: usize,
+    /// Where the byte behind its last one stands.
     pub end: usize,
 }
 
 /// What is as long as can be: a word, or a number.
 #[derive(Clone, Copy, Debug, PartialEq, Eq)]
 pub enum Run {
+    /// A word: a letter, and then letters, digits and `_`.
     Word,
+    /// A number: digits alone.
     Number,
 }
 

@@ -29,7 +29,9 @@ const MAX_VARIABLES: usize = 100;
 /// A program that was read, and the least breach of the rules in it.
 #[derive(Debug, Drop)]
 pub struct Reading {
+    /// What was read, which counts where there is no breach.
     pub program: Program,
+    /// The least breach of the rules Y5 to Y9, if there is one.
     pub breach: Option<Breach>,
 }
 

@@ -11,17 +11,21 @@ use crate::sort::Sort;
 use indexmap::IndexMap;
 use stack_text::{Memory, Name};
 
-/// A declared variable: its position among the declarations, and its sort.
+/// A declared variable.
 #[derive(Clone, Copy, Debug)]
 pub struct Variable {
+    /// Its position among the declarations, from 0.
     pub index: u32,
+    /// What it holds.
     pub sort: Sort,
 }
 
 /// The declared variables, and the first one of each name.
 #[derive(Drop)]
 pub struct Scope<'a> {
+    /// The variables in the order of their declarations.
     pub declared: Vec<Declared>,
+    /// The first variable of each name.
     pub variables: IndexMap<&'a [u8], Variable>,
 }
 

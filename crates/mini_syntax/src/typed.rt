@@ -24,7 +24,9 @@ const MAX_NUMBER: u64 = 2_147_483_647;
 /// An expression with its sort, where that is known.
 #[derive(Debug, Drop)]
 pub struct Typed {
+    /// The expression, with 0 for the position of an undeclared name and for a number that is too large.
     pub exp: Exp,
+    /// Its sort, or none where it is a name that isn't declared.
     pub sort: Option<Sort>,
 }
 

@@ -10,11 +10,17 @@ use crate::sort::Sort;
 pub enum Word {
     /// `int` or `bool`
     Sort(Sort),
+    /// `while`, which begins a loop.
     While,
+    /// `if`, which begins a branch.
     If,
+    /// `else`, between the blocks of a branch.
     Else,
+    /// `or`, between conjunctions.
     Or,
+    /// `and`, between relations.
     And,
+    /// `not`, before a factor.
     Not,
     /// `true` or `false`
     Truth(bool),

@@ -62,6 +62,7 @@ pub struct SystemStart {
 /// A run of an image at its start.
 #[derive(Drop)]
 pub struct ImageStart {
+    /// The image that the machine runs.
     pub image: Image,
     /// The machine, loaded with the image and values of its slots.
     pub machine: Machine,

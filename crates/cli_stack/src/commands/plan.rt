@@ -10,14 +10,18 @@ use std::alloc::Global;
 /// What is left to do once the file is stored.
 #[derive(Drop)]
 pub enum Pending {
+    /// The reply, which is made already.
     Reply(Reply),
+    /// A run of the image, of which the reply is made.
     Run(ImageRun),
 }
 
 /// What a command stores, and what is left to do.
 #[derive(Drop)]
 pub struct Plan {
+    /// The bytes of the file that is stored, or none where the command stores nothing.
     pub stored: Option<Seq<u8>>,
+    /// The reply, or the run that is still to be made.
     pub pending: Pending,
 }
 

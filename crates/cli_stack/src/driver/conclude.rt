@@ -13,8 +13,11 @@ use std::alloc::Global;
 /// All that is printed at the end of a command, its status, and the machine that was run.
 #[derive(Drop)]
 pub struct Conclusion {
+    /// The bytes that are printed, with the last line.
     pub text: Seq<u8>,
+    /// The exit status of the program.
     pub status: Status,
+    /// The machine as its run left it, or none where no machine was run.
     pub machine: Option<Machine>,
 }
 
