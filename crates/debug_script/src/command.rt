@@ -12,9 +12,13 @@ const MOST_STEPS: i128 = 1 << 40;
 /// A watch, as a script names it.
 #[derive(Clone, Copy, Debug, PartialEq, Eq)]
 pub enum WatchWord {
+    /// `count`: how many steps were made while it was attached.
     Count,
+    /// `cost`: what these steps cost together, in instructions of the processor.
     Cost,
+    /// `last`: the places of the latest of these steps, at most eight.
     Last,
+    /// `peak`: the greatest depth before one of these steps.
     Peak,
 }
 
@@ -23,9 +27,13 @@ pub enum WatchWord {
 pub enum Command {
     /// Makes at most so many steps: 0 to 2^40.
     Step { count: u64 },
+    /// Says what the run shows at its own level.
     Show,
+    /// Says what is known of the variables of the source.
     Up,
+    /// Attaches the first watch of the kind that waits; it is notified of each step from here on.
     Attach { watch: WatchWord },
+    /// Says what the first attached watch of the kind has kept, and takes it away.
     Detach { watch: WatchWord },
 }
 

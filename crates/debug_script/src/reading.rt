@@ -10,10 +10,12 @@ use bstr::ByteSlice;
 use stack_text::Memory;
 use std::alloc::Global;
 
-/// A command, and the number of its line, from 1.
+/// A line of a script that is not empty.
 #[derive(Clone, Copy, Debug, PartialEq, Eq)]
 pub struct Line {
+    /// Its number in the script, from 1; empty lines count too.
     pub line: u32,
+    /// What it asks for.
     pub command: Command,
 }
 

@@ -11,9 +11,11 @@ use std::alloc::Global;
 /// A word of memory, as a condition or an item of some type.
 #[derive(Debug, Drop)]
 pub enum Shown {
-    /// The standing conditions, by their numbers 2, 1 and 0.
+    /// The standing condition `normal`, by its number 2.
     Normal,
+    /// The standing condition `routineerror`, by its number 1.
     Routine,
+    /// The standing condition `leave`, by its number 0.
     Leave,
     /// The condition of a name. The first of an image's names, spaceerror in that of a source, has the number 3.
     Named(Name),

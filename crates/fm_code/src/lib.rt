@@ -8,7 +8,9 @@
 #![tactic(auto)]
 
 mod law;
+/// The words of the instructions whose code has no literal, as arrays.
 pub mod template;
+/// Instruction words, each by the operation, the target and the source that one writes.
 pub mod word;
 
 pub use law::{jump_rows, move_rows, test_rows, word_rows};

@@ -49,10 +49,12 @@ impl Rule {
     }
 }
 
-/// A broken rule, and its place, counted in bytes from 0.
+/// A broken rule, and its place.
 #[derive(Clone, Copy, Debug, PartialEq, Eq)]
 pub struct Refusal {
+    /// The rule, I1 to I9.
     pub rule: Rule,
+    /// Where the bytes break it, counted in bytes from 0.
     pub place: u64,
 }
 

@@ -6,6 +6,7 @@ use std::marker::Model;
 /// A variable of a procedure.
 #[derive(Debug, Drop)]
 pub struct VarInfo {
+    /// Its name, which no other variable of the procedure has.
     pub name: Name,
     /// The kind of its items; a length of 0 for a simple type, or else 1 to 4096.
     pub shape: Shape,
@@ -18,6 +19,7 @@ pub struct VarInfo {
 /// Contracts see it as a record of the same fields, with lists in place of the vectors.
 #[derive(Debug, Drop)]
 pub struct ProcInfo {
+    /// Its name, which no other procedure of the image has.
     pub name: Name,
     /// At most 201, all different.
     pub conditions: Vec<Name>,

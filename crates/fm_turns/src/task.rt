@@ -22,8 +22,11 @@ pub enum Task {
     },
     /// At its turn in a round, after `count` instructions, the next one needed an address outside the window of all.
     Outside {
+        /// The address that was needed.
         address: u32,
+        /// How many instructions it has made, in all its turns; the refused one isn't counted.
         count: u64,
+        /// The round of that turn.
         round: u64,
     },
 }

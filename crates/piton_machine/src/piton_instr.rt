@@ -12,40 +12,67 @@ use piton_check::{ResolvedArg, ResolvedInstr, word_operation};
 use piton_syntax::{PitonOp, TestFamily, TestKind};
 use piton_words::{Word, WordOp};
 
-/// An instruction with what its operation needs: a word, the offset of a local in its frame, an area, a place of the
-/// program, a program, a number of words, a test, or the operation on words that it is.
+/// An instruction with what its operation needs. Areas, programs and the places of a program are positions from 0, and
+/// a local is its offset in the newest frame.
 #[derive(Clone, Copy, Debug)]
 pub enum PitonInstr<'a> {
+    /// Pushes the word.
     PushConstant(Word),
+    /// Pushes the word of the local.
     PushLocal(u32),
+    /// Pops the top word into the local.
     PopLocal(u32),
+    /// Copies the top word into the local.
     SetLocal(u32),
+    /// Pushes word 0 of the area.
     PushGlobal(u32),
+    /// Pops the top word into word 0 of the area.
     PopGlobal(u32),
+    /// Copies the top word into word 0 of the area.
     SetGlobal(u32),
+    /// Pushes the position, from the bottom, of the word that so many others cover.
     PushTempStkIndex(u32),
+    /// Pushes how many words the temporary stack has room for, before the push.
     PushTempStkFreeSize,
+    /// Pushes how many words the control stack has room for.
     PushCtrlStkFreeSize,
+    /// Replaces a position by the word there, counted from the bottom of the temporary stack.
     FetchTempStk,
+    /// Pops a position, counted from the bottom of the temporary stack, and a word, and puts the word there.
     DepositTempStk,
+    /// Replaces an address by the word of the area there.
     Fetch,
+    /// Pops an address and a word, and puts the word there.
     Deposit,
+    /// Pops one word, of any tag.
     Pop,
+    /// Pops so many words.
     PopStar(u32),
+    /// Pops a natural number, and as many words more.
     Popn,
-    /// Also an operation whose argument is missing, which it is in no checked system.
+    /// Does nothing. Also an operation whose argument is missing, which it is in no checked system.
     NoOp,
+    /// Jumps to the place.
     Jump(u32),
+    /// Jumps to the place if the temporary stack has no room.
     JumpIfTempStkFull(u32),
+    /// Jumps to the place if the temporary stack has no word.
     JumpIfTempStkEmpty(u32),
-    /// By the labels of its table.
+    /// Pops a natural number, and jumps to the place that it counts from 0 among these.
     JumpCase(&'a [ResolvedArg]),
+    /// Pushes the next place, and jumps to this one.
     Pushj(u32),
+    /// Pops a place of the program, and jumps there.
     Popj,
+    /// Pops a word of this type, and jumps to the place if this test, which the type has, holds of the word.
     TestAndJump(TestFamily, TestKind, u32),
+    /// Pops the formals of the program, and calls it.
     Call(u32),
+    /// Pops a program and then its formals, and calls it.
     PopCall,
+    /// Drops the newest frame, and goes where it returns to; the last frame's return halts.
     Ret,
+    /// Does the operation on the words at the top of the temporary stack.
     Apply(WordOp),
 }
 

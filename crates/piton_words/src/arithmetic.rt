@@ -45,24 +45,28 @@ pub fn nat_carried(number: i64) -> Result<Outcome, WordError>
 
 // The top is the first argument, since its tag is looked at first.
 
+/// S + T of two integers, which may be no integer of 32 bits.
 pub fn int_sum(t: i32, s: i32) -> i64
     ensures { result ≡ s +ℤ t }
 {
     i64::from(s) + i64::from(t)
 }
 
+/// S + T of two naturals, which may be 2^32 or more.
 pub fn nat_sum(t: u32, s: u32) -> i64
     ensures { result ≡ pos s +ℤ pos t }
 {
     i64::from(s) + i64::from(t)
 }
 
+/// S - T of two integers, which may be no integer of 32 bits.
 pub fn int_difference(t: i32, s: i32) -> i64
     ensures { result ≡ s -ℤ t }
 {
     i64::from(s) - i64::from(t)
 }
 
+/// S - T of two naturals, which may be negative.
 pub fn nat_difference(t: u32, s: u32) -> i64
     ensures { result ≡ pos s -ℤ pos t }
 {

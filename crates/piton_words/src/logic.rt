@@ -7,12 +7,14 @@ use crate::outcome::{Outcome, WordError};
 use crate::view::{addr, bitv, int, nat, truth};
 use crate::word::Word;
 
+/// The 32 bits as the one word that is pushed. It refuses none.
 pub fn bitv_word(bits: u32) -> Result<Outcome, WordError>
     ensures { result ≡ bitv_word bits }
 {
     Ok(Outcome::One(Word::Bitv(bits)))
 }
 
+/// The truth value as the one word that is pushed. It refuses none.
 pub fn bool_word(truth: bool) -> Result<Outcome, WordError>
     ensures { result ≡ bool_word truth }
 {

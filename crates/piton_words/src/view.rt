@@ -5,6 +5,7 @@ ghost use Rattle.piton_words.specs.Views.{int_of, nat_of, bitv_of, bool_of, addr
 use crate::outcome::WordError;
 use crate::word::Word;
 
+/// The integer of an `int`, or [`WordError::Tag`].
 pub fn int(word: Word) -> Result<i32, WordError>
     ensures { result ≡ int_of word }
 {
@@ -14,6 +15,7 @@ pub fn int(word: Word) -> Result<i32, WordError>
     }
 }
 
+/// The natural number of a `nat`, or [`WordError::Tag`].
 pub fn nat(word: Word) -> Result<u32, WordError>
     ensures { result ≡ nat_of word }
 {
@@ -23,6 +25,7 @@ pub fn nat(word: Word) -> Result<u32, WordError>
     }
 }
 
+/// The bits of a `bitv`, as the number that they write; or [`WordError::Tag`].
 pub fn bitv(word: Word) -> Result<u32, WordError>
     ensures { result ≡ bitv_of word }
 {
@@ -32,6 +35,7 @@ pub fn bitv(word: Word) -> Result<u32, WordError>
     }
 }
 
+/// The truth value of a `bool`, or [`WordError::Tag`].
 pub fn truth(word: Word) -> Result<bool, WordError>
     ensures { result ≡ bool_of word }
 {
@@ -41,7 +45,7 @@ pub fn truth(word: Word) -> Result<bool, WordError>
     }
 }
 
-/// An area and an offset.
+/// The area of an `addr`, by its position from 0, and the offset in it; or [`WordError::Tag`].
 pub fn addr(word: Word) -> Result<(u32, u32), WordError>
     ensures { result ≡ addr_of word }
 {

@@ -11,9 +11,9 @@ pub enum Word {
     Bitv(u32),
     /// A truth value.
     Bool(bool),
-    /// A word of a data area.
+    /// A word of a data area, by its offset from 0.
     Addr { area: u32, offset: u32 },
-    /// An instruction of a program.
+    /// An instruction of a program, by its place from 0.
     Pc { program: u32, place: u32 },
     /// A program.
     Subr { program: u32 },

@@ -6,7 +6,9 @@ ghost use Rattle.stack_text.specs.Breaches.{lesser_of, when, Notes};
 /// A rule that is broken, by its number, and the place that shows it.
 #[derive(Clone, Copy, Debug, PartialEq, Eq)]
 pub struct Breach {
+    /// The number of the rule in its list, from 1.
     pub rule: u8,
+    /// The place in the text, counted in bytes from 0.
     pub place: u32,
 }
 

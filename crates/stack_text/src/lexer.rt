@@ -7,20 +7,27 @@ ghost use Rattle.stack_text.specs.TokenSpans.{FindsToken};
 use crate::class::{Class, class_of_byte};
 use bstr::ByteSlice;
 
-/// What a token is. One byte that no text may have is a token too.
+/// What a token is.
 #[derive(Clone, Copy, Debug, PartialEq, Eq)]
 pub enum TokenKind {
+    /// A `(`.
     Opening,
+    /// A `)`.
     Closing,
+    /// Atom bytes one after the other, as many as there are.
     Atom,
+    /// One byte that no text may have.
     Invalid,
 }
 
-/// A token of a kind, from byte `start` up to byte `end`.
+/// A token, and where it stands in a text. Bytes are counted from 0.
 #[derive(Clone, Copy, Debug)]
 pub struct TokenSpan {
+    /// What it is.
     pub kind: TokenKind,
+    /// Its first byte.
     pub start: usize,
+    /// The byte after its last one.
     pub end: usize,
 }
 

@@ -4,6 +4,7 @@
 
 mod breach;
 mod class;
+/// Parts of a grammar: how they are read from trees, and printed as trees.
 pub mod grammar;
 mod law;
 mod lexer;

@@ -99,10 +99,12 @@ impl Hash for Name {
     }
 }
 
-/// A name with the place of its first byte in a text.
+/// A name of a text.
 #[derive(Debug, Drop)]
 pub struct Named {
+    /// The place of its first byte, counted in bytes from 0; 0 also where it is from no text.
     pub place: u32,
+    /// The name without its place.
     pub name: Name,
 }
 

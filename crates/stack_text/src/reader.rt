@@ -19,10 +19,12 @@ use std::alloc::Global;
 /// How many lists may lie in one another.
 const MAX_DEPTH: usize = 200;
 
-/// A list that is not closed yet: the place of its `(`, and its items so far.
+/// A list that is not closed yet.
 #[derive(Drop)]
 pub struct OpenList {
+    /// The place of its `(`, counted in bytes from 0.
     pub place: u32,
+    /// The items that are complete, the first in the text first.
     pub items: Vec<Tree>,
 }
 

@@ -17,6 +17,7 @@ pub enum Kind {
 /// The kind of a value's items and how many there are.
 #[derive(Clone, Copy, Debug, PartialEq, Eq)]
 pub struct Shape {
+    /// What each item is.
     pub kind: Kind,
     /// The length of an array, or 0 for a simple type, which has one item.
     pub length: u32,

@@ -13,7 +13,9 @@ use std::marker::Model;
 /// Contracts see it as the record of its shape and the list of its items.
 #[derive(Debug, Drop)]
 pub struct Value {
+    /// The kind of its items, and how many there are.
     pub shape: Shape,
+    /// Its items, from place 0 of an array on, each in the range of the kind.
     pub items: Vec<i32>,
 }
 

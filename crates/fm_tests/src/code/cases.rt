@@ -1,21 +1,30 @@
 //! Each instruction's code, and what it does, from the tables of Piton's instructions.
 
-/// What a machine has: r0, the words on both stacks from their tops, and those of the areas.
+/// What a machine has in r0, on both stacks and in the areas.
 #[derive(Clone, Copy)]
 pub struct View<'a> {
+    /// r0: the address of the newest frame.
     pub frame: u32,
+    /// The words of the control stack, from its top on; the last is at 169.
     pub ctrl: &'a [u32],
+    /// The words of the temporary stack, from its top on; the last is at 179.
     pub temp: &'a [u32],
+    /// The words of the areas, by ascending addresses; the last is at 152.
     pub areas: &'a [u32],
 }
 
 /// Code at 100 that leads from a view to another, and to a pc.
 #[derive(Clone, Copy)]
 pub struct Case<'a> {
+    /// Instructions in the notation of `docs/fm9001.md`, with `;` between.
     pub code: &'a str,
+    /// How many steps of the processor lead from the one view to the other.
     pub steps: u32,
+    /// The machine at the start, with r15 at 100.
     pub before: View<'a>,
+    /// r15 after the steps.
     pub pc: u32,
+    /// The machine after the steps.
     pub after: View<'a>,
 }
 

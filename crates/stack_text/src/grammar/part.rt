@@ -16,8 +16,10 @@ pub trait Part: Drop {
     /// What clauses see of a part.
     ghost Seen: { Type 0 };
 
+    /// The part as clauses see it.
     ghost view: { Self → Seen };
 
+    /// The part that a tree is, or all its faults in reading order.
     ghost part_of: { Node → Judged Seen };
 
     /// The part that the tree is, or the first of its faults.

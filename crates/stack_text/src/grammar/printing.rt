@@ -10,6 +10,7 @@ use crate::{Memory, Named};
 
 /// What is printed as a tree.
 pub trait Print {
+    /// The tree that it is printed as.
     ghost tree: { Self → Node };
 
     /// Appends the tree's text.
