@@ -6,6 +6,7 @@ import sys
 from collections import Counter, defaultdict
 from pathlib import Path
 
+import crate_table
 from believe import files_below, length
 
 SPEC_WIDTH = 140
@@ -137,13 +138,12 @@ def check_readme():
 
 
 def check_crates():
-    """Each crate stands in the map of the crates, and among the promises."""
-    pages = [PROMISES, Path("docs/ARCHITECTURE.md")]
+    """Each crate stands among the promises, and in the table of the crates as crates.txt has it."""
     for line in Path("crates.txt").read_text().splitlines():
         crate = re.match(r"(\w+):", line)
-        for page in pages if crate else []:
-            if f"`{crate.group(1)}`" not in page.read_text():
-                say(page, f"the crate {crate.group(1)} is missing")
+        if crate and f"`{crate.group(1)}`" not in PROMISES.read_text():
+            say(PROMISES, f"the crate {crate.group(1)} is missing")
+    findings.extend(crate_table.findings())
 
 
 def check_lemmas():
