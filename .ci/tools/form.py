@@ -24,6 +24,9 @@ KEPT_LEMMAS = {"outcome_is"}
 THEOREM = Path("crates/stack_build/specs/Implements.antt")
 README = Path("README.md")
 README_WORDS = 1300
+LIMITS = Path("docs/LIMITS.md")
+LIMIT_AT = re.compile(r"`(\w+/(?:specs|src)/[\w/.]+)`: ((?:`\w+`(?:, )?)+)")
+LIMIT_AGAIN = re.compile(r"`(\w+)` \(((?:`\w+`(?:, )?)+)\)")
 DECISIONS = Path("docs/DECISIONS.md")
 DECISION = re.compile(r"- \*\*(\d+)\. ")
 GONE_ROW = re.compile(r"\| ([\d, ]+) \| (\d+) \|$")
@@ -142,6 +145,26 @@ def check_readme():
         say(README, f"it has {words:,} words; at most {README_WORDS:,}, so move what is too long to a page of docs")
 
 
+def check_limits():
+    """Each place that the table of limits names has that name: a file with its names, and a crate with those in brackets."""
+    crates = {line.split(":")[0] for line in Path("crates.txt").read_text().splitlines() if re.match(r"\w+:", line)}
+    for place, line in enumerate(LIMITS.read_text().splitlines(), 1):
+        for file, names in LIMIT_AT.findall(line):
+            path = Path("crates") / (file if file.endswith(".rt") else f"{file}.antt")
+            text = path.read_text() if path.is_file() else None
+            for name in [] if text is None else re.findall(r"\w+", names):
+                if not re.search(rf"\b{name}\b", text):
+                    say(f"{LIMITS}:{place}", f"{path} has no {name}; mend the row")
+            if text is None:
+                say(f"{LIMITS}:{place}", f"there is no {path}; mend the row")
+        for crate, names in LIMIT_AGAIN.findall(line):
+            files = tracked(f"crates/{crate}/specs/*.antt", f"crates/{crate}/src/*.rt") if crate in crates else []
+            text = "\n".join(it.read_text() for it in files)
+            for name in re.findall(r"\w+", names) if files else []:
+                if not re.search(rf"\b{name}\b", text):
+                    say(f"{LIMITS}:{place}", f"the crate {crate} has no {name}; mend the row")
+
+
 def check_decisions():
     """Each number up to the last is a decision or gone, decisions are in order under a heading, and nothing cites one that is gone."""
     text = DECISIONS.read_text()
@@ -248,6 +271,7 @@ check_clauses()
 check_documents()
 check_reading_list()
 check_readme()
+check_limits()
 check_decisions()
 check_crates()
 check_lemmas()
