@@ -42,20 +42,20 @@ STATUSES = {
     "mean": {0, REFUSED, VALUES, UNFINISHED, SIZE},
     "pit": {0, REFUSED, SIZE},
     "build": {0, REFUSED, SIZE},
-    "go": {0, REFUSED, VALUES, UNFINISHED, SIZE},
-    "debug": {0, REFUSED, VALUES, SIZE, SCRIPT},
     "pcheck": {0, REFUSED},
     "prun": {0, REFUSED, UNFINISHED, ERROR},
     "pbuild": {0, REFUSED, SIZE},
     "run": {0, VALUES, IMAGE, UNFINISHED, OUTSIDE},
+    "go": {0, REFUSED, VALUES, UNFINISHED, SIZE},
     "show": {0, IMAGE},
     "migrate": {0, IMAGE},
     "asm": {0, REFUSED},
     "unasm": {0, IMAGE, NOT_PLAIN},
-    "mini": {0, REFUSED},
     "need": {0, REFUSED, RECURSIVE},
     "cert": {0, REFUSED, CERTIFICATE},
+    "debug": {0, REFUSED, VALUES, SIZE, SCRIPT},
     "turns": {0, REFUSED, VALUES, UNFINISHED, SIZE},
+    "mini": {0, REFUSED},
 }
 
 # What reads a file of each kind: DAMAGED is the damaged one, and VALUES, SOURCE the whole ones beside it.

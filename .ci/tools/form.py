@@ -19,6 +19,15 @@ LEMMA = re.compile(r"(  )?(?:abbrev |unfoldable )?(?:pub )?([^\s:(){}]+) : ")
 TOKEN = re.compile(r"[^\s(){};,.:\[\]λ]+")
 GHOST_USE = re.compile(r"^ *ghost use [^{;]*\{([^}]*)\};\n", re.M)
 ANY_USE = re.compile(r"^ *(?:pub )?(?:ghost )?use [^;]*;\n", re.M)
+PAGES_IN_ONE_FOLDER = 8
+# The comments in `specs/Lib.antt` under which pages stood that have a folder now.
+GROUPS = {
+    "Seen": re.compile(r"-- (how|what) clauses see\b", re.I),
+    "Scaffold": re.compile(r"-- (scaffold\b|what (only )?private functions\b)", re.I),
+    "Commands": re.compile(r"-- a page for each command\b", re.I),
+}
+SCAFFOLD = re.compile(r"^ *(?:pub )?(?:ghost )?use Rattle\.(\w+)\.specs\.Scaffold\.", re.M)
+ENDING = re.compile(r"(ings|ing|ed|es|e|s|er)$")
 # Lemmas that stand for themselves: DECISIONS 16.
 KEPT_LEMMAS = {"outcome_is"}
 THEOREM = Path("crates/stack_build/specs/Implements.antt")
@@ -60,6 +69,48 @@ def check_specs():
     for (crate, name), places in names.items():
         if len(places) > 1:
             say(f"crates/{crate}/specs", f"{name} is defined at {', '.join(places)}; give each its own name, or keep one")
+
+
+def is_modules(path):
+    """Whether a page only names the pages of a folder."""
+    return all(re.match(r"--|pub mod |\s*$", line) for line in path.read_text().splitlines())
+
+
+def check_folders():
+    """In a crate of many pages the folder says what a page is for; what is promised doesn't stand on scaffold."""
+    pages = defaultdict(list)
+    for path in tracked("crates/*/specs/*.antt"):
+        if path.name != "Lib.antt" and not is_modules(path):
+            pages[path.parts[1]].append(path)
+    for crate, files in pages.items():
+        lib = Path("crates", crate, "specs/Lib.antt")
+        if len(files) > PAGES_IN_ONE_FOLDER:
+            check_groups(lib)
+        for path in files:
+            if len(files) <= PAGES_IN_ONE_FOLDER and path.parent != lib.parent:
+                say(path, f"a folder in a crate of {len(files)} pages; move it to {lib.parent}")
+        stems = defaultdict(list)
+        for path in files:
+            stems[path.parent, ENDING.sub("", path.stem)].append(path.stem)
+        for (folder, _), names in stems.items():
+            if len(names) > 1:
+                say(folder, f"{' and '.join(names)} differ by an ending; give them names that say what they hold")
+    for path in tracked("crates/*.antt", "crates/*.rt"):
+        for crate in SCAFFOLD.findall(path.read_text()):
+            below = path.is_relative_to(Path("crates", crate, "specs/Scaffold"))
+            if path.parts[2] == "specs" and not below or path.parts[2] == "src" and path.parts[1] != crate:
+                say(path, f"it imports scaffold of {crate}; that page belongs in its specs or in Seen")
+
+
+def check_groups(lib):
+    """No page stands in `specs` itself under a comment that is a folder's."""
+    comment = ""
+    for number, line in enumerate(lib.read_text().splitlines(), 1):
+        if line.startswith("--"):
+            comment = line
+        folder = next((folder for folder, shape in GROUPS.items() if shape.match(comment)), None)
+        if folder and line.startswith("pub mod "):
+            say(f"{lib}:{number}", f"move {line.split()[2]} to {lib.parent}/{folder}")
 
 
 def check_clauses():
@@ -267,6 +318,7 @@ def check_imports():
 
 
 check_specs()
+check_folders()
 check_clauses()
 check_documents()
 check_reading_list()

@@ -13,7 +13,7 @@ use Rattle.fm_image.specs.Reading.{read_of}
 use Rattle.fm_image.specs.Spelling.{spelling, are_words, Spelled}
 use Rattle.fm_image.proofs.ImageLaws.{read_spells}
 use Rattle.fm_image.proofs.ReaderLaws.{IsBytes}
-use Rattle.fm_asm.specs.Answers.{assembly_of}
+use Rattle.fm_asm.specs.Assembling.{assembly_of}
 use Rattle.fm_asm.specs.Cuts.{without_trailing}
 use Rattle.fm_asm.specs.Assembly.{IsAssembly}
 use Rattle.fm_asm.specs.Printing.{is_plain, plain_image, start_of, assembly_text}
@@ -30,8 +30,8 @@ use Rattle.command_line.specs.Roles.{limit_of}
 use Rattle.command_line.specs.Gathered.{text_or_end}
 use Rattle.command_line.specs.CommandFiles.{inputs_of, output_of}
 use Rattle.command_line.proofs.FileLaws.{was_short}
-use Rattle.cli_stack.specs.Asm.{assembled_stored}
-use Rattle.cli_stack.specs.Unasm.{printed_stored}
+use Rattle.cli_stack.specs.Commands.Asm.{assembled_stored}
+use Rattle.cli_stack.specs.Commands.Unasm.{printed_stored}
 use Rattle.cli_stack.specs.Answer.{set_file, stored_by, answer_on, answer_to, answer_by}
 use Rattle.cli_stack.specs.Assembles.{HoldsAssembled, SpellsAgain, HoldsAssembly, StoresAssembled, StoresAssembly, Assembles}
 use Rattle.cli_stack.proofs.RoleLaws.{set_bytes, written_role, only_file, only_role, both_roles}
@@ -120,13 +120,13 @@ unasm_holds watches files image assembly (Ok bytes) stored written got sets = by
 
 images_by : (c : Command) (watches : List Watching) (files : Files) → StoresAssembled c files (answer_to c watches files).output
 unfolding inputs_of output_of
+images_by (command.Pit source control temporary piton) watches files = λ name own stored bytes reads writes sets. absurd (let e : Piton ≡ Image = ap written_role writes in cc)
+images_by (command.Build source control temporary image) watches files = λ name own stored bytes reads writes sets. absurd (only_role Assembly Source source name (λ e. cc) reads)
+images_by (command.Pbuild piton image) watches files = λ name own stored bytes reads writes sets. absurd (only_role Assembly Piton piton name (λ e. cc) reads)
+images_by (command.Go source values control temporary budget image) watches files = λ name own stored bytes reads writes sets. absurd (both_roles Assembly Source Values source values name (λ e. cc) (λ e. cc) reads)
+images_by (command.Migrate image output) watches files = λ name own stored bytes reads writes sets. absurd (only_role Assembly Image image name (λ e. cc) reads)
 images_by (command.Asm assembly image) watches files = λ name own stored bytes reads writes sets.
     subst (λ (n : List ℕ). HoldsAssembled files n bytes) (only_file Assembly assembly name reads) (asm_holds watches files assembly image _ stored bytes refl sets)
-images_by (command.Build source control temporary image) watches files = λ name own stored bytes reads writes sets. absurd (only_role Assembly Source source name (λ e. cc) reads)
-images_by (command.Go source values control temporary budget image) watches files = λ name own stored bytes reads writes sets. absurd (both_roles Assembly Source Values source values name (λ e. cc) (λ e. cc) reads)
-images_by (command.Pbuild piton image) watches files = λ name own stored bytes reads writes sets. absurd (only_role Assembly Piton piton name (λ e. cc) reads)
-images_by (command.Migrate image output) watches files = λ name own stored bytes reads writes sets. absurd (only_role Assembly Image image name (λ e. cc) reads)
-images_by (command.Pit source control temporary piton) watches files = λ name own stored bytes reads writes sets. absurd (let e : Piton ≡ Image = ap written_role writes in cc)
 images_by (command.Unasm image assembly) watches files = λ name own stored bytes reads writes sets. absurd (let e : Assembly ≡ Image = ap written_role writes in cc)
 images_by (command.Need source certificate) watches files = λ name own stored bytes reads writes sets. absurd (let e : Certificate ≡ Image = ap written_role writes in cc)
 images_by (command.Mini program source) watches files = λ name own stored bytes reads writes sets. absurd (let e : Source ≡ Image = ap written_role writes in cc)
@@ -134,14 +134,14 @@ images_by c watches files = λ name own stored bytes reads writes sets. absurd (
 
 texts_by : (c : Command) (watches : List Watching) (files : Files) → StoresAssembly c files (answer_to c watches files).output
 unfolding inputs_of output_of
+texts_by (command.Pit source control temporary piton) watches files = λ name own stored written reads writes sets. absurd (let e : Piton ≡ Assembly = ap written_role writes in cc)
+texts_by (command.Build source control temporary image) watches files = λ name own stored written reads writes sets. absurd (let e : Image ≡ Assembly = ap written_role writes in cc)
+texts_by (command.Pbuild piton image) watches files = λ name own stored written reads writes sets. absurd (let e : Image ≡ Assembly = ap written_role writes in cc)
+texts_by (command.Go source values control temporary budget image) watches files = λ name own stored written reads writes sets. absurd (let e : Image ≡ Assembly = ap written_role writes in cc)
+texts_by (command.Migrate image output) watches files = λ name own stored written reads writes sets. absurd (let e : Image ≡ Assembly = ap written_role writes in cc)
+texts_by (command.Asm assembly image) watches files = λ name own stored written reads writes sets. absurd (let e : Image ≡ Assembly = ap written_role writes in cc)
 texts_by (command.Unasm image assembly) watches files = λ name own stored written reads writes sets.
     subst (λ (n : List ℕ). HoldsAssembly files n written) (only_file Image image name reads) (unasm_holds watches files image assembly _ stored written refl sets)
-texts_by (command.Asm assembly image) watches files = λ name own stored written reads writes sets. absurd (let e : Image ≡ Assembly = ap written_role writes in cc)
-texts_by (command.Build source control temporary image) watches files = λ name own stored written reads writes sets. absurd (let e : Image ≡ Assembly = ap written_role writes in cc)
-texts_by (command.Go source values control temporary budget image) watches files = λ name own stored written reads writes sets. absurd (let e : Image ≡ Assembly = ap written_role writes in cc)
-texts_by (command.Pbuild piton image) watches files = λ name own stored written reads writes sets. absurd (let e : Image ≡ Assembly = ap written_role writes in cc)
-texts_by (command.Migrate image output) watches files = λ name own stored written reads writes sets. absurd (let e : Image ≡ Assembly = ap written_role writes in cc)
-texts_by (command.Pit source control temporary piton) watches files = λ name own stored written reads writes sets. absurd (let e : Piton ≡ Assembly = ap written_role writes in cc)
 texts_by (command.Need source certificate) watches files = λ name own stored written reads writes sets. absurd (let e : Certificate ≡ Assembly = ap written_role writes in cc)
 texts_by (command.Mini program source) watches files = λ name own stored written reads writes sets. absurd (let e : Source ≡ Assembly = ap written_role writes in cc)
 texts_by c watches files = λ name own stored written reads writes sets. absurd (let e : None ≡ Some (Assembly, own) = writes in cc)

@@ -7,7 +7,7 @@ use Rattle.std.proofs.lemmas.Bool.{and_from, le-ltb, ne_eqb}
 use Rattle.stack_text.specs.Results.{◌>>=◌}
 use Rattle.stack_text.specs.Values.{ValueOf}
 use Rattle.stack_shelf.specs.Files.{Files}
-use Rattle.fm_machine.specs.Run.{Outcome, outcome}
+use Rattle.fm_machine.specs.Run.{RunOutcome, outcome}
 use Rattle.fm_machine.specs.declared.processor.Run.TheVariants as run
 use Rattle.fm_machine.proofs.RunLaws.{outcome_only}
 use Rattle.fm_image.specs.Image.{ImageOf}
@@ -19,7 +19,7 @@ use Rattle.fm_turns.specs.EqualTurns.{whole_run}
 use Rattle.fm_turns.specs.Starting.{NewTask, new_task}
 use Rattle.level_debuggers.specs.Tallies.{Watching}
 use Rattle.gypsy_syntax.specs.Sources.{SourceOf}
-use Rattle.gypsy_space.specs.Needs.{Words, stack_words}
+use Rattle.gypsy_space.specs.Needs.{StackSizes, stack_sizes}
 use Rattle.stack_build.specs.declared.fault.BuildFault.{BuildFault}
 use Rattle.stack_build.specs.Build.{BuiltOf, BuildsText}
 use Rattle.stack_build.specs.Implements.{meaning_shown, Implements}
@@ -31,15 +31,15 @@ use Rattle.command_line.specs.declared.early_end.EarlyEnd.{EarlyEnd}
 use Rattle.command_line.specs.declared.role.Role.TheVariants.{TaskSource, TaskValues}
 use Rattle.command_line.specs.CommandFiles.{task_inputs, inputs_of}
 use Rattle.command_line.specs.Gathered.{Texts, texts_of, gathered}
-use Rattle.command_line.specs.Rows.{command_of}
+use Rattle.command_line.specs.CommandRows.{command_of}
 use Rattle.cli_stack.specs.declared.commands.turns.tasks.TasksFault.{TasksFault}
 use Rattle.cli_stack.specs.declared.reply.Verdict.{Verdict}
 use Rattle.cli_stack.specs.declared.reply.Verdict.TheVariants.{Done}
 use Rattle.cli_stack.specs.Replies.{ReplyOf, reply_text, status_of, verdict_line}
-use Rattle.cli_stack.specs.Run.{outcome_reply, run_reply}
+use Rattle.cli_stack.specs.Commands.Run.{outcome_reply, run_reply}
 use Rattle.cli_stack.specs.Answer.{reply_by, answer_with, answer_on, answer_to, answer_by}
-use Rattle.cli_stack.specs.ByTurns.{TaskMeaning, MeansTask, MeanTasks, meanings_text, TellsTasks, TellsEach, EachTaskIsTold}
-use Rattle.cli_stack.specs.Turns.{few_enough, image_or_fault, images_from, word_count, small_enough, values_or_fault, tasks_from, tasks_of, last_round, round_line, task_text, tasks_text, is_end, tasks_verdict, tasks_reply, turns_by, turns_reply}
+use Rattle.cli_stack.specs.Turns.{TaskMeaning, MeansTask, MeanTasks, meanings_text, TellsTasks, TellsEach, EachTaskIsTold}
+use Rattle.cli_stack.specs.Commands.Turns.{few_enough, image_or_fault, images_from, word_count, small_enough, values_or_fault, tasks_from, tasks_of, last_round, round_line, task_text, tasks_text, is_end, tasks_verdict, tasks_reply, turns_by, turns_reply}
 use Rattle.cli_stack.proofs.TellsLaws.{is_there}
 
 -- a text behind so many others
@@ -48,7 +48,7 @@ text_behind [] text back = refl
 text_behind (t ∷ front) text back = text_behind front text back
 
 -- What the files of tasks lead to, from this number and this base on.
-record ComesTo (files : Files) (sizes : Words) (turn budget i base : ℕ) (names : List TaskFiles) (meanings : List TaskMeaning) : Type 0 where
+record ComesTo (files : Files) (sizes : StackSizes) (turn budget i base : ℕ) (names : List TaskFiles) (meanings : List TaskMeaning) : Type 0 where
   sources : List (List ℕ)
   values : List (List ℕ)
   both : Texts
@@ -62,7 +62,7 @@ record ComesTo (files : Files) (sizes : Words) (turn budget i base : ℕ) (names
   text : tasks_text turn budget i tasks ≡ meanings_text turn i meanings
   ended : list_all (λ task. is_end (whole_run budget task).run) tasks ≡ true
 
-module _ (implement : BuiltImplements) (take : BuiltTakesValues) (files : Files) (sizes : Words) (turn budget : ℕ) where
+module _ (implement : BuiltImplements) (take : BuiltTakesValues) (files : Files) (sizes : StackSizes) (turn budget : ℕ) where
   -- the run of a task is its meaning
   task_run : (base : ℕ) (names : TaskFiles) (m : TaskMeaning) (h : MeansTask files sizes budget base names m) → base ≤ 2 ^ 31
       → (i : ℕ) → (task_text turn budget i (new_task m.image h.values) ≡ round_line i (div_ceil m.count turn) ++ report_text m.image (meaning_shown m.source m.finals m.way) m.count)
@@ -82,10 +82,10 @@ module _ (implement : BuiltImplements) (take : BuiltTakesValues) (files : Files)
       let end = does h.values m.finals m.way m.count fits h.done in
       let is : outcome budget m.image.final_pc (loaded m.image h.values) ≡ record { run = run.Ended m.count; state = end.state } =
       outcome_only (loaded m.image h.values) m.image.final_pc budget (run.Ended m.count) end.state (h.within, end.first) in (
-        ap (λ (o : Outcome). round_line i (last_round turn budget o.run) ++ reply_text (outcome_reply m.image budget o)) is
+        ap (λ (o : RunOutcome). round_line i (last_round turn budget o.run) ++ reply_text (outcome_reply m.image budget o)) is
             ∙ ap (λ r. round_line i (div_ceil m.count turn) ++ (report_text m.image r m.count ++ [])) end.reads
             ∙ ap (λ (text : List ℕ). round_line i (div_ceil m.count turn) ++ text) (append-nil (report_text m.image (meaning_shown m.source m.finals m.way) m.count)),
-        ap (λ (o : Outcome). is_end o.run) is,
+        ap (λ (o : RunOutcome). is_end o.run) is,
       )
 
   window_few : (base : ℕ) (names : TaskFiles) (m : TaskMeaning) → MeansTask files sizes budget base names m → base ≤ 2 ^ 31 → m.image.size ≤ 2 ^ 20
@@ -176,11 +176,11 @@ module _ (implement : BuiltImplements) (take : BuiltTakesValues) (files : Files)
       }
 
 each_told : BuiltImplements → BuiltTakesValues → (turn budget control temporary : ℕ) (names : List TaskFiles) (watches : List Watching) (files : Files) (meanings : List TaskMeaning) → 1 ≤ length names → length names ≤ 8
-    → MeanTasks files (stack_words temporary control) budget 0 names meanings → word_count (map (λ m. m.image) meanings) ≤ 2 ^ 20
+    → MeanTasks files (stack_sizes control temporary) budget 0 names meanings → word_count (map (λ m. m.image) meanings) ≤ 2 ^ 20
     → TellsTasks turn meanings (answer_to (command.Turns turn budget control temporary names) watches files)
 unfolding inputs_of reply_by
 each_told implement take turn budget control temporary names watches files meanings some few mean small =
-    let sizes = stack_words temporary control in
+    let sizes = stack_sizes control temporary in
     let c = comes implement take files sizes turn budget 0 0 names meanings (omega arith) mean in
     let same : turns_reply turn budget sizes (texts_of TaskSource c.both) (texts_of TaskValues c.both) ≡ turns_reply turn budget sizes c.sources c.values =
     ap (λ (ss : List (List ℕ)). turns_reply turn budget sizes ss (texts_of TaskValues c.both)) c.sources_are ∙ ap (turns_reply turn budget sizes c.sources) c.values_are in

@@ -12,11 +12,12 @@ use Rattle.level_debuggers.specs.Tallies.{Watching}
 use Rattle.gypsy_syntax.specs.Programs.{Program}
 use Rattle.gypsy_syntax.specs.Sources.{SourceOf}
 use Rattle.gypsy_syntax.specs.Resolved.{program_of}
-use Rattle.gypsy_space.specs.Needs.{Words, stack_words, main_used, main_need}
-use Rattle.gypsy_meaning.specs.Calls.{Way}
+use Rattle.gypsy_space.specs.Needs.{StackSizes, stack_sizes, main_used, main_need}
+use Rattle.gypsy_meaning.specs.Calls.{CurrentCondition}
 use Rattle.gypsy_codegen.specs.declared.fault.GenFault.{GenFault}
 use Rattle.gypsy_codegen.specs.Acceptable.{total_words, LimitsFit}
-use Rattle.gypsy_codegen.specs.Answers.{are_sizes, size_fault, unless_fault, generation}
+use Rattle.gypsy_codegen.specs.Generation.{are_sizes, size_fault, generation}
+use Rattle.stack_text.specs.Results.{unless_fault}
 use Rattle.gypsy_codegen.specs.Text.{generated}
 use Rattle.gypsy_codegen.proofs.AnswerLaws.{no_fault}
 use Rattle.stack_build.specs.declared.fault.BuildFault.{BuildFault}
@@ -36,10 +37,12 @@ use Rattle.command_line.specs.CommandFiles.{inputs_of, output_of, file_names}
 use Rattle.command_line.specs.Ends.{end_line}
 use Rattle.command_line.specs.Gathered.{Texts}
 use Rattle.cli_stack.specs.Answer.{set_file, stored_by, answer_on, answer_to, answer_by, files_after}
-use Rattle.cli_stack.specs.Build.{image_stored}
-use Rattle.cli_stack.specs.Correct.{IsReadable, IsBuilt, TellsMeaning, Tells}
+use Rattle.cli_stack.specs.Commands.Build.{image_stored}
+use Rattle.cli_stack.specs.Tells.{IsBuilt, TellsMeaning, Tells}
+use Rattle.cli_stack.specs.FilesAndSizes.{IsReadable}
 use Rattle.cli_stack.specs.Completes.{HasSource, Completed, CompletesRun, CompletesCommand, Completes}
-use Rattle.cli_stack.specs.Promises.{Agrees, RoseAndPrinted}
+use Rattle.cli_stack.specs.Causes.{RoseAndPrinted}
+use Rattle.cli_stack.specs.Answers.{Agrees}
 use Rattle.cli_stack.specs.World.{World}
 use Rattle.cli_stack.proofs.MeansLaws.{first_name, others}
 use Rattle.cli_stack.proofs.SlotLaws.{image_takes}
@@ -56,7 +59,7 @@ needs_temporary : (q : Program) → 1 ≤ (main_need q).temp
 unfolding main_need main_used
 needs_temporary q = omega arith
 
-sizes_are : (q : Program) (sizes : Words) → LimitsFit q sizes 0 → are_sizes sizes ≡ true
+sizes_are : (q : Program) (sizes : StackSizes) → LimitsFit q sizes 0 → are_sizes sizes ≡ true
 sizes_are q sizes limits =
     let some_control = needs_control q in
     let some_temporary = needs_temporary q in
@@ -69,27 +72,27 @@ sizes_are q sizes limits =
     rw (first, second, third, fourth) refl
 
 -- what is built of a source
-abbrev parts_of : SourceOf → Words → BuiltOf
+abbrev parts_of : SourceOf → StackSizes → BuiltOf
 parts_of source sizes = built_with source sizes 0 (generated source sizes 0)
 
-is_generated : (source : SourceOf) (sizes : Words) → LimitsFit (program_of source) sizes 0 → generation source sizes 0 ≡ Ok (generated source sizes 0)
+is_generated : (source : SourceOf) (sizes : StackSizes) → LimitsFit (program_of source) sizes 0 → generation source sizes 0 ≡ Ok (generated source sizes 0)
 is_generated source sizes limits =
     let q = program_of source in
     let none : size_fault q sizes ≡ None = sym (no_fault q sizes (total_words q) (sizes_are q sizes limits) limits.sizes_fit.suffice.ctrl limits.sizes_fit.suffice.temp refl limits.few_words) in
     ap (λ (o : Option GenFault). unless_fault o (generated source sizes 0)) none
 
-is_built : (files : Files) (name : List ℕ) (control temporary : ℕ) (source : SourceOf) (has : HasSource files name (stack_words temporary control) source)
-    → built has.text control temporary 0 ≡ Ok (parts_of source (stack_words temporary control))
+is_built : (files : Files) (name : List ℕ) (control temporary : ℕ) (source : SourceOf) (has : HasSource files name (stack_sizes control temporary) source)
+    → built has.text control temporary 0 ≡ Ok (parts_of source (stack_sizes control temporary))
 is_built files name control temporary source has =
-    let sizes = stack_words temporary control in
+    let sizes = stack_sizes control temporary in
     text_builds has.text control temporary 0 source has.read
     ∙ built_small source sizes 0 (generated source sizes 0) (is_generated source sizes has.fits.limits) has.fits.image
 
 -- 2. What is stored.
 
 module _ (watches : List Watching) (files : Files) (source_name values_name name : List ℕ) (control temporary budget : ℕ) (source : SourceOf) (values_text : List ℕ)
-    (has : HasSource files source_name (stack_words temporary control) source) (there : IsReadable files Values values_name values_text) where
-  is_stored : (answer_to (command.Go source_name values_name control temporary budget name) watches files).output ≡ Some (name, spelling (image_of source (stack_words temporary control) 0))
+    (has : HasSource files source_name (stack_sizes control temporary) source) (there : IsReadable files Values values_name values_text) where
+  is_stored : (answer_to (command.Go source_name values_name control temporary budget name) watches files).output ≡ Some (name, spelling (image_of source (stack_sizes control temporary) 0))
   unfolding inputs_of output_of stored_by
   is_stored =
       ap (λ (r : Result Texts EarlyEnd). (answer_on (command.Go source_name values_name control temporary budget name) watches r).output)
@@ -98,30 +101,30 @@ module _ (watches : List Watching) (files : Files) (source_name values_name name
 
   -- 3. What is told.
 
-  made : IsBuilt files source_name (stack_words temporary control) source (image_of source (stack_words temporary control) 0)
+  made : IsBuilt files source_name (stack_sizes control temporary) source (image_of source (stack_sizes control temporary) 0)
   made = record {
     text = has.text;
     readable = has.readable;
     read = has.read;
-    found = parts_of source (stack_words temporary control);
+    found = parts_of source (stack_sizes control temporary);
     made = is_built files source_name control temporary source has;
     same = refl;
   }
 
   is_told : Tells (Some (command.Go source_name values_name control temporary budget name)) files (answer_to (command.Go source_name values_name control temporary budget name) watches files)
-      → (values finals : List ValueOf) (way : Way) (count : ℕ) → values_in (formal_slots source) values_text ≡ Ok values
-      → Finishes source (stack_words temporary control) values finals way count → count ≤ budget
-      → TellsMeaning source (image_of source (stack_words temporary control) 0) finals way count (answer_to (command.Go source_name values_name control temporary budget name) watches files)
+      → (values finals : List ValueOf) (way : CurrentCondition) (count : ℕ) → values_in (formal_slots source) values_text ≡ Ok values
+      → Finishes source (stack_sizes control temporary) values finals way count → count ≤ budget
+      → TellsMeaning source (image_of source (stack_sizes control temporary) 0) finals way count (answer_to (command.Go source_name values_name control temporary budget name) watches files)
   unfolding inputs_of output_of
   is_told tells values finals way count gives done enough =
       let run = tells values_name (1, omega arith, refl) (inr (name, refl)) in
-      run.1 (stack_words temporary control) source (image_of source (stack_words temporary control) 0) values_text values finals way count (refl, made) there (image_takes source (stack_words temporary control) 0 values_text ∙ gives) done enough
+      run.1 (stack_sizes control temporary) source (image_of source (stack_sizes control temporary) 0) values_text values finals way count (refl, made) there (image_takes source (stack_sizes control temporary) 0 values_text ∙ gives) done enough
 
   -- the command comes to its answer
   module _ (before after : World) (status : Status) where
     agreeing : Agrees (answer_to (command.Go source_name values_name control temporary budget name) watches files) files before after status
         → Tells (Some (command.Go source_name values_name control temporary budget name)) files (answer_to (command.Go source_name values_name control temporary budget name) watches files)
-        → Completed files name source (stack_words temporary control) values_text budget before after status
+        → Completed files name source (stack_sizes control temporary) values_text budget before after status
     agreeing agrees tells = record {
       stored = agrees.files_left ∙ ap (λ (o : Option (List ℕ × List ℕ)). Some (files_after o files)) is_stored;
       told = λ values finals way count gives done enough.
@@ -148,7 +151,7 @@ module _ (watches : List Watching) (before after : World) (status : Status) wher
       → (status ≡ ShelfFault → RoseAndPrinted (λ c. c.faults) (λ n. end_line (early.ShelfFault n)) (file_names (Some (command.Go source_name values_name control temporary budget name))) before after)
       → (status ≡ SinkFault → Rose before.out.faults after.out.faults)
       → Tells (Some (command.Go source_name values_name control temporary budget name)) files (answer_to (command.Go source_name values_name control temporary budget name) watches files)
-      → CompletesRun (command.Go source_name values_name control temporary budget name) files source_name values_name name (stack_words temporary control) budget before after status
+      → CompletesRun (command.Go source_name values_name control temporary budget name) files source_name values_name name (stack_sizes control temporary) budget before after status
   completes_go source_name values_name name control temporary budget files answers shelf_fault sink_fault tells source values_text has there none =
       ⊎_elim (λ memory. inl memory) (λ lasts. inr (agreeing watches files source_name values_name name control temporary budget source values_text has there before after status
       (answers (λ e. let failed = shelf_fault e in none.shelf failed.0 failed.1 failed.2) (λ e. none.sink (sink_fault e)) lasts) tells)) (memory_or_not status)
@@ -157,24 +160,24 @@ module _ (watches : List Watching) (before after : World) (status : Status) wher
       → (status ≡ ShelfFault → RoseAndPrinted (λ c. c.faults) (λ name. end_line (early.ShelfFault name)) (file_names (Some c)) before after) → (status ≡ SinkFault → Rose before.out.faults after.out.faults)
       → Tells (Some c) files (answer_to c watches files) → CompletesCommand c files before after status
   unfolding inputs_of output_of
+  completes_on (command.Check source_name) files answers shelf_fault sink_fault tells = λ source values image reads writes. absurd (let e : None ≡ Some (Image, image) = writes in cc)
+  completes_on (command.Mean source_name values_name control temporary limit) files answers shelf_fault sink_fault tells = λ source values image reads writes. absurd (let e : None ≡ Some (Image, image) = writes in cc)
+  completes_on (command.Pit source_name control temporary piton) files answers shelf_fault sink_fault tells = λ source values image reads writes. absurd (let e : [] ≡ (Values, values) ∷ [] = ap others reads in cc)
+  completes_on (command.Build source_name control temporary name) files answers shelf_fault sink_fault tells = λ source values image reads writes. absurd (let e : [] ≡ (Values, values) ∷ [] = ap others reads in cc)
+  completes_on (command.Pbuild piton name) files answers shelf_fault sink_fault tells = λ source values image reads writes. absurd (let e : [] ≡ (Values, values) ∷ [] = ap others reads in cc)
+  completes_on (command.Run image_name values_name budget) files answers shelf_fault sink_fault tells = λ source values image reads writes. absurd (let e : None ≡ Some (Image, image) = writes in cc)
   completes_on (command.Go source_name values_name control temporary budget name) files answers shelf_fault sink_fault tells = λ source values image reads writes.
       let first : source_name ≡ source = ap first_name reads in
       let second : values_name ≡ values = ap (λ (fs : List (Role × List ℕ)). first_name (others fs)) reads in
       let written : name ≡ image = ap written_name writes in
       let go = command.Go source_name values_name control temporary budget name in
-      let sizes = stack_words temporary control in
+      let sizes = stack_sizes control temporary in
       subst (λ (n : List ℕ). CompletesRun go files n values image sizes budget before after status) first
       (subst (λ (n : List ℕ). CompletesRun go files source_name n image sizes budget before after status) second
       (subst (λ (n : List ℕ). CompletesRun go files source_name values_name n sizes budget before after status) written
       (completes_go source_name values_name name control temporary budget files answers shelf_fault sink_fault tells)))
-  completes_on (command.Mean source_name values_name control temporary limit) files answers shelf_fault sink_fault tells = λ source values image reads writes. absurd (let e : None ≡ Some (Image, image) = writes in cc)
-  completes_on (command.Run image_name values_name budget) files answers shelf_fault sink_fault tells = λ source values image reads writes. absurd (let e : None ≡ Some (Image, image) = writes in cc)
   completes_on (command.Show image_name) files answers shelf_fault sink_fault tells = λ source values image reads writes. absurd (let e : None ≡ Some (Image, image) = writes in cc)
-  completes_on (command.Check source_name) files answers shelf_fault sink_fault tells = λ source values image reads writes. absurd (let e : None ≡ Some (Image, image) = writes in cc)
-  completes_on (command.Pit source_name control temporary piton) files answers shelf_fault sink_fault tells = λ source values image reads writes. absurd (let e : [] ≡ (Values, values) ∷ [] = ap others reads in cc)
-  completes_on (command.Build source_name control temporary name) files answers shelf_fault sink_fault tells = λ source values image reads writes. absurd (let e : [] ≡ (Values, values) ∷ [] = ap others reads in cc)
   completes_on (command.Migrate image_name name) files answers shelf_fault sink_fault tells = λ source values image reads writes. absurd (let e : [] ≡ (Values, values) ∷ [] = ap others reads in cc)
-  completes_on (command.Pbuild piton name) files answers shelf_fault sink_fault tells = λ source values image reads writes. absurd (let e : [] ≡ (Values, values) ∷ [] = ap others reads in cc)
   completes_on (command.Asm assembly name) files answers shelf_fault sink_fault tells = λ source values image reads writes. absurd (let e : [] ≡ (Values, values) ∷ [] = ap others reads in cc)
   completes_on (command.Unasm name assembly) files answers shelf_fault sink_fault tells = λ source values image reads writes. absurd (let e : [] ≡ (Values, values) ∷ [] = ap others reads in cc)
   completes_on (command.Need source_name certificate) files answers shelf_fault sink_fault tells = λ source values image reads writes. absurd (let e : [] ≡ (Values, values) ∷ [] = ap others reads in cc)

@@ -1,5 +1,5 @@
 -- What a session says where the source's step machine has come to a state.
-use Rattle.std.proofs.Common.{◌≡◌, ◌≤◌, ℕ, List, [], ◌∷◌, ◌++◌, Option, Some, None, Result, Ok, Err, length, refl, sym, ap, ◌∙◌, subst, arith, append_assoc}
+use Rattle.std.proofs.Common.{◌≡◌, ◌≤◌, ℕ, List, [], ◌∷◌, ◌++◌, Option, Some, None, Result, Ok, length, refl, sym, ap, ◌∙◌, subst, arith, append_assoc}
 use Rattle.std.specs.Prelude.{◌^◌, IsTrue}
 use Rattle.stack_text.specs.Results.{◌>>=◌}
 use Rattle.stack_text.specs.Values.{ValueOf}
@@ -9,10 +9,9 @@ use Rattle.fm_loader.specs.Values.{values_in}
 use Rattle.gypsy_syntax.specs.Resolved.{program_of}
 use Rattle.gypsy_syntax.specs.Sources.{SourceOf}
 use Rattle.gypsy_check.specs.Accepted.{IsAccepted}
-use Rattle.gypsy_space.specs.Needs.{Words, stack_words}
-use Rattle.gypsy_meaning.specs.Machine.{State, Next}
-use Rattle.gypsy_meaning.specs.Seen.{spent_at}
-use Rattle.gypsy_codegen.specs.Moments.{moment_from}
+use Rattle.gypsy_space.specs.Needs.{StackSizes, stack_sizes}
+use Rattle.gypsy_meaning.specs.Machine.{State}
+use Rattle.gypsy_meaning.specs.Seen.RunView.{spent_at}
 use Rattle.stack_build.specs.Build.{BuiltOf, BuildsText, built, source_built, source_in}
 use Rattle.stack_build.specs.declared.fault.BuildFault.{BuildFault}
 use Rattle.stack_build.specs.Image.{places_fit}
@@ -39,13 +38,13 @@ use Rattle.command_line.specs.declared.words.reader.Level.{Level}
 use Rattle.command_line.specs.declared.words.reader.Level.TheVariants.{Gypsy, Piton, Fm9001}
 use Rattle.command_line.specs.CommandFiles.{inputs_of}
 use Rattle.command_line.specs.Gathered.{Texts, gathered}
-use Rattle.command_line.specs.Rows.{command_of}
+use Rattle.command_line.specs.CommandRows.{command_of}
 use Rattle.cli_stack.specs.declared.reply.Verdict.{Verdict}
 use Rattle.cli_stack.specs.Replies.{ReplyOf, reply_text, verdict_line}
-use Rattle.cli_stack.specs.SourceText.{accepted_in}
-use Rattle.cli_stack.specs.Debug.{debug_reply, lines_reply, run_at, run_in, script_reply, session_on, session_reply}
-use Rattle.cli_stack.specs.Answer.{reply_by, answer_on, answer_to, answer_by, answer}
-use Rattle.cli_stack.specs.Correct.{IsBuilt, IsReadable}
+use Rattle.cli_stack.specs.Commands.SourceText.{accepted_in}
+use Rattle.cli_stack.specs.Commands.Debug.{lines_reply, run_at, run_in, script_reply, session_on, session_reply}
+use Rattle.cli_stack.specs.Answer.{reply_by, answer_on, answer_to, answer_by}
+use Rattle.cli_stack.specs.FilesAndSizes.{IsReadable}
 use Rattle.cli_stack.specs.Explains.{BeginsWith, Explains, ExplainsMoments, steps_to}
 use Rattle.cli_stack.proofs.TellsLaws.{is_there}
 
@@ -53,12 +52,12 @@ use Rattle.cli_stack.proofs.TellsLaws.{is_there}
 
 -- what is built of a text is built of its source
 of_source : (text : List ℕ) (ctrl temp : ℕ) (source : SourceOf) (found : BuiltOf) → source_in text ≡ Ok source → built text ctrl temp 0 ≡ Ok found
-    → source_built source (stack_words temp ctrl) 0 ≡ Ok found
+    → source_built source (stack_sizes ctrl temp) 0 ≡ Ok found
 unfolding built
 of_source text ctrl temp source found read is =
-    sym (ap (λ (r : Result SourceOf BuildFault). r >>= λ s. source_built s (stack_words temp ctrl) 0) read) ∙ is
+    sym (ap (λ (r : Result SourceOf BuildFault). r >>= λ s. source_built s (stack_sizes ctrl temp) 0) read) ∙ is
 
-module _ (source : SourceOf) (sizes : Words) (found : BuiltOf) (values_text : List ℕ) (values : List ValueOf) (made : source_built source sizes 0 ≡ Ok found) (gives : values_in found.image.slots values_text ≡ Ok values) where
+module _ (source : SourceOf) (sizes : StackSizes) (found : BuiltOf) (values_text : List ℕ) (values : List ValueOf) (made : source_built source sizes 0 ≡ Ok found) (gives : values_in found.image.slots values_text ≡ Ok values) where
   piton_run : run_at Piton source sizes values_text ≡ Ok (system_run source found.piton found.image values)
   unfolding system_start built_start
   piton_run = rw (made, gives) refl
@@ -67,7 +66,7 @@ module _ (source : SourceOf) (sizes : Words) (found : BuiltOf) (values_text : Li
   unfolding image_start built_start
   machine_run = rw (made, gives) refl
 
-run_found : (level : Level) (text : List ℕ) (source : SourceOf) (sizes : Words) (values_text : List ℕ) (run : LevelOf) → source_in text ≡ Ok source → run_at level source sizes values_text ≡ Ok run
+run_found : (level : Level) (text : List ℕ) (source : SourceOf) (sizes : StackSizes) (values_text : List ℕ) (run : LevelOf) → source_in text ≡ Ok source → run_at level source sizes values_text ≡ Ok run
     → run_in level text sizes values_text ≡ Ok run
 unfolding run_in accepted_in
 run_found level text source sizes values_text run read is = rw (read, is) refl
@@ -102,7 +101,7 @@ three_there files first second third text other last there there' there'' =
     rw (is_there files first text there, is_there files second other there', is_there files third last there'') refl
 
 -- the run that a session has at a level, and that it says the state there after as many steps as are asked for
-record Begins (level : Level) (source : SourceOf) (sizes : Words) (values_text : List ℕ) (n : ℕ) (said : List ℕ) : Type 0 where
+record Begins (level : Level) (source : SourceOf) (sizes : StackSizes) (values_text : List ℕ) (n : ℕ) (said : List ℕ) : Type 0 where
   pub run : LevelOf
   pub is : run_at level source sizes values_text ≡ Ok run
   pub says : SaysAfter n run said
@@ -110,7 +109,7 @@ record Begins (level : Level) (source : SourceOf) (sizes : Words) (values_text :
 some_same : (m n : ℕ) → Some m ≡ Some n → m ≡ n
 some_same m n e = cc
 
-begins : (level : Level) (source : SourceOf) (sizes : Words) (found : BuiltOf) (values_text : List ℕ) (values : List ValueOf) (g : State) (n : ℕ) → source_built source sizes 0 ≡ Ok found
+begins : (level : Level) (source : SourceOf) (sizes : StackSizes) (found : BuiltOf) (values_text : List ℕ) (values : List ValueOf) (g : State) (n : ℕ) → source_built source sizes 0 ≡ Ok found
     → values_in found.image.slots values_text ≡ Ok values → BothSay source found values g → steps_to level g ≡ Some n → Begins level source sizes values_text n (state_text source g)
 begins Gypsy source sizes found values_text values g n made gives both is = absurd cc
 begins Piton source sizes found values_text values g n made gives both is = record {
@@ -130,7 +129,7 @@ module _ (implement : BuiltImplements) (take : BuiltTakesValues) (moments : Buil
       (answer_to (command.Debug level source_name values_name control temporary script_name) watches files)
   unfolding inputs_of reply_by
   debug_explains level source_name values_name control temporary script_name watches files source image values_text script values j number g before after here there last gives is asks stands steps =
-      let sizes : Words = stack_words temporary control in
+      let sizes : StackSizes = stack_sizes control temporary in
       let short : length here.text ≤ 2 ^ 31 = omega (arith, here.readable.short) in
       let few : length here.text ≤ 2 ^ 20 = omega (arith, here.readable.short) in
       let made : built here.text control temporary 0 ≡ Ok here.found = here.made in

@@ -7,7 +7,7 @@ use Rattle.fm_machine.specs.State.{Fm}
 use Rattle.fm_machine.specs.Run.{IsFirst, fm_run}
 use Rattle.fm_loader.specs.Values.{values_in}
 use Rattle.gypsy_syntax.specs.Sources.{SourceOf}
-use Rattle.gypsy_space.specs.Needs.{Words}
+use Rattle.gypsy_space.specs.Needs.{StackSizes}
 use Rattle.stack_build.specs.declared.fault.BuildFault.{BuildFault}
 use Rattle.stack_build.specs.declared.fault.BuildFault.TheVariants as fault
 use Rattle.stack_build.specs.Build.{BuiltOf, Builds, BuildsText, built, source_in}
@@ -18,9 +18,9 @@ use Rattle.command_line.specs.declared.early_end.EarlyEnd.TheVariants as early
 use Rattle.command_line.specs.declared.status.Status.TheVariants.{Done}
 use Rattle.command_line.specs.Ends.{end_status}
 use Rattle.cli_stack.specs.Replies.{status_of}
-use Rattle.cli_stack.specs.Run.{run_reply, values_reply}
-use Rattle.cli_stack.specs.SourceText.{build_verdict}
-use Rattle.cli_stack.specs.Go.{go_reply}
+use Rattle.cli_stack.specs.Commands.Run.{run_reply, values_reply}
+use Rattle.cli_stack.specs.Commands.SourceText.{build_verdict}
+use Rattle.cli_stack.specs.Commands.Go.{go_reply}
 use Rattle.cli_stack.specs.Answer.{Answer, answer_with}
 
 -- a machine comes to a program counter first once
@@ -56,7 +56,7 @@ build_done (fault.Words count) h = cc
 build_done fault.Memory h = cc
 
 -- what holds of the answer where the run's reply is that all went well, holds of the answer of `go`
-module _ (implement : BuiltImplements) (take : BuiltTakesValues) (text : List ℕ) (short : length text ≤ 2 ^ 31) (source : SourceOf) (read : source_in text ≡ Ok source) (sizes : Words)
+module _ (implement : BuiltImplements) (take : BuiltTakesValues) (text : List ℕ) (short : length text ≤ 2 ^ 31) (source : SourceOf) (read : source_in text ≡ Ok source) (sizes : StackSizes)
     (T : Answer → Type 0) (values_text : List ℕ) (budget : ℕ) (output : Option (List ℕ × List ℕ))
     (ran : (b : BuiltOf) (values : List ValueOf) → Builds source sizes b → values_in b.image.slots values_text ≡ Ok values → FitsFormals source values
     → status_of (run_reply b.image values budget).verdict ≡ Done → T (answer_with output (run_reply b.image values budget))) where

@@ -4,7 +4,7 @@ use Rattle.std.specs.Prelude.{◌^◌, Contains}
 use Rattle.stack_text.specs.Results.{◌>>=◌}
 use Rattle.stack_shelf.specs.Files.{Files, file_at}
 use Rattle.stack_shelf.specs.Shelf.{fetched}
-use Rattle.gypsy_space.specs.Needs.{stack_words}
+use Rattle.gypsy_space.specs.Needs.{stack_sizes}
 use Rattle.level_debuggers.specs.Tallies.{Watching}
 use Rattle.stack_build.specs.declared.fault.BuildFault.{BuildFault}
 use Rattle.stack_build.specs.Build.{BuiltOf, built, BuildsText}
@@ -19,8 +19,8 @@ use Rattle.command_line.specs.Roles.{limit_of}
 use Rattle.command_line.specs.Gathered.{text_or_end}
 use Rattle.command_line.specs.CommandFiles.{inputs_of, output_of}
 use Rattle.cli_stack.specs.Answer.{set_file, stored_by, answer_on, answer_to, answer_by}
-use Rattle.cli_stack.specs.Build.{image_stored}
-use Rattle.cli_stack.specs.Correct.{HoldsImplementation, StoresImplementation, Compiles}
+use Rattle.cli_stack.specs.Commands.Build.{image_stored}
+use Rattle.cli_stack.specs.Implements.{HoldsImplementation, StoresImplementation, Compiles}
 use Rattle.cli_stack.proofs.RoleLaws.{set_bytes, written_role, only_file, only_role}
 
 -- a source's text is short enough to be read
@@ -29,11 +29,11 @@ is_readable text short = omega (arith, short)
 
 -- what is stored of what was built
 module _ (files : Files) (source text : List ℕ) (control temporary : ℕ) (stored bytes : List ℕ) (there : file_at files source ≡ Some text) (few : length text ≤ 1048576) where
-  built_holds : (found : Result BuiltOf BuildFault) → IfOk found (BuildsText text control temporary) → (image : Role × List ℕ) → set_file (Some image) (image_stored found) ≡ Some (stored, bytes) → HoldsImplementation files source (stack_words temporary control) bytes
+  built_holds : (found : Result BuiltOf BuildFault) → IfOk found (BuildsText text control temporary) → (image : Role × List ℕ) → set_file (Some image) (image_stored found) ≡ Some (stored, bytes) → HoldsImplementation files source (stack_sizes control temporary) bytes
   built_holds (Err fault) builds image sets = absurd (let e : None ≡ Some (stored, bytes) = sets in cc)
   built_holds (Ok found) builds image sets =
       let same : found.bytes ≡ bytes = ap set_bytes sets in
-      subst (HoldsImplementation files source (stack_words temporary control)) same (record {
+      subst (HoldsImplementation files source (stack_sizes control temporary)) same (record {
         text = text;
         there = there;
         source = builds.source;
@@ -49,7 +49,7 @@ module _ (files : Files) (source text : List ℕ) (control temporary : ℕ) (sto
 go_holds : BuiltImplements → (watches : List Watching) (files : Files) (source values image : List ℕ) (control temporary budget : ℕ) (first second : Result (List ℕ) EarlyEnd) (stored bytes : List ℕ)
     → text_or_end (Source, source) (fetched files source (limit_of Source)) ≡ first
     → (answer_on (command.Go source values control temporary budget image) watches (first >>= λ text. (second >>= λ other. Ok ((Values, other) ∷ [])) >>= λ texts. Ok ((Source, text) ∷ texts))).output ≡ Some (stored, bytes)
-    → HoldsImplementation files source (stack_words temporary control) bytes
+    → HoldsImplementation files source (stack_sizes control temporary) bytes
 unfolding output_of stored_by
 go_holds laws watches files source values image control temporary budget (Err early) second stored bytes got sets = cc
 go_holds laws watches files source values image control temporary budget (Ok text) (Err early) stored bytes got sets = cc
@@ -60,7 +60,7 @@ go_holds laws watches files source values image control temporary budget (Ok tex
 build_holds : BuiltImplements → (watches : List Watching) (files : Files) (source image : List ℕ) (control temporary : ℕ) (first : Result (List ℕ) EarlyEnd) (stored bytes : List ℕ)
     → text_or_end (Source, source) (fetched files source (limit_of Source)) ≡ first
     → (answer_on (command.Build source control temporary image) watches (first >>= λ text. Ok ((Source, text) ∷ []))).output ≡ Some (stored, bytes)
-    → HoldsImplementation files source (stack_words temporary control) bytes
+    → HoldsImplementation files source (stack_sizes control temporary) bytes
 unfolding output_of stored_by
 build_holds laws watches files source image control temporary (Err early) stored bytes got sets = cc
 build_holds laws watches files source image control temporary (Ok text) stored bytes got sets =
@@ -75,15 +75,15 @@ go_source source values name (suc (suc i), lt, is) = absurd (omega arith)
 
 pub stores : BuiltImplements → (c : Command) (watches : List Watching) (files : Files) → StoresImplementation c files (answer_to c watches files).output
 unfolding inputs_of output_of
-stores laws (command.Go source values control temporary budget image) watches files = λ name own stored bytes reads writes sets.
-    subst (λ (n : List ℕ). HoldsImplementation files n (stack_words temporary control) bytes) (go_source source values name reads)
-    (go_holds laws watches files source values image control temporary budget _ _ stored bytes refl sets)
-stores laws (command.Build source control temporary image) watches files = λ name own stored bytes reads writes sets.
-    subst (λ (n : List ℕ). HoldsImplementation files n (stack_words temporary control) bytes) (only_file Source source name reads)
-    (build_holds laws watches files source image control temporary _ stored bytes refl sets)
 stores laws (command.Pit source control temporary piton) watches files = λ name own stored bytes reads writes sets.
     absurd (let e : Piton ≡ Image = ap written_role writes in cc)
+stores laws (command.Build source control temporary image) watches files = λ name own stored bytes reads writes sets.
+    subst (λ (n : List ℕ). HoldsImplementation files n (stack_sizes control temporary) bytes) (only_file Source source name reads)
+    (build_holds laws watches files source image control temporary _ stored bytes refl sets)
 stores laws (command.Pbuild piton image) watches files = λ name own stored bytes reads writes sets. absurd (only_role Source Piton piton name (λ e. cc) reads)
+stores laws (command.Go source values control temporary budget image) watches files = λ name own stored bytes reads writes sets.
+    subst (λ (n : List ℕ). HoldsImplementation files n (stack_sizes control temporary) bytes) (go_source source values name reads)
+    (go_holds laws watches files source values image control temporary budget _ _ stored bytes refl sets)
 stores laws (command.Migrate image output) watches files = λ name own stored bytes reads writes sets. absurd (only_role Source Image image name (λ e. cc) reads)
 stores laws (command.Asm assembly image) watches files = λ name own stored bytes reads writes sets. absurd (only_role Source Assembly assembly name (λ e. cc) reads)
 stores laws (command.Unasm image assembly) watches files = λ name own stored bytes reads writes sets.

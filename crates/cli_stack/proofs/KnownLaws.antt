@@ -9,16 +9,16 @@ use Rattle.stack_text.specs.Trees.{Node, IsWellFormed}
 use Rattle.stack_text.specs.Grammar.Judged.{Judged}
 use Rattle.stack_text.proofs.BreachLaws.{none_least}
 use Rattle.piton_syntax.specs.declared.fault.PitonFault.{PitonFault}
-use Rattle.piton_syntax.specs.Answers.{KeepsForm, judgement, piton_by, piton_in}
+use Rattle.piton_syntax.specs.PitonReading.{KeepsForm, judgement, piton_by, piton_in}
 use Rattle.piton_syntax.specs.Grammar.{system_of}
 use Rattle.piton_syntax.specs.Systems.{SystemOf}
 use Rattle.piton_syntax.proofs.KeepsLaws.{read_keeps}
-use Rattle.piton_check.specs.Answers.{CheckedOf, IsChecked}
+use Rattle.piton_check.specs.PitonChecking.{CheckedOf, IsChecked}
 use Rattle.piton_check.specs.Resolved.{resolved}
 use Rattle.piton_check.specs.Violations.{violations}
 use Rattle.piton_check.proofs.CheckedLaws.{checked_from}
 use Rattle.stack_build.proofs.KnownLaws.{tree_is_well_formed}
-use Rattle.cli_stack.specs.PitonText.{checked_unless, checked_by, checked_in}
+use Rattle.cli_stack.specs.Commands.PitonText.{checked_unless, checked_by, checked_in}
 
 -- a system that is read keeps the form
 text_keeps_form : (text : List ℕ) → length text ≤ 2 ^ 31 → (system : SystemOf) → piton_in text ≡ Ok system → KeepsForm system

@@ -1,72 +1,45 @@
 -- The image of a linked system keeps the limits of images, and its file those of files; where the words are too many, there is none.
-use Rattle.std.proofs.Common.{◌≡◌, ◌≤◌, ◌+◌, ℕ, List, [], length, Some, None, true, false, refl, sym, subst, arith}
+use Rattle.std.proofs.Common.{◌≡◌, ◌≤◌, ℕ, length, Some, None, true, false, refl, arith}
 use Rattle.std.specs.Prelude.{◌^◌, IsTrue}
 use Rattle.std.proofs.lemmas.Bool.{and_from, le-leb, le-ltb, lt-ltb}
-use Rattle.fm_words.specs.Code.{no_flags}
-use Rattle.fm_image.specs.declared.procedure.Mark.{Mark}
-use Rattle.fm_image.specs.declared.slot.Slot.{Slot}
-use Rattle.fm_image.specs.Image.{ImageOf, all_after, is_image}
-use Rattle.fm_image.specs.Procedure.{ProcedureOf}
+use Rattle.fm_image.specs.Image.{all_after, is_image}
 use Rattle.fm_image.specs.Spelling.{spelling, Spelled}
 use Rattle.fm_image.proofs.LimitLaws.{from_limits}
-use Rattle.piton_check.specs.Answers.{CheckedOf, IsChecked}
+use Rattle.piton_check.specs.PitonChecking.{CheckedOf, IsChecked}
 use Rattle.piton_check.specs.Instruction.{SystemView}
 use Rattle.piton_machine.specs.Fits.{system_in}
-use Rattle.piton_machine.specs.Placed.{placed, final_pc_of}
-use Rattle.piton_machine.proofs.SizeLaws.{length-placed}
-use Rattle.piton_machine.proofs.SoundLaws.{known}
+use Rattle.piton_machine.specs.Placed.{placed}
 use Rattle.piton_linker.specs.declared.fault.LinkFault.TheVariants.{Large}
 use Rattle.piton_linker.specs.Layouts.{trimmed, IsFault}
+use Rattle.stack_build.specs.Image.{linked_image}
 use Rattle.stack_build.specs.PlacedWords.{PlacedAreWords}
 use Rattle.stack_build.proofs.ImageBytes.{file_few}
-use Rattle.stack_build.proofs.Windows.{shorter}
+use Rattle.stack_build.proofs.ImageLimits.{placed_fits}
 use Rattle.command_line.specs.declared.role.Role.TheVariants.{Image}
 use Rattle.command_line.specs.Roles.{limit_of}
 use Rattle.cli_stack.specs.declared.reply.SizeOf.TheVariants.{Words}
 use Rattle.cli_stack.specs.declared.reply.Verdict.TheVariants.{Size}
 use Rattle.cli_stack.specs.Replies.{verdict_alone}
-use Rattle.cli_stack.specs.Pbuild.{linked_image, is_large, linked_stored, linked_reply}
+use Rattle.cli_stack.specs.Commands.Pbuild.{is_large, linked_stored, linked_reply}
 
 -- the image keeps the limits of images
 pub image_fits : (c : CheckedOf) → IsChecked c → (placed (system_in c)).size ≤ 2 ^ 20 → IsTrue (is_image (linked_image (system_in c)))
 unfolding all_after
 image_fits c is small =
     let s : SystemView = system_in c in
-    let long = length-placed s (known s is.sound) in
-    let size : ℕ = (placed s).size in
-    let low = is.sound.low_base in
-    let some = is.sound.some_temp in
+    let fits = placed_fits s is.sound small in
     from_limits (linked_image s) record {
       version = refl;
       tables = refl;
-      window = and_from _ _ (and_from _ _ (and_from _ _ (le-leb 1 size (omega arith)) (le-leb size 1048576 (omega arith))) (le-leb (s.base + size) 4294967295 (omega arith))) (and_from _ _ (le-leb s.base (final_pc_of s) (omega arith)) (lt-ltb (final_pc_of s) (s.base + size) (omega arith)));
+      window = and_from _ _ fits.sized fits.inside;
       registers = refl;
       condition_address = refl;
       condition_count = refl;
       conditions = refl;
       slot_count = refl;
       slots = refl;
-      words = le-leb (length (trimmed (placed s).words)) size (omega (arith, shorter (placed s).words));
+      words = le-leb (length (trimmed (placed s).words)) (placed s).size fits.few;
     }
-
--- the same of what is made of equal parts
-pub parts_fit : (c : CheckedOf) → IsChecked c → (placed (system_in c)).size ≤ 2 ^ 20 → (base size final_pc : ℕ) (registers : List ℕ) (conditions : List (List ℕ)) (slots : List Slot) (words : List ℕ) (procedures : List ProcedureOf) (marks : List Mark)
-    → base ≡ (system_in c).base → size ≡ (placed (system_in c)).size → final_pc ≡ (placed (system_in c)).final_pc → registers ≡ (placed (system_in c)).registers → conditions ≡ [] → slots ≡ [] → words ≡ trimmed (placed (system_in c)).words → procedures ≡ [] → marks ≡ []
-    → IsTrue (is_image record { version = 2; base = base; size = size; final_pc = final_pc; registers = registers; flags = no_flags; condition_address = None; conditions = conditions; slots = slots; words = words; procedures = procedures; marks = marks })
-parts_fit c is small base size final_pc registers conditions slots words procedures marks b n f r o l w p m =
-    let b' = sym b in
-    let n' = sym n in
-    let f' = sym f in
-    let r' = sym r in
-    let o' = sym o in
-    let l' = sym l in
-    let w' = sym w in
-    let p' = sym p in
-    let m' = sym m in
-    let image : ImageOf = record { version = 2; base = base; size = size; final_pc = final_pc; registers = registers; flags = no_flags; condition_address = None; conditions = conditions; slots = slots; words = words; procedures = procedures; marks = marks } in
-    let whole : linked_image (system_in c) ≡ image =
-    λ i. record { version = 2; base = b' i; size = n' i; final_pc = f' i; registers = r' i; flags = no_flags; condition_address = None; conditions = o' i; slots = l' i; words = w' i; procedures = p' i; marks = m' i } in
-    subst (λ (z : ImageOf). IsTrue (is_image z)) whole (image_fits c is small)
 
 -- its file is short enough to be read
 pub image_short : (c : CheckedOf) → IsChecked c → (placed (system_in c)).size ≤ 2 ^ 20 → length (spelling (linked_image (system_in c))) ≤ limit_of Image

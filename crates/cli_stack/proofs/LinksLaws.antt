@@ -7,7 +7,7 @@ use Rattle.stack_text.specs.Results.{◌>>=◌}
 use Rattle.level_debuggers.specs.Tallies.{Watching}
 use Rattle.stack_shelf.specs.Files.{Files, file_at}
 use Rattle.stack_shelf.specs.Shelf.{fetched}
-use Rattle.fm_machine.specs.Run.{Outcome, outcome}
+use Rattle.fm_machine.specs.Run.{RunOutcome, outcome}
 use Rattle.fm_machine.specs.declared.processor.Run.TheVariants.{Ended}
 use Rattle.fm_machine.proofs.RunLaws.{outcome_only}
 use Rattle.fm_image.specs.Image.{ImageOf}
@@ -15,13 +15,14 @@ use Rattle.fm_image.specs.Spelling.{spelling, Spelled}
 use Rattle.fm_image.proofs.ImageLaws.{spelled_reads}
 use Rattle.fm_loader.specs.Loaded as loader
 use Rattle.fm_loader.specs.Values.{values_in}
-use Rattle.piton_check.specs.Answers.{CheckedOf, IsChecked}
+use Rattle.piton_check.specs.PitonChecking.{CheckedOf, IsChecked}
 use Rattle.piton_machine.specs.Fits.{IsInitialStack, system_in}
 use Rattle.piton_machine.specs.Placed.{placed}
 use Rattle.piton_linker.specs.Theorem.{ComesToStand}
 use Rattle.piton_linker.proofs.ProcessorLaws.{checked_runs}
 use Rattle.fm_machine.specs.State.{Fm}
 use Rattle.display_maps.specs.Report.{shaped}
+use Rattle.stack_build.specs.Image.{linked_image}
 use Rattle.stack_build.specs.PlacedWords.{PlacedAreWords}
 use Rattle.command_line.specs.declared.command.Command.{Command}
 use Rattle.command_line.specs.declared.command.Command.TheVariants as command
@@ -36,12 +37,12 @@ use Rattle.command_line.proofs.FileLaws.{was_short}
 use Rattle.cli_stack.specs.declared.reply.Verdict.{Verdict}
 use Rattle.cli_stack.specs.declared.reply.Verdict.TheVariants.{Done}
 use Rattle.cli_stack.specs.Replies.{ReplyOf, status_of, verdict_line}
-use Rattle.cli_stack.specs.Run.{outcome_reply, run_reply, image_file_reply}
-use Rattle.cli_stack.specs.PitonText.{checked_in}
-use Rattle.cli_stack.specs.Pbuild.{linked_image, is_large, checked_stored}
+use Rattle.cli_stack.specs.Commands.Run.{outcome_reply, run_reply, image_file_reply}
+use Rattle.cli_stack.specs.Commands.PitonText.{checked_in}
+use Rattle.cli_stack.specs.Commands.Pbuild.{is_large, checked_stored}
 use Rattle.cli_stack.specs.Answer.{set_file, stored_by, reply_by, answer_on, answer_to, answer_by}
-use Rattle.cli_stack.specs.Correct.{IsReadable}
-use Rattle.cli_stack.specs.Linked.{cost_of, RunsAs, TellsCost, TellsCosts, HoldsLinked, StoresLinked, Links}
+use Rattle.cli_stack.specs.FilesAndSizes.{IsReadable}
+use Rattle.cli_stack.specs.Links.{cost_of, RunsAs, TellsCost, TellsCosts, HoldsLinked, StoresLinked, Links}
 use Rattle.cli_stack.proofs.RoleLaws.{set_bytes, written_role, only_file, only_role, both_roles}
 use Rattle.cli_stack.proofs.KnownLaws.{text_is_checked}
 use Rattle.cli_stack.proofs.LinkedLaws.{image_short, image_spelled}
@@ -79,8 +80,8 @@ module _ (c : CheckedOf) (is : IsChecked c) (small : (placed (system_in c)).size
       let ends : outcome budget image.final_pc (loader.loaded image []) ≡ record { run = Ended count; state = end.state } =
       outcome_only (loader.loaded image []) image.final_pc budget (Ended count) end.state (enough, record { reached = end.runs; there = end.halted.0 halts; before = end.before }) in
       run_tells image bytes values_text files image_name values_name budget count watches spells gives there there'
-      (ap (λ (o : Outcome). (outcome_reply image budget o).verdict) ends)
-      (ap (λ (o : Outcome). (outcome_reply image budget o).said) ends ∙ append-nil (line (codes "finished " ++ decimal count)))
+      (ap (λ (o : RunOutcome). (outcome_reply image budget o).verdict) ends)
+      (ap (λ (o : RunOutcome). (outcome_reply image budget o).said) ends ∙ append-nil (line (codes "finished " ++ decimal count)))
 
 -- 2. The text in a file.
 
@@ -123,10 +124,10 @@ pbuild_holds words watches files piton image (Ok text) stored bytes got sets =
 
 links_by : PlacedAreWords → (c : Command) (watches : List Watching) (files : Files) → StoresLinked c files (answer_to c watches files).output
 unfolding inputs_of output_of
+links_by words (command.Pit source control temporary piton) watches files = λ name own stored bytes reads writes sets. absurd (only_role Piton Source source name (λ e. cc) reads)
+links_by words (command.Build source control temporary image) watches files = λ name own stored bytes reads writes sets. absurd (only_role Piton Source source name (λ e. cc) reads)
 links_by words (command.Pbuild piton image) watches files = λ name own stored bytes reads writes sets.
     subst (λ (n : List ℕ). HoldsLinked files n bytes) (only_file Piton piton name reads) (pbuild_holds words watches files piton image _ stored bytes refl sets)
-links_by words (command.Build source control temporary image) watches files = λ name own stored bytes reads writes sets. absurd (only_role Piton Source source name (λ e. cc) reads)
-links_by words (command.Pit source control temporary piton) watches files = λ name own stored bytes reads writes sets. absurd (only_role Piton Source source name (λ e. cc) reads)
 links_by words (command.Go source values control temporary budget image) watches files = λ name own stored bytes reads writes sets. absurd (both_roles Piton Source Values source values name (λ e. cc) (λ e. cc) reads)
 links_by words (command.Migrate image output) watches files = λ name own stored bytes reads writes sets. absurd (only_role Piton Image image name (λ e. cc) reads)
 links_by words (command.Asm assembly image) watches files = λ name own stored bytes reads writes sets. absurd (only_role Piton Assembly assembly name (λ e. cc) reads)

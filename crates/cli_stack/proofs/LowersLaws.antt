@@ -6,7 +6,7 @@ use Rattle.stack_text.specs.Values.{ValueOf}
 use Rattle.stack_shelf.specs.Files.{Files}
 use Rattle.stack_shelf.specs.Shelf.{fetched}
 use Rattle.fm_machine.specs.State.{Fm}
-use Rattle.fm_machine.specs.Run.{Outcome, IsOutcome, outcome}
+use Rattle.fm_machine.specs.Run.{RunOutcome, IsOutcome, outcome}
 use Rattle.fm_machine.specs.declared.processor.Run.{Run}
 use Rattle.fm_machine.specs.declared.processor.Run.TheVariants as run
 use Rattle.fm_machine.proofs.RunLaws.{outcome_is}
@@ -20,15 +20,15 @@ use Rattle.gypsy_syntax.specs.Printed.{gypsy_text}
 use Rattle.gypsy_syntax.specs.Resolved.{place_among, program_of}
 use Rattle.gypsy_syntax.specs.Sources.{ProcOf, SourceOf}
 use Rattle.gypsy_space.specs.Costs.{Tally}
-use Rattle.gypsy_space.specs.Needs.{Words, stack_words}
-use Rattle.gypsy_meaning.specs.Calls.{Way}
+use Rattle.gypsy_space.specs.Needs.{StackSizes, stack_sizes}
+use Rattle.gypsy_meaning.specs.Calls.{CurrentCondition}
 use Rattle.gypsy_meaning.specs.Counted.{CountedOutcome, CountedDone, CountedUnfinished, counted_meaning, uncounted, tally_of}
 use Rattle.gypsy_meaning.specs.Meaning.{Done as RunDone, meaning}
 use Rattle.gypsy_meaning.proofs.CountLaws.{meaning-uncounted}
-use Rattle.mini_syntax.specs.Answers.{IsFault, IsFaultless}
+use Rattle.mini_syntax.specs.MiniReading.{IsFault, IsFaultless}
 use Rattle.mini_syntax.specs.Breaches.{body_of, declared_of, names_of}
 use Rattle.mini_syntax.specs.declared.program.Declared.{Declared}
-use Rattle.mini_syntax.specs.Grammar.{Program}
+use Rattle.mini_syntax.specs.Grammar.{InfixProgram}
 use Rattle.mini_syntax.specs.Language.{Stmt}
 use Rattle.mini_gypsy.specs.Lowered.{decl_of, lowered}
 use Rattle.mini_gypsy.specs.Promises as gypsy
@@ -57,11 +57,12 @@ use Rattle.command_line.proofs.FileLaws.{was_short}
 use Rattle.cli_stack.specs.declared.reply.RuleLetter.TheVariants.{Y}
 use Rattle.cli_stack.specs.declared.reply.Verdict.TheVariants as verdict
 use Rattle.cli_stack.specs.Replies.{status_of, verdict_alone}
-use Rattle.cli_stack.specs.Run.{end_reply, run_reply}
-use Rattle.cli_stack.specs.Pit.{written_reply}
-use Rattle.cli_stack.specs.Mini.{lowering_of, lowered_stored, lowered_reply, mini_stored, mini_reply}
+use Rattle.cli_stack.specs.Commands.Run.{end_reply, run_reply}
+use Rattle.cli_stack.specs.Commands.Pit.{written_reply}
+use Rattle.cli_stack.specs.Commands.Mini.{lowering_of, lowered_stored, lowered_reply, mini_stored, mini_reply}
 use Rattle.cli_stack.specs.Answer.{set_file, stored_by, reply_by, answer_with, answer_on, answer_to, answer_by}
-use Rattle.cli_stack.specs.Correct.{IsReadable, HoldsImplementation, StoresImplementation, sizes_of}
+use Rattle.cli_stack.specs.Implements.{HoldsImplementation, StoresImplementation}
+use Rattle.cli_stack.specs.FilesAndSizes.{IsReadable, sizes_of}
 use Rattle.cli_stack.specs.Lowers.{MeansProgram, TellsMini, RunEnds, CarriesRuns, HoldsRuns, StoresRuns, TellsEnd, TellsRuns, TellsOwn, LowersPrograms}
 use Rattle.cli_stack.proofs.GoLaws.{first_once, early_done, go_done}
 use Rattle.cli_stack.proofs.ImplementsLaws.{stores}
@@ -101,12 +102,12 @@ names_lowered : (ds : List Declared) (body : Stmt) → shown_names (lowered ds b
 unfolding main_of place_among
 names_lowered ds body = map_over (λ (d : Decl). d.name.name) (λ (d : Declared). decl_of d.name d.sort) (λ (d : Declared). d.name) (λ d. refl) ds
 
-stored_names : (source : SourceOf) (program : Program) → without_places source ≡ without_places (source_for program) → shown_names source ≡ names_of (declared_of program)
+stored_names : (source : SourceOf) (program : InfixProgram) → without_places source ≡ without_places (source_for program) → shown_names source ≡ names_of (declared_of program)
 stored_names source program same =
     sym (names_bare source) ∙ ap (λ (s : SourceOf). shown_names s) same ∙ names_bare (source_for program) ∙ names_lowered (declared_of program) (body_of program)
 
 -- what is stored of a program means what the program does
-stored_means : (text : List ℕ) (program : Program) → length text ≤ 2 ^ 20 → IsFaultless text program → MeansProgram (stored_text program) program
+stored_means : (text : List ℕ) (program : InfixProgram) → length text ≤ 2 ^ 20 → IsFaultless text program → MeansProgram (stored_text program) program
 stored_means text program few is =
     let s : StandsFor (stored_text program) program = stands text program few is in
     record {
@@ -158,7 +159,7 @@ mini_tells watches files program source (Ok text) got = by_reading (read text)
 -- 4. The images of a source that means what a program does.
 
 -- a run of the program that is done is one of the source, and has a count
-finishes : (text : List ℕ) (program : Program) (means : MeansProgram text program) (sizes : Words) (values finals : List ValueOf) (way : Way) → FitsFormals means.source values → RunEnds program values finals way
+finishes : (text : List ℕ) (program : InfixProgram) (means : MeansProgram text program) (sizes : StackSizes) (values finals : List ValueOf) (way : CurrentCondition) → FitsFormals means.source values → RunEnds program values finals way
     → (count : ℕ) × Finishes means.source sizes values finals way count
 finishes text program means sizes values finals way fits ends =
     by_counted (counted_meaning (program_of means.source) sizes values ends.0) refl (meaning-uncounted (program_of means.source) sizes values ends.0 ∙ done)
@@ -173,7 +174,7 @@ finishes text program means sizes values finals way fits ends =
     )
     by_counted CountedUnfinished is same = absurd cc
 
-carries : (text : List ℕ) (program : Program) (means : MeansProgram text program) (image : ImageOf) (sizes : Words) → Implements image means.source sizes → CarriesRuns image means.source program
+carries : (text : List ℕ) (program : InfixProgram) (means : MeansProgram text program) (image : ImageOf) (sizes : StackSizes) → Implements image means.source sizes → CarriesRuns image means.source program
 carries text program means image sizes does values finals way fits ends =
     let fin = finishes text program means sizes values finals way fits ends in
     (fin.0, does values finals way fin.0 fits fin.1)
@@ -181,7 +182,7 @@ carries text program means image sizes does values finals way fits ends =
 images : (c : Command) (files : Files) (output : Option (List ℕ × List ℕ)) → StoresImplementation c files output → StoresRuns c files output
 images c files output holds source image stored bytes text program reads writes sets there means = by_sizes (sizes_of c) (holds source image stored bytes reads writes sets)
   where
-    by_sizes : (o : Option Words) → IsSomeAnd o (λ sizes. HoldsImplementation files source sizes bytes) → HoldsRuns bytes means.source program
+    by_sizes : (o : Option StackSizes) → IsSomeAnd o (λ sizes. HoldsImplementation files source sizes bytes) → HoldsRuns bytes means.source program
     by_sizes None none = absurd none
     by_sizes (Some sizes) h =
         let texts : Some h.text ≡ Some text = sym h.there ∙ there in
@@ -197,12 +198,12 @@ images c files output holds source image stored bytes text program reads writes 
 -- 5. `go`.
 
 -- a run of the image that ended tells how the program's run did
-module _ (source : SourceOf) (image : ImageOf) (sizes : Words) (values finals : List ValueOf) (way : Way) (count budget : ℕ) (output : Option (List ℕ × List ℕ))
+module _ (source : SourceOf) (image : ImageOf) (sizes : StackSizes) (values finals : List ValueOf) (way : CurrentCondition) (count budget : ℕ) (output : Option (List ℕ × List ℕ))
     (does : Implements image source sizes) (fits : FitsFormals source values) (fin : Finishes source sizes values finals way count) where
   run_tells : status_of (run_reply image values budget).verdict ≡ Done → TellsEnd source finals way (answer_with output (run_reply image values budget))
   unfolding run_reply
   run_tells done =
-      let o : Outcome = outcome budget image.final_pc (loaded image values) in
+      let o : RunOutcome = outcome budget image.final_pc (loaded image values) in
       record {
         image = image;
         count = count;
@@ -225,7 +226,7 @@ go_tells : BuiltImplements → BuiltTakesValues → (watches : List Watching) (f
 unfolding inputs_of reply_by
 go_tells implement take watches files source values image control temporary budget text values_text program means x finals way there there' gives ends =
     let go : Command = command.Go source values control temporary budget image in
-    let sizes : Words = stack_words temporary control in
+    let sizes : StackSizes = stack_sizes control temporary in
     let short : length text ≤ 2 ^ 31 = let few : length text ≤ limit_of Source = there.short in omega (arith, few) in
     subst (λ (r : Result Texts EarlyEnd). (answer_on go watches r).status ≡ Done → TellsEnd means.source finals way (answer_on go watches r))
     (sym (both_there files (Source, source) (Values, values) text values_text there there'))
@@ -241,8 +242,8 @@ go_tells implement take watches files source values image control temporary budg
 
 own_by : BuiltImplements → BuiltTakesValues → (c : Command) (watches : List Watching) (files : Files) → TellsOwn c files (answer_to c watches files)
 unfolding inputs_of
-own_by implement take (command.Mini program source) watches files = mini_tells watches files program source _ refl
 own_by implement take (command.Go source values control temporary budget image) watches files = go_tells implement take watches files source values image control temporary budget
+own_by implement take (command.Mini program source) watches files = mini_tells watches files program source _ refl
 own_by implement take c watches files = tt
 
 -- whatever the command and the files are

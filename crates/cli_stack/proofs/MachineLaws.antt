@@ -2,36 +2,36 @@
 use Rattle.std.proofs.Common.{◌≡◌, ◌⊎◌, inl, inr, ⊎_elim, ℕ, List, Bool, true, false, Option, None, Some, Result, Ok, Err, refl, sym, ap, subst}
 use Rattle.std.specs.Prelude.{◌^◌, codes, if◌then◌else◌}
 use Rattle.std.specs.Option.{option_map}
-use Rattle.fm_machine.specs.Run.{Outcome, outcome}
+use Rattle.fm_machine.specs.Run.{RunOutcome, outcome}
 use Rattle.fm_machine.specs.State.{Fm, MachineOf}
 use Rattle.fm_machine.specs.declared.processor.Run.{Run}
 use Rattle.fm_machine.specs.declared.processor.Run.TheVariants as run
 use Rattle.fm_image.specs.Image.{ImageOf}
 use Rattle.fm_image.specs.Reading.{read_of}
 use Rattle.stack_text.specs.declared.breach.Breach.{Breach}
-use Rattle.fm_asm.specs.Answers.{assembly_of}
+use Rattle.fm_asm.specs.Assembling.{assembly_of}
 use Rattle.fm_asm.specs.Printing.{is_plain}
 use Rattle.fm_loader.specs.Loaded.{loaded}
 use Rattle.fm_loader.specs.Values.{values_in}
 use Rattle.stack_text.specs.Values.{ValueOf}
 use Rattle.piton_syntax.specs.Systems.{SystemOf}
-use Rattle.piton_check.specs.Answers.{CheckedOf}
+use Rattle.piton_check.specs.PitonChecking.{CheckedOf}
 use Rattle.piton_check.specs.Instruction.{SystemView}
 use Rattle.piton_machine.specs.Fits.{system_in}
 use Rattle.piton_machine.specs.Placed.{placed}
 use Rattle.piton_machine.specs.declared.stepped.PitonRun.{PitonRun}
 use Rattle.piton_machine.specs.declared.stepped.PitonRun.TheVariants as piton_run
-use Rattle.piton_machine.specs.Seen.{Ran, run_of, opening}
-use Rattle.piton_machine.specs.Seen.{Seen as PitonSeen}
+use Rattle.piton_machine.specs.Seen.StateView.{Ran, state_run, opening}
+use Rattle.piton_machine.specs.Seen.StateView.{Seen as PitonSeen}
 use Rattle.gypsy_syntax.specs.Resolved.{procedure_names, program_of}
 use Rattle.gypsy_syntax.specs.Sources.{SourceOf}
 use Rattle.space_cert.specs.Certified.{certified}
 use Rattle.space_cert.specs.CertText.{bounds_in}
 use Rattle.space_cert.specs.Covers.{Bounds}
-use Rattle.gypsy_space.specs.Needs.{Words as StackWords, stack_words}
+use Rattle.gypsy_space.specs.Needs.{StackSizes as StackWords, stack_sizes}
 use Rattle.gypsy_meaning.specs.declared.answers.MeanRun.{MeanRun}
 use Rattle.gypsy_meaning.specs.declared.answers.MeanRun.TheVariants as mean_run
-use Rattle.gypsy_meaning.specs.Seen.{Seen as MeanSeen, Ran as MeanRan, run_of as mean_run_of}
+use Rattle.gypsy_meaning.specs.Seen.RunView.{Seen as MeanSeen, Ran as MeanRan, meaning_run as mean_run_of}
 use Rattle.gypsy_gen.specs.Large.{large_of}
 use Rattle.debug_script.specs.declared.fault.ScriptFault.{ScriptFault}
 use Rattle.debug_script.specs.declared.reading.Line.{Line}
@@ -42,6 +42,7 @@ use Rattle.stack_build.specs.declared.fault.BuildFault.{BuildFault}
 use Rattle.stack_build.specs.declared.start_fault.StartFault.{StartFault}
 use Rattle.stack_build.specs.Starts.{gypsy_start}
 use Rattle.stack_build.specs.Build.{BuiltOf, built, source_built, compiled}
+use Rattle.stack_build.specs.Image.{linked_image}
 use Rattle.fm_turns.specs.Starting.{NewTask}
 use Rattle.command_line.specs.declared.command.Command.{Command}
 use Rattle.command_line.specs.declared.command.Command.TheVariants as command
@@ -53,29 +54,29 @@ use Rattle.cli_stack.specs.declared.reply.Reply.{Reply}
 use Rattle.cli_stack.specs.declared.reply.SizeOf.TheVariants.{Words}
 use Rattle.cli_stack.specs.declared.reply.Verdict.{Verdict}
 use Rattle.cli_stack.specs.declared.reply.Verdict.TheVariants as verdict
-use Rattle.cli_stack.specs.Replies.{ReplyOf, reply_of, status_of, verdict_alone, judgement_reply}
+use Rattle.cli_stack.specs.Replies.{ReplyOf, reply_of, status_of, verdict_alone, judgement_reply, built_reply}
 use Rattle.cli_stack.specs.Answer.{reply_by}
-use Rattle.cli_stack.specs.Go.{go_reply}
-use Rattle.cli_stack.specs.Big.{go_on_source, big_reply}
-use Rattle.cli_stack.specs.Build.{build_reply}
-use Rattle.cli_stack.specs.Debug.{run_in, lines_reply, script_reply, session_reply}
-use Rattle.cli_stack.specs.Mean.{mean_end_reply, mean_run_reply, mean_started_reply, mean_accepted_reply}
-use Rattle.cli_stack.specs.Pbuild.{linked_image, is_large, built_reply, linked_reply, checked_reply}
-use Rattle.cli_stack.specs.Pit.{written_reply, pit_reply}
-use Rattle.cli_stack.specs.PitonText.{checked_in}
-use Rattle.cli_stack.specs.Prun.{run_end_reply, checked_run_reply, system_run_reply}
-use Rattle.cli_stack.specs.Run.{end_reply, run_reply, values_reply, image_reply}
-use Rattle.cli_stack.specs.Show.{listing_reply}
-use Rattle.cli_stack.specs.Migrate.{migrated_reply}
-use Rattle.cli_stack.specs.Asm.{assembled_reply}
-use Rattle.cli_stack.specs.Mini.{lowering_of, lowered_reply}
-use Rattle.cli_stack.specs.Unasm.{printed_reply}
-use Rattle.cli_stack.specs.Need.{bounds_reply, certified_reply, need_reply_by}
-use Rattle.cli_stack.specs.Cert.{judged_reply, certificate_reply, cert_reply_by}
-use Rattle.cli_stack.specs.SourceText.{accepted_in}
-use Rattle.cli_stack.specs.Turns.{fault_reply, tasks_of, tasks_reply, turns_by}
-use Rattle.cli_stack.specs.Promises.{RunsImage, IsRunEnd}
-use Rattle.cli_stack.specs.Driver.{IsReplyTo}
+use Rattle.cli_stack.specs.Commands.Go.{go_reply}
+use Rattle.cli_stack.specs.Commands.Big.{go_on_source, big_reply}
+use Rattle.cli_stack.specs.Commands.Build.{build_reply}
+use Rattle.cli_stack.specs.Commands.Debug.{run_in, lines_reply, script_reply, session_reply}
+use Rattle.cli_stack.specs.Commands.Mean.{mean_end_reply, mean_run_reply, mean_started_reply, mean_accepted_reply}
+use Rattle.cli_stack.specs.Commands.Pbuild.{is_large, linked_reply, checked_reply}
+use Rattle.cli_stack.specs.Commands.Pit.{written_reply, pit_reply}
+use Rattle.cli_stack.specs.Commands.PitonText.{checked_in}
+use Rattle.cli_stack.specs.Commands.Prun.{run_end_reply, checked_run_reply, system_run_reply}
+use Rattle.cli_stack.specs.Commands.Run.{end_reply, run_reply, values_reply, image_reply}
+use Rattle.cli_stack.specs.Commands.Show.{listing_reply}
+use Rattle.cli_stack.specs.Commands.Migrate.{migrated_reply}
+use Rattle.cli_stack.specs.Commands.Asm.{assembled_reply}
+use Rattle.cli_stack.specs.Commands.Mini.{lowering_of, lowered_reply}
+use Rattle.cli_stack.specs.Commands.Unasm.{printed_reply}
+use Rattle.cli_stack.specs.Commands.Need.{bounds_reply, certified_reply, need_reply_by}
+use Rattle.cli_stack.specs.Commands.Cert.{judged_reply, certificate_reply, cert_reply_by}
+use Rattle.cli_stack.specs.Commands.SourceText.{accepted_in}
+use Rattle.cli_stack.specs.Commands.Turns.{fault_reply, tasks_of, tasks_reply, turns_by}
+use Rattle.cli_stack.specs.Kept.{RunsImage, IsRunEnd}
+use Rattle.cli_stack.specs.Scaffold.Driver.{IsReplyTo}
 
 -- 1. Who may leave a machine.
 
@@ -91,7 +92,7 @@ end_ends image budget (run.Outside address count) s = tt
 run_ends : (image : ImageOf) (values : List ValueOf) (budget : ℕ) → NoneOrEnd (run_reply image values budget)
 unfolding run_reply
 run_ends image values budget =
-    let ended : Outcome = outcome budget image.final_pc (loaded image values) in inr (end_ends image budget ended.run ended.state)
+    let ended : RunOutcome = outcome budget image.final_pc (loaded image values) in inr (end_ends image budget ended.run ended.state)
 
 values_end : (image : ImageOf) (budget : ℕ) (values : Result (List ValueOf) (ℕ × ℕ)) → NoneOrEnd (values_reply image budget values)
 values_end image budget (Ok values) = run_ends image values budget
@@ -107,7 +108,7 @@ go_ends (Err fault) values budget = inl refl
 
 big_ends : (number procedures : ℕ) → NoneOrEnd (big_reply number procedures)
 unfolding big_reply go_on_source
-big_ends number procedures = go_ends (source_built (large_of number procedures) (stack_words 64 64) 0) (codes "((x 0))") (2 ^ 40)
+big_ends number procedures = go_ends (source_built (large_of number procedures) (stack_sizes 64 64) 0) (codes "((x 0))") (2 ^ 40)
 
 -- 2. Who leaves none.
 
@@ -187,7 +188,7 @@ piton_end_none system limit (piton_run.Error kind) seen = refl
 piton_run_none : (found : Result CheckedOf Verdict) (limit : ℕ) → NoMachine (checked_run_reply found limit)
 unfolding system_run_reply
 piton_run_none (Ok checked) limit =
-    let ran : Ran = run_of (system_in checked) limit (opening (system_in checked) (system_in checked).stack) in piton_end_none checked.system limit ran.run ran.seen
+    let ran : Ran = state_run (system_in checked) limit (opening (system_in checked) (system_in checked).stack) in piton_end_none checked.system limit ran.run ran.seen
 piton_run_none (Err verdict) limit = refl
 
 mean_end_none : (source : SourceOf) (limit : ℕ) (r : MeanRun) (seen : MeanSeen) → NoMachine (mean_end_reply source limit r seen)
@@ -235,30 +236,30 @@ with_run c reply runs (inr end) = inr (runs, end)
 
 by_command : (c : Command) (watches : List Watching) (texts : Texts) → OnlyRuns (Some c) (reply_by c watches texts)
 unfolding reply_by
-by_command (command.Go source values control temporary budget image) watches texts =
-    with_run (command.Go source values control temporary budget image) (reply_by (command.Go source values control temporary budget image) watches texts) tt (go_ends (built (text_of role.Source texts) control temporary 0) (text_of role.Values texts) budget)
+by_command (command.Check source) watches texts = inl (judgement_none (accepted_in (text_of role.Source texts)))
+by_command (command.Mean source values control temporary limit) watches texts = inl (mean_none (accepted_in (text_of role.Source texts)) (stack_sizes control temporary) (text_of role.Values texts) limit)
+by_command (command.Pit source control temporary piton) watches texts = inl (pit_none piton (compiled (text_of role.Source texts) control temporary 0))
+by_command (command.Build source control temporary image) watches texts = inl (build_none (built (text_of role.Source texts) control temporary 0))
+by_command (command.Pcheck piton) watches texts = inl (judgement_none (checked_in (text_of role.Piton texts)))
+by_command (command.Prun piton limit) watches texts = inl (piton_run_none (checked_in (text_of role.Piton texts)) limit)
+by_command (command.Pbuild piton image) watches texts = inl (checked_none (checked_in (text_of role.Piton texts)))
 by_command (command.Run image values budget) watches texts =
     with_run (command.Run image values budget) (reply_by (command.Run image values budget) watches texts) tt (image_ends (text_of role.Values texts) budget (read_of (text_of role.Image texts)))
-by_command (command.Big number procedures) watches texts =
-    with_run (command.Big number procedures) (reply_by (command.Big number procedures) watches texts) tt (big_ends number procedures)
-by_command (command.Mean source values control temporary limit) watches texts = inl (mean_none (accepted_in (text_of role.Source texts)) (stack_words temporary control) (text_of role.Values texts) limit)
-by_command (command.Build source control temporary image) watches texts = inl (build_none (built (text_of role.Source texts) control temporary 0))
-by_command (command.Pit source control temporary piton) watches texts = inl (pit_none piton (compiled (text_of role.Source texts) control temporary 0))
+by_command (command.Go source values control temporary budget image) watches texts =
+    with_run (command.Go source values control temporary budget image) (reply_by (command.Go source values control temporary budget image) watches texts) tt (go_ends (built (text_of role.Source texts) control temporary 0) (text_of role.Values texts) budget)
 by_command (command.Show image) watches texts = inl (listing_none (read_of (text_of role.Image texts)))
 by_command (command.Migrate image output) watches texts = inl (migrated_none output (read_of (text_of role.Image texts)))
 by_command (command.Asm assembly image) watches texts = inl (assembled_none (assembly_of (text_of role.Assembly texts)))
 by_command (command.Unasm image assembly) watches texts = inl (printed_none assembly (read_of (text_of role.Image texts)))
 by_command (command.Need source certificate) watches texts = inl (need_none (accepted_in (text_of role.Source texts)))
-by_command (command.Cert source certificate control temporary) watches texts = inl (cert_none (accepted_in (text_of role.Source texts)) (stack_words temporary control) (text_of role.Certificate texts))
-by_command (command.Mini program source) watches texts = inl (lowered_none source (lowering_of (text_of role.Infix texts)))
-by_command (command.Check source) watches texts = inl (judgement_none (accepted_in (text_of role.Source texts)))
-by_command (command.Pcheck piton) watches texts = inl (judgement_none (checked_in (text_of role.Piton texts)))
-by_command (command.Prun piton limit) watches texts = inl (piton_run_none (checked_in (text_of role.Piton texts)) limit)
-by_command (command.Pbuild piton image) watches texts = inl (checked_none (checked_in (text_of role.Piton texts)))
+by_command (command.Cert source certificate control temporary) watches texts = inl (cert_none (accepted_in (text_of role.Source texts)) (stack_sizes control temporary) (text_of role.Certificate texts))
 by_command (command.Debug level source values control temporary script) watches texts =
-    inl (debug_none (run_in level (text_of role.Source texts) (stack_words temporary control) (text_of role.Values texts)) watches (text_of role.Script texts))
+    inl (debug_none (run_in level (text_of role.Source texts) (stack_sizes control temporary) (text_of role.Values texts)) watches (text_of role.Script texts))
 by_command (command.Turns turn budget control temporary tasks) watches texts =
-    inl (turns_none turn budget (tasks_of (stack_words temporary control) (texts_of role.TaskSource texts) (texts_of role.TaskValues texts)))
+    inl (turns_none turn budget (tasks_of (stack_sizes control temporary) (texts_of role.TaskSource texts) (texts_of role.TaskValues texts)))
+by_command (command.Big number procedures) watches texts =
+    with_run (command.Big number procedures) (reply_by (command.Big number procedures) watches texts) tt (big_ends number procedures)
+by_command (command.Mini program source) watches texts = inl (lowered_none source (lowering_of (text_of role.Infix texts)))
 
 of_reply : (c : Option Command) (watches : List Watching) (reply : Reply) → IsReplyTo c watches reply → OnlyRuns c (reply_of reply)
 of_reply None watches reply is = inl (ap (λ (r : ReplyOf). r.state) is)

@@ -3,9 +3,9 @@ use Rattle.std.proofs.Common.{◌≡◌, ℕ, List}
 use Rattle.stack_text.specs.Values.{ValueOf}
 use Rattle.gypsy_syntax.specs.Sources.{SourceOf}
 use Rattle.gypsy_meaning.specs.declared.conditions.Current.{Current}
-use Rattle.gypsy_meaning.specs.Seen.{Seen, values_at}
-use Rattle.gypsy_meaning.specs.Shown.{condition_at, names_at}
-use Rattle.cli_stack.specs.Mean.{said_text, ended_text}
+use Rattle.gypsy_meaning.specs.Seen.RunView.{Seen, values_at}
+use Rattle.gypsy_meaning.specs.Seen.Shown.{condition_at, names_at}
+use Rattle.cli_stack.specs.Commands.Mean.{said_text, ended_text}
 
 -- it is said by what is shown of the run
 pub said_is : (source : SourceOf) (seen : Seen) (steps counted : ℕ) (condition : Current) (names : List (List ℕ)) (values : List ValueOf) → steps ≡ seen.steps → counted ≡ seen.counted

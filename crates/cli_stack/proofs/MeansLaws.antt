@@ -9,18 +9,18 @@ use Rattle.fm_loader.specs.Values.{values_in}
 use Rattle.gypsy_syntax.specs.Sources.{SourceOf}
 use Rattle.gypsy_syntax.specs.Programs.{Program}
 use Rattle.gypsy_syntax.specs.Resolved.{program_of}
-use Rattle.gypsy_space.specs.Needs.{Words, stack_words, main_need}
+use Rattle.gypsy_space.specs.Needs.{StackSizes, stack_sizes, main_need}
 use Rattle.gypsy_meaning.specs.declared.answers.MeanRun.{MeanRun}
 use Rattle.gypsy_meaning.specs.declared.answers.MeanRun.TheVariants as run
 use Rattle.gypsy_meaning.specs.declared.answers.Moved.{Moved}
 use Rattle.gypsy_meaning.specs.declared.answers.Moved.TheVariants as moved
-use Rattle.gypsy_meaning.specs.Agreed.{MeansEnd, EndAgrees, RunAgrees}
-use Rattle.gypsy_meaning.specs.Belongs.{Suffices}
-use Rattle.gypsy_meaning.specs.Calls.{Way}
+use Rattle.gypsy_meaning.specs.Seen.RunAgrees.{MeansEnd, EndAgrees, RunAgrees}
+use Rattle.gypsy_meaning.specs.Seen.Belongs.{Suffices}
+use Rattle.gypsy_meaning.specs.Calls.{CurrentCondition}
 use Rattle.gypsy_meaning.specs.Counted.{instruction_count}
 use Rattle.gypsy_meaning.specs.Meaning.{Done as MeaningDone, meaning}
-use Rattle.gypsy_meaning.specs.Seen.{Seen, Ran, Stage, Running, Finished, IsOfRun, IsEnd, answer_from, answer_of, end_by, left_from, left_of, opening, ran_on, run_of, values_at}
-use Rattle.gypsy_meaning.specs.Shown.{condition_at, names_at}
+use Rattle.gypsy_meaning.specs.Seen.RunView.{Seen, Ran, Stage, Running, Finished, IsOfRun, IsEnd, answer_from, answer_of, end_by, left_from, left_of, opening, ran_on, meaning_run, values_at}
+use Rattle.gypsy_meaning.specs.Seen.Shown.{condition_at, names_at}
 use Rattle.gypsy_meaning.proofs.ReachLaws.{opening_reached, completes}
 use Rattle.gypsy_meaning.proofs.RunLaws.{run_agrees}
 use Rattle.gypsy_meaning.proofs.SeenLaws.{run_same}
@@ -42,10 +42,10 @@ use Rattle.command_line.specs.CommandFiles.{task_inputs, inputs_of, output_of}
 use Rattle.cli_stack.specs.declared.reply.Verdict.{Verdict}
 use Rattle.cli_stack.specs.declared.reply.Verdict.TheVariants as verdict
 use Rattle.cli_stack.specs.Replies.{ReplyOf, status_of, verdict_line}
-use Rattle.cli_stack.specs.SourceText.{unless_refused, accepted_in}
-use Rattle.cli_stack.specs.Mean.{said_text, mean_end_reply, mean_run_reply, mean_started_reply, mean_accepted_reply, mean_reply}
+use Rattle.cli_stack.specs.Commands.SourceText.{unless_refused, accepted_in}
+use Rattle.cli_stack.specs.Commands.Mean.{said_text, mean_end_reply, mean_run_reply, mean_started_reply, mean_accepted_reply, mean_reply}
 use Rattle.cli_stack.specs.Answer.{reply_by, answer_with, answer_on, answer_to, answer_by}
-use Rattle.cli_stack.specs.Correct.{IsReadable}
+use Rattle.cli_stack.specs.FilesAndSizes.{IsReadable}
 use Rattle.cli_stack.specs.Means.{meaning_text, IsMeant, TellsSteps, Follows, FollowsMeanings, Means}
 use Rattle.cli_stack.proofs.TellsLaws.{both_there}
 
@@ -57,7 +57,7 @@ done_only verdict.Done e = refl
 done_only v e = absurd cc
 
 -- what a reply tells
-record Told (source : SourceOf) (sizes : Words) (values finals : List ValueOf) (way : Way) (reply : ReplyOf) : Type 0 where
+record Told (source : SourceOf) (sizes : StackSizes) (values finals : List ValueOf) (way : CurrentCondition) (reply : ReplyOf) : Type 0 where
   pub steps : ℕ
   pub count : ℕ
   pub meant : IsMeant source sizes values finals way steps count
@@ -65,7 +65,7 @@ record Told (source : SourceOf) (sizes : Words) (values finals : List ValueOf) (
   pub said : reply.said ≡ meaning_text source (Finished finals way) steps count
 
 -- so does the answer that has the reply
-answer_tells : (source : SourceOf) (sizes : Words) (values finals : List ValueOf) (way : Way) (output : Option (List ℕ × List ℕ)) (reply : ReplyOf) → Told source sizes values finals way reply → TellsSteps source sizes values finals way (answer_with output reply)
+answer_tells : (source : SourceOf) (sizes : StackSizes) (values finals : List ValueOf) (way : CurrentCondition) (output : Option (List ℕ × List ℕ)) (reply : ReplyOf) → Told source sizes values finals way reply → TellsSteps source sizes values finals way (answer_with output reply)
 answer_tells source sizes values finals way output reply told = record {
   steps = told.steps;
   count = told.count;
@@ -75,7 +75,7 @@ answer_tells source sizes values finals way output reply told = record {
 }
 
 -- a run of which the end agrees with the meaning
-end_told : (source : SourceOf) (sizes : Words) (values finals : List ValueOf) (way : Way) (limit : ℕ) (a : MeanRun) (w : Seen) → a ≡ run.Ended → w.stage ≡ Finished finals way → MeansEnd w finals way
+end_told : (source : SourceOf) (sizes : StackSizes) (values finals : List ValueOf) (way : CurrentCondition) (limit : ℕ) (a : MeanRun) (w : Seen) → a ≡ run.Ended → w.stage ≡ Finished finals way → MeansEnd w finals way
     → IsOfRun (opening (program_of source) sizes values) w → Told source sizes values finals way (mean_end_reply source limit a w)
 end_told source sizes values finals way limit a w ended stage means same =
     let program = same.program in
@@ -86,11 +86,11 @@ end_told source sizes values finals way limit a w ended stage means same =
       count = means.count;
       meant = record {
         meaning_is = ap (λ (q : Program). meaning q sizes values (suc means.made)) (sym program)
-            ∙ ap (λ (z : Words). meaning w.program z values (suc means.made)) (sym own)
+            ∙ ap (λ (z : StackSizes). meaning w.program z values (suc means.made)) (sym own)
             ∙ ap (λ (v : List ValueOf). meaning w.program w.sizes v (suc means.made)) (sym from)
             ∙ means.meaning_is;
         counted = ap (λ (q : Program). instruction_count q sizes values (suc means.made)) (sym program)
-            ∙ ap (λ (z : Words). instruction_count w.program z values (suc means.made)) (sym own)
+            ∙ ap (λ (z : StackSizes). instruction_count w.program z values (suc means.made)) (sym own)
             ∙ ap (λ (v : List ValueOf). instruction_count w.program w.sizes v (suc means.made)) (sym from)
             ∙ means.count_is;
       };
@@ -102,45 +102,45 @@ end_told source sizes values finals way limit a w ended stage means same =
     }
 
 -- a run that ends within so many steps ends so within more
-module _ (x : List ValueOf) (c : Way) where
-  go_further : (m : Moved) (v : Seen) (k limit : ℕ) → ((w : Seen) → IsEnd (run_of k w) x c → IsEnd (run_of limit w) x c) → IsEnd (ran_on m v (run_of k)) x c
-      → IsEnd (ran_on m v (run_of limit)) x c
+module _ (x : List ValueOf) (c : CurrentCondition) where
+  go_further : (m : Moved) (v : Seen) (k limit : ℕ) → ((w : Seen) → IsEnd (meaning_run k w) x c → IsEnd (meaning_run limit w) x c) → IsEnd (ran_on m v (meaning_run k)) x c
+      → IsEnd (ran_on m v (meaning_run limit)) x c
   go_further moved.Moved v k limit rest ends = rest v ends
   go_further moved.Ended v k limit rest ends = ends
 
-  over_already : (limit : ℕ) (v : Seen) (s : Stage) → IsEnd (record { run = end_by s; seen = v }) x c → IsEnd (ran_on (answer_from v s) (left_from v s) (run_of limit)) x c
+  over_already : (limit : ℕ) (v : Seen) (s : Stage) → IsEnd (record { run = end_by s; seen = v }) x c → IsEnd (ran_on (answer_from v s) (left_from v s) (meaning_run limit)) x c
   over_already limit v (Running g) ends = absurd (let never : run.Spent ≡ run.Ended = ends.run in cc)
   over_already limit v (Finished y d) ends = ends
 
-  longer : (k limit : ℕ) (v : Seen) → k ≤ limit → IsEnd (run_of k v) x c → IsEnd (run_of limit v) x c
-  unfolding run_of answer_of left_of
+  longer : (k limit : ℕ) (v : Seen) → k ≤ limit → IsEnd (meaning_run k v) x c → IsEnd (meaning_run limit v) x c
+  unfolding meaning_run answer_of left_of
   longer zero zero v le ends = ends
   longer zero (suc limit) v le ends = over_already limit v v.stage ends
   longer (suc k) zero v le ends = absurd (omega (arith, le))
   longer (suc k) (suc limit) v le ends = go_further (answer_of v) (left_of v) k limit (λ w. longer k limit w (omega (arith, le))) ends
 
-module _ (source : SourceOf) (sizes : Words) (values : List ValueOf) (limit : ℕ) where
+module _ (source : SourceOf) (sizes : StackSizes) (values : List ValueOf) (limit : ℕ) where
   by_stage : (a : MeanRun) (w : Seen) (s : Stage) → a ≡ run.Ended → w.stage ≡ s → EndAgrees w s → IsOfRun (opening (program_of source) sizes values) w
-      → (finals : List ValueOf) × (way : Way) × Told source sizes values finals way (mean_end_reply source limit a w)
+      → (finals : List ValueOf) × (way : CurrentCondition) × Told source sizes values finals way (mean_end_reply source limit a w)
   by_stage a w (Running g) ended stage agrees same = absurd agrees
   by_stage a w (Finished x c) ended stage agrees same = (x, c, end_told source sizes values x c limit a w ended stage agrees same)
 
   by_run : (a : MeanRun) (w : Seen) → RunAgrees w a → IsOfRun (opening (program_of source) sizes values) w → (mean_end_reply source limit a w).verdict ≡ verdict.Done
-      → (finals : List ValueOf) × (way : Way) × Told source sizes values finals way (mean_end_reply source limit a w)
+      → (finals : List ValueOf) × (way : CurrentCondition) × Told source sizes values finals way (mean_end_reply source limit a w)
   by_run run.Ended w agrees same e = by_stage run.Ended w w.stage refl refl agrees same
   by_run run.Spent w agrees same e = absurd cc
 
   -- what is told is a meaning
   run_told : (mean_run_reply source (opening (program_of source) sizes values) limit).verdict ≡ verdict.Done
-      → (finals : List ValueOf) × (way : Way) × Told source sizes values finals way (mean_run_reply source (opening (program_of source) sizes values) limit)
+      → (finals : List ValueOf) × (way : CurrentCondition) × Told source sizes values finals way (mean_run_reply source (opening (program_of source) sizes values) limit)
   unfolding mean_run_reply
   run_told e =
       let from : Seen = opening (program_of source) sizes values in
-      let r : Ran = run_of limit from in
+      let r : Ran = meaning_run limit from in
       by_run r.run r.seen (run_agrees limit from (opening_reached (program_of source) sizes values)) (run_same limit from) e
 
   -- a meaning that is done is told
-  ended_told : (a : MeanRun) (w : Seen) (x : List ValueOf) (c : Way) → a ≡ run.Ended → w.stage ≡ Finished x c → RunAgrees w a → IsOfRun (opening (program_of source) sizes values) w
+  ended_told : (a : MeanRun) (w : Seen) (x : List ValueOf) (c : CurrentCondition) → a ≡ run.Ended → w.stage ≡ Finished x c → RunAgrees w a → IsOfRun (opening (program_of source) sizes values) w
       → Told source sizes values x c (mean_end_reply source limit a w)
   ended_told a w x c ended stage agrees same =
       let at_end : RunAgrees w run.Ended = subst (λ (b : MeanRun). RunAgrees w b) ended agrees in
@@ -148,18 +148,18 @@ module _ (source : SourceOf) (sizes : Words) (values : List ValueOf) (limit : �
       end_told source sizes values x c limit a w ended stage means same
 
   -- a run that ends within the limit is told
-  run_within : (k : ℕ) (x : List ValueOf) (c : Way) → k ≤ limit → IsEnd (run_of k (opening (program_of source) sizes values)) x c
+  run_within : (k : ℕ) (x : List ValueOf) (c : CurrentCondition) → k ≤ limit → IsEnd (meaning_run k (opening (program_of source) sizes values)) x c
       → Told source sizes values x c (mean_run_reply source (opening (program_of source) sizes values) limit)
   unfolding mean_run_reply
   run_within k x c le ends =
       let from : Seen = opening (program_of source) sizes values in
-      let r : Ran = run_of limit from in
+      let r : Ran = meaning_run limit from in
       let end : IsEnd r x c = longer x c k limit from le ends in
       ended_told r.run r.seen x c end.run end.stage (run_agrees limit from (opening_reached (program_of source) sizes values)) (run_same limit from)
 
   -- a meaning that is done is that of a run that ends
-  run_ends : (bound : ℕ) (x : List ValueOf) (c : Way) → meaning (program_of source) sizes values bound ≡ MeaningDone x c
-      → (k : ℕ) × IsEnd (run_of k (opening (program_of source) sizes values)) x c
+  run_ends : (bound : ℕ) (x : List ValueOf) (c : CurrentCondition) → meaning (program_of source) sizes values bound ≡ MeaningDone x c
+      → (k : ℕ) × IsEnd (meaning_run k (opening (program_of source) sizes values)) x c
   run_ends bound x c done =
       let from : Seen = opening (program_of source) sizes values in
       let found = completes x c from bound (opening_reached (program_of source) sizes values) done in
@@ -179,12 +179,12 @@ module _ (source : SourceOf) (sizes : Words) (values : List ValueOf) (limit : �
 -- 2. The files lead to it.
 
 module _ (watches : List Watching) (files : Files) (text values_text : List ℕ) (source : SourceOf) (values : List ValueOf) where
-  mean_is : (control temporary limit : ℕ) → source_in text ≡ Ok source → Suffices (program_of source) (stack_words temporary control) → values_in (formal_slots source) values_text ≡ Ok values
-      → mean_reply text values_text control temporary limit ≡ mean_run_reply source (opening (program_of source) (stack_words temporary control) values) limit
+  mean_is : (control temporary limit : ℕ) → source_in text ≡ Ok source → Suffices (program_of source) (stack_sizes control temporary) → values_in (formal_slots source) values_text ≡ Ok values
+      → mean_reply text values_text control temporary limit ≡ mean_run_reply source (opening (program_of source) (stack_sizes control temporary) values) limit
   unfolding accepted_in gypsy_start
   mean_is control temporary limit read enough found =
-      let need : Words = main_need (program_of source) in
-      let sizes : Words = stack_words temporary control in
+      let need : StackSizes = main_need (program_of source) in
+      let sizes : StackSizes = stack_sizes control temporary in
       let c : nat_lt control need.ctrl ≡ false = le-ltb control need.ctrl enough.ctrl in
       let t : nat_lt temporary need.temp ≡ false = le-ltb temporary need.temp enough.temp in
       let none : shortage_of need sizes ≡ None = rw (c, t) refl in
@@ -194,13 +194,13 @@ module _ (watches : List Watching) (files : Files) (text values_text : List ℕ)
       ∙ ap (λ (v : Result (List ValueOf) (ℕ × ℕ)). mean_started_reply source limit (begins v)) found
 
   mean_follows : (source_name values_name : List ℕ) (control temporary limit : ℕ) → IsReadable files Source source_name text → source_in text ≡ Ok source
-      → Suffices (program_of source) (stack_words temporary control) → IsReadable files Values values_name values_text → values_in (formal_slots source) values_text ≡ Ok values
-      → Follows source (stack_words temporary control) values limit (answer_to (command.Mean source_name values_name control temporary limit) watches files)
+      → Suffices (program_of source) (stack_sizes control temporary) → IsReadable files Values values_name values_text → values_in (formal_slots source) values_text ≡ Ok values
+      → Follows source (stack_sizes control temporary) values limit (answer_to (command.Mean source_name values_name control temporary limit) watches files)
   unfolding inputs_of reply_by
   mean_follows source_name values_name control temporary limit there read enough there' found =
-      subst (λ (r : Result Texts EarlyEnd). Follows source (stack_words temporary control) values limit (answer_on (command.Mean source_name values_name control temporary limit) watches r))
+      subst (λ (r : Result Texts EarlyEnd). Follows source (stack_sizes control temporary) values limit (answer_on (command.Mean source_name values_name control temporary limit) watches r))
       (sym (both_there files (Source, source_name) (Values, values_name) text values_text there there'))
-      (reply_follows source (stack_words temporary control) values limit _ (mean_reply text values_text control temporary limit) (mean_is control temporary limit read enough found))
+      (reply_follows source (stack_sizes control temporary) values limit _ (mean_reply text values_text control temporary limit) (mean_is control temporary limit read enough found))
 
 -- 3. All commands.
 
@@ -218,32 +218,32 @@ others (f ∷ fs) = fs
 
 follows : (c : Command) (watches : List Watching) (files : Files) → FollowsMeanings c files (answer_to c watches files)
 unfolding inputs_of output_of
+follows (command.Check source_name) watches files = λ source values reads writes. absurd (let e : [] ≡ (Values, values) ∷ [] = ap others reads in cc)
 follows (command.Mean source_name values_name control temporary limit) watches files = λ source values reads writes. (
   ap first_name reads,
   ap (λ (fs : List (Role × List ℕ)). first_name (others fs)) reads,
   λ text s values_text v there read enough there' found. mean_follows watches files text values_text s v source_name values_name control temporary limit there read enough there' found,
 )
-follows (command.Go source_name values_name control temporary budget image) watches files = λ source values reads writes. absurd (let e : Some (Image, image) ≡ None = writes in cc)
-follows (command.Run image values_name budget) watches files = λ source values reads writes. absurd (let e : Image ≡ Source = ap first_role reads in cc)
-follows (command.Show image) watches files = λ source values reads writes. absurd (let e : Image ≡ Source = ap first_role reads in cc)
-follows (command.Migrate image output) watches files = λ source values reads writes. absurd (let e : Image ≡ Source = ap first_role reads in cc)
-follows (command.Asm assembly image) watches files = λ source values reads writes. absurd (let e : Assembly ≡ Source = ap first_role reads in cc)
-follows (command.Unasm image assembly) watches files = λ source values reads writes. absurd (let e : Image ≡ Source = ap first_role reads in cc)
-follows (command.Mini program stored) watches files = λ source values reads writes. absurd (let e : Infix ≡ Source = ap first_role reads in cc)
-follows (command.Need source_name certificate) watches files = λ source values reads writes. absurd (let e : [] ≡ (Values, values) ∷ [] = ap others reads in cc)
-follows (command.Cert source_name certificate control temporary) watches files = λ source values reads writes. absurd (let e : Certificate ≡ Values = ap (λ (fs : List (Role × List ℕ)). first_role (others fs)) reads in cc)
-follows (command.Turns turn budget control temporary tasks) watches files = λ source values reads writes. absurd (no_source tasks (ap first_role reads))
-  where
-    no_source : (tasks : List TaskFiles) → first_role (task_inputs tasks) ≡ Source → ⊥
-    no_source [] e = cc
-    no_source (task ∷ tasks) e = cc
-follows (command.Check source_name) watches files = λ source values reads writes. absurd (let e : [] ≡ (Values, values) ∷ [] = ap others reads in cc)
 follows (command.Pit source_name control temporary piton) watches files = λ source values reads writes. absurd (let e : Some (Piton, piton) ≡ None = writes in cc)
 follows (command.Build source_name control temporary image) watches files = λ source values reads writes. absurd (let e : Some (Image, image) ≡ None = writes in cc)
 follows (command.Pcheck piton) watches files = λ source values reads writes. absurd (let e : Piton ≡ Source = ap first_role reads in cc)
 follows (command.Prun piton limit) watches files = λ source values reads writes. absurd (let e : Piton ≡ Source = ap first_role reads in cc)
 follows (command.Pbuild piton image) watches files = λ source values reads writes. absurd (let e : Some (Image, image) ≡ None = writes in cc)
+follows (command.Run image values_name budget) watches files = λ source values reads writes. absurd (let e : Image ≡ Source = ap first_role reads in cc)
+follows (command.Go source_name values_name control temporary budget image) watches files = λ source values reads writes. absurd (let e : Some (Image, image) ≡ None = writes in cc)
+follows (command.Show image) watches files = λ source values reads writes. absurd (let e : Image ≡ Source = ap first_role reads in cc)
+follows (command.Migrate image output) watches files = λ source values reads writes. absurd (let e : Image ≡ Source = ap first_role reads in cc)
+follows (command.Asm assembly image) watches files = λ source values reads writes. absurd (let e : Assembly ≡ Source = ap first_role reads in cc)
+follows (command.Unasm image assembly) watches files = λ source values reads writes. absurd (let e : Image ≡ Source = ap first_role reads in cc)
+follows (command.Need source_name certificate) watches files = λ source values reads writes. absurd (let e : [] ≡ (Values, values) ∷ [] = ap others reads in cc)
+follows (command.Cert source_name certificate control temporary) watches files = λ source values reads writes. absurd (let e : Certificate ≡ Values = ap (λ (fs : List (Role × List ℕ)). first_role (others fs)) reads in cc)
 follows (command.Debug level source_name values_name control temporary script) watches files = λ source values reads writes. absurd (let e : (Script, script) ∷ [] ≡ [] = ap (λ (fs : List (Role × List ℕ)). others (others fs)) reads in cc)
+follows (command.Turns turn budget control temporary tasks) watches files = λ source values reads writes. absurd (no_source tasks (ap first_role reads))
+  where
+    no_source : (tasks : List TaskFiles) → first_role (task_inputs tasks) ≡ Source → ⊥
+    no_source [] e = cc
+    no_source (task ∷ tasks) e = cc
+follows (command.Mini program stored) watches files = λ source values reads writes. absurd (let e : Infix ≡ Source = ap first_role reads in cc)
 follows c watches files = λ source values reads writes. absurd (let e : Piton ≡ Source = ap first_role reads in cc)
 
 -- whatever the command and the files are

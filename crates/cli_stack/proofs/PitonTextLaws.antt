@@ -4,10 +4,10 @@ use Rattle.std.proofs.lemmas.List.{length-map}
 use Rattle.stack_text.specs.declared.breach.Breach.{Breach}
 use Rattle.stack_text.specs.Breaches.{least}
 use Rattle.piton_syntax.specs.Systems.{SystemOf}
-use Rattle.piton_check.specs.Answers.{CheckedOf, IsChecked}
+use Rattle.piton_check.specs.PitonChecking.{CheckedOf, IsChecked}
 use Rattle.piton_check.specs.Resolved.{ResolvedOf, resolved, resolved_area}
 use Rattle.piton_check.specs.Violations.{violations}
-use Rattle.cli_stack.specs.PitonText.{checked_unless}
+use Rattle.cli_stack.specs.Commands.PitonText.{checked_unless}
 
 pub is_checked : (system : SystemOf) (c : CheckedOf) → IsChecked c → c.system ≡ system → Ok c ≡ checked_unless system (least (violations system))
 is_checked system c is kept =

@@ -22,14 +22,19 @@ use Rattle.cli_stack.specs.declared.reply.Verdict.TheVariants as verdict
 use Rattle.cli_stack.specs.Replies.{status_of, verdict_line}
 use Rattle.cli_stack.specs.Answer.{Answer, early_answer, files_after, answer_by}
 use Rattle.cli_stack.specs.World.{World}
-use Rattle.cli_stack.specs.Promises.{HoldsMachine, Agrees, RunsImage, IsRunEnd, RoseAt, RoseAndPrinted, SizePrinted, HoldsPart, LeavesFiles, PrintsPrefix, PromisesOf}
-use Rattle.cli_stack.specs.Correct.{Compiles, Tells}
+use Rattle.cli_stack.specs.Promises.{PromisesOf}
+use Rattle.cli_stack.specs.Kept.{RunsImage, IsRunEnd}
+use Rattle.cli_stack.specs.Remains.{HoldsPart, LeavesFiles, PrintsPrefix}
+use Rattle.cli_stack.specs.Causes.{RoseAt, RoseAndPrinted, SizePrinted}
+use Rattle.cli_stack.specs.Answers.{HoldsMachine, Agrees}
+use Rattle.cli_stack.specs.Tells.{Tells}
+use Rattle.cli_stack.specs.Implements.{Compiles}
 use Rattle.cli_stack.specs.Means.{Means}
-use Rattle.cli_stack.specs.Linked.{Links}
+use Rattle.cli_stack.specs.Links.{Links}
 use Rattle.cli_stack.specs.Assembles.{Assembles}
-use Rattle.cli_stack.specs.Room.{Needs}
+use Rattle.cli_stack.specs.Needs.{Needs}
 use Rattle.cli_stack.specs.Lowers.{LowersPrograms}
-use Rattle.cli_stack.specs.Driver.{HasReason, IsReplyTo, LeavesAs, Leaves, machine_kept, conclusion_of, Stopped, NotBegun, Concludes}
+use Rattle.cli_stack.specs.Scaffold.Driver.{HasReason, IsReplyTo, LeavesAs, Leaves, machine_kept, conclusion_of, Stopped, NotBegun, Concludes}
 use Rattle.cli_stack.proofs.CompletesLaws.{completes}
 use Rattle.cli_stack.proofs.MachineLaws.{only_runs}
 use Rattle.cli_stack.proofs.SizeLaws.{size_printed}

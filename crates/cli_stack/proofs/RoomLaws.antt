@@ -8,7 +8,7 @@ use Rattle.stack_text.specs.Values.{ValueOf}
 use Rattle.stack_shelf.specs.Files.{Files}
 use Rattle.stack_shelf.specs.Shelf.{fetched}
 use Rattle.fm_machine.specs.State.{Fm}
-use Rattle.fm_machine.specs.Run.{Outcome, IsFirst, IsOutcome, outcome}
+use Rattle.fm_machine.specs.Run.{RunOutcome, IsFirst, IsOutcome, outcome}
 use Rattle.fm_machine.specs.declared.processor.Run.{Run}
 use Rattle.fm_machine.specs.declared.processor.Run.TheVariants as run
 use Rattle.fm_machine.proofs.RunLaws.{outcome_is}
@@ -20,8 +20,8 @@ use Rattle.level_debuggers.specs.Tallies.{Watching}
 use Rattle.gypsy_syntax.specs.ProgramFits.{ProgramFits}
 use Rattle.gypsy_syntax.specs.Resolved.{procedure_names, program_of}
 use Rattle.gypsy_syntax.specs.Sources.{SourceOf}
-use Rattle.gypsy_space.specs.Needs.{Words, stack_words}
-use Rattle.gypsy_meaning.specs.Calls.{Way}
+use Rattle.gypsy_space.specs.Needs.{StackSizes, stack_sizes}
+use Rattle.gypsy_meaning.specs.Calls.{CurrentCondition}
 use Rattle.gypsy_meaning.specs.Machine.{At, Move, Next, Ended, Over, start}
 use Rattle.gypsy_codegen.specs.Moments.{moment_from}
 use Rattle.gypsy_codegen.proofs.MomentLaws.{moment_over, counts_grow}
@@ -55,19 +55,19 @@ use Rattle.command_line.specs.Gathered.{text_or_end}
 use Rattle.command_line.proofs.FileLaws.{was_short}
 use Rattle.cli_stack.specs.declared.reply.Verdict.TheVariants as verdict
 use Rattle.cli_stack.specs.Replies.{status_of, verdict_line, reply_text}
-use Rattle.cli_stack.specs.Run.{end_reply, run_reply}
-use Rattle.cli_stack.specs.SourceText.{build_verdict, unless_refused, accepted_in}
-use Rattle.cli_stack.specs.Need.{bounds_stored, bounds_reply, certified_stored, certified_reply, need_stored_by, need_reply_by}
-use Rattle.cli_stack.specs.Cert.{yes_or_no, judged_reply, certificate_reply, cert_reply_by}
+use Rattle.cli_stack.specs.Commands.Run.{end_reply, run_reply}
+use Rattle.cli_stack.specs.Commands.SourceText.{build_verdict, unless_refused, accepted_in}
+use Rattle.cli_stack.specs.Commands.Need.{bounds_stored, bounds_reply, certified_stored, certified_reply, need_stored_by, need_reply_by}
+use Rattle.cli_stack.specs.Commands.Cert.{yes_or_no, judged_reply, certificate_reply, cert_reply_by}
 use Rattle.cli_stack.specs.Answer.{Answer, set_file, stored_by, reply_by, answer_with, answer_on, answer_by}
-use Rattle.cli_stack.specs.Correct.{IsReadable}
-use Rattle.cli_stack.specs.Room.{TellsOther, GoesOther, HasRoom, TellsNeed, Needs}
+use Rattle.cli_stack.specs.FilesAndSizes.{IsReadable}
+use Rattle.cli_stack.specs.Needs.{TellsOther, GoesOther, HasRoom, TellsNeed, Needs}
 use Rattle.cli_stack.proofs.GoLaws.{first_once, early_done, build_done, go_done}
 use Rattle.cli_stack.proofs.TellsLaws.{is_there}
 
 -- 1. A run that ended.
 
-module _ (source : SourceOf) (sizes : Words) (never_set : (values : List ValueOf) → NeverSpaceError (program_of source) sizes values) (image : ImageOf) (values : List ValueOf)
+module _ (source : SourceOf) (sizes : StackSizes) (never_set : (values : List ValueOf) → NeverSpaceError (program_of source) sizes values) (image : ImageOf) (values : List ValueOf)
     (keeps : KeepsMoments image source sizes) (fits : FitsFormals source values) (budget : ℕ) (output : Option (List ℕ × List ℕ)) where
   ended : (k : ℕ) (s : Fm) → IsFirst (loaded image values) image.final_pc k s → TellsOther source (answer_with output (end_reply image budget (run.Ended k) s))
   ended k s first = by_moment (moment_from (program_of source) sizes values (suc k)) refl (keeps values (suc k) fits)
@@ -84,14 +84,14 @@ module _ (source : SourceOf) (sizes : Words) (never_set : (values : List ValueOf
             finals = x;
             way = c;
             count = k;
-            other = λ is. (never_set values).ends (suc k) x t (moment_over (program_of source) sizes (suc k) (start (program_of source) values) x c t e ∙ ap (λ (way : Way). Over x way t) is);
+            other = λ is. (never_set values).ends (suc k) x t (moment_over (program_of source) sizes (suc k) (start (program_of source) values) x c t e ∙ ap (λ (way : CurrentCondition). Over x way t) is);
             tells = record { status = refl; text = append-nil _ ∙ ap (λ (r : ReadingOf). report_text image r k) shown };
           }
 
   run_other : status_of (run_reply image values budget).verdict ≡ Done → TellsOther source (answer_with output (run_reply image values budget))
   unfolding run_reply
   run_other done =
-      let o : Outcome = outcome budget image.final_pc (loaded image values) in
+      let o : RunOutcome = outcome budget image.final_pc (loaded image values) in
       by_end o.run o.state (outcome_is (loaded image values) image.final_pc budget) done
     where
       by_end : (r : Run) (s : Fm) → IsOutcome (loaded image values) image.final_pc budget r s → status_of (end_reply image budget r s).verdict ≡ Done → TellsOther source (answer_with output (end_reply image budget r s))
@@ -101,7 +101,7 @@ module _ (source : SourceOf) (sizes : Words) (never_set : (values : List ValueOf
 
 -- 2. `go`.
 
-module _ (implement : BuiltImplements) (take : BuiltTakesValues) (files : Files) (name text : List ℕ) (readable : IsReadable files Source name text) (source : SourceOf) (read : source_in text ≡ Ok source) (sizes : Words)
+module _ (implement : BuiltImplements) (take : BuiltTakesValues) (files : Files) (name text : List ℕ) (readable : IsReadable files Source name text) (source : SourceOf) (read : source_in text ≡ Ok source) (sizes : StackSizes)
     (never_set : (values : List ValueOf) → NeverSpaceError (program_of source) sizes values) where
   short : length text ≤ 2 ^ 31
   short = omega (arith, readable.short)
@@ -209,26 +209,26 @@ module _ (implement : BuiltImplements) (take : BuiltTakesValues) (watches : List
   build_yes fault.Memory = not_yes (verdict_line (build_verdict fault.Memory)) 117 refl (λ e. omega (arith, e))
 
   module _ (text bounds_text : List ℕ) (readable : IsReadable files Source name text) where
-    by_bounds : (source : SourceOf) → source_in text ≡ Ok source → (found : Result Bounds (ℕ × ℕ)) → reply_text (judged_reply source (stack_words temporary control) found) ≡ yes → HasRoom files name (stack_words temporary control)
+    by_bounds : (source : SourceOf) → source_in text ≡ Ok source → (found : Result Bounds (ℕ × ℕ)) → reply_text (judged_reply source (stack_sizes control temporary) found) ≡ yes → HasRoom files name (stack_sizes control temporary)
     by_bounds source read (Err f) h = absurd (not_yes (verdict_line (verdict.Certificate f.0 f.1)) 99 refl (λ e. omega (arith, e)) h)
-    by_bounds source read (Ok bounds) h = by_cover (is_covered (program_of source) bounds (stack_words temporary control)) refl h
+    by_bounds source read (Ok bounds) h = by_cover (is_covered (program_of source) bounds (stack_sizes control temporary)) refl h
       where
-        by_cover : (b : Bool) → is_covered (program_of source) bounds (stack_words temporary control) ≡ b → yes_or_no b ++ [] ≡ yes → HasRoom files name (stack_words temporary control)
+        by_cover : (b : Bool) → is_covered (program_of source) bounds (stack_sizes control temporary) ≡ b → yes_or_no b ++ [] ≡ yes → HasRoom files name (stack_sizes control temporary)
         by_cover false is h = absurd (not_yes (yes_or_no false ++ []) 110 refl (λ e. omega (arith, e)) h)
         by_cover true is h =
-            let sizes : Words = stack_words temporary control in
+            let sizes : StackSizes = stack_sizes control temporary in
             let fits = (source_is_accepted text (omega (arith, readable.short)) source read).fits in
             let covers : Covers (program_of source) bounds sizes = (covered_is (program_of source) fits bounds sizes).0 is in
             has_room implement take files name text readable source read sizes (never (program_of source) bounds sizes covers fits)
 
-    by_source : (found : Result SourceOf BuildFault) → source_in text ≡ found → reply_text (cert_reply_by (unless_refused found) (stack_words temporary control) bounds_text) ≡ yes → HasRoom files name (stack_words temporary control)
+    by_source : (found : Result SourceOf BuildFault) → source_in text ≡ found → reply_text (cert_reply_by (unless_refused found) (stack_sizes control temporary) bounds_text) ≡ yes → HasRoom files name (stack_sizes control temporary)
     unfolding certificate_reply
     by_source (Err f) read h = absurd (build_yes f h)
     by_source (Ok source) read h = by_bounds source read (bounds_in (procedure_names source) bounds_text) h
 
   cert_says : (first second : Result (List ℕ) EarlyEnd) → text_or_end (Source, name) (fetched files name (limit_of Source)) ≡ first
       → (answer_on (command.Cert name certificate control temporary) watches (first >>= λ t. (second >>= λ other. Ok ((Certificate, other) ∷ [])) >>= λ texts. Ok ((Source, t) ∷ texts))).text ≡ yes
-      → HasRoom files name (stack_words temporary control)
+      → HasRoom files name (stack_sizes control temporary)
   unfolding reply_by accepted_in
   cert_says (Err e) second got h = absurd (early_yes e h)
   cert_says (Ok text) (Err e) got h = absurd (early_yes e h)

@@ -1,13 +1,13 @@
 -- Refused sizes are those of commands that take sizes.
 use Rattle.std.proofs.Common.{◌≡◌, inl, inr, ℕ, List, ◌++◌, Bool, true, false, Option, Some, None, Result, Ok, Err, IfErr, refl, sym, ap, ◌∙◌}
 use Rattle.std.specs.Prelude.{if◌then◌else◌}
-use Rattle.fm_machine.specs.Run.{Outcome, outcome}
+use Rattle.fm_machine.specs.Run.{RunOutcome, outcome}
 use Rattle.fm_machine.specs.State.{Fm}
 use Rattle.fm_machine.specs.declared.processor.Run.{Run}
 use Rattle.fm_machine.specs.declared.processor.Run.TheVariants as run
 use Rattle.fm_image.specs.Image.{ImageOf}
 use Rattle.fm_image.specs.Reading.{read_of}
-use Rattle.fm_asm.specs.Answers.{assembly_of}
+use Rattle.fm_asm.specs.Assembling.{assembly_of}
 use Rattle.fm_asm.specs.Printing.{is_plain}
 use Rattle.space_cert.specs.Certified.{certified}
 use Rattle.space_cert.specs.CertText.{bounds_in}
@@ -19,22 +19,22 @@ use Rattle.stack_text.specs.declared.breach.Breach.{Breach}
 use Rattle.stack_text.specs.Breaches.{least}
 use Rattle.piton_syntax.specs.declared.fault.PitonFault.{PitonFault}
 use Rattle.piton_syntax.specs.declared.fault.PitonFault.TheVariants as fault
-use Rattle.piton_syntax.specs.Answers.{piton_in}
+use Rattle.piton_syntax.specs.PitonReading.{piton_in}
 use Rattle.piton_syntax.specs.Systems.{SystemOf}
 use Rattle.piton_check.specs.Violations.{violations}
-use Rattle.piton_check.specs.Answers.{CheckedOf}
+use Rattle.piton_check.specs.PitonChecking.{CheckedOf}
 use Rattle.gypsy_syntax.specs.declared.fault.GypsyFault.{GypsyFault}
 use Rattle.gypsy_syntax.specs.declared.fault.GypsyFault.TheVariants as gypsy
-use Rattle.gypsy_syntax.specs.Answers.{gypsy_in}
+use Rattle.gypsy_syntax.specs.GypsyReading.{gypsy_in}
 use Rattle.gypsy_syntax.specs.Resolved.{procedure_names, program_of}
 use Rattle.gypsy_syntax.specs.Sources.{SourceOf}
 use Rattle.gypsy_check.specs.Rules.{violations as gypsy_violations}
 use Rattle.piton_machine.specs.declared.stepped.PitonRun.{PitonRun}
 use Rattle.piton_machine.specs.declared.stepped.PitonRun.TheVariants as piton_run
 use Rattle.piton_machine.specs.Fits.{system_in}
-use Rattle.piton_machine.specs.Seen.{Ran, run_of, opening}
-use Rattle.piton_machine.specs.Seen.{Seen as PitonSeen}
-use Rattle.gypsy_space.specs.Needs.{Words as StackWords, stack_words}
+use Rattle.piton_machine.specs.Seen.StateView.{Ran, state_run, opening}
+use Rattle.piton_machine.specs.Seen.StateView.{Seen as PitonSeen}
+use Rattle.gypsy_space.specs.Needs.{StackSizes as StackWords, stack_sizes}
 use Rattle.debug_script.specs.declared.fault.ScriptFault.TheVariants as script
 use Rattle.level_debuggers.specs.Tallies.{Watching}
 use Rattle.stack_shelf.specs.Shelf.{appended}
@@ -50,21 +50,21 @@ use Rattle.cli_stack.specs.declared.reply.Verdict.{Verdict}
 use Rattle.cli_stack.specs.declared.reply.Verdict.TheVariants as verdict
 use Rattle.cli_stack.specs.Replies.{ReplyOf, verdict_alone, judgement_reply, reply_text, verdict_line}
 use Rattle.cli_stack.specs.Answer.{reply_by}
-use Rattle.cli_stack.specs.Run.{end_reply, run_reply, values_reply, image_reply}
-use Rattle.cli_stack.specs.Show.{listing_reply}
-use Rattle.cli_stack.specs.Migrate.{migrated_reply}
-use Rattle.cli_stack.specs.Asm.{assembled_reply}
-use Rattle.cli_stack.specs.Mini.{lowering_of, lowered_reply}
-use Rattle.cli_stack.specs.Unasm.{printed_reply}
-use Rattle.cli_stack.specs.Need.{bounds_reply, certified_reply, need_reply_by}
-use Rattle.cli_stack.specs.Cert.{judged_reply, certificate_reply, cert_reply_by}
-use Rattle.cli_stack.specs.Prun.{run_end_reply, checked_run_reply, system_run_reply}
-use Rattle.cli_stack.specs.SourceText.{build_verdict, unless_refused, accepted_in}
-use Rattle.cli_stack.specs.Pit.{written_reply}
-use Rattle.cli_stack.specs.PitonText.{piton_verdict, checked_unless, checked_by, checked_in}
+use Rattle.cli_stack.specs.Commands.Run.{end_reply, run_reply, values_reply, image_reply}
+use Rattle.cli_stack.specs.Commands.Show.{listing_reply}
+use Rattle.cli_stack.specs.Commands.Migrate.{migrated_reply}
+use Rattle.cli_stack.specs.Commands.Asm.{assembled_reply}
+use Rattle.cli_stack.specs.Commands.Mini.{lowering_of, lowered_reply}
+use Rattle.cli_stack.specs.Commands.Unasm.{printed_reply}
+use Rattle.cli_stack.specs.Commands.Need.{bounds_reply, certified_reply, need_reply_by}
+use Rattle.cli_stack.specs.Commands.Cert.{judged_reply, certificate_reply, cert_reply_by}
+use Rattle.cli_stack.specs.Commands.Prun.{run_end_reply, checked_run_reply, system_run_reply}
+use Rattle.cli_stack.specs.Commands.SourceText.{build_verdict, unless_refused, accepted_in}
+use Rattle.cli_stack.specs.Commands.Pit.{written_reply}
+use Rattle.cli_stack.specs.Commands.PitonText.{piton_verdict, checked_unless, checked_by, checked_in}
 use Rattle.cli_stack.specs.World.{World}
-use Rattle.cli_stack.specs.Promises.{HasSizes, SizePrinted}
-use Rattle.cli_stack.specs.Driver.{IsReplyTo}
+use Rattle.cli_stack.specs.Causes.{HasSizes, SizePrinted}
+use Rattle.cli_stack.specs.Scaffold.Driver.{IsReplyTo}
 
 abbrev is_size : Verdict → Bool
 is_size (verdict.Size of need) = true
@@ -80,7 +80,7 @@ end_no_size image budget (run.Outside address count) s = refl
 run_no_size : (image : ImageOf) (values : List ValueOf) (budget : ℕ) → is_size (run_reply image values budget).verdict ≡ false
 unfolding run_reply
 run_no_size image values budget =
-    let ended : Outcome = outcome budget image.final_pc (loaded image values) in end_no_size image budget ended.run ended.state
+    let ended : RunOutcome = outcome budget image.final_pc (loaded image values) in end_no_size image budget ended.run ended.state
 
 values_no_size : (image : ImageOf) (budget : ℕ) (values : Result (List ValueOf) (ℕ × ℕ)) → is_size (values_reply image budget values).verdict ≡ false
 values_no_size image budget (Ok values) = run_no_size image values budget
@@ -180,7 +180,7 @@ piton_run_no_size system limit (piton_run.Error kind) seen = refl
 checked_run_no_size : (found : Result CheckedOf Verdict) (limit : ℕ) → IfErr found (λ v. is_size v ≡ false) → is_size (checked_run_reply found limit).verdict ≡ false
 unfolding system_run_reply
 checked_run_no_size (Ok checked) limit none =
-    let ran : Ran = run_of (system_in checked) limit (opening (system_in checked) (system_in checked).stack) in piton_run_no_size checked.system limit ran.run ran.seen
+    let ran : Ran = state_run (system_in checked) limit (opening (system_in checked) (system_in checked).stack) in piton_run_no_size checked.system limit ran.run ran.seen
 checked_run_no_size (Err verdict) limit none = none
 
 -- 2. All commands.
@@ -193,13 +193,16 @@ no_sizes c reply none size = absurd (let e : false ≡ true = sym none ∙ size 
 
 sizes_by : (c : Command) (watches : List Watching) (texts : Texts) → Sizes c (reply_by c watches texts)
 unfolding reply_by output_of
-sizes_by (command.Go source values control temporary budget image) watches texts = λ size. inl refl
+sizes_by (command.Check source) watches texts = no_sizes (command.Check source) (reply_by (command.Check source) watches texts) (judgement_no_size (accepted_in (text_of role.Source texts)) (source_no_size (text_of role.Source texts)))
 sizes_by (command.Mean source values control temporary limit) watches texts = λ size. inl refl
-sizes_by (command.Build source control temporary image) watches texts = λ size. inl refl
 sizes_by (command.Pit source control temporary piton) watches texts = λ size. inl refl
-sizes_by (command.Big number procedures) watches texts = λ size. inl refl
+sizes_by (command.Build source control temporary image) watches texts = λ size. inl refl
+sizes_by (command.Pcheck piton) watches texts = no_sizes (command.Pcheck piton) (reply_by (command.Pcheck piton) watches texts) (judgement_no_size (checked_in (text_of role.Piton texts)) (refused_no_size (text_of role.Piton texts)))
+sizes_by (command.Prun piton limit) watches texts = no_sizes (command.Prun piton limit) (reply_by (command.Prun piton limit) watches texts) (checked_run_no_size (checked_in (text_of role.Piton texts)) limit (refused_no_size (text_of role.Piton texts)))
+sizes_by (command.Pbuild piton image) watches texts = λ size. inr (image, refl)
 sizes_by (command.Run image values budget) watches texts =
     no_sizes (command.Run image values budget) (reply_by (command.Run image values budget) watches texts) (image_no_size (text_of role.Values texts) budget (read_of (text_of role.Image texts)))
+sizes_by (command.Go source values control temporary budget image) watches texts = λ size. inl refl
 sizes_by (command.Show image) watches texts = no_sizes (command.Show image) (reply_by (command.Show image) watches texts) (listing_no_size (read_of (text_of role.Image texts)))
 sizes_by (command.Migrate image output) watches texts =
     no_sizes (command.Migrate image output) (reply_by (command.Migrate image output) watches texts) (migrated_no_size output (read_of (text_of role.Image texts)))
@@ -209,15 +212,12 @@ sizes_by (command.Need source certificate) watches texts =
     no_sizes (command.Need source certificate) (reply_by (command.Need source certificate) watches texts) (need_no_size (accepted_in (text_of role.Source texts)) (source_no_size (text_of role.Source texts)))
 sizes_by (command.Cert source certificate control temporary) watches texts =
     no_sizes (command.Cert source certificate control temporary) (reply_by (command.Cert source certificate control temporary) watches texts)
-    (cert_no_size (accepted_in (text_of role.Source texts)) (stack_words temporary control) (text_of role.Certificate texts) (source_no_size (text_of role.Source texts)))
-sizes_by (command.Mini program source) watches texts =
-    no_sizes (command.Mini program source) (reply_by (command.Mini program source) watches texts) (lowered_no_size source (lowering_of (text_of role.Infix texts)))
-sizes_by (command.Check source) watches texts = no_sizes (command.Check source) (reply_by (command.Check source) watches texts) (judgement_no_size (accepted_in (text_of role.Source texts)) (source_no_size (text_of role.Source texts)))
-sizes_by (command.Pcheck piton) watches texts = no_sizes (command.Pcheck piton) (reply_by (command.Pcheck piton) watches texts) (judgement_no_size (checked_in (text_of role.Piton texts)) (refused_no_size (text_of role.Piton texts)))
-sizes_by (command.Prun piton limit) watches texts = no_sizes (command.Prun piton limit) (reply_by (command.Prun piton limit) watches texts) (checked_run_no_size (checked_in (text_of role.Piton texts)) limit (refused_no_size (text_of role.Piton texts)))
-sizes_by (command.Pbuild piton image) watches texts = λ size. inr (image, refl)
+    (cert_no_size (accepted_in (text_of role.Source texts)) (stack_sizes control temporary) (text_of role.Certificate texts) (source_no_size (text_of role.Source texts)))
 sizes_by (command.Debug level source values control temporary script) watches texts = λ size. inl refl
 sizes_by (command.Turns turn budget control temporary tasks) watches texts = λ size. inl refl
+sizes_by (command.Big number procedures) watches texts = λ size. inl refl
+sizes_by (command.Mini program source) watches texts =
+    no_sizes (command.Mini program source) (reply_by (command.Mini program source) watches texts) (lowered_no_size source (lowering_of (text_of role.Infix texts)))
 
 -- where a size is refused, it is in the command's own reply to some texts, and that is what is printed
 pub size_printed : (c : Option Command) (watches : List Watching) (before after : World) (reply : Reply) (of : SizeOf) (need : ℕ) → IsReplyTo c watches reply → reply.verdict ≡ verdict.Size of need

@@ -4,7 +4,7 @@ use Rattle.std.specs.Option.{option_map, option_or}
 use Rattle.std.specs.Str.{bytes_eq}
 use Rattle.stack_text.specs.declared.shape.Shape.{Shape}
 use Rattle.stack_text.specs.declared.text_fault.TextRule.{TextRule}
-use Rattle.stack_text.specs.Results.{◌>>=◌}
+use Rattle.stack_text.specs.Results.{◌>>=◌, unless_fault}
 use Rattle.stack_text.specs.Trees.{Node, atom, list}
 use Rattle.stack_text.specs.TreeIn.{tree_in}
 use Rattle.stack_text.specs.Values.{ValueOf, item_count}
@@ -13,11 +13,11 @@ use Rattle.fm_loader.specs.declared.fault.Rule.{Rule}
 use Rattle.fm_loader.specs.declared.parsed.Entry.{Entry}
 use Rattle.fm_loader.specs.declared.parsed.ParsedValue.{ParsedValue}
 use Rattle.fm_loader.specs.Rules.{Fault}
-use Rattle.fm_loader.specs.Values.{entries_of, mismatch, slot_named, is_named, rule_broken, rule_of, fault_at, entry_fault, value_for, unless_fault, found_in, all_found, values_at, values_on, values_in}
+use Rattle.fm_loader.specs.Values.{entries_of, mismatch, slot_named, is_named, rule_broken, rule_of, fault_at, entry_fault, value_for, found_in, all_found, values_at, values_on, values_in}
 use Rattle.gypsy_syntax.specs.declared.literal.Decl.{Decl}
 use Rattle.gypsy_syntax.specs.Resolved.{shape_of}
 use Rattle.gypsy_syntax.specs.Sources.{SourceOf}
-use Rattle.gypsy_space.specs.Needs.{Words}
+use Rattle.gypsy_space.specs.Needs.{StackSizes}
 use Rattle.stack_build.specs.Formals.{shown_formals}
 use Rattle.stack_build.specs.Image.{slots_from, formal_slots, image_of}
 
@@ -74,6 +74,6 @@ same_on a b ds (Err fault) = refl
 same_on a b ds (Ok tree) = same_at a b ds tree
 
 -- the image's slots take the values that main's formals take
-pub image_takes : (source : SourceOf) (sizes : Words) (base : ℕ) (text : List ℕ) → values_in (image_of source sizes base).slots text ≡ values_in (formal_slots source) text
+pub image_takes : (source : SourceOf) (sizes : StackSizes) (base : ℕ) (text : List ℕ) → values_in (image_of source sizes base).slots text ≡ values_in (formal_slots source) text
 unfolding values_in image_of
 image_takes source sizes base text = same_on _ 0 (shown_formals source) (tree_in text)

@@ -13,11 +13,11 @@ use Rattle.fm_loader.specs.Values.{values_in}
 use Rattle.fm_turns.specs.declared.context.TaskContext.{TaskContext}
 use Rattle.fm_turns.specs.Starting.{NewTask, new_task}
 use Rattle.fm_turns.specs.Turns.{TurnsOf, round_of, rounds_of}
-use Rattle.gypsy_space.specs.Needs.{Words}
+use Rattle.gypsy_space.specs.Needs.{StackSizes}
 use Rattle.stack_build.specs.Build.{built}
 use Rattle.cli_stack.specs.declared.commands.turns.tasks.TasksFault.{TasksFault}
-use Rattle.cli_stack.specs.Told.{told_of, told_from}
-use Rattle.cli_stack.specs.Turns.{image_or_fault, images_from, values_or_fault, tasks_from}
+use Rattle.cli_stack.specs.Scaffold.Told.{told_of, told_from}
+use Rattle.cli_stack.specs.Commands.Turns.{image_or_fault, images_from, values_or_fault, tasks_from}
 
 -- 1. Lists of results.
 
@@ -33,7 +33,7 @@ module _ {X F : Type 0} where
 
 -- 2. Sources, each built behind the one before.
 
-module _ (sizes : Words) {A : Type 0} (seen : A → List ℕ) (sources : List A) (i base : ℕ) (d : A) (lt : i < length sources) where
+module _ (sizes : StackSizes) {A : Type 0} (seen : A → List ℕ) (sources : List A) (i base : ℕ) (d : A) (lt : i < length sources) where
   source_next : images_from sizes i base (map seen (drop i sources))
       ≡ (image_or_fault i (built (seen (get_or sources i d)) sizes.ctrl sizes.temp base) >>= λ image. images_from sizes (i + 1) (base + image.size) (map seen (drop (i + 1) sources)) >>= λ others. Ok (image ∷ others))
   source_next = ap (λ (xs : List A). images_from sizes i base (map seen xs)) (drop_more sources i d lt)

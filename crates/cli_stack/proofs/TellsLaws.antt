@@ -4,7 +4,7 @@ use Rattle.std.specs.Prelude.{◌^◌, Contains, nat_lt}
 use Rattle.std.proofs.lemmas.Bool.{le-ltb}
 use Rattle.stack_shelf.specs.Files.{Files}
 use Rattle.stack_shelf.specs.Shelf.{fetched, within}
-use Rattle.fm_machine.specs.Run.{Outcome, outcome}
+use Rattle.fm_machine.specs.Run.{RunOutcome, outcome}
 use Rattle.fm_machine.specs.declared.processor.Run.TheVariants.{Ended}
 use Rattle.fm_machine.proofs.RunLaws.{outcome_only}
 use Rattle.fm_image.specs.Image.{ImageOf}
@@ -15,8 +15,8 @@ use Rattle.stack_text.specs.Values.{ValueOf}
 use Rattle.display_maps.specs.Report.{report_text}
 use Rattle.level_debuggers.specs.Tallies.{Watching}
 use Rattle.gypsy_syntax.specs.Sources.{SourceOf}
-use Rattle.gypsy_space.specs.Needs.{Words, stack_words}
-use Rattle.gypsy_meaning.specs.Calls.{Way}
+use Rattle.gypsy_space.specs.Needs.{StackSizes, stack_sizes}
+use Rattle.gypsy_meaning.specs.Calls.{CurrentCondition}
 use Rattle.stack_build.specs.Build.{built, BuildsText}
 use Rattle.stack_build.specs.Implements.{meaning_shown, FitsFormals, Finishes, Implements}
 use Rattle.stack_build.specs.Joined.{BuiltImplements, BuiltTakesValues}
@@ -33,15 +33,16 @@ use Rattle.command_line.specs.CommandFiles.{task_inputs, inputs_of, output_of}
 use Rattle.cli_stack.specs.declared.reply.Verdict.{Verdict}
 use Rattle.cli_stack.specs.declared.reply.Verdict.TheVariants.{Done}
 use Rattle.cli_stack.specs.Replies.{ReplyOf, status_of, verdict_line}
-use Rattle.cli_stack.specs.Go.{go_reply}
-use Rattle.cli_stack.specs.Run.{outcome_reply, run_reply, image_file_reply}
+use Rattle.cli_stack.specs.Commands.Go.{go_reply}
+use Rattle.cli_stack.specs.Commands.Run.{outcome_reply, run_reply, image_file_reply}
 use Rattle.cli_stack.specs.Answer.{reply_by, answer_with, answer_on, answer_to, answer_by}
-use Rattle.cli_stack.specs.Correct.{IsReadable, IsBuilt, IsRead, TellsMeaning, HasImage, TellsMeanings, Tells}
+use Rattle.cli_stack.specs.Tells.{IsBuilt, IsRead, TellsMeaning, HasImage, TellsMeanings, Tells}
+use Rattle.cli_stack.specs.FilesAndSizes.{IsReadable}
 use Rattle.cli_stack.proofs.RoleLaws.{only_role, both_roles}
 
 -- 1. A run that is long enough tells the meaning.
 
-run_tells : (image : ImageOf) (source : SourceOf) (sizes : Words) (values finals : List ValueOf) (way : Way) (count budget : ℕ) → Implements image source sizes → FitsFormals source values
+run_tells : (image : ImageOf) (source : SourceOf) (sizes : StackSizes) (values finals : List ValueOf) (way : CurrentCondition) (count budget : ℕ) → Implements image source sizes → FitsFormals source values
     → Finishes source sizes values finals way count → count ≤ budget
     → ((run_reply image values budget).verdict ≡ Done) × ((run_reply image values budget).said ≡ report_text image (meaning_shown source finals way) count)
 unfolding run_reply
@@ -49,10 +50,10 @@ run_tells image source sizes values finals way count budget does fits done enoug
     let end = does values finals way count fits done in
     let is : outcome budget image.final_pc (loaded image values) ≡ record { run = Ended count; state = end.state } =
     outcome_only (loaded image values) image.final_pc budget (Ended count) end.state (enough, end.first) in
-    (ap (λ (o : Outcome). (outcome_reply image budget o).verdict) is, ap (λ (o : Outcome). (outcome_reply image budget o).said) is ∙ ap (λ r. report_text image r count) end.reads)
+    (ap (λ (o : RunOutcome). (outcome_reply image budget o).verdict) is, ap (λ (o : RunOutcome). (outcome_reply image budget o).said) is ∙ ap (λ r. report_text image r count) end.reads)
 
 -- so does the answer that has its reply
-pub reply_tells : (image : ImageOf) (source : SourceOf) (sizes : Words) (values finals : List ValueOf) (way : Way) (count budget : ℕ) (output : Option (List ℕ × List ℕ)) (reply : ReplyOf) → Implements image source sizes → FitsFormals source values
+pub reply_tells : (image : ImageOf) (source : SourceOf) (sizes : StackSizes) (values finals : List ValueOf) (way : CurrentCondition) (count budget : ℕ) (output : Option (List ℕ × List ℕ)) (reply : ReplyOf) → Implements image source sizes → FitsFormals source values
     → Finishes source sizes values finals way count → count ≤ budget → reply ≡ run_reply image values budget
     → TellsMeaning source image finals way count (answer_with output reply)
 reply_tells image source sizes values finals way count budget output reply does fits done enough is =
@@ -76,30 +77,30 @@ pub both_there : (files : Files) (first second : Role × List ℕ) (text other :
     → gathered files (first ∷ second ∷ []) ≡ Ok ((first.0, text) ∷ (second.0, other) ∷ [])
 both_there files first second text other there there' = rw (is_there files first text there, is_there files second other there') refl
 
-module _ (files : Files) (sizes : Words) (source : SourceOf) (image : ImageOf) (values_text : List ℕ) (values finals : List ValueOf) (way : Way) (count budget : ℕ)
+module _ (files : Files) (sizes : StackSizes) (source : SourceOf) (image : ImageOf) (values_text : List ℕ) (values finals : List ValueOf) (way : CurrentCondition) (count budget : ℕ)
     (watches : List Watching) (gives : values_in image.slots values_text ≡ Ok values) (done : Finishes source sizes values finals way count) (enough : count ≤ budget) where
-  go_tells : BuiltImplements → BuiltTakesValues → (source_name values_name image_name : List ℕ) (control temporary : ℕ) → stack_words temporary control ≡ sizes
+  go_tells : BuiltImplements → BuiltTakesValues → (source_name values_name image_name : List ℕ) (control temporary : ℕ) → stack_sizes control temporary ≡ sizes
       → IsBuilt files source_name sizes source image → IsReadable files Values values_name values_text
       → TellsMeaning source image finals way count (answer_to (command.Go source_name values_name control temporary budget image_name) watches files)
   unfolding inputs_of reply_by
   go_tells implement take source_name values_name image_name control temporary own made there =
-      let here : IsBuilt files source_name (stack_words temporary control) source image = subst (λ (s : Words). IsBuilt files source_name s source image) (sym own) made in
+      let here : IsBuilt files source_name (stack_sizes control temporary) source image = subst (λ (s : StackSizes). IsBuilt files source_name s source image) (sym own) made in
       let short : length here.text ≤ 2 ^ 31 = omega (arith, here.readable.short) in
       let is : built here.text control temporary 0 ≡ Ok here.found = here.made in
       let builds : BuildsText here.text control temporary here.found = rw is at (implement here.text control temporary 0 short (omega arith)) in
       let read : Ok builds.source ≡ Ok source = sym builds.read ∙ here.read in
       let same : builds.source ≡ source = cc in
-      let does : Implements image source (stack_words temporary control) =
-      subst (λ (i : ImageOf). Implements i source (stack_words temporary control)) here.same
-      (subst (λ (s : SourceOf). Implements here.found.image s (stack_words temporary control)) same builds.builds.implements) in
+      let does : Implements image source (stack_sizes control temporary) =
+      subst (λ (i : ImageOf). Implements i source (stack_sizes control temporary)) here.same
+      (subst (λ (s : SourceOf). Implements here.found.image s (stack_sizes control temporary)) same builds.builds.implements) in
       let found : values_in here.found.image.slots values_text ≡ Ok values = ap (λ (i : ImageOf). values_in i.slots values_text) here.same ∙ gives in
       let fits = take here.text control temporary 0 source here.found values_text values short (omega arith) here.read is found in
-      let done_here : Finishes source (stack_words temporary control) values finals way count = subst (λ (s : Words). Finishes source s values finals way count) (sym own) done in
+      let done_here : Finishes source (stack_sizes control temporary) values finals way count = subst (λ (s : StackSizes). Finishes source s values finals way count) (sym own) done in
       let replies : go_reply (built here.text control temporary 0) values_text budget ≡ run_reply image values budget =
       rw (is, found) (ap (λ (i : ImageOf). run_reply i values budget) here.same) in
       subst (λ (r : Result Texts EarlyEnd). TellsMeaning source image finals way count (answer_on (command.Go source_name values_name control temporary budget image_name) watches r))
       (sym (both_there files (Source, source_name) (Values, values_name) here.text values_text here.readable there))
-      (reply_tells image source (stack_words temporary control) values finals way count budget _ (go_reply (built here.text control temporary 0) values_text budget) does fits done_here enough replies)
+      (reply_tells image source (stack_sizes control temporary) values finals way count budget _ (go_reply (built here.text control temporary 0) values_text budget) does fits done_here enough replies)
 
   read_tells : (image_name values_name : List ℕ) → IsRead files image_name sizes source image values → IsReadable files Values values_name values_text
       → TellsMeaning source image finals way count (answer_to (command.Run image_name values_name budget) watches files)
@@ -144,32 +145,32 @@ debug_has_none level source_name values_file control temporary script (inr (name
 
 tells_by : BuiltImplements → BuiltTakesValues → (c : Command) (watches : List Watching) (files : Files) → TellsMeanings c files (answer_to c watches files)
 unfolding inputs_of
-tells_by implement take (command.Go source_name values_file control temporary budget image_name) watches files = λ name reads has. (
-  values_name Source source_name values_file name (λ e. cc) reads,
-  λ sizes source image values_text values finals way count program there gives done enough.
-      go_tells files sizes source image values_text values finals way count budget watches gives done enough implement take source_name values_file image_name control temporary program.0 program.1 there,
-)
+tells_by implement take (command.Check source_name) watches files = λ name reads has. absurd (only_role Values Source source_name name (λ e. cc) reads)
+tells_by implement take (command.Mean source_name values_file control temporary limit) watches files = λ name reads has. absurd (mean_has_none source_name values_file control temporary limit has)
+tells_by implement take (command.Pit source_name control temporary piton_name) watches files = λ name reads has. absurd (only_role Values Source source_name name (λ e. cc) reads)
+tells_by implement take (command.Build source_name control temporary image_name) watches files = λ name reads has. absurd (only_role Values Source source_name name (λ e. cc) reads)
+tells_by implement take (command.Pcheck piton_name) watches files = λ name reads has. absurd (only_role Values Piton piton_name name (λ e. cc) reads)
+tells_by implement take (command.Prun piton_name limit) watches files = λ name reads has. absurd (only_role Values Piton piton_name name (λ e. cc) reads)
+tells_by implement take (command.Pbuild piton_name image_name) watches files = λ name reads has. absurd (only_role Values Piton piton_name name (λ e. cc) reads)
 tells_by implement take (command.Run image_name values_file budget) watches files = λ name reads has. (
   values_name Image image_name values_file name (λ e. cc) reads,
   λ sizes source image values_text values finals way count found there gives done enough.
       read_tells files sizes source image values_text values finals way count budget watches gives done enough image_name values_file found there,
 )
-tells_by implement take (command.Mean source_name values_file control temporary limit) watches files = λ name reads has. absurd (mean_has_none source_name values_file control temporary limit has)
-tells_by implement take (command.Debug level source_name values_file control temporary script) watches files = λ name reads has. absurd (debug_has_none level source_name values_file control temporary script has)
+tells_by implement take (command.Go source_name values_file control temporary budget image_name) watches files = λ name reads has. (
+  values_name Source source_name values_file name (λ e. cc) reads,
+  λ sizes source image values_text values finals way count program there gives done enough.
+      go_tells files sizes source image values_text values finals way count budget watches gives done enough implement take source_name values_file image_name control temporary program.0 program.1 there,
+)
 tells_by implement take (command.Show image_name) watches files = λ name reads has. absurd (only_role Values Image image_name name (λ e. cc) reads)
 tells_by implement take (command.Migrate image_name output) watches files = λ name reads has. absurd (only_role Values Image image_name name (λ e. cc) reads)
 tells_by implement take (command.Asm assembly image_name) watches files = λ name reads has. absurd (only_role Values Assembly assembly name (λ e. cc) reads)
 tells_by implement take (command.Unasm image_name assembly) watches files = λ name reads has. absurd (only_role Values Image image_name name (λ e. cc) reads)
 tells_by implement take (command.Need source_name certificate) watches files = λ name reads has. absurd (only_role Values Source source_name name (λ e. cc) reads)
 tells_by implement take (command.Cert source_name certificate control temporary) watches files = λ name reads has. absurd (both_roles Values Source Certificate source_name certificate name (λ e. cc) (λ e. cc) reads)
-tells_by implement take (command.Mini program stored) watches files = λ name reads has. absurd (only_role Values Infix program name (λ e. cc) reads)
+tells_by implement take (command.Debug level source_name values_file control temporary script) watches files = λ name reads has. absurd (debug_has_none level source_name values_file control temporary script has)
 tells_by implement take (command.Turns turn budget control temporary tasks) watches files = λ name reads has. absurd (tasks_no_values tasks name reads)
-tells_by implement take (command.Pit source_name control temporary piton_name) watches files = λ name reads has. absurd (only_role Values Source source_name name (λ e. cc) reads)
-tells_by implement take (command.Build source_name control temporary image_name) watches files = λ name reads has. absurd (only_role Values Source source_name name (λ e. cc) reads)
-tells_by implement take (command.Check source_name) watches files = λ name reads has. absurd (only_role Values Source source_name name (λ e. cc) reads)
-tells_by implement take (command.Pcheck piton_name) watches files = λ name reads has. absurd (only_role Values Piton piton_name name (λ e. cc) reads)
-tells_by implement take (command.Pbuild piton_name image_name) watches files = λ name reads has. absurd (only_role Values Piton piton_name name (λ e. cc) reads)
-tells_by implement take (command.Prun piton_name limit) watches files = λ name reads has. absurd (only_role Values Piton piton_name name (λ e. cc) reads)
+tells_by implement take (command.Mini program stored) watches files = λ name reads has. absurd (only_role Values Infix program name (λ e. cc) reads)
 tells_by implement take c watches files = λ name reads has. absurd (nothing name reads)
   where
     nothing : (name : List ℕ) → Contains {X = Role × List ℕ} [] (Values, name) → ⊥

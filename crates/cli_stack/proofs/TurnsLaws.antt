@@ -26,7 +26,7 @@ use Rattle.fm_turns.specs.OwnMachines.{own_machine}
 use Rattle.fm_turns.specs.Readings.{readings_of}
 use Rattle.fm_turns.specs.Starting.{NewTask, new_task, adjoin_from, adjoin, total_size, window_size, started_in, side_by_side, started}
 use Rattle.fm_turns.specs.Turns.{TurnsOf, images_of, states_of}
-use Rattle.gypsy_space.specs.Needs.{Words}
+use Rattle.gypsy_space.specs.Needs.{StackSizes}
 use Rattle.stack_build.specs.declared.fault.BuildFault.{BuildFault}
 use Rattle.stack_build.specs.Build.{BuiltOf, built, BuildsText}
 use Rattle.stack_build.specs.Inside.{BuiltAtBase, BuiltRunsInside}
@@ -35,15 +35,15 @@ use Rattle.cli_stack.specs.declared.commands.turns.tasks.TasksFault.{TasksFault}
 use Rattle.cli_stack.specs.declared.commands.turns.tasks.TasksFault.TheVariants.{Count, Large}
 use Rattle.cli_stack.specs.declared.reply.Verdict.TheVariants as verdict
 use Rattle.cli_stack.specs.Replies.{reply_text, verdict_line}
-use Rattle.cli_stack.specs.Run.{end_reply, run_reply}
-use Rattle.cli_stack.specs.Tasks.{fault_of, AreShort, AreReady}
-use Rattle.cli_stack.specs.Told.{told, told_of, told_from, has_ended, told_reply}
-use Rattle.cli_stack.specs.Turns.{few_enough, image_or_fault, images_from, word_count, small_enough, values_or_fault, tasks_from, tasks_of, last_round, round_line, task_text, tasks_text, is_end, tasks_verdict, tasks_reply}
+use Rattle.cli_stack.specs.Commands.Run.{end_reply, run_reply}
+use Rattle.cli_stack.specs.Scaffold.Tasks.{fault_of, AreShort, AreReady}
+use Rattle.cli_stack.specs.Scaffold.Told.{told, told_of, told_from, has_ended, told_reply}
+use Rattle.cli_stack.specs.Commands.Turns.{few_enough, image_or_fault, images_from, word_count, small_enough, values_or_fault, tasks_from, tasks_of, last_round, round_line, task_text, tasks_text, is_end, tasks_verdict, tasks_reply}
 
 -- 1. The images are built side by side.
 
 -- the image is built of some text, in a window from this address on
-record IsBuiltAt (sizes : Words) (base : ℕ) (image : ImageOf) : Type 0 where
+record IsBuiltAt (sizes : StackSizes) (base : ℕ) (image : ImageOf) : Type 0 where
   text : List ℕ
   short : length text ≤ 2 ^ 31
   low : base ≤ 2 ^ 31
@@ -52,11 +52,11 @@ record IsBuiltAt (sizes : Words) (base : ℕ) (image : ImageOf) : Type 0 where
   same : found.image ≡ image
 
 -- each window begins where the one before it ends
-abbrev AreBuiltFrom : Words → ℕ → List ImageOf → Type 0
+abbrev AreBuiltFrom : StackSizes → ℕ → List ImageOf → Type 0
 AreBuiltFrom sizes base [] = Unit {0}
 AreBuiltFrom sizes base (image ∷ images) = IsBuiltAt sizes base image × AreBuiltFrom sizes (base + image.size) images
 
-record AreBuilt (sizes : Words) (base : ℕ) (sources : List (List ℕ)) (images : List ImageOf) : Type 0 where
+record AreBuilt (sizes : StackSizes) (base : ℕ) (sources : List (List ℕ)) (images : List ImageOf) : Type 0 where
   built_from : AreBuiltFrom sizes base images
   count : length images ≡ length sources
 
@@ -67,7 +67,7 @@ record Follow (base : ℕ) (images : List ImageOf) (tasks : List NewTask) : Type
   size : total_size tasks ≡ word_count images
   count : length tasks ≡ length images
 
-module _ (implement : BuiltImplements) (take : BuiltTakesValues) (at_base : BuiltAtBase) (inside : BuiltRunsInside) (sizes : Words) where
+module _ (implement : BuiltImplements) (take : BuiltTakesValues) (at_base : BuiltAtBase) (inside : BuiltRunsInside) (sizes : StackSizes) where
   builds : (base : ℕ) (image : ImageOf) (b : IsBuiltAt sizes base image) → BuildsText b.text sizes.ctrl sizes.temp b.found
   builds base image b =
       let made = b.made in

@@ -10,7 +10,7 @@ use Rattle.fm_asm.specs.Printing.{is_plain}
 use Rattle.command_line.specs.declared.command.Command.{Command}
 use Rattle.command_line.specs.declared.role.Role.TheVariants.{Assembly, Image}
 use Rattle.command_line.specs.Roles.{limit_of}
-use Rattle.cli_stack.specs.Correct.{ReadsFile, StoresFile}
+use Rattle.cli_stack.specs.FilesAndSizes.{ReadsFile, StoresFile}
 
 -- the bytes are an image file that can be read again, and spell the image that the assembly text in a file spells
 pub record HoldsAssembled (files : Files) (name bytes : List ℕ) : Type 0 where

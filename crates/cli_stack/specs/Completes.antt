@@ -1,5 +1,6 @@
 -- That a command does all that it is for, where nothing is wrong with its files and its sizes and no device fails.
-use Rattle.std.specs.Prelude.{◌≡◌, ◌≤◌, ◌⊎◌, ℕ, ◌^◌, List, [], ◌∷◌, Option, Some, None, Ok, Contains, IsSomeAnd}
+use Rattle.std.specs.Prelude.{◌≡◌, ◌≤◌, ◌⊎◌, ℕ, List, [], ◌∷◌, Option, Some, None, Ok, Contains, IsSomeAnd}
+use Rattle.fm_words.specs.WindowLimit.{most_window}
 use Rattle.stack_text.specs.Values.{ValueOf}
 use Rattle.fm_image.specs.Spelling.{spelling}
 use Rattle.fm_loader.specs.Values.{values_in}
@@ -9,8 +10,8 @@ use Rattle.stack_shelf.specs.Causes.{Rose}
 use Rattle.stack_shelf.specs.Shelf.{appended}
 use Rattle.gypsy_syntax.specs.Sources.{SourceOf}
 use Rattle.gypsy_syntax.specs.Resolved.{program_of}
-use Rattle.gypsy_space.specs.Needs.{Words}
-use Rattle.gypsy_meaning.specs.Calls.{Way}
+use Rattle.gypsy_space.specs.Needs.{StackSizes}
+use Rattle.gypsy_meaning.specs.Calls.{CurrentCondition}
 use Rattle.gypsy_codegen.specs.Acceptable.{LimitsFit}
 use Rattle.stack_build.specs.Build.{source_in, placed_size}
 use Rattle.stack_build.specs.Image.{formal_slots, image_of}
@@ -21,7 +22,8 @@ use Rattle.command_line.specs.declared.status.Status.{Status}
 use Rattle.command_line.specs.declared.status.Status.TheVariants.{Done, OutOfMemory}
 use Rattle.command_line.specs.CommandFiles.{inputs_of, file_names}
 use Rattle.cli_stack.specs.World.{World}
-use Rattle.cli_stack.specs.Correct.{IsReadable, StoresFile, sizes_of, run_of}
+use Rattle.cli_stack.specs.Tells.{planned_run}
+use Rattle.cli_stack.specs.FilesAndSizes.{IsReadable, StoresFile, sizes_of}
 
 -- no count of faults rose: of the shelf for one of these names, or of the sink
 pub record NoFault (names : List (List ℕ)) (before after : World) : Type 0 where
@@ -29,12 +31,12 @@ pub record NoFault (names : List (List ℕ)) (before after : World) : Type 0 whe
   pub sink : ¬ (Rose before.out.faults after.out.faults)
 
 -- the stacks have at least what main itself needs, and they, the code and the whole image are within their limits
-pub record IsWithinLimits (source : SourceOf) (sizes : Words) : Type 0 where
+pub record IsWithinLimits (source : SourceOf) (sizes : StackSizes) : Type 0 where
   pub limits : LimitsFit (program_of source) sizes 0
-  pub image : placed_size source sizes 0 ≤ 2 ^ 20
+  pub image : placed_size source sizes 0 ≤ most_window
 
 -- the file is there, and has a source that breaks no rule, whose needs and sizes are within the limits
-pub record HasSource (files : Files) (name : List ℕ) (sizes : Words) (source : SourceOf) : Type 0 where
+pub record HasSource (files : Files) (name : List ℕ) (sizes : StackSizes) (source : SourceOf) : Type 0 where
   pub text : List ℕ
   pub readable : IsReadable files Source name text
   pub read : source_in text ≡ Ok source
@@ -47,16 +49,16 @@ pub record EndsWell (text : List ℕ) (before after : World) (status : Status) :
 
 -- The image of the source, for stacks of these sizes, is under its name, and all other files are as before. Where main's formals
 -- take the values and the meaning is done within the budget, its variables and its condition were told after the count.
-pub record Completed (files : Files) (name : List ℕ) (source : SourceOf) (sizes : Words) (values_text : List ℕ) (budget : ℕ)
+pub record Completed (files : Files) (name : List ℕ) (source : SourceOf) (sizes : StackSizes) (values_text : List ℕ) (budget : ℕ)
     (before after : World) (status : Status) : Type 0 where
   pub stored : after.shelf.files ≡ Some (put_file files name (spelling (image_of source sizes 0)))
-  pub told : (values finals : List ValueOf) (way : Way) (count : ℕ)
+  pub told : (values finals : List ValueOf) (way : CurrentCondition) (count : ℕ)
       → values_in (formal_slots source) values_text ≡ Ok values
       → Finishes source sizes values finals way count → count ≤ budget
       → EndsWell (report_text (image_of source sizes 0) (meaning_shown source finals way) count) before after status
 
 -- where the files are there, the source is accepted and no device fails, all that was completed, or memory ran out
-abbrev pub CompletesRun : Command → Files → List ℕ → List ℕ → List ℕ → Words → ℕ → World → World → Status → Type 0
+abbrev pub CompletesRun : Command → Files → List ℕ → List ℕ → List ℕ → StackSizes → ℕ → World → World → Status → Type 0
 CompletesRun command files source_name values_name name sizes budget before after status =
     (source : SourceOf) (values_text : List ℕ)
     → HasSource files source_name sizes source → IsReadable files Values values_name values_text
@@ -67,7 +69,7 @@ CompletesRun command files source_name values_name name sizes budget before afte
 abbrev pub CompletesCommand : Command → Files → World → World → Status → Type 0
 CompletesCommand command files before after status =
     (source values image : List ℕ) → inputs_of command ≡ (Source, source) ∷ (Values, values) ∷ [] → StoresFile command Image image
-    → IsSomeAnd (sizes_of command) (λ sizes. IsSomeAnd (run_of command) (λ run.
+    → IsSomeAnd (sizes_of command) (λ sizes. IsSomeAnd (planned_run command) (λ run.
     CompletesRun command files source values image sizes run.budget before after status))
 
 abbrev pub Completes : Option Command → Files → World → World → Status → Type 0

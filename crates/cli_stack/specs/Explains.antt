@@ -6,9 +6,9 @@ use Rattle.fm_loader.specs.Values.{values_in}
 use Rattle.stack_shelf.specs.Files.{Files}
 use Rattle.gypsy_syntax.specs.Resolved.{program_of}
 use Rattle.gypsy_syntax.specs.Sources.{SourceOf}
-use Rattle.gypsy_space.specs.Needs.{stack_words}
+use Rattle.gypsy_space.specs.Needs.{stack_sizes}
 use Rattle.gypsy_meaning.specs.Machine.{State, Next}
-use Rattle.gypsy_meaning.specs.Seen.{spent_at}
+use Rattle.gypsy_meaning.specs.Seen.RunView.{spent_at}
 use Rattle.gypsy_codegen.specs.Moments.{moment_from}
 use Rattle.debug_script.specs.declared.reading.Line.{Line}
 use Rattle.debug_script.specs.Scripts.{script_of}
@@ -20,9 +20,10 @@ use Rattle.command_line.specs.declared.command.Command.TheVariants.{Debug}
 use Rattle.command_line.specs.declared.role.Role.TheVariants.{Values, Script}
 use Rattle.command_line.specs.declared.words.reader.Level.{Level}
 use Rattle.command_line.specs.declared.words.reader.Level.TheVariants.{Gypsy, Piton, Fm9001}
-use Rattle.command_line.specs.Rows.{command_of}
+use Rattle.command_line.specs.CommandRows.{command_of}
 use Rattle.cli_stack.specs.Answer.{Answer, answer}
-use Rattle.cli_stack.specs.Correct.{IsBuilt, IsReadable}
+use Rattle.cli_stack.specs.Tells.{IsBuilt}
+use Rattle.cli_stack.specs.FilesAndSizes.{IsReadable}
 
 -- How many steps a session makes to where the step machine is in a state. At the level of the source each step is one of the step
 -- machine, and `up` has nothing to read.
@@ -42,10 +43,10 @@ abbrev pub ExplainsMoments : Option Command → Files → Answer → Type 0
 ExplainsMoments (Some (Debug level source_name values_name control temporary script_name)) files answer =
     (source : SourceOf) (image : ImageOf) (values_text script : List ℕ) (values : List ValueOf) (j number : ℕ) (g : State)
     (before after : List Line) →
-    IsBuilt files source_name (stack_words temporary control) source image → IsReadable files Values values_name values_text →
+    IsBuilt files source_name (stack_sizes control temporary) source image → IsReadable files Values values_name values_text →
     IsReadable files Script script_name script → values_in image.slots values_text ≡ Ok values →
     script_of script ≡ Ok (before ++ up_line number ∷ after) → AskForSteps before →
-    moment_from (program_of source) (stack_words temporary control) values j ≡ Next g → steps_to level g ≡ Some (steps_of before) →
+    moment_from (program_of source) (stack_sizes control temporary) values j ≡ Next g → steps_to level g ≡ Some (steps_of before) →
     BeginsWith answer.text (stepped_lines before ++ state_text source g)
 ExplainsMoments _ files answer = Unit {0}
 

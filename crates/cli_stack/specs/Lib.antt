@@ -1,42 +1,24 @@
 -- what the program promises, and what that speaks of
 pub mod Promises
-pub mod Correct
+pub mod Answers
+pub mod Causes
+pub mod Remains
+pub mod Kept
+pub mod Tells
+pub mod FilesAndSizes
+pub mod Implements
 pub mod Means
-pub mod Linked
+pub mod Links
 pub mod Completes
 pub mod Assembles
-pub mod Room
+pub mod Needs
 pub mod Lowers
 pub mod Endless
 pub mod Explains
-pub mod ByTurns
+pub mod Turns
 pub mod Answer
 pub mod World
 pub mod Replies
--- a page for each command
-pub mod SourceText
-pub mod Check
-pub mod Mean
-pub mod Pit
-pub mod Build
-pub mod Go
-pub mod Big
-pub mod Run
-pub mod Show
-pub mod Migrate
-pub mod Asm
-pub mod Unasm
-pub mod Need
-pub mod Cert
-pub mod Mini
-pub mod Debug
-pub mod Turns
-pub mod PitonText
-pub mod Pcheck
-pub mod Prun
-pub mod Pbuild
--- what private functions say
-pub mod Plans
-pub mod Driver
-pub mod Tasks
-pub mod Told
+-- In folders: the commands, scaffold.
+pub mod Commands
+pub mod Scaffold

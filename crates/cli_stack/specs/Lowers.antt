@@ -8,31 +8,32 @@ use Rattle.fm_image.specs.Spelling.{Spelled}
 use Rattle.fm_loader.specs.Values.{values_in}
 use Rattle.gypsy_syntax.specs.Resolved.{program_of}
 use Rattle.gypsy_syntax.specs.Sources.{SourceOf}
-use Rattle.gypsy_meaning.specs.Calls.{Way}
+use Rattle.gypsy_meaning.specs.Calls.{CurrentCondition}
 use Rattle.gypsy_meaning.specs.Meaning.{Done as RunDone}
 use Rattle.stack_build.specs.Build.{source_in}
 use Rattle.stack_build.specs.Formals.{shown_names}
 use Rattle.stack_build.specs.Image.{formal_slots}
 use Rattle.stack_build.specs.Implements.{meaning_shown, FitsFormals, ComesTo}
-use Rattle.mini_syntax.specs.Answers.{IsFault, IsFaultless}
+use Rattle.mini_syntax.specs.MiniReading.{IsFault, IsFaultless}
 use Rattle.mini_syntax.specs.Breaches.{body_of, declared_of, names_of}
-use Rattle.mini_syntax.specs.Grammar.{Program}
+use Rattle.mini_syntax.specs.Grammar.{InfixProgram}
 use Rattle.mini_gypsy.specs.Meant.{program_run}
 use Rattle.mini_texts.specs.Stored.{MeansAlways}
 use Rattle.command_line.specs.declared.command.Command.{Command}
-use Rattle.command_line.specs.declared.command.Command.TheVariants.{Mini, Go}
+use Rattle.command_line.specs.declared.command.Command.TheVariants.{Go, Mini}
 use Rattle.command_line.specs.declared.role.Role.TheVariants.{Infix, Source, Values, Image}
 use Rattle.command_line.specs.declared.status.Status.TheVariants.{Done, Refused}
 use Rattle.cli_stack.specs.declared.reply.RuleLetter.TheVariants.{Y}
 use Rattle.cli_stack.specs.declared.reply.Verdict.TheVariants as verdict
 use Rattle.cli_stack.specs.Replies.{verdict_line}
 use Rattle.cli_stack.specs.Answer.{Answer}
-use Rattle.cli_stack.specs.Correct.{ReadsFile, StoresFile, IsReadable, TellsMeaning}
+use Rattle.cli_stack.specs.Tells.{TellsMeaning}
+use Rattle.cli_stack.specs.FilesAndSizes.{ReadsFile, StoresFile, IsReadable}
 
 -- 1. What is stored of a program.
 
 -- the text is read as a source that is accepted, has the program's variables, and means what the program does
-pub record MeansProgram (text : List ℕ) (program : Program) : Type 0 where
+pub record MeansProgram (text : List ℕ) (program : InfixProgram) : Type 0 where
   pub source : SourceOf
   pub read : source_in text ≡ Ok source
   pub names : shown_names source ≡ names_of (declared_of program)
@@ -42,7 +43,7 @@ pub record MeansProgram (text : List ℕ) (program : Program) : Type 0 where
 pub record StoresLowered (files : Files) (name stored : List ℕ) (answer : Answer) : Type 0 where
   pub text : List ℕ
   pub readable : IsReadable files Infix name text
-  pub program : Program
+  pub program : InfixProgram
   pub faultless : IsFaultless text program
   pub bytes : List ℕ
   pub output : answer.output ≡ Some (stored, bytes)
@@ -66,17 +67,17 @@ pub record TellsMini (files : Files) (name stored : List ℕ) (answer : Answer) 
 -- 2. What is built of that.
 
 -- the program's run on these values is done within some bound, with these variables and this condition
-abbrev pub RunEnds : Program → List ValueOf → List ValueOf → Way → Type 0
+abbrev pub RunEnds : InfixProgram → List ValueOf → List ValueOf → CurrentCondition → Type 0
 RunEnds program values finals way = (n : ℕ) × (program_run (body_of program) values n ≡ RunDone finals way)
 
 -- on all values that fit, where the program's run is done, the loaded machine comes to its end, and memory shows how the run ended
-abbrev pub CarriesRuns : ImageOf → SourceOf → Program → Type 0
+abbrev pub CarriesRuns : ImageOf → SourceOf → InfixProgram → Type 0
 CarriesRuns image source program =
-    (values finals : List ValueOf) (way : Way) → FitsFormals source values → RunEnds program values finals way
+    (values finals : List ValueOf) (way : CurrentCondition) → FitsFormals source values → RunEnds program values finals way
     → (count : ℕ) × ComesTo image values count (meaning_shown source finals way)
 
 -- the bytes are the file of such an image
-pub record HoldsRuns (bytes : List ℕ) (source : SourceOf) (program : Program) : Type 0 where
+pub record HoldsRuns (bytes : List ℕ) (source : SourceOf) (program : InfixProgram) : Type 0 where
   pub image : ImageOf
   pub spells : Spelled bytes image
   pub runs : CarriesRuns image source program
@@ -84,12 +85,12 @@ pub record HoldsRuns (bytes : List ℕ) (source : SourceOf) (program : Program) 
 -- who reads a source that means what a program does, and stores an image, stores one that carries the program's runs
 abbrev pub StoresRuns : Command → Files → Option (List ℕ × List ℕ) → Type 0
 StoresRuns command files output =
-    (source image stored bytes text : List ℕ) (program : Program) → ReadsFile command Source source → StoresFile command Image image
+    (source image stored bytes text : List ℕ) (program : InfixProgram) → ReadsFile command Source source → StoresFile command Image image
     → output ≡ Some (stored, bytes) → file_at files source ≡ Some text → (means : MeansProgram text program)
     → HoldsRuns bytes means.source program
 
 -- the answer is the report of these variables and this condition, after some number of instructions
-pub record TellsEnd (source : SourceOf) (finals : List ValueOf) (way : Way) (answer : Answer) : Type 0 where
+pub record TellsEnd (source : SourceOf) (finals : List ValueOf) (way : CurrentCondition) (answer : Answer) : Type 0 where
   pub image : ImageOf
   pub count : ℕ
   pub tells : TellsMeaning source image finals way count answer
@@ -97,17 +98,18 @@ pub record TellsEnd (source : SourceOf) (finals : List ValueOf) (way : Way) (ans
 -- where all goes well with such a source and values on which the program's run is done, what is told is how the run ended
 abbrev pub TellsRuns : Files → List ℕ → List ℕ → Answer → Type 0
 TellsRuns files source values answer =
-    (text values_text : List ℕ) (program : Program) (means : MeansProgram text program) (x finals : List ValueOf) (way : Way)
+    (text values_text : List ℕ) (program : InfixProgram) (means : MeansProgram text program) (x finals : List ValueOf)
+    (way : CurrentCondition)
     → IsReadable files Source source text → IsReadable files Values values values_text
     → values_in (formal_slots means.source) values_text ≡ Ok x → RunEnds program x finals way
     → answer.status ≡ Done → TellsEnd means.source finals way answer
 
 -- 3. All commands.
 
--- `mini` stores or tells a fault so, and `go` tells runs so
+-- `go` tells runs so, and `mini` stores or tells a fault so
 abbrev pub TellsOwn : Command → Files → Answer → Type 0
-TellsOwn (Mini program source) files answer = TellsMini files program source answer
 TellsOwn (Go source values control temporary budget image) files answer = TellsRuns files source values answer
+TellsOwn (Mini program source) files answer = TellsMini files program source answer
 TellsOwn command files answer = Unit {0}
 
 pub record LowersCommand (command : Command) (files : Files) (answer : Answer) : Type 0 where

@@ -5,14 +5,14 @@ use Rattle.stack_shelf.specs.Files.{Files}
 use Rattle.fm_loader.specs.Values.{values_in}
 use Rattle.gypsy_syntax.specs.Sources.{SourceOf}
 use Rattle.gypsy_syntax.specs.Resolved.{program_of}
-use Rattle.gypsy_space.specs.Needs.{Words, stack_words}
-use Rattle.gypsy_meaning.specs.Belongs.{Suffices}
-use Rattle.gypsy_meaning.specs.Calls.{Way}
+use Rattle.gypsy_space.specs.Needs.{StackSizes, stack_sizes}
+use Rattle.gypsy_meaning.specs.Seen.Belongs.{Suffices}
+use Rattle.gypsy_meaning.specs.Calls.{CurrentCondition}
 use Rattle.gypsy_meaning.specs.Counted.{instruction_count}
 use Rattle.gypsy_meaning.specs.Meaning.{Done as MeaningDone, meaning}
-use Rattle.gypsy_meaning.specs.Seen.{Stage, Finished, IsEnd, opening, run_of, values_at}
-use Rattle.gypsy_meaning.specs.Shown.{condition_at, names_at}
-use Rattle.piton_machine.specs.Seen.{saturated}
+use Rattle.gypsy_meaning.specs.Seen.RunView.{Stage, Finished, IsEnd, opening, meaning_run, values_at}
+use Rattle.gypsy_meaning.specs.Seen.Shown.{condition_at, names_at}
+use Rattle.piton_machine.specs.Seen.StateView.{saturated}
 use Rattle.stack_build.specs.Build.{source_in}
 use Rattle.stack_build.specs.Image.{formal_slots}
 use Rattle.command_line.specs.declared.command.Command.{Command}
@@ -21,20 +21,20 @@ use Rattle.command_line.specs.declared.role.Role.TheVariants.{Source, Values}
 use Rattle.command_line.specs.declared.status.Status.TheVariants.{Done}
 use Rattle.command_line.specs.CommandFiles.{inputs_of, output_of}
 use Rattle.cli_stack.specs.Answer.{Answer}
-use Rattle.cli_stack.specs.Correct.{IsReadable}
-use Rattle.cli_stack.specs.Mean.{said_text}
+use Rattle.cli_stack.specs.FilesAndSizes.{IsReadable}
+use Rattle.cli_stack.specs.Commands.Mean.{said_text}
 
 -- a run of a source's steps: the files of the source and of its values, the sizes of the stacks, and the most steps
 pub record FollowOf : Type 0 where
   pub source : List ℕ
   pub values : List ℕ
-  pub sizes : Words
+  pub sizes : StackSizes
   pub limit : ℕ
 
 -- what a command follows
 abbrev pub follow_of : Command → Option FollowOf
 follow_of (Mean source values control temporary limit) =
-    Some (record { source = source; values = values; sizes = stack_words temporary control; limit = limit })
+    Some (record { source = source; values = values; sizes = stack_sizes control temporary; limit = limit })
 follow_of _ = None
 
 -- so many steps, the instructions that are counted for them, the condition, and main's formals with these values
@@ -44,12 +44,14 @@ meaning_text source stage steps count =
 
 -- the meaning of the source is done, with these values and this condition, and so many instructions counted, within a bound of
 -- one more than the steps
-pub record IsMeant (source : SourceOf) (sizes : Words) (values finals : List ValueOf) (way : Way) (steps count : ℕ) : Type 0 where
+pub record IsMeant (source : SourceOf) (sizes : StackSizes) (values finals : List ValueOf) (way : CurrentCondition)
+    (steps count : ℕ) : Type 0 where
   pub meaning_is : meaning (program_of source) sizes values (suc steps) ≡ MeaningDone finals way
   pub counted : instruction_count (program_of source) sizes values (suc steps) ≡ Some count
 
 -- the answer is that all went well, and tells such a meaning
-pub record TellsSteps (source : SourceOf) (sizes : Words) (values finals : List ValueOf) (way : Way) (answer : Answer) : Type 0 where
+pub record TellsSteps (source : SourceOf) (sizes : StackSizes) (values finals : List ValueOf) (way : CurrentCondition)
+    (answer : Answer) : Type 0 where
   pub steps : ℕ
   pub count : ℕ
   pub meant : IsMeant source sizes values finals way steps count
@@ -58,12 +60,13 @@ pub record TellsSteps (source : SourceOf) (sizes : Words) (values finals : List 
 
 -- what is told is a meaning; a run of the source's steps that ends within the limit is told; and where the meaning is done, some run
 -- ends so
-pub record Follows (source : SourceOf) (sizes : Words) (values : List ValueOf) (limit : ℕ) (answer : Answer) : Type 0 where
-  pub told : answer.status ≡ Done → (finals : List ValueOf) × (way : Way) × TellsSteps source sizes values finals way answer
-  pub within : (k : ℕ) (finals : List ValueOf) (way : Way) → k ≤ limit
-      → IsEnd (run_of k (opening (program_of source) sizes values)) finals way → TellsSteps source sizes values finals way answer
-  pub ends : (bound : ℕ) (finals : List ValueOf) (way : Way) → meaning (program_of source) sizes values bound ≡ MeaningDone finals way
-      → (k : ℕ) × IsEnd (run_of k (opening (program_of source) sizes values)) finals way
+pub record Follows (source : SourceOf) (sizes : StackSizes) (values : List ValueOf) (limit : ℕ) (answer : Answer) : Type 0 where
+  pub told : answer.status ≡ Done → (finals : List ValueOf) × (way : CurrentCondition) × TellsSteps source sizes values finals way answer
+  pub within : (k : ℕ) (finals : List ValueOf) (way : CurrentCondition) → k ≤ limit
+      → IsEnd (meaning_run k (opening (program_of source) sizes values)) finals way → TellsSteps source sizes values finals way answer
+  pub ends : (bound : ℕ) (finals : List ValueOf) (way : CurrentCondition) →
+      meaning (program_of source) sizes values bound ≡ MeaningDone finals way
+      → (k : ℕ) × IsEnd (meaning_run k (opening (program_of source) sizes values)) finals way
 
 -- where the files are there, the source is accepted, the stacks are large enough for main itself, and the values fit
 abbrev pub FollowsFiles : FollowOf → Files → Answer → Type 0

@@ -115,3 +115,7 @@ judgement_reply (Err verdict) = verdict_alone verdict
 -- all that a reply prints
 abbrev pub reply_text : ReplyOf → List ℕ
 reply_text reply = reply.said ++ verdict_line reply.verdict
+
+-- how many words an image's window has
+abbrev pub built_reply : ℕ → ReplyOf
+built_reply size = all_said (line (codes "built " ++ decimal size))

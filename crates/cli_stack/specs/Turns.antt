@@ -1,123 +1,82 @@
--- The command `turns`: sources that are built side by side, and whose images take turns in one memory. What is replied is said here by
--- each task alone, so no definition knows of that memory.
-use Rattle.std.specs.Prelude.{ℕ, ◌+◌, ◌^◌, ◌==◌, ◌||◌, List, [], ◌∷◌, ◌++◌, length, sum_by, slice_index_or, nat_lt, if◌then◌else◌}
-use Rattle.std.specs.Prelude.{Bool, true, false, None, Result, Ok, Err, codes}
-use Rattle.std.specs.Fmt.{decimal}
+-- That what is told of sources whose images take turns is what each of them means.
+use Rattle.std.specs.Prelude.{◌≡◌, ◌≤◌, ℕ, ◌+◌, List, [], ◌∷◌, ◌++◌, Option, Some, None, Ok, length, map}
 use Rattle.std.specs.Int.{div_ceil}
-use Rattle.std.specs.List.{list_all}
-use Rattle.stack_text.specs.Lines.{line}
-use Rattle.stack_text.specs.Results.{◌>>=◌}
+use Rattle.fm_words.specs.WindowLimit.{most_window}
 use Rattle.stack_text.specs.Values.{ValueOf}
-use Rattle.fm_machine.specs.declared.processor.Run.{Run}
-use Rattle.fm_machine.specs.declared.processor.Run.TheVariants as run
+use Rattle.stack_shelf.specs.Files.{Files}
 use Rattle.fm_image.specs.Image.{ImageOf}
 use Rattle.fm_loader.specs.Values.{values_in}
-use Rattle.fm_turns.specs.EqualTurns.{whole_run}
-use Rattle.fm_turns.specs.Starting.{NewTask, new_task}
-use Rattle.gypsy_space.specs.Needs.{Words}
-use Rattle.stack_build.specs.declared.fault.BuildFault.{BuildFault}
-use Rattle.stack_build.specs.Build.{BuiltOf, built}
-use Rattle.cli_stack.specs.declared.commands.turns.tasks.TasksFault.{TasksFault}
-use Rattle.cli_stack.specs.declared.commands.turns.tasks.TasksFault.TheVariants.{Count, Refused, Large, Memory}
-use Rattle.cli_stack.specs.declared.reply.SizeOf.TheVariants as size
-use Rattle.cli_stack.specs.declared.reply.Verdict.{Verdict}
-use Rattle.cli_stack.specs.declared.reply.Verdict.TheVariants.{Done, Usage, Values, Size, SomeUnfinished}
-use Rattle.cli_stack.specs.Replies.{ReplyOf, verdict_alone, reply_text}
-use Rattle.cli_stack.specs.Run.{run_reply}
-use Rattle.cli_stack.specs.SourceText.{build_verdict}
+use Rattle.display_maps.specs.Report.{report_text}
+use Rattle.gypsy_syntax.specs.Sources.{SourceOf}
+use Rattle.gypsy_space.specs.Needs.{StackSizes, stack_sizes}
+use Rattle.gypsy_meaning.specs.Calls.{CurrentCondition}
+use Rattle.stack_build.specs.Build.{BuiltOf, built, source_in}
+use Rattle.stack_build.specs.Implements.{meaning_shown, Finishes}
+use Rattle.level_debuggers.specs.Tallies.{Watching}
+use Rattle.command_line.specs.declared.command.Command.{Command}
+use Rattle.command_line.specs.declared.command.Command.TheVariants.{Turns}
+use Rattle.command_line.specs.declared.command.TaskFiles.{TaskFiles}
+use Rattle.command_line.specs.declared.role.Role.TheVariants.{TaskSource, TaskValues}
+use Rattle.command_line.specs.declared.status.Status.TheVariants.{Done}
+use Rattle.command_line.specs.CommandRows.{command_of}
+use Rattle.cli_stack.specs.Answer.{Answer, answer}
+use Rattle.cli_stack.specs.FilesAndSizes.{IsReadable}
+use Rattle.cli_stack.specs.Commands.Turns.{word_count, round_line}
 
--- 1. The tasks: an image and values for each source, or the first fault. Tasks are counted from 0 here, and from 1 in what is printed.
+-- what a task means: the image of its source, and with which values of main's formals, with which condition and after how many
+-- counted instructions its meaning is done
+pub record TaskMeaning : Type 0 where
+  pub source : SourceOf
+  pub image : ImageOf
+  pub finals : List ValueOf
+  pub way : CurrentCondition
+  pub count : ℕ
 
--- there are 1 to 8 of them; the words of a command never name others
-abbrev pub few_enough : List (List ℕ) → Result (List (List ℕ)) TasksFault
-few_enough sources = if length sources == 0 || nat_lt 8 (length sources) then Err Count else Ok sources
+-- The files of a task are there, its source is built for stacks of these sizes and a window from this base on, the values fit, and
+-- the meaning is done within the budget.
+pub record MeansTask (files : Files) (sizes : StackSizes) (budget base : ℕ) (names : TaskFiles) (task : TaskMeaning) : Type 0 where
+  pub text : List ℕ
+  pub there : IsReadable files TaskSource names.source text
+  pub read : source_in text ≡ Ok task.source
+  pub found : BuiltOf
+  pub made : built text sizes.ctrl sizes.temp base ≡ Ok found
+  pub same : found.image ≡ task.image
+  pub values_text : List ℕ
+  pub values_there : IsReadable files TaskValues names.values values_text
+  pub values : List ValueOf
+  pub gives : values_in task.image.slots values_text ≡ Ok values
+  pub done : Finishes task.source sizes values task.finals task.way task.count
+  pub within : task.count ≤ budget
 
-abbrev pub image_or_fault : ℕ → Result BuiltOf BuildFault → Result ImageOf TasksFault
-image_or_fault i (Ok built) = Ok built.image
-image_or_fault i (Err fault) = Err (Refused (i + 1) (build_verdict fault))
+-- so it is of each task, in windows that lie side by side
+abbrev pub MeanTasks : Files → StackSizes → ℕ → ℕ → List TaskFiles → List TaskMeaning → Type 0
+MeanTasks files sizes budget base [] [] = Unit {0}
+MeanTasks files sizes budget base [] (task ∷ tasks) = ⊥
+MeanTasks files sizes budget base (names ∷ others) [] = ⊥
+MeanTasks files sizes budget base (names ∷ others) (task ∷ tasks) =
+    MeansTask files sizes budget base names task × MeanTasks files sizes budget (base + task.image.size) others tasks
 
--- the images of sources, counted from i, in windows that lie side by side from an address on
-abbrev pub images_from : Words → ℕ → ℕ → List (List ℕ) → Result (List ImageOf) TasksFault
-images_from sizes i base [] = Ok []
-images_from sizes i base (source ∷ sources) = do
-  image ← image_or_fault i (built source sizes.ctrl sizes.temp base)
-  images ← images_from sizes (i + 1) (base + image.size) sources
-  Ok (image ∷ images)
+-- the round of each task, counted from i, and the report of its meaning, in order
+abbrev pub meanings_text : ℕ → ℕ → List TaskMeaning → List ℕ
+meanings_text turn i [] = []
+meanings_text turn i (task ∷ tasks) =
+    (round_line i (div_ceil task.count turn) ++ report_text task.image (meaning_shown task.source task.finals task.way) task.count)
+    ++ meanings_text turn (i + 1) tasks
 
-abbrev pub word_count : List ImageOf → ℕ
-word_count images = sum_by (λ image. image.size) images
+-- the answer is that all went well, and tells these meanings
+pub record TellsTasks (turn : ℕ) (tasks : List TaskMeaning) (answer : Answer) : Type 0 where
+  pub status : answer.status ≡ Done
+  pub text : answer.text ≡ meanings_text turn 0 tasks
 
--- the windows have at most 2^20 words together
-abbrev pub small_enough : List ImageOf → Result (List ImageOf) TasksFault
-small_enough images = if nat_lt (2 ^ 20) (word_count images) then Err (Large (word_count images)) else Ok images
+-- where there are 1 to 8 tasks, as the words have them, and their windows have at most 2^20 words together
+abbrev pub TellsEach : Option Command → Files → Answer → Type 0
+TellsEach (Some (Turns turn budget control temporary names)) files answer =
+    (tasks : List TaskMeaning) → 1 ≤ length names → length names ≤ 8 → MeanTasks files (stack_sizes control temporary) budget 0 names tasks
+    → word_count (map (λ task. task.image) tasks) ≤ most_window
+    → TellsTasks turn tasks answer
+TellsEach _ files answer = Unit {0}
 
-abbrev pub values_or_fault : ℕ → Result (List ValueOf) (ℕ × ℕ) → Result (List ValueOf) TasksFault
-values_or_fault i (Ok values) = Ok values
-values_or_fault i (Err fault) = Err (Refused (i + 1) (Values fault.0 fault.1))
-
--- each image, counted from i, with the values in the text of its number
-abbrev pub tasks_from : List (List ℕ) → ℕ → List ImageOf → Result (List NewTask) TasksFault
-tasks_from texts i [] = Ok []
-tasks_from texts i (image ∷ images) = do
-  values ← values_or_fault i (values_in image.slots (slice_index_or texts i []))
-  tasks ← tasks_from texts (i + 1) images
-  Ok (new_task image values ∷ tasks)
-
--- the tasks of these sources and texts of values, for stacks of these sizes
-unfoldable pub tasks_of : Words → List (List ℕ) → List (List ℕ) → Result (List NewTask) TasksFault
-tasks_of sizes sources texts = do
-  few ← few_enough sources
-  images ← images_from sizes 0 0 few
-  small ← small_enough images
-  tasks_from texts 0 small
-
--- 2. What is told of them.
-
--- the round in which a run is over that comes to its end so, where each turn has so many instructions
-abbrev pub last_round : ℕ → ℕ → Run → ℕ
-last_round turn budget (run.Ended count) = div_ceil count turn
-last_round turn budget run.Spent = div_ceil budget turn
-last_round turn budget (run.Outside address count) = div_ceil (count + 1) turn
-
-abbrev pub round_line : ℕ → ℕ → List ℕ
-round_line i round = line (codes "task " ++ decimal (i + 1) ++ codes " round " ++ decimal round)
-
--- its round, and then what `run` says of its image and values
-abbrev pub task_text : ℕ → ℕ → ℕ → NewTask → List ℕ
-task_text turn budget i task =
-    round_line i (last_round turn budget (whole_run budget task).run) ++ reply_text (run_reply task.image task.values budget)
-
--- tasks that are counted from i, one after the other
-abbrev pub tasks_text : ℕ → ℕ → ℕ → List NewTask → List ℕ
-tasks_text turn budget i [] = []
-tasks_text turn budget i (task ∷ tasks) = task_text turn budget i task ++ tasks_text turn budget (i + 1) tasks
-
-abbrev pub is_end : Run → Bool
-is_end (run.Ended count) = true
-is_end run = false
-
--- all came to their defined ends, or some are unfinished
-abbrev pub tasks_verdict : Bool → Verdict
-tasks_verdict ended = if ended then Done else SomeUnfinished
-
-unfoldable pub tasks_reply : ℕ → ℕ → List NewTask → ReplyOf
-tasks_reply turn budget tasks = record {
-  said = tasks_text turn budget 0 tasks;
-  verdict = tasks_verdict (list_all (λ task. is_end (whole_run budget task).run) tasks);
-  state = None;
-}
-
--- a fault of one task has its number before it; no definition runs out of memory
-abbrev pub fault_reply : TasksFault → ReplyOf
-fault_reply Count = verdict_alone Usage
-fault_reply (Refused number verdict) = record { said = line (codes "task " ++ decimal number); verdict = verdict; state = None }
-fault_reply (Large words) = verdict_alone (Size size.Words words)
-fault_reply Memory = verdict_alone Usage
-
-abbrev pub turns_by : ℕ → ℕ → Result (List NewTask) TasksFault → ReplyOf
-turns_by turn budget (Ok tasks) = tasks_reply turn budget tasks
-turns_by turn budget (Err fault) = fault_reply fault
-
--- what is replied to these sources and texts of values, where each turn has so many instructions
-abbrev pub turns_reply : ℕ → ℕ → Words → List (List ℕ) → List (List ℕ) → ReplyOf
-turns_reply turn budget sizes sources texts = turns_by turn budget (tasks_of sizes sources texts)
+-- so is the answer to these words, where the files are known
+abbrev pub EachTaskIsTold : List (List ℕ) → List Watching → Option Files → Type 0
+EachTaskIsTold words watches None = Unit {0}
+EachTaskIsTold words watches (Some files) = TellsEach (command_of words) files (answer words watches files)

@@ -3,7 +3,7 @@ ghost use Rattle.std.specs.Prelude.{◌≡◌, IfOk, map};
 ghost use Rattle.level_debuggers.specs.Tallies.{watching};
 ghost use Rattle.cli_stack.specs.Answer.{stored_by, reply_by};
 ghost use Rattle.cli_stack.specs.Replies.{reply_of};
-ghost use Rattle.cli_stack.specs.Plans.{pending_reply};
+ghost use Rattle.cli_stack.specs.Scaffold.Plans.{pending_reply};
 
 mod asm;
 mod big;
@@ -69,22 +69,16 @@ pub fn prepare(
             temporary,
             ..
         } => build::prepare(alloc, source, control, temporary),
+        Command::Pcheck { .. } => pcheck::prepare(alloc, piton),
+        Command::Prun { limit, .. } => prun::prepare(alloc, piton, *limit),
+        Command::Pbuild { .. } => pbuild::prepare(alloc, piton),
+        Command::Run { budget, .. } => run::prepare(alloc, image, values, *budget),
         Command::Go {
             control,
             temporary,
             budget,
             ..
         } => go::prepare(alloc, source, values, control, temporary, *budget),
-        Command::Debug {
-            level,
-            control,
-            temporary,
-            ..
-        } => debug::prepare(alloc, *level, texts, control, temporary, watches),
-        Command::Pcheck { .. } => pcheck::prepare(alloc, piton),
-        Command::Prun { limit, .. } => prun::prepare(alloc, piton, *limit),
-        Command::Pbuild { .. } => pbuild::prepare(alloc, piton),
-        Command::Run { budget, .. } => run::prepare(alloc, image, values, *budget),
         Command::Show { .. } => show::prepare(alloc, image),
         Command::Migrate { output, .. } => migrate::prepare(alloc, image, output),
         Command::Asm { .. } => asm::prepare(alloc, texts.of(Role::Assembly)),
@@ -101,8 +95,12 @@ pub fn prepare(
             control,
             temporary,
         ),
-        Command::Mini { source: name, .. } => { mini::prepare(alloc, texts.of(Role::Infix), name) }
-        Command::Big { number, procedures } => big::prepare(alloc, *number, procedures),
+        Command::Debug {
+            level,
+            control,
+            temporary,
+            ..
+        } => debug::prepare(alloc, *level, texts, control, temporary, watches),
         Command::Turns {
             turn,
             budget,
@@ -110,6 +108,8 @@ pub fn prepare(
             temporary,
             ..
         } => turns::prepare(alloc, texts, turn, *budget, control, temporary),
+        Command::Big { number, procedures } => big::prepare(alloc, *number, procedures),
+        Command::Mini { source: name, .. } => { mini::prepare(alloc, texts.of(Role::Infix), name) }
     }
 }
 

@@ -1,8 +1,8 @@
 //! The whole program over a shelf and a sink.
 ghost use Rattle.std.specs.Prelude.{map};
 ghost use Rattle.level_debuggers.specs.Tallies.{watching};
-ghost use Rattle.command_line.specs.Words.{spelled};
-ghost use Rattle.cli_stack.specs.ByTurns.{EachTaskIsTold};
+ghost use Rattle.command_line.specs.CommandWords.{spelled};
+ghost use Rattle.cli_stack.specs.Turns.{EachTaskIsTold};
 ghost use Rattle.cli_stack.specs.Endless.{EndlessStaysOn};
 ghost use Rattle.cli_stack.specs.Explains.{Explains};
 ghost use Rattle.cli_stack.specs.World.{world};

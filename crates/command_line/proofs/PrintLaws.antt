@@ -4,7 +4,7 @@ use Rattle.std.proofs.lemmas.Bool.{ne_eqb}
 use Rattle.std.proofs.lemmas.List.Elements.{All-head, All-tail}
 use Rattle.std.proofs.Math.Seq.{take-append_seam}
 use Rattle.std.proofs.lemmas.List.{take-append-drop}
-use Rattle.std.specs.Prelude.{◌⊎◌, ◌∷◌, [], ◌<◌, ◌≢◌, All, if◌then◌else◌}
+use Rattle.std.specs.Prelude.{◌∷◌, [], ◌<◌, ◌≢◌, All, if◌then◌else◌}
 use Rattle.stack_shelf.specs.Shelf.{appended, PrefixAppended}
 use Rattle.command_line.specs.Devices.{IsFirstLine, onto_first, lines_of, took_each}
 

@@ -7,7 +7,7 @@ use Rattle.stack_text.specs.Options.{◌>>=◌}
 use Rattle.command_line.specs.declared.command.TaskFiles.{TaskFiles}
 use Rattle.command_line.specs.declared.words.reader.WordsFault.{WordsFault}
 use Rattle.command_line.specs.declared.words.reader.WordsFault.TheVariants.{Usage, Memory}
-use Rattle.command_line.specs.Words.{Words, Reads, spelled, task, unless_ended, tasks_within}
+use Rattle.command_line.specs.CommandWords.{CommandWords, Reads, spelled, task, unless_ended, tasks_within}
 
 -- with these tasks before the others
 abbrev pub with_tasks : List TaskFiles → Option (List TaskFiles) → Option (List TaskFiles)
@@ -15,9 +15,9 @@ with_tasks front None = None
 with_tasks front (Some tasks) = Some (front ++ tasks)
 
 -- of at most so many tasks some are read, fewer than all of them
-module _ (front : List TaskFiles) (most done : ℕ) (words : Words) (all : Option (List TaskFiles)) (lt : done < most)
+module _ (front : List TaskFiles) (most done : ℕ) (words : CommandWords) (all : Option (List TaskFiles)) (lt : done < most)
     (so_far : with_tasks front (tasks_within (most - done) words) ≡ all) where
-  abbrev behind : Option (TaskFiles × Words) → Option (List TaskFiles)
+  abbrev behind : Option (TaskFiles × CommandWords) → Option (List TaskFiles)
   behind first = first >>= λ f. unless_ended f.1 (tasks_within (most - (done + 1)) f.1) >>= λ others. Some (f.0 ∷ others)
 
   opened : with_tasks front (behind (task words)) ≡ all
@@ -26,7 +26,7 @@ module _ (front : List TaskFiles) (most done : ℕ) (words : Words) (all : Optio
       let one_less : most - done ≡ suc (most - (done + 1)) = omega (arith, lt) in
       subst (λ n. with_tasks front (tasks_within n words) ≡ all) one_less so_far
 
-  pub task_fails : (fault : WordsFault) → Reads {X = TaskFiles × Words} (λ found. found) (Err fault) (task words) → Reads {X = List TaskFiles} (λ tasks. tasks) (Err fault) all
+  pub task_fails : (fault : WordsFault) → Reads {X = TaskFiles × CommandWords} (λ found. found) (Err fault) (task words) → Reads {X = List TaskFiles} (λ tasks. tasks) (Err fault) all
   task_fails Usage none = sym (subst (λ first. with_tasks front (behind first) ≡ all) none opened)
   task_fails Memory none = tt
 
@@ -57,7 +57,7 @@ module _ (front : List TaskFiles) (most done : ℕ) (words : Words) (all : Optio
     next_task some = by_next after read_on some
 
 -- no more are allowed
-pub none_left : (front : List TaskFiles) (most done : ℕ) (words : Words) (all : Option (List TaskFiles)) → most ≤ done → with_tasks front (tasks_within (most - done) words) ≡ all → all ≡ None
+pub none_left : (front : List TaskFiles) (most done : ℕ) (words : CommandWords) (all : Option (List TaskFiles)) → most ≤ done → with_tasks front (tasks_within (most - done) words) ≡ all → all ≡ None
 unfolding tasks_within
 none_left front most done words all le so_far =
     let nothing : most - done ≡ 0 = omega (arith, le) in sym (subst (λ n. with_tasks front (tasks_within n words) ≡ all) nothing so_far)

@@ -3,7 +3,7 @@ use Rattle.std.specs.Prelude.{ℕ, List, [], ◌∷◌, ◌++◌, Option, Some, 
 use Rattle.std.specs.Option.{option_to_list}
 use Rattle.command_line.specs.declared.command.Command.{Command}
 use Rattle.command_line.specs.declared.command.Command.TheVariants.{Check, Mean, Pit, Build, Pcheck, Prun, Pbuild}
-use Rattle.command_line.specs.declared.command.Command.TheVariants.{Run, Go, Show, Migrate, Asm, Unasm, Need, Cert, Mini, Debug, Big, Turns}
+use Rattle.command_line.specs.declared.command.Command.TheVariants.{Run, Go, Show, Migrate, Asm, Unasm, Need, Cert, Debug, Turns, Big, Mini}
 use Rattle.command_line.specs.declared.command.TaskFiles.{TaskFiles}
 use Rattle.command_line.specs.declared.role.Role.{Role}
 use Rattle.command_line.specs.declared.role.Role.TheVariants as role
@@ -15,33 +15,33 @@ task_inputs [] = []
 task_inputs (task ∷ tasks) = (role.TaskSource, task.source) ∷ (role.TaskValues, task.values) ∷ task_inputs tasks
 
 unfoldable pub inputs_of : Command → List (Role × List ℕ)
-inputs_of (Go source values control temporary budget image) = (role.Source, source) ∷ (role.Values, values) ∷ []
+inputs_of (Check source) = (role.Source, source) ∷ []
 inputs_of (Mean source values control temporary limit) = (role.Source, source) ∷ (role.Values, values) ∷ []
+inputs_of (Pit source control temporary piton) = (role.Source, source) ∷ []
+inputs_of (Build source control temporary image) = (role.Source, source) ∷ []
+inputs_of (Pcheck piton) = (role.Piton, piton) ∷ []
+inputs_of (Prun piton limit) = (role.Piton, piton) ∷ []
+inputs_of (Pbuild piton image) = (role.Piton, piton) ∷ []
 inputs_of (Run image values budget) = (role.Image, image) ∷ (role.Values, values) ∷ []
+inputs_of (Go source values control temporary budget image) = (role.Source, source) ∷ (role.Values, values) ∷ []
 inputs_of (Show image) = (role.Image, image) ∷ []
 inputs_of (Migrate image output) = (role.Image, image) ∷ []
 inputs_of (Asm assembly image) = (role.Assembly, assembly) ∷ []
 inputs_of (Unasm image assembly) = (role.Image, image) ∷ []
 inputs_of (Need source certificate) = (role.Source, source) ∷ []
 inputs_of (Cert source certificate control temporary) = (role.Source, source) ∷ (role.Certificate, certificate) ∷ []
-inputs_of (Mini program source) = (role.Infix, program) ∷ []
-inputs_of (Check source) = (role.Source, source) ∷ []
-inputs_of (Pit source control temporary piton) = (role.Source, source) ∷ []
-inputs_of (Build source control temporary image) = (role.Source, source) ∷ []
-inputs_of (Pcheck piton) = (role.Piton, piton) ∷ []
-inputs_of (Prun piton limit) = (role.Piton, piton) ∷ []
-inputs_of (Pbuild piton image) = (role.Piton, piton) ∷ []
 inputs_of (Debug level source values control temporary script) =
     (role.Source, source) ∷ (role.Values, values) ∷ (role.Script, script) ∷ []
-inputs_of (Big number procedures) = []
 inputs_of (Turns turn budget control temporary tasks) = task_inputs tasks
+inputs_of (Big number procedures) = []
+inputs_of (Mini program source) = (role.Infix, program) ∷ []
 
 unfoldable pub output_of : Command → Option (Role × List ℕ)
-output_of (Go source values control temporary budget image) = Some (role.Image, image)
+output_of (Pit source control temporary piton) = Some (role.Piton, piton)
 output_of (Build source control temporary image) = Some (role.Image, image)
 output_of (Pbuild piton image) = Some (role.Image, image)
+output_of (Go source values control temporary budget image) = Some (role.Image, image)
 output_of (Migrate image output) = Some (role.Image, output)
-output_of (Pit source control temporary piton) = Some (role.Piton, piton)
 output_of (Asm assembly image) = Some (role.Image, image)
 output_of (Unasm image assembly) = Some (role.Assembly, assembly)
 output_of (Need source certificate) = Some (role.Certificate, certificate)

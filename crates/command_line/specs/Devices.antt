@@ -7,12 +7,12 @@ use Rattle.command_line.specs.declared.early_end.EarlyEnd.{EarlyEnd}
 use Rattle.command_line.specs.declared.early_end.EarlyEnd.TheVariants.{Missing, TooLong, ShelfFault, OutOfMemory}
 
 -- what a call returned, seen by view, is what the definition gives, unless the shelf failed or memory ran out
-abbrev pub Gives : {X Y : Type 0} → (X → Y) → Result X EarlyEnd → Result Y EarlyEnd → Type 0
-Gives view (Ok x) gives = gives ≡ Ok (view x)
-Gives view (Err (Missing name)) gives = gives ≡ Err (Missing name)
-Gives view (Err (TooLong limit)) gives = gives ≡ Err (TooLong limit)
-Gives view (Err (ShelfFault name)) gives = Unit {0}
-Gives view (Err OutOfMemory) gives = Unit {0}
+abbrev pub GivesOrEndsEarly : {X Y : Type 0} → (X → Y) → Result X EarlyEnd → Result Y EarlyEnd → Type 0
+GivesOrEndsEarly view (Ok x) gives = gives ≡ Ok (view x)
+GivesOrEndsEarly view (Err (Missing name)) gives = gives ≡ Err (Missing name)
+GivesOrEndsEarly view (Err (TooLong limit)) gives = gives ≡ Err (TooLong limit)
+GivesOrEndsEarly view (Err (ShelfFault name)) gives = Unit {0}
+GivesOrEndsEarly view (Err OutOfMemory) gives = Unit {0}
 
 -- why a command ended early at this name
 abbrev pub EndsAt : Counts → Counts → List ℕ → EarlyEnd → Type 0

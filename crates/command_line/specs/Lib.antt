@@ -1,6 +1,6 @@
 -- commands, their words and their files
-pub mod Words
-pub mod Rows
+pub mod CommandWords
+pub mod CommandRows
 pub mod Roles
 pub mod CommandFiles
 pub mod Gathered

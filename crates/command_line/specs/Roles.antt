@@ -1,21 +1,26 @@
 -- The roles in which commands read files.
 use Rattle.std.specs.Prelude.{ℕ, Bool, true, false}
+use Rattle.stack_text.specs.SharedLimits.{most_text, most_image_file}
 use Rattle.command_line.specs.declared.role.Role.{Role}
 use Rattle.command_line.specs.declared.role.Role.TheVariants.{Source, Piton, Image, Values, Script}
 use Rattle.command_line.specs.declared.role.Role.TheVariants.{Assembly, Certificate, Infix, TaskSource, TaskValues}
 
+-- the bytes of a text of Piton
+abbrev pub most_piton_text : ℕ
+most_piton_text = 16777216
+
 -- the most bytes of a file that is read in this role
 abbrev pub limit_of : Role → ℕ
-limit_of Source = 1048576
-limit_of Piton = 16777216
-limit_of Image = 33554432
-limit_of Values = 1048576
-limit_of Script = 1048576
-limit_of Assembly = 33554432
-limit_of Certificate = 1048576
-limit_of Infix = 1048576
-limit_of TaskSource = 1048576
-limit_of TaskValues = 1048576
+limit_of Source = most_text
+limit_of Piton = most_piton_text
+limit_of Image = most_image_file
+limit_of Values = most_text
+limit_of Script = most_text
+limit_of Assembly = most_image_file
+limit_of Certificate = most_text
+limit_of Infix = most_text
+limit_of TaskSource = most_text
+limit_of TaskValues = most_text
 
 -- the two are one role
 abbrev pub is_role : Role → Role → Bool

@@ -122,11 +122,6 @@ pub enum Command {
         /// How many words the temporary stack has.
         temporary: StackSize,
     },
-    /// Lowers a program of the infix language to a source, and stores that.
-    Mini {
-        program: FileName,
-        source: FileName,
-    },
     /// Follows a script of a debugger in a session of a source's program, at a level.
     Debug {
         /// At which level the steps are made.
@@ -142,11 +137,6 @@ pub enum Command {
         /// The script that is followed.
         script: FileName,
     },
-    /// Builds and runs a large source of so many procedures, which is made from a number.
-    Big {
-        number: u32,
-        procedures: ProcedureCount,
-    },
     /// Builds sources, and runs their images by turns in one memory.
     Turns {
         /// How many instructions a turn has at most.
@@ -159,6 +149,16 @@ pub enum Command {
         temporary: StackSize,
         /// The files of one to eight tasks, in the order of their turns.
         tasks: Seq<TaskFiles>,
+    },
+    /// Builds and runs a large source of so many procedures, which is made from a number.
+    Big {
+        number: u32,
+        procedures: ProcedureCount,
+    },
+    /// Lowers a program of the infix language to a source, and stores that.
+    Mini {
+        program: FileName,
+        source: FileName,
     },
 }
 
@@ -183,9 +183,16 @@ impl Command {
             map (λ input. (input.role, input.name.now)) inputs.items ≡ inputs_of self.now) }
     {
         match self {
-            Command::Go { source, values, .. } | Command::Mean { source, values, .. } => Ok(
+            Command::Check { source }
+            | Command::Pit { source, .. }
+            | Command::Build { source, .. }
+            | Command::Need { source, .. } => Ok(vec![in alloc; Role::Source.file(source)]?),
+            Command::Mean { source, values, .. } | Command::Go { source, values, .. } => Ok(
                 vec![in alloc; Role::Source.file(source), Role::Values.file(values)]?,
             ),
+            Command::Pcheck { piton }
+            | Command::Prun { piton, .. }
+            | Command::Pbuild { piton, .. } => Ok(vec![in alloc; Role::Piton.file(piton)]?),
             Command::Run { image, values, .. } => Ok(vec![in alloc;
                 Role::Image.file(image),
                 Role::Values.file(values),
@@ -194,14 +201,14 @@ impl Command {
             | Command::Migrate { image, .. }
             | Command::Unasm { image, .. } => Ok(vec![in alloc; Role::Image.file(image)]?),
             Command::Asm { assembly, .. } => Ok(vec![in alloc; Role::Assembly.file(assembly)]?),
-            Command::Mini { program, .. } => Ok(vec![in alloc; Role::Infix.file(program)]?),
-            Command::Check { source }
-            | Command::Pit { source, .. }
-            | Command::Build { source, .. }
-            | Command::Need { source, .. } => Ok(vec![in alloc; Role::Source.file(source)]?),
-            Command::Pcheck { piton }
-            | Command::Prun { piton, .. }
-            | Command::Pbuild { piton, .. } => Ok(vec![in alloc; Role::Piton.file(piton)]?),
+            Command::Cert {
+                source,
+                certificate,
+                ..
+            } => Ok(vec![in alloc;
+                Role::Source.file(source),
+                Role::Certificate.file(certificate),
+            ]?),
             Command::Debug {
                 source,
                 values,
@@ -212,16 +219,9 @@ impl Command {
                 Role::Values.file(values),
                 Role::Script.file(script),
             ]?),
-            Command::Cert {
-                source,
-                certificate,
-                ..
-            } => Ok(vec![in alloc;
-                Role::Source.file(source),
-                Role::Certificate.file(certificate),
-            ]?),
-            Command::Big { .. } => Ok(Vec::new(alloc)),
             Command::Turns { tasks, .. } => task_inputs(alloc, tasks.as_slice()),
+            Command::Big { .. } => Ok(Vec::new(alloc)),
+            Command::Mini { program, .. } => Ok(vec![in alloc; Role::Infix.file(program)]?),
         }
     }
 
@@ -231,12 +231,12 @@ impl Command {
         ensures { option_map (λ output. (output.role, output.name.now)) result ≡ output_of self.now }
     {
         match self {
-            Command::Go { image, .. }
-            | Command::Build { image, .. }
+            Command::Pit { piton, .. } => Some(Role::Piton.file(piton)),
+            Command::Build { image, .. }
             | Command::Pbuild { image, .. }
+            | Command::Go { image, .. }
             | Command::Asm { image, .. } => Some(Role::Image.file(image)),
             Command::Migrate { output, .. } => Some(Role::Image.file(output)),
-            Command::Pit { piton, .. } => Some(Role::Piton.file(piton)),
             Command::Unasm { assembly, .. } => Some(Role::Assembly.file(assembly)),
             Command::Need { certificate, .. } => Some(Role::Certificate.file(certificate)),
             Command::Mini { source, .. } => Some(Role::Source.file(source)),

@@ -5,7 +5,7 @@ ghost use Rattle.stack_shelf.specs.Shelf.{fetched};
 ghost use Rattle.command_line.specs.Roles.{limit_of};
 ghost use Rattle.command_line.specs.Gathered.{text_or_end, gathered};
 ghost use Rattle.command_line.specs.CommandFiles.{names_of};
-ghost use Rattle.command_line.specs.Devices.{Gives, EndsAt, EndsAtOne};
+ghost use Rattle.command_line.specs.Devices.{GivesOrEndsEarly, EndsAt, EndsAtOne};
 
 use crate::early_end::EarlyEnd;
 use crate::role::{Role, RoleFile};
@@ -17,7 +17,8 @@ use std::alloc::Global;
 /// The text of one file.
 fn fetch<S: Shelf>(alloc: Global, shelf: &mut S, role: Role, name: &str) -> Result<Text, EarlyEnd>
     ensures text { IfSome (S.files shelf.old) (λ files.
-        Gives (λ text. text) result (text_or_end (role, name.now) (fetched files name.now (limit_of role)))) }
+        GivesOrEndsEarly (λ text. text) result
+        (text_or_end (role, name.now) (fetched files name.now (limit_of role)))) }
     ensures within { IfOk result (λ text. length text ≤ limit_of role) }
     ensures cause { IfErr result (EndsAt (S.counts shelf.old) (S.counts shelf.new) name.now) }
     ensures files { S.files shelf.new ≡ S.files shelf.old }
@@ -48,7 +49,7 @@ pub fn gather<S: Shelf>(
     shelf: &mut S,
     inputs: &[RoleFile],
 ) -> Result<Texts, EarlyEnd>
-    ensures texts { IfSome (S.files shelf.old) (λ files. Gives (λ texts. texts) result
+    ensures texts { IfSome (S.files shelf.old) (λ files. GivesOrEndsEarly (λ texts. texts) result
         (gathered files (map (λ input. (input.role, input.name.now)) inputs.now))) }
     ensures cause { IfErr result (EndsAtOne (S.counts shelf.old) (S.counts shelf.new)
         (names_of (map (λ input. (input.role, input.name.now)) inputs.now))) }

@@ -1,5 +1,9 @@
 //! The roles of files.
 use crate::words::FileName;
+use stack_text::{MOST_IMAGE_FILE, MOST_TEXT};
+
+/// The most bytes of a text of Piton.
+const MOST_PITON_TEXT: u64 = 1 << 24;
 
 /// What a command takes a file for.
 #[derive(Clone, Copy, PartialEq, Eq)]
@@ -57,9 +61,9 @@ impl Role {
             | Role::Certificate
             | Role::Infix
             | Role::TaskSource
-            | Role::TaskValues => 1 << 20,
-            Role::Piton => 1 << 24,
-            Role::Image | Role::Assembly => 1 << 25,
+            | Role::TaskValues => u64::from(MOST_TEXT),
+            Role::Piton => MOST_PITON_TEXT,
+            Role::Image | Role::Assembly => u64::from(MOST_IMAGE_FILE),
         }
     }
 }

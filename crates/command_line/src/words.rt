@@ -4,7 +4,6 @@ mod name;
 mod number;
 mod reader;
 mod row;
-mod verb;
 
 pub use name::FileName;
 pub use number::{ProcedureCount, StackSize, TurnLength};

@@ -6,6 +6,7 @@ use Rattle.std.proofs.lemmas.Bool.{le-ltb, ltb-true}
 use Rattle.std.proofs.lemmas.List.{get_or-reverse, length-reverse}
 use Rattle.std.proofs.lemmas.Option.{get_or_from_slice_get, slice_get-get_or}
 use Rattle.stack_text.specs.Values.{ValueOf}
+use Rattle.stack_text.proofs.SharedLaws.{some_is, get_map}
 use Rattle.fm_words.specs.Word.{word_of_int}
 use Rattle.fm_machine.specs.State.{word_at}
 use Rattle.piton_words.specs.declared.word.Word.{Word}
@@ -19,11 +20,10 @@ use Rattle.gypsy_syntax.specs.ProgramFits.{ValueFits}
 use Rattle.gypsy_syntax.specs.Programs.{Program, proc_at, shapes_of}
 use Rattle.gypsy_syntax.specs.Resolved.{program_of}
 use Rattle.gypsy_syntax.specs.Sources.{SourceOf}
-use Rattle.gypsy_check.proofs.CleanLaws.{get_map}
-use Rattle.gypsy_space.specs.Needs.{Words}
+use Rattle.gypsy_space.specs.Needs.{StackSizes}
 use Rattle.gypsy_meaning.specs.Kept.{VarsFit}
 use Rattle.gypsy_meaning.specs.Machine.{Frame, Item}
-use Rattle.gypsy_meaning.specs.Seen.{top_way}
+use Rattle.gypsy_meaning.specs.Seen.RunView.{top_way}
 use Rattle.gypsy_meaning.proofs.EffectLaws.{value_fits}
 use Rattle.gypsy_predef.specs.Runs.{word_of_item, words_of_value}
 use Rattle.gypsy_codegen.specs.Generated.{offset, generated_view}
@@ -50,9 +50,6 @@ element_read stack k w e = by_side (nat_lt k (length stack)) refl e
 value_numbers : (A : Addresses) (v : ValueOf) → ValueFits v → numbers A (words_of_value v) ≡ map word_of_int v.items
 value_numbers A v fits =
     ap (numbers A) (sym (append-nil (words_of_value v))) ∙ values_numbers A (v ∷ []) (fits, tt) ∙ append-nil (map word_of_int v.items)
-
-some_is : {X : Type 0} (a b : X) → Some a ≡ Some b → a ≡ b
-some_is a b e = cc
 
 item_number : (A : Addresses) (v : ValueOf) (h : ℕ) (z : ℤ) → ValueFits v → slice_get v.items h ≡ Some z → word_number A (word_of_item v.shape.kind z) ≡ word_of_int z
 item_number A v h z fits e =
@@ -89,7 +86,7 @@ module _ (q : Program) (s : SystemView) (a : PitonState) (p : ℕ) (x : List Val
   }
 
 -- it stands at the mark, with the condition and the variables
-pub state_shows : (source : SourceOf) (sizes : Words) (base : ℕ) (a : PitonState) (p : ℕ) (x : List ValueOf) (w : List Item) (fs : List Frame) →
+pub state_shows : (source : SourceOf) (sizes : StackSizes) (base : ℕ) (a : PitonState) (p : ℕ) (x : List ValueOf) (w : List Item) (fs : List Frame) →
     VarsFit (shapes_of (proc_at (program_of source) p)) x → ReadsAs (program_of source) a p x w fs →
     ShowsMoment (program_of source) sizes (image_of source sizes base) (piton_at (generated_view (program_of source) sizes base) a) p x w
 unfolding image_of

@@ -4,15 +4,15 @@ use Rattle.stack_text.specs.Values.{ValueOf}
 use Rattle.fm_image.specs.Image.{ImageOf}
 use Rattle.fm_loader.specs.Loaded.{loaded}
 use Rattle.display_maps.specs.ReadingAt.{reading_at_text}
-use Rattle.piton_check.specs.Answers.{CheckedOf}
+use Rattle.piton_check.specs.PitonChecking.{CheckedOf}
 use Rattle.piton_machine.specs.Fits.{system_in}
-use Rattle.piton_machine.specs.Seen.{opening}
+use Rattle.piton_machine.specs.Seen.StateView.{opening}
 use Rattle.gypsy_syntax.specs.Resolved.{program_of}
 use Rattle.gypsy_syntax.specs.Sources.{SourceOf}
 use Rattle.gypsy_check.specs.Accepted.{IsAccepted}
-use Rattle.gypsy_space.specs.Needs.{Words}
+use Rattle.gypsy_space.specs.Needs.{StackSizes}
 use Rattle.gypsy_meaning.specs.Machine.{State, At, Next}
-use Rattle.gypsy_meaning.specs.Seen.{spent_at}
+use Rattle.gypsy_meaning.specs.Seen.RunView.{spent_at}
 use Rattle.gypsy_codegen.specs.Generated.{generated_view}
 use Rattle.gypsy_codegen.specs.Moments.{moment_from}
 use Rattle.gypsy_codegen.specs.Whole.{SizesFit}
@@ -43,7 +43,7 @@ image_run image values = Fm record { image = image; state = loaded image values 
 -- instructions. It goes on, and says the state.
 abbrev pub MachineSaysMoments : Type 0
 MachineSaysMoments =
-    (source : SourceOf) (sizes : Words) (base j : ℕ) (values : List ValueOf) (g : State) → IsAccepted source →
+    (source : SourceOf) (sizes : StackSizes) (base j : ℕ) (values : List ValueOf) (g : State) → IsAccepted source →
     IsTrue (places_fit (program_of source)) → FitsFormals source values → KeepsMoments (image_of source sizes base) source sizes →
     moment_from (program_of source) sizes values j ≡ Next g →
     SaysAfter (spent_at g) (image_run (image_of source sizes base) values) (state_text source g)
@@ -58,7 +58,7 @@ system_run source checked image values =
 -- So does the run of the source's system, after exactly the counted steps.
 abbrev pub SystemSaysMoments : Type 0
 SystemSaysMoments =
-    (source : SourceOf) (sizes : Words) (base j : ℕ) (checked : CheckedOf) (values : List ValueOf) (g : State) → IsAccepted source →
+    (source : SourceOf) (sizes : StackSizes) (base j : ℕ) (checked : CheckedOf) (values : List ValueOf) (g : State) → IsAccepted source →
     SizesFit (program_of source) sizes → IsTrue (places_fit (program_of source)) → FitsFormals source values →
     system_in checked ≡ generated_view (program_of source) sizes base →
     moment_from (program_of source) sizes values j ≡ Next g →
@@ -73,6 +73,6 @@ pub record BothSay (source : SourceOf) (built : BuiltOf) (values : List ValueOf)
 
 abbrev pub BuiltSaysMoments : Type 0
 BuiltSaysMoments =
-    (source : SourceOf) (sizes : Words) (j : ℕ) (built : BuiltOf) (values : List ValueOf) (g : State) → IsAccepted source →
+    (source : SourceOf) (sizes : StackSizes) (j : ℕ) (built : BuiltOf) (values : List ValueOf) (g : State) → IsAccepted source →
     IsTrue (places_fit (program_of source)) → FitsFormals source values → source_built source sizes 0 ≡ Ok built →
     KeepsMoments built.image source sizes → moment_from (program_of source) sizes values j ≡ Next g → BothSay source built values g

@@ -1,8 +1,9 @@
 -- Commands, by their words.
-use Rattle.std.specs.Prelude.{ℕ, ℤ, pos, negsuc, ◌^◌, ◌==◌, List, [], ◌∷◌, Option, Some}
+use Rattle.std.specs.Prelude.{ℕ, ℤ, pos, negsuc, ◌==◌, List, [], ◌∷◌, Option, Some}
 use Rattle.std.specs.Prelude.{None, Result, Ok, Err, nat_le, if◌then◌else◌, codes}
 use Rattle.std.specs.List.{slice_split}
 use Rattle.std.specs.Str.{bytes_eq}
+use Rattle.stack_text.specs.SharedLimits.{most_steps}
 use Rattle.stack_text.specs.Numerals.{is_digits, numeral_value}
 use Rattle.debug_script.specs.declared.fault.ScriptRule.{ScriptRule}
 use Rattle.debug_script.specs.declared.fault.ScriptRule.TheVariants as rules
@@ -34,7 +35,7 @@ watch_of word =
 
 -- a number that is at most 2^40
 abbrev pub in_range : ℤ → Result ℕ ScriptRule
-in_range (pos n) = if nat_le n (2 ^ 40) then Ok n else Err rules.Argument
+in_range (pos n) = if nat_le n most_steps then Ok n else Err rules.Argument
 in_range (negsuc n) = Err rules.Argument
 
 -- the number that decimal digits spell, of which there may be any number

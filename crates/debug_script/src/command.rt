@@ -4,10 +4,7 @@ ghost use Rattle.std.specs.Prelude.{◌≡◌, map};
 ghost use Rattle.debug_script.specs.Commands.{verb_of, watch_of, count_of, command_of, command_by};
 
 use crate::fault::ScriptRule;
-use stack_text::{is_digits, read_numeral};
-
-/// The greatest number of steps that one command asks for.
-const MOST_STEPS: i128 = 1 << 40;
+use stack_text::{MOST_STEPS, is_digits, read_numeral};
 
 /// A watch, as a script names it.
 #[derive(Clone, Copy, Debug, PartialEq, Eq)]
@@ -94,7 +91,7 @@ fn count_of(word: &[u8]) -> Result<u64, ScriptRule>
         return Err(ScriptRule::Argument);
     }
     match read_numeral(word) {
-        Some(number) if 0 <= number && number <= MOST_STEPS => Ok(number as u64),
+        Some(number) if 0 <= number && number <= i128::from(MOST_STEPS) => Ok(number as u64),
         _ => Err(ScriptRule::Argument),
     }
 }

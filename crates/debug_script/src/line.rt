@@ -1,31 +1,13 @@
 //! One line.
 
 ghost use Rattle.std.specs.Prelude.{◌≡◌, map, IfOk};
-ghost use Rattle.std.specs.List.{list_all};
 ghost use Rattle.debug_script.specs.Commands.{words_of};
-ghost use Rattle.debug_script.specs.Lines.{is_plain_byte, is_plain_line, command_in};
+ghost use Rattle.debug_script.specs.Lines.{command_in};
 
 use crate::command::{Command, command_of};
 use crate::fault::ScriptRule;
-use stack_text::Memory;
+use stack_text::{Memory, is_plain_line};
 use std::alloc::{AllocError, Global};
-
-/// The most bytes of a line.
-const MOST_BYTES: usize = 256;
-
-/// Whether each byte is one from a space to a tilde.
-fn are_plain(line: &[u8]) -> bool
-    ensures { result ≡ list_all is_plain_byte line.now }
-{
-    line.iter().all(|byte| matches!(*byte, b' '..=b'~'))
-}
-
-/// Whether a line is short, and has no byte that is out of place.
-fn is_plain_line(line: &[u8]) -> bool
-    ensures { result ≡ is_plain_line line.now }
-{
-    line.len() <= MOST_BYTES && are_plain(line)
-}
 
 /// The words of a line: each space ends one.
 fn words_of<'a>(alloc: Global, line: &'a [u8]) -> Result<Vec<&'a [u8]>, AllocError>

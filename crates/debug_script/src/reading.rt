@@ -1,7 +1,7 @@
 //! Scripts.
 
 ghost use Rattle.std.specs.Prelude.{◌≤◌, ◌^◌, length};
-ghost use Rattle.debug_script.specs.Scripts.{Gives, line_read, script_of};
+ghost use Rattle.debug_script.specs.Scripts.{GivesScript, line_read, script_of};
 
 use crate::command::Command;
 use crate::fault::ScriptFault;
@@ -22,7 +22,7 @@ pub struct Line {
 /// What a line gives: nothing where it is empty, or else its command, with the line's number.
 #[tactic(auto, unfolding(crate::specs::Scripts::line_read))]
 fn read_line(alloc: Global, number: u32, line: &[u8]) -> Result<Option<Line>, ScriptFault>
-    ensures { Gives (λ read. read) result (line_read number line.now) }
+    ensures { GivesScript (λ read. read) result (line_read number line.now) }
 {
     if line.is_empty() {
         return Ok(None);
@@ -51,7 +51,7 @@ fn read_line(alloc: Global, number: u32, line: &[u8]) -> Result<Option<Line>, Sc
 /// memory.
 pub fn read_script(alloc: Global, text: &[u8]) -> Result<Vec<Line>, ScriptFault>
     requires { length text.now ≤ 2 ^ 31 }
-    ensures { Gives (λ lines. lines.items) result (script_of text.now) }
+    ensures { GivesScript (λ lines. lines.items) result (script_of text.now) }
 {
     let mut lines = Vec::new(alloc);
     let mut number = 0;

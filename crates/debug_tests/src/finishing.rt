@@ -2,7 +2,7 @@
 
 ghost use Rattle.std.specs.Prelude.{IfOk};
 ghost use Rattle.level_debuggers.specs.Levels.{IsRunner};
-ghost use Rattle.level_debuggers.specs.Sessions.{IsSession};
+ghost use Rattle.level_debuggers.specs.Seen.Sessions.{IsSession};
 
 use crate::runners::accepted_of;
 use crate::sessions::ASSIGNS;

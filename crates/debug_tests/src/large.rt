@@ -1,8 +1,8 @@
 //! A large source of the least size, as its text.
 
 ghost use Rattle.std.specs.Prelude.{IfOk};
-ghost use Rattle.gypsy_syntax.specs.Answers.{KeepsForm};
-ghost use Rattle.gypsy_syntax.specs.SourceView.{source_of};
+ghost use Rattle.gypsy_syntax.specs.GypsyReading.{KeepsForm};
+ghost use Rattle.gypsy_syntax.specs.Seen.SourceView.{source_of};
 
 use gypsy_check::check;
 use gypsy_gen::large;

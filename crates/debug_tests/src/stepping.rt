@@ -1,6 +1,6 @@
 //! Sessions that are stepped by several calls.
 
-ghost use Rattle.level_debuggers.specs.Sessions.{IsSession};
+ghost use Rattle.level_debuggers.specs.Seen.Sessions.{IsSession};
 
 use crate::runners::of_source;
 use crate::sessions::RECURSIVE;

@@ -2,7 +2,7 @@
 
 ghost use Rattle.std.specs.Prelude.{IfOk};
 ghost use Rattle.level_debuggers.specs.Levels.{IsRunner};
-ghost use Rattle.level_debuggers.specs.Sessions.{IsSession};
+ghost use Rattle.level_debuggers.specs.Seen.Sessions.{IsSession};
 
 use debug_script::{Line, read_script};
 use level_debuggers::{

@@ -11,7 +11,7 @@ use Rattle.fm_asm.specs.Statements.{Statement, base, size, final, start, word, i
 use Rattle.fm_asm.specs.Sources.{SourceOf, source_in}
 use Rattle.fm_asm.specs.Labels.{offset_of, number_of, is_outside, breaches, line_words, final_in, start_in, statement_words}
 use Rattle.fm_asm.specs.Printing.{plain_image}
-use Rattle.fm_asm.specs.Answers.{image_of, assembly_of}
+use Rattle.fm_asm.specs.Assembling.{image_of, assembly_of}
 use Rattle.fm_asm.specs.Assembly.{statements_of, labels_of, statement_word, IsAssembly}
 use Rattle.fm_asm.proofs.SourceLaws.{lines_are_read, header_due, dues}
 use Rattle.fm_asm.proofs.JudgingLaws.{words-lines, final_by, final-lines, start_by, start-lines, as_word-fits, words-statements, word_total, is_good, good_lines, is_fresh, none_repeats}

@@ -8,19 +8,8 @@ use Rattle.std.specs.Option.{option_copied}
 use Rattle.std.specs.Prelude.{MatchOption}
 use Rattle.std.proofs.lemmas.List.{drop_more, drop_all, take_all, take_more, length-drop}
 use Rattle.std.proofs.lemmas.Bool.Decides.{nat_tests}
+use Rattle.stack_text.proofs.SharedLaws.{and_left, and_right, not_true, never_true}
 use Rattle.fm_asm.specs.Cuts.{Cut, in_front, cut, parts_of, split_once, after_prefix, without_leading_spaces, unless_trailing, without_trailing}
-
-pub and_left : (a b : Bool) → a && b ≡ true → a ≡ true
-and_left true b h = refl
-and_left false b h = cc
-
-pub and_right : (a b : Bool) → a && b ≡ true → b ≡ true
-and_right true b h = h
-and_right false b h = cc
-
-pub not_true : (b : Bool) → not b ≡ true → b ≡ false
-not_true true h = cc
-not_true false h = refl
 
 pub same_byte : (n : ℕ) → (n == n) ≡ true
 same_byte n = grind (arith, nat_tests)
@@ -153,10 +142,6 @@ pub cut_nowhere : (byte : ℕ) (bytes : List ℕ) → ((j : ℕ) → j < length 
 unfolding cut chosen
 cut_nowhere byte [] none = refl
 cut_nowhere byte (b ∷ bytes) none = cut-cons byte b bytes false (none 0 (omega arith)) ∙ ap (in_front b) (cut_nowhere byte bytes (λ j h. none (suc j) (omega arith)))
-
-never_true : (t : Bool) → (t ≡ true → ⊥) → t ≡ false
-never_true true h = absurd (h refl)
-never_true false h = refl
 
 tail_all : (k : ℕ) (bytes : List ℕ) → take (length bytes - k) (drop k bytes) ≡ drop k bytes
 tail_all k bytes = take_all (length bytes - k) (drop k bytes) (omega (arith, length-drop k bytes))

@@ -12,7 +12,8 @@ use Rattle.fm_asm.specs.Cuts.{cut, without_leading_spaces, without_trailing, tri
 use Rattle.fm_image.specs.Image.{is_size}
 use Rattle.fm_asm.specs.Values.{Value, number, label}
 use Rattle.fm_asm.specs.Statements.{Statement, base, size, final, start, word, instruction}
-use Rattle.fm_asm.specs.Lines.{Said, Line, is_plain_line, text_of, statement_or_none, said_by, said_in}
+use Rattle.stack_text.specs.Lines.{is_plain_line}
+use Rattle.fm_asm.specs.Lines.{Said, Line, text_of, statement_or_none, said_by, said_in}
 use Rattle.fm_asm.specs.FormBreaches.{breach_at, said_breaches, form_breaches, due_after_read, end_breaches, lines_breaches, text_breaches, fault_in}
 use Rattle.fm_asm.specs.Sources.{if_in_range, if_encoded, size_due, final_due, due_after, due_after_line, at_place, if_of_form, said_of_line, line_read, word_count, kept, SourceOf, window_of, with_lines, lines_read, source_in}
 use Rattle.fm_asm.proofs.SourceLaws.{paired}

@@ -12,7 +12,7 @@ use Rattle.fm_asm.specs.Lines.{Line, line_of}
 use Rattle.fm_asm.specs.Sources.{SourceOf, source_of, IsOfText}
 use Rattle.fm_asm.specs.Labels.{offset_of, repeats, line_breaches, breaches, line_words, words_of, final_word, start_word, first_value, final_in, start_in}
 use Rattle.fm_asm.specs.Printing.{plain_image}
-use Rattle.fm_asm.specs.Answers.{judged}
+use Rattle.fm_asm.specs.Assembling.{judged}
 use Rattle.fm_asm.proofs.SoundLaws.{IsFit, source_fits}
 
 flat_map-map : {X Y Z : Type 0} (g : X → Y) (f : Y → List Z) (xs : List X) → flat_map f (map g xs) ≡ flat_map (λ x. f (g x)) xs

@@ -5,8 +5,8 @@ use Rattle.std.specs.List.{flat_map, list_all, list_any}
 use Rattle.std.specs.Str.{bytes_eq}
 use Rattle.std.proofs.lemmas.Bool.{and_parts, and_from}
 use Rattle.std.proofs.lemmas.Bool.Decides.{nat_tests}
-use Rattle.std.proofs.lemmas.Slice.Eq.{bytes_eq-Decides}
 use Rattle.stack_text.specs.Breaches.{when}
+use Rattle.stack_text.proofs.SharedLaws.{bytes_apart}
 use Rattle.fm_image.specs.Spelling.{are_words}
 use Rattle.fm_asm.specs.Statements.{Statement, base, size, final, start, word, instruction}
 use Rattle.fm_asm.specs.Lines.{Line}
@@ -159,13 +159,6 @@ good_lines b n known _ _ _ _ (one_line place offset bytes said rest lines is_lin
         rw (good_statement b n known place offset s parts.0 (omega arith)) (later parts.1 (omega arith))
 
 -- ---- labels that differ
-
-pub bytes_apart : (a b : List ℕ) → bytes_eq a b ≡ false → bytes_eq b a ≡ false
-bytes_apart a b ne = by_test (bytes_eq b a) refl
-  where
-    by_test : (t : Bool) → bytes_eq b a ≡ t → t ≡ false
-    by_test false e = refl
-    by_test true e = absurd (let same = (bytes_eq-Decides b a).0 e in let f = (bytes_eq-Decides a b).1 (sym same) in cc)
 
 -- no earlier line has the label
 unfoldable pub is_fresh : List Line → List ℕ → Bool

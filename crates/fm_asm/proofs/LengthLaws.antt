@@ -1,5 +1,5 @@
 -- The text of an image has at most 2^25 bytes.
-use Rattle.std.proofs.Common.{◌≡◌, ℕ, suc, ◌+◌, ◌*◌, ◌^◌, ◌-◌, ◌<◌, ◌≤◌, Bool, true, false, cond, List, [], ◌∷◌, ◌++◌, length, arith, codes, leb-true, ltb-true}
+use Rattle.std.proofs.Common.{ℕ, ◌+◌, ◌*◌, ◌^◌, ◌-◌, ◌<◌, ◌≤◌, Bool, true, false, cond, List, [], ◌∷◌, ◌++◌, length, arith, codes, leb-true, ltb-true}
 use Rattle.std.specs.Prelude.{IsTrue}
 use Rattle.std.specs.Fmt.{decimal}
 use Rattle.std.specs.Int.{w32, to_be_bytes}

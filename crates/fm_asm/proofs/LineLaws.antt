@@ -5,7 +5,8 @@ use Rattle.std.proofs.lemmas.Bool.{and_parts, and_from}
 use Rattle.stack_text.specs.Names.{is_name}
 use Rattle.fm_asm.specs.Cuts.{cut, without_leading_spaces}
 use Rattle.fm_asm.specs.Statements.{Statement, statement_in}
-use Rattle.fm_asm.specs.Lines.{Said, is_plain_line, text_of, statement_or_none, is_apart, labelled, said_by, said_in}
+use Rattle.stack_text.specs.Lines.{is_plain_line}
+use Rattle.fm_asm.specs.Lines.{Said, text_of, statement_or_none, is_apart, labelled, said_by, said_in}
 use Rattle.fm_asm.specs.Sources.{if_of_form, said_of_line}
 use Rattle.fm_asm.specs.Assembly.{says, is_gap, SpellsStatement, SpellsSaid, nothing, statement_alone, label_alone, label_and_statement, IsLine}
 use Rattle.fm_asm.proofs.CutLaws.{cut-append, cut-lacks}

@@ -1,5 +1,5 @@
 -- Loops over lines, and over words.
-use Rattle.std.proofs.Common.{◌≡◌, Bor, ℕ, zero, suc, ◌+◌, ◌<◌, ◌≤◌, List, [], ◌∷◌, ◌++◌, length, map, get_or, take, drop, Option, Some, None, Bool, true, false, cond, is_some, unwrap_or, refl, sym, ap, ◌∙◌, ◌^◌, append_assoc, arith, nat_lt, lt-ltb}
+use Rattle.std.proofs.Common.{◌≡◌, Bor, ℕ, ◌+◌, ◌<◌, ◌≤◌, List, [], ◌∷◌, ◌++◌, length, map, get_or, take, drop, Option, Some, None, Bool, true, false, cond, is_some, unwrap_or, refl, sym, ap, ◌∙◌, ◌^◌, append_assoc, nat_lt, lt-ltb}
 use Rattle.std.specs.Prelude.{IsTrue}
 use Rattle.std.specs.List.{flat_map}
 use Rattle.std.specs.Map.{lookup}
@@ -14,7 +14,9 @@ use Rattle.stack_text.proofs.Loops.{pieces_next}
 use Rattle.fm_image.specs.Spelling.{are_words}
 use Rattle.fm_asm.specs.declared.line.Line as declared
 use Rattle.fm_asm.specs.Lines.{Line, line_of}
-use Rattle.fm_asm.specs.Labels.{is_labelled, offset_of, first_or, repeated, repeats, first_value}
+use Rattle.fm_asm.specs.Labels.{is_labelled, offset_of, repeated, repeats, first_value}
+use Rattle.stack_text.specs.Options.{first_or}
+use Rattle.stack_text.proofs.SharedLaws.{same_item}
 use Rattle.fm_asm.proofs.TextLaws.{all-append}
 
 -- ---- the first value
@@ -34,11 +36,6 @@ unfolding first_value
 value_nowhere {X} f xs i all past so_far = ap (first_value f) (sym (drop_all i xs past)) ∙ so_far
 
 -- ---- an item by its place
-
-same_item : {X : Type 0} (xs : List X) (i : ℕ) (d e : X) → i < length xs → get_or xs i d ≡ get_or xs i e
-same_item [] i d e lt = absurd (omega arith)
-same_item (x ∷ xs) zero d e lt = refl
-same_item (x ∷ xs) (suc i) d e lt = same_item xs i d e (omega arith)
 
 -- ---- pieces, and words of 32 bits
 

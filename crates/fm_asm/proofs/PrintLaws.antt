@@ -18,7 +18,7 @@ use Rattle.stack_text.specs.Numerals.{is_digits}
 use Rattle.stack_text.proofs.NumeralTextLaws.{value-signed_decimal}
 use Rattle.fm_words.specs.declared.condition.Flags.{Flags}
 use Rattle.fm_words.specs.Code.{no_flags, decode_of, encode_of}
-use Rattle.fm_image.specs.Image.{ImageOf, is_size, is_inside, is_image}
+use Rattle.fm_image.specs.Image.{marked_version, ImageOf, is_size, is_inside, is_image}
 use Rattle.fm_image.proofs.LimitLaws.{limits_of}
 use Rattle.fm_show.specs.Digits.{hex_digits}
 use Rattle.fm_show.specs.Disassembly.{disassembly_text}
@@ -26,12 +26,13 @@ use Rattle.fm_image.specs.Spelling.{are_words}
 use Rattle.fm_asm.specs.Cuts.{cut, without_leading_spaces, without_trailing, unless_trailing, trimmed}
 use Rattle.fm_asm.specs.Values.{number, in_32_bits, decimal_value}
 use Rattle.fm_asm.specs.Statements.{Statement, base, size, final, start, word, instruction}
-use Rattle.fm_asm.specs.Lines.{Line, is_plain_line, text_of}
+use Rattle.stack_text.specs.Lines.{is_plain_line}
+use Rattle.fm_asm.specs.Lines.{Line, text_of}
 use Rattle.fm_asm.specs.Sources.{word_count}
 use Rattle.fm_asm.specs.Labels.{offset_of, number_of}
 use Rattle.fm_asm.specs.Printing.{are_clear, has_no_names, has_no_tables, are_zero_but_last, is_zero, ends_in_zero, is_plain, plain_image, start_of, is_exact, word_text, word_line, assembly_text}
 use Rattle.fm_asm.specs.Assembly.{says, SpellsValue, decimal as in_decimal, hexadecimal, SpellsStatement, says_base, says_size, says_final, says_start, says_word, says_instruction, SpellsSaid, nothing, statement_alone, IsLine, AreLines, no_line, one_line, statements_of, labels_of, are_distinct, statement_word, IsAssembly}
-use Rattle.fm_asm.specs.Answers.{assembly_of}
+use Rattle.fm_asm.specs.Assembling.{assembly_of}
 use Rattle.fm_asm.proofs.CutLaws.{lacks}
 use Rattle.fm_asm.proofs.ValueLaws.{if_true, lacks_from}
 use Rattle.fm_asm.proofs.TextLaws.{is_text_byte, all-append, all_weaker, IsTidy, tidy_text, tidy_plain, lines_text, split-lines}
@@ -284,7 +285,7 @@ kept_words (w ∷ v ∷ ws) h =
 plain_is : (image : ImageOf) → IsTrue (is_plain image) → length image.registers ≡ 16 → image ≡ plain_image image.base image.size image.final_pc (start_of image) (without_trailing 0 image.words)
 unfolding is_plain
 plain_is image h sixteen =
-    let versioned = image.version == 2 in
+    let versioned = image.version == marked_version in
     let a = and_parts (versioned && has_no_names image && has_no_tables image && are_clear image.flags && are_zero_but_last image.registers) (not (ends_in_zero image.words)) h in
     let b = and_parts (versioned && has_no_names image && has_no_tables image && are_clear image.flags) (are_zero_but_last image.registers) a.0 in
     let c = and_parts (versioned && has_no_names image && has_no_tables image) (are_clear image.flags) b.0 in
@@ -299,7 +300,7 @@ plain_is image h sixteen =
     let conditions = nothing_there image.conditions e.1 in
     let slots = nothing_there image.slots d.1 in
     let words = sym (kept_words image.words a.1) in
-    let version : image.version ≡ 2 = eqb-true image.version 2 g.0 in
+    let version : image.version ≡ marked_version = eqb-true image.version marked_version g.0 in
     let procedures = nothing_there image.procedures t.0 in
     let marks = nothing_there image.marks t.1 in
     λ i. record {

@@ -1,5 +1,5 @@
 -- Printed instructions and words, as statements.
-use Rattle.std.proofs.Common.{◌≡◌, ℕ, suc, ◌/◌, ◌%◌, ◌^◌, ◌<◌, ◌≤◌, ◌==◌, Bool, true, false, List, [], ◌∷◌, ◌++◌, length, Some, refl, sym, ap, subst, ◌∙◌, arith, codes, append_assoc, nat_le, nat_lt, leb-true}
+use Rattle.std.proofs.Common.{◌≡◌, ℕ, suc, ◌^◌, ◌<◌, ◌≤◌, true, List, [], ◌∷◌, ◌++◌, length, Some, refl, sym, ap, subst, ◌∙◌, arith, codes, append_assoc, nat_le, nat_lt, leb-true}
 use Rattle.std.specs.Prelude.{ℤ, pos, negsuc}
 use Rattle.std.specs.Fmt.{decimal, signed_decimal}
 use Rattle.std.specs.List.{list_all}
@@ -18,7 +18,7 @@ use Rattle.fm_words.specs.declared.instruction.Mode.{Mode}
 use Rattle.fm_words.specs.declared.instruction.Mode.TheVariants.{Register, Indirect, PreDecrement, PostIncrement}
 use Rattle.fm_words.specs.declared.instruction.OperandA.{OperandA}
 use Rattle.fm_words.specs.declared.instruction.OperandA.TheVariants.{Immediate, Place}
-use Rattle.fm_words.specs.Code.{imm_of, operand_of, decode_of, encode_of, IsOperand, IsInstr}
+use Rattle.fm_words.specs.Code.{decode_of, encode_of, IsOperand}
 use Rattle.fm_show.specs.Disassembly.{operation_name, condition_text, flags_text, place_text, operand_text, instruction_text, disassembly_text}
 use Rattle.fm_show.proofs.LosslessLaws.{limits}
 use Rattle.fm_asm.specs.Instructions.{in_9_bits}

@@ -10,6 +10,7 @@ use Rattle.stack_text.specs.Breaches.{least}
 use Rattle.stack_text.specs.Results.{◌>>=◌}
 use Rattle.stack_text.specs.declared.breach.Breach.{Breach}
 use Rattle.stack_text.proofs.BreachLaws.{none_least}
+use Rattle.stack_text.proofs.SharedLaws.{not_true, rule_fails, append_none, bytes_apart}
 use Rattle.fm_image.specs.Image.{ImageOf}
 use Rattle.fm_image.specs.Spelling.{are_words}
 use Rattle.fm_asm.specs.declared.fault.AsmFault.{AsmFault}
@@ -19,12 +20,11 @@ use Rattle.fm_asm.specs.Statements.{Statement, base, size, final, start, word, i
 use Rattle.fm_asm.specs.Lines.{Line}
 use Rattle.fm_asm.specs.Sources.{due_after, SourceOf, source_in, IsOfText}
 use Rattle.fm_asm.specs.Labels.{is_labelled, offset_of, repeated, repeats, number_of, line_breaches, breaches, as_word, statement_words, words_of, final_in, start_in, is_outside}
-use Rattle.fm_asm.specs.Answers.{Gives, image_of, judged, assembly_of}
+use Rattle.fm_asm.specs.Assembling.{GivesAssembly, image_of, judged, assembly_of}
 use Rattle.fm_asm.specs.Assembly.{statements_of, labels_of, are_distinct, statement_word, IsAssembly}
-use Rattle.fm_asm.proofs.CutLaws.{not_true}
 use Rattle.fm_asm.proofs.SourceLaws.{dues}
-use Rattle.fm_asm.proofs.JudgingLaws.{words-lines, final_by, final-lines, start_by, start-lines, as_word-fits, word_total, is_good, is_fresh, bytes_apart}
-use Rattle.fm_asm.proofs.SoundLaws.{read_is, header_of, front_none, not_when, lines_good, source_fits}
+use Rattle.fm_asm.proofs.JudgingLaws.{words-lines, final_by, final-lines, start_by, start-lines, as_word-fits, word_total, is_good, is_fresh}
+use Rattle.fm_asm.proofs.SoundLaws.{read_is, header_of, lines_good, source_fits}
 use Rattle.fm_asm.proofs.AssemblyLaws.{spelled_is_assembled}
 use Rattle.fm_asm.proofs.FitLaws.{small, number_fits, value_fits, statement_fits, lines_fit, valued_fits}
 use Rattle.fm_asm.proofs.SpelledLineLaws.{lines_spelled}
@@ -73,7 +73,7 @@ repeats_none : (earlier lines : List Line) → repeats earlier lines ≡ [] → 
 unfolding repeats are_distinct is_fresh
 repeats_none earlier [] h = record { fresh = refl; distinct = refl }
 repeats_none earlier (line ∷ lines) h =
-    let parts = front_none (repeated (offset_of earlier) line.place line.said.label) (repeats (earlier ++ line ∷ []) lines) h in
+    let parts = append_none (repeated (offset_of earlier) line.place line.said.label) (repeats (earlier ++ line ∷ []) lines) h in
     let later = repeats_none (earlier ++ line ∷ []) lines parts.1 in
     let pulled = all_pull earlier line (labels_of lines) later.fresh in
     let both = by_label line.said.label parts.0 pulled.1 (record { fresh = pulled.0; distinct = later.distinct }) in
@@ -83,7 +83,7 @@ repeats_none earlier (line ∷ lines) h =
         → (list_all (is_fresh earlier) (option_to_list l ++ labels_of lines) ≡ true) × (are_distinct (option_to_list l ++ labels_of lines) ≡ true)
     by_label None r o later = (later.fresh, later.distinct)
     by_label (Some own) r o later =
-        let new : is_some (offset_of earlier own) ≡ false = not_when (is_some (offset_of earlier own)) line.place 4 r in (
+        let new : is_some (offset_of earlier own) ≡ false = rule_fails (is_some (offset_of earlier own)) line.place 4 r in (
           and_from (is_fresh earlier own) (list_all (is_fresh earlier) (labels_of lines)) (ap not new) later.fresh,
           and_from (not (list_any (bytes_eq own) (labels_of lines))) (are_distinct (labels_of lines)) (ap not (none_same own (labels_of lines) o)) later.distinct,
         )
@@ -151,7 +151,7 @@ good_source text s is none =
     let lines = lines_spelled text s is in
     let known = offset_of s.lines in
     let h = header_of s.base s.size (statements_of s.lines) r.in_order in
-    let parts = front_none (repeats [] s.lines) (flat_map (line_breaches s.base s.size (offset_of s.lines)) s.lines) none in
+    let parts = append_none (repeats [] s.lines) (flat_map (line_breaches s.base s.size (offset_of s.lines)) s.lines) none in
     let g = lines_good s.base s.size (offset_of s.lines) 0 s.lines r.offsets parts.1 (omega arith) in
     let total = g.few in
     let few : word_total (statements_of s.lines) ≤ s.size = omega (arith, total) in
@@ -207,7 +207,7 @@ assembled_is_spelled text image h = by_source (source_in text) refl h
     by_source (Err fault) is k = absurd cc
     by_source (Ok s) is k = by_least s is (least (breaches s)) refl k
 
-pub spelled_if : (text : List ℕ) (r : Result ImageOf AsmFault) → Gives (λ image. image) r (assembly_of text) → IfOk r (λ image. IsAssembly text image)
+pub spelled_if : (text : List ℕ) (r : Result ImageOf AsmFault) → GivesAssembly (λ image. image) r (assembly_of text) → IfOk r (λ image. IsAssembly text image)
 spelled_if text (Ok image) h = assembled_is_spelled text image h
 spelled_if text (Err e) h = tt
 

@@ -6,7 +6,7 @@ use Rattle.std.specs.List.{flat_map, list_all, slice_split}
 use Rattle.std.proofs.lemmas.Bool.{and_parts, and_from}
 use Rattle.stack_text.specs.Results.{◌>>=◌}
 use Rattle.stack_text.specs.declared.breach.Breach.{Breach}
-use Rattle.stack_text.specs.Breaches.{when}
+use Rattle.stack_text.proofs.SharedLaws.{rule_fails, append_none}
 use Rattle.fm_image.specs.Image.{is_size, is_inside}
 use Rattle.fm_asm.specs.declared.due.Due.{Due}
 use Rattle.fm_asm.specs.declared.due.Due.TheVariants as due
@@ -187,14 +187,6 @@ header_of b n (instruction z ∷ ss) h = absurd cc
 
 -- ---- where nothing breaks a rule
 
-pub front_none : {X : Type 0} (xs ys : List X) → xs ++ ys ≡ [] → (xs ≡ []) × (ys ≡ [])
-front_none [] ys h = (refl, h)
-front_none (x ∷ xs) ys h = absurd cc
-
-pub not_when : (t : Bool) (place rule : ℕ) → when t place rule ≡ [] → t ≡ false
-not_when true place rule h = absurd cc
-not_when false place rule h = refl
-
 is_there : (o : Option ℕ) → is_none o ≡ false → is_some o ≡ true
 is_there None h = absurd cc
 is_there (Some x) h = refl
@@ -205,17 +197,17 @@ unfolding statement_breaches is_good
 good_of b n known place offset (base x) h le = (refl, omega arith)
 good_of b n known place offset (size x) h le = (refl, omega arith)
 good_of b n known place offset (final v) h le =
-    let parts = front_none (undefined place (number_of b known v)) (ends_outside place b n (number_of b known v)) h in
-    let there = is_there (number_of b known v) (not_when (is_none (number_of b known v)) place 5 parts.0) in
-    let within = not_when (is_outside b n (number_of b known v)) place 7 parts.1 in
+    let parts = append_none (undefined place (number_of b known v)) (ends_outside place b n (number_of b known v)) h in
+    let there = is_there (number_of b known v) (rule_fails (is_none (number_of b known v)) place 5 parts.0) in
+    let within = rule_fails (is_outside b n (number_of b known v)) place 7 parts.1 in
     (and_from (is_some (number_of b known v)) (not (is_outside b n (number_of b known v))) there (ap not within), omega arith)
-good_of b n known place offset (start v) h le = (is_there (number_of b known v) (not_when (is_none (number_of b known v)) place 5 h), omega arith)
+good_of b n known place offset (start v) h le = (is_there (number_of b known v) (rule_fails (is_none (number_of b known v)) place 5 h), omega arith)
 good_of b n known place offset (word v) h le =
-    let parts = front_none (undefined place (number_of b known v)) (beyond_size place n offset) h in
-    let below = leb-false n offset (not_when (nat_le n offset) place 6 parts.1) in
-    (is_there (number_of b known v) (not_when (is_none (number_of b known v)) place 5 parts.0), omega (arith, below))
+    let parts = append_none (undefined place (number_of b known v)) (beyond_size place n offset) h in
+    let below = leb-false n offset (rule_fails (nat_le n offset) place 6 parts.1) in
+    (is_there (number_of b known v) (rule_fails (is_none (number_of b known v)) place 5 parts.0), omega (arith, below))
 good_of b n known place offset (instruction w) h le =
-    let below = leb-false n offset (not_when (nat_le n offset) place 6 h) in
+    let below = leb-false n offset (rule_fails (nat_le n offset) place 6 h) in
     (refl, omega (arith, below))
 
 pub record AreGood (b n : ℕ) (known : List ℕ → Option ℕ) (offset : ℕ) (ss : List Statement) : Type 0 where
@@ -226,7 +218,7 @@ pub lines_good : (b n : ℕ) (known : List ℕ → Option ℕ) (offset : ℕ) (l
 unfolding HasOffsets word_total statement_breaches
 lines_good b n known offset [] h k le = record { good = refl; few = omega arith }
 lines_good b n known offset (line ∷ lines) h k le =
-    by_statement line.said.statement h.1 (front_none (statement_breaches b n known line.place line.offset line.said.statement) (flat_map (line_breaches b n known) lines) k)
+    by_statement line.said.statement h.1 (append_none (statement_breaches b n known line.place line.offset line.said.statement) (flat_map (line_breaches b n known) lines) k)
     (λ o hs ks les. lines_good b n known o lines hs ks les)
   where
     by_statement : (s : Option Statement) → HasOffsets (offset + word_count s) lines → (statement_breaches b n known line.place line.offset s ≡ []) × (flat_map (line_breaches b n known) lines ≡ [])
@@ -278,7 +270,7 @@ unfolding breaches final_by is_good
 source_fits s read none =
     let r = read_is s read in
     let h = header_of s.base s.size (statements_of s.lines) r.in_order in
-    let parts = front_none (repeats [] s.lines) (flat_map (line_breaches s.base s.size (offset_of s.lines)) s.lines) none in
+    let parts = append_none (repeats [] s.lines) (flat_map (line_breaches s.base s.size (offset_of s.lines)) s.lines) none in
     let g = lines_good s.base s.size (offset_of s.lines) 0 s.lines r.offsets parts.1 (omega arith) in
     let good : list_all (is_good s.base s.size (offset_of s.lines)) (base (Some s.base) ∷ size (Some s.size) ∷ final h.end_value ∷ start h.start_value ∷ h.words) ≡ true =
     ap (list_all (is_good s.base s.size (offset_of s.lines))) (sym h.is) ∙ g.good in

@@ -6,13 +6,14 @@ use Rattle.std.specs.List.{list_all}
 use Rattle.std.specs.Str.{bytes_eq}
 use Rattle.std.proofs.lemmas.Bool.{and_parts}
 use Rattle.std.proofs.lemmas.Fmt.{decimal_digit, decimal_step}
-use Rattle.std.proofs.lemmas.Slice.Eq.{bytes_eq-Decides}
 use Rattle.std.specs.Int.{w32, from_be_bytes}
 use Rattle.hex.specs.Hex.{decode_sized}
 use Rattle.hex.specs.declared.error.FromHexError.{FromHexError}
 use Rattle.stack_text.specs.Names.{is_name}
 use Rattle.stack_text.specs.Numerals.{is_digits, is_numeral, numeral_value}
 use Rattle.stack_text.specs.Options.{◌>>=◌}
+use Rattle.stack_text.proofs.SharedLaws.{bytes_same}
+use Rattle.stack_text.proofs.KeepsLaws.{found_tests}
 use Rattle.fm_words.specs.declared.operation.Op.{Op}
 use Rattle.fm_words.specs.declared.condition.Cc.{Cc}
 use Rattle.fm_words.specs.declared.condition.Cc.TheVariants as cc
@@ -98,14 +99,6 @@ decimal_spelled word n h = by_digits (is_digits word) refl h
 
 -- ---- what a search found passes
 
-pub found_passes : {A : Type 0} (p : A → Bool) (xs : List A) (x : A) → find p xs ≡ Some x → p x ≡ true
-found_passes p [] x h = absurd cc
-found_passes {A} p (y ∷ xs) x h = by_test (p y) refl h (found_passes p xs x)
-  where
-    by_test : (t : Bool) → p y ≡ t → cond t (Some y) (find p xs) ≡ Some x → (find p xs ≡ Some x → p x ≡ true) → p x ≡ true
-    by_test true e k later = subst (λ (z : A). p z ≡ true) (by_some y x k) e
-    by_test false e k later = later k
-
 -- ---- registers
 
 pub register_spelled : (digits : List ℕ) (r : ℕ) → register_in digits ≡ Some r → (r < 16) × (digits ≡ decimal r)
@@ -147,16 +140,13 @@ record IsPlace (text : List ℕ) (p : PlaceOf) : Type 0 where
   small : p.1 < 16
   is : text ≡ place_text p.0 p.1
 
-pub equal : (a b : List ℕ) → bytes_eq a b ≡ true → a ≡ b
-equal a b h = (bytes_eq-Decides a b).0 h
-
 closed_found : (byte : ℕ) (text front : List ℕ) → closed byte text ≡ Some front → text ≡ front ++ byte ∷ []
 closed_found byte text front h = by_parts (split_once byte text) refl h
   where
     by_end : (p : List ℕ × List ℕ) → split_once byte text ≡ Some p → (t : Bool) → bytes_eq p.1 [] ≡ t → cond t (Some p.0) None ≡ Some front → text ≡ front ++ byte ∷ []
     by_end p is false e k = absurd cc
     by_end p is true e k =
-        split_once_found byte text p.0 p.1 is ∙ ap (λ (r : List ℕ). p.0 ++ byte ∷ r) (equal p.1 [] e) ∙ ap (λ (f : List ℕ). f ++ byte ∷ []) (by_some p.0 front k)
+        split_once_found byte text p.0 p.1 is ∙ ap (λ (r : List ℕ). p.0 ++ byte ∷ r) (bytes_same p.1 [] e) ∙ ap (λ (f : List ℕ). f ++ byte ∷ []) (by_some p.0 front k)
 
     by_parts : (o : Option (List ℕ × List ℕ)) → split_once byte text ≡ o → (o >>= λ parts. cond (bytes_eq parts.1 []) (Some parts.0) None) ≡ Some front → text ≡ front ++ byte ∷ []
     by_parts None is k = absurd cc
@@ -182,10 +172,10 @@ closing_spelled : (text digits : List ℕ) (m : Mode) (r : ℕ) → closing_mode
 unfolding closing_mode
 closing_spelled text digits m r h is =
     chosen_of (bytes_eq text []) Indirect m (cond (bytes_eq text (codes "+")) (Some PostIncrement) None) h
-    (λ e k. with_digits ∙ ended [] (equal text [] e) ∙ ap (λ (n : Mode). place_text n r) k)
+    (λ e k. with_digits ∙ ended [] (bytes_same text [] e) ∙ ap (λ (n : Mode). place_text n r) k)
     (λ later.
     let t = tested (bytes_eq text (codes "+")) (Some PostIncrement) m later in
-    with_digits ∙ ended (codes "+") (equal text (codes "+") t.0) ∙ ap (λ (n : Mode). place_text n r) (by_some PostIncrement m t.1))
+    with_digits ∙ ended (codes "+") (bytes_same text (codes "+") t.0) ∙ ap (λ (n : Mode). place_text n r) (by_some PostIncrement m t.1))
   where
     with_digits : codes "(r" ++ digits ++ 41 ∷ text ≡ codes "(r" ++ decimal r ++ 41 ∷ text
     with_digits = ap (λ (ds : List ℕ). codes "(r" ++ ds ++ 41 ∷ text) is
@@ -259,14 +249,14 @@ found_is_of {A} p q (y ∷ xs) x all h =
 
 operation_spelled : (name : List ℕ) (op : Op) → operation_in name ≡ Some op → name ≡ operation_name op
 unfolding operation_in
-operation_spelled name op h = sym (equal (operation_name op) name (found_passes (λ op. bytes_eq (operation_name op) name) ops op h))
+operation_spelled name op h = sym (bytes_same (operation_name op) name (found_tests (λ op. bytes_eq (operation_name op) name) ops op h))
 
 condition_spelled : (name : List ℕ) (k : Cc) → condition_named name ≡ Some k → 91 ∷ name ++ 93 ∷ [] ≡ condition_text k
 unfolding condition_named
 condition_spelled name k h =
-    let named = equal (condition_name k) name (found_passes (λ k. bytes_eq (condition_name k) name) written_conditions k h) in
+    let named = bytes_same (condition_name k) name (found_tests (λ k. bytes_eq (condition_name k) name) written_conditions k h) in
     let shown = found_is_of (λ k. bytes_eq (condition_name k) name) (λ k. bytes_eq (condition_text k) (91 ∷ condition_name k ++ 93 ∷ [])) written_conditions k refl h in
-    ap (λ (n : List ℕ). 91 ∷ n ++ 93 ∷ []) (sym named) ∙ sym (equal (condition_text k) (91 ∷ condition_name k ++ 93 ∷ []) shown)
+    ap (λ (n : List ℕ). 91 ∷ n ++ 93 ∷ []) (sym named) ∙ sym (bytes_same (condition_text k) (91 ∷ condition_name k ++ 93 ∷ []) shown)
 
 bracket_spelled : (front : List ℕ) (rest : Option (List ℕ)) (k : Cc) → condition_in rest ≡ Some k → whole 91 front rest ≡ front ++ condition_text k
 unfolding condition_in whole
@@ -315,7 +305,7 @@ letters_spelled text f h =
     ∙ ap (λ (s : List ℕ). 123 ∷ shown_if c.0 (codes "c") ++ s) (letter_spelled (codes "v") c.1)
     ∙ ap (λ (s : List ℕ). 123 ∷ shown_if c.0 (codes "c") ++ (shown_if v.0 (codes "v") ++ s)) (letter_spelled (codes "n") v.1)
     ∙ ap (λ (s : List ℕ). 123 ∷ shown_if c.0 (codes "c") ++ (shown_if v.0 (codes "v") ++ (shown_if n.0 (codes "n") ++ s))) (letter_spelled (codes "z") n.1)
-    ∙ ap (λ (s : List ℕ). 123 ∷ shown_if c.0 (codes "c") ++ (shown_if v.0 (codes "v") ++ (shown_if n.0 (codes "n") ++ (shown_if z.0 (codes "z") ++ s)))) (equal z.1 (codes "}") parts.0)
+    ∙ ap (λ (s : List ℕ). 123 ∷ shown_if c.0 (codes "c") ++ (shown_if v.0 (codes "v") ++ (shown_if n.0 (codes "n") ++ (shown_if z.0 (codes "z") ++ s)))) (bytes_same z.1 (codes "}") parts.0)
     ∙ braced_text c.0 v.0 n.0 z.0 parts.1
     ∙ ap (λ (g : Flags). flags_text g) (by_some (flags_from c.0 v.0 n.0 z.0) f t.1)
   where

@@ -8,6 +8,7 @@ use Rattle.std.proofs.lemmas.Bool.Decides.{nat_tests}
 use Rattle.stack_text.specs.Names.{is_name}
 use Rattle.stack_text.specs.Results.{◌>>=◌}
 use Rattle.stack_text.specs.declared.breach.Breach.{Breach}
+use Rattle.stack_text.proofs.SharedLaws.{bytes_same}
 use Rattle.fm_asm.specs.declared.due.Due.{Due}
 use Rattle.fm_asm.specs.declared.due.Due.TheVariants as due
 use Rattle.fm_asm.specs.declared.statement.Directive.{Directive}
@@ -16,11 +17,12 @@ use Rattle.fm_asm.specs.Cuts.{cut, split_once, without_leading_spaces, unless_tr
 use Rattle.fm_asm.specs.Values.{decimal_in, value_in}
 use Rattle.fm_asm.specs.Instructions.{instruction_in}
 use Rattle.fm_asm.specs.Statements.{Statement, base, size, final, start, word, instruction, directive_named, directed, by_directive, statement_in}
-use Rattle.fm_asm.specs.Lines.{Said, is_plain_line, text_of, statement_or_none, is_apart, labelled, said_by, said_in}
+use Rattle.stack_text.specs.Lines.{is_plain_line}
+use Rattle.fm_asm.specs.Lines.{Said, text_of, statement_or_none, is_apart, labelled, said_by, said_in}
 use Rattle.fm_asm.specs.Sources.{due_after_line, at_place, if_of_form, said_of_line, line_read, word_count, kept, SourceOf, ended, with_lines, lines_read, source_in}
 use Rattle.fm_asm.specs.Assembly.{says, is_gap, SpellsStatement, says_base, says_size, says_final, says_start, says_word, says_instruction, SpellsSaid, nothing, statement_alone, label_alone, label_and_statement, IsLine, AreLines, no_line, one_line}
 use Rattle.fm_asm.proofs.CutLaws.{split_once_found, cut_some, last-other}
-use Rattle.fm_asm.proofs.SpelledLaws.{by_some, value_spelled, decimal_spelled, equal, mapped, tested, chosen_of, bound, instruction_spelled}
+use Rattle.fm_asm.proofs.SpelledLaws.{by_some, value_spelled, decimal_spelled, mapped, tested, chosen_of, bound, instruction_spelled}
 use Rattle.fm_asm.proofs.SourceLaws.{paired}
 
 -- ---- statements
@@ -35,11 +37,11 @@ directive_bytes directive.Word = codes ".word"
 directive_spelled : (name : List ℕ) (d : Directive) → directive_named name ≡ Some d → name ≡ directive_bytes d
 unfolding directive_named directive_bytes
 directive_spelled name d h =
-    chosen_of (bytes_eq name (codes ".base")) directive.Base d _ h (λ e is. equal name (codes ".base") e ∙ ap directive_bytes is)
-    (λ h1. chosen_of (bytes_eq name (codes ".size")) directive.Size d _ h1 (λ e is. equal name (codes ".size") e ∙ ap directive_bytes is)
-    (λ h2. chosen_of (bytes_eq name (codes ".final")) directive.Final d _ h2 (λ e is. equal name (codes ".final") e ∙ ap directive_bytes is)
-    (λ h3. chosen_of (bytes_eq name (codes ".start")) directive.Start d _ h3 (λ e is. equal name (codes ".start") e ∙ ap directive_bytes is)
-    (λ h4. let t = tested (bytes_eq name (codes ".word")) (Some directive.Word) d h4 in equal name (codes ".word") t.0 ∙ ap directive_bytes (by_some directive.Word d t.1)))))
+    chosen_of (bytes_eq name (codes ".base")) directive.Base d _ h (λ e is. bytes_same name (codes ".base") e ∙ ap directive_bytes is)
+    (λ h1. chosen_of (bytes_eq name (codes ".size")) directive.Size d _ h1 (λ e is. bytes_same name (codes ".size") e ∙ ap directive_bytes is)
+    (λ h2. chosen_of (bytes_eq name (codes ".final")) directive.Final d _ h2 (λ e is. bytes_same name (codes ".final") e ∙ ap directive_bytes is)
+    (λ h3. chosen_of (bytes_eq name (codes ".start")) directive.Start d _ h3 (λ e is. bytes_same name (codes ".start") e ∙ ap directive_bytes is)
+    (λ h4. let t = tested (bytes_eq name (codes ".word")) (Some directive.Word) d h4 in bytes_same name (codes ".word") t.0 ∙ ap directive_bytes (by_some directive.Word d t.1)))))
 
 directed_spelled : (d : Directive) (rest : List ℕ) (s : Statement) → directed d rest ≡ Some s → SpellsStatement (directive_bytes d ++ 32 ∷ rest) s
 unfolding directed directive_bytes

@@ -4,9 +4,11 @@ use Rattle.std.specs.List.{list_all, slice_split, onto_first}
 use Rattle.std.specs.Char.{is_ascii_digit}
 use Rattle.std.proofs.lemmas.Bool.{and_parts, and_from}
 use Rattle.std.proofs.lemmas.Bool.Decides.{nat_tests}
+use Rattle.stack_text.proofs.SharedLaws.{not_true}
 use Rattle.fm_asm.specs.Cuts.{cut, without_leading_spaces, unless_trailing, without_trailing, trimmed}
-use Rattle.fm_asm.specs.Lines.{is_plain_byte, is_plain_line, text_of}
-use Rattle.fm_asm.proofs.CutLaws.{lacks, cut-lacks, not_true}
+use Rattle.stack_text.specs.Lines.{is_plain_byte, is_plain_line}
+use Rattle.fm_asm.specs.Lines.{text_of}
+use Rattle.fm_asm.proofs.CutLaws.{lacks, cut-lacks}
 use Rattle.fm_asm.proofs.ValueLaws.{if_false, lacks_from}
 
 -- a plain byte that begins no comment

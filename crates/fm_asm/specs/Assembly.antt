@@ -22,7 +22,8 @@ use Rattle.fm_asm.specs.Cuts.{without_trailing}
 use Rattle.fm_asm.specs.Values.{Value, number, label, decimal_value}
 use Rattle.fm_asm.specs.Instructions.{in_9_bits}
 use Rattle.fm_asm.specs.Statements.{Statement, base, size, final, start, word, instruction}
-use Rattle.fm_asm.specs.Lines.{Said, Line, is_plain_line, text_of}
+use Rattle.stack_text.specs.Lines.{is_plain_line}
+use Rattle.fm_asm.specs.Lines.{Said, Line, text_of}
 use Rattle.fm_asm.specs.Sources.{kept, word_count}
 use Rattle.fm_asm.specs.Labels.{offset_of, number_of}
 use Rattle.fm_asm.specs.Printing.{plain_image}

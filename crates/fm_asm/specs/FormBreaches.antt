@@ -5,7 +5,8 @@ use Rattle.stack_text.specs.Breaches.{when}
 use Rattle.stack_text.specs.declared.breach.Breach.{Breach}
 use Rattle.fm_asm.specs.declared.due.Due.{Due}
 use Rattle.fm_asm.specs.declared.due.Due.TheVariants as due
-use Rattle.fm_asm.specs.Lines.{Said, is_plain_line, text_of, said_in}
+use Rattle.stack_text.specs.Lines.{is_plain_line}
+use Rattle.fm_asm.specs.Lines.{Said, text_of, said_in}
 use Rattle.fm_asm.specs.Sources.{due_after_line, line_read, SourceOf, window_of}
 
 abbrev pub breach_at : ℕ → Result Due ℕ → List Breach

@@ -1,5 +1,5 @@
 -- Labels, words, and what breaks a rule where each line is of a form.
-use Rattle.std.specs.Prelude.{◌≡◌, ℕ, ◌+◌, ◌%◌, ◌^◌, List, [], ◌∷◌, ◌++◌, Option, Some, None, Bool, true, false}
+use Rattle.std.specs.Prelude.{◌≡◌, ℕ, ◌+◌, ◌%◌, ◌^◌, List, [], ◌∷◌, ◌++◌, Option, Some, None, Bool, false}
 use Rattle.std.specs.Prelude.{is_some, is_none, not, nat_le, if◌then◌else◌, option_map, unwrap_or}
 use Rattle.std.specs.Borrow.{Bor}
 use Rattle.std.specs.List.{flat_map}
@@ -29,12 +29,6 @@ offset_of (line ∷ lines) name = if is_labelled name line.said.label then Some 
 -- what a table of labels has for a name
 abbrev pub look_up : {S : Type 0} → IndexMap (Bor (List ℕ)) ℕ S → List ℕ → Option ℕ
 look_up table name = lookup (λ key. bytes_eq name key.now) table.entries
-
--- what is known, and else the value where the test holds
-abbrev pub first_or : {V : Type 0} → Option V → Bool → V → Option V
-first_or (Some known) test value = Some known
-first_or None true value = Some value
-first_or None false value = None
 
 -- the table has the first line of each label
 abbrev pub Knows : {S : Type 0} → IndexMap (Bor (List ℕ)) ℕ S → List Line → Type 0

@@ -1,7 +1,6 @@
 -- Lines.
-use Rattle.std.specs.Prelude.{ℕ, List, [], ◌∷◌, length, Option, Some, None, Bool, true}
-use Rattle.std.specs.Prelude.{◌&&◌, ◌||◌, is_some, nat_le, ◌==◌, if◌then◌else◌, option_map}
-use Rattle.std.specs.List.{list_all}
+use Rattle.std.specs.Prelude.{ℕ, List, [], ◌∷◌, Option, Some, None, Bool, true}
+use Rattle.std.specs.Prelude.{◌&&◌, ◌||◌, is_some, ◌==◌, if◌then◌else◌, option_map}
 use Rattle.stack_text.specs.Names.{is_name}
 use Rattle.fm_asm.specs.declared.line.Said as declared_said
 use Rattle.fm_asm.specs.declared.line.Line as declared
@@ -29,14 +28,6 @@ said_of s = record { label = option_map (λ name. name.now) s.label; statement =
 
 abbrev pub line_of : declared.Line → Line
 line_of l = record { place = l.place; offset = l.offset; said = said_of l.said }
-
--- a space, a tilde or a byte between
-abbrev pub is_plain_byte : ℕ → Bool
-is_plain_byte byte = nat_le 32 byte && nat_le byte 126
-
--- at most 256 bytes, all of them plain
-unfoldable pub is_plain_line : List ℕ → Bool
-is_plain_line bytes = nat_le (length bytes) 256 && list_all is_plain_byte bytes
 
 -- the text of a line: what stands before the first `;` (59), without the spaces at both ends
 unfoldable pub text_of : List ℕ → List ℕ

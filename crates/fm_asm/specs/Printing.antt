@@ -4,8 +4,9 @@ use Rattle.std.specs.Prelude.{Bool, false, not, is_none, ◌&&◌, ◌||◌, ◌
 use Rattle.std.specs.Fmt.{decimal}
 use Rattle.std.specs.List.{flat_map, list_all}
 use Rattle.fm_words.specs.declared.condition.Flags.{Flags}
-use Rattle.fm_words.specs.Code.{no_flags, decode_of, encode_of}
-use Rattle.fm_image.specs.Image.{ImageOf}
+use Rattle.fm_words.specs.Code.{decode_of, encode_of}
+use Rattle.fm_image.specs.Image.{marked_version, ImageOf}
+use Rattle.fm_image.specs.Bare.{bare_image}
 use Rattle.fm_show.specs.Digits.{hex_digits}
 use Rattle.fm_show.specs.Disassembly.{disassembly_text}
 
@@ -38,25 +39,12 @@ ends_in_zero words = is_zero (slice_get words (length words - 1))
 -- assembly text tells all of the image, which is one of version 2
 unfoldable pub is_plain : ImageOf → Bool
 is_plain image =
-    image.version == 2 && has_no_names image && has_no_tables image
+    image.version == marked_version && has_no_names image && has_no_tables image
     && are_clear image.flags && are_zero_but_last image.registers && not (ends_in_zero image.words)
 
 -- the plain image with this window, these addresses at which a run ends and starts, and these words
 abbrev pub plain_image : ℕ → ℕ → ℕ → ℕ → List ℕ → ImageOf
-plain_image base size final_pc start words = record {
-  version = 2;
-  base = base;
-  size = size;
-  final_pc = final_pc;
-  registers = replicate 15 0 ++ start ∷ [];
-  flags = no_flags;
-  condition_address = None;
-  conditions = [];
-  slots = [];
-  words = words;
-  procedures = [];
-  marks = [];
-}
+plain_image base size final_pc start words = bare_image base size final_pc (replicate 15 0 ++ start ∷ []) words
 
 -- the address at which a run starts
 abbrev pub start_of : ImageOf → ℕ

@@ -10,7 +10,8 @@ use Rattle.fm_asm.specs.declared.due.Due.TheVariants as due
 use Rattle.fm_asm.specs.declared.source.Source as declared
 use Rattle.fm_asm.specs.Values.{Value, number, label}
 use Rattle.fm_asm.specs.Statements.{Statement, base, size, final, start, word, instruction}
-use Rattle.fm_asm.specs.Lines.{Said, Line, says_something, line_of, is_plain_line, text_of, said_in}
+use Rattle.stack_text.specs.Lines.{is_plain_line}
+use Rattle.fm_asm.specs.Lines.{Said, Line, says_something, line_of, text_of, said_in}
 
 -- what is due next, if the value is in its range; else rule 3 is broken
 abbrev pub if_in_range : Value → Due → Result Due ℕ

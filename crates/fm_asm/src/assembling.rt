@@ -11,17 +11,15 @@ ghost use Rattle.fm_asm.specs.Sources.{source_of, IsOfText};
 ghost use Rattle.fm_asm.specs.Labels.{look_up, breaches, as_word, statement_words, line_words, final_word, start_word, first_value};
 ghost use Rattle.fm_asm.specs.Printing.{is_plain, plain_image};
 ghost use Rattle.fm_asm.specs.Assembly.{IsAssembly};
-ghost use Rattle.fm_asm.specs.Answers.{Gives, judged, assembly_of};
+ghost use Rattle.fm_asm.specs.Assembling.{GivesAssembly, judged, assembly_of};
 
 use crate::fault::AsmFault;
 use crate::judging::{judge, number_of};
 use crate::labels::labels_of;
 use crate::line::Line;
-use crate::printing::VERSION;
 use crate::source::{Source, source_in};
 use crate::statement::Statement;
-use fm_image::Image;
-use fm_words::Flags;
+use fm_image::{Image, bare_image};
 use indexmap::IndexMap;
 use stack_text::Memory;
 use std::alloc::Global;
@@ -159,27 +157,15 @@ fn image(
     ensures { IfOk result (λ image. image ≡ plain_image base size final_pc start words.items) }
 {
     let registers = Vec::from_slice(alloc, &[0, 0, 0, 0, 0, 0, 0, 0, 0, 0, 0, 0, 0, 0, 0, start])?;
-    Ok(Image {
-        version: VERSION,
-        base,
-        size,
-        final_pc,
-        registers,
-        flags: Flags::NONE,
-        condition_address: None,
-        conditions: Vec::new(alloc),
-        slots: Vec::new(alloc),
-        words,
-        procedures: Vec::new(alloc),
-        marks: Vec::new(alloc),
-    })
+    Ok(bare_image(alloc, base, size, final_pc, registers, words))
 }
 
 /// The image of a source, or its least breach of rules 4 to 7.
 #[tactic(auto, unfolding(crate::specs::Labels::breaches))]
 fn judged(alloc: Global, source: &Source<'_, '_>) -> Result<Image, AsmFault>
     requires { IsOfText (source_of source.now) }
-    ensures { Gives (λ image. image) result (judged (source_of source.now) (least (breaches (source_of source.now)))) }
+    ensures { GivesAssembly (λ image. image) result
+        (judged (source_of source.now) (least (breaches (source_of source.now)))) }
 {
     let Source { base, size, lines } = source;
     let (base, size, lines) = (*base, *size, lines.as_slice());
@@ -200,10 +186,10 @@ fn judged(alloc: Global, source: &Source<'_, '_>) -> Result<Image, AsmFault>
 }
 
 /// The image of a text, or its least fault.
-#[tactic(auto, unfolding(crate::specs::Answers::assembly_of))]
+#[tactic(auto, unfolding(crate::specs::Assembling::assembly_of))]
 fn assembled(alloc: Global, text: &[u8]) -> Result<Image, AsmFault>
     requires { length text.now < 2 ^ 32 }
-    ensures { Gives (λ image. image) result (assembly_of text.now) }
+    ensures { GivesAssembly (λ image. image) result (assembly_of text.now) }
 {
     let source = source_in(alloc, text)?;
     judged(alloc, &source)
@@ -218,13 +204,13 @@ fn assembled(alloc: Global, text: &[u8]) -> Result<Image, AsmFault>
 /// breaks A1 to A3. Or out of memory.
 pub fn assemble(alloc: Global, text: &[u8]) -> Result<Image, AsmFault>
     requires { length text.now < 2 ^ 32 }
-    ensures exact { Gives (λ image. image) result (assembly_of text.now) }
+    ensures exact { GivesAssembly (λ image. image) result (assembly_of text.now) }
     // What is assembled is plain, so that it can be printed.
     ensures plain { IfOk result (λ image. IsTrue (is_plain image)) }
     // What is assembled is spelled by the text.
     ensures found { IfOk result (λ image. IsAssembly text.now image) }
     // Where the text spells an image, that image is assembled, or memory runs out.
-    ensures only { (image : ImageOf) → IsAssembly text.now image → Gives (λ read. read) result (Ok image) }
+    ensures only { (image : ImageOf) → IsAssembly text.now image → GivesAssembly (λ read. read) result (Ok image) }
 {
     assembled(alloc, text)
 }

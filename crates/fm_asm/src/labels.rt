@@ -4,7 +4,8 @@ ghost use Rattle.std.specs.Prelude.{◌≡◌, ℕ, List, [], map, option_map, i
 ghost use Rattle.std.specs.Str.{bytes_eq};
 ghost use Rattle.stack_text.specs.Breaches.{when, Notes};
 ghost use Rattle.fm_asm.specs.Lines.{line_of};
-ghost use Rattle.fm_asm.specs.Labels.{look_up, first_or, is_labelled, repeated, repeats, Knows};
+ghost use Rattle.fm_asm.specs.Labels.{look_up, is_labelled, repeated, repeats, Knows};
+ghost use Rattle.stack_text.specs.Options.{first_or};
 
 use crate::line::Line;
 use indexmap::IndexMap;

@@ -9,7 +9,7 @@ ghost use Rattle.fm_asm.specs.Sources.{source_in};
 ghost use Rattle.fm_asm.specs.FormBreaches.{text_breaches, fault_in};
 ghost use Rattle.fm_asm.specs.Printing.{is_plain, start_of, assembly_text};
 ghost use Rattle.fm_asm.specs.Assembly.{IsAssembly};
-ghost use Rattle.fm_asm.specs.Answers.{assembly_of};
+ghost use Rattle.fm_asm.specs.Assembling.{assembly_of};
 
 /// The grammar and the assembler agree. This function does nothing: its clauses hold of all texts and all images.
 pub fn assembled_as_spelled()

@@ -1,16 +1,12 @@
 //! Lines.
 
 ghost use Rattle.std.specs.Prelude.{◌≡◌, option_map};
-ghost use Rattle.std.specs.List.{list_all};
 ghost use Rattle.fm_asm.specs.Statements.{statement_of};
-ghost use Rattle.fm_asm.specs.Lines.{said_of, is_plain_byte, is_plain_line, text_of, statement_or_none, is_apart, labelled, said_by, said_in};
+ghost use Rattle.fm_asm.specs.Lines.{said_of, text_of, statement_or_none, is_apart, labelled, said_by, said_in};
 
 use crate::cuts::{cut, trimmed, without_leading_spaces};
 use crate::statement::{Statement, statement_in};
 use stack_text::is_name;
-
-/// The most bytes of a line.
-const MOST_BYTES: usize = 256;
 
 /// What a line says: a label and a statement, each of which may be missing.
 #[derive(Clone, Copy, Debug)]
@@ -27,21 +23,6 @@ pub(crate) struct Line<'l, 's> {
     /// How many words stand before it.
     pub offset: u32,
     pub said: Said<'l, 's>,
-}
-
-/// Whether each byte is one from a space to a tilde.
-fn are_plain(line: &[u8]) -> bool
-    ensures { result ≡ list_all is_plain_byte line.now }
-{
-    line.iter().all(|byte| matches!(*byte, b' '..=b'~'))
-}
-
-/// Whether a line is short, and has no byte that is out of place.
-#[tactic(auto, unfolding(crate::specs::Lines::is_plain_line))]
-pub(crate) fn is_plain_line(line: &[u8]) -> bool
-    ensures { result ≡ is_plain_line line.now }
-{
-    line.len() <= MOST_BYTES && are_plain(line)
 }
 
 /// The text of a line: what stands before the first `;`, without the spaces at both ends.

@@ -7,14 +7,11 @@ ghost use Rattle.fm_image.specs.Spelling.{are_words};
 ghost use Rattle.fm_asm.specs.Printing.{are_clear, has_no_names, has_no_tables, are_zero_but_last, ends_in_zero, is_plain, start_of, header_text, is_exact, word_line, assembly_text};
 ghost use Rattle.fm_asm.specs.Assembly.{IsAssembly};
 
-use fm_image::Image;
+use fm_image::{Image, MARKED_VERSION};
 use fm_show::{disassemble, hex_digits};
 use fm_words::{Flags, decode, encode};
 use stack_text::Memory;
 use std::alloc::Global;
-
-/// The version of images that are assembled and printed.
-pub(crate) const VERSION: u32 = 2;
 
 /// Whether no flag is set.
 fn are_clear(flags: Flags) -> bool
@@ -61,7 +58,7 @@ fn ends_in_zero(words: &[u32]) -> bool
 pub fn plain(image: &Image) -> bool
     ensures { result ≡ is_plain image.now }
 {
-    image.version == VERSION
+    image.version == MARKED_VERSION
         && has_no_names(image)
         && has_no_tables(image)
         && are_clear(image.flags)

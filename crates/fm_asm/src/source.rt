@@ -5,14 +5,14 @@ ghost use Rattle.stack_text.specs.Gives as common;
 ghost use Rattle.fm_asm.specs.Statements.{statement_of};
 ghost use Rattle.fm_asm.specs.Lines.{said_of, line_of, says_something};
 ghost use Rattle.fm_asm.specs.Sources.{said_of_line, line_read, word_count, kept, source_of, source_in};
-ghost use Rattle.fm_asm.specs.Answers.{Gives};
+ghost use Rattle.fm_asm.specs.Assembling.{GivesAssembly};
 
 use crate::cuts::cut;
 use crate::due::{Due, due_after_line, window_of};
 use crate::fault::AsmFault;
-use crate::line::{Line, Said, is_plain_line, said_in, text_of};
+use crate::line::{Line, Said, said_in, text_of};
 use crate::statement::Statement;
-use stack_text::Memory;
+use stack_text::{Memory, is_plain_line};
 use std::alloc::Global;
 
 /// A text whose lines are all of a form.
@@ -96,7 +96,7 @@ fn push_line<'l, 's>(
 /// The first fault of a line's form, or a statement of the header that is missing at the end; or out of memory.
 pub(crate) fn source_in(alloc: Global, text: &[u8]) -> Result<Source<'_, '_>, AsmFault>
     requires { length text.now < 2 ^ 32 }
-    ensures { Gives source_of result (source_in text.now) }
+    ensures { GivesAssembly source_of result (source_in text.now) }
 {
     let mut lines = Vec::new(alloc);
     let mut due = Due::Base;

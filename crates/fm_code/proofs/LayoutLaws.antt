@@ -4,7 +4,7 @@ use Rattle.std.specs.Prelude.{slice_set}
 use Rattle.std.proofs.lemmas.List.{length-set}
 use Rattle.fm_machine.specs.State.{with_word}
 use Rattle.fm_code.specs.Execution.{Holds, Parts, AreParts, IsLaidOut, code_words}
-use Rattle.fm_code.specs.Words.{halt_word}
+use Rattle.fm_code.specs.InstructionWords.{halt_word}
 use Rattle.fm_machine.proofs.WindowLaws.{word_at-same, length-with_word, some_word}
 use Rattle.fm_code.proofs.HoldsLaws.{Holds-store_below, Holds-store_above, Holds-store}
 

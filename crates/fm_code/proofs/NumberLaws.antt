@@ -121,11 +121,11 @@ and_bools false true = refl
 and_bools false false = refl
 
 -- sums and differences of integers that are in range
-add_zero : (z : ℤ) → z +ℤ pos 0 ≡ z
+pub add_zero : (z : ℤ) → z +ℤ pos 0 ≡ z
 add_zero (pos n) = grind (arith, ints)
 add_zero (negsuc n) = grind (arith, ints)
 
-sub_zero : (z : ℤ) → z -ℤ pos 0 ≡ z
+pub sub_zero : (z : ℤ) → z -ℤ pos 0 ≡ z
 sub_zero (pos n) = grind (arith, ints)
 sub_zero (negsuc n) = grind (arith, ints)
 

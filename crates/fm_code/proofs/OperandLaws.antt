@@ -22,7 +22,7 @@ use Rattle.fm_machine.specs.Step.{fm_step, found_word, effect_of, effect_of_valu
 use Rattle.fm_machine.specs.declared.fault.Outside.{Outside}
 use Rattle.fm_machine.specs.Run.{fm_run, Avoids}
 use Rattle.fm_machine.proofs.RunLaws.{run_more, avoids_more}
-use Rattle.fm_code.specs.Words.{instruction, when, setting, reg, at, pop, immediate, literal, literal_at}
+use Rattle.fm_code.specs.InstructionWords.{instruction, when, setting, reg, at, pop, immediate, literal, literal_at}
 use Rattle.fm_code.specs.Execution.{Parts, AreParts, IsLaidOut, code_words, final_pc, CodeWord}
 use Rattle.fm_code.proofs.ListLaws.{get_front}
 use Rattle.fm_machine.proofs.WindowLaws.{some_word}

@@ -3,10 +3,10 @@ use Rattle.std.proofs.Common.{◌≡◌, ℕ, ◌+◌, ◌*◌, List, [], ◌∷
 use Rattle.std.specs.Prelude.{replicate, reverse}
 use Rattle.std.proofs.lemmas.List.{length-replicate, length-reverse}
 use Rattle.fm_machine.specs.State.{Fm}
-use Rattle.fm_code.specs.Words.{reg, push, pop as pop_of, mov}
+use Rattle.fm_code.specs.InstructionWords.{reg, push, pop as pop_of, mov}
 use Rattle.fm_code.specs.Templates.{prelude_code, temporaries_code, carry_code, mult2_carry_code}
 use Rattle.fm_code.specs.Execution.{Parts, CodeAt}
-use Rattle.fm_code.specs.Rows.{MoveRows, JumpRows, WordRows, TestRows, HasRoom, framed}
+use Rattle.fm_code.specs.CodeRows.{MoveRows, JumpRows, WordRows, TestRows, HasRoom, framed}
 use Rattle.fm_code.proofs.RunLaws.{RunsToView, executes, with_count, with_temp}
 use Rattle.fm_code.proofs.MoveLaws as moves
 use Rattle.fm_code.proofs.JumpLaws as jumps

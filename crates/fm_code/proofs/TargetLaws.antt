@@ -11,7 +11,7 @@ use Rattle.fm_words.specs.Alu.{alu_of, does_hold}
 use Rattle.fm_machine.specs.State.{Fm, word_at, with_word}
 use Rattle.fm_machine.specs.Step.{flags_set}
 use Rattle.fm_words.specs.Code.{no_flags}
-use Rattle.fm_code.specs.Words.{reg, at, push, immediate, literal, always, mov, setting, when}
+use Rattle.fm_code.specs.InstructionWords.{reg, at, push, immediate, literal, always, mov, setting, when}
 use Rattle.fm_code.specs.Execution.{Parts, CodeWord}
 use Rattle.fm_code.proofs.LayoutLaws.{laid_push, laid_push_ctrl, laid_temp, laid_ctrl, laid_areas, laid_drop, laid_drop_ctrl}
 use Rattle.fm_code.proofs.RegisterLaws.{with_register, next, past}

@@ -2,7 +2,7 @@
 use Rattle.std.specs.Prelude.{◌≡◌, ℕ, ◌+◌, ◌-◌, ◌≤◌, ◌<◌, ◌^◌, List, [], ◌∷◌, ◌++◌, length, Some, Ok, slice_get, slice_index}
 use Rattle.fm_machine.specs.State.{Fm, word_at}
 use Rattle.fm_machine.specs.Run.{fm_run, Avoids}
-use Rattle.fm_code.specs.Words.{halt_word}
+use Rattle.fm_code.specs.InstructionWords.{halt_word}
 
 -- a window with this base and memory holds these words from an address on
 abbrev pub Holds : ℕ → List ℕ → ℕ → List ℕ → Type 0

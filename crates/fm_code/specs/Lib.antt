@@ -1,6 +1,6 @@
-pub mod Words
+pub mod InstructionWords
 pub mod Templates
 pub mod Execution
 pub mod Areas
 pub mod Flags
-pub mod Rows
+pub mod CodeRows

@@ -2,7 +2,7 @@
 
 ghost use Rattle.std.specs.Prelude.{ℕ, List};
 ghost use Rattle.fm_code.specs.Execution.{Parts};
-ghost use Rattle.fm_code.specs.Rows.{MoveRows, JumpRows, WordRows, TestRows};
+ghost use Rattle.fm_code.specs.CodeRows.{MoveRows, JumpRows, WordRows, TestRows};
 
 /// What the words of pushes, pops, fetches and deposits do.
 pub fn move_rows()

@@ -1,19 +1,17 @@
 -- The laws of each field.
 use Rattle.std.proofs.Common.{◌≡◌, ℕ, suc, ◌+◌, ◌^◌, ◌<◌, ◌≤◌, Bool, true, false, ◌&&◌, ◌||◌, ltb, leb, eqb, List, [], ◌∷◌, ◌++◌, length, Ok, refl, sym, ap, subst, ◌∙◌, append_assoc, arith}
-use Rattle.std.specs.Str.{bytes_eq}
-use Rattle.std.specs.Prelude.{codes}
 use Rattle.std.proofs.lemmas.Bool.{lt-ltb, ltb-true, leb-true, le-leb, and_parts, and_from, eqb-true, eq-eqb, and_right}
-use Rattle.std.proofs.lemmas.Slice.Eq.{bytes_eq-Decides}
 use Rattle.stack_text.specs.Names.{is_name}
 use Rattle.fm_image.specs.declared.fault.Rule.{Rule}
 use Rattle.fm_image.specs.declared.fault.Rule.TheVariants as rules
 use Rattle.fm_image.specs.declared.window.Window.{Window}
-use Rattle.fm_image.specs.Image.{is_version, is_size, is_inside, is_window, is_new, is_condition}
+use Rattle.fm_image.specs.Image.{magic_bytes, is_version, is_size, is_inside, is_window, is_new, is_condition}
 use Rattle.fm_image.specs.Spelling.{number_bytes, name_bytes, window_bytes, opening_bytes}
 use Rattle.stack_text.specs.Results.{◌>>=◌}
 use Rattle.fm_image.specs.Fields.{number_at, passing, bytes_at, is_name_length, text_at}
 use Rattle.fm_image.specs.Reading.{opening_at, is_magic, window_at, name_at, new_name_at}
 use Rattle.stack_text.proofs.ResultLaws.{bind_ok, bind_at}
+use Rattle.stack_text.proofs.SharedLaws.{bytes_same}
 use Rattle.fm_image.proofs.ReaderLaws.{IsBytes, ok_is, Took, Took-then, Reads, bytes_reads, is_word, number_reads, passing_reads, refit_reads}
 
 abbrev pub limited_reads : (test : ℕ → Bool) (rule : Rule) (end : ℕ) → Reads (passing test rule end (number_at end)) number_bytes (λ n. is_word n && test n)
@@ -83,9 +81,6 @@ new_name_reads end earlier = passing_reads (is_new earlier) rules.Repeated end (
 
 -- ---- the opening
 
-bytes_eq-same : (xs ys : List ℕ) → bytes_eq xs ys ≡ true → xs ≡ ys
-bytes_eq-same xs ys h = (bytes_eq-Decides xs ys).0 h
-
 small_version : (version : ℕ) → is_version version ≡ true → is_word version ≡ true
 small_version version h =
     let le : version ≤ 2 = by_test (eqb version 1) refl h in
@@ -100,14 +95,14 @@ opening_takes end bytes version rest ok e =
     let b = bind_ok (passing is_magic rules.Magic end (bytes_at end 4) bytes) (λ magic. passing is_version rules.Version end (number_at end) magic.1) (version, rest) e in
     let t = (passing_reads is_magic rules.Magic end (bytes_at end 4) (λ text. text) (λ text. eqb (length text) 4) (bytes_reads end 4)).takes bytes b.0.0 b.0.1 ok b.1 in
     let s = (limited_reads is_version rules.Version end).takes b.0.1 version rest t.0.rest_fits b.2 in
-    let magic : b.0.0 ≡ codes "FM91" = bytes_eq-same b.0.0 (codes "FM91") (and_parts (eqb (length b.0.0) 4) (is_magic b.0.0) t.1).1 in
+    let magic : b.0.0 ≡ magic_bytes = bytes_same b.0.0 (magic_bytes) (and_parts (eqb (length b.0.0) 4) (is_magic b.0.0) t.1).1 in
     let whole = Took-then bytes b.0.0 b.0.1 (number_bytes version) rest t.0 s.0 in
     (subst (λ (m : List ℕ). Took bytes (m ++ number_bytes version) rest) magic whole, (and_parts (is_word version) (is_version version) s.1).1)
 
 opening_again : (end version : ℕ) (rest : List ℕ) → is_version version ≡ true → opening_at end (opening_bytes version ++ rest) ≡ Ok (version, rest)
 opening_again end version rest h =
-    bind_at (passing is_magic rules.Magic end (bytes_at end 4) (codes "FM91" ++ (number_bytes version ++ rest))) (λ magic. passing is_version rules.Version end (number_at end) magic.1) (codes "FM91", number_bytes version ++ rest)
-    ((passing_reads is_magic rules.Magic end (bytes_at end 4) (λ text. text) (λ text. eqb (length text) 4) (bytes_reads end 4)).again (codes "FM91") (number_bytes version ++ rest) refl)
+    bind_at (passing is_magic rules.Magic end (bytes_at end 4) (magic_bytes ++ (number_bytes version ++ rest))) (λ magic. passing is_version rules.Version end (number_at end) magic.1) (magic_bytes, number_bytes version ++ rest)
+    ((passing_reads is_magic rules.Magic end (bytes_at end 4) (λ text. text) (λ text. eqb (length text) 4) (bytes_reads end 4)).again (magic_bytes) (number_bytes version ++ rest) refl)
     ∙ (limited_reads is_version rules.Version end).again version rest (and_from _ _ (small_version version h) h)
 
 pub opening_reads : (end : ℕ) → Reads (opening_at end) opening_bytes is_version

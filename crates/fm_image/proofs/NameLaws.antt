@@ -1,5 +1,5 @@
 -- Items whose names all differ, and items each of which has a new name.
-use Rattle.std.proofs.Common.{◌≡◌, Bor, cond, List, ℕ, [], ◌∷◌, ◌++◌, map, Bool, true, false, not, ◌&&◌, ◌||◌, leb, length, refl, sym, ap, subst, ◌∙◌, append_assoc}
+use Rattle.std.proofs.Common.{◌≡◌, Bor, cond, List, ℕ, [], ◌∷◌, ◌++◌, map, Bool, true, false, not, ◌&&◌, leb, length, refl, sym, ap, subst, ◌∙◌, append_assoc}
 use Rattle.std.specs.List.{list_any, list_all, AllByRecursion, IsDistinct}
 use Rattle.std.specs.Str.{bytes_eq}
 use Rattle.std.proofs.lemmas.Bool.{and_parts, and_from, not-true}
@@ -7,6 +7,7 @@ use Rattle.std.proofs.lemmas.Cmp.{nat_list_eq_equiv}
 use Rattle.std.proofs.lemmas.List.{append-nil, map_push}
 use Rattle.std.proofs.lemmas.Map.Keys.{IsDistinct-head, IsDistinct-tail, IsDistinct-push}
 use Rattle.stack_text.specs.Names.{is_name}
+use Rattle.stack_text.proofs.SharedLaws.{any_now}
 use Rattle.fm_image.specs.declared.procedure.VarInfo.{VarInfo}
 use Rattle.fm_image.specs.declared.slot.Slot.{Slot}
 use Rattle.fm_image.specs.declared.window.Window.{Window}
@@ -124,10 +125,6 @@ slots_differ window slots h = names_differ (λ slot. slot.name) (is_slot window)
         (and_parts (is_name slot.name) (is_new (map (λ other. other.name) earlier) slot.name) q.0).1
 
 -- ---- a table of names
-
-any_now : (name : List ℕ) (keys : List (Bor (List ℕ))) → list_any (λ key. bytes_eq name key.now) keys ≡ list_any (bytes_eq name) (map (λ key. key.now) keys)
-any_now name [] = refl
-any_now name (key ∷ keys) = ap (λ (b : Bool). bytes_eq name key.now || b) (any_now name keys)
 
 -- a table lacks a name that is none of its own
 pub lacks : (name : List ℕ) (keys : List (Bor (List ℕ))) → not (list_any (λ key. bytes_eq name key.now) keys) ≡ is_new (map (λ key. key.now) keys) name

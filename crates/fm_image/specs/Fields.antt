@@ -2,6 +2,7 @@
 use Rattle.std.specs.Prelude.{ℕ, zero, suc, ◌-◌, List, [], ◌∷◌, ◌++◌, length, take, drop}
 use Rattle.std.specs.Prelude.{Ok, Err, Bool, nat_lt, nat_le, ◌&&◌, if◌then◌else◌}
 use Rattle.std.specs.Int.{w32, from_be_bytes}
+use Rattle.stack_text.specs.SharedLimits.{most_name_bytes}
 use Rattle.stack_text.specs.Results.{◌>>=◌}
 use Rattle.fm_image.specs.declared.fault.Rule.{Rule}
 use Rattle.fm_image.specs.declared.fault.Rule.TheVariants as rules
@@ -26,7 +27,7 @@ bytes_at end count left =
     if nat_lt (length left) count then Err (rule_number rules.Truncated, end) else Ok (take count left, drop count left)
 
 abbrev pub is_name_length : ℕ → Bool
-is_name_length n = nat_le 1 n && nat_le n 64
+is_name_length n = nat_le 1 n && nat_le n most_name_bytes
 
 -- a length and so many bytes
 abbrev pub text_at : ℕ → Parser (List ℕ)

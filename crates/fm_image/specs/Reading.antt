@@ -1,7 +1,9 @@
 -- Reading an image field by field, from left to right, with the first fault.
 use Rattle.std.specs.Prelude.{◌≡◌, ℕ, zero, suc, ◌-◌, ◌^◌, List, [], length, map, Result, Ok, Err}
-use Rattle.std.specs.Prelude.{Option, Some, None, Bool, nat_lt, nat_le, ◌==◌, if◌then◌else◌, codes}
+use Rattle.std.specs.Prelude.{Option, Some, None, Bool, nat_lt, nat_le, ◌==◌, if◌then◌else◌}
 use Rattle.std.specs.Str.{bytes_eq}
+use Rattle.fm_words.specs.WindowLimit.{most_window}
+use Rattle.stack_text.specs.SharedLimits.{most_array, most_declared, most_procedures}
 use Rattle.stack_text.specs.declared.shape.Kind.{Kind}
 use Rattle.stack_text.specs.declared.shape.Kind.TheVariants.{Integer, Boolean, Character}
 use Rattle.stack_text.specs.declared.shape.Shape.{Shape}
@@ -17,13 +19,15 @@ use Rattle.fm_image.specs.declared.procedure.VarInfo.{VarInfo}
 use Rattle.fm_image.specs.declared.slot.Slot.{Slot}
 use Rattle.fm_image.specs.declared.window.Window.{Window}
 use Rattle.fm_image.specs.Procedure.{ProcedureOf}
-use Rattle.fm_image.specs.Image.{ImageOf, Tables, no_tables, is_version, is_size, is_inside, is_condition_address, is_count, is_new}
+use Rattle.fm_image.specs.Image.{magic_bytes, unmarked_version, ImageOf, Tables, no_tables, is_version, is_size, is_inside}
+use Rattle.fm_image.specs.Image.{most_marked_conditions}
+use Rattle.fm_image.specs.Image.{is_condition_address, is_count, is_new}
 use Rattle.fm_image.specs.Image.{is_slot_address, most_conditions, is_offset, last_mark, is_after, is_place}
 use Rattle.fm_image.specs.Rules.{rule_number, Fault, Parser}
 use Rattle.fm_image.specs.Fields.{place, number_at, passing, bytes_at, text_at, items_at}
 
 abbrev pub is_magic : List ℕ → Bool
-is_magic bytes = bytes_eq bytes (codes "FM91")
+is_magic bytes = bytes_eq bytes magic_bytes
 
 -- the magic and the version
 abbrev pub opening_at : ℕ → Parser ℕ
@@ -94,7 +98,7 @@ kind_at end left = do
   Ok (kind_of number.0, number.1)
 
 abbrev pub is_length : ℕ → Bool
-is_length number = nat_le number 4096
+is_length number = nat_le number most_array
 
 abbrev pub shape_at : ℕ → Parser Shape
 shape_at end left = do
@@ -112,7 +116,7 @@ slot_at end window earlier left = do
 
 unfoldable pub slots_at : ℕ → Window → Parser (List Slot)
 slots_at end window left = do
-  count ← count_at 200 end left
+  count ← count_at most_declared end left
   items_at (λ earlier. slot_at end window (map (λ slot. slot.name) earlier)) count.0 [] count.1
 
 -- at most as many words as the window has
@@ -131,20 +135,20 @@ variable_at end earlier left = do
 
 unfoldable pub variables_at : ℕ → Parser (List VarInfo)
 variables_at end left = do
-  count ← count_at 200 end left
+  count ← count_at most_declared end left
   items_at (λ earlier. variable_at end (map (λ variable. variable.name) earlier)) count.0 [] count.1
 
 -- a name after earlier ones, conditions and variables
 unfoldable pub procedure_at : ℕ → List (List ℕ) → Parser ProcedureOf
 procedure_at end earlier left = do
   name ← new_name_at end earlier left
-  conditions ← conditions_at 201 end name.1
+  conditions ← conditions_at most_marked_conditions end name.1
   variables ← variables_at end conditions.1
   Ok (record { name = name.0; conditions = conditions.0; variables = variables.0 }, variables.1)
 
 unfoldable pub procedures_at : ℕ → Parser (List ProcedureOf)
 procedures_at end left = do
-  count ← count_at 1000 end left
+  count ← count_at most_procedures end left
   items_at (λ earlier. procedure_at end (map (λ procedure. procedure.name) earlier)) count.0 [] count.1
 
 -- an address of the window, greater than that of the mark before
@@ -163,7 +167,7 @@ mark_at end window procedures before left = do
 
 unfoldable pub marks_at : ℕ → Window → ℕ → Parser (List Mark)
 marks_at end window procedures left = do
-  count ← count_at (2 ^ 20) end left
+  count ← count_at most_window end left
   items_at (λ earlier. mark_at end window procedures (last_mark earlier)) count.0 [] count.1
 
 unfoldable pub both_tables_at : ℕ → Window → Parser Tables
@@ -174,7 +178,7 @@ both_tables_at end window left = do
 
 -- the fields that only version 2 has
 unfoldable pub tables_at : ℕ → ℕ → Window → Parser Tables
-tables_at version end window left = if version == 1 then Ok (no_tables, left) else both_tables_at end window left
+tables_at version end window left = if version == unmarked_version then Ok (no_tables, left) else both_tables_at end window left
 
 -- the fields of version 1, then those that only version 2 has, and no byte after them
 unfoldable pub image_at : ℕ → List ℕ → Result ImageOf Fault

@@ -42,5 +42,5 @@ abbrev pub Fails : {Y : Type 0} → ImageFault → Result Y Fault → Type 0
 Fails e read = common.Fails (fault_of e) read
 
 -- the same for a call that may run out of memory, which is free
-abbrev pub Gives : {X Y : Type 0} → (X → Y) → Result X ImageFault → Result Y Fault → Type 0
-Gives view result read = common.Gives fault_of view result read
+abbrev pub GivesImage : {X Y : Type 0} → (X → Y) → Result X ImageFault → Result Y Fault → Type 0
+GivesImage view result read = common.Gives fault_of view result read

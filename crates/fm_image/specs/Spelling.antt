@@ -1,8 +1,9 @@
 -- The one spelling of an image: its fields, one after the other.
 use Rattle.std.specs.Prelude.{◌≡◌, ℕ, ◌-◌, ◌^◌, List, [], ◌++◌, length, Option, Some, None}
-use Rattle.std.specs.Prelude.{Bool, IsTrue, nat_lt, ◌==◌, ◌&&◌, if◌then◌else◌, codes}
+use Rattle.std.specs.Prelude.{Bool, IsTrue, nat_lt, ◌==◌, ◌&&◌, if◌then◌else◌}
 use Rattle.std.specs.Int.{w32, to_be_bytes}
 use Rattle.std.specs.List.{flat_map, list_all}
+use Rattle.stack_text.specs.SharedLimits.{most_declared}
 use Rattle.stack_text.specs.declared.shape.Kind.{Kind}
 use Rattle.stack_text.specs.declared.shape.Kind.TheVariants.{Integer, Boolean, Character}
 use Rattle.stack_text.specs.declared.shape.Shape.{Shape}
@@ -13,7 +14,8 @@ use Rattle.fm_image.specs.declared.procedure.VarInfo.{VarInfo}
 use Rattle.fm_image.specs.declared.slot.Slot.{Slot}
 use Rattle.fm_image.specs.declared.window.Window.{Window}
 use Rattle.fm_image.specs.Procedure.{ProcedureOf}
-use Rattle.fm_image.specs.Image.{ImageOf, Tables, tables_of, is_count, window_of, is_image}
+use Rattle.fm_image.specs.Image.{magic_bytes, unmarked_version, ImageOf, Tables, tables_of, is_count, window_of, is_image}
+use Rattle.fm_image.specs.Image.{most_marked_conditions}
 
 -- a number in four bytes, highest first
 abbrev pub number_bytes : ℕ → List ℕ
@@ -31,7 +33,7 @@ abbrev pub counted_bytes : {A : Type 0} → (A → List ℕ) → List A → List
 counted_bytes item items = number_bytes (length items) ++ flat_map item items
 
 abbrev pub opening_bytes : ℕ → List ℕ
-opening_bytes version = codes "FM91" ++ number_bytes version
+opening_bytes version = magic_bytes ++ number_bytes version
 
 abbrev pub window_bytes : Window → List ℕ
 window_bytes window = number_bytes window.base ++ number_bytes window.size ++ number_bytes window.final_pc
@@ -72,7 +74,7 @@ procedure_bytes procedure =
 
 -- the lists of a procedure are no longer than they may be
 abbrev pub is_small : ProcedureOf → Bool
-is_small procedure = is_count 201 (length procedure.conditions) && is_count 200 (length procedure.variables)
+is_small procedure = is_count most_marked_conditions (length procedure.conditions) && is_count most_declared (length procedure.variables)
 
 abbrev pub mark_bytes : Mark → List ℕ
 mark_bytes mark = number_bytes mark.address ++ number_bytes mark.procedure ++ number_bytes mark.place
@@ -80,7 +82,8 @@ mark_bytes mark = number_bytes mark.address ++ number_bytes mark.procedure ++ nu
 -- the fields that only version 2 has
 abbrev pub tables_bytes : ℕ → Tables → List ℕ
 tables_bytes version tables =
-    if version == 1 then [] else counted_bytes procedure_bytes tables.procedures ++ counted_bytes mark_bytes tables.marks
+    if version == unmarked_version then []
+    else counted_bytes procedure_bytes tables.procedures ++ counted_bytes mark_bytes tables.marks
 
 -- the fields of version 1, and then those that only version 2 has
 unfoldable pub spelling : ImageOf → List ℕ

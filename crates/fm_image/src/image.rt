@@ -1,13 +1,15 @@
 //! Images.
 
-ghost use Rattle.std.specs.Prelude.{◌≡◌};
-ghost use Rattle.fm_image.specs.Image.{in_version_2};
+ghost use Rattle.std.specs.Prelude.{◌≡◌, ◌≤◌, IsTrue, length};
+ghost use Rattle.fm_image.specs.Image.{is_size, is_inside, in_version_2};
+ghost use Rattle.fm_image.specs.Bare.{bare_image};
 
-use crate::limit::MARKED;
+use crate::limit::MARKED_VERSION;
 use crate::procedure::{Mark, ProcInfo};
 use crate::slot::Slot;
 use fm_words::Flags;
 use stack_text::Name;
+use std::alloc::Global;
 use std::marker::Model;
 
 /// What the FM9001 is loaded with. The limits that `docs/image-file.md` gives for its fields hold of every image.
@@ -53,36 +55,47 @@ impl Model for Image {
     ghost invariant = { λ i. IsTrue (is_image (record { version = i.version; base = i.base; size = i.size; final_pc = i.final_pc; registers = i.registers.items; flags = i.flags; condition_address = i.condition_address; conditions = i.conditions.items; slots = i.slots.items; words = i.words.items; procedures = i.procedures.items; marks = i.marks.items })) };
 }
 
+/// The image of this window, these registers and these words, with nothing else: no flag is set, and there is no condition
+/// word, no name of a condition, no slot, no procedure and no mark. It takes no memory.
+///
+/// The window has 1 to 2^20 words, all of them at addresses below 2^32 - 1, and `final_pc` is one of its addresses. There
+/// are sixteen registers, and no more words than the window has.
+pub fn bare_image(
+    alloc: Global,
+    base: u32,
+    size: u32,
+    final_pc: u32,
+    registers: Vec<u32>,
+    words: Vec<u32>,
+) -> Image
+    requires sized { IsTrue (is_size base size) }
+    requires inside { IsTrue (is_inside base size final_pc) }
+    requires sixteen { length registers.items ≡ 16 }
+    requires few { length words.items ≤ size }
+    ensures { result ≡ bare_image base size final_pc registers.items words.items }
+{
+    Image {
+        version: MARKED_VERSION,
+        base,
+        size,
+        final_pc,
+        registers,
+        flags: Flags::NONE,
+        condition_address: None,
+        conditions: Vec::new(alloc),
+        slots: Vec::new(alloc),
+        words,
+        procedures: Vec::new(alloc),
+        marks: Vec::new(alloc),
+    }
+}
+
 /// The same image in version 2: without procedures and marks, where it was one of version 1.
 pub fn in_version_2(image: Image) -> Image
     ensures { result ≡ in_version_2 image }
 {
-    let Image {
-        version: _,
-        base,
-        size,
-        final_pc,
-        registers,
-        flags,
-        condition_address,
-        conditions,
-        slots,
-        words,
-        procedures,
-        marks,
-    } = image;
     Image {
-        version: MARKED,
-        base,
-        size,
-        final_pc,
-        registers,
-        flags,
-        condition_address,
-        conditions,
-        slots,
-        words,
-        procedures,
-        marks,
+        version: MARKED_VERSION,
+        ..image
     }
 }

@@ -15,9 +15,9 @@ mod window;
 mod writing;
 
 pub use fault::ImageFault;
-pub use image::{Image, in_version_2};
+pub use image::{Image, bare_image, in_version_2};
 pub use law::one_spelling;
-pub use limit::is_size;
+pub use limit::{MAGIC, MARKED_VERSION, UNMARKED_VERSION, is_size};
 pub use procedure::{Mark, ProcInfo, VarInfo};
 pub use reading::read_image;
 pub use slot::Slot;

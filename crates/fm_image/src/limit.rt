@@ -1,4 +1,4 @@
-//! The versions and the limits of the fields.
+//! The magic, the versions and the limits of the fields.
 
 ghost use Rattle.std.specs.Prelude.{◌≡◌, ◌≤◌};
 ghost use Rattle.fm_image.specs.Image.{is_version, is_size, is_inside, is_condition_address, is_slot_address, most_conditions, is_after};
@@ -6,37 +6,26 @@ ghost use Rattle.fm_image.specs.Fields.{is_name_length};
 
 use crate::procedure::Mark;
 use crate::window::Window;
-use stack_text::Shape;
+use fm_words::MOST_WINDOW;
+use stack_text::{MOST_DECLARED, MOST_NAME_BYTES, Shape};
 
-/// The version without procedures and marks.
-pub(crate) const PLAIN: u32 = 1;
+/// The bytes that an image file begins with.
+pub const MAGIC: &[u8] = b"FM91";
 
-/// The version with procedures and marks.
-pub(crate) const MARKED: u32 = 2;
+/// The version without procedures and marks: 1.
+pub const UNMARKED_VERSION: u32 = 1;
 
-/// The most words that a window has.
-const MAX_WINDOW_SIZE: u32 = 1 << 20;
-
-/// The most slots, and the most variables of a procedure.
-pub(crate) const MAX_VARIABLES: u32 = 200;
+/// The version with procedures and marks, in which images are made: 2.
+pub const MARKED_VERSION: u32 = 2;
 
 /// The most names of conditions of a procedure.
-pub(crate) const MAX_CONDITIONS: u32 = 201;
-
-/// The most procedures.
-pub(crate) const MAX_PROCEDURES: u32 = 1000;
-
-/// The most marks.
-pub(crate) const MAX_MARKS: u32 = 1 << 20;
-
-/// The longest name in bytes.
-const MAX_NAME_LENGTH: u32 = 64;
+pub(crate) const MOST_MARKED_CONDITIONS: u32 = 201;
 
 /// Whether a window at the base may have so many words: 1 to 2^20, with base and size together at most 2^32 - 1.
 pub fn is_size(base: u32, size: u32) -> bool
     ensures { result ≡ is_size base size }
 {
-    1 <= size && size <= MAX_WINDOW_SIZE && u64::from(base) + u64::from(size) <= u64::from(u32::MAX)
+    1 <= size && size <= MOST_WINDOW && u64::from(base) + u64::from(size) <= u64::from(u32::MAX)
 }
 
 /// Whether the address is in a window of so many words at the base.
@@ -61,10 +50,10 @@ pub(crate) fn most_conditions(version: u32) -> u32
     ensures exact { result ≡ most_conditions version }
     ensures few { result ≤ 201 }
 {
-    if version == PLAIN {
-        200
+    if version == UNMARKED_VERSION {
+        MOST_DECLARED as u32
     } else {
-        MAX_CONDITIONS
+        MOST_MARKED_CONDITIONS
     }
 }
 
@@ -72,7 +61,7 @@ pub(crate) fn most_conditions(version: u32) -> u32
 pub(crate) fn is_version(version: u32) -> bool
     ensures { result ≡ is_version version }
 {
-    version == PLAIN || version == MARKED
+    version == UNMARKED_VERSION || version == MARKED_VERSION
 }
 
 /// Whether the address is greater than that of the mark before.
@@ -89,7 +78,7 @@ pub(crate) fn is_after(before: Option<Mark>, address: u32) -> bool
 pub(crate) fn is_name_length(length: u32) -> bool
     ensures { result ≡ is_name_length length }
 {
-    1 <= length && length <= MAX_NAME_LENGTH
+    1 <= length && length <= MOST_NAME_BYTES
 }
 
 /// Whether the items, from the address downwards, are all in the window.

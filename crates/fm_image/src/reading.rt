@@ -3,7 +3,7 @@
 ghost use Rattle.std.specs.Prelude.{◌≡◌, ◌∷◌, ◌++◌, [], map, IsTrue, IfOk, OnOk, Ok};
 ghost use Rattle.fm_image.specs.Image.{ImageOf, is_new, last_mark};
 ghost use Rattle.fm_image.specs.Spelling.{Spelled};
-ghost use Rattle.fm_image.specs.Rules.{GivesExactly, Gives};
+ghost use Rattle.fm_image.specs.Rules.{GivesExactly, GivesImage};
 ghost use Rattle.fm_image.specs.Fields.{place, number_at, bytes_at, text_at};
 ghost use Rattle.fm_image.specs.Reading.{opening_at, window_at, numbers_at, flags_at, condition_address_at, name_at, new_name_at, count_at, conditions_at, kind_at, shape_at, slot_at, slots_at, words_at, variable_at, variables_at, procedure_at, procedures_at, mark_address_at, mark_at, marks_at, both_tables_at, tables_at, image_at, read_of, ReportsFault};
 
@@ -11,26 +11,21 @@ use crate::code::{address_from, kind_from};
 use crate::fault::{ImageFault, Refusal, Rule};
 use crate::image::Image;
 use crate::limit::{
-    MAX_CONDITIONS, MAX_MARKS, MAX_PROCEDURES, MAX_VARIABLES, PLAIN, is_after,
-    is_condition_address, is_inside, is_name_length, is_size, is_slot_address, is_version,
-    most_conditions,
+    MAGIC, MOST_MARKED_CONDITIONS, UNMARKED_VERSION, is_after, is_condition_address, is_inside,
+    is_name_length, is_size, is_slot_address, is_version, most_conditions,
 };
 use crate::procedure::{Mark, ProcInfo, VarInfo};
 use crate::slot::Slot;
 use crate::window::Window;
-use fm_words::Flags;
+use fm_words::{Flags, MOST_WINDOW};
 use indexmap::IndexSet;
-use stack_text::{Kind, Memory, Name, Shape, read_name};
+use stack_text::{
+    Kind, MOST_ARRAY, MOST_DECLARED, MOST_PROCEDURES, MOST_TEXT, Memory, Name, Shape, read_name,
+};
 use std::alloc::Global;
-
-/// The longest array.
-const MAX_LENGTH: u32 = 4096;
 
 /// The last word of the longest frame.
 const MAX_OFFSET: u32 = 199;
-
-/// How long a source can be, in bytes.
-const MAX_PLACE: u32 = 1 << 20;
 
 /// A broken rule, at the field that begins what is left of a file that ends at a place.
 fn refused(rule: Rule, end: usize, left: &[u8]) -> Refusal
@@ -67,7 +62,7 @@ fn opening(end: usize, left: &[u8]) -> Result<(u32, &[u8]), Refusal>
     ensures { GivesExactly (λ x. (x.0, x.1.now)) result (opening_at end left.now) }
 {
     let (magic, rest) = bytes(end, 4, left)?;
-    if magic != b"FM91".as_slice() {
+    if magic != MAGIC {
         return Err(refused(Rule::Magic, end, left));
     }
     let (version, after) = number(end, rest)?;
@@ -104,7 +99,7 @@ fn numbers(
     count: u32,
     left: &[u8],
 ) -> Result<(Vec<u32>, &[u8]), ImageFault>
-    ensures { Gives (λ x. (x.0.items, x.1.now)) result (numbers_at end count left.now) }
+    ensures { GivesImage (λ x. (x.0.items, x.1.now)) result (numbers_at end count left.now) }
 {
     let mut numbers = Vec::new(alloc);
     let mut rest = left;
@@ -158,7 +153,7 @@ fn name<'a>(
     end: usize,
     left: &'a [u8],
 ) -> Result<(Name, &'a [u8], &'a [u8]), ImageFault>
-    ensures name { Gives (λ x. (x.0, x.2.now)) result (name_at end left.now) }
+    ensures name { GivesImage (λ x. (x.0, x.2.now)) result (name_at end left.now) }
     ensures bytes { IfOk result (λ x. x.1.now ≡ x.0) }
 {
     let (text, rest) = text(end, left)?;
@@ -185,7 +180,7 @@ fn new_name<'a>(
     names: &mut IndexSet<&'a [u8]>,
     left: &'a [u8],
 ) -> Result<(Name, &'a [u8]), ImageFault>
-    ensures name { Gives (λ x. (x.0, x.1.now)) result
+    ensures name { GivesImage (λ x. (x.0, x.1.now)) result
         (new_name_at end (map (λ key. key.now) names.old.keys) left.now) }
     ensures entered { IfOk result (λ x. map (λ key. key.now) names.new.keys
         ≡ map (λ key. key.now) names.old.keys ++ x.0 ∷ []) }
@@ -217,7 +212,7 @@ fn conditions(
     end: usize,
     left: &[u8],
 ) -> Result<(Vec<Name>, &[u8]), ImageFault>
-    ensures { Gives (λ x. (x.0.items, x.1.now)) result (conditions_at most end left.now) }
+    ensures { GivesImage (λ x. (x.0.items, x.1.now)) result (conditions_at most end left.now) }
 {
     let (count, mut rest) = count(most, end, left)?;
     let mut names = IndexSet::new(alloc);
@@ -245,7 +240,7 @@ fn shape(end: usize, left: &[u8]) -> Result<(Shape, &[u8]), Refusal>
 {
     let (kind, rest) = kind(end, left)?;
     let (length, after) = number(end, rest)?;
-    if length > MAX_LENGTH {
+    if length > MOST_ARRAY {
         return Err(refused(Rule::Limit, end, rest));
     }
     Ok((Shape { kind, length }, after))
@@ -260,7 +255,7 @@ fn slot<'a>(
     names: &mut IndexSet<&'a [u8]>,
     left: &'a [u8],
 ) -> Result<(Slot, &'a [u8]), ImageFault>
-    ensures slot { Gives (λ x. (x.0, x.1.now)) result
+    ensures slot { GivesImage (λ x. (x.0, x.1.now)) result
         (slot_at end window (map (λ key. key.now) names.old.keys) left.now) }
     ensures entered { IfOk result (λ x. map (λ key. key.now) names.new.keys
         ≡ map (λ key. key.now) names.old.keys ++ x.0.name ∷ []) }
@@ -286,9 +281,9 @@ fn slots(
     window: Window,
     left: &[u8],
 ) -> Result<(Vec<Slot>, &[u8]), ImageFault>
-    ensures { Gives (λ x. (x.0.items, x.1.now)) result (slots_at end window left.now) }
+    ensures { GivesImage (λ x. (x.0.items, x.1.now)) result (slots_at end window left.now) }
 {
-    let (count, mut rest) = count(MAX_VARIABLES, end, left)?;
+    let (count, mut rest) = count(MOST_DECLARED as u32, end, left)?;
     let mut names = IndexSet::new(alloc);
     let mut slots = Vec::new(alloc);
     for _ in 0..count {
@@ -306,7 +301,7 @@ fn words(
     window: Window,
     left: &[u8],
 ) -> Result<(Vec<u32>, &[u8]), ImageFault>
-    ensures { Gives (λ x. (x.0.items, x.1.now)) result (words_at end window left.now) }
+    ensures { GivesImage (λ x. (x.0.items, x.1.now)) result (words_at end window left.now) }
 {
     let (count, rest) = count(window.size, end, left)?;
     numbers(alloc, end, count, rest)
@@ -320,7 +315,7 @@ fn variable<'a>(
     names: &mut IndexSet<&'a [u8]>,
     left: &'a [u8],
 ) -> Result<(VarInfo, &'a [u8]), ImageFault>
-    ensures variable { Gives (λ x. (x.0, x.1.now)) result
+    ensures variable { GivesImage (λ x. (x.0, x.1.now)) result
         (variable_at end (map (λ key. key.now) names.old.keys) left.now) }
     ensures entered { IfOk result (λ x. map (λ key. key.now) names.new.keys
         ≡ map (λ key. key.now) names.old.keys ++ x.0.name ∷ []) }
@@ -341,9 +336,9 @@ fn variable<'a>(
 
 #[tactic(auto, unfolding(crate::specs::Reading::variables_at))]
 fn variables(alloc: Global, end: usize, left: &[u8]) -> Result<(Vec<VarInfo>, &[u8]), ImageFault>
-    ensures { Gives (λ x. (x.0.items, x.1.now)) result (variables_at end left.now) }
+    ensures { GivesImage (λ x. (x.0.items, x.1.now)) result (variables_at end left.now) }
 {
-    let (count, mut rest) = count(MAX_VARIABLES, end, left)?;
+    let (count, mut rest) = count(MOST_DECLARED as u32, end, left)?;
     let mut names = IndexSet::new(alloc);
     let mut variables = Vec::new(alloc);
     for _ in 0..count {
@@ -362,13 +357,13 @@ fn procedure<'a>(
     names: &mut IndexSet<&'a [u8]>,
     left: &'a [u8],
 ) -> Result<(ProcInfo, &'a [u8]), ImageFault>
-    ensures procedure { Gives (λ x. (x.0, x.1.now)) result
+    ensures procedure { GivesImage (λ x. (x.0, x.1.now)) result
         (procedure_at end (map (λ key. key.now) names.old.keys) left.now) }
     ensures entered { IfOk result (λ x. map (λ key. key.now) names.new.keys
         ≡ map (λ key. key.now) names.old.keys ++ x.0.name ∷ []) }
 {
     let (name, left) = new_name(alloc, end, names, left)?;
-    let (conditions, left) = conditions(alloc, MAX_CONDITIONS, end, left)?;
+    let (conditions, left) = conditions(alloc, MOST_MARKED_CONDITIONS, end, left)?;
     let (variables, rest) = variables(alloc, end, left)?;
     let procedure = ProcInfo {
         name,
@@ -380,9 +375,9 @@ fn procedure<'a>(
 
 #[tactic(auto, unfolding(crate::specs::Reading::procedures_at))]
 fn procedures(alloc: Global, end: usize, left: &[u8]) -> Result<(Vec<ProcInfo>, &[u8]), ImageFault>
-    ensures { Gives (λ x. (x.0.items, x.1.now)) result (procedures_at end left.now) }
+    ensures { GivesImage (λ x. (x.0.items, x.1.now)) result (procedures_at end left.now) }
 {
-    let (count, mut rest) = count(MAX_PROCEDURES, end, left)?;
+    let (count, mut rest) = count(MOST_PROCEDURES as u32, end, left)?;
     let mut names = IndexSet::new(alloc);
     let mut procedures = Vec::new(alloc);
     for _ in 0..count {
@@ -438,7 +433,7 @@ fn mark<'a>(
         return Err(refused(Rule::Limit, end, left));
     }
     let (place, after) = number(end, rest)?;
-    if place >= MAX_PLACE {
+    if place >= MOST_TEXT {
         return Err(refused(Rule::Limit, end, rest));
     }
     let mark = Mark {
@@ -457,9 +452,9 @@ fn marks(
     procedures: u32,
     left: &[u8],
 ) -> Result<(Vec<Mark>, &[u8]), ImageFault>
-    ensures { Gives (λ x. (x.0.items, x.1.now)) result (marks_at end window procedures left.now) }
+    ensures { GivesImage (λ x. (x.0.items, x.1.now)) result (marks_at end window procedures left.now) }
 {
-    let (count, mut rest) = count(MAX_MARKS, end, left)?;
+    let (count, mut rest) = count(MOST_WINDOW, end, left)?;
     let mut marks: Vec<Mark> = Vec::new(alloc);
     for _ in 0..count {
         let before = last_mark(&marks);
@@ -478,7 +473,7 @@ fn both_tables(
     window: Window,
     left: &[u8],
 ) -> Result<(Vec<ProcInfo>, Vec<Mark>, &[u8]), ImageFault>
-    ensures { Gives (λ x. (record { procedures = x.0.items; marks = x.1.items }, x.2.now)) result
+    ensures { GivesImage (λ x. (record { procedures = x.0.items; marks = x.1.items }, x.2.now)) result
         (both_tables_at end window left.now) }
 {
     let (procedures, left) = procedures(alloc, end, left)?;
@@ -495,10 +490,10 @@ fn tables(
     window: Window,
     left: &[u8],
 ) -> Result<(Vec<ProcInfo>, Vec<Mark>, &[u8]), ImageFault>
-    ensures { Gives (λ x. (record { procedures = x.0.items; marks = x.1.items }, x.2.now)) result
+    ensures { GivesImage (λ x. (record { procedures = x.0.items; marks = x.1.items }, x.2.now)) result
         (tables_at version end window left.now) }
 {
-    if version == PLAIN {
+    if version == UNMARKED_VERSION {
         return Ok((Vec::new(alloc), Vec::new(alloc), left));
     }
     both_tables(alloc, end, window, left)
@@ -507,7 +502,7 @@ fn tables(
 /// The fields of its version, and nothing after them.
 #[tactic(auto, unfolding(crate::specs::Reading::image_at))]
 fn image(alloc: Global, end: usize, left: &[u8]) -> Result<Image, ImageFault>
-    ensures { Gives (λ image. image) result (image_at end left.now) }
+    ensures { GivesImage (λ image. image) result (image_at end left.now) }
 {
     let (version, rest) = opening(end, left)?;
     let (window, rest) = window(end, rest)?;
@@ -549,10 +544,10 @@ pub fn read_image(alloc: Global, bytes: &[u8]) -> Result<Image, ImageFault>
     // What is read is spelled so, each byte of the file.
     ensures found { IfOk result (λ image. Spelled bytes.now image) }
     // Where the bytes spell an image, that image is read, or memory runs out.
-    ensures only { (image : ImageOf) → Spelled bytes.now image → Gives (λ read. read) result (Ok image) }
+    ensures only { (image : ImageOf) → Spelled bytes.now image → GivesImage (λ read. read) result (Ok image) }
     // An error is the first fault of the file.
     ensures fault { ReportsFault bytes.now result }
-    ensures exact { Gives (λ image. image) result (read_of bytes.now) }
+    ensures exact { GivesImage (λ image. image) result (read_of bytes.now) }
 {
     image(alloc, bytes.len(), bytes)
 }

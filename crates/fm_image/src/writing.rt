@@ -8,7 +8,7 @@ ghost use Rattle.fm_image.specs.Spelling.{number_bytes, numbers_bytes, name_byte
 
 use crate::code::{address_bits, kind_bits};
 use crate::image::Image;
-use crate::limit::PLAIN;
+use crate::limit::{MAGIC, UNMARKED_VERSION};
 use crate::procedure::{Mark, ProcInfo, VarInfo};
 use crate::slot::Slot;
 use stack_text::{Memory, Name};
@@ -155,7 +155,7 @@ fn push_tables(
     ensures { let tables : Tables = record { procedures = procedures.now; marks = marks.now } in
         OnOk result (bytes.new.items ≡ bytes.old.items ++ tables_bytes version tables) }
 {
-    if version == PLAIN {
+    if version == UNMARKED_VERSION {
         return Ok(());
     }
     push_procedures(bytes, procedures)?;
@@ -173,7 +173,7 @@ fn opening(
     ensures { IfOk result (λ bytes. bytes.items
         ≡ opening_bytes version ++ window_bytes (record { base = base; size = size; final_pc = final_pc })) }
 {
-    let mut bytes = Vec::from_slice(alloc, b"FM91")?;
+    let mut bytes = Vec::from_slice(alloc, MAGIC)?;
     push_numbers(&mut bytes, &[version, base, size, final_pc])?;
     Ok(bytes)
 }

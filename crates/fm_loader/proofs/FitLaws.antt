@@ -4,35 +4,24 @@ use Rattle.std.specs.List.{list_all}
 use Rattle.std.proofs.lemmas.Bool.{and_parts, and_from, eqb-true, eq-eqb}
 use Rattle.std.proofs.lemmas.List.{length-map}
 use Rattle.stack_text.specs.declared.shape.Kind.{Kind}
-use Rattle.stack_text.specs.declared.shape.Kind.TheVariants.{Integer, Boolean, Character}
 use Rattle.stack_text.specs.declared.shape.Shape.{Shape}
-use Rattle.stack_text.specs.Values.{is_item, is_value}
+use Rattle.stack_text.specs.Values.{is_item, is_value, same_kind}
+use Rattle.stack_text.proofs.SharedLaws.{kind_same}
 use Rattle.fm_loader.specs.declared.fault.Rule.{Rule}
 use Rattle.fm_loader.specs.declared.fault.Rule.TheVariants as rules
 use Rattle.fm_loader.specs.declared.parsed.Scalar.{Scalar}
 use Rattle.fm_loader.specs.declared.parsed.ParsedValue.{ParsedValue}
 use Rattle.fm_loader.specs.declared.parsed.ParsedValue.TheVariants.{Single, Several}
-use Rattle.fm_loader.specs.Values.{is_kind, is_there, is_within, mismatch, number_of, numbers_of}
-
-one_kind : (kind other : Kind) → is_kind kind other ≡ true → kind ≡ other
-one_kind Integer Integer h = refl
-one_kind Integer Boolean h = cc
-one_kind Integer Character h = cc
-one_kind Boolean Integer h = cc
-one_kind Boolean Boolean h = refl
-one_kind Boolean Character h = cc
-one_kind Character Integer h = cc
-one_kind Character Boolean h = cc
-one_kind Character Character h = refl
+use Rattle.fm_loader.specs.Values.{is_there, is_within, mismatch, number_of, numbers_of}
 
 there_is_item : (kind : Kind) (number : Option ℤ) → is_there kind number ≡ true → is_item kind (number_of (record { kind = kind; number = number })) ≡ true
 there_is_item kind None h = cc
 there_is_item kind (Some number) h = h
 
-scalar_is_item : (kind : Kind) (scalar : Scalar) → is_kind kind scalar.kind ≡ true → is_within scalar ≡ true → is_item kind (number_of scalar) ≡ true
-scalar_is_item kind scalar same within = subst (λ (k : Kind). is_item k (number_of scalar) ≡ true) (sym (one_kind kind scalar.kind same)) (there_is_item scalar.kind scalar.number within)
+scalar_is_item : (kind : Kind) (scalar : Scalar) → same_kind kind scalar.kind ≡ true → is_within scalar ≡ true → is_item kind (number_of scalar) ≡ true
+scalar_is_item kind scalar same within = subst (λ (k : Kind). is_item k (number_of scalar) ≡ true) (sym (kind_same kind scalar.kind same)) (there_is_item scalar.kind scalar.number within)
 
-are_items : (kind : Kind) (scalars : List Scalar) → list_all (λ scalar. is_kind kind scalar.kind) scalars ≡ true → list_all is_within scalars ≡ true → list_all (λ item. is_item kind item) (map number_of scalars) ≡ true
+are_items : (kind : Kind) (scalars : List Scalar) → list_all (λ scalar. same_kind kind scalar.kind) scalars ≡ true → list_all is_within scalars ≡ true → list_all (λ item. is_item kind item) (map number_of scalars) ≡ true
 are_items kind [] same within = refl
 are_items kind (scalar ∷ scalars) same within =
     let p = and_parts _ _ same in
@@ -51,12 +40,12 @@ either_passes false false n rest h = cc
 
 pub fits_is_value : (shape : Shape) (value : ParsedValue) → mismatch shape value ≡ None → is_value shape (numbers_of value) ≡ true
 fits_is_value shape (Single scalar) h =
-    let p = passes (eqb shape.length 0 && is_kind shape.kind scalar.kind) rules.Kind (cond (not (is_within scalar)) (Some rules.Range) None) h in
-    let q = and_parts (eqb shape.length 0) (is_kind shape.kind scalar.kind) p.0 in
+    let p = passes (eqb shape.length 0 && same_kind shape.kind scalar.kind) rules.Kind (cond (not (is_within scalar)) (Some rules.Range) None) h in
+    let q = and_parts (eqb shape.length 0) (same_kind shape.kind scalar.kind) p.0 in
     let r = passes (is_within scalar) rules.Range None p.1 in
     rw (q.0, scalar_is_item shape.kind scalar q.1 r.0) refl
 fits_is_value shape (Several scalars) h =
-    let p = either_passes (eqb shape.length 0) (list_all (λ scalar. is_kind shape.kind scalar.kind) scalars) rules.Kind (cond (not (eqb (length scalars) shape.length)) (Some rules.Length) (cond (not (list_all is_within scalars)) (Some rules.Range) None)) h in
+    let p = either_passes (eqb shape.length 0) (list_all (λ scalar. same_kind shape.kind scalar.kind) scalars) rules.Kind (cond (not (eqb (length scalars) shape.length)) (Some rules.Length) (cond (not (list_all is_within scalars)) (Some rules.Range) None)) h in
     let q = passes (eqb (length scalars) shape.length) rules.Length (cond (not (list_all is_within scalars)) (Some rules.Range) None) p.2 in
     let r = passes (list_all is_within scalars) rules.Range None q.1 in
     rw p.0 (and_from _ _ (eq-eqb _ _ (length-map scalars number_of ∙ eqb-true _ _ q.0)) (are_items shape.kind scalars p.1 r.0))

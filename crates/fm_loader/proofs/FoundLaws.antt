@@ -17,8 +17,10 @@ use Rattle.fm_loader.specs.declared.fault.Rule.TheVariants as rules
 use Rattle.fm_loader.specs.declared.fault.ValuesFault.{ValuesFault}
 use Rattle.fm_loader.specs.declared.fault.ValuesFault.TheVariants.{Refused, Memory}
 use Rattle.fm_loader.specs.Rules.{rule_number, Fault, Fails}
-use Rattle.fm_loader.specs.Values.{mismatch, rule_broken, unless_fault, value_or_fault, found_in, is_named, slot_named, rule_of, fault_at, entry_fault, numbers_of, numbers_for, value_with, value_for, all_found, HaveOwnNames}
-use Rattle.fm_loader.proofs.NameLaws.{not_equal, index_within, named_same}
+use Rattle.fm_loader.specs.Values.{mismatch, rule_broken, value_or_fault, found_in, is_named, slot_named, rule_of, fault_at, entry_fault, numbers_of, numbers_for, value_with, value_for, all_found, HaveOwnNames}
+use Rattle.stack_text.specs.Results.{unless_fault}
+use Rattle.stack_text.proofs.SharedLaws.{get_below, bytes_apart}
+use Rattle.fm_loader.proofs.NameLaws.{named_same}
 
 -- ---- all are there
 
@@ -93,7 +95,7 @@ numbers_new name (e ∷ entries) entry new same = by_test (bytes_eq name e.name)
 others_keep : (slots : List Slot) (entries : List Entry) (entry : Entry) → AllByRecursion (λ name. bytes_eq entry.name name ≡ false) (map (λ s. s.name) slots) → map (value_for entries) slots ≡ map (value_for (entries ++ entry ∷ [])) slots
 others_keep [] entries entry apart = refl
 others_keep (s ∷ slots) entries entry apart =
-    let first : value_for entries s ≡ value_for (entries ++ entry ∷ []) s = ap (option_map (value_with s.shape)) (sym (numbers_other s.name entries entry (not_equal entry.name s.name apart.0))) in
+    let first : value_for entries s ≡ value_for (entries ++ entry ∷ []) s = ap (option_map (value_with s.shape)) (sym (numbers_other s.name entries entry (bytes_apart entry.name s.name apart.0))) in
     rw first (ap (λ (vs : List (Option ValueOf)). value_for (entries ++ entry ∷ []) s ∷ vs) (others_keep slots entries entry apart.1))
 
 pub value_set : (slots : List Slot) (index : ℕ) (slot : Slot) (entries : List Entry) (entry : Entry) → HaveOwnNames slots → slice_get slots index ≡ Some slot → entry.name ≡ slot.name → is_named entry.name entries ≡ false
@@ -107,7 +109,7 @@ value_set (s ∷ slots) zero slot entries entry own at same new =
     sym (ap (λ (x : Slot). map (value_for (entries ++ entry ∷ [])) (x ∷ slots)) is ∙ ap (λ (v : Option ValueOf). v ∷ map (value_for (entries ++ entry ∷ [])) slots) first ∙ ap (λ (vs : List (Option ValueOf)). Some (value_with slot.shape (numbers_of entry.value)) ∷ vs) (sym (others_keep slots entries entry apart)))
 value_set (s ∷ slots) (suc index) slot entries entry own at same new =
     let names : List (List ℕ) = map (λ s. s.name) slots in
-    let lt : index < length slots = index_within slots index slot at in
+    let lt : index < length slots = get_below slots index slot at in
     let apart = apart_from_distinct bytes_eq (s.name ∷ names) 0 (suc index) slot.name own (omega arith) (omega (arith, length-map slots (λ (s : Slot). s.name))) in
     let other : bytes_eq s.name entry.name ≡ false = ap (bytes_eq s.name) (same ∙ sym (at_slot (λ (s : Slot). s.name) slots index slot slot.name at)) ∙ apart in
     let first : value_for entries s ≡ value_for (entries ++ entry ∷ []) s = ap (option_map (value_with s.shape)) (sym (numbers_other s.name entries entry other)) in
@@ -121,7 +123,7 @@ nothing_yet (slot ∷ slots) = ap (λ (vs : List (Option ValueOf)). None ∷ vs)
 
 pub within_found : (slots : List Slot) (entries : List Entry) (found : List (Option ValueOf)) (index : ℕ) (slot : Slot) → found ≡ map (value_for entries) slots → slice_get slots index ≡ Some slot → index < length found
 within_found slots entries found index slot found_is at =
-    let lt = index_within slots index slot at in
+    let lt = get_below slots index slot at in
     omega (arith, lt, ap length found_is, length-map slots (value_for entries))
 
 refused : (slots : List Slot) (entries : List Entry) (i : ℕ) (entry : Entry) (rule : Rule) → i < length entries → entry ≡ get_or entries i entry → rule_of slots (take i entries) entry ≡ Some rule

@@ -1,5 +1,5 @@
 -- Names of slots that all differ.
-use Rattle.std.proofs.Common.{◌≡◌, Bor, Some, None, not, ℕ, zero, suc, ◌+◌, ◌<◌, ◌≤◌, List, [], ◌∷◌, ◌++◌, map, length, get_or, take, Bool, true, false, cond, ◌||◌, refl, sym, ap, ◌∙◌, arith}
+use Rattle.std.proofs.Common.{◌≡◌, Bor, Some, None, not, ℕ, zero, suc, ◌+◌, ◌<◌, ◌≤◌, List, [], ◌∷◌, ◌++◌, map, length, get_or, take, Bool, true, false, cond, refl, sym, ap, ◌∙◌, arith}
 use Rattle.std.specs.Prelude.{nat_lt}
 use Rattle.std.specs.List.{list_any, IsDistinct, position, position_or_len, prefix_len, slice_get}
 use Rattle.std.proofs.lemmas.Bool.{ltb-true, ltb-false}
@@ -9,15 +9,9 @@ use Rattle.std.proofs.lemmas.List.{map_push, take_more, take-map, length-map}
 use Rattle.std.proofs.lemmas.Map.Keys.{IsDistinct-tail, apart_from_distinct}
 use Rattle.std.proofs.lemmas.Slice.Eq.{bytes_eq-Decides}
 use Rattle.std.proofs.lemmas.Option.{slice_get_past}
+use Rattle.stack_text.proofs.SharedLaws.{bytes_apart, any_now}
 use Rattle.fm_image.specs.declared.slot.Slot.{Slot}
 use Rattle.fm_loader.specs.Values.{HaveOwnNames, slot_named}
-
-pub not_equal : (xs ys : List ℕ) → bytes_eq xs ys ≡ false → bytes_eq ys xs ≡ false
-not_equal xs ys ne = by_test (bytes_eq ys xs) refl
-  where
-    by_test : (b : Bool) → bytes_eq ys xs ≡ b → b ≡ false
-    by_test false e = refl
-    by_test true e = absurd (let f = (bytes_eq-Decides xs ys).1 (sym ((bytes_eq-Decides ys xs).0 e)) in cc)
 
 -- a name is none of those before it
 pub no_earlier : (names : List (List ℕ)) (i : ℕ) (name : List ℕ) → i < length names → name ≡ get_or names i name → IsDistinct bytes_eq names → list_any (bytes_eq name) (take i names) ≡ false
@@ -26,11 +20,7 @@ no_earlier (x ∷ xs) zero name lt is own = refl
 no_earlier (x ∷ xs) (suc i) name lt is own =
     let apart = apart_from_distinct bytes_eq (x ∷ xs) 0 (suc i) name own (omega arith) lt in
     let other : bytes_eq x name ≡ false = ap (bytes_eq x) is ∙ apart in
-    rw (not_equal x name other) (no_earlier xs i name (omega arith) is (IsDistinct-tail bytes_eq x xs own))
-
-any_now : (name : List ℕ) (keys : List (Bor (List ℕ))) → list_any (λ key. bytes_eq name key.now) keys ≡ list_any (bytes_eq name) (map (λ key. key.now) keys)
-any_now name [] = refl
-any_now name (key ∷ keys) = ap (λ (b : Bool). bytes_eq name key.now || b) (any_now name keys)
+    rw (bytes_apart x name other) (no_earlier xs i name (omega arith) is (IsDistinct-tail bytes_eq x xs own))
 
 get_or-name : (slots : List Slot) (i : ℕ) (slot : Slot) → i < length slots → slot ≡ get_or slots i slot → slot.name ≡ get_or (map (λ s. s.name) slots) i slot.name
 get_or-name [] i slot lt is = absurd (omega arith)
@@ -63,11 +53,6 @@ position_map f p xs = rw (prefix_map f (λ y. not (p y)) xs, length-map xs f) re
 pub same_position : (name : List ℕ) (keys : List (Bor (List ℕ))) (slots : List Slot) → map (λ k. k.now) keys ≡ map (λ s. s.name) slots → position (λ k. bytes_eq name k.now) keys ≡ position (λ s. bytes_eq name s.name) slots
 same_position name keys slots same =
     sym (position_map (λ (k : Bor (List ℕ)). k.now) (bytes_eq name) keys) ∙ ap (position (bytes_eq name)) same ∙ position_map (λ (s : Slot). s.name) (bytes_eq name) slots
-
-pub index_within : {X : Type 0} (xs : List X) (i : ℕ) (x : X) → slice_get xs i ≡ Some x → i < length xs
-index_within [] i x h = cc
-index_within (y ∷ xs) zero x h = omega arith
-index_within (y ∷ xs) (suc i) x h = let k : i < length xs = index_within xs i x h in omega arith
 
 pub named_same : (name : List ℕ) (slots : List Slot) (slot : Slot) → Some slot ≡ slot_named name slots → name ≡ slot.name
 named_same name [] slot h = cc

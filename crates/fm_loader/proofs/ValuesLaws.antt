@@ -24,15 +24,15 @@ use Rattle.fm_loader.specs.declared.fault.Rule.{Rule}
 use Rattle.fm_loader.specs.declared.fault.Rule.TheVariants as rules
 use Rattle.fm_loader.specs.declared.fault.ValuesFault.{ValuesFault}
 use Rattle.stack_text.specs.Options as options
-use Rattle.stack_text.specs.Results.{◌>>=◌}
+use Rattle.stack_text.specs.Results.{◌>>=◌, unless_fault}
 use Rattle.stack_text.proofs.ResultLaws.{bind_ok}
 use Rattle.stack_text.proofs.OptionLaws.{bind_some}
+use Rattle.stack_text.proofs.SharedLaws.{get_below, bytes_apart}
 use Rattle.fm_words.specs.Word.{is_int}
 use Rattle.fm_loader.specs.Parsed.{in_32_bits, character_of, scalar_of, scalar_at, scalars_of, parsed_value, name_at, pair_of, entry_of}
-use Rattle.fm_loader.specs.Values.{entry_at, entries_of, mismatch, rule_broken, slot_named, is_named, rule_of, fault_at, entry_fault, number_of, numbers_of, numbers_for, value_with, value_for, unless_fault, found_in, all_found, values_at, values_on, values_in, HaveOwnNames}
-use Rattle.fm_loader.specs.Rules.{rule_number, Fault, Gives}
+use Rattle.fm_loader.specs.Values.{entry_at, entries_of, mismatch, rule_broken, slot_named, is_named, rule_of, fault_at, entry_fault, number_of, numbers_of, numbers_for, value_with, value_for, found_in, all_found, values_at, values_on, values_in, HaveOwnNames}
+use Rattle.fm_loader.specs.Rules.{rule_number, Fault, GivesValues}
 use Rattle.fm_loader.specs.Loaded.{Fits}
-use Rattle.fm_loader.proofs.NameLaws.{not_equal, index_within}
 use Rattle.fm_loader.proofs.FoundLaws.{at_slot}
 use Rattle.fm_loader.proofs.FitLaws.{fits_is_value}
 
@@ -101,7 +101,7 @@ pub values_fit_at : (slots : List Slot) (tree : Node) (values : List ValueOf) �
 values_fit_at slots tree values h = let g = (given_on slots (Ok tree) values h).1 in shapes_are g.entries slots values g.values_are
 
 -- the same of what a call gave
-pub fits_if_ok : (slots : List Slot) (tree : Node) (r : Result (Vec ValueOf Global) ValuesFault) → Gives (λ values. values.items) r (values_at slots tree) → IfOk r (λ values. Fits slots values.items)
+pub fits_if_ok : (slots : List Slot) (tree : Node) (r : Result (Vec ValueOf Global) ValuesFault) → GivesValues (λ values. values.items) r (values_at slots tree) → IfOk r (λ values. Fits slots values.items)
 fits_if_ok slots tree (Ok values) h = values_fit_at slots tree values.items h
 fits_if_ok slots tree (Err fault) h = tt
 
@@ -149,10 +149,10 @@ named_itself (s ∷ slots) zero slot own at =
     rw ((bytes_eq-Decides slot.name s.name).1 (ap (λ (x : Slot). x.name) (sym is))) (ap Some is)
 named_itself (s ∷ slots) (suc i) slot own at =
     let names : List (List ℕ) = map (λ s. s.name) slots in
-    let lt : i < length slots = index_within slots i slot at in
+    let lt : i < length slots = get_below slots i slot at in
     let apart = apart_from_distinct bytes_eq (s.name ∷ names) 0 (suc i) slot.name own (omega arith) (omega (arith, length-map slots (λ (s : Slot). s.name))) in
     let other : bytes_eq s.name slot.name ≡ false = ap (bytes_eq s.name) (sym (at_slot (λ (s : Slot). s.name) slots i slot slot.name at)) ∙ apart in
-    rw (not_equal s.name slot.name other) (named_itself slots i slot (IsDistinct-tail bytes_eq s.name names own) at)
+    rw (bytes_apart s.name slot.name other) (named_itself slots i slot (IsDistinct-tail bytes_eq s.name names own) at)
 
 -- a slot and its value are at one index
 pub record Paired (entries : List Entry) (slots : List Slot) (i : ℕ) (value : ValueOf) : Type 0 where

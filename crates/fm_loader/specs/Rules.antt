@@ -29,5 +29,5 @@ abbrev pub Fails : {Y : Type 0} → ValuesFault → Result Y Fault → Type 0
 Fails fault value = common.Fails (fault_of fault) value
 
 -- the call returned exactly what the definition gives, seen through the view
-abbrev pub Gives : {X Y : Type 0} → (X → Y) → Result X ValuesFault → Result Y Fault → Type 0
-Gives view result value = common.Gives fault_of view result value
+abbrev pub GivesValues : {X Y : Type 0} → (X → Y) → Result X ValuesFault → Result Y Fault → Type 0
+GivesValues view result value = common.Gives fault_of view result value

@@ -6,12 +6,11 @@ use Rattle.std.specs.List.{list_any, list_all, find, IsDistinct}
 use Rattle.std.specs.Str.{bytes_eq}
 use Rattle.stack_text.specs.declared.text_fault.TextRule.{TextRule}
 use Rattle.stack_text.specs.declared.shape.Kind.{Kind}
-use Rattle.stack_text.specs.declared.shape.Kind.TheVariants.{Integer, Boolean, Character}
 use Rattle.stack_text.specs.declared.shape.Shape.{Shape}
-use Rattle.stack_text.specs.Results.{◌>>=◌}
+use Rattle.stack_text.specs.Results.{◌>>=◌, unless_fault}
 use Rattle.stack_text.specs.Trees.{Node, Nodes, atom, list, none, more, place_of}
 use Rattle.stack_text.specs.TreeIn.{tree_in}
-use Rattle.stack_text.specs.Values.{ValueOf, is_item}
+use Rattle.stack_text.specs.Values.{ValueOf, is_item, same_kind}
 use Rattle.fm_image.specs.declared.slot.Slot.{Slot}
 use Rattle.fm_loader.specs.declared.fault.Rule.{Rule}
 use Rattle.fm_loader.specs.declared.fault.Rule.TheVariants as rules
@@ -37,12 +36,6 @@ entries_of (more tree trees) = do
 
 -- 2. The rule that an entry breaks, the least of them.
 
-abbrev pub is_kind : Kind → Kind → Bool
-is_kind Integer Integer = true
-is_kind Boolean Boolean = true
-is_kind Character Character = true
-is_kind kind other = false
-
 -- the number is there, and one that its kind has
 abbrev pub is_there : Kind → Option ℤ → Bool
 is_there kind None = false
@@ -54,13 +47,13 @@ is_within scalar = is_there scalar.kind scalar.number
 -- an array's slot or another kind, and then a number out of range
 abbrev pub single_mismatch : Shape → Scalar → Option Rule
 single_mismatch shape scalar =
-    if not (shape.length == 0 && is_kind shape.kind scalar.kind) then Some rules.Kind else
+    if not (shape.length == 0 && same_kind shape.kind scalar.kind) then Some rules.Kind else
     if not (is_within scalar) then Some rules.Range else None
 
 -- a simple type's slot or another kind, then another number of values, and then a number out of range
 abbrev pub array_mismatch : Shape → List Scalar → Option Rule
 array_mismatch shape scalars =
-    if shape.length == 0 || not (list_all (λ scalar. is_kind shape.kind scalar.kind) scalars) then Some rules.Kind else
+    if shape.length == 0 || not (list_all (λ scalar. same_kind shape.kind scalar.kind) scalars) then Some rules.Kind else
     if not (length scalars == shape.length) then Some rules.Length else
     if not (list_all is_within scalars) then Some rules.Range else None
 
@@ -112,10 +105,6 @@ value_with shape items = record { shape = shape; items = items }
 
 abbrev pub value_for : List Entry → Slot → Option ValueOf
 value_for entries slot = option_map (value_with slot.shape) (numbers_for slot.name entries)
-
-abbrev pub unless_fault : {A : Type 0} → Option Fault → A → Result A Fault
-unless_fault None x = Ok x
-unless_fault (Some fault) x = Err fault
 
 -- the value of an entry for a slot of the shape
 abbrev pub value_or_fault : Shape → Entry → Result ValueOf Fault

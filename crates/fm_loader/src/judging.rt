@@ -3,8 +3,9 @@
 ghost use Rattle.std.specs.Prelude.{◌≡◌, map, length, replicate, None, Some, IfOk, IfSome, option_map, slice_get};
 ghost use Rattle.std.specs.List.{list_all};
 ghost use Rattle.stack_text.specs.Gives as memory;
-ghost use Rattle.fm_loader.specs.Rules.{Gives};
-ghost use Rattle.fm_loader.specs.Values.{is_kind, is_within, single_mismatch, array_mismatch, mismatch, value_or_fault, number_of, numbers_of, slot_named, found_in, all_found, HaveOwnNames};
+ghost use Rattle.fm_loader.specs.Rules.{GivesValues};
+ghost use Rattle.fm_loader.specs.Values.{is_within, single_mismatch, array_mismatch, mismatch, value_or_fault, number_of, numbers_of, slot_named, found_in, all_found, HaveOwnNames};
+ghost use Rattle.stack_text.specs.Values.{same_kind};
 
 use crate::fault::{Rule, ValuesFault, refused};
 use crate::parsed::{Entry, ParsedValue, Scalar};
@@ -13,18 +14,11 @@ use indexmap::IndexSet;
 use stack_text::{Kind, Memory, Shape, Value};
 use std::alloc::Global;
 
-/// Whether the two are one kind.
-fn is_kind(kind: Kind, other: Kind) -> bool
-    ensures { result ≡ is_kind kind other }
-{
-    kind == other
-}
-
 /// Whether all are of the kind.
 fn are_of_kind(kind: Kind, scalars: &[Scalar]) -> bool
-    ensures { result ≡ list_all (λ scalar. is_kind kind scalar.kind) scalars.now }
+    ensures { result ≡ list_all (λ scalar. same_kind kind scalar.kind) scalars.now }
 {
-    scalars.iter().all(|scalar| is_kind(kind, scalar.kind))
+    scalars.iter().all(|scalar| kind.is(scalar.kind))
 }
 
 /// Whether the number is one that its kind has.
@@ -48,7 +42,7 @@ fn are_within(scalars: &[Scalar]) -> bool
 fn single_mismatch(shape: Shape, scalar: Scalar) -> Option<Rule>
     ensures { result ≡ single_mismatch shape scalar }
 {
-    if shape.length != 0 || !is_kind(shape.kind, scalar.kind) {
+    if shape.length != 0 || !shape.kind.is(scalar.kind) {
         return Some(Rule::Kind);
     }
     if !is_within(scalar) {
@@ -113,7 +107,7 @@ fn numbers(alloc: Global, value: &ParsedValue) -> Result<Vec<i32>, Memory>
 
 /// The value of an entry for a slot of the shape, or the fault of the entry.
 fn value(alloc: Global, shape: Shape, entry: &Entry) -> Result<Value, ValuesFault>
-    ensures { Gives (λ value. value) result (value_or_fault shape entry.now) }
+    ensures { GivesValues (λ value. value) result (value_or_fault shape entry.now) }
 {
     if let Some(rule) = mismatch(shape, &entry.value) {
         return Err(refused(rule, entry.place));
@@ -167,7 +161,7 @@ pub(crate) fn found(
     entries: &[Entry],
 ) -> Result<Vec<Option<Value>>, ValuesFault>
     requires { HaveOwnNames slots.now }
-    ensures { Gives (λ found. found.items) result (found_in slots.now entries.now) }
+    ensures { GivesValues (λ found. found.items) result (found_in slots.now entries.now) }
 {
     let names = names(alloc, slots)?;
     let mut found = nothing_found(alloc, slots)?;
@@ -190,7 +184,7 @@ pub(crate) fn all_found(
     place: u32,
     found: Vec<Option<Value>>,
 ) -> Result<Vec<Value>, ValuesFault>
-    ensures { Gives (λ values. values.items) result (all_found place found.items) }
+    ensures { GivesValues (λ values. values.items) result (all_found place found.items) }
 {
     let mut values = Vec::new(alloc);
     for value in found {

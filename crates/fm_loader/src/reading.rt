@@ -3,8 +3,8 @@
 ghost use Rattle.std.specs.Prelude.{◌≡◌, IsTrue, option_map};
 ghost use Rattle.stack_text.specs.Gives as memory;
 ghost use Rattle.stack_text.specs.Numerals.{is_numeral, numeral_value};
-ghost use Rattle.stack_text.specs.TreeView.{node_of, nodes_of};
-ghost use Rattle.fm_loader.specs.Rules.{Gives};
+ghost use Rattle.stack_text.specs.Seen.TreeView.{node_of, nodes_of};
+ghost use Rattle.fm_loader.specs.Rules.{GivesValues};
 ghost use Rattle.fm_loader.specs.Parsed.{in_32_bits, character_of, scalar_of, scalar_at, scalars_of, parsed_value, name_at, pair_of, entry_of};
 ghost use Rattle.fm_loader.specs.Values.{entries_of, entry_at};
 
@@ -155,7 +155,7 @@ fn entry(alloc: Global, tree: &Tree) -> Result<Option<Entry>, Memory>
 
 /// The entry that a tree is.
 fn entry_or_fault(alloc: Global, tree: &Tree) -> Result<Entry, ValuesFault>
-    ensures { Gives (λ entry. entry) result (entry_at (node_of tree.now)) }
+    ensures { GivesValues (λ entry. entry) result (entry_at (node_of tree.now)) }
 {
     match entry(alloc, tree)? {
         Some(entry) => Ok(entry),
@@ -165,7 +165,7 @@ fn entry_or_fault(alloc: Global, tree: &Tree) -> Result<Entry, ValuesFault>
 
 /// The entries that trees are.
 pub(crate) fn entries(alloc: Global, trees: &[Tree]) -> Result<Vec<Entry>, ValuesFault>
-    ensures { Gives (λ entries. entries.items) result (entries_of (nodes_of trees.now)) }
+    ensures { GivesValues (λ entries. entries.items) result (entries_of (nodes_of trees.now)) }
 {
     let mut entries = Vec::new(alloc);
     for tree in trees {

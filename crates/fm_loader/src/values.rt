@@ -1,8 +1,8 @@
 //! Reading the values of an image's variables.
 
 ghost use Rattle.std.specs.Prelude.{◌≤◌, ◌^◌, length, IfOk};
-ghost use Rattle.stack_text.specs.TreeView.{node_of};
-ghost use Rattle.fm_loader.specs.Rules.{Gives};
+ghost use Rattle.stack_text.specs.Seen.TreeView.{node_of};
+ghost use Rattle.fm_loader.specs.Rules.{GivesValues};
 ghost use Rattle.fm_loader.specs.Loaded.{Fits};
 ghost use Rattle.fm_loader.specs.Values.{values_at, values_in, HaveOwnNames};
 
@@ -17,7 +17,7 @@ use std::alloc::Global;
 #[tactic(auto, unfolding(crate::specs::Values::values_at))]
 fn values(alloc: Global, tree: &Tree, slots: &[Slot]) -> Result<Vec<Value>, ValuesFault>
     requires { HaveOwnNames slots.now }
-    ensures { Gives (λ values. values.items) result (values_at slots.now (node_of tree.now)) }
+    ensures { GivesValues (λ values. values.items) result (values_at slots.now (node_of tree.now)) }
 {
     match tree {
         Tree::Atom { place, text: _ } => Err(refused(Rule::Form, *place)),
@@ -41,7 +41,7 @@ pub fn read_values(alloc: Global, text: &[u8], slots: &[Slot]) -> Result<Vec<Val
     requires text { length text.now ≤ 2 ^ 31 }
     requires names { HaveOwnNames slots.now }
     // What is read is what the text gives the slots, and an error is the rule that the text breaks.
-    ensures value { Gives (λ values. values.items) result (values_in slots.now text.now) }
+    ensures value { GivesValues (λ values. values.items) result (values_in slots.now text.now) }
     // A value of its shape for each slot.
     ensures fits { IfOk result (λ values. Fits slots.now values.items) }
 {

@@ -1,9 +1,9 @@
 //! How an instruction finds its operands in the registers, and which flags it sets.
 
 ghost use Rattle.std.specs.Prelude.{◌≡◌, ◌<◌};
-ghost use Rattle.fm_machine.specs.Step.{address_of, registers_after, reads_b, flags_set};
+ghost use Rattle.fm_machine.specs.Step.{address_of, registers_after, reads_b};
 
-use fm_words::{AluOut, Flags, Mode, Op};
+use fm_words::{Mode, Op};
 
 /// The sixteen registers, by number.
 pub(crate) type Registers = [u32; 16];
@@ -44,20 +44,4 @@ pub(crate) fn reads_b(op: Op) -> bool
         op,
         Op::Addc | Op::Add | Op::Subb | Op::Sub | Op::Xor | Op::Or | Op::And
     )
-}
-
-/// The flags after an operation: those of the mask are new.
-pub(crate) fn flags_set(set: Flags, old: Flags, out: AluOut) -> Flags
-    ensures { result ≡ flags_set set old out }
-{
-    Flags {
-        c: if set.c { out.c } else { old.c },
-        v: if set.v { out.v } else { old.v },
-        n: if set.n {
-            out.word >= 0x8000_0000
-        } else {
-            old.n
-        },
-        z: if set.z { out.word == 0 } else { old.z },
-    }
 }

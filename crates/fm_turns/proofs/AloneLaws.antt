@@ -5,7 +5,7 @@ use Rattle.std.proofs.lemmas.Bool.{cases_lt, leb-false, ltb-true, ltb-false, eqb
 use Rattle.std.proofs.lemmas.List.Sums.{sum_by-cons, sum_by_push}
 use Rattle.fm_machine.specs.State.{Fm}
 use Rattle.fm_machine.specs.Step.{fm_step, then_on}
-use Rattle.fm_machine.specs.Run.{fm_run, Avoids, IsFirst, IsOutcome, Outcome, outcome}
+use Rattle.fm_machine.specs.Run.{fm_run, Avoids, IsFirst, IsOutcome, RunOutcome, outcome}
 use Rattle.fm_machine.specs.declared.fault.Outside.{Outside}
 use Rattle.fm_machine.proofs.RunLaws.{outcome_is, run_add, run_more, not_both}
 use Rattle.fm_machine.specs.declared.processor.Run.{Run}
@@ -161,13 +161,13 @@ abbrev pub left_at : List ℕ → List ℕ → ImageOf → Fm → Task → After
 left_at before after image t state = record { memory = widened_words before after t.memory; context = context_at image t state }
 
 -- the steps that a running task makes in its turn
-abbrev turn_run : ℕ → ℕ → List ℕ → ℕ → Fm → Outcome
+abbrev turn_run : ℕ → ℕ → List ℕ → ℕ → Fm → RunOutcome
 turn_run budget turn lengths pc s = outcome (turn_length (round_after budget turn lengths) (sum lengths)) pc s
 
 module _ (base : ℕ) (before after : List ℕ) (image : ImageOf) (start : Fm) (budget turn : ℕ) (lengths : List ℕ) (at : IsBehind base before start) (stays : StaysInsideFrom start image.final_pc) where
   -- a running task goes on as alone
-  ran : (s : Fm) (p : Outcome) → Runs budget lengths → outcome (min (sum lengths) budget) image.final_pc start ≡ record { run = run.Spent; state = s } → turn_run budget turn lengths image.final_pc s ≡ p
-      → (o : Outcome) → o ≡ record { run = later_run (min (sum lengths) budget) p.run; state = p.state } → IsInside p.run
+  ran : (s : Fm) (p : RunOutcome) → Runs budget lengths → outcome (min (sum lengths) budget) image.final_pc start ≡ record { run = run.Spent; state = s } → turn_run budget turn lengths image.final_pc s ≡ p
+      → (o : RunOutcome) → o ≡ record { run = later_run (min (sum lengths) budget) p.run; state = p.state } → IsInside p.run
       → state_after (round_after budget turn lengths) (sum lengths) p.run ≡ state_alone budget (lengths ++ turn ∷ []) o.run
   ran s p r e is o later inside = by p.run refl inside
     where
@@ -189,16 +189,16 @@ module _ (base : ℕ) (before after : List ℕ) (image : ImageOf) (start : Fm) (
       by : (q : Run) → p.run ≡ q → IsInside q → state_after (round_after budget turn lengths) (sum lengths) p.run ≡ state_alone budget (lengths ++ turn ∷ []) o.run
       by (run.Ended k) ends inside =
           let within = r.within in
-          let made : k ≤ turn_length (round_after budget turn lengths) (sum lengths) = ended_within s image.final_pc (turn_length (round_after budget turn lengths) (sum lengths)) k (ap (λ (x : Outcome). x.run) is ∙ ends) in
-          let some : 0 < k = not_at_once start s image.final_pc (min (sum lengths) budget) (turn_length (round_after budget turn lengths) (sum lengths)) k e (ap (λ (x : Outcome). x.run) is ∙ ends) in
+          let made : k ≤ turn_length (round_after budget turn lengths) (sum lengths) = ended_within s image.final_pc (turn_length (round_after budget turn lengths) (sum lengths)) k (ap (λ (x : RunOutcome). x.run) is ∙ ends) in
+          let some : 0 < k = not_at_once start s image.final_pc (min (sum lengths) budget) (turn_length (round_after budget turn lengths) (sum lengths)) k e (ap (λ (x : RunOutcome). x.run) is ∙ ends) in
           let count : min (sum lengths) budget + k ≡ sum lengths + k = omega arith in
           let round = round_of_end_last (sum lengths + k) turn lengths (omega arith) (omega arith) in
           ap (state_after (round_after budget turn lengths) (sum lengths)) ends ∙ ap (λ n. Ended (sum lengths + k) n) (sym round)
           ∙ ap (λ n. Ended n (round_of_end n (lengths ++ turn ∷ []))) (sym count)
-          ∙ sym (ap (λ (x : Outcome). state_alone budget (lengths ++ turn ∷ []) x.run) later ∙ ap (λ (x : Run). state_alone budget (lengths ++ turn ∷ []) (later_run (min (sum lengths) budget) x)) ends)
+          ∙ sym (ap (λ (x : RunOutcome). state_alone budget (lengths ++ turn ∷ []) x.run) later ∙ ap (λ (x : Run). state_alone budget (lengths ++ turn ∷ []) (later_run (min (sum lengths) budget) x)) ends)
       by run.Spent ends inside =
           ap (state_after (round_after budget turn lengths) (sum lengths)) ends ∙ unreached (ltb (sum lengths + turn) budget) refl
-          ∙ sym (ap (λ (x : Outcome). state_alone budget (lengths ++ turn ∷ []) x.run) later ∙ ap (λ (x : Run). state_alone budget (lengths ++ turn ∷ []) (later_run (min (sum lengths) budget) x)) ends)
+          ∙ sym (ap (λ (x : RunOutcome). state_alone budget (lengths ++ turn ∷ []) x.run) later ∙ ap (λ (x : Run). state_alone budget (lengths ++ turn ∷ []) (later_run (min (sum lengths) budget) x)) ends)
       by (run.Outside a k) ends inside = absurd inside
 
   turns_so : (r : Run) (s : Fm) → outcome (min (sum lengths) budget) image.final_pc start ≡ record { run = r; state = s }
@@ -207,12 +207,12 @@ module _ (base : ℕ) (before after : List ℕ) (image : ImageOf) (start : Fm) (
       (state_alone budget (lengths ++ turn ∷ []) (outcome (min (sum (lengths ++ turn ∷ [])) budget) image.final_pc start).run)
   turns_so (run.Ended k) s e =
       let more = sum_push lengths turn in
-      let made : k ≤ min (sum lengths) budget = ended_within start image.final_pc (min (sum lengths) budget) k (ap (λ (o : Outcome). o.run) e) in
+      let made : k ≤ min (sum lengths) budget = ended_within start image.final_pc (min (sum lengths) budget) k (ap (λ (o : RunOutcome). o.run) e) in
       let next = outcome_ended start s image.final_pc (min (sum lengths) budget) (min (sum (lengths ++ turn ∷ [])) budget) k (omega arith) e in
       let round = round_of_end_kept k turn lengths (omega arith) in
-      ap (λ n. left_at before after image s (Ended k n)) (sym round) ∙ ap (λ (o : Outcome). left_at before after image o.state (state_alone budget (lengths ++ turn ∷ []) o.run)) (sym next)
+      ap (λ n. left_at before after image s (Ended k n)) (sym round) ∙ ap (λ (o : RunOutcome). left_at before after image o.state (state_alone budget (lengths ++ turn ∷ []) o.run)) (sym next)
   turns_so (run.Outside a k) s e =
-      absurd (subst (λ (o : Outcome). IsInside o.run) e (stays_within start image.final_pc (min (sum lengths) budget) stays))
+      absurd (subst (λ (o : RunOutcome). IsInside o.run) e (stays_within start image.final_pc (min (sum lengths) budget) stays))
   turns_so run.Spent s e = by (short budget lengths)
     where
       by : Short budget lengths → TurnsTo (round_after budget turn lengths) base before after image s (running_or_spent_alone budget lengths)
@@ -227,24 +227,24 @@ module _ (base : ℕ) (before after : List ℕ) (image : ImageOf) (start : Fm) (
           let round = round_kept budget turn lengths (omega arith) within in
           subst (λ (state : Task). TurnsTo (round_after budget turn lengths) base before after image s state (outcome (min (sum (lengths ++ turn ∷ [])) budget) image.final_pc start).state (state_alone budget (lengths ++ turn ∷ []) (outcome (min (sum (lengths ++ turn ∷ [])) budget) image.final_pc start).run)) (sym h.state)
           (ap (λ n. left_at before after image s (Spent budget n)) (sym round) ∙ ap (left_at before after image s) (sym (short_spent budget turn lengths (omega arith)))
-          ∙ ap (λ (o : Outcome). left_at before after image o.state (state_alone budget (lengths ++ turn ∷ []) o.run)) (sym next))
+          ∙ ap (λ (o : RunOutcome). left_at before after image o.state (state_alone budget (lengths ++ turn ∷ []) o.run)) (sym next))
       by (runs h) =
           let within = h.within in
           let more = sum_push lengths turn in
           let m : ℕ = min (sum lengths) budget in
           let n : ℕ = turn_length (round_after budget turn lengths) (sum lengths) in
-          let p : Outcome = outcome n image.final_pc s in
+          let p : RunOutcome = outcome n image.final_pc s in
           let all : m + n ≡ min (sum (lengths ++ turn ∷ [])) budget = omega arith in
           let later : outcome (m + n) image.final_pc start ≡ record { run = later_run m p.run; state = p.state } = outcome_later start s image.final_pc m n e in
           let next : outcome (min (sum (lengths ++ turn ∷ [])) budget) image.final_pc start ≡ record { run = later_run m p.run; state = p.state } = ap (λ k. outcome k image.final_pc start) (sym all) ∙ later in
-          let inside : IsInside p.run = inside_before m p.run (subst (λ (o : Outcome). IsInside o.run) later (stays_within start image.final_pc (m + n) stays)) in
-          let kept : KeepsWindow start s = subst (λ (o : Outcome). KeepsWindow start o.state) e (outcome_kept m image.final_pc start) in
+          let inside : IsInside p.run = inside_before m p.run (subst (λ (o : RunOutcome). IsInside o.run) later (stays_within start image.final_pc (m + n) stays)) in
+          let kept : KeepsWindow start s = subst (λ (o : RunOutcome). KeepsWindow start o.state) e (outcome_kept m image.final_pc start) in
           let wider = outcome_wider base before after image.final_pc n s (kept.base ∙ at) inside in
           let stands = ran s p h e refl (outcome (min (sum (lengths ++ turn ∷ [])) budget) image.final_pc start) next inside in
           subst (λ (state : Task). TurnsTo (round_after budget turn lengths) base before after image s state (outcome (min (sum (lengths ++ turn ∷ [])) budget) image.final_pc start).state (state_alone budget (lengths ++ turn ∷ []) (outcome (min (sum (lengths ++ turn ∷ [])) budget) image.final_pc start).run)) (sym h.state)
           (ap (after_run (round_after budget turn lengths) (context_at image s (Running (sum lengths))) (sum lengths)) wider
           ∙ ap (left_at before after image p.state) stands
-          ∙ ap (λ (o : Outcome). left_at before after image o.state (state_alone budget (lengths ++ turn ∷ []) (outcome (min (sum (lengths ++ turn ∷ [])) budget) image.final_pc start).run)) (sym next))
+          ∙ ap (λ (o : RunOutcome). left_at before after image o.state (state_alone budget (lengths ++ turn ∷ []) (outcome (min (sum (lengths ++ turn ∷ [])) budget) image.final_pc start).run)) (sym next))
 
   -- a turn on the memory of all does to a task what it goes on with alone, and leaves the words before and after
   pub turn_alone : after_turn (round_after budget turn lengths) base (widened_words before after (outcome (min (sum lengths) budget) image.final_pc start).state.memory) (context_after budget lengths image (outcome (min (sum lengths) budget) image.final_pc start))

@@ -1,5 +1,5 @@
 -- Turns of one length, until no task runs any more.
-use Rattle.std.proofs.Common.{◌≡◌, ◌≢◌, ◌⊎◌, inl, inr, ℕ, zero, suc, ◌+◌, ◌-◌, ◌*◌, ◌<◌, ◌≤◌, ◌||◌, List, [], ◌∷◌, length, map, replicate, Bool, true, false, if◌then◌else◌, Ok, eqb, leb, ltb, refl, sym, ap, subst, ◌∙◌, arith, ⊎_elim}
+use Rattle.std.proofs.Common.{◌≡◌, ◌≢◌, ◌⊎◌, inl, inr, ℕ, zero, suc, ◌+◌, ◌-◌, ◌*◌, ◌<◌, ◌≤◌, List, [], ◌∷◌, length, map, replicate, Bool, true, false, if◌then◌else◌, Ok, eqb, leb, refl, sym, ap, subst, ◌∙◌, arith}
 use Rattle.std.specs.Prelude.{min, sum, All, ◌^◌}
 use Rattle.std.specs.Int.{div_ceil}
 use Rattle.std.specs.List.{list_any}
@@ -11,18 +11,17 @@ use Rattle.std.proofs.lemmas.List.{length-replicate}
 use Rattle.std.proofs.lemmas.List.Elements.{All-head, All-tail}
 use Rattle.std.proofs.lemmas.List.Folds.{sum_by-replicate}
 use Rattle.fm_machine.specs.State.{Fm}
-use Rattle.fm_machine.specs.Run.{Outcome, outcome}
+use Rattle.fm_machine.specs.Run.{RunOutcome, outcome}
 use Rattle.fm_machine.specs.declared.processor.Run.{Run}
 use Rattle.fm_machine.specs.declared.processor.Run.TheVariants as run
 use Rattle.display_maps.specs.Reading.{ReadingOf, reading}
 use Rattle.fm_turns.specs.declared.task.Task.{Task}
 use Rattle.fm_turns.specs.declared.task.Task.TheVariants.{Running, Ended, Spent, Outside}
 use Rattle.fm_turns.specs.Windows.{IsInside}
-use Rattle.fm_turns.specs.Turns.{TurnsOf, states_of, rounds_of}
-use Rattle.fm_turns.specs.Readings.{readings_of, IsAsAlone}
+use Rattle.fm_turns.specs.Turns.{TurnsOf, rounds_of}
 use Rattle.fm_turns.specs.Starting.{NewTask, machine_of, started}
 use Rattle.fm_turns.specs.Alone.{StaysInside, alone, round_reaching, round_of_end, running_or_spent_alone, state_alone}
-use Rattle.fm_turns.specs.EqualTurns.{is_running, has_running, RoundIsQuotient, AreAll, whole_run, state_at_end, EndAsAlone, EachEndsAsAlone}
+use Rattle.fm_turns.specs.EqualTurns.{is_running, has_running, RoundIsQuotient, whole_run, state_at_end, EndAsAlone, EachEndsAsAlone}
 use Rattle.fm_turns.proofs.OutcomeLaws.{outcome_ended, ended_within, stays_within}
 use Rattle.fm_turns.proofs.AloneLaws.{Runs, IsSpent, Short, runs, spent, short}
 use Rattle.fm_turns.proofs.OwnLaws.{each_as_alone}
@@ -120,10 +119,10 @@ module _ (turn budget rounds : ℕ) (some : 1 ≤ turn) (needed : rounds * turn 
       let whole : whole_run budget task ≡ record { run = run.Spent; state = s } = ap (λ n. outcome n task.image.final_pc (machine_of task)) (sym least) ∙ is in
       let zero_sum : sum lengths ≡ 0 = sum_is ∙ nothing in
       record {
-        state = ap (λ (o : Outcome). state_alone budget lengths o.run) is ∙ r.state ∙ ap Running zero_sum
+        state = ap (λ (o : RunOutcome). state_alone budget lengths o.run) is ∙ r.state ∙ ap Running zero_sum
             ∙ sym (ap (λ (b : Bool). if b then Running 0 else Spent budget (div_ceil budget turn)) (eq-eqb budget 0 empty))
-            ∙ sym (ap (λ (o : Outcome). state_at_end turn budget o.run) whole);
-        machine = ap (λ (o : Outcome). o.state) is ∙ sym (ap (λ (o : Outcome). o.state) whole);
+            ∙ sym (ap (λ (o : RunOutcome). state_at_end turn budget o.run) whole);
+        machine = ap (λ (o : RunOutcome). o.state) is ∙ sym (ap (λ (o : RunOutcome). o.state) whole);
       }
     where
       no_rounds : (n : ℕ) → (1 ≤ n → ⊥) → n ≡ 0
@@ -141,20 +140,20 @@ module _ (turn budget rounds : ℕ) (some : 1 ≤ turn) (needed : rounds * turn 
       let round : round_reaching budget lengths ≡ div_ceil budget turn =
       sym (ap (λ (b : Bool). if b then 0 else round_reaching budget lengths) (ne_eqb budget 0 ne)) ∙ quotient budget (omega (arith, within, sum_is)) in
       record {
-        state = ap (λ (o : Outcome). state_alone budget lengths o.run) is ∙ r.state ∙ ap (Spent budget) round
+        state = ap (λ (o : RunOutcome). state_alone budget lengths o.run) is ∙ r.state ∙ ap (Spent budget) round
             ∙ sym (ap (λ (b : Bool). if b then Running 0 else Spent budget (div_ceil budget turn)) (ne_eqb budget 0 ne))
-            ∙ sym (ap (λ (o : Outcome). state_at_end turn budget o.run) whole);
-        machine = ap (λ (o : Outcome). o.state) is ∙ sym (ap (λ (o : Outcome). o.state) whole);
+            ∙ sym (ap (λ (o : RunOutcome). state_at_end turn budget o.run) whole);
+        machine = ap (λ (o : RunOutcome). o.state) is ∙ sym (ap (λ (o : RunOutcome). o.state) whole);
       }
 
   ends_by : (task : NewTask) → StaysInside task → (r : Run) (s : Fm) → alone budget lengths task ≡ record { run = r; state = s } → IsOver (state_alone budget lengths r) → EndsSo turn budget lengths task
   ends_by task stays (run.Ended k) s is over =
-      let made : k ≤ min (sum lengths) budget = ended_within (machine_of task) task.image.final_pc (min (sum lengths) budget) k (ap (λ (o : Outcome). o.run) is) in
+      let made : k ≤ min (sum lengths) budget = ended_within (machine_of task) task.image.final_pc (min (sum lengths) budget) k (ap (λ (o : RunOutcome). o.run) is) in
       let whole : whole_run budget task ≡ record { run = run.Ended k; state = s } = outcome_ended (machine_of task) s task.image.final_pc (min (sum lengths) budget) budget k (omega arith) is in
       record {
-        state = ap (λ (o : Outcome). state_alone budget lengths o.run) is ∙ ap (Ended k) (quotient k (omega (arith, made, sum_is)))
-            ∙ sym (ap (λ (o : Outcome). state_at_end turn budget o.run) whole);
-        machine = ap (λ (o : Outcome). o.state) is ∙ sym (ap (λ (o : Outcome). o.state) whole);
+        state = ap (λ (o : RunOutcome). state_alone budget lengths o.run) is ∙ ap (Ended k) (quotient k (omega (arith, made, sum_is)))
+            ∙ sym (ap (λ (o : RunOutcome). state_at_end turn budget o.run) whole);
+        machine = ap (λ (o : RunOutcome). o.state) is ∙ sym (ap (λ (o : RunOutcome). o.state) whole);
       }
   ends_by task stays run.Spent s is over = by_short (short budget lengths)
     where
@@ -163,7 +162,7 @@ module _ (turn budget rounds : ℕ) (some : 1 ≤ turn) (needed : rounds * turn 
       by_short (spent r) = now_spent task s is r
   ends_by task stays (run.Outside a k) s is over =
       let inside = stays_within (machine_of task) task.image.final_pc (min (sum lengths) budget) stays in
-      absurd (subst (λ (o : Outcome). IsInside o.run) is inside)
+      absurd (subst (λ (o : RunOutcome). IsInside o.run) is inside)
 
   task_ends : (task : NewTask) → StaysInside task → IsOver (state_alone budget lengths (alone budget lengths task).run) → EndsSo turn budget lengths task
   task_ends task stays over = ends_by task stays (alone budget lengths task).run (alone budget lengths task).state refl over

@@ -2,7 +2,7 @@
 use Rattle.std.proofs.Common.{◌≡◌, ℕ, zero, suc, ◌+◌, ◌<◌, ◌≤◌, ◌==◌, List, Bool, true, false, if◌then◌else◌, Result, Ok, Err, refl, ap, subst, ◌∙◌, arith}
 use Rattle.fm_machine.specs.State.{Fm}
 use Rattle.fm_machine.specs.Step.{fm_step, then_on}
-use Rattle.fm_machine.specs.Run.{fm_run, pc_of, Avoids, IsOutcome, Outcome, outcome, one_later, after_one, stepped_on}
+use Rattle.fm_machine.specs.Run.{fm_run, pc_of, Avoids, IsOutcome, RunOutcome, outcome, one_later, after_one, stepped_on}
 use Rattle.fm_machine.specs.declared.fault.Outside.{Outside}
 use Rattle.fm_machine.specs.declared.processor.Run.{Run}
 use Rattle.fm_machine.specs.declared.processor.Run.TheVariants as run
@@ -57,13 +57,13 @@ is_later s t u pc m n (run.Outside a k) h g =
 -- where a run was spent, a run with a larger budget goes on from its state
 pub outcome_later : (s t : Fm) (pc m n : ℕ) → outcome m pc s ≡ record { run = run.Spent; state = t } → outcome (m + n) pc s ≡ record { run = later_run m (outcome n pc t).run; state = (outcome n pc t).state }
 outcome_later s t pc m n e =
-    let h : IsOutcome s pc m run.Spent t = subst (λ (o : Outcome). IsOutcome s pc m o.run o.state) e (outcome_is s pc m) in
+    let h : IsOutcome s pc m run.Spent t = subst (λ (o : RunOutcome). IsOutcome s pc m o.run o.state) e (outcome_is s pc m) in
     outcome_only s pc (m + n) (later_run m (outcome n pc t).run) (outcome n pc t).state (is_later s t (outcome n pc t).state pc m n (outcome n pc t).run h (outcome_is t pc n))
 
 -- where a run ended, it ends so with every larger budget
 pub outcome_ended : (s t : Fm) (pc m n k : ℕ) → m ≤ n → outcome m pc s ≡ record { run = run.Ended k; state = t } → outcome n pc s ≡ record { run = run.Ended k; state = t }
 outcome_ended s t pc m n k le e =
-    let h : IsOutcome s pc m (run.Ended k) t = subst (λ (o : Outcome). IsOutcome s pc m o.run o.state) e (outcome_is s pc m) in
+    let h : IsOutcome s pc m (run.Ended k) t = subst (λ (o : RunOutcome). IsOutcome s pc m o.run o.state) e (outcome_is s pc m) in
     outcome_only s pc n (run.Ended k) t (omega (arith, h.0), h.1)
 
 -- a run that ended was made within its budget
@@ -75,7 +75,7 @@ ended_within s pc budget k e =
 -- where a run was spent, the next one doesn't end at once
 pub not_at_once : (s t : Fm) (pc m n k : ℕ) → outcome m pc s ≡ record { run = run.Spent; state = t } → (outcome n pc t).run ≡ run.Ended k → 0 < k
 not_at_once s t pc m n zero e g =
-    let h : IsOutcome s pc m run.Spent t = subst (λ (o : Outcome). IsOutcome s pc m o.run o.state) e (outcome_is s pc m) in
+    let h : IsOutcome s pc m run.Spent t = subst (λ (o : RunOutcome). IsOutcome s pc m o.run o.state) e (outcome_is s pc m) in
     let d : IsOutcome t pc n (run.Ended 0) (outcome n pc t).state = subst (λ (r : Run). IsOutcome t pc n r (outcome n pc t).state) g (outcome_is t pc n) in
     let reached : fm_run (m + 0) s ≡ Ok (outcome n pc t).state = run_then m 0 s t (outcome n pc t).state h.0 d.1.reached in
     absurd (h.1 (m + 0) (outcome n pc t).state (omega arith) reached d.1.there)
@@ -88,7 +88,7 @@ inside_later (run.Ended k) h = tt
 inside_later run.Spent h = tt
 inside_later (run.Outside a k) h = absurd h
 
-abbrev at_once : Fm → Outcome
+abbrev at_once : Fm → RunOutcome
 at_once s = record { run = run.Ended 0; state = s }
 
 module _ (base : ℕ) (before after : List ℕ) (pc : ℕ) where
@@ -97,7 +97,7 @@ module _ (base : ℕ) (before after : List ℕ) (pc : ℕ) where
   unfolding outcome
   outcome_wider zero s at h = by (pc_of s == pc)
     where
-      by : (b : Bool) → let at_end : Outcome = record { run = run.Ended 0; state = s } in let at_none : Outcome = record { run = run.Spent; state = s } in
+      by : (b : Bool) → let at_end : RunOutcome = record { run = run.Ended 0; state = s } in let at_none : RunOutcome = record { run = run.Spent; state = s } in
           (if b then widened_end base before after at_end else widened_end base before after at_none) ≡ widened_end base before after (if b then at_end else at_none)
       by true = refl
       by false = refl

@@ -5,7 +5,7 @@ use Rattle.std.proofs.lemmas.Bool.{and_parts, eqb-true}
 use Rattle.std.proofs.lemmas.List.{append-nil}
 use Rattle.std.proofs.lemmas.List.Elements.{All-head, All-tail}
 use Rattle.fm_machine.specs.State.{Fm}
-use Rattle.fm_machine.specs.Run.{Outcome, outcome, pc_of}
+use Rattle.fm_machine.specs.Run.{RunOutcome, outcome, pc_of}
 use Rattle.fm_machine.specs.declared.processor.Run.TheVariants as run
 use Rattle.fm_turns.specs.declared.task.Task.{Task}
 use Rattle.fm_turns.specs.declared.task.Task.TheVariants.{Running, Ended}
@@ -46,7 +46,7 @@ started_is (Err fault) tasks turns h = absurd cc
 
 -- ---- before the first round
 
-abbrev at_start : NewTask → Bool → Outcome
+abbrev at_start : NewTask → Bool → RunOutcome
 at_start task b = if b then record { run = run.Ended 0; state = machine_of task } else record { run = run.Spent; state = machine_of task }
 
 alone_at_start : (budget : ℕ) (task : NewTask) → alone budget [] task ≡ at_start task (pc_of (machine_of task) == task.image.final_pc)
@@ -66,14 +66,14 @@ same_task_state budget task false = refl
 memory_at_start : (budget : ℕ) (task : NewTask) → (machine_of task).memory ≡ (alone budget [] task).state.memory
 memory_at_start budget task =
     let is = alone_at_start budget task in
-    sym (ap (λ (o : Outcome). o.state.memory) is ∙ ap (λ (s : Fm). s.memory) (same_state task (pc_of (machine_of task) == task.image.final_pc)))
+    sym (ap (λ (o : RunOutcome). o.state.memory) is ∙ ap (λ (s : Fm). s.memory) (same_state task (pc_of (machine_of task) == task.image.final_pc)))
 
 context_at_start : (budget : ℕ) (task : NewTask) → context_of task.image (machine_of task) ≡ context_alone budget [] task
 context_at_start budget task =
     let b : Bool = pc_of (machine_of task) == task.image.final_pc in
     let is = alone_at_start budget task in
     let at : Fm → Task → TaskContext = λ s state. record { image = task.image; registers = s.registers; flags = s.flags; state = state } in
-    sym (ap (λ (o : Outcome). at o.state (state_alone budget [] o.run)) is ∙ ap (λ (s : Fm). at s (state_alone budget [] (at_start task b).run)) (same_state task b) ∙ ap (at (machine_of task)) (same_task_state budget task b))
+    sym (ap (λ (o : RunOutcome). at o.state (state_alone budget [] o.run)) is ∙ ap (λ (s : Fm). at s (state_alone budget [] (at_start task b).run)) (same_state task b) ∙ ap (at (machine_of task)) (same_task_state budget task b))
 
 memories_at_start : (budget : ℕ) (tasks : List NewTask) → flat_map (λ task. (machine_of task).memory) tasks ≡ flat_map (λ task. (alone budget [] task).state.memory) tasks
 memories_at_start budget [] = refl

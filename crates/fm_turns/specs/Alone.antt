@@ -2,7 +2,7 @@
 use Rattle.std.specs.Prelude.{◌≡◌, ℕ, ◌+◌, ◌-◌, ◌^◌, ◌<◌, ◌==◌, ◌||◌, min, nat_le, nat_lt, if◌then◌else◌}
 use Rattle.std.specs.Prelude.{List, [], ◌∷◌, length, map, flat_map, sum, All, Ok}
 use Rattle.fm_machine.specs.State.{Fm}
-use Rattle.fm_machine.specs.Run.{fm_run, Avoids, IsFirst, IsOutcome, Outcome, outcome}
+use Rattle.fm_machine.specs.Run.{fm_run, Avoids, IsFirst, IsOutcome, RunOutcome, outcome}
 use Rattle.fm_machine.specs.declared.processor.Run.{Run}
 use Rattle.fm_machine.specs.declared.processor.Run.TheVariants as run
 use Rattle.fm_image.specs.Image.{ImageOf}
@@ -20,7 +20,7 @@ StaysInside task = StaysInsideFrom (machine_of task) task.image.final_pc
 -- ---- a task alone
 
 -- its run to the final pc from the loaded machine, within the sum of the turns and the budget
-abbrev pub alone : ℕ → List ℕ → NewTask → Outcome
+abbrev pub alone : ℕ → List ℕ → NewTask → RunOutcome
 alone budget lengths task = outcome (min (sum lengths) budget) task.image.final_pc (machine_of task)
 
 -- the round in which turns of these lengths come to so many instructions
@@ -82,7 +82,7 @@ AloneIsWhole =
 -- ---- all tasks
 
 -- what a task has to itself, by the end of its run alone
-abbrev pub context_after : ℕ → List ℕ → ImageOf → Outcome → TaskContext
+abbrev pub context_after : ℕ → List ℕ → ImageOf → RunOutcome → TaskContext
 context_after budget lengths image o =
     record {
       image = image;

@@ -2,7 +2,7 @@
 use Rattle.std.specs.Prelude.{◌≡◌, ◌⊎◌, ℕ, ◌+◌, ◌*◌, ◌^◌, ◌<◌, ◌≤◌, ◌==◌, if◌then◌else◌, Bool, true, false, List, map, replicate, All, Ok}
 use Rattle.std.specs.List.{list_any}
 use Rattle.std.specs.Int.{div_ceil}
-use Rattle.fm_machine.specs.Run.{Outcome, outcome}
+use Rattle.fm_machine.specs.Run.{RunOutcome, outcome}
 use Rattle.fm_machine.specs.declared.processor.Run.{Run}
 use Rattle.fm_machine.specs.declared.processor.Run.TheVariants as run
 use Rattle.display_maps.specs.Reading.{reading}
@@ -32,7 +32,7 @@ pub record AreAll (turn budget rounds : ℕ) (turns : TurnsOf) : Type 0 where
   pub enough : (budget ≤ rounds * turn) ⊎ (has_running turns ≡ false)
 
 -- a task's run alone, within the budget
-abbrev pub whole_run : ℕ → NewTask → Outcome
+abbrev pub whole_run : ℕ → NewTask → RunOutcome
 whole_run budget task = outcome budget task.image.final_pc (machine_of task)
 
 -- how a task stands at the end, by its run alone; for a budget of 0 no round is made

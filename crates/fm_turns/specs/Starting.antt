@@ -1,7 +1,9 @@
 -- Tasks as they begin.
-use Rattle.std.specs.Prelude.{ℕ, ◌+◌, ◌^◌, ◌==◌, ◌&&◌, not, if◌then◌else◌, Bool, true, nat_le, nat_lt}
+use Rattle.std.specs.Prelude.{ℕ, ◌+◌, ◌==◌, ◌&&◌, not, if◌then◌else◌, Bool, true, nat_le, nat_lt}
 use Rattle.std.specs.Prelude.{List, [], ◌∷◌, length, map, flat_map, sum_by, slice_index, All, Option, Some, None, Result, Ok, Err}
 use Rattle.std.specs.Global.{Vec}
+use Rattle.fm_words.specs.WindowLimit.{most_window}
+use Rattle.stack_text.specs.SharedLimits.{most_tasks}
 use Rattle.stack_text.specs.Values.{ValueOf}
 use Rattle.fm_machine.specs.State.{Fm}
 use Rattle.fm_image.specs.Image.{ImageOf}
@@ -62,9 +64,9 @@ total_size tasks = sum_by (λ task. task.image.size) tasks
 -- the size of the window of all, or why the tasks can't take turns
 unfoldable pub window_size : List NewTask → Result ℕ TurnsFault
 window_size tasks =
-    if not (nat_le 1 (length tasks) && nat_le (length tasks) 8) then Err Count else
+    if not (nat_le 1 (length tasks) && nat_le (length tasks) most_tasks) then Err Count else
     if not (adjoin tasks) then Err Apart else
-    if nat_lt (2 ^ 20) (total_size tasks) then Err (Size (total_size tasks)) else Ok (total_size tasks)
+    if nat_lt most_window (total_size tasks) then Err (Size (total_size tasks)) else Ok (total_size tasks)
 
 -- ---- before the first round
 

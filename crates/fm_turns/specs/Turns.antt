@@ -2,7 +2,7 @@
 use Rattle.std.specs.Prelude.{◌≡◌, ℕ, ◌+◌, ◌-◌, ◌^◌, ◌==◌, ◌≤◌, min, if◌then◌else◌, List, [], ◌∷◌, length, map, All}
 use Rattle.fm_machine.specs.State.{Fm}
 use Rattle.fm_image.specs.Image.{ImageOf}
-use Rattle.fm_machine.specs.Run.{Outcome, outcome}
+use Rattle.fm_machine.specs.Run.{RunOutcome, outcome}
 use Rattle.fm_machine.specs.declared.processor.Run.{Run}
 use Rattle.fm_machine.specs.declared.processor.Run.TheVariants as run
 use Rattle.fm_turns.specs.declared.task.Task.{Task}
@@ -44,7 +44,7 @@ pub record AfterTurn : Type 0 where
   pub context : TaskContext
 
 -- what the run of a turn leaves
-abbrev pub after_run : Round → TaskContext → ℕ → Outcome → AfterTurn
+abbrev pub after_run : Round → TaskContext → ℕ → RunOutcome → AfterTurn
 after_run round context count o =
     record {
       memory = o.state.memory;

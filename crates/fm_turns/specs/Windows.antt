@@ -2,7 +2,7 @@
 use Rattle.std.specs.Prelude.{◌≡◌, ◌≢◌, ℕ, ◌+◌, ◌-◌, List, ◌++◌, length, take, drop, Ok, Err}
 use Rattle.fm_machine.specs.State.{Fm}
 use Rattle.fm_machine.specs.Step.{fm_step}
-use Rattle.fm_machine.specs.Run.{fm_run, Avoids, Outcome, outcome}
+use Rattle.fm_machine.specs.Run.{fm_run, Avoids, RunOutcome, outcome}
 use Rattle.fm_machine.specs.declared.fault.Outside.{Outside}
 use Rattle.fm_machine.specs.declared.processor.Run.{Run}
 use Rattle.fm_machine.specs.declared.processor.Run.TheVariants as run
@@ -32,7 +32,7 @@ widened base before after s =
     record { base = base; registers = s.registers; flags = s.flags; memory = widened_words before after s.memory }
 
 -- a run's end, in the wider window
-abbrev pub widened_end : ℕ → List ℕ → List ℕ → Outcome → Outcome
+abbrev pub widened_end : ℕ → List ℕ → List ℕ → RunOutcome → RunOutcome
 widened_end base before after o = record { run = o.run; state = widened base before after o.state }
 
 -- a state's window begins behind these words, which begin at base

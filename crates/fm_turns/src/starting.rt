@@ -12,8 +12,12 @@ use crate::fault::TurnsFault;
 use fm_image::Image;
 use fm_loader::load;
 use fm_machine::Machine;
-use stack_text::{Memory, Value};
+use fm_words::MOST_WINDOW;
+use stack_text::{MOST_TASKS, Memory, Value};
 use std::alloc::Global;
+
+/// The most words of the window of all.
+const MOST_WORDS: u64 = MOST_WINDOW as u64;
 
 /// The base of the first window, or 0 where there is none.
 pub(crate) fn first_base(tasks: &[(Image, Vec<Value>)]) -> u32
@@ -83,14 +87,14 @@ pub(crate) fn window_size(tasks: &[(Image, Vec<Value>)]) -> Result<u32, TurnsFau
     ensures value { result ≡ window_size (new_tasks tasks.now) }
     ensures window { IfOk result (λ size. is_refused (first_base (new_tasks tasks.now)) size ≡ false) }
 {
-    if tasks.is_empty() || tasks.len() > 8 {
+    if tasks.is_empty() || tasks.len() > MOST_TASKS as usize {
         return Err(TurnsFault::Count);
     }
     if !adjoin(tasks) {
         return Err(TurnsFault::Apart);
     }
     let words = total_size(tasks);
-    if words > 1 << 20 {
+    if words > MOST_WORDS {
         return Err(TurnsFault::Size { words });
     }
     Ok(words as u32)

@@ -9,9 +9,11 @@ mod condition;
 mod field;
 mod instruction;
 mod operation;
+mod window_limit;
 mod word;
 
 pub use condition::{Cc, Flags, holds};
 pub use instruction::{Instr, Mode, OperandA, decode, encode};
 pub use operation::{AluOut, Op, alu};
+pub use window_limit::MOST_WINDOW;
 pub use word::{is_int, is_nat, signed_of, word_of_int, wrapped};

@@ -14,17 +14,18 @@ use Rattle.gypsy_syntax.specs.declared.slot.Slot.{Slot}
 use Rattle.gypsy_syntax.specs.Programs.{simple, shapes_of, Var, Lit}
 use Rattle.gypsy_syntax.specs.ProgramFits.{ValueFits, ArgFits, ArgsFit, slot_kind}
 use Rattle.stack_text.specs.Breaches.{when}
+use Rattle.stack_text.proofs.SharedLaws.{rule_holds, rule_fails, append_none, kind_same}
 use Rattle.gypsy_check.specs.Declarations.{type_at, type_of}
 use Rattle.gypsy_check.specs.Types.{has_length, is_of_kind}
 use Rattle.gypsy_check.specs.Arguments.{kind_of_type, kind_of_literal, kind_of, is_wanted, settled_by, is_undeclared}
 use Rattle.gypsy_check.specs.Rules.{literal_breaches, slots_breaches, argument_breaches, declared_breaches, number_breaches, predef_breaches, type_breaches}
-use Rattle.gypsy_check.proofs.CleanLaws.{two, fails, holds, chosen, unless, at_place}
+use Rattle.gypsy_check.proofs.CleanLaws.{chosen, unless, at_place}
 use Rattle.gypsy_check.proofs.NameLaws.{shape_found}
-use Rattle.gypsy_check.proofs.LiteralLaws.{kind_same, kind_self, literal_fits, array_length}
+use Rattle.gypsy_check.proofs.LiteralLaws.{kind_self, literal_fits, array_length}
 
 type_kept : (types : List TypeText) (o : Option ℕ) (t : TypeText) → flat_map type_breaches types ≡ [] → type_at types o ≡ Some t → has_length t.length ≡ true
 type_kept types None t e h = cc
-type_kept types (Some i) t e h = holds (has_length t.length) t.place 7 (at_place type_breaches types i t e h)
+type_kept types (Some i) t e h = rule_holds (has_length t.length) t.place 7 (at_place type_breaches types i t e h)
 
 -- each variable's type has a length
 pub type_good : (p : ProcOf) (name : List ℕ) (t : TypeText) → flat_map type_breaches (variable_types p) ≡ [] → type_of p name ≡ Some t → has_length t.length ≡ true
@@ -94,9 +95,9 @@ slots_fit s p settled [] (a ∷ args) g h n e = absurd (omega (arith, n))
 slots_fit s p settled (slot ∷ slots) [] g h n e = absurd (omega (arith, n))
 slots_fit s p settled (slot ∷ slots) (a ∷ args) g h n e =
     let o = kind_of p slot.form a in
-    let c = two (when (not (is_wanted settled slot.kind o)) (arg_place a) 23) (slots_breaches p (settled_by settled slot.kind o) slots args) e in
-    let b = two (argument_breaches p a) (flat_map (argument_breaches p) args) h in
-    let w = wanted settled slot.kind o (holds (is_wanted settled slot.kind o) (arg_place a) 23 c.0) in
+    let c = append_none (when (not (is_wanted settled slot.kind o)) (arg_place a) 23) (slots_breaches p (settled_by settled slot.kind o) slots args) e in
+    let b = append_none (argument_breaches p a) (flat_map (argument_breaches p) args) h in
+    let w = wanted settled slot.kind o (rule_holds (is_wanted settled slot.kind o) (arg_place a) 23 c.0) in
     let r = slots_fit s p (settled_by settled slot.kind o) slots args g b.1 (omega (arith, n)) c.1 in
     let v = w.2 r.0 r.1 in
     (r.0, v.0, (subst (λ k. ArgFits (shapes_of (procedure_of s p)) slot.form k (argument_of p a)) v.1 (argument_fits s p slot.form a w.0 g b.0 w.1), r.2))
@@ -104,15 +105,15 @@ slots_fit s p settled (slot ∷ slots) (a ∷ args) g h n e =
 all_declared : (p : ProcOf) (args : List ArgOf) → flat_map (argument_breaches p) args ≡ [] → list_any (is_undeclared p) args ≡ false
 all_declared p [] e = refl
 all_declared p (variable n ∷ args) e =
-    let k = two (argument_breaches p (variable n)) (flat_map (argument_breaches p) args) e in
-    let d : is_none (type_of p n.name) ≡ false = fails (is_none (type_of p n.name)) n.place 14 k.0 in
+    let k = append_none (argument_breaches p (variable n)) (flat_map (argument_breaches p) args) e in
+    let d : is_none (type_of p n.name) ≡ false = rule_fails (is_none (type_of p n.name)) n.place 14 k.0 in
     rw d (all_declared p args k.1)
 all_declared p (constant l ∷ args) e =
-    all_declared p args (two (argument_breaches p (constant l)) (flat_map (argument_breaches p) args) e).1
+    all_declared p args (append_none (argument_breaches p (constant l)) (flat_map (argument_breaches p) args) e).1
 
 pub predef_fits : (s : SourceOf) (p : ProcOf) (place : ℕ) (slots : List Slot) (args : List ArgOf) → flat_map type_breaches (variable_types p) ≡ [] → predef_breaches p place slots args ≡ [] → (k : Kind) × ArgsFit (shapes_of (procedure_of s p)) k slots (map (argument_of p) args)
 predef_fits s p place slots args g e =
-    let parts = two (flat_map (argument_breaches p) args) (number_breaches p place slots args) e in
+    let parts = append_none (flat_map (argument_breaches p) args) (number_breaches p place slots args) e in
     let c = chosen (length args == length slots) (declared_breaches p slots args) (record { place = place; rule = 22 }) parts.1 in
     let u = unless (list_any (is_undeclared p) args) (slots_breaches p None slots args) c.1 (all_declared p args parts.0) in
     let r = slots_fit s p None slots args g parts.0 (eqb-true (length args) (length slots) c.0) u in

@@ -4,7 +4,8 @@ use Rattle.std.specs.Map.{lookup}
 use Rattle.std.proofs.lemmas.List.{take_more}
 use Rattle.indexmap.specs.IndexMap.{insert_entry}
 use Rattle.gypsy_syntax.specs.declared.proc.Proc.{Proc}
-use Rattle.gypsy_check.specs.Tables.{is_named, first_or}
+use Rattle.gypsy_check.specs.Tables.{is_named}
+use Rattle.stack_text.specs.Options.{first_or}
 
 abbrev Key : Type 0
 Key = Bor (List ℕ)

@@ -14,20 +14,22 @@ use Rattle.gypsy_syntax.specs.Sources.{StmtOf, StmtsOf, no_op, signal, seq, loop
 use Rattle.gypsy_syntax.specs.Resolved.{place_among, position_of, variable_names, variable_types, condition_names, procedure_names, shape_of, local_value}
 use Rattle.gypsy_syntax.specs.Resolved.{is_leave_name, is_routine_name, is_space_name, cond_of, variable_of, statement_of, statement_of_all, procedure_of, program_of}
 use Rattle.gypsy_syntax.specs.Predefined.{slots_of}
-use Rattle.gypsy_syntax.specs.Programs.{Cond, Leave, Routine, Space, Declared, simple, shapes_of, words_of, Proc, Program, no_proc, proc_at}
+use Rattle.gypsy_syntax.specs.Programs.{ConditionOf, Leave, Routine, Space, Declared, simple, shapes_of, words_of, Proc, Program, no_proc, proc_at}
 use Rattle.gypsy_syntax.specs.ProgramFits.{ValueFits, Each, CondFits, HandlerFits, ActualsFit, CallFits, StmtFits, ProcFits, ProgramFits}
 use Rattle.stack_text.specs.Breaches.{when}
 use Rattle.gypsy_check.specs.Declarations.{type_of, procedure_at, procedure_named, is_condition, variables_of, conditions_of, repeats}
-use Rattle.gypsy_check.specs.Types.{same_kind, same_length, same_type, is_boolean, has_length, words_of_types}
+use Rattle.gypsy_check.specs.Types.{same_length, same_type, is_boolean, has_length, words_of_types}
+use Rattle.stack_text.specs.Values.{same_kind}
+use Rattle.stack_text.proofs.SharedLaws.{not_true, rule_holds, rule_fails, some_of, append_none}
 use Rattle.gypsy_check.specs.Rules.{raised_breaches, handled_breaches, handlers_breaches, undeclared, is_of_type, test_breaches, actuals_breaches, data_breaches, callee_breaches, callee_name_breaches, actual_name_breaches, call_breaches, statement_breaches, parts_breaches, is_reserved, condition_breaches, type_breaches, local_breaches, variable_breaches, condition_name_breaches, size_breaches, procedure_breaches, name_breaches, main_breaches, violations}
-use Rattle.gypsy_check.proofs.CleanLaws.{two, three, four, fails, holds, chosen, some_of, each_of, each_map, get_or_map, each_place}
+use Rattle.gypsy_check.proofs.CleanLaws.{three, four, chosen, each_of, each_map, get_or_map, each_place}
 use Rattle.gypsy_check.proofs.NameLaws.{Found, found_below, found_name, one_name, eq_self, procedure_found, distinct, shapes_are, shape_found, variable_found}
 use Rattle.gypsy_check.proofs.LiteralLaws.{type_same, local_fits, words_are, few_lengths}
 use Rattle.gypsy_check.proofs.ArgumentLaws.{predef_fits}
 
 -- Conditions.
 
-abbrev chosen_cond : Bool → Bool → Bool → ℕ → Cond
+abbrev chosen_cond : Bool → Bool → Bool → ℕ → ConditionOf
 chosen_cond l r s i = if l then Leave else if r then Routine else if s then Space else Declared i
 
 raised_fits : (l r s k in_loop : Bool) (n i : ℕ) → (k ≡ true → i < n) → (l || r || k) ≡ true → (l && not in_loop) ≡ false → (s ≡ true → k ≡ false) → CondFits in_loop n (chosen_cond l r s i)
@@ -45,10 +47,6 @@ handled_fits false true s k n i h e f g u = tt
 handled_fits false false true k n i h e f g u = tt
 handled_fits false false false k n i h e f g u = h e
 
-not_none : (b : Bool) → not b ≡ true → b ≡ false
-not_none true e = cc
-not_none false e = refl
-
 number_of_names : (p : ProcOf) → length (condition_names p) ≡ length p.conds + length p.local_conds
 number_of_names p =
     let a : length (condition_names p) ≡ length (map (λ (n : Named). n.name) p.conds) + length (map (λ (n : Named). n.name) p.local_conds) = length-append (map (λ (n : Named). n.name) p.conds) (map (λ (n : Named). n.name) p.local_conds) in
@@ -56,7 +54,7 @@ number_of_names p =
 
 condition_below : (p : ProcOf) (name : List ℕ) → is_condition p name ≡ true → position_of name (condition_names p) < length p.conds + length p.local_conds
 condition_below p name e =
-    omega (arith, found_below name (condition_names p) (not_none (is_none (place_among name (condition_names p))) e), number_of_names p)
+    omega (arith, found_below name (condition_names p) (not_true (is_none (place_among name (condition_names p))) e), number_of_names p)
 
 leave_not_routine : (name : List ℕ) → is_leave_name name ≡ true → is_routine_name name ≡ false
 leave_not_routine name e =
@@ -70,8 +68,8 @@ leave_not_space name e =
 
 not_reserved : (cs : List Named) (i : ℕ) → flat_map condition_breaches cs ≡ [] → i < length cs → is_reserved (get_or (map (λ (n : Named). n.name) cs) i []) ≡ false
 not_reserved [] i e h = absurd (omega (arith, h))
-not_reserved (c ∷ cs) zero e h = fails (is_reserved c.name) c.place 6 (two (condition_breaches c) (flat_map condition_breaches cs) e).0
-not_reserved (c ∷ cs) (suc i) e h = not_reserved cs i (two (condition_breaches c) (flat_map condition_breaches cs) e).1 (omega (arith, h))
+not_reserved (c ∷ cs) zero e h = rule_fails (is_reserved c.name) c.place 6 (append_none (condition_breaches c) (flat_map condition_breaches cs) e).0
+not_reserved (c ∷ cs) (suc i) e h = not_reserved cs i (append_none (condition_breaches c) (flat_map condition_breaches cs) e).1 (omega (arith, h))
 
 names_join : (xs ys : List Named) → map (λ (n : Named). n.name) xs ++ map (λ (n : Named). n.name) ys ≡ map (λ (n : Named). n.name) (xs ++ ys)
 names_join [] ys = refl
@@ -91,7 +89,7 @@ reserved_not_declared p name e is =
   where
     kept : is_condition p name ≡ true → is_reserved name ≡ false
     kept k =
-        let found : Found (condition_names p) name = not_none (is_none (place_among name (condition_names p))) k in
+        let found : Found (condition_names p) name = not_true (is_none (place_among name (condition_names p))) k in
         let i = position_of name (condition_names p) in
         let below : i < length (p.conds ++ p.local_conds) = omega (arith, condition_below p name k, length-append p.conds p.local_conds) in
         let at : get_or (map (λ (n : Named). n.name) (p.conds ++ p.local_conds)) i [] ≡ name = ap (λ ns. get_or ns i []) (sym (names_join p.conds p.local_conds)) ∙ found_name name (condition_names p) found in
@@ -103,8 +101,8 @@ cond_fits p reserved in_loop c e =
     let r = is_routine_name c.name in
     let s = is_space_name c.name in
     let k = is_condition p c.name in
-    let h = two (when (not (l || r || k)) c.place 10) (when (l && not in_loop) c.place 11) e in
-    raised_fits l r s k in_loop (length p.conds + length p.local_conds) (position_of c.name (condition_names p)) (condition_below p c.name) (holds (l || r || k) c.place 10 h.0) (fails (l && not in_loop) c.place 11 h.1) (λ is. reserved_not_declared p c.name reserved (space_reserved c.name is))
+    let h = append_none (when (not (l || r || k)) c.place 10) (when (l && not in_loop) c.place 11) e in
+    raised_fits l r s k in_loop (length p.conds + length p.local_conds) (position_of c.name (condition_names p)) (condition_below p c.name) (rule_holds (l || r || k) c.place 10 h.0) (rule_fails (l && not in_loop) c.place 11 h.1) (λ is. reserved_not_declared p c.name reserved (space_reserved c.name is))
 
 handler_fits : (p : ProcOf) → flat_map condition_breaches (p.conds ++ p.local_conds) ≡ [] → (c : Named) → handled_breaches p c ≡ [] → HandlerFits (length p.conds + length p.local_conds) (cond_of p c)
 handler_fits p reserved c e =
@@ -112,7 +110,7 @@ handler_fits p reserved c e =
     let r = is_routine_name c.name in
     let s = is_space_name c.name in
     let k = is_condition p c.name in
-    handled_fits l r s k (length p.conds + length p.local_conds) (position_of c.name (condition_names p)) (condition_below p c.name) (holds (r || s || k) c.place 12 e) (λ is. reserved_not_declared p c.name reserved (leave_reserved c.name is)) (leave_not_routine c.name) (leave_not_space c.name)
+    handled_fits l r s k (length p.conds + length p.local_conds) (position_of c.name (condition_names p)) (condition_below p c.name) (rule_holds (r || s || k) c.place 12 e) (λ is. reserved_not_declared p c.name reserved (leave_reserved c.name is)) (leave_not_routine c.name) (leave_not_space c.name)
 
 -- Variables.
 
@@ -125,9 +123,9 @@ boolean_shape t g = type_same t record { place = 0; kind = Boolean; length = Non
 
 test_fits : (s : SourceOf) (p : ProcOf) (n : Named) → test_breaches p n ≡ [] → slice_get (shapes_of (procedure_of s p)) (variable_of p n) ≡ Some (simple Boolean)
 test_fits s p n e =
-    let k = two (undeclared p n) (when (not (is_of_type is_boolean (type_of p n.name))) n.place 15) e in
-    let t = some_of (type_of p n.name) (fails (is_none (type_of p n.name)) n.place 14 k.0) in
-    let good : is_boolean t.0 ≡ true = ap (is_of_type is_boolean) (sym t.1) ∙ holds (is_of_type is_boolean (type_of p n.name)) n.place 15 k.1 in
+    let k = append_none (undeclared p n) (when (not (is_of_type is_boolean (type_of p n.name))) n.place 15) e in
+    let t = some_of (type_of p n.name) (rule_fails (is_none (type_of p n.name)) n.place 14 k.0) in
+    let good : is_boolean t.0 ≡ true = ap (is_of_type is_boolean) (sym t.1) ∙ rule_holds (is_of_type is_boolean (type_of p n.name)) n.place 15 k.1 in
     shape_found s p n.name t.0 t.1 ∙ ap Some (boolean_shape t.0 good)
 
 -- Calls.
@@ -137,10 +135,10 @@ actuals_fit s p [] [] e n h = tt
 actuals_fit s p [] (x ∷ xs) e n h = absurd (omega (arith, n))
 actuals_fit s p (f ∷ fs) [] e n h = absurd (omega (arith, n))
 actuals_fit s p (f ∷ fs) (x ∷ xs) e n h =
-    let a = two (when (not (is_of_type (same_type f.shape) (type_of p x.name))) x.place 21) (actuals_breaches p (map (λ (d : Decl). d.shape) fs) xs) e in
-    let b = two (undeclared p x) (flat_map (undeclared p) xs) h in
-    let t = some_of (type_of p x.name) (fails (is_none (type_of p x.name)) x.place 14 b.0) in
-    let good : same_type f.shape t.0 ≡ true = ap (is_of_type (same_type f.shape)) (sym t.1) ∙ holds (is_of_type (same_type f.shape) (type_of p x.name)) x.place 21 a.0 in
+    let a = append_none (when (not (is_of_type (same_type f.shape) (type_of p x.name))) x.place 21) (actuals_breaches p (map (λ (d : Decl). d.shape) fs) xs) e in
+    let b = append_none (undeclared p x) (flat_map (undeclared p) xs) h in
+    let t = some_of (type_of p x.name) (rule_fails (is_none (type_of p x.name)) x.place 14 b.0) in
+    let good : same_type f.shape t.0 ≡ true = ap (is_of_type (same_type f.shape)) (sym t.1) ∙ rule_holds (is_of_type (same_type f.shape) (type_of p x.name)) x.place 21 a.0 in
     (shape_found s p x.name t.0 t.1 ∙ ap Some (sym (type_same f.shape t.0 good)), actuals_fit s p fs xs a.1 (omega (arith, n)) b.1)
 
 procedure_there : (procs : List ProcOf) (o : Option ℕ) (c : ProcOf) (s : SourceOf) → procedure_at procs o ≡ Some c → get_or (map (procedure_of s) procs) (unwrap_or o 0) no_proc ≡ procedure_of s c
@@ -155,10 +153,10 @@ named_below s name e =
 -- what a callee that is there says of the actuals
 callee_fits : (s : SourceOf) (p c : ProcOf) (xs_place : ℕ) (xs : List Named) (cs_place : ℕ) (cs : List Named) → callee_breaches p (Some c) xs_place xs cs_place cs ≡ [] → flat_map (undeclared p) xs ≡ [] → ActualsFit (shapes_of (procedure_of s p)) (procedure_of s c).formals (map (variable_of p) xs) × (length cs ≡ length c.conds)
 callee_fits s p c xs_place xs cs_place cs e h =
-    let a = two (data_breaches p c xs_place xs) (when (not (length cs == length c.conds)) cs_place 19) e in
+    let a = append_none (data_breaches p c xs_place xs) (when (not (length cs == length c.conds)) cs_place 19) e in
     let b = chosen (length xs == length c.formals) (actuals_breaches p (map (λ (d : Decl). d.shape) c.formals) xs) (record { place = xs_place; rule = 18 }) a.0 in (
       actuals_fit s p c.formals xs b.1 (eqb-true (length xs) (length c.formals) b.0) h,
-      eqb-true (length cs) (length c.conds) (holds (length cs == length c.conds) cs_place 19 a.1),
+      eqb-true (length cs) (length c.conds) (rule_holds (length cs == length c.conds) cs_place 19 a.1),
     )
 
 call_fits : (s : SourceOf) (p : ProcOf) (in_loop : Bool) (callee : Named) (xs_place : ℕ) (xs : List Named) (cs_place : ℕ) (cs : List Named) → is_none (procedure_named s s.main.name) ≡ false → flat_map condition_breaches (p.conds ++ p.local_conds) ≡ [] → call_breaches s p in_loop callee xs_place xs cs_place cs ≡ [] → CallFits (program_of s) (shapes_of (procedure_of s p)) (length p.conds + length p.local_conds) in_loop (position_of callee.name (procedure_names s)) (map (variable_of p) xs) (map (cond_of p) cs)
@@ -166,13 +164,13 @@ call_fits s p in_loop callee xs_place xs cs_place cs main reserved e =
     let v10 = flat_map (raised_breaches p in_loop) cs in
     let v18 = callee_breaches p (procedure_named s callee.name) xs_place xs cs_place cs in
     let parts = four (callee_name_breaches s callee) (actual_name_breaches p xs) v10 v18 e in
-    let a = two (when (is_none (procedure_named s callee.name)) callee.place 16) (when (bytes_eq callee.name s.main.name) callee.place 17) parts.0 in
-    let b = two (flat_map (undeclared p) xs) (repeats 20 [] xs) parts.1 in
-    let there : is_none (procedure_named s callee.name) ≡ false = fails (is_none (procedure_named s callee.name)) callee.place 16 a.0 in
+    let a = append_none (when (is_none (procedure_named s callee.name)) callee.place 16) (when (bytes_eq callee.name s.main.name) callee.place 17) parts.0 in
+    let b = append_none (flat_map (undeclared p) xs) (repeats 20 [] xs) parts.1 in
+    let there : is_none (procedure_named s callee.name) ≡ false = rule_fails (is_none (procedure_named s callee.name)) callee.place 16 a.0 in
     let c = some_of (procedure_named s callee.name) there in
     let found : Found (procedure_names s) callee.name = procedure_found s.procs (place_among callee.name (procedure_names s)) there in
     let main_found : Found (procedure_names s) s.main.name = procedure_found s.procs (place_among s.main.name (procedure_names s)) main in
-    let other : bytes_eq callee.name s.main.name ≡ false = fails (bytes_eq callee.name s.main.name) callee.place 17 a.1 in
+    let other : bytes_eq callee.name s.main.name ≡ false = rule_fails (bytes_eq callee.name s.main.name) callee.place 17 a.1 in
     let at : proc_at (program_of s) (position_of callee.name (procedure_names s)) ≡ procedure_of s c.0 = procedure_there s.procs (place_among callee.name (procedure_names s)) c.0 s c.1 in
     let good = callee_fits s p c.0 xs_place xs cs_place cs (subst (λ o. callee_breaches p o xs_place xs cs_place cs ≡ []) c.1 parts.3) b.0 in
     let shapes = shapes_of (procedure_of s p) in
@@ -180,7 +178,7 @@ call_fits s p in_loop callee xs_place xs cs_place cs main reserved e =
       callee = named_below s callee.name there;
       not_main = λ same. true≢false (sym (eq_self callee.name s.main.name (one_name callee.name s.main.name (procedure_names s) found main_found same)) ∙ other);
       actuals = subst (λ (r : Proc). ActualsFit shapes r.formals (map (variable_of p) xs)) (sym at) good.0;
-      distinct = distinct (variable_names p) 20 [] xs b.1 (each_of (undeclared p) (λ (n : Named). Found (variable_names p) n.name) xs (λ n u. variable_found p n.name (fails (is_none (type_of p n.name)) n.place 14 u)) b.0);
+      distinct = distinct (variable_names p) 20 [] xs b.1 (each_of (undeclared p) (λ (n : Named). Found (variable_names p) n.name) xs (λ n u. variable_found p n.name (rule_fails (is_none (type_of p n.name)) n.place 14 u)) b.0);
       number = length-map cs (cond_of p) ∙ good.1 ∙ ap (λ (r : Proc). r.conds) (sym at);
       conds = each_map (cond_of p) (CondFits in_loop (length p.conds + length p.local_conds)) (λ n. raised_breaches p in_loop n ≡ []) cs (cond_fits p reserved in_loop) (each_of (raised_breaches p in_loop) (λ n. raised_breaches p in_loop n ≡ []) cs (λ n u. u) parts.2);
     }
@@ -199,7 +197,7 @@ module _ (s : SourceOf) (p : ProcOf) (main : is_none (procedure_named s s.main.n
         (test_fits s p test h.0, statement_fits in_loop b h.1, statement_fits in_loop c h.2)
     statement_fits in_loop (begin place body conds arm) e =
         let h = three (statement_breaches s p in_loop body) (handlers_breaches p conds) (statement_breaches s p in_loop arm) e in
-        let k = two (flat_map (handled_breaches p) conds) (repeats 13 [] conds) h.1 in
+        let k = append_none (flat_map (handled_breaches p) conds) (repeats 13 [] conds) h.1 in
         (each_map (cond_of p) (HandlerFits (length p.conds + length p.local_conds)) (λ n. handled_breaches p n ≡ []) conds (handler_fits p reserved) (each_of (handled_breaches p) (λ n. handled_breaches p n ≡ []) conds (λ n u. u) k.0), statement_fits in_loop body h.0, statement_fits in_loop arm h.2)
     statement_fits in_loop (call place callee xs_place xs cs_place cs) e = call_fits s p in_loop callee xs_place xs cs_place cs main reserved e
     statement_fits in_loop (predef place which args) e =
@@ -208,7 +206,7 @@ module _ (s : SourceOf) (p : ProcOf) (main : is_none (procedure_named s s.main.n
     parts_fit : (in_loop : Bool) (parts : StmtsOf) → parts_breaches s p in_loop parts ≡ [] → StmtFits (program_of s) (shapes_of (procedure_of s p)) (length p.conds + length p.local_conds) in_loop (statement_of_all s p parts)
     parts_fit in_loop no_parts e = tt
     parts_fit in_loop (part b rest) e =
-        let h = two (statement_breaches s p in_loop b) (parts_breaches s p in_loop rest) e in
+        let h = append_none (statement_breaches s p in_loop b) (parts_breaches s p in_loop rest) e in
         (statement_fits in_loop b h.0, parts_fit in_loop rest h.1)
 
 -- Procedures.
@@ -216,23 +214,23 @@ module _ (s : SourceOf) (p : ProcOf) (main : is_none (procedure_named s s.main.n
 formal_lengths : (formals : List Decl) (types : List TypeText) → flat_map type_breaches (map (λ (d : Decl). d.shape) formals ++ types) ≡ [] → Each (λ (s : Shape). s.length ≤ 4096) (map (λ (d : Decl). shape_of d.shape) formals)
 formal_lengths [] types e = tt
 formal_lengths (d ∷ ds) types e =
-    let h = two (type_breaches d.shape) (flat_map type_breaches (map (λ (d : Decl). d.shape) ds ++ types)) e in
-    (few_lengths d.shape.length (holds (has_length d.shape.length) d.shape.place 7 h.0), formal_lengths ds types h.1)
+    let h = append_none (type_breaches d.shape) (flat_map type_breaches (map (λ (d : Decl). d.shape) ds ++ types)) e in
+    (few_lengths d.shape.length (rule_holds (has_length d.shape.length) d.shape.place 7 h.0), formal_lengths ds types h.1)
 
 local_values : (formals : List Decl) (locals : List LocalOf) → flat_map type_breaches (map (λ (d : Decl). d.shape) formals ++ map (λ (l : LocalOf). l.decl.shape) locals) ≡ [] → flat_map local_breaches locals ≡ [] → Each ValueFits (map local_value locals)
-local_values (d ∷ ds) locals e h = local_values ds locals (two (type_breaches d.shape) (flat_map type_breaches (map (λ (d : Decl). d.shape) ds ++ map (λ (l : LocalOf). l.decl.shape) locals)) e).1 h
+local_values (d ∷ ds) locals e h = local_values ds locals (append_none (type_breaches d.shape) (flat_map type_breaches (map (λ (d : Decl). d.shape) ds ++ map (λ (l : LocalOf). l.decl.shape) locals)) e).1 h
 local_values [] [] e h = tt
 local_values [] (l ∷ ls) e h =
-    let a = two (type_breaches l.decl.shape) (flat_map type_breaches (map (λ (l : LocalOf). l.decl.shape) ls)) e in
-    let b = two (local_breaches l) (flat_map local_breaches ls) h in
-    (local_fits l (holds (has_length l.decl.shape.length) l.decl.shape.place 7 a.0) b.0, local_values [] ls a.1 b.1)
+    let a = append_none (type_breaches l.decl.shape) (flat_map type_breaches (map (λ (l : LocalOf). l.decl.shape) ls)) e in
+    let b = append_none (local_breaches l) (flat_map local_breaches ls) h in
+    (local_fits l (rule_holds (has_length l.decl.shape.length) l.decl.shape.place 7 a.0) b.0, local_values [] ls a.1 b.1)
 
 procedure_fits : (s : SourceOf) (p : ProcOf) → is_none (procedure_named s s.main.name) ≡ false → procedure_breaches s p ≡ [] → ProcFits (program_of s) (procedure_of s p)
 procedure_fits s p main e =
     let parts = four (variable_breaches p) (condition_name_breaches p) (size_breaches p) (statement_breaches s p false p.body) e in
     let variables = three (repeats 4 [] (variables_of p)) (flat_map type_breaches (variable_types p)) (flat_map local_breaches p.locals) parts.0 in
-    let conditions = two (repeats 5 [] (conditions_of p)) (flat_map condition_breaches (conditions_of p)) parts.1 in
-    let few : words_of_types (variable_types p) ≤ 65536 = ltb-false 65536 (words_of_types (variable_types p)) (fails (nat_lt 65536 (words_of_types (variable_types p))) p.place 24 parts.2) in
+    let conditions = append_none (repeats 5 [] (conditions_of p)) (flat_map condition_breaches (conditions_of p)) parts.1 in
+    let few : words_of_types (variable_types p) ≤ 65536 = ltb-false 65536 (words_of_types (variable_types p)) (rule_fails (nat_lt 65536 (words_of_types (variable_types p))) p.place 24 parts.2) in
     let words : words_of (shapes_of (procedure_of s p)) ≡ words_of_types (variable_types p) = ap words_of (shapes_are s p) ∙ words_are (variable_types p) variables.1 in
     record {
       formals = formal_lengths p.formals (map (λ (l : LocalOf). l.decl.shape) p.locals) variables.1;
@@ -248,7 +246,7 @@ pub source_fits : (s : SourceOf) → violations s ≡ [] → ProgramFits (progra
 unfolding violations
 source_fits s e =
     let a = four (repeats 1 [] (map (λ (p : ProcOf). p.name) s.procs)) (main_breaches s) (flat_map name_breaches s.procs) (flat_map (procedure_breaches s) s.procs) e in
-    let main : is_none (procedure_named s s.main.name) ≡ false = fails (is_none (procedure_named s s.main.name)) s.main.place 3 a.1 in
+    let main : is_none (procedure_named s s.main.name) ≡ false = rule_fails (is_none (procedure_named s s.main.name)) s.main.place 3 a.1 in
     record {
       main = named_below s s.main.name main;
       procs = λ i. each_place (procedure_breaches s) (procedure_of s) (ProcFits (program_of s)) no_proc s.procs i (λ p h. procedure_fits s p main h) (no_proc_fits (program_of s)) a.3;

@@ -7,7 +7,7 @@ use Rattle.std.proofs.lemmas.Bool.Decides.{Decides-int_eq}
 use Rattle.stack_text.specs.declared.shape.Kind.{Kind}
 use Rattle.stack_text.specs.declared.shape.Kind.TheVariants.{Integer, Boolean, Character}
 use Rattle.stack_text.specs.declared.shape.Shape.{Shape}
-use Rattle.stack_text.specs.Values.{item_count}
+use Rattle.stack_text.specs.Values.{item_count, same_kind}
 use Rattle.gypsy_syntax.specs.declared.literal.TypeText.{TypeText}
 use Rattle.gypsy_syntax.specs.Sources.{LiteralOf, LiteralsOf, integer, truth, character, array, no_items, item, literal_place, LocalOf}
 use Rattle.gypsy_syntax.specs.Resolved.{length_of, shape_of, item_of, items_of_all, value_items, literal_kind, local_value}
@@ -15,20 +15,9 @@ use Rattle.gypsy_syntax.specs.Programs.{simple, words_of}
 use Rattle.gypsy_syntax.specs.ProgramFits.{is_in_range, ValueFits}
 use Rattle.gypsy_syntax.specs.Effects.{same_int}
 use Rattle.stack_text.specs.Breaches.{when}
-use Rattle.gypsy_check.specs.Types.{same_kind, same_length, same_type, has_length, is_of_kind, are_of_kind, item_number, suits, words_of_length, words_of_types}
+use Rattle.stack_text.proofs.SharedLaws.{rule_holds, append_none, kind_same}
+use Rattle.gypsy_check.specs.Types.{same_length, same_type, has_length, is_of_kind, are_of_kind, item_number, suits, words_of_length, words_of_types}
 use Rattle.gypsy_check.specs.Rules.{literal_breaches, items_breaches, type_breaches, local_breaches}
-use Rattle.gypsy_check.proofs.CleanLaws.{two, holds}
-
-pub kind_same : (j k : Kind) → same_kind j k ≡ true → j ≡ k
-kind_same Integer Integer e = refl
-kind_same Integer Boolean e = cc
-kind_same Integer Character e = cc
-kind_same Boolean Integer e = cc
-kind_same Boolean Boolean e = refl
-kind_same Boolean Character e = cc
-kind_same Character Integer e = cc
-kind_same Character Boolean e = cc
-kind_same Character Character e = refl
 
 pub kind_self : (k : Kind) → same_kind k k ≡ true
 kind_self Integer = refl
@@ -57,7 +46,7 @@ type_same t u e =
 
 -- one item of the kind
 pub item_fits : (k : Kind) (l : LiteralOf) → is_of_kind k (literal_kind l) ≡ true → literal_breaches l ≡ [] → is_in_range k (item_of l) ≡ true
-item_fits Integer (integer place z) e h = holds (is_in_range Integer z) place 9 h
+item_fits Integer (integer place z) e h = rule_holds (is_in_range Integer z) place 9 h
 item_fits Boolean (integer place z) e h = cc
 item_fits Character (integer place z) e h = cc
 item_fits Integer (truth place b) e h = cc
@@ -66,14 +55,14 @@ item_fits Boolean (truth place false) e h = refl
 item_fits Character (truth place b) e h = cc
 item_fits Integer (character place z) e h = cc
 item_fits Boolean (character place z) e h = cc
-item_fits Character (character place z) e h = holds (is_in_range Character z) place 9 h
+item_fits Character (character place z) e h = rule_holds (is_in_range Character z) place 9 h
 item_fits k (array place ls) e h = cc
 
 items_fit : (k : Kind) (ls : LiteralsOf) → are_of_kind k ls ≡ true → items_breaches ls ≡ [] → list_all (is_in_range k) (items_of_all ls) ≡ true
 items_fit k no_items e h = refl
 items_fit k (item l ls) e h =
     let a = and_parts (is_of_kind k (literal_kind l)) (are_of_kind k ls) e in
-    let b = two (literal_breaches l) (items_breaches ls) h in
+    let b = append_none (literal_breaches l) (items_breaches ls) h in
     and_from (is_in_range k (item_of l)) (list_all (is_in_range k) (items_of_all ls)) (item_fits k l a.0 b.0) (items_fit k ls a.1 b.1)
 
 items_number : (ls : LiteralsOf) → length (items_of_all ls) ≡ item_number ls
@@ -122,8 +111,8 @@ value_fits k (Some (pos n)) (array place ls) g e h =
 pub local_fits : (l : LocalOf) → has_length l.decl.shape.length ≡ true → local_breaches l ≡ [] → ValueFits (local_value l)
 local_fits l g e =
     let t = l.decl.shape in
-    let k = two (when (not (suits t.kind t.length l.value)) (literal_place l.value) 8) (literal_breaches l.value) e in
-    value_fits t.kind t.length l.value g (holds (suits t.kind t.length l.value) (literal_place l.value) 8 k.0) k.1
+    let k = append_none (when (not (suits t.kind t.length l.value)) (literal_place l.value) 8) (literal_breaches l.value) e in
+    value_fits t.kind t.length l.value g (rule_holds (suits t.kind t.length l.value) (literal_place l.value) 8 k.0) k.1
 
 -- Words.
 
@@ -141,8 +130,8 @@ word_count k (Some (negsuc n)) e = cc
 pub words_are : (types : List TypeText) → flat_map type_breaches types ≡ [] → words_of (map shape_of types) ≡ words_of_types types
 words_are [] e = refl
 words_are (t ∷ ts) e =
-    let k = two (type_breaches t) (flat_map type_breaches ts) e in
-    let a : item_count (shape_of t) ≡ words_of_length t.length = word_count t.kind t.length (holds (has_length t.length) t.place 7 k.0) in
+    let k = append_none (type_breaches t) (flat_map type_breaches ts) e in
+    let a : item_count (shape_of t) ≡ words_of_length t.length = word_count t.kind t.length (rule_holds (has_length t.length) t.place 7 k.0) in
     let b : words_of (map shape_of ts) ≡ words_of_types ts = words_are ts k.1 in
     omega (arith, a, b)
 

@@ -10,7 +10,7 @@ use Rattle.gypsy_syntax.specs.declared.literal.Decl.{Decl}
 use Rattle.gypsy_syntax.specs.declared.literal.Local.{Local}
 use Rattle.gypsy_syntax.specs.declared.proc.Proc.{Proc}
 use Rattle.gypsy_syntax.specs.Sources.{LocalOf, ProcOf}
-use Rattle.gypsy_syntax.specs.SourceView.{local_of, proc_of}
+use Rattle.gypsy_syntax.specs.Seen.SourceView.{local_of, proc_of}
 use Rattle.gypsy_check.specs.Declarations.{type_at, type_of, procedure_at, is_condition}
 
 shift : (p l : ℕ) → cond (nat_lt (1 + p) (suc l)) (Some (1 + p)) None ≡ option_map suc (cond (nat_lt p l) (Some p) None)
@@ -24,7 +24,7 @@ first_or : (b : Bool) (p l : ℕ) → cond (nat_lt (cond (not b) (1 + p) 0) (suc
 first_or true p l = rw (lt-ltb 0 (suc l) (omega arith)) refl
 first_or false p l = shift p l
 
-place_nil : (name : List ℕ) → place_among name [] ≡ None
+pub place_nil : (name : List ℕ) → place_among name [] ≡ None
 unfolding place_among
 place_nil name = refl
 
@@ -94,7 +94,7 @@ type_is p name =
 pub condition_is : (p : Proc) (name : List ℕ) → is_condition (proc_of p) name ≡ (list_any (λ (n : Named). bytes_eq name n.name) p.conds.items || list_any (λ (n : Named). bytes_eq name n.name) p.local_conds.items)
 condition_is p name = among name (condition_names (proc_of p)) ∙ any_two (λ (n : Named). n.name) name p.conds.items p.local_conds.items
 
-procedure_past : (p : ProcOf) (ps : List ProcOf) (o : Option ℕ) → procedure_at (p ∷ ps) (option_map suc o) ≡ procedure_at ps o
+pub procedure_past : (p : ProcOf) (ps : List ProcOf) (o : Option ℕ) → procedure_at (p ∷ ps) (option_map suc o) ≡ procedure_at ps o
 procedure_past p ps None = refl
 procedure_past p ps (Some i) = refl
 

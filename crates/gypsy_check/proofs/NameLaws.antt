@@ -11,8 +11,8 @@ use Rattle.gypsy_syntax.specs.Resolved.{place_among, position_of, variable_names
 use Rattle.gypsy_syntax.specs.Programs.{shapes_of}
 use Rattle.gypsy_syntax.specs.ProgramFits.{Each, Misses, Distinct}
 use Rattle.stack_text.specs.Breaches.{when}
+use Rattle.stack_text.proofs.SharedLaws.{rule_fails, append_none, get_map}
 use Rattle.gypsy_check.specs.Declarations.{type_at, type_of, procedure_at, is_among, repeats}
-use Rattle.gypsy_check.proofs.CleanLaws.{two, fails, get_map}
 
 -- the name is among these
 abbrev pub Found : List (List ℕ) → List ℕ → Type 0
@@ -31,7 +31,7 @@ found_below name names h = (at_position name names (place_among name names) refl
 pub found_name : (name : List ℕ) (names : List (List ℕ)) → Found names name → get_or names (position_of name names) [] ≡ name
 found_name name names h = (at_position name names (place_among name names) refl h).1
 
--- two names at one position are one name
+-- append_none names at one position are one name
 pub one_name : (a b : List ℕ) (names : List (List ℕ)) → Found names a → Found names b → position_of a names ≡ position_of b names → a ≡ b
 one_name a b names ha hb e = sym (found_name a names ha) ∙ ap (λ i. get_or names i []) e ∙ found_name b names hb
 
@@ -67,8 +67,8 @@ positions names xs = map (λ n. position_of n.name names) xs
 misses : (names : List (List ℕ)) (rule : ℕ) (earlier : List (List ℕ)) (name : List ℕ) (xs : List Named) → Covers earlier name → Found names name → repeats rule earlier xs ≡ [] → Each (λ (n : Named). Found names n.name) xs → Misses (position_of name names) (positions names xs)
 misses names rule earlier name [] c h e found = tt
 misses names rule earlier name (x ∷ xs) c h e found =
-    let k = two (when (is_among x.name earlier) x.place rule) (repeats rule (x.name ∷ earlier) xs) e in
-    let new : is_among x.name earlier ≡ false = fails (is_among x.name earlier) x.place rule k.0 in (
+    let k = append_none (when (is_among x.name earlier) x.place rule) (repeats rule (x.name ∷ earlier) xs) e in
+    let new : is_among x.name earlier ≡ false = rule_fails (is_among x.name earlier) x.place rule k.0 in (
       λ same. true≢false (sym (c x.name (eq_self x.name name (sym (one_name name x.name names h found.0 same)))) ∙ new),
       misses names rule (x.name ∷ earlier) name xs (λ m is. or_right (bytes_eq m x.name) (is_among m earlier) (c m is)) h k.1 found.1,
     )
@@ -76,7 +76,7 @@ misses names rule earlier name (x ∷ xs) c h e found =
 pub distinct : (names : List (List ℕ)) (rule : ℕ) (earlier : List (List ℕ)) (xs : List Named) → repeats rule earlier xs ≡ [] → Each (λ (n : Named). Found names n.name) xs → Distinct (positions names xs)
 distinct names rule earlier [] e found = tt
 distinct names rule earlier (x ∷ xs) e found =
-    let k = two (when (is_among x.name earlier) x.place rule) (repeats rule (x.name ∷ earlier) xs) e in (
+    let k = append_none (when (is_among x.name earlier) x.place rule) (repeats rule (x.name ∷ earlier) xs) e in (
       misses names rule (x.name ∷ earlier) x.name xs (λ m is. or_left (bytes_eq m x.name) (is_among m earlier) is) found.0 k.1 found.1,
       distinct names rule (x.name ∷ earlier) xs k.1 found.1,
     )

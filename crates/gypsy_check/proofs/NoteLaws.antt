@@ -6,7 +6,7 @@ use Rattle.std.proofs.lemmas.List.{drop_more, drop_all}
 use Rattle.stack_text.specs.declared.breach.Breach.{Breach}
 use Rattle.stack_text.specs.declared.name.Named.{Named}
 use Rattle.stack_text.specs.declared.shape.Kind.{Kind}
-use Rattle.stack_text.specs.Breaches.{when, lesser_of, least, Notes}
+use Rattle.stack_text.specs.Breaches.{when, lesser_of, least}
 use Rattle.stack_text.proofs.BreachLaws.{notes_more, notes_none}
 use Rattle.gypsy_syntax.specs.declared.literal.Decl.{Decl}
 use Rattle.gypsy_syntax.specs.declared.literal.Literal.{Literal}
@@ -17,7 +17,7 @@ use Rattle.gypsy_syntax.specs.declared.slot.Slot.{Slot}
 use Rattle.gypsy_syntax.specs.declared.statement.Arg.{Arg}
 use Rattle.gypsy_syntax.specs.declared.statement.Stmt.{Stmt}
 use Rattle.gypsy_syntax.specs.Sources.{arg_place, LocalOf, ProcOf, SourceOf}
-use Rattle.gypsy_syntax.specs.SourceView.{literal_of, local_of, proc_of, items_of_list, arg_of, stmt_of, parts_of_list}
+use Rattle.gypsy_syntax.specs.Seen.SourceView.{literal_of, local_of, proc_of, items_of_list, arg_of, stmt_of, parts_of_list}
 use Rattle.gypsy_syntax.proofs.ViewLaws.{literal_of-list, stmt_of-seq}
 use Rattle.gypsy_check.specs.Declarations.{type_of}
 use Rattle.gypsy_check.specs.Types.{same_type}
@@ -33,10 +33,6 @@ noted_none old = sym (notes_none old)
 
 pub noted_append : (old : Option Breach) (xs ys : List Breach) → noted old (xs ++ ys) ≡ noted (noted old xs) ys
 noted_append old xs ys = sym (notes_more old (noted old xs) (noted (noted old xs) ys) xs ys refl refl)
-
--- one part after the other
-pub noted_two : (old middle last : Option Breach) (a b : List Breach) → Notes old a middle → Notes middle b last → Notes old (a ++ b) last
-noted_two old middle last a b h k = notes_more old middle last a b h k
 
 pub get_or_self : {X : Type 0} (xs : List X) (i : ℕ) (d : X) → get_or xs i d ≡ get_or xs i (get_or xs i d)
 get_or_self [] i d = refl

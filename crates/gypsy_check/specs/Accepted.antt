@@ -1,6 +1,6 @@
 -- What is known of an accepted source.
 use Rattle.std.specs.Prelude.{◌≡◌, []}
-use Rattle.gypsy_syntax.specs.Answers.{KeepsForm}
+use Rattle.gypsy_syntax.specs.GypsyReading.{KeepsForm}
 use Rattle.gypsy_syntax.specs.ProgramFits.{ProgramFits}
 use Rattle.gypsy_syntax.specs.Resolved.{program_of}
 use Rattle.gypsy_syntax.specs.Sources.{SourceOf}

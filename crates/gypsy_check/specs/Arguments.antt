@@ -7,7 +7,7 @@ use Rattle.gypsy_syntax.specs.declared.slot.Form.TheVariants.{Simple, Array, Lit
 use Rattle.gypsy_syntax.specs.Resolved.{literal_kind}
 use Rattle.gypsy_syntax.specs.Sources.{LiteralOf, ArgOf, variable, constant, ProcOf}
 use Rattle.gypsy_check.specs.Declarations.{type_of}
-use Rattle.gypsy_check.specs.Types.{same_kind}
+use Rattle.stack_text.specs.Values.{same_kind}
 
 -- the kind of an argument that has the form, and none of any other
 abbrev pub kind_of_type : Form → Option TypeText → Option Kind

@@ -4,4 +4,4 @@ pub mod Arguments
 pub mod Rules
 pub mod Tables
 pub mod Accepted
-pub mod Answers
+pub mod GypsyChecking

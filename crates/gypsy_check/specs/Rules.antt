@@ -3,6 +3,7 @@ use Rattle.std.specs.Prelude.{ℕ, List, [], ◌∷◌, ◌++◌, map, length, O
 use Rattle.std.specs.Prelude.{Bool, true, false, not, ◌==◌, ◌&&◌, ◌||◌, nat_lt, if◌then◌else◌}
 use Rattle.std.specs.List.{list_any, flat_map}
 use Rattle.std.specs.Str.{bytes_eq}
+use Rattle.stack_text.specs.SharedLimits.{most_stack}
 use Rattle.stack_text.specs.declared.breach.Breach.{Breach}
 use Rattle.stack_text.specs.declared.name.Named.{Named}
 use Rattle.stack_text.specs.declared.shape.Kind.{Kind}
@@ -161,7 +162,7 @@ condition_name_breaches p = repeats 5 [] (conditions_of p) ++ flat_map condition
 
 -- S24: the variables take too many words
 abbrev pub size_breaches : ProcOf → List Breach
-size_breaches p = when (nat_lt 65536 (words_of_types (variable_types p))) p.place 24
+size_breaches p = when (nat_lt most_stack (words_of_types (variable_types p))) p.place 24
 
 abbrev pub procedure_breaches : SourceOf → ProcOf → List Breach
 procedure_breaches s p =

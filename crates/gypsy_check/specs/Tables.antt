@@ -1,5 +1,5 @@
 -- Tables of names.
-use Rattle.std.specs.Prelude.{◌≡◌, ℕ, List, ◌++◌, map, find, Bool, true, false, Option, Some, None, option_map}
+use Rattle.std.specs.Prelude.{◌≡◌, ℕ, List, ◌++◌, map, find, Bool, Option, option_map}
 use Rattle.std.specs.Borrow.{Bor}
 use Rattle.std.specs.List.{list_any}
 use Rattle.std.specs.Map.{lookup}
@@ -23,12 +23,6 @@ has set name = list_any (λ key. bytes_eq name key.now) set.keys
 -- the set has the names of these
 abbrev pub KnowsNames : {S : Type 0} → IndexSet (Bor (List ℕ)) S → List Named → Type 0
 KnowsNames set names = (name : List ℕ) → has set name ≡ is_named name names
-
--- what is known, or else the value where the test holds
-abbrev pub first_or : {V : Type 0} → Option V → Bool → V → Option V
-first_or (Some known) test value = Some known
-first_or None true value = Some value
-first_or None false value = None
 
 -- the procedure that the table has for a name
 abbrev pub look_up : {S : Type 0} → IndexMap (Bor (List ℕ)) (Bor Proc) S → List ℕ → Option Proc

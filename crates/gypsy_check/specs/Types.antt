@@ -1,18 +1,14 @@
 -- Kinds and types, the values that suit a type, and the words that variables take.
 use Rattle.std.specs.Prelude.{ℕ, ◌+◌, ℤ, pos, negsuc, List, [], ◌∷◌, Option, Some, None, is_none}
 use Rattle.std.specs.Prelude.{Bool, true, false, ◌&&◌, nat_lt, nat_le, if◌then◌else◌}
+use Rattle.stack_text.specs.Values.{same_kind}
+use Rattle.stack_text.specs.SharedLimits.{most_array}
 use Rattle.stack_text.specs.declared.shape.Kind.{Kind}
-use Rattle.stack_text.specs.declared.shape.Kind.TheVariants.{Integer, Boolean, Character}
+use Rattle.stack_text.specs.declared.shape.Kind.TheVariants.{Boolean}
 use Rattle.gypsy_syntax.specs.declared.literal.TypeText.{TypeText}
 use Rattle.gypsy_syntax.specs.Effects.{same_int}
 use Rattle.gypsy_syntax.specs.Resolved.{literal_kind}
 use Rattle.gypsy_syntax.specs.Sources.{LiteralOf, LiteralsOf, array, no_items, item}
-
-abbrev pub same_kind : Kind → Kind → Bool
-same_kind Integer Integer = true
-same_kind Boolean Boolean = true
-same_kind Character Character = true
-same_kind _ _ = false
 
 abbrev pub same_length : Option ℤ → Option ℤ → Bool
 same_length None None = true
@@ -30,7 +26,7 @@ is_boolean t = same_kind t.kind Boolean && is_none t.length
 -- simple, or an array of 1 to 4,096 items
 abbrev pub has_length : Option ℤ → Bool
 has_length None = true
-has_length (Some (pos n)) = nat_lt 0 n && nat_le n 4096
+has_length (Some (pos n)) = nat_lt 0 n && nat_le n most_array
 has_length (Some (negsuc n)) = false
 
 abbrev pub is_of_kind : Kind → Option Kind → Bool
@@ -55,7 +51,7 @@ suits kind (Some n) l = false
 -- the words of a variable whose type has a length in range, and none of any other
 abbrev pub words_of_length : Option ℤ → ℕ
 words_of_length None = 1
-words_of_length (Some (pos n)) = if nat_lt 0 n && nat_le n 4096 then n else 0
+words_of_length (Some (pos n)) = if nat_lt 0 n && nat_le n most_array then n else 0
 words_of_length (Some (negsuc n)) = 0
 
 abbrev pub words_of_types : List TypeText → ℕ

@@ -3,9 +3,10 @@
 ghost use Rattle.std.specs.Prelude.{◌≡◌, ℕ, List, [], map, is_some, IfOk, OnOk, option_map};
 ghost use Rattle.std.specs.Str.{bytes_eq};
 ghost use Rattle.stack_text.specs.Breaches.{when, Notes};
-ghost use Rattle.gypsy_syntax.specs.SourceView.{proc_of, source_of};
+ghost use Rattle.gypsy_syntax.specs.Seen.SourceView.{proc_of, source_of};
 ghost use Rattle.gypsy_check.specs.Declarations.{procedure_named, repeats};
-ghost use Rattle.gypsy_check.specs.Tables.{first_or, look_up, KnowsCallees, KnowsProcs};
+ghost use Rattle.gypsy_check.specs.Tables.{look_up, KnowsCallees, KnowsProcs};
+ghost use Rattle.stack_text.specs.Options.{first_or};
 
 use gypsy_syntax::{Proc, Source};
 use indexmap::IndexMap;

@@ -4,7 +4,7 @@ ghost use Rattle.std.specs.Prelude.{◌≡◌, ◌+◌, ◌≤◌, ◌++◌, nat
 ghost use Rattle.std.specs.List.{flat_map};
 ghost use Rattle.stack_text.specs.Breaches.{Notes};
 ghost use Rattle.gypsy_syntax.specs.Resolved.{variable_types};
-ghost use Rattle.gypsy_syntax.specs.SourceView.{proc_of};
+ghost use Rattle.gypsy_syntax.specs.Seen.SourceView.{proc_of};
 ghost use Rattle.gypsy_check.specs.Declarations.{conditions_of};
 ghost use Rattle.gypsy_check.specs.Rules.{condition_breaches, condition_name_breaches, size_breaches, type_breaches, variable_breaches};
 ghost use Rattle.gypsy_check.specs.Tables.{KnowsNames, KnowsTypes, declared};
@@ -16,11 +16,8 @@ use crate::types::{check_type, words_of_length};
 use crate::values::check_locals;
 use gypsy_syntax::{Decl, Local, Proc, TypeText};
 use indexmap::{IndexMap, IndexSet};
-use stack_text::{Breach, Memory, note_if};
+use stack_text::{Breach, MOST_STACK, Memory, note_if};
 use std::alloc::Global;
-
-/// The most words of a procedure's variables.
-const MAX_WORDS: u32 = 65_536;
 
 /// Notes the type of each formal whose length is out of range.
 fn check_formal_types(best: &mut Option<Breach>, formals: &[Decl])
@@ -97,7 +94,7 @@ fn formal_words(formals: &[Decl]) -> u32
 {
     let mut total = 0;
     for decl in formals {
-        if total <= MAX_WORDS {
+        if total <= MOST_STACK {
             total += words_of_length(decl.shape.length);
         }
     }
@@ -111,7 +108,7 @@ fn with_local_words(before: u32, locals: &[Local]) -> u32
 {
     let mut total = before;
     for local in locals {
-        if total <= MAX_WORDS {
+        if total <= MOST_STACK {
             total += words_of_length(local.decl.shape.length);
         }
     }
@@ -124,7 +121,7 @@ fn is_too_large(proc: &Proc) -> bool
 {
     let formals = formal_words(proc.formals.as_slice());
     let words = with_local_words(formals, proc.locals.as_slice());
-    words > MAX_WORDS
+    words > MOST_STACK
 }
 
 /// Notes a procedure whose variables take too many words.

@@ -4,7 +4,8 @@ ghost use Rattle.std.specs.Prelude.{◌≡◌, ℕ, List, [], ◌++◌, ◌||◌
 ghost use Rattle.std.specs.Str.{bytes_eq};
 ghost use Rattle.stack_text.specs.Breaches.{when, Notes};
 ghost use Rattle.gypsy_check.specs.Declarations.{repeats};
-ghost use Rattle.gypsy_check.specs.Tables.{has, first_or, type_in, KnowsNames, KnowsTypes};
+ghost use Rattle.gypsy_check.specs.Tables.{has, type_in, KnowsNames, KnowsTypes};
+ghost use Rattle.stack_text.specs.Options.{first_or};
 
 use gypsy_syntax::{Decl, Local, TypeText};
 use indexmap::{IndexMap, IndexSet};

@@ -5,13 +5,12 @@ ghost use Rattle.std.specs.List.{flat_map, list_any};
 ghost use Rattle.stack_text.specs.Breaches.{Notes};
 ghost use Rattle.gypsy_syntax.specs.Predefined.{slots_of};
 ghost use Rattle.gypsy_syntax.specs.Sources.{arg_place};
-ghost use Rattle.gypsy_syntax.specs.SourceView.{arg_of, literal_of, proc_of};
+ghost use Rattle.gypsy_syntax.specs.Seen.SourceView.{arg_of, literal_of, proc_of};
 ghost use Rattle.gypsy_check.specs.Arguments.{is_undeclared, is_wanted, kind_of, kind_of_literal, kind_of_type, settled_by};
 ghost use Rattle.gypsy_check.specs.Rules.{argument_breaches, declared_breaches, number_breaches, predef_breaches, slots_breaches};
 
 use crate::literals::{check_literal, literal_kind, literal_place};
 use crate::scope::Scope;
-use crate::types::same_kind;
 use crate::variables::check_declared;
 use gypsy_syntax::{Arg, Form, Literal, Predef, Slot, TypeText, slots_of};
 use stack_text::{Breach, Kind, note_if};
@@ -68,9 +67,9 @@ fn is_wanted(settled: Option<Kind>, slot: Option<Kind>, kind: Option<Kind>) -> b
     match kind {
         None => false,
         Some(kind) => match slot {
-            Some(wanted) => same_kind(kind, wanted),
+            Some(wanted) => kind.is(wanted),
             None => match settled {
-                Some(wanted) => same_kind(kind, wanted),
+                Some(wanted) => kind.is(wanted),
                 None => true,
             },
         },

@@ -3,24 +3,10 @@
 ghost use Rattle.std.specs.Prelude.{◌≡◌, ◌≤◌};
 ghost use Rattle.stack_text.specs.Breaches.{Notes};
 ghost use Rattle.gypsy_check.specs.Rules.{is_of_type, type_breaches};
-ghost use Rattle.gypsy_check.specs.Types.{has_length, is_boolean, same_kind, same_length, same_type, words_of_length};
+ghost use Rattle.gypsy_check.specs.Types.{has_length, is_boolean, same_length, same_type, words_of_length};
 
 use gypsy_syntax::TypeText;
-use stack_text::{Breach, Kind, note_if};
-
-/// The most items of an array.
-const MAX_LENGTH: i128 = 4_096;
-
-/// Whether the two are one kind.
-pub(crate) fn same_kind(kind: Kind, other: Kind) -> bool
-    ensures { result ≡ same_kind kind other }
-{
-    match kind {
-        Kind::Integer => matches!(other, Kind::Integer),
-        Kind::Boolean => matches!(other, Kind::Boolean),
-        Kind::Character => matches!(other, Kind::Character),
-    }
-}
+use stack_text::{Breach, Kind, MOST_ARRAY, note_if};
 
 /// Whether both are simple, or arrays of one length.
 fn same_length(length: Option<i128>, other: Option<i128>) -> bool
@@ -39,7 +25,7 @@ fn same_length(length: Option<i128>, other: Option<i128>) -> bool
 fn same_type(shape: &TypeText, other: &TypeText) -> bool
     ensures { result ≡ same_type shape.now other.now }
 {
-    same_kind(shape.kind, other.kind) && same_length(shape.length, other.length)
+    shape.kind.is(other.kind) && same_length(shape.length, other.length)
 }
 
 /// Whether a type, where there is one, is a simple Boolean.
@@ -48,7 +34,7 @@ pub(crate) fn is_boolean_if_any(shape: Option<TypeText>) -> bool
 {
     match shape {
         None => true,
-        Some(shape) => same_kind(shape.kind, Kind::Boolean) && shape.length.is_none(),
+        Some(shape) => shape.kind.is(Kind::Boolean) && shape.length.is_none(),
     }
 }
 
@@ -68,7 +54,7 @@ fn has_length(length: Option<i128>) -> bool
 {
     match length {
         None => true,
-        Some(length) => 0 < length && length <= MAX_LENGTH,
+        Some(length) => 0 < length && length <= i128::from(MOST_ARRAY),
     }
 }
 
@@ -87,7 +73,7 @@ pub(crate) fn words_of_length(length: Option<i128>) -> u32
     match length {
         None => 1,
         Some(length) => {
-            if 0 < length && length <= MAX_LENGTH {
+            if 0 < length && length <= i128::from(MOST_ARRAY) {
                 length as u32
             } else {
                 0

@@ -5,12 +5,11 @@ ghost use Rattle.std.specs.List.{flat_map, list_all};
 ghost use Rattle.std.specs.Ordering.{int_eq};
 ghost use Rattle.stack_text.specs.Breaches.{Notes};
 ghost use Rattle.gypsy_syntax.specs.Resolved.{literal_kind};
-ghost use Rattle.gypsy_syntax.specs.SourceView.{literal_of, local_of};
+ghost use Rattle.gypsy_syntax.specs.Seen.SourceView.{literal_of, local_of};
 ghost use Rattle.gypsy_check.specs.Rules.{local_breaches};
 ghost use Rattle.gypsy_check.specs.Types.{is_of_kind, suits};
 
 use crate::literals::{check_literal, literal_kind, literal_place};
-use crate::types::same_kind;
 use gypsy_syntax::{Literal, Local, TypeText};
 use stack_text::{Breach, Kind, note_if};
 
@@ -20,7 +19,7 @@ fn is_of_kind(kind: Kind, literal: &Literal) -> bool
 {
     match literal_kind(literal) {
         None => false,
-        Some(other) => same_kind(other, kind),
+        Some(other) => other.is(kind),
     }
 }
 

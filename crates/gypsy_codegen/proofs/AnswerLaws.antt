@@ -3,14 +3,14 @@ use Rattle.std.proofs.Common.{◌≡◌, ℕ, suc, ◌+◌, ◌<◌, ◌≤◌, 
 use Rattle.std.specs.Prelude.{not, nat_lt, nat_le, ◌&&◌, Ok}
 use Rattle.std.proofs.lemmas.Bool.{leb-true, ltb-true, ltb-false, lt-ltb, and_parts}
 use Rattle.std.proofs.lemmas.List.{length-map}
-use Rattle.piton_check.specs.Answers.{CheckedOf, IsChecked}
+use Rattle.piton_check.specs.PitonChecking.{CheckedOf, IsChecked}
 use Rattle.piton_check.specs.Instruction.{SystemView, system_view}
 use Rattle.piton_check.specs.Resolved.{resolved}
 use Rattle.piton_syntax.specs.Systems.{SystemOf}
 use Rattle.piton_machine.specs.State as state
 use Rattle.piton_machine.specs.Placed.{program_size}
 use Rattle.piton_machine.specs.Fits.{system_in}
-use Rattle.piton_machine.specs.Seen.{started}
+use Rattle.piton_machine.specs.Seen.StateView.{started}
 use Rattle.gypsy_syntax.specs.Programs.{Program}
 use Rattle.gypsy_syntax.specs.Resolved.{procedure_of, program_of}
 use Rattle.gypsy_syntax.specs.Sources.{SourceOf}
@@ -18,17 +18,18 @@ use Rattle.gypsy_syntax.proofs.FitsLaws.{keeps_fits}
 use Rattle.gypsy_check.specs.Accepted.{IsAccepted}
 use Rattle.gypsy_space.specs.declared.need.Need.{Need}
 use Rattle.gypsy_space.specs.Events.{AreNeeds, need_at, need_of}
-use Rattle.gypsy_space.specs.Needs.{Words, code_words, main_need}
+use Rattle.gypsy_space.specs.Needs.{StackSizes, code_words, main_need}
 use Rattle.gypsy_space.proofs.SmallLaws.{code_modest}
 use Rattle.gypsy_meaning.specs.Calls.{main_start}
 use Rattle.gypsy_codegen.specs.declared.fault.GenFault.{GenFault}
 use Rattle.gypsy_codegen.specs.declared.fault.GenFault.TheVariants.{Control, Temporary, Size, Words as TooManyWords}
 use Rattle.gypsy_codegen.specs.Acceptable.{code_words_of, total_words, LimitsFit, GeneratedIsAcceptable, SourceRuns}
-use Rattle.gypsy_codegen.specs.Answers.{are_sizes, size_fault, unless_fault, generation, SystemImplements, TakesCodeWords}
+use Rattle.gypsy_codegen.specs.Generation.{are_sizes, size_fault, generation, SystemImplements, TakesCodeWords}
+use Rattle.stack_text.specs.Results.{unless_fault}
 use Rattle.gypsy_codegen.specs.Generated.{count_from, generated_view}
 use Rattle.gypsy_codegen.specs.Sizes.{ProceduresTakeWords}
 use Rattle.gypsy_codegen.specs.Text.{generated}
-use Rattle.gypsy_codegen.specs.Views.{AreModest, words_together}
+use Rattle.gypsy_codegen.specs.Scaffold.Views.{AreModest, words_together}
 use Rattle.gypsy_codegen.specs.Whole.{RunsTo}
 use Rattle.gypsy_codegen.specs.Moments.{moment_from, HasMoment, EachMomentIsReached}
 use Rattle.gypsy_codegen.specs.WordsOf.{words_of_values}
@@ -70,7 +71,7 @@ are_few s accepted ns needs =
 none_is : (f : GenFault) → Some f ≡ None → ⊥
 none_is f h = cc
 
-pub limits_fit : (q : Program) (sizes : Words) (base : ℕ) → base ≤ 2 ^ 31 → size_fault q sizes ≡ None → LimitsFit q sizes base
+pub limits_fit : (q : Program) (sizes : StackSizes) (base : ℕ) → base ≤ 2 ^ 31 → size_fault q sizes ≡ None → LimitsFit q sizes base
 unfolding size_fault
 limits_fit q sizes base low none = by_sizes (are_sizes sizes) refl none
   where
@@ -115,7 +116,7 @@ not_less a b le = by (nat_lt a b) refl
     by true e = let lt = ltb-true a b e in absurd (omega (arith, lt, le))
     by false e = refl
 
-module _ (q : Program) (sizes : Words) (n : ℕ) (all : are_sizes sizes ≡ true) (ctrl : (main_need q).ctrl ≤ sizes.ctrl) (temp : (main_need q).temp ≤ sizes.temp) (words : n ≡ total_words q) where
+module _ (q : Program) (sizes : StackSizes) (n : ℕ) (all : are_sizes sizes ≡ true) (ctrl : (main_need q).ctrl ≤ sizes.ctrl) (temp : (main_need q).temp ≤ sizes.temp) (words : n ≡ total_words q) where
   pub words_fault : 2 ^ 20 < n → Some (TooManyWords n) ≡ size_fault q sizes
   unfolding size_fault
   words_fault more =
@@ -137,17 +138,17 @@ not_some None h = refl
 not_some (Some x) h = absurd (h x refl)
 
 -- no limit is passed, where the program is the source's
-pub none_of : (q r : Program) (sizes : Words) (o : Option GenFault) → q ≡ r → o ≡ size_fault q sizes → ((f : GenFault) → o ≡ Some f → ⊥) → size_fault r sizes ≡ None
+pub none_of : (q r : Program) (sizes : StackSizes) (o : Option GenFault) → q ≡ r → o ≡ size_fault q sizes → ((f : GenFault) → o ≡ Some f → ⊥) → size_fault r sizes ≡ None
 none_of q r sizes o e f h = ap (λ (p : Program). size_fault p sizes) (sym e) ∙ sym f ∙ not_some o h
 
 -- ---- the checked system
 
-pub generation_is : (s : SourceOf) (sizes : Words) (base : ℕ) (c : CheckedOf) (system : SystemOf) → size_fault (program_of s) sizes ≡ None →
+pub generation_is : (s : SourceOf) (sizes : StackSizes) (base : ℕ) (c : CheckedOf) (system : SystemOf) → size_fault (program_of s) sizes ≡ None →
     system ≡ generated s sizes base → c.system ≡ system → generation s sizes base ≡ Ok c.system
 generation_is s sizes base c system none made kept =
     ap (λ (o : Option GenFault). unless_fault o (generated s sizes base)) none ∙ ap (λ (g : SystemOf). unless_fault None g) (sym (kept ∙ made))
 
-pub implements : GeneratedIsAcceptable → SourceRuns → EachMomentIsReached → (s : SourceOf) (sizes : Words) (base : ℕ) (c : CheckedOf) → IsAccepted s →
+pub implements : GeneratedIsAcceptable → SourceRuns → EachMomentIsReached → (s : SourceOf) (sizes : StackSizes) (base : ℕ) (c : CheckedOf) → IsAccepted s →
     LimitsFit (program_of s) sizes base → IsChecked c → c.system ≡ generated s sizes base → SystemImplements s sizes base c
 implements acceptable runs moments s sizes base c accepted limits known kept =
     let seen : system_in c ≡ system_view (resolved (generated s sizes base)) =
@@ -166,7 +167,7 @@ implements acceptable runs moments s sizes base c accepted limits known kept =
       limits = limits;
     }
 
-pub takes_code_words : ProceduresTakeWords → (s : SourceOf) (sizes : Words) (base : ℕ) (c : CheckedOf) → IsAccepted s →
+pub takes_code_words : ProceduresTakeWords → (s : SourceOf) (sizes : StackSizes) (base : ℕ) (c : CheckedOf) → IsAccepted s →
     system_in c ≡ generated_view (program_of s) sizes base → TakesCodeWords s c
 takes_code_words law s sizes base c accepted view p lt =
     let q = program_of s in

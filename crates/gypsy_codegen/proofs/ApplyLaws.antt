@@ -1,13 +1,14 @@
 -- A predefined call, by the law of the predefined programs.
-use Rattle.std.proofs.Common.{◌≡◌, ℕ, zero, suc, ◌+◌, ◌<◌, ◌≤◌, List, [], ◌∷◌, ◌++◌, length, map, Some, None, Option, refl, sym, ap, ◌∙◌, subst, arith}
+use Rattle.std.proofs.Common.{◌≡◌, ℕ, zero, suc, ◌+◌, ◌<◌, ◌≤◌, Bool, true, false, List, [], ◌∷◌, ◌++◌, length, map, Some, refl, sym, ap, ◌∙◌, subst, arith}
 use Rattle.std.specs.Prelude.{slice_get, slice_set, get_or, pos, ◌==◌}
 use Rattle.std.proofs.lemmas.Bool.{ne_eqb}
 use Rattle.std.proofs.lemmas.List.{get_or-set_same}
 use Rattle.std.proofs.lemmas.Option.{get_or_from_slice_get}
 use Rattle.stack_text.specs.declared.shape.Kind.{Kind}
-use Rattle.stack_text.specs.declared.shape.Kind.TheVariants.{Integer, Boolean}
+use Rattle.stack_text.specs.declared.shape.Kind.TheVariants.{Integer}
 use Rattle.stack_text.specs.declared.shape.Shape.{Shape}
 use Rattle.stack_text.specs.Values.{ValueOf, item_count}
+use Rattle.stack_text.proofs.SharedLaws.{get_below}
 use Rattle.piton_words.specs.declared.word.Word.{Word}
 use Rattle.piton_words.specs.declared.word.Word.TheVariants.{Int}
 use Rattle.piton_check.specs.Instruction as i
@@ -20,13 +21,12 @@ use Rattle.gypsy_syntax.specs.declared.predef.Predef.TheVariants as row
 use Rattle.gypsy_syntax.specs.declared.slot.Form.{Form}
 use Rattle.gypsy_syntax.specs.declared.slot.Form.TheVariants.{Simple, Array, Literal}
 use Rattle.gypsy_syntax.specs.declared.slot.Slot.{Slot}
-use Rattle.gypsy_syntax.specs.Predefined.{slots_of, shared, integer_slot, boolean_slot}
+use Rattle.gypsy_syntax.specs.Predefined.{slots_of, shared, integer_slot, predef_effect, predef_cost, predef_temp, predef_ctrl}
 use Rattle.gypsy_syntax.specs.Programs.{Routine, Arg, Var, Lit, Program, proc_at, body_of, shapes_of, simple, Apply}
 use Rattle.gypsy_syntax.specs.ProgramFits.{ArgFits, ArgsFit, ValueFits, slot_kind}
-use Rattle.gypsy_syntax.specs.Effects.{Effect, Normal, Fault, Beyond, predef_effect, value_at, no_value}
-use Rattle.gypsy_syntax.specs.PredefinedCosts.{predef_cost, predef_temp, predef_ctrl}
+use Rattle.gypsy_syntax.specs.Effects.{Effect, Normal, Fault, Beyond, value_at, no_value}
 use Rattle.gypsy_space.specs.Costs.{Tally, spend, predef_spend}
-use Rattle.gypsy_space.specs.Needs.{Words, temp_need, ctrl_need}
+use Rattle.gypsy_space.specs.Needs.{StackSizes, temp_need, ctrl_need}
 use Rattle.gypsy_meaning.specs.Calls.{value_of, values_of, target_of}
 use Rattle.gypsy_meaning.specs.Machine.{Item, Do, Frame, apply_step, settle, raise}
 use Rattle.gypsy_meaning.specs.Kept.{VarsFit}
@@ -39,7 +39,6 @@ use Rattle.gypsy_codegen.specs.Generated.{Scope, target, offset, push_args, leng
 use Rattle.gypsy_codegen.specs.Memory.{stack_of, index_of, frame_of, index_words}
 use Rattle.gypsy_codegen.specs.Showing.{HasAt, Stands}
 use Rattle.gypsy_codegen.specs.Law.{Follows}
-use Rattle.gypsy_codegen.proofs.CopyLaws.{get_below}
 use Rattle.gypsy_codegen.proofs.LayoutLaws.{reads_at, writes_at, frame_at, if_no}
 use Rattle.gypsy_codegen.proofs.StepLaws.{Pt, state, state_at, Goes, predef_there, program_is}
 use Rattle.gypsy_codegen.proofs.PushLaws.{Live, free_temp, free_ctrl, here, top}
@@ -50,6 +49,20 @@ use Rattle.gypsy_codegen.proofs.StandLaws.{settle_stands, Comes, comes_on, leads
 abbrev arguments : Program → ℕ → List Frame → List ValueOf → List Arg → List Argument
 arguments q p fs x args = map (argument_of (offset q p) (index_of q p fs) x) args
 
+-- the first argument of each row is a variable
+abbrev is_variable : Form → Bool
+is_variable Simple = true
+is_variable Array = true
+is_variable Literal = false
+
+abbrev begins_with_variable : List Slot → Bool
+begins_with_variable [] = false
+begins_with_variable (slot ∷ slots) = is_variable slot.form
+
+row_begins : (r : Predef) → begins_with_variable (slots_of r) ≡ true
+row_begins row.MgSimpleVariableAssignment = refl
+row_begins r = refl
+
 -- the variable that is written is the first argument
 record First (q : Program) (p : ℕ) (fs : List Frame) (x : List ValueOf) (shapes : List Shape) (args : List Arg) : Type 0 where
   shape : Shape
@@ -57,33 +70,21 @@ record First (q : Program) (p : ℕ) (fs : List Frame) (x : List ValueOf) (shape
   index : runs.target_of (arguments q p fs x args) ≡ index_of q p fs (target_of args)
 
 module _ (q : Program) (p : ℕ) (fs : List Frame) (x : List ValueOf) (shapes : List Shape) (k : Kind) where
-  simple_first : (j : Option Kind) (slots : List Slot) (args : List Arg) → ArgsFit shapes k (record { form = Simple; kind = j } ∷ slots) args → First q p fs x shapes args
+  form_first : (form : Form) (j : Kind) (a : Arg) (args : List Arg) → is_variable form ≡ true → ArgFits shapes form j a → First q p fs x shapes (a ∷ args)
   unfolding target_of
-  simple_first j slots [] f = absurd f
-  simple_first j slots (Lit v ∷ args) f = absurd f.0
-  simple_first j slots (Var b ∷ args) f = record { shape = simple (slot_kind k j); there = f.0; index = refl }
+  form_first Simple j (Var b) args h f = record { shape = simple j; there = f; index = refl }
+  form_first Simple j (Lit v) args h f = absurd f
+  form_first Array j (Var b) args h f = record { shape = record { kind = j; length = f.0 }; there = f.3; index = refl }
+  form_first Array j (Lit v) args h f = absurd f
+  form_first Literal j a args h f = cc
 
-  array_first : (j : Option Kind) (slots : List Slot) (args : List Arg) → ArgsFit shapes k (record { form = Array; kind = j } ∷ slots) args → First q p fs x shapes args
-  unfolding target_of
-  array_first j slots [] f = absurd f
-  array_first j slots (Lit v ∷ args) f = absurd f.0
-  array_first j slots (Var b ∷ args) f = record { shape = record { kind = slot_kind k j; length = f.0.0 }; there = f.0.3; index = refl }
+  slots_first : (slots : List Slot) (args : List Arg) → begins_with_variable slots ≡ true → ArgsFit shapes k slots args → First q p fs x shapes args
+  slots_first [] args h f = cc
+  slots_first (slot ∷ slots) [] h f = absurd f
+  slots_first (slot ∷ slots) (a ∷ args) h f = form_first slot.form (slot_kind k slot.kind) a args h f.0
 
   first_of_row : (r : Predef) (args : List Arg) → ArgsFit shapes k (slots_of r) args → First q p fs x shapes args
-  first_of_row row.MgSimpleVariableAssignment args f = simple_first None (shared Simple ∷ []) args f
-  first_of_row row.MgSimpleConstantAssignment args f = simple_first None (shared Literal ∷ []) args f
-  first_of_row row.MgSimpleVariableEq args f = simple_first (Some Boolean) (shared Simple ∷ shared Simple ∷ []) args f
-  first_of_row row.MgSimpleConstantEq args f = simple_first (Some Boolean) (shared Simple ∷ shared Literal ∷ []) args f
-  first_of_row row.MgIntegerLe args f = simple_first (Some Boolean) (integer_slot ∷ integer_slot ∷ []) args f
-  first_of_row row.MgIntegerUnaryMinus args f = simple_first (Some Integer) (integer_slot ∷ []) args f
-  first_of_row row.MgIntegerAdd args f = simple_first (Some Integer) (integer_slot ∷ integer_slot ∷ []) args f
-  first_of_row row.MgIntegerSubtract args f = simple_first (Some Integer) (integer_slot ∷ integer_slot ∷ []) args f
-  first_of_row row.MgIntegerMultiply args f = simple_first (Some Integer) (integer_slot ∷ integer_slot ∷ []) args f
-  first_of_row row.MgBooleanOr args f = simple_first (Some Boolean) (boolean_slot ∷ boolean_slot ∷ []) args f
-  first_of_row row.MgBooleanAnd args f = simple_first (Some Boolean) (boolean_slot ∷ boolean_slot ∷ []) args f
-  first_of_row row.MgBooleanNot args f = simple_first (Some Boolean) (boolean_slot ∷ []) args f
-  first_of_row row.MgIndexArray args f = simple_first None (shared Array ∷ integer_slot ∷ []) args f
-  first_of_row row.MgArrayElementAssignment args f = array_first None (integer_slot ∷ shared Simple ∷ []) args f
+  first_of_row r args f = slots_first (slots_of r) args (row_begins r) f
 
   -- the code that pushes them
   arg_pushed : (form : Form) (j : Kind) (g : Arg) (args : List Arg) → ArgFits shapes form j g → push_args q p (g ∷ args) ≡ argument_code form (argument_of (offset q p) (index_of q p fs) x g) ∷ push_args q p args
@@ -124,20 +125,9 @@ module _ (q : Program) (p : ℕ) (fs : List Frame) (x : List ValueOf) (shapes : 
   array_at_0 slots (Var b ∷ args) v f = ap (λ n. i.PushConstant (Int (pos n)) ∷ []) (same_length b f.0.0 f.0.1 v f.0.3)
 
   length_pushed : (r : Predef) (args : List Arg) → VarsFit shapes x → ArgsFit shapes k (slots_of r) args → length_code shapes r args ≡ length_pushes r args
-  length_pushed row.MgSimpleVariableAssignment args v f = refl
-  length_pushed row.MgSimpleConstantAssignment args v f = refl
-  length_pushed row.MgSimpleVariableEq args v f = refl
-  length_pushed row.MgSimpleConstantEq args v f = refl
-  length_pushed row.MgIntegerLe args v f = refl
-  length_pushed row.MgIntegerUnaryMinus args v f = refl
-  length_pushed row.MgIntegerAdd args v f = refl
-  length_pushed row.MgIntegerSubtract args v f = refl
-  length_pushed row.MgIntegerMultiply args v f = refl
-  length_pushed row.MgBooleanOr args v f = refl
-  length_pushed row.MgBooleanAnd args v f = refl
-  length_pushed row.MgBooleanNot args v f = refl
   length_pushed row.MgIndexArray args v f = array_at_1 (shared Simple) (integer_slot ∷ []) args v f
   length_pushed row.MgArrayElementAssignment args v f = array_at_0 (integer_slot ∷ shared Simple ∷ []) args v f
+  length_pushed r args v f = refl
 
   -- the whole code is a predefined call's
   code_is : (r : Predef) (to : ℕ) (args : List Arg) → VarsFit shapes x → ArgsFit shapes k (slots_of r) args → push_args q p args ++ (length_code shapes r args ++ i.Call (predef_position q r) ∷ test_code r to) ≡ predef_code r (predef_position q r) to (arguments q p fs x args)
@@ -162,7 +152,7 @@ values_as : (x : List ValueOf) (args : List Arg) → map (value_of x) args ≡ v
 unfolding values_of
 values_as x args = refl
 
-module _ {q : Program} {sizes : Words} {base p : ℕ} {fs : List Frame} {fr : List piton.Frame} (a : Live q sizes base p fs fr) (x : List ValueOf) (s : List Word) (es : s ≡ stack_of q p x fs) (v : VarsFit (shapes_of (proc_at q p)) x) where
+module _ {q : Program} {sizes : StackSizes} {base p : ℕ} {fs : List Frame} {fr : List piton.Frame} (a : Live q sizes base p fs fr) (x : List ValueOf) (s : List Word) (es : s ≡ stack_of q p x fs) (v : VarsFit (shapes_of (proc_at q p)) x) where
   -- each variable is held by its words and by its local
   held : (b : ℕ) (t : Shape) → slice_get (shapes_of (proc_at q p)) b ≡ Some t → VariableHolds s (index_words (frame_of q p fs)) (offset q p b) (index_of q p fs b) (value_at x b) t
   held b t e =

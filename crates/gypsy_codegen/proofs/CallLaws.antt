@@ -10,14 +10,14 @@ use Rattle.piton_words.specs.declared.word.Word.TheVariants.{Nat}
 use Rattle.piton_check.specs.Instruction as i
 use Rattle.piton_check.specs.Instruction.{Instruction}
 use Rattle.piton_machine.specs.State as piton
-use Rattle.gypsy_syntax.specs.Programs.{Cond, Leave, Routine, Space, Declared, Program, proc_at, body_of, shapes_of, conds_of, Call}
+use Rattle.gypsy_syntax.specs.Programs.{ConditionOf, Leave, Routine, Space, Declared, Program, proc_at, body_of, shapes_of, conds_of, Call}
 use Rattle.gypsy_syntax.specs.ProgramFits.{CallFits}
 use Rattle.gypsy_syntax.specs.Effects.{value_at}
 use Rattle.gypsy_space.specs.Costs.{Tally, spend, out_spend, main_spend}
-use Rattle.gypsy_space.specs.Needs.{Words, temp_need, local_words, vars_of, with_call, call_need, has_temp_room, has_ctrl_room, lack_of, call_spend}
+use Rattle.gypsy_space.specs.Needs.{StackSizes, temp_need, local_words, vars_of, with_call, call_need, has_temp_room, has_ctrl_room, lack_of, call_spend}
 use Rattle.gypsy_space.specs.declared.need.Lack.{Lack}
 use Rattle.gypsy_space.specs.declared.need.Lack.TheVariants.{Nothing, Temporary, Control}
-use Rattle.gypsy_meaning.specs.Calls.{Way, copied_in, copied_out, is_passed_on, matching, main_way, main_formals}
+use Rattle.gypsy_meaning.specs.Calls.{CurrentCondition, copied_in, copied_out, is_passed_on, matching, main_way, main_formals}
 use Rattle.gypsy_meaning.specs.Machine.{Item, Do, Frame, Held, At, open_on, settle, raise, used}
 use Rattle.gypsy_meaning.specs.Kept.{VarsFit, in_loop, WorkFits}
 use Rattle.gypsy_meaning.specs.Room.{HasWords, CoversWork}
@@ -29,7 +29,8 @@ use Rattle.gypsy_codegen.specs.Memory.{stack_of, base_of, index_of, index_words}
 use Rattle.gypsy_codegen.specs.Showing.{HasAt, IsBehindCall, gen_in, Stands, Waits, frame_with}
 use Rattle.gypsy_codegen.specs.Law.{Halts}
 use Rattle.gypsy_meaning.proofs.Keeping.{locals_fit}
-use Rattle.gypsy_codegen.proofs.CopyLaws.{copied_back, actuals_below, actuals_number}
+use Rattle.gypsy_meaning.proofs.ReadyLaws.{actuals_length}
+use Rattle.gypsy_codegen.proofs.CopyLaws.{copied_back, actuals_below}
 use Rattle.gypsy_codegen.proofs.StackLaws.{push_all-length, push_all-append, values_words, starts-length}
 use Rattle.gypsy_codegen.proofs.LayoutLaws.{if_no, height, low_fits, ctrl_is, newest}
 use Rattle.gypsy_codegen.proofs.StepLaws as go
@@ -39,7 +40,7 @@ use Rattle.gypsy_codegen.proofs.GuardLaws as guard
 use Rattle.gypsy_codegen.proofs.StandLaws.{size_raises, tail_at, ret_at, moved, settle_stands, body_stands, Comes, comes_on, lands, raises_leads}
 
 -- what a call's room says
-pub record Room (q : Program) (sizes : Words) (p : ℕ) (u : Words) : Type 0 where
+pub record Room (q : Program) (sizes : StackSizes) (p : ℕ) (u : StackSizes) : Type 0 where
   pub temp : u.temp + (local_words (proc_at q p) + length (proc_at q p).locals + length (proc_at q p).formals) ≤ sizes.temp
   pub ctrl : u.ctrl + (2 + vars_of (proc_at q p)) ≤ sizes.ctrl
   pub callee : HasWords q sizes p (with_call q p u)
@@ -47,7 +48,7 @@ pub record Room (q : Program) (sizes : Words) (p : ℕ) (u : Words) : Type 0 whe
 more_room : (a l n m s : ℕ) → a + max m (l + n) ≤ s → (a + m ≤ s) × (a + l + n ≤ s)
 more_room a l n m s h = (omega (arith, h), omega (arith, h))
 
-room_parts : (q : Program) (sizes : Words) (p : ℕ) (u : Words) → u.temp + (call_need q p).temp ≤ sizes.temp → u.ctrl + (call_need q p).ctrl ≤ sizes.ctrl → Room q sizes p u
+room_parts : (q : Program) (sizes : StackSizes) (p : ℕ) (u : StackSizes) → u.temp + (call_need q p).temp ≤ sizes.temp → u.ctrl + (call_need q p).ctrl ≤ sizes.ctrl → Room q sizes p u
 unfolding call_need with_call
 room_parts q sizes p u temp ctrl =
     let c = proc_at q p in
@@ -57,12 +58,12 @@ room_parts q sizes p u temp ctrl =
     record { temp = both.0; ctrl = omega (arith, ctrl); callee = (both.1, omega (arith, ctrl)) }
 
 -- what the lack of a call says
-abbrev pub Lacks : Program → Words → ℕ → Words → Lack → Type 0
+abbrev pub Lacks : Program → StackSizes → ℕ → StackSizes → Lack → Type 0
 Lacks q sizes p u Nothing = (u.temp + (call_need q p).temp ≤ sizes.temp) × (u.ctrl + (call_need q p).ctrl ≤ sizes.ctrl)
 Lacks q sizes p u Temporary = sizes.temp < u.temp + (call_need q p).temp
 Lacks q sizes p u Control = (u.temp + (call_need q p).temp ≤ sizes.temp) × (sizes.ctrl < u.ctrl + (call_need q p).ctrl)
 
-pub lacks : (q : Program) (sizes : Words) (p : ℕ) (u : Words) → Lacks q sizes p u (lack_of q sizes p u)
+pub lacks : (q : Program) (sizes : StackSizes) (p : ℕ) (u : StackSizes) → Lacks q sizes p u (lack_of q sizes p u)
 unfolding lack_of
 lacks q sizes p u = by_room (has_temp_room q sizes p u) (has_ctrl_room q sizes p u) refl refl
   where
@@ -82,7 +83,7 @@ call_spent : (q : Program) (c : ℕ) (t : Tally) → spend (22 + local_words (pr
 unfolding call_spend
 call_spent q c t = refl
 
-call_stack : (q : Program) (c p : ℕ) (xs : List ℕ) (x : List ValueOf) (w : List Item) (cs : List Cond) (fs : List Frame) (s : List Word) → length xs ≡ length (proc_at q c).formals → s ≡ stack_of q p x fs → push_all (words_of_values (proc_at q c).locals) s ≡ stack_of q c (copied_in q c xs x) (Held p x w xs cs ∷ fs)
+call_stack : (q : Program) (c p : ℕ) (xs : List ℕ) (x : List ValueOf) (w : List Item) (cs : List ConditionOf) (fs : List Frame) (s : List Word) → length xs ≡ length (proc_at q c).formals → s ≡ stack_of q p x fs → push_all (words_of_values (proc_at q c).locals) s ≡ stack_of q c (copied_in q c xs x) (Held p x w xs cs ∷ fs)
 unfolding copied_in
 call_stack q c p xs x w cs fs s many es =
     let vs = (proc_at q c).locals in
@@ -92,12 +93,12 @@ call_stack q c p xs x w cs fs s many es =
     ap (push_all (words_of_values vs)) (es ∙ ap (λ z. stack_of q p z fs) (sym (copied_back xs vs x)))
     ∙ ap (λ z. push_all (words_of_values z) (stack_of q p (copied_out xs (ys ++ vs) x) fs)) (sym dropped)
 
-module _ {q : Program} {sizes : Words} {base p : ℕ} {fs : List Frame} {fr : List piton.Frame} (a : Live q sizes base p fs fr) (x : List ValueOf) (s : List Word) (es : s ≡ stack_of q p x fs) (v : VarsFit (shapes_of (proc_at q p)) x) where
+module _ {q : Program} {sizes : StackSizes} {base p : ℕ} {fs : List Frame} {fr : List piton.Frame} (a : Live q sizes base p fs fr) (x : List ValueOf) (s : List Word) (es : s ≡ stack_of q p x fs) (v : VarsFit (shapes_of (proc_at q p)) x) where
   tall_is : length s ≡ (used q p fs).temp
   tall_is = ap length es ∙ height q p x fs v a.frames_fit
 
   -- what stands behind a call
-  behind_call : (place c : ℕ) (xs : List ℕ) (cs : List Cond) (env : List Scope) (at : ℕ) → HasAt (code_of q p) at (gen_in q p env at (Call place c xs cs)) → HasAt (code_of q p) (at + guard_size + before_size q c xs) (after_code q p (size q (body_of q p)) env (at + guard_size + before_size q c xs) (local_words (proc_at q c)) cs)
+  behind_call : (place c : ℕ) (xs : List ℕ) (cs : List ConditionOf) (env : List Scope) (at : ℕ) → HasAt (code_of q p) at (gen_in q p env at (Call place c xs cs)) → HasAt (code_of q p) (at + guard_size + before_size q c xs) (after_code q p (size q (body_of q p)) env (at + guard_size + before_size q c xs) (local_words (proc_at q c)) cs)
   behind_call place c xs cs env at h =
       let code = code_of q p in
       let d = proc_at q c in
@@ -121,7 +122,7 @@ module _ {q : Program} {sizes : Words} {base p : ℕ} {fs : List Frame} {fr : Li
       subst (λ r. HasAt code r after) e hc.1
 
   -- where the guard goes: spaceerror is raised
-  space_leads : (place c : ℕ) (xs : List ℕ) (cs : List Cond) (env : List Scope) (at : ℕ) (w : List Item) (u t : Tally) → spend 4 3 u ≡ t → Stands q p env at (Do (Call place c xs cs) ∷ w) → Comes q (generated_view q sizes base) (Pt p (at + guard_size + before_size q c xs + 6) 2 s fr u) (raise Space p x w fs t)
+  space_leads : (place c : ℕ) (xs : List ℕ) (cs : List ConditionOf) (env : List Scope) (at : ℕ) (w : List Item) (u t : Tally) → spend 4 3 u ≡ t → Stands q p env at (Do (Call place c xs cs) ∷ w) → Comes q (generated_view q sizes base) (Pt p (at + guard_size + before_size q c xs + 6) 2 s fr u) (raise Space p x w fs t)
   space_leads place c xs cs env at w u t e st =
       let n = size q (body_of q p) in
       let ra = at + guard_size + before_size q c xs in
@@ -130,7 +131,7 @@ module _ {q : Program} {sizes : Words} {base p : ℕ} {fs : List Frame} {fr : Li
       let r = has_back (code_of q p) (ra + 1 + 1 + 1) (raise_code q p n env Routine) (raise_code q p n env Space ++ rest) (ra + 6) (omega arith) h.1.1.1 in
       raises_leads a x s es v Space w env (ra + 6) (at + size q (Call place c xs cs)) 2 rest u t e r st.1
 
-  module _ (place c : ℕ) (xs : List ℕ) (cs : List Cond) (env : List Scope) (at : ℕ) (w : List Item) (u t : Tally) (two : 2 ≤ temp_need (proc_at q p)) (e : u ≡ t) (st : Stands q p env at (Do (Call place c xs cs) ∷ w)) where
+  module _ (place c : ℕ) (xs : List ℕ) (cs : List ConditionOf) (env : List Scope) (at : ℕ) (w : List Item) (u t : Tally) (two : 2 ≤ temp_need (proc_at q p)) (e : u ≡ t) (st : Stands q p env at (Do (Call place c xs cs) ∷ w)) where
     -- a call without room on the temporary stack
     pub lack_temporary_leads : Lacks q sizes c (used q p fs) Temporary → Comes q (generated_view q sizes base) (Pt p at 2 s fr u) (raise Space p x w fs (spend 15 7 t))
     lack_temporary_leads lack =
@@ -144,7 +145,7 @@ module _ {q : Program} {sizes : Words} {base p : ℕ} {fs : List Frame} {fr : Li
         comes_on (guard.ctrl_lacks a x s es v two (call_need q c) at 2 to _ u st.0 (omega (arith, lack.0, tall_is)) (omega (arith, lack.1, ctrl_is q p fs fr a.frames_fit a.waits))) (space_leads place c xs cs env at w (spend 22 8 u) (spend 26 11 t) (spend_two 4 3 22 8 u ∙ ap (spend 26 11) e) st)
 
   -- a call with room
-  pub call_leads : (place c : ℕ) (xs : List ℕ) (cs : List Cond) (env : List Scope) (at : ℕ) (w : List Item) (u t : Tally) → CallFits q (shapes_of (proc_at q p)) (conds_of (proc_at q p)) (in_loop w) c xs cs → WorkFits q (proc_at q p) w → CoversWork (proc_at q p) w → 2 ≤ temp_need (proc_at q p) → Lacks q sizes c (used q p fs) Nothing → u ≡ t → Stands q p env at (Do (Call place c xs cs) ∷ w) → Comes q (generated_view q sizes base) (Pt p at 2 s fr u) (At c (copied_in q c xs x) (open_on (body_of q c) []) (Held p x w xs cs ∷ fs) (call_spend q c t))
+  pub call_leads : (place c : ℕ) (xs : List ℕ) (cs : List ConditionOf) (env : List Scope) (at : ℕ) (w : List Item) (u t : Tally) → CallFits q (shapes_of (proc_at q p)) (conds_of (proc_at q p)) (in_loop w) c xs cs → WorkFits q (proc_at q p) w → CoversWork (proc_at q p) w → 2 ≤ temp_need (proc_at q p) → Lacks q sizes c (used q p fs) Nothing → u ≡ t → Stands q p env at (Do (Call place c xs cs) ∷ w) → Comes q (generated_view q sizes base) (Pt p at 2 s fr u) (At c (copied_in q c xs x) (open_on (body_of q c) []) (Held p x w xs cs ∷ fs) (call_spend q c t))
   call_leads place c xs cs env at w u t cf wf cw two has e st =
       let S = generated_view q sizes base in
       let code = code_of q p in
@@ -160,7 +161,7 @@ module _ {q : Program} {sizes : Words} {base p : ℕ} {fs : List Frame} {fr : Li
       let low = base_of q p fs in
       let need = call_need q c in
       let room = room_parts q sizes c (used q p fs) has.0 has.1 in
-      let many : n ≡ k = actuals_number (shapes_of (proc_at q p)) d.formals xs cf.actuals in
+      let many : n ≡ k = actuals_length (shapes_of (proc_at q p)) d.formals xs cf.actuals in
       let wl : length ws ≡ l = values_words sh d.locals (locals_fit d.locals (a.fits.procs c).locals) in
       let sm : length sh ≡ m = length-map d.locals (λ (v : ValueOf). v.shape) in
       let tall : length s ≡ low = tall_is in
@@ -227,7 +228,7 @@ module _ {q : Program} {sizes : Words} {base p : ℕ} {fs : List Frame} {fr : Li
       ∙ ap (call_spend q c) e in
       comes_on (steps_on go0 (steps_on go1 (steps_on go2 (steps_on go3 go4')))) (lands a' (copied_in q c xs x) s1 0 (open_on (body_of q c) []) u4 (call_spend q c t) (call_stack q c p xs x w cs fs s many es) tally (body_stands q c))
 
-raise_at : (code : List Instruction) (q : Program) (p n : ℕ) (env : List Scope) (cs : List Cond) (j at : ℕ) (b : List Instruction) → HasAt code at (raises q p n env cs ++ b) → j < length cs → (rest : List Instruction) × HasAt code (at + 3 * j) (raise_code q p n env (get_or cs j Routine) ++ rest)
+raise_at : (code : List Instruction) (q : Program) (p n : ℕ) (env : List Scope) (cs : List ConditionOf) (j at : ℕ) (b : List Instruction) → HasAt code at (raises q p n env cs ++ b) → j < length cs → (rest : List Instruction) × HasAt code (at + 3 * j) (raise_code q p n env (get_or cs j Routine) ++ rest)
 raise_at code q p n env [] j at b h l = absurd (omega (arith, l))
 raise_at code q p n env (c ∷ cs) zero at b h l =
     let e : at ≡ at + 3 * 0 = omega arith in
@@ -237,7 +238,7 @@ raise_at code q p n env (c ∷ cs) (suc j) at b h l =
     let r = raise_at code q p n env cs j (at + 1 + 1 + 1) b h.1.1.1 (omega (arith, l)) in
     (r.0, subst (λ z. HasAt code z (raise_code q p n env (get_or cs j Routine) ++ r.0)) e r.1)
 
-place_at : (cs : List Cond) (j at : ℕ) → j < length cs → slice_get (raise_places at cs) j ≡ Some (at + 3 * j)
+place_at : (cs : List ConditionOf) (j at : ℕ) → j < length cs → slice_get (raise_places at cs) j ≡ Some (at + 3 * j)
 place_at [] j at l = absurd (omega (arith, l))
 place_at (c ∷ cs) zero at l = let e : at ≡ at + 3 * 0 = omega arith in ap Some e
 place_at (c ∷ cs) (suc j) at l =
@@ -253,7 +254,7 @@ unfolding out_spend
 out_false t = refl
 
 -- the end of an activation above main's
-module _ {q : Program} {sizes : Words} {base p c : ℕ} {x : List ValueOf} {w : List Item} {xs : List ℕ} {cs : List Cond} {fs : List Frame} {fr : List piton.Frame} (a : Live q sizes base p (Held c x w xs cs ∷ fs) fr) (y : List ValueOf) (s : List Word) (es : s ≡ stack_of q p y (Held c x w xs cs ∷ fs)) (v : VarsFit (shapes_of (proc_at q p)) y) where
+module _ {q : Program} {sizes : StackSizes} {base p c : ℕ} {x : List ValueOf} {w : List Item} {xs : List ℕ} {cs : List ConditionOf} {fs : List Frame} {fr : List piton.Frame} (a : Live q sizes base p (Held c x w xs cs ∷ fs) fr) (y : List ValueOf) (s : List Word) (es : s ≡ stack_of q p y (Held c x w xs cs ∷ fs)) (v : VarsFit (shapes_of (proc_at q p)) y) where
   below : Live q sizes base c fs a.waits.1
   below = record { fits = a.fits; small = a.small; bodies = a.bodies; frames_fit = a.frames_fit.3; waits = a.waits.6; words = a.words.2 }
 
@@ -341,7 +342,7 @@ module _ {q : Program} {sizes : Words} {base p c : ℕ} {x : List ValueOf} {w : 
       comes_on (behind 3 (r + 6) u refl) (raises_leads below (copied_out xs y x) lo refl vars_below Space w a.waits.3 (r + 6) (r + after_size cs) 3 rest _ t (spend_two 4 3 6 3 u ∙ e) space_at a.waits.5)
 
   -- L0, which makes the condition routineerror
-  other_leads : (d : Cond) (at : ℕ) (u t : Tally) → u ≡ t → at ≡ size q (body_of q p) + 1 → Comes q (generated_view q sizes base) (Pt p at (number_of d) s fr u) (raise Routine c (copied_out xs y x) w fs (out_spend false t))
+  other_leads : (d : ConditionOf) (at : ℕ) (u t : Tally) → u ≡ t → at ≡ size q (body_of q p) + 1 → Comes q (generated_view q sizes base) (Pt p at (number_of d) s fr u) (raise Routine c (copied_out xs y x) w fs (out_spend false t))
   other_leads d at u t e f =
       let free : length s < sizes.temp = omega (arith, free_temp a y s es v) in
       let n = size q (body_of q p) in
@@ -365,7 +366,7 @@ module _ {q : Program} {sizes : Words} {base p c : ℕ} {x : List ValueOf} {w : 
       formal_leads j at u t e l f
   named_leads j false at u t e g f = other_leads (Declared j) at u t e f
 
-  pub out_leads : (d : Cond) (at : ℕ) (u t : Tally) → u ≡ t → at ≡ out_place q p (size q (body_of q p)) d → Comes q (generated_view q sizes base) (Pt p at (number_of d) s fr u) (raise (matching q p cs d) c (copied_out xs y x) w fs (out_spend (is_passed_on q p d) t))
+  pub out_leads : (d : ConditionOf) (at : ℕ) (u t : Tally) → u ≡ t → at ≡ out_place q p (size q (body_of q p)) d → Comes q (generated_view q sizes base) (Pt p at (number_of d) s fr u) (raise (matching q p cs d) c (copied_out xs y x) w fs (out_spend (is_passed_on q p d) t))
   unfolding is_passed_on matching
   out_leads Leave at u t e f = other_leads Leave at u t e f
   out_leads Routine at u t e f = other_leads Routine at u t e f
@@ -395,8 +396,8 @@ main_false : (t : Tally) → spend 7 3 t ≡ main_spend false t
 unfolding main_spend
 main_false t = refl
 
-module _ {q : Program} {sizes : Words} {base p : ℕ} {fr : List piton.Frame} (a : Live q sizes base p [] fr) (x : List ValueOf) (s : List Word) (es : s ≡ stack_of q p x []) (v : VarsFit (shapes_of (proc_at q p)) x) where
-  halts_at : (c : Way) (r : ℕ) (b : P) (u t : Tally) → Goes (generated_view q sizes base) b (Pt p r (number_of_way c) s fr u) → spend 4 1 u ≡ t → slice_get (code_of q p) r ≡ Some i.Ret → Halts (generated_view q sizes base) (state b) (spent b) (main_formals q x) c t
+module _ {q : Program} {sizes : StackSizes} {base p : ℕ} {fr : List piton.Frame} (a : Live q sizes base p [] fr) (x : List ValueOf) (s : List Word) (es : s ≡ stack_of q p x []) (v : VarsFit (shapes_of (proc_at q p)) x) where
+  halts_at : (c : CurrentCondition) (r : ℕ) (b : P) (u t : Tally) → Goes (generated_view q sizes base) b (Pt p r (number_of_way c) s fr u) → spend 4 1 u ≡ t → slice_get (code_of q p) r ≡ Some i.Ret → Halts (generated_view q sizes base) (state b) (spent b) (main_formals q x) c t
   halts_at c r b u t st e h =
       let g = steps_on st (go.halts q sizes base p (here a) fr (frame_with q p [] a.waits.0 a.waits.1) [] a.waits.2 r (number_of_way c) s u h refl) in
       record {
@@ -417,7 +418,7 @@ module _ {q : Program} {sizes : Words} {base p : ℕ} {fr : List piton.Frame} (a
       let jump = subst (λ j. slice_get (code_of q p) j ≡ Some (i.Jump (n + 3))) (sym f) (tail_at q p).0 in
       halts_at None (n + 3) (Pt p at 2 s fr u) (spend 1 1 u) (spend 5 2 t) (jumps a at 2 (n + 3) s u jump) (spend_two 4 1 1 1 u ∙ ap (spend 5 2) e) (ret_at q p)
 
-  main_out : (b : Bool) (d : Cond) (at : ℕ) (u t : Tally) → u ≡ t → at ≡ (if b then size q (body_of q p) + 3 else size q (body_of q p) + 1) → Halts (generated_view q sizes base) (state (Pt p at (number_of d) s fr u)) u (main_formals q x) (Some (if b then d else Routine)) (main_spend b t)
+  main_out : (b : Bool) (d : ConditionOf) (at : ℕ) (u t : Tally) → u ≡ t → at ≡ (if b then size q (body_of q p) + 3 else size q (body_of q p) + 1) → Halts (generated_view q sizes base) (state (Pt p at (number_of d) s fr u)) u (main_formals q x) (Some (if b then d else Routine)) (main_spend b t)
   main_out true d at u t e f =
       let ret = subst (λ j. slice_get (code_of q p) j ≡ Some i.Ret) (sym f) (ret_at q p) in
       halts_at (Some d) at (Pt p at (number_of d) s fr u) u (main_spend true t) (stay _) (ap (spend 4 1) e ∙ main_true t) ret
@@ -427,7 +428,7 @@ module _ {q : Program} {sizes : Words} {base p : ℕ} {fr : List piton.Frame} (a
       let set = subst (λ j. HasAt (code_of q p) j (i.PushConstant (Nat 1) ∷ i.PopGlobal 0 ∷ i.Ret ∷ [])) (sym f) (tail_at q p).1 in
       halts_at (Some Routine) (at + 1 + 1) (Pt p at (number_of d) s fr u) (spend 3 2 u) (main_spend false t) (sets_cc a at (number_of d) 1 s u (i.Ret ∷ []) set free) (spend_two 4 1 3 2 u ∙ ap (spend 7 3) e ∙ main_false t) set.1.1.0
 
-  pub out_halts : (d : Cond) (at : ℕ) (u t : Tally) → u ≡ t → at ≡ out_place q p (size q (body_of q p)) d → Halts (generated_view q sizes base) (state (Pt p at (number_of d) s fr u)) u (main_formals q x) (Some (main_way q d)) (main_spend (is_passed_on q q.main d) t)
+  pub out_halts : (d : ConditionOf) (at : ℕ) (u t : Tally) → u ≡ t → at ≡ out_place q p (size q (body_of q p)) d → Halts (generated_view q sizes base) (state (Pt p at (number_of d) s fr u)) u (main_formals q x) (Some (main_way q d)) (main_spend (is_passed_on q q.main d) t)
   unfolding main_way
   out_halts d at u t e f =
       let n = size q (body_of q p) in

@@ -20,13 +20,13 @@ use Rattle.piton_syntax.specs.Systems.{InstrOf, new_program}
 use Rattle.gypsy_syntax.specs.Programs.{Program, Proc, proc_at, shapes_of}
 use Rattle.gypsy_space.specs.declared.need.Need.{Need}
 use Rattle.gypsy_space.specs.Events.{need_of}
-use Rattle.gypsy_space.specs.Needs.{Words, temp_need, local_words, vars_of, call_need}
+use Rattle.gypsy_space.specs.Needs.{StackSizes, temp_need, local_words, vars_of, call_need}
 use Rattle.gypsy_predef.specs.Runs.{word_of_item, words_of_value}
 use Rattle.gypsy_codegen.specs.WordsOf.{words_of_values, local_shapes, starts}
 use Rattle.gypsy_codegen.specs.Guard.{guard_code}
 use Rattle.gypsy_codegen.specs.Generated.{push_words, push_indices, push_actuals}
 use Rattle.gypsy_codegen.specs.Lines.{unmarked, before_code, lines_of}
-use Rattle.gypsy_codegen.specs.Views.{nameless, half_guard, word_constant, local_constants, index_text}
+use Rattle.gypsy_codegen.specs.Scaffold.Views.{nameless, half_guard, word_constant, local_constants, index_text}
 use Rattle.gypsy_codegen.specs.Written.{Names, Line, Plain, Marked, written, written_word}
 
 pub plain_both : (n : Names) (a b : List Instruction) → map (written n) (unmarked (a ++ b)) ≡ map (written n) (unmarked a) ++ map (written n) (unmarked b)
@@ -96,7 +96,7 @@ after_is n rs l old a b c d m e new x y z r g ea eb ec ed em ee en =
     ∙ ap (λ w. old ++ x ∷ y ∷ z ∷ w) (append_assoc r g (map (written n) (rs ++ Marked l i.NoOp ∷ [])))
 
 -- a guard, of its halves
-pub guard_is : (n : Names) (need : Words) (to temp ctrl : ℕ) (old mid new : List InstrOf) → temp ≡ need.temp → ctrl ≡ need.ctrl →
+pub guard_is : (n : Names) (need : StackSizes) (to temp ctrl : ℕ) (old mid new : List InstrOf) → temp ≡ need.temp → ctrl ≡ need.ctrl →
     mid ≡ old ++ half_guard op.PushTempStkFreeSize temp to → new ≡ mid ++ half_guard op.PushCtrlStkFreeSize ctrl to →
     new ≡ old ++ map (written n) (unmarked (guard_code need to))
 guard_is n need to temp ctrl old mid new et ec em en =

@@ -1,18 +1,14 @@
 -- Copying a callee's formals back into the caller's variables.
-use Rattle.std.proofs.Common.{◌≡◌, ℕ, zero, suc, ◌<◌, ◌≤◌, List, [], ◌∷◌, ◌++◌, length, map, drop, Some, refl, sym, ap, ◌∙◌, subst, arith}
+use Rattle.std.proofs.Common.{◌≡◌, ℕ, zero, suc, ◌<◌, ◌≤◌, List, [], ◌∷◌, ◌++◌, length, map, drop, refl, sym, ap, ◌∙◌, subst, arith}
 use Rattle.std.specs.Prelude.{slice_index, slice_set, slice_get}
 use Rattle.std.proofs.lemmas.List.{length-set, get_or-set_same, get_or-set_other, set-get_or, set_comm}
 use Rattle.stack_text.specs.declared.shape.Shape.{Shape}
 use Rattle.stack_text.specs.Values.{ValueOf}
+use Rattle.stack_text.proofs.SharedLaws.{get_below}
 use Rattle.gypsy_syntax.specs.ProgramFits.{Misses, Distinct, ActualsFit, Each}
 use Rattle.gypsy_syntax.specs.Effects.{value_at, no_value}
 use Rattle.gypsy_meaning.specs.Calls.{copied_out}
 use Rattle.gypsy_meaning.specs.Kept.{VarsFit}
-
-pub copied-length : (xs : List ℕ) (y x : List ValueOf) → length (copied_out xs y x) ≡ length x
-copied-length [] y x = refl
-copied-length (a ∷ xs) [] x = refl
-copied-length (a ∷ xs) (v ∷ y) x = copied-length xs y (slice_set x a v) ∙ length-set x a v
 
 -- each is below n
 abbrev pub Below : ℕ → List ℕ → Type 0
@@ -61,17 +57,6 @@ back_at ls x (a ∷ xs) z e =
 pub copied_back : (xs : List ℕ) (ls x : List ValueOf) → copied_out xs (map (value_at x) xs ++ ls) x ≡ x
 copied_back xs ls x = back_at ls x xs x refl
 
-pub below_at : (n : ℕ) (xs : List ℕ) (i : ℕ) → Below n xs → i < length xs → slice_index xs i < n
-below_at n [] i b h = absurd (omega arith)
-below_at n (a ∷ xs) zero b h = b.0
-below_at n (a ∷ xs) (suc i) b h = below_at n xs i b.1 (omega arith)
-
--- what is there is below the length
-pub get_below : {A : Type 0} (xs : List A) (i : ℕ) (x : A) → slice_get xs i ≡ Some x → i < length xs
-get_below [] i x e = cc
-get_below (y ∷ xs) zero x e = omega arith
-get_below (y ∷ xs) (suc i) x e = let h = get_below xs i x e in omega (arith, h)
-
 -- Actuals that fit.
 
 pub actuals_below : (shapes formals : List Shape) (xs : List ℕ) → ActualsFit shapes formals xs → Below (length shapes) xs
@@ -79,12 +64,6 @@ actuals_below shapes [] [] f = tt
 actuals_below shapes [] (x ∷ xs) f = absurd f
 actuals_below shapes (s ∷ formals) [] f = absurd f
 actuals_below shapes (s ∷ formals) (x ∷ xs) f = (get_below shapes x s f.0, actuals_below shapes formals xs f.1)
-
-pub actuals_number : (shapes formals : List Shape) (xs : List ℕ) → ActualsFit shapes formals xs → length xs ≡ length formals
-actuals_number shapes [] [] f = refl
-actuals_number shapes [] (x ∷ xs) f = absurd f
-actuals_number shapes (s ∷ formals) [] f = absurd f
-actuals_number shapes (s ∷ formals) (x ∷ xs) f = ap suc (actuals_number shapes formals xs f.1)
 
 -- the actual of a formal has its shape
 pub actual_shape : (shapes formals rest : List Shape) (xs : List ℕ) (b : ℕ) → ActualsFit shapes formals xs → b < length formals → slice_get shapes (slice_index xs b) ≡ slice_get (formals ++ rest) b

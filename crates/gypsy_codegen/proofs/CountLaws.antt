@@ -1,18 +1,18 @@
 -- How many lines and labels the code of a source has at most.
 use Rattle.std.proofs.Common.{◌≡◌, ℕ, zero, suc, ◌+◌, ◌*◌, ◌<◌, ◌≤◌, ◌^◌, List, [], ◌∷◌, length, Bool, true, false, ap, arith}
 use Rattle.std.specs.Prelude.{◌==◌, if◌then◌else◌}
+use Rattle.gypsy_meaning.proofs.ReadyLaws.{actuals_length}
 use Rattle.stack_text.specs.declared.shape.Shape.{Shape}
 use Rattle.gypsy_syntax.specs.declared.predef.Predef.{Predef}
 use Rattle.gypsy_syntax.specs.declared.predef.Predef.TheVariants as row
 use Rattle.gypsy_syntax.specs.Programs.{Arg, Var, Lit, Program, proc_at, body_of, shapes_of}
 use Rattle.gypsy_syntax.specs.Programs.{Stmt, Skip, NoOp, Signal, Seq, Loop, If, Begin, Call, Apply}
 use Rattle.gypsy_syntax.specs.ProgramFits.{StmtFits, ProgramFits}
-use Rattle.gypsy_syntax.specs.PredefinedCosts.{predef_words}
+use Rattle.gypsy_syntax.specs.Predefined.{predef_words}
 use Rattle.gypsy_space.specs.Needs.{vars_of, args_words, statement_words, code_words}
 use Rattle.gypsy_predef.specs.Bodies.{lengths_of}
 use Rattle.gypsy_codegen.specs.Generated.{size, test_size, count_from}
 use Rattle.gypsy_codegen.specs.Lines.{labels}
-use Rattle.gypsy_codegen.proofs.CopyLaws.{actuals_number}
 use Rattle.gypsy_codegen.proofs.FineLaws.{words_sized}
 use Rattle.gypsy_codegen.specs.Acceptable.{code_words_of, total_words}
 
@@ -23,19 +23,7 @@ args_least (Lit v ∷ args) = let h = args_least args in omega (arith, h)
 
 row_least : (r : Predef) → lengths_of r + test_size r ≤ predef_words r
 row_least row.MgSimpleVariableAssignment = omega arith
-row_least row.MgSimpleConstantAssignment = omega arith
-row_least row.MgSimpleVariableEq = omega arith
-row_least row.MgSimpleConstantEq = omega arith
-row_least row.MgIntegerLe = omega arith
-row_least row.MgIntegerUnaryMinus = omega arith
-row_least row.MgIntegerAdd = omega arith
-row_least row.MgIntegerSubtract = omega arith
-row_least row.MgBooleanOr = omega arith
-row_least row.MgBooleanAnd = omega arith
-row_least row.MgBooleanNot = omega arith
-row_least row.MgIndexArray = omega arith
-row_least row.MgArrayElementAssignment = omega arith
-row_least row.MgIntegerMultiply = omega arith
+row_least r = omega arith
 
 -- an instruction takes a word at least
 pub size_least : (q : Program) → ProgramFits q → (shapes : List Shape) (n : ℕ) (b : Bool) (s : Stmt) → StmtFits q shapes n b s → size q s ≤ statement_words q s
@@ -46,7 +34,7 @@ size_least q fits shapes n b (Seq s v) h = let x = size_least q fits shapes n b 
 size_least q fits shapes n b (Loop place s) h = let x = size_least q fits shapes n true s h in omega (arith, x)
 size_least q fits shapes n b (If place t s v) h = let x = size_least q fits shapes n b s h.1 in let y = size_least q fits shapes n b v h.2 in omega (arith, x, y)
 size_least q fits shapes n b (Begin place s cs v) h = let x = size_least q fits shapes n b s h.1 in let y = size_least q fits shapes n b v h.2 in omega (arith, x, y)
-size_least q fits shapes n b (Call place c xs cs) h = let x = actuals_number shapes (proc_at q c).formals xs h.actuals in omega (arith, x, words_sized q fits c)
+size_least q fits shapes n b (Call place c xs cs) h = let x = actuals_length shapes (proc_at q c).formals xs h.actuals in omega (arith, x, words_sized q fits c)
 size_least q fits shapes n b (Apply place r args) h = let x = args_least args in let y = row_least r in omega (arith, x, y)
 
 -- a label stands before an instruction of its own

@@ -1,18 +1,19 @@
 -- Declarations that differ: none repeats another, and each is found where it stands.
 use Rattle.std.proofs.Common.{◌≡◌, ℕ, zero, suc, ◌+◌, ◌<◌, ◌≤◌, ◌^◌, List, [], ◌∷◌, ◌++◌, map, length, get_or, bytes_eq}
-use Rattle.std.proofs.Common.{Bool, true, false, cond, ◌||◌, true≢false, Some, None, is_some, refl, ap, sym, ◌∙◌, arith}
+use Rattle.std.proofs.Common.{false, cond, Some, None, is_some, refl, ap, ◌∙◌, arith}
 use Rattle.std.specs.List.{position_from}
 use Rattle.std.proofs.lemmas.Slice.Eq.{bytes_eq-Decides}
 use Rattle.std.proofs.lemmas.Iterator.Adapters.{position_from-zero}
+use Rattle.std.proofs.lemmas.Bool.{or_parts}
 use Rattle.stack_text.specs.declared.name.Named.{Named}
 use Rattle.stack_text.specs.Breaches.{when}
 use Rattle.stack_text.specs.Grammar.Printed.{unplaced}
 use Rattle.piton_check.specs.Declarations.{Declaration, is_named, first_of, repeats}
-use Rattle.piton_check.specs.Tables.{first_or}
+use Rattle.stack_text.specs.Options.{first_or}
+use Rattle.stack_text.proofs.SharedLaws.{rule_fails, append_none, bytes_apart}
 use Rattle.piton_check.proofs.TableLaws.{position-push}
 use Rattle.gypsy_syntax.specs.ProgramFits.{Each}
 use Rattle.gypsy_check.specs.Declarations.{is_among, repeats as repetitions}
-use Rattle.gypsy_check.proofs.CleanLaws.{two, fails}
 use Rattle.gypsy_codegen.specs.Written.{Names, Line, Plain, Marked, label_text}
 use Rattle.gypsy_codegen.proofs.LabelLaws.{Misses, Distinct, Ranged, declared, label_differs}
 
@@ -22,7 +23,7 @@ Absent name [] = Unit {0}
 Absent name (None ∷ ds) = Absent name ds
 Absent name (Some m ∷ ds) = (bytes_eq m.name name ≡ false) × Absent name ds
 
--- no two are of one name
+-- no append_none are of one name
 abbrev pub Apart : List Declaration → Type 0
 Apart [] = Unit {0}
 Apart (None ∷ ds) = Apart ds
@@ -84,7 +85,7 @@ declarations names = map (λ name. Some (unplaced name)) names
 abbrev pub Unlike : List ℕ → List (List ℕ) → Type 0
 Unlike name names = Each (λ m. bytes_eq m name ≡ false) names
 
--- no two are the same
+-- no append_none are the same
 abbrev pub Differ : List (List ℕ) → Type 0
 Differ [] = Unit {0}
 Differ (n ∷ names) = Unlike n names × Differ names
@@ -115,13 +116,6 @@ pub found_at : (names : List (List ℕ)) (b : ℕ) → Differ names → b < leng
 found_at names b d lt =
     position_from-zero (is_named (get_or names b [])) (declarations names) ∙ found_from 0 names b d lt ∙ ap Some (omega arith)
 
-pub like_sym : (a b : List ℕ) → bytes_eq a b ≡ false → bytes_eq b a ≡ false
-like_sym a b e = by_test (bytes_eq b a) refl
-  where
-    by_test : (t : Bool) → bytes_eq b a ≡ t → t ≡ false
-    by_test true f = absurd (true≢false (sym ((bytes_eq-Decides a b).1 (sym ((bytes_eq-Decides b a).0 f))) ∙ e))
-    by_test false f = refl
-
 -- none of the second is like one of the first
 abbrev pub Cross : List (List ℕ) → List (List ℕ) → Type 0
 Cross xs ys = Each (λ x. Unlike x ys) xs
@@ -146,7 +140,7 @@ differ_parts (x ∷ xs) ys d =
 
 cross_one : (y : List ℕ) (xs ys : List (List ℕ)) → Cross xs (y ∷ ys) → Unlike y xs × Cross xs ys
 cross_one y [] ys c = (tt, tt)
-cross_one y (x ∷ xs) ys c = let h = cross_one y xs ys c.1 in ((like_sym y x c.0.0, h.0), (c.0.1, h.1))
+cross_one y (x ∷ xs) ys c = let h = cross_one y xs ys c.1 in ((bytes_apart y x c.0.0, h.0), (c.0.1, h.1))
 
 cross_swap : (xs ys : List (List ℕ)) → Cross xs ys → Cross ys xs
 cross_swap xs [] c = tt
@@ -157,23 +151,19 @@ differ_swap xs ys d = let h = differ_parts xs ys d in differ_both ys xs h.1 h.0 
 
 -- ---- names that a source doesn't repeat
 
-pub or_false : (a b : Bool) → (a || b) ≡ false → (a ≡ false) × (b ≡ false)
-or_false true b e = absurd (true≢false e)
-or_false false b e = (refl, e)
-
 unlike_earlier : (rule : ℕ) (earlier : List (List ℕ)) (name : List ℕ) (xs : List Named) → ((m : List ℕ) → is_among m earlier ≡ false → bytes_eq m name ≡ false) →
     repetitions rule earlier xs ≡ [] → Unlike name (map (λ n. n.name) xs)
 unlike_earlier rule earlier name [] h e = tt
 unlike_earlier rule earlier name (x ∷ xs) h e =
-    let k = two (when (is_among x.name earlier) x.place rule) (repetitions rule (x.name ∷ earlier) xs) e in (
-      h x.name (fails (is_among x.name earlier) x.place rule k.0),
-      unlike_earlier rule (x.name ∷ earlier) name xs (λ m g. h m (or_false (bytes_eq m x.name) (is_among m earlier) g).1) k.1,
+    let k = append_none (when (is_among x.name earlier) x.place rule) (repetitions rule (x.name ∷ earlier) xs) e in (
+      h x.name (rule_fails (is_among x.name earlier) x.place rule k.0),
+      unlike_earlier rule (x.name ∷ earlier) name xs (λ m g. h m (or_parts (bytes_eq m x.name) (is_among m earlier) g).1) k.1,
     )
 
 pub differ_source : (rule : ℕ) (earlier : List (List ℕ)) (xs : List Named) → repetitions rule earlier xs ≡ [] → Differ (map (λ n. n.name) xs)
 differ_source rule earlier [] e = tt
 differ_source rule earlier (x ∷ xs) e =
-    let k = two (when (is_among x.name earlier) x.place rule) (repetitions rule (x.name ∷ earlier) xs) e in (
-      unlike_earlier rule (x.name ∷ earlier) x.name xs (λ m g. (or_false (bytes_eq m x.name) (is_among m earlier) g).0) k.1,
+    let k = append_none (when (is_among x.name earlier) x.place rule) (repetitions rule (x.name ∷ earlier) xs) e in (
+      unlike_earlier rule (x.name ∷ earlier) x.name xs (λ m g. (or_parts (bytes_eq m x.name) (is_among m earlier) g).0) k.1,
       differ_source rule (x.name ∷ earlier) xs k.1,
     )

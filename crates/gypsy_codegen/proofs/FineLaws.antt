@@ -9,6 +9,7 @@ use Rattle.stack_text.specs.declared.shape.Kind.{Kind}
 use Rattle.stack_text.specs.declared.shape.Kind.TheVariants.{Integer, Boolean, Character}
 use Rattle.stack_text.specs.declared.shape.Shape.{Shape}
 use Rattle.stack_text.specs.Values.{ValueOf, item_count}
+use Rattle.stack_text.proofs.SharedLaws.{get_below}
 use Rattle.std.proofs.lemmas.Bool.{and_parts}
 use Rattle.piton_words.specs.declared.word.Word.{Word}
 use Rattle.piton_words.specs.declared.word.Word.TheVariants.{Int}
@@ -23,17 +24,17 @@ use Rattle.gypsy_syntax.specs.declared.predef.Predef.TheVariants as row
 use Rattle.gypsy_syntax.specs.declared.slot.Form.{Form}
 use Rattle.gypsy_syntax.specs.declared.slot.Form.TheVariants.{Simple, Array, Literal}
 use Rattle.gypsy_syntax.specs.declared.slot.Slot.{Slot}
-use Rattle.gypsy_syntax.specs.Predefined.{slots_of}
+use Rattle.gypsy_syntax.proofs.PredefLaws.{number_below, low_temp, low_ctrl}
+use Rattle.gypsy_syntax.specs.Predefined.{predefs, slots_of, predef_temp, predef_ctrl, can_fail}
 use Rattle.gypsy_syntax.specs.Effects.{item_of_value}
-use Rattle.gypsy_syntax.specs.Programs.{Cond, Leave, Routine, Space, Declared, Arg, Var, Lit, Proc, Program, simple, proc_at, body_of, shapes_of, conds_of, words_of}
+use Rattle.gypsy_syntax.specs.Programs.{ConditionOf, Leave, Routine, Space, Declared, Arg, Var, Lit, Proc, Program, simple, proc_at, body_of, shapes_of, conds_of, words_of}
 use Rattle.gypsy_syntax.specs.Programs.{Stmt, Skip, NoOp, Signal, Seq, Loop, If, Begin, Call, Apply}
 use Rattle.gypsy_syntax.specs.ProgramFits.{Each, is_in_range, ValueFits, CondFits, ActualsFit, ArgFits, ArgsFit, slot_kind, StmtFits, ProgramFits}
-use Rattle.gypsy_syntax.specs.PredefinedCosts.{predef_temp, predef_ctrl}
 use Rattle.gypsy_space.specs.Needs.{greatest, statement_temp, statement_ctrl, local_words, vars_of, call_need}
+use Rattle.gypsy_space.proofs.SmallLaws.{length-words_of, item_count-positive, words_of-append}
 use Rattle.gypsy_meaning.specs.Calls.{has_cond, is_leave, is_passed_on}
-use Rattle.gypsy_predef.specs.Runs.{word_of_item, words_of_value, can_fail}
+use Rattle.gypsy_predef.specs.Runs.{word_of_item, words_of_value}
 use Rattle.gypsy_codegen.specs.WordsOf.{words_of_values, local_shapes, number_of}
-use Rattle.gypsy_predef.specs.Bodies.{predef_number}
 use Rattle.gypsy_codegen.specs.Guard.{guard_code}
 use Rattle.gypsy_codegen.specs.Generated.{Scope, InLoop, InBegin, push_words, push_indices, push_actuals, push_args, length_code}
 use Rattle.gypsy_codegen.specs.Generated.{arg_length, offset}
@@ -41,9 +42,8 @@ use Rattle.gypsy_codegen.specs.Written.{Line, Plain, Marked}
 use Rattle.gypsy_codegen.specs.Lines.{labels, label_to, unmarked, marked_raises, raise_labels}
 use Rattle.gypsy_codegen.specs.Lines.{before_code, after_lines, apply_code, lines, tail_lines, lines_of}
 use Rattle.gypsy_meaning.proofs.Keeping.{locals_fit}
-use Rattle.gypsy_codegen.proofs.CopyLaws.{get_below, each_both}
+use Rattle.gypsy_codegen.proofs.CopyLaws.{each_both}
 use Rattle.gypsy_codegen.proofs.StackLaws.{values_words}
-use Rattle.gypsy_codegen.proofs.PushLaws.{some_items}
 use Rattle.gypsy_codegen.proofs.InstructionLaws.{InRange, Known, Fine}
 
 -- ---- words
@@ -75,14 +75,10 @@ all_words x h = values_words (map (λ v. v.shape) x) x (locals_fit x h)
 pub words_sized : (q : Program) → ProgramFits q → (c : ℕ) → length (words_of_values (proc_at q c).locals) ≡ local_words (proc_at q c)
 words_sized q fits c = all_words (proc_at q c).locals (fits.procs c).locals
 
-pub words_both : (a b : List Shape) → words_of (a ++ b) ≡ words_of a + words_of b
-words_both [] b = omega arith
-words_both (s ∷ a) b = omega (arith, words_both a b)
-
 pub locals_few : (q : Program) → ProgramFits q → (c : ℕ) → local_words (proc_at q c) ≤ 65536
 locals_few q fits c =
     let d = proc_at q c in
-    omega (arith, (fits.procs c).words, words_both d.formals (map (λ v. v.shape) d.locals))
+    omega (arith, (fits.procs c).words, words_of-append d.formals (map (λ v. v.shape) d.locals))
 
 -- what a call needs is a word's number
 max_below : (a b n : ℕ) → a ≤ n → b ≤ n → max a b ≤ n
@@ -99,51 +95,14 @@ greatest_below each f n (Begin place s cs v) x y = max_below _ _ n (greatest_bel
 greatest_below each f n (Call place c xs cs) x y = x
 greatest_below each f n (Apply place r args) x y = y r
 
-temp_below : (r : Predef) → predef_temp r ≤ 4
-temp_below row.MgSimpleVariableAssignment = omega arith
-temp_below row.MgSimpleConstantAssignment = omega arith
-temp_below row.MgSimpleVariableEq = omega arith
-temp_below row.MgSimpleConstantEq = omega arith
-temp_below row.MgIntegerLe = omega arith
-temp_below row.MgIntegerUnaryMinus = omega arith
-temp_below row.MgIntegerAdd = omega arith
-temp_below row.MgIntegerSubtract = omega arith
-temp_below row.MgBooleanOr = omega arith
-temp_below row.MgBooleanAnd = omega arith
-temp_below row.MgBooleanNot = omega arith
-temp_below row.MgIndexArray = omega arith
-temp_below row.MgArrayElementAssignment = omega arith
-temp_below row.MgIntegerMultiply = omega arith
-
-ctrl_below : (r : Predef) → predef_ctrl r ≤ 10
-ctrl_below row.MgSimpleVariableAssignment = omega arith
-ctrl_below row.MgSimpleConstantAssignment = omega arith
-ctrl_below row.MgSimpleVariableEq = omega arith
-ctrl_below row.MgSimpleConstantEq = omega arith
-ctrl_below row.MgIntegerLe = omega arith
-ctrl_below row.MgIntegerUnaryMinus = omega arith
-ctrl_below row.MgIntegerAdd = omega arith
-ctrl_below row.MgIntegerSubtract = omega arith
-ctrl_below row.MgBooleanOr = omega arith
-ctrl_below row.MgBooleanAnd = omega arith
-ctrl_below row.MgBooleanNot = omega arith
-ctrl_below row.MgIndexArray = omega arith
-ctrl_below row.MgArrayElementAssignment = omega arith
-ctrl_below row.MgIntegerMultiply = omega arith
-
--- each variable has a word
-vars_least : (shapes : List Shape) → length shapes ≤ words_of shapes
-vars_least [] = omega arith
-vars_least (s ∷ shapes) = omega (arith, some_items s.length, vars_least shapes)
-
 need_small : (q : Program) → ProgramFits q → (c : ℕ) → ((call_need q c).temp < 2 ^ 32) × ((call_need q c).ctrl < 2 ^ 32)
 unfolding call_need
 need_small q fits c =
     let d = proc_at q c in
-    let temp : statement_temp d.body ≤ 4 = greatest_below 2 predef_temp 4 d.body (omega arith) temp_below in
-    let ctrl : statement_ctrl d.body ≤ 10 = greatest_below 0 predef_ctrl 10 d.body (omega arith) ctrl_below in
+    let temp : statement_temp d.body ≤ 4 = greatest_below 2 predef_temp 4 d.body (omega arith) low_temp in
+    let ctrl : statement_ctrl d.body ≤ 10 = greatest_below 0 predef_ctrl 10 d.body (omega arith) low_ctrl in
     let words = (fits.procs c).words in
-    let vars = vars_least (shapes_of d) in
+    let vars = length-words_of (shapes_of d) in
     let number : length (shapes_of d) ≡ length d.formals + length d.locals = omega (arith, length-append d.formals (map (λ v. v.shape) d.locals), length-map d.locals (λ v. v.shape)) in
     let few = locals_few q fits c in
     (omega (arith, temp, words, vars, number, few), omega (arith, ctrl, words, vars, number))
@@ -166,25 +125,6 @@ shapes_short q fits c =
 arg_short : (shapes : List Shape) (a : Arg) → Each (λ s. s.length ≤ 4096) shapes → arg_length shapes a ≤ 4096
 arg_short shapes (Var b) h = short_at shapes b h
 arg_short shapes (Lit v) h = omega arith
-
-pub number_below : (r : Predef) → predef_number r < 14
-number_below row.MgSimpleVariableAssignment = omega arith
-number_below row.MgSimpleConstantAssignment = omega arith
-number_below row.MgSimpleVariableEq = omega arith
-number_below row.MgSimpleConstantEq = omega arith
-number_below row.MgIntegerLe = omega arith
-number_below row.MgIntegerUnaryMinus = omega arith
-number_below row.MgIntegerAdd = omega arith
-number_below row.MgIntegerSubtract = omega arith
-number_below row.MgBooleanOr = omega arith
-number_below row.MgBooleanAnd = omega arith
-number_below row.MgBooleanNot = omega arith
-number_below row.MgIndexArray = omega arith
-number_below row.MgArrayElementAssignment = omega arith
-number_below row.MgIntegerMultiply = omega arith
-
-count_some : (s : Shape) → 0 < item_count s
-count_some s = some_items s.length
 
 -- ---- variables
 
@@ -243,7 +183,7 @@ module _ (q : Program) (fits : ProgramFits q) (p : ℕ) (few : conds_of (proc_at
   locals = vars_of (proc_at q p)
 
   abbrev programs : ℕ
-  programs = length q.procs + 14
+  programs = length q.procs + length predefs
 
   abbrev Right : Instruction → Type 0
   Right = Fine t f locals programs
@@ -255,12 +195,12 @@ module _ (q : Program) (fits : ProgramFits q) (p : ℕ) (few : conds_of (proc_at
   plain_sure [] h = tt
   plain_sure (c ∷ is) h = (h.0, plain_sure is h.1)
 
-  to_known : (env : List Scope) (c : Cond) → Scopes K env → K (label_to q p env c)
+  to_known : (env : List Scope) (c : ConditionOf) → Scopes K env → K (label_to q p env c)
   to_known [] c h = pick K (is_passed_on q p c) 1 0 k1 k0
   to_known (InLoop b ∷ env) c h = pick K (is_leave c) b (label_to q p env c) h.0 (to_known env c h.1)
   to_known (InBegin cs a ∷ env) c h = pick K (has_cond c cs) a (label_to q p env c) h.0 (to_known env c h.1)
 
-  number_small : (b : Bool) (c : Cond) → CondFits b (conds_of (proc_at q p)) c → number_of c < 2 ^ 32
+  number_small : (b : Bool) (c : ConditionOf) → CondFits b (conds_of (proc_at q p)) c → number_of c < 2 ^ 32
   number_small b Leave h = omega arith
   number_small b Routine h = omega arith
   number_small b Space h = omega arith
@@ -273,7 +213,7 @@ module _ (q : Program) (fits : ProgramFits q) (p : ℕ) (few : conds_of (proc_at
   indices_right : (l k o : ℕ) (shapes : List Shape) → l ≤ 65536 → k ≤ o → Each Right (push_indices l k o shapes)
   indices_right l k o [] few_words le = tt
   indices_right l k o (s ∷ shapes) few_words le =
-      (omega (arith, few_words, le), indices_right l (k + 1) (o + item_count s) shapes few_words (let some = count_some s in omega (arith, le, some)))
+      (omega (arith, few_words, le), indices_right l (k + 1) (o + item_count s) shapes few_words (let some = item_count-positive s in omega (arith, le, some)))
 
   actuals_right : (formals : List Shape) (xs : List ℕ) → ActualsFit (shapes_of (proc_at q p)) formals xs → Each Right (push_actuals q p xs)
   actuals_right [] [] h = tt
@@ -304,20 +244,9 @@ module _ (q : Program) (fits : ProgramFits q) (p : ℕ) (few : conds_of (proc_at
   one_length_right n le = (lt-ltb n (2 ^ 31) (omega (arith, le)), tt)
 
   length_right : (shapes : List Shape) (r : Predef) (args : List Arg) → Each (λ s. s.length ≤ 4096) shapes → Each Right (length_code shapes r args)
-  length_right shapes row.MgSimpleVariableAssignment args h = tt
-  length_right shapes row.MgSimpleConstantAssignment args h = tt
-  length_right shapes row.MgSimpleVariableEq args h = tt
-  length_right shapes row.MgSimpleConstantEq args h = tt
-  length_right shapes row.MgIntegerLe args h = tt
-  length_right shapes row.MgIntegerUnaryMinus args h = tt
-  length_right shapes row.MgIntegerAdd args h = tt
-  length_right shapes row.MgIntegerSubtract args h = tt
-  length_right shapes row.MgIntegerMultiply args h = tt
-  length_right shapes row.MgBooleanOr args h = tt
-  length_right shapes row.MgBooleanAnd args h = tt
-  length_right shapes row.MgBooleanNot args h = tt
   length_right shapes row.MgIndexArray args h = one_length_right (arg_length shapes (get_or args 1 (Var 0))) (arg_short shapes (get_or args 1 (Var 0)) h)
   length_right shapes row.MgArrayElementAssignment args h = one_length_right (arg_length shapes (get_or args 0 (Var 0))) (arg_short shapes (get_or args 0 (Var 0)) h)
+  length_right shapes r args h = tt
 
   check_right : (b : Bool) (to : ℕ) → K to → Each Right (cond b (i.PushGlobal 0 ∷ i.Apply op.Sub1Nat ∷ i.TestAndJump family.Nat test.Zero to ∷ []) [])
   check_right true to k = (refl, (tt, (((0, omega arith, refl), k), tt)))
@@ -335,17 +264,17 @@ module _ (q : Program) (fits : ProgramFits q) (p : ℕ) (few : conds_of (proc_at
       (each_both Right (push_indices (local_words d) 0 0 (local_shapes d)) _ (indices_right (local_words d) 0 0 (local_shapes d) (locals_few q fits c) (omega arith))
       (each_both Right (push_actuals q p xs) (i.Call c ∷ []) (actuals_right d.formals xs actuals) (omega (arith, lt), tt)))
 
-  raises_sure : (b : Bool) (env : List Scope) (l : ℕ) (cs : List Cond) → Scopes K env → Marks K (marked_raises q p env l cs) → Each (CondFits b (conds_of (proc_at q p))) cs →
+  raises_sure : (b : Bool) (env : List Scope) (l : ℕ) (cs : List ConditionOf) → Scopes K env → Marks K (marked_raises q p env l cs) → Each (CondFits b (conds_of (proc_at q p))) cs →
       Each Sure (marked_raises q p env l cs)
   raises_sure b env l [] k m h = tt
   raises_sure b env l (c ∷ cs) k m h =
       ((m.0, number_small b c h.0), (refl, (to_known env c k, raises_sure b env (l + 1) cs k m.1 h.1)))
 
-  raise_labels_known : (env : List Scope) (l : ℕ) (cs : List Cond) → Marks K (marked_raises q p env l cs) → Each K (raise_labels l cs)
+  raise_labels_known : (env : List Scope) (l : ℕ) (cs : List ConditionOf) → Marks K (marked_raises q p env l cs) → Each K (raise_labels l cs)
   raise_labels_known env l [] m = tt
   raise_labels_known env l (c ∷ cs) m = (m.0, raise_labels_known env (l + 1) cs m.1)
 
-  after_sure : (b : Bool) (env : List Scope) (l n : ℕ) (cs : List Cond) → n ≤ 65536 → Scopes K env → Marks K (after_lines q p env l n cs) → Each (CondFits b (conds_of (proc_at q p))) cs →
+  after_sure : (b : Bool) (env : List Scope) (l n : ℕ) (cs : List ConditionOf) → n ≤ 65536 → Scopes K env → Marks K (after_lines q p env l n cs) → Each (CondFits b (conds_of (proc_at q p))) cs →
       Each Sure (after_lines q p env l n cs)
   after_sure b env l n cs le k m h =
       let rs = marked_raises q p env (l + 3) cs in

@@ -16,13 +16,13 @@ use Rattle.piton_machine.specs.declared.error_kind.ErrorKind.TheVariants.{TempFu
 use Rattle.piton_machine.specs.State as piton
 use Rattle.piton_machine.specs.State.{Frame, PitonState, program_of, instruction_at, ctrl_used}
 use Rattle.piton_machine.specs.Views.{◌>>=◌, test_of, then_on, where_true, Operands}
-use Rattle.piton_machine.specs.Rows.{row_of, to_next}
+use Rattle.piton_machine.specs.InstructionRows.{row_of, to_next}
 use Rattle.piton_machine.specs.Step.{piton_step, piton_run, cost_of, cost_from, cost_at, step_cost}
 use Rattle.piton_machine.specs.Law.{Steps, none, more}
 use Rattle.piton_machine.proofs.RowLaws.{step_is, does_push, does_test_and_jump, does_apply}
 use Rattle.gypsy_syntax.specs.Programs.{Program, proc_at, shapes_of}
 use Rattle.gypsy_space.specs.Costs.{Tally, spend}
-use Rattle.gypsy_space.specs.Needs.{Words, temp_need}
+use Rattle.gypsy_space.specs.Needs.{StackSizes, temp_need}
 use Rattle.gypsy_meaning.specs.Machine as machine
 use Rattle.gypsy_meaning.specs.Kept.{VarsFit}
 use Rattle.gypsy_codegen.specs.Guard.{below_code, temp_guard, ctrl_guard, guard_code}
@@ -69,7 +69,7 @@ module _ (s : SystemView) where
   to_end p j n b c x y z e f st =
       subst (λ k. Steps s j n p (moved_to p k)) f (subst (λ d. Steps s j n p (moved_to p (if d then x else y))) e st)
 
-  pub guards : (need : Words) (to : ℕ) (p : PitonState) → IsAtGuard s need to p → length p.stack + 2 ≤ s.temp → ctrl_used p.frames ≤ s.ctrl → Guards s need to p
+  pub guards : (need : StackSizes) (to : ℕ) (p : PitonState) → IsAtGuard s need to p → length p.stack + 2 ≤ s.temp → ctrl_used p.frames ≤ s.ctrl → Guards s need to p
   guards need to p g two fits =
       let code = (program_of s p.program).instructions in
       let f = g.frame in
@@ -119,8 +119,8 @@ calls_have_two q sizes a p x place c xs cs w fs t fits room shows =
     omega (arith, ap length shows.stack, height q p x fs fits.0 fits.2, (has_words q sizes p fs room.1).0, room.0.0.0)
 
 -- In an activation that has two words free.
-module _ {q : Program} {sizes : Words} {base p : ℕ} {fs : List machine.Frame} {fr : List piton.Frame} (a : Live q sizes base p fs fr) (x : List ValueOf) (st : List Word) (es : st ≡ stack_of q p x fs) (v : VarsFit (shapes_of (proc_at q p)) x) (two : 2 ≤ temp_need (proc_at q p)) where
-  guards_here : (need : Words) (at cc to : ℕ) (is : List Instruction) → HasAt (code_of q p) at (guard_code need to ++ is) → Guards (generated_view q sizes base) need to (state_at p at cc st fr)
+module _ {q : Program} {sizes : StackSizes} {base p : ℕ} {fs : List machine.Frame} {fr : List piton.Frame} (a : Live q sizes base p fs fr) (x : List ValueOf) (st : List Word) (es : st ≡ stack_of q p x fs) (v : VarsFit (shapes_of (proc_at q p)) x) (two : 2 ≤ temp_need (proc_at q p)) where
+  guards_here : (need : StackSizes) (at cc to : ℕ) (is : List Instruction) → HasAt (code_of q p) at (guard_code need to ++ is) → Guards (generated_view q sizes base) need to (state_at p at cc st fr)
   guards_here need at cc to is h =
       let t = top a in
       let front = has_front (code_of q p) at (guard_code need to) is h in
@@ -130,7 +130,7 @@ module _ {q : Program} {sizes : Words} {base p : ℕ} {fs : List machine.Frame} 
       record { frame = _; older = t.older; frames = t.is; code = there }
       (omega (arith, free_temp a x st es v, two)) (omega (arith, free_ctrl a))
 
-  module _ (need : Words) (at cc to : ℕ) (is : List Instruction) (t : Tally) (h : HasAt (code_of q p) at (guard_code need to ++ is)) where
+  module _ (need : StackSizes) (at cc to : ℕ) (is : List Instruction) (t : Tally) (h : HasAt (code_of q p) at (guard_code need to ++ is)) where
     -- the guard of a call without room on the temporary stack
     pub temp_lacks : sizes.temp < length st + need.temp → Goes (generated_view q sizes base) (Pt p at cc st fr t) (Pt p to cc st fr (spend 11 4 t))
     temp_lacks e = record { steps = 4; cost = 11; runs = (guards_here need at cc to is h).temp_lacks e; tally = refl }

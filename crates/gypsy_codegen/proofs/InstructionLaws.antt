@@ -26,7 +26,7 @@ use Rattle.piton_check.specs.Meaning.{natural, word_of, count_of}
 use Rattle.piton_check.specs.Violations.{word_breaches, argument_breaches, instruction_breaches}
 use Rattle.piton_check.specs.Resolved.{resolved_word, resolved_argument, resolved_instruction}
 use Rattle.piton_check.specs.Instruction as i
-use Rattle.piton_check.specs.Instruction.{Instruction, instruction_view, with_local, with_area, with_place, with_program, with_number, with_word, with_test, place_of}
+use Rattle.piton_check.specs.Instruction.{Instruction, instruction_view, with_local, with_area, with_place, with_program, with_test, place_of}
 use Rattle.gypsy_syntax.specs.ProgramFits.{Each}
 use Rattle.gypsy_codegen.specs.Written.{Names, Plain, label_text, label_arg, written_word, written, with_places}
 

@@ -6,6 +6,7 @@ use Rattle.std.proofs.lemmas.List.{length-map, get_or-drop, drop-set-lt, drop-se
 use Rattle.std.proofs.lemmas.Option.{slice_get-get_or}
 use Rattle.stack_text.specs.declared.shape.Shape.{Shape}
 use Rattle.stack_text.specs.Values.{ValueOf, item_count}
+use Rattle.stack_text.proofs.SharedLaws.{get_below, get_front, get_after, get_map}
 use Rattle.piton_words.specs.declared.word.Word.{Word}
 use Rattle.piton_words.specs.declared.word.Word.TheVariants.{Nat}
 use Rattle.piton_machine.specs.State as piton
@@ -19,14 +20,14 @@ use Rattle.gypsy_meaning.specs.Machine.{Frame, Held, used}
 use Rattle.gypsy_meaning.specs.Kept.{VarsFit, FramesFit}
 use Rattle.gypsy_meaning.proofs.EffectLaws.{value_fits}
 use Rattle.gypsy_predef.specs.Runs.{words_of_value, push_all, with_elements}
-use Rattle.gypsy_check.proofs.CleanLaws.{get_map}
 use Rattle.gypsy_codegen.specs.WordsOf.{words_of_values, words_before, starts, local_shapes}
 use Rattle.gypsy_codegen.specs.Generated.{offset}
 use Rattle.gypsy_codegen.specs.Memory.{stack_of, base_of, index_of, frame_of, index_words}
 use Rattle.gypsy_codegen.specs.Showing.{Waits, frame_with}
-use Rattle.gypsy_codegen.proofs.CopyLaws.{copied-length, copied_at, copied_set, copied_past, below_at, get_below, actuals_below, actuals_number, actual_shape, vars_number, vars_behind}
+use Rattle.gypsy_codegen.proofs.CopyLaws.{copied_at, copied_set, copied_past, actuals_below, actual_shape, vars_number, vars_behind}
 use Rattle.gypsy_meaning.proofs.Keeping.{copies_back}
-use Rattle.gypsy_codegen.proofs.StackLaws.{push_all-length, below_pushed, element_of, words_below, words_from, get_front, get_after, value_words, values_words, read_word, write_words, words_fit, starts_at, starts-length}
+use Rattle.gypsy_meaning.proofs.ReadyLaws.{actuals_length}
+use Rattle.gypsy_codegen.proofs.StackLaws.{push_all-length, below_pushed, element_of, words_below, words_from, value_words, values_words, read_word, write_words, words_fit, starts_at, starts-length}
 
 pub if_yes : {A : Type 0} (b : Bool) (x y : A) → b ≡ true → (if b then x else y) ≡ x
 if_yes b x y e = ap (λ c. if c then x else y) e
@@ -59,7 +60,7 @@ module _ (q : Program) where
   call_temp p c fs = refl
 
   -- the variables of the activation below, with the formals' values
-  pub low_fits : (p c : ℕ) (x y : List ValueOf) (w : List Rattle.gypsy_meaning.specs.Machine.Item) (xs : List ℕ) (cs : List Rattle.gypsy_syntax.specs.Programs.Cond) (fs : List Frame) → VarsFit (shapes_of (proc_at q p)) y → FramesFit q p (Held c x w xs cs ∷ fs) → VarsFit (shapes_of (proc_at q c)) (copied_out xs y x)
+  pub low_fits : (p c : ℕ) (x y : List ValueOf) (w : List Rattle.gypsy_meaning.specs.Machine.Item) (xs : List ℕ) (cs : List Rattle.gypsy_syntax.specs.Programs.ConditionOf) (fs : List Frame) → VarsFit (shapes_of (proc_at q p)) y → FramesFit q p (Held c x w xs cs ∷ fs) → VarsFit (shapes_of (proc_at q c)) (copied_out xs y x)
   low_fits p c x y w xs cs fs v g =
       copies_back (shapes_of (proc_at q c)) (proc_at q p).formals (local_shapes (proc_at q p)) xs y x g.0.actuals v g.1
 
@@ -110,7 +111,7 @@ module _ (q : Program) where
       let same = actual_shape (shapes_of (proc_at q c)) d.formals (local_shapes d) xs b g.0.actuals lt ∙ e in
       let under : A + h < length st = omega (arith, index_fits c fs (slice_index xs b) s g.3 same, in_value, low) in
       let below = actuals_below (shapes_of (proc_at q c)) d.formals xs g.0.actuals in
-      let many = actuals_number (shapes_of (proc_at q c)) d.formals xs g.0.actuals in
+      let many = actuals_length (shapes_of (proc_at q c)) d.formals xs g.0.actuals in
       let value = copied_at xs y x b g.0.distinct (subst (λ n. Rattle.gypsy_codegen.proofs.CopyLaws.Below n xs) (sym (vars_number (shapes_of (proc_at q c)) x g.1)) below) (omega (arith, many, lt)) (omega (arith, vars_number (shapes_of d) y v, in_shapes)) in
       ap (λ i. element (push_all ws st) (i + h)) (if_yes (nat_lt b k) A B (lt-ltb b k lt))
       ∙ below_pushed ws st (A + h) under
@@ -146,7 +147,7 @@ module _ (q : Program) where
       let A = index_of q c fs (slice_index xs b) in
       let B = base_of q c fs + words_before (local_shapes d) (b - k) in
       let in_shapes = get_below (shapes_of d) b u.shape e in
-      let many = actuals_number (shapes_of (proc_at q c)) d.formals xs g.0.actuals in
+      let many = actuals_length (shapes_of (proc_at q c)) d.formals xs g.0.actuals in
       ⊎_elim
       (λ lt.
       let same = actual_shape (shapes_of (proc_at q c)) d.formals (local_shapes d) xs b g.0.actuals lt ∙ e in
@@ -190,7 +191,7 @@ module _ (q : Program) where
       let A = f (slice_index xs b) in
       let B = base + words_before sh (b - k) in
       let fr = starts base sh ++ map f xs in
-      let many = actuals_number (shapes_of (proc_at q c)) d.formals xs g.0.actuals in
+      let many = actuals_length (shapes_of (proc_at q c)) d.formals xs g.0.actuals in
       let off = if_no (p == q.main) b (if nat_lt b k then m + b else b - k) (ne_eqb p q.main g.0.not_main) in
       ⊎_elim
       (λ lt.
@@ -227,7 +228,7 @@ module _ (q : Program) where
       let d = proc_at q p in
       let f = λ (i : ℕ). index_of q c fs i in
       let st = starts (base_of q c fs) (local_shapes d) in
-      ap ctrl_used wt.2 ∙ omega (arith, ctrl_is c fs wt.1 g.3 wt.6, length-map (st ++ map f xs) (λ n. Nat n), length-append st (map f xs), starts-length (base_of q c fs) (local_shapes d), local_number d, length-map xs f, actuals_number (shapes_of (proc_at q c)) d.formals xs g.0.actuals, call_ctrl p c fs)
+      ap ctrl_used wt.2 ∙ omega (arith, ctrl_is c fs wt.1 g.3 wt.6, length-map (st ++ map f xs) (λ n. Nat n), length-append st (map f xs), starts-length (base_of q c fs) (local_shapes d), local_number d, length-map xs f, actuals_length (shapes_of (proc_at q c)) d.formals xs g.0.actuals, call_ctrl p c fs)
 
   -- the newest frame
   pub record Newest (p : ℕ) (fs : List Frame) (fr : List piton.Frame) : Type 0 where

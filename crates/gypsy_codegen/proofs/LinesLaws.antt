@@ -2,7 +2,7 @@
 use Rattle.std.proofs.Common.{◌≢◌, ℕ, suc, ◌+◌, ◌<◌, ◌≤◌, List, [], ◌∷◌, ◌++◌, length}
 use Rattle.std.proofs.Common.{arith}
 use Rattle.piton_check.specs.Instruction.{Instruction}
-use Rattle.gypsy_syntax.specs.Programs.{Cond, Program, proc_at, body_of}
+use Rattle.gypsy_syntax.specs.Programs.{ConditionOf, Program, proc_at, body_of}
 use Rattle.gypsy_syntax.specs.Programs.{Stmt, Skip, NoOp, Signal, Seq, Loop, If, Begin, Call, Apply}
 use Rattle.gypsy_space.specs.Needs.{local_words, call_need}
 use Rattle.gypsy_codegen.specs.Guard.{guard_code}
@@ -56,17 +56,17 @@ distinct_only [] = tt
 distinct_only (c ∷ is) = distinct_only is
 
 module _ (q : Program) (p : ℕ) where
-  raises_ranged : (env : List Scope) (l : ℕ) (cs : List Cond) → Ranged l (l + length cs) (marked_raises q p env l cs)
+  raises_ranged : (env : List Scope) (l : ℕ) (cs : List ConditionOf) → Ranged l (l + length cs) (marked_raises q p env l cs)
   raises_ranged env l [] = tt
   raises_ranged env l (c ∷ cs) =
       (omega arith, omega arith, wider (l + 1) (l + 1 + length cs) l (l + suc (length cs)) (marked_raises q p env (l + 1) cs) (omega arith) (omega arith) (raises_ranged env (l + 1) cs))
 
-  raises_distinct : (env : List Scope) (l : ℕ) (cs : List Cond) → Distinct (marked_raises q p env l cs)
+  raises_distinct : (env : List Scope) (l : ℕ) (cs : List ConditionOf) → Distinct (marked_raises q p env l cs)
   raises_distinct env l [] = tt
   raises_distinct env l (c ∷ cs) =
       (misses_out (l + 1) (l + 1 + length cs) l (marked_raises q p env (l + 1) cs) (λ i x y e. omega (arith, x, e)) (raises_ranged env (l + 1) cs), raises_distinct env (l + 1) cs)
 
-  after_ranged : (env : List Scope) (l n : ℕ) (cs : List Cond) → Ranged l (l + (length cs + 3)) (after_lines q p env l n cs)
+  after_ranged : (env : List Scope) (l n : ℕ) (cs : List ConditionOf) → Ranged l (l + (length cs + 3)) (after_lines q p env l n cs)
   after_ranged env l n cs =
       let rs = marked_raises q p env (l + 3) cs in (
         omega arith,
@@ -78,7 +78,7 @@ module _ (q : Program) (p : ℕ) where
         ),
       )
 
-  after_distinct : (env : List Scope) (l n : ℕ) (cs : List Cond) → Distinct (after_lines q p env l n cs)
+  after_distinct : (env : List Scope) (l n : ℕ) (cs : List ConditionOf) → Distinct (after_lines q p env l n cs)
   after_distinct env l n cs =
       let rs = marked_raises q p env (l + 3) cs in
       let rg = raises_ranged env (l + 3) cs in (

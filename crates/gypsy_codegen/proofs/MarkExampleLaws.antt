@@ -1,8 +1,7 @@
 -- The marks and moments of the closed programs, by computing.
 use Rattle.std.proofs.Common.{refl}
-use Rattle.gypsy_space.specs.Costs.{spend, predef_spend, main_spend}
-use Rattle.gypsy_syntax.specs.PredefinedCosts.{predef_cost}
-use Rattle.gypsy_syntax.specs.Effects.{predef_effect}
+use Rattle.gypsy_space.specs.Costs.{spend, predef_spend}
+use Rattle.gypsy_syntax.specs.Predefined.{predef_cost, predef_effect}
 use Rattle.gypsy_meaning.specs.Calls.{main_start, main_formals, values_of, target_of}
 use Rattle.gypsy_codegen.specs.MarkExamples.{MarksAre}
 

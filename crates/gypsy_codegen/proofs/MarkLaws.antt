@@ -1,26 +1,27 @@
 -- Each mark of the step machine is among the marks of the generated program.
-use Rattle.std.proofs.Common.{◌≡◌, ℕ, zero, suc, ◌+◌, ◌-◌, ◌<◌, List, [], ◌∷◌, ◌++◌, length, flat_map, Bool, true, false, refl, sym, ap, ◌∙◌, subst, arith, append_assoc}
+use Rattle.std.proofs.Common.{◌≡◌, ℕ, zero, suc, ◌+◌, ◌-◌, ◌<◌, List, [], ◌∷◌, ◌++◌, length, flat_map, Bool, true, false, refl, subst, arith, append_assoc}
 use Rattle.std.specs.Prelude.{if◌then◌else◌}
 use Rattle.std.specs.List.{Contains}
 use Rattle.std.proofs.lemmas.List.Elements.{Contains-append_left, Contains-append_right}
 use Rattle.stack_text.specs.Values.{ValueOf}
 use Rattle.gypsy_syntax.specs.declared.predef.Predef.{Predef}
-use Rattle.gypsy_syntax.specs.Programs.{Cond, Routine, Space, Arg, Program, proc_at, body_of}
+use Rattle.gypsy_syntax.specs.Programs.{ConditionOf, Routine, Space, Arg, Program, proc_at, body_of}
 use Rattle.gypsy_syntax.specs.Programs.{Stmt, Skip, NoOp, Signal, Seq, Loop, If, Begin, Call, Apply}
 use Rattle.gypsy_syntax.specs.ProgramFits.{Each, ProgramFits}
-use Rattle.gypsy_syntax.specs.Effects.{Effect, Normal, Fault, Beyond, predef_effect, value_at, is_true_value}
+use Rattle.gypsy_syntax.specs.Predefined.{predef_effect}
+use Rattle.gypsy_syntax.specs.Effects.{Effect, Normal, Fault, Beyond, value_at, is_true_value}
 use Rattle.gypsy_space.specs.Costs.{Tally, spend, predef_spend, out_spend}
-use Rattle.gypsy_space.specs.Needs.{Words, lack_of, call_spend}
+use Rattle.gypsy_space.specs.Needs.{StackSizes, lack_of}
 use Rattle.gypsy_space.specs.declared.need.Lack.{Lack}
 use Rattle.gypsy_space.specs.declared.need.Lack.TheVariants.{Nothing, Temporary, Control}
-use Rattle.gypsy_meaning.specs.Calls.{has_cond, is_leave, is_passed_on, matching, values_of, copied_in, copied_out, main_start}
+use Rattle.gypsy_meaning.specs.Calls.{has_cond, is_leave, is_passed_on, matching, values_of, copied_out}
 use Rattle.gypsy_meaning.specs.Machine.{Item, Do, Back, JoinThen, JoinOne, Guard, Out, Frame, Held, State, At, Move, Next, Ended}
 use Rattle.gypsy_meaning.specs.Machine.{opens, settle, open_on, stop_if, raise, either_move, apply_step, call_step, do_step, gypsy_step, used, start, place_of}
-use Rattle.gypsy_meaning.specs.Kept.{VarsFit, StateFits}
+use Rattle.gypsy_meaning.specs.Kept.{StateFits}
 use Rattle.gypsy_codegen.specs.declared.marking.MarkAt.{MarkAt}
-use Rattle.gypsy_codegen.specs.Generated.{size, count_from, out_place}
+use Rattle.gypsy_codegen.specs.Generated.{size, count_from}
 use Rattle.gypsy_codegen.specs.Showing.{rest_size, mark_of}
-use Rattle.gypsy_codegen.specs.Moments.{moved_on, moment, moment_from}
+use Rattle.gypsy_codegen.specs.Moments.{moved_on, moment}
 use Rattle.gypsy_codegen.specs.Marks.{mark_at, statement_marks, tail_marks, procedure_marks, marks_of, top_mark, EachMomentIsMarked}
 use Rattle.gypsy_codegen.proofs.LayoutLaws.{proc_there}
 use Rattle.gypsy_codegen.proofs.MomentLaws.{IsOpened, StateOpened, from_opened, moment_fits}
@@ -196,7 +197,7 @@ module _ (q : Program) where
   stop_marked true g h x y = x
   stop_marked false g h x y = y
 
-  raise_marked : (c : Cond) (p : ℕ) (x : List ValueOf) (at : ℕ) (w : List Item) (fs : List Frame) (t : Tally) → Marked q p at w → FramesMarked fs → StateMarked (raise c p x w fs t)
+  raise_marked : (c : ConditionOf) (p : ℕ) (x : List ValueOf) (at : ℕ) (w : List Item) (fs : List Frame) (t : Tally) → Marked q p at w → FramesMarked fs → StateMarked (raise c p x w fs t)
   raise_marked c p x at [] fs t m f = ((at, m), f)
   raise_marked c p x at (Do s ∷ w) fs t m f = raise_marked c p x (at + size q s) w fs t m.1 f
   raise_marked c p x at (Back place s ∷ w) fs t m f =
@@ -208,13 +209,13 @@ module _ (q : Program) where
       ((at + 3, open_marked q p v (at + 3) (JoinOne place ∷ w) m.1 (m.2, m.3)), f) (raise_marked c p x (at + 3 + size q v + 1) w fs t m.3 f)
   raise_marked c p x at (Out d ∷ w) fs t m f = raise_marked c p x at w fs t m f
 
-  module _ (sizes : Words) where
+  module _ (sizes : StackSizes) where
     apply_marked : (r : Predef) (args : List Arg) (e : Effect) (p : ℕ) (x : List ValueOf) (at : ℕ) (w : List Item) (fs : List Frame) (t : Tally) → Marked q p at w → FramesMarked fs → MoveMarked (apply_step r args e p x w fs t)
     apply_marked r args (Normal v) p x at w fs t m f = (settled p at w m, f)
     apply_marked r args Fault p x at w fs t m f = raise_marked Routine p x at w fs (predef_spend r Fault t) m f
     apply_marked r args Beyond p x at w fs t m f = raise_marked Routine p x at w fs (predef_spend r Beyond t) m f
 
-    call_marked : (l : Lack) (c : ℕ) (xs : List ℕ) (cs : List Cond) (p : ℕ) (x : List ValueOf) (at : ℕ) (w : List Item) (fs : List Frame) (t : Tally) → Marked q p at w → FramesMarked fs → MoveMarked (call_step q l c xs cs p x w fs t)
+    call_marked : (l : Lack) (c : ℕ) (xs : List ℕ) (cs : List ConditionOf) (p : ℕ) (x : List ValueOf) (at : ℕ) (w : List Item) (fs : List Frame) (t : Tally) → Marked q p at w → FramesMarked fs → MoveMarked (call_step q l c xs cs p x w fs t)
     call_marked Nothing c xs cs p x at w fs t m f = ((0, body_marked q c), ((at, m), f))
     call_marked Temporary c xs cs p x at w fs t m f = raise_marked Space p x at w fs (spend 15 7 t) m f
     call_marked Control c xs cs p x at w fs t m f = raise_marked Space p x at w fs (spend 26 11 t) m f

@@ -6,7 +6,7 @@ use Rattle.piton_machine.specs.Fits.{IsPlace}
 use Rattle.gypsy_syntax.specs.Programs.{Program, proc_at, body_of}
 use Rattle.gypsy_syntax.specs.Programs.{Stmt, Skip, NoOp, Signal, Seq, Loop, If, Begin, Call, Apply}
 use Rattle.gypsy_syntax.specs.ProgramFits.{Each}
-use Rattle.gypsy_space.specs.Needs.{Words}
+use Rattle.gypsy_space.specs.Needs.{StackSizes}
 use Rattle.gypsy_codegen.specs.declared.marking.MarkAt.{MarkAt}
 use Rattle.gypsy_codegen.specs.Generated.{size, gen, tail_code, count_from, generated_view}
 use Rattle.gypsy_codegen.specs.Marks.{mark_at, statement_marks, tail_marks, procedure_marks, marks_of, IsBefore, Ascend, MarksAscend, IsMarkPlace, MarksArePlaces}
@@ -106,7 +106,7 @@ climb_bound : (p low high : ℕ) (ms : List MarkAt) → Climb p low high ms → 
 climb_bound p low high [] h = h
 climb_bound p low high (m ∷ ms) h = let rest = climb_bound p (m.at + 1) high ms h.2 in let here = h.1 in omega (arith, rest, here)
 
-module _ (q : Program) (sizes : Words) (base : ℕ) where
+module _ (q : Program) (sizes : StackSizes) (base : ℕ) where
   code_number : (p : ℕ) → p < length q.procs → length (program_of (generated_view q sizes base) p).instructions ≡ size q (body_of q p) + 4
   code_number p lt =
       let n = size q (body_of q p) in

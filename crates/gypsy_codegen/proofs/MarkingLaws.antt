@@ -1,16 +1,15 @@
 -- The marks of a program, listed procedure by procedure.
-use Rattle.std.proofs.Common.{◌≡◌, ℕ, suc, ◌+◌, ◌-◌, ◌<◌, ◌≤◌, ◌^◌, List, [], ◌∷◌, ◌++◌, length, map, flat_map, refl, sym, ap, ◌∙◌, subst, arith, append_assoc}
-use Rattle.std.proofs.lemmas.List.{append-nil, length-map}
-use Rattle.gypsy_syntax.specs.Programs.{Program, Proc, proc_at, body_of, shapes_of, conds_of}
+use Rattle.std.proofs.Common.{◌≡◌, ℕ, suc, ◌+◌, ◌-◌, ◌<◌, ◌≤◌, ◌^◌, List, ◌++◌, length, flat_map, sym, ap, ◌∙◌, arith, append_assoc}
+use Rattle.std.proofs.lemmas.List.{append-nil}
+use Rattle.gypsy_syntax.specs.Programs.{Program, proc_at, body_of, conds_of}
 use Rattle.gypsy_syntax.specs.ProgramFits.{ProgramFits}
-use Rattle.gypsy_space.specs.Events.{AreNeeds, need_at, need_of}
-use Rattle.gypsy_space.specs.Needs.{local_words}
+use Rattle.gypsy_space.specs.Events.{AreNeeds, need_at}
 use Rattle.gypsy_space.specs.declared.need.Need.{Need}
 use Rattle.gypsy_codegen.specs.declared.marking.MarkAt.{MarkAt}
 use Rattle.gypsy_codegen.specs.Acceptable.{total_words}
 use Rattle.gypsy_codegen.specs.Generated.{size, count_from}
 use Rattle.gypsy_codegen.specs.Marks.{procedure_marks, marks_of}
-use Rattle.gypsy_codegen.specs.Views.{NamesAreThere}
+use Rattle.gypsy_codegen.specs.Scaffold.Views.{NamesAreThere}
 use Rattle.gypsy_codegen.specs.WordsOf.{words_of_values}
 use Rattle.gypsy_codegen.proofs.CountLaws.{code_few}
 use Rattle.gypsy_codegen.proofs.FineLaws.{words_sized}
@@ -30,13 +29,7 @@ marks_next q old new k lt now so_far =
     ∙ ap (λ (n : ℕ). old ++ flat_map (procedure_marks q) (count_from k n)) (sym left)
     ∙ so_far
 
--- at the start, and at the end
-pub marks_begin : (q : Program) (old : List MarkAt) → old ≡ [] → old ++ flat_map (procedure_marks q) (count_from 0 (length q.procs - 0)) ≡ marks_of q
-marks_begin q old none =
-    let all : length q.procs - 0 ≡ length q.procs = omega arith in
-    ap (λ (ms : List MarkAt). ms ++ flat_map (procedure_marks q) (count_from 0 (length q.procs - 0))) none
-    ∙ ap (λ (n : ℕ). flat_map (procedure_marks q) (count_from 0 n)) all
-
+-- at the end
 pub marks_end : (q : Program) (listed : List MarkAt) (k : ℕ) → length q.procs ≤ k → listed ++ flat_map (procedure_marks q) (count_from k (length q.procs - k)) ≡ marks_of q → listed ≡ marks_of q
 marks_end q listed k le so_far =
     let none : length q.procs - k ≡ 0 = omega (arith, le) in

@@ -1,9 +1,9 @@
 -- Every moment of the step machine is one of the generated system, and costs an instruction at least.
-use Rattle.std.proofs.Common.{◌≡◌, ℕ, zero, suc, ◌+◌, ◌<◌, ◌≤◌, List, [], ◌∷◌, ◌++◌, length, map, Bool, true, false, Some, refl, sym, ap, ◌∙◌, subst, arith, length-append}
+use Rattle.std.proofs.Common.{◌≡◌, ℕ, zero, suc, ◌+◌, ◌<◌, ◌≤◌, List, [], ◌∷◌, ◌++◌, length, map, Bool, true, false, refl, sym, ap, ◌∙◌, subst, arith, length-append}
 use Rattle.std.specs.Prelude.{slice_get}
 use Rattle.std.proofs.lemmas.List.{length-map}
-use Rattle.stack_text.specs.declared.shape.Shape.{Shape}
 use Rattle.stack_text.specs.Values.{ValueOf}
+use Rattle.stack_text.proofs.SharedLaws.{get_below}
 use Rattle.piton_words.specs.declared.word.Word.{Word}
 use Rattle.piton_words.specs.declared.word.Word.TheVariants.{Nat}
 use Rattle.piton_check.specs.Instruction.{SystemView}
@@ -11,33 +11,33 @@ use Rattle.piton_machine.specs.State as piton
 use Rattle.piton_machine.specs.State.{PitonState, locals_of}
 use Rattle.piton_machine.specs.Law.{Steps}
 use Rattle.gypsy_syntax.specs.declared.predef.Predef.{Predef}
-use Rattle.gypsy_syntax.specs.declared.predef.Predef.TheVariants as row
-use Rattle.gypsy_syntax.specs.Programs.{Cond, Routine, Space, Arg, Proc, Program, proc_at, shapes_of, body_of}
+use Rattle.gypsy_syntax.specs.Programs.{ConditionOf, Routine, Space, Arg, Proc, Program, proc_at, shapes_of, body_of}
 use Rattle.gypsy_syntax.specs.Programs.{Stmt, Skip, NoOp, Signal, Seq, Loop, If, Begin, Call, Apply}
 use Rattle.gypsy_syntax.specs.ProgramFits.{ProgramFits}
-use Rattle.gypsy_syntax.specs.PredefinedCosts.{predef_cost}
-use Rattle.gypsy_syntax.specs.Effects.{Effect, Normal, Fault, Beyond, predef_effect, value_at, is_true_value}
+use Rattle.gypsy_syntax.proofs.PredefLaws.{costs_some}
+use Rattle.gypsy_syntax.specs.Predefined.{predef_effect}
+use Rattle.gypsy_syntax.specs.Effects.{Effect, Normal, Fault, Beyond, value_at, is_true_value}
 use Rattle.gypsy_space.specs.Costs.{Tally, spend, predef_spend, out_spend, main_spend}
-use Rattle.gypsy_space.specs.Needs.{Words, vars_of, lack_of, call_spend}
+use Rattle.gypsy_space.specs.Needs.{StackSizes, vars_of, lack_of, call_spend}
 use Rattle.gypsy_space.specs.declared.need.Lack.{Lack}
 use Rattle.gypsy_space.specs.declared.need.Lack.TheVariants.{Nothing, Temporary, Control}
-use Rattle.gypsy_meaning.specs.Calls.{Way, has_cond, is_leave, is_passed_on, matching, values_of, copied_in, copied_out, main_start}
+use Rattle.gypsy_meaning.specs.Calls.{CurrentCondition, has_cond, is_leave, is_passed_on, matching, values_of, copied_out}
 use Rattle.gypsy_meaning.specs.Machine.{Item, Do, Back, JoinThen, JoinOne, Guard, Out, Frame, Held, State, At, Move, Next, Ended}
-use Rattle.gypsy_meaning.specs.Machine.{opens, settle, open_on, stop_if, raise, either_move, apply_step, call_step, do_step, end_step, out_step}
+use Rattle.gypsy_meaning.specs.Machine.{opens, settle, open_on, stop_if, raise, either_move, apply_step, call_step, do_step}
 use Rattle.gypsy_meaning.specs.Machine.{gypsy_step, used, Ending, Over, Going, run, go_on, start}
 use Rattle.gypsy_meaning.specs.Kept.{VarsFit, FramesFit, StateFits, MoveFits}
-use Rattle.gypsy_meaning.specs.Seen.{spent_at, top_way}
+use Rattle.gypsy_meaning.specs.Seen.RunView.{spent_at, top_way}
 use Rattle.gypsy_meaning.proofs.Keeping.{step_keeps, start_fits}
 use Rattle.gypsy_meaning.proofs.Runs.{agree}
+use Rattle.gypsy_meaning.proofs.ReadyLaws.{actuals_length}
 use Rattle.gypsy_codegen.specs.WordsOf.{starts, local_shapes, number_of_way}
 use Rattle.gypsy_codegen.specs.Generated.{offset, generated_view}
 use Rattle.gypsy_codegen.specs.Memory.{base_of, index_of, frame_of, index_words}
-use Rattle.gypsy_codegen.specs.Showing.{cc_of, frame_with, Waits, Shows}
+use Rattle.gypsy_codegen.specs.Showing.{cc_of, Waits, Shows}
 use Rattle.gypsy_codegen.specs.Law.{Leads, tally_of}
-use Rattle.gypsy_codegen.specs.Whole.{SizesFit, opened, Reached, same, later}
-use Rattle.gypsy_codegen.specs.Moments.{moved_on, moment, moment_from, AreActivations, VariableStands, ReadsAs, ComesToMark, HasMoment}
+use Rattle.gypsy_codegen.specs.Whole.{opened, Reached, same, later}
+use Rattle.gypsy_codegen.specs.Moments.{moved_on, moment, moment_from, AreActivations, ReadsAs, HasMoment}
 use Rattle.gypsy_codegen.specs.Moments.{EachMomentIsReached, CostsSome, EachStepCosts, CountsGrow}
-use Rattle.gypsy_codegen.proofs.CopyLaws.{get_below, actuals_number}
 use Rattle.gypsy_codegen.proofs.StackLaws.{starts-length}
 use Rattle.gypsy_codegen.proofs.LayoutLaws.{frame_at, newest}
 use Rattle.gypsy_codegen.proofs.PushLaws.{PredefsRun}
@@ -45,7 +45,7 @@ use Rattle.gypsy_codegen.proofs.RunLaws.{counts, counted_runs, each_is_shown, pl
 
 -- ---- the step machine
 
-module _ (q : Program) (sizes : Words) where
+module _ (q : Program) (sizes : StackSizes) where
   -- a state at which it stands is reached
   moment_reached : (j : ℕ) (g h : State) → moment q sizes j g ≡ Next h → Reached q sizes g h
   moment_reached zero g h e = let is : g ≡ h = cc in subst (λ (k : State). Reached q sizes g k) is same
@@ -57,7 +57,7 @@ module _ (q : Program) (sizes : Words) where
       by_move (Ended x c t) step f go = absurd cc
 
   -- where it has ended, its run is over
-  pub moment_over : (j : ℕ) (g : State) (x : List ValueOf) (c : Way) (t : Tally) → moment q sizes j g ≡ Ended x c t → run q sizes j g ≡ Over x c t
+  pub moment_over : (j : ℕ) (g : State) (x : List ValueOf) (c : CurrentCondition) (t : Tally) → moment q sizes j g ≡ Ended x c t → run q sizes j g ≡ Over x c t
   moment_over zero g x c t e = absurd cc
   moment_over (suc j) g x c t e = by_move (gypsy_step q sizes g) e (λ k f. moment_over j k x c t f)
     where
@@ -102,7 +102,7 @@ module _ (q : Program) where
       let d = proc_at q p in
       let f = λ (i : ℕ). index_of q c fs i in
       let st = starts (base_of q c fs) (local_shapes d) in
-      omega (arith, length-map (st ++ map f xs) (λ n. Nat n), length-append st (map f xs), starts-length (base_of q c fs) (local_shapes d), locals_number d, length-map xs f, actuals_number (shapes_of (proc_at q c)) d.formals xs g.0.actuals)
+      omega (arith, length-map (st ++ map f xs) (λ n. Nat n), length-append st (map f xs), starts-length (base_of q c fs) (local_shapes d), locals_number d, length-map xs f, actuals_length (shapes_of (proc_at q c)) d.formals xs g.0.actuals)
 
   are_activations : (p : ℕ) (fs : List Frame) (frames : List piton.Frame) → FramesFit q p fs → Waits q p fs frames → AreActivations q p fs frames
   are_activations p [] frames g wt = subst (AreActivations q p []) (sym wt.2) (frame_number p [] g)
@@ -195,7 +195,7 @@ stop_opened : (b : Bool) (g h : State) → StateOpened g → StateOpened h → S
 stop_opened true g h x y = x
 stop_opened false g h x y = y
 
-raise_opened : (c : Cond) (p : ℕ) (x : List ValueOf) (w : List Item) (fs : List Frame) (t : Tally) → StateOpened (raise c p x w fs t)
+raise_opened : (c : ConditionOf) (p : ℕ) (x : List ValueOf) (w : List Item) (fs : List Frame) (t : Tally) → StateOpened (raise c p x w fs t)
 raise_opened c p x [] fs t = tt
 raise_opened c p x (Do s ∷ w) fs t = raise_opened c p x w fs t
 raise_opened c p x (Back place s ∷ w) fs t =
@@ -206,12 +206,12 @@ raise_opened c p x (Guard place cs v ∷ w) fs t =
     stop_opened (has_cond c cs) (At p x (open_on v (JoinOne place ∷ w)) fs (spend 3 2 t)) (raise c p x w fs t) (open_opened v (JoinOne place ∷ w)) (raise_opened c p x w fs t)
 raise_opened c p x (Out d ∷ w) fs t = raise_opened c p x w fs t
 
-module _ (q : Program) (sizes : Words) where
+module _ (q : Program) (sizes : StackSizes) where
   either_opened : (b : Bool) (m n : Move) → MoveOpened m → MoveOpened n → MoveOpened (either_move b m n)
   either_opened true m n x y = x
   either_opened false m n x y = y
 
-  call_opened : (l : Lack) (c : ℕ) (xs : List ℕ) (cs : List Cond) (p : ℕ) (x : List ValueOf) (w : List Item) (fs : List Frame) (t : Tally) → MoveOpened (call_step q l c xs cs p x w fs t)
+  call_opened : (l : Lack) (c : ℕ) (xs : List ℕ) (cs : List ConditionOf) (p : ℕ) (x : List ValueOf) (w : List Item) (fs : List Frame) (t : Tally) → MoveOpened (call_step q l c xs cs p x w fs t)
   call_opened Nothing c xs cs p x w fs t = open_opened (body_of q c) []
   call_opened Temporary c xs cs p x w fs t = raise_opened Space p x w fs (spend 15 7 t)
   call_opened Control c xs cs p x w fs t = raise_opened Space p x w fs (spend 26 11 t)
@@ -258,38 +258,9 @@ module _ (q : Program) (sizes : Words) where
 
 -- ---- what steps cost
 
-predef_costs : (r : Predef) (e : Effect) → 0 < (predef_cost r e).0
-unfolding predef_cost
-predef_costs row.MgSimpleVariableAssignment e = omega arith
-predef_costs row.MgSimpleConstantAssignment e = omega arith
-predef_costs row.MgSimpleVariableEq e = omega arith
-predef_costs row.MgSimpleConstantEq e = omega arith
-predef_costs row.MgIntegerLe e = omega arith
-predef_costs row.MgIntegerUnaryMinus (Normal v) = omega arith
-predef_costs row.MgIntegerUnaryMinus Fault = omega arith
-predef_costs row.MgIntegerUnaryMinus Beyond = omega arith
-predef_costs row.MgIntegerAdd (Normal v) = omega arith
-predef_costs row.MgIntegerAdd Fault = omega arith
-predef_costs row.MgIntegerAdd Beyond = omega arith
-predef_costs row.MgIntegerSubtract (Normal v) = omega arith
-predef_costs row.MgIntegerSubtract Fault = omega arith
-predef_costs row.MgIntegerSubtract Beyond = omega arith
-predef_costs row.MgBooleanOr e = omega arith
-predef_costs row.MgBooleanAnd e = omega arith
-predef_costs row.MgBooleanNot e = omega arith
-predef_costs row.MgIndexArray (Normal v) = omega arith
-predef_costs row.MgIndexArray Fault = omega arith
-predef_costs row.MgIndexArray Beyond = omega arith
-predef_costs row.MgArrayElementAssignment (Normal v) = omega arith
-predef_costs row.MgArrayElementAssignment Fault = omega arith
-predef_costs row.MgArrayElementAssignment Beyond = omega arith
-predef_costs row.MgIntegerMultiply (Normal v) = omega arith
-predef_costs row.MgIntegerMultiply Fault = omega arith
-predef_costs row.MgIntegerMultiply Beyond = omega arith
-
 predef_spends : (r : Predef) (e : Effect) (t : Tally) → t.count < (predef_spend r e t).count
 unfolding predef_spend spend
-predef_spends r e t = let some = predef_costs r e in omega (arith, some)
+predef_spends r e t = let some = costs_some r e in omega (arith, some)
 
 spends : (i k : ℕ) (t : Tally) → 0 < i → t.count < (spend i k t).count
 unfolding spend
@@ -313,7 +284,7 @@ stop_spends : (n : ℕ) (b : Bool) (g h : State) → n ≤ spent_at g → n ≤ 
 stop_spends n true g h x y = x
 stop_spends n false g h x y = y
 
-raise_spends : (c : Cond) (p : ℕ) (x : List ValueOf) (w : List Item) (fs : List Frame) (t : Tally) → t.count ≤ spent_at (raise c p x w fs t)
+raise_spends : (c : ConditionOf) (p : ℕ) (x : List ValueOf) (w : List Item) (fs : List Frame) (t : Tally) → t.count ≤ spent_at (raise c p x w fs t)
 raise_spends c p x [] fs t = omega arith
 raise_spends c p x (Do s ∷ w) fs t = raise_spends c p x w fs t
 raise_spends c p x (Back place s ∷ w) fs t =
@@ -327,15 +298,15 @@ raise_spends c p x (Guard place cs v ∷ w) fs t =
 raise_spends c p x (Out d ∷ w) fs t = raise_spends c p x w fs t
 
 -- a condition raised after something was spent
-raised : (n : ℕ) (c : Cond) (p : ℕ) (x : List ValueOf) (w : List Item) (fs : List Frame) (t : Tally) → n < t.count → n < spent_at (raise c p x w fs t)
+raised : (n : ℕ) (c : ConditionOf) (p : ℕ) (x : List ValueOf) (w : List Item) (fs : List Frame) (t : Tally) → n < t.count → n < spent_at (raise c p x w fs t)
 raised n c p x w fs t h = let more = raise_spends c p x w fs t in omega (arith, h, more)
 
-module _ (q : Program) (sizes : Words) where
+module _ (q : Program) (sizes : StackSizes) where
   either_costs : (b : Bool) (g : State) (m n : Move) → CostsSome g m → CostsSome g n → CostsSome g (either_move b m n)
   either_costs true g m n x y = x
   either_costs false g m n x y = y
 
-  call_costs : (l : Lack) (place c : ℕ) (xs : List ℕ) (cs : List Cond) (p : ℕ) (x : List ValueOf) (w : List Item) (fs : List Frame) (t : Tally) → CostsSome (At p x (Do (Call place c xs cs) ∷ w) fs t) (call_step q l c xs cs p x w fs t)
+  call_costs : (l : Lack) (place c : ℕ) (xs : List ℕ) (cs : List ConditionOf) (p : ℕ) (x : List ValueOf) (w : List Item) (fs : List Frame) (t : Tally) → CostsSome (At p x (Do (Call place c xs cs) ∷ w) fs t) (call_step q l c xs cs p x w fs t)
   call_costs Nothing place c xs cs p x w fs t = call_spends q c t
   call_costs Temporary place c xs cs p x w fs t = raised t.count Space p x w fs (spend 15 7 t) (spends 15 7 t (omega arith))
   call_costs Control place c xs cs p x w fs t = raised t.count Space p x w fs (spend 26 11 t) (spends 26 11 t (omega arith))

@@ -5,7 +5,7 @@ use Rattle.std.proofs.lemmas.Bool.{leb-true}
 use Rattle.stack_text.specs.declared.shape.Shape.{Shape}
 use Rattle.stack_text.specs.Values.{item_count}
 use Rattle.stack_text.specs.Trees.{Node, atom, node_count, node_counts}
-use Rattle.stack_text.specs.TreeView.{nodes}
+use Rattle.stack_text.specs.Seen.TreeView.{nodes}
 use Rattle.piton_words.specs.declared.word.Word.{Word}
 use Rattle.piton_words.specs.declared.word.Word.TheVariants as word
 use Rattle.piton_words.specs.declared.op.WordOp.TheVariants as op
@@ -19,13 +19,13 @@ use Rattle.piton_check.specs.Instruction.{Instruction}
 use Rattle.gypsy_syntax.specs.declared.predef.Predef.{Predef}
 use Rattle.gypsy_syntax.specs.declared.predef.Predef.TheVariants as row
 use Rattle.gypsy_syntax.specs.Sources.{ProcOf, SourceOf}
-use Rattle.gypsy_syntax.specs.Programs.{Cond, Routine, Arg, Var, Lit, Program, proc_at, body_of, shapes_of}
+use Rattle.gypsy_syntax.specs.Programs.{ConditionOf, Routine, Arg, Var, Lit, Program, proc_at, body_of, shapes_of}
 use Rattle.gypsy_syntax.specs.Programs.{Stmt, Skip, NoOp, Signal, Seq, Loop, If, Begin, Call, Apply}
 use Rattle.gypsy_syntax.specs.Resolved.{program_of}
 use Rattle.gypsy_syntax.specs.ProgramFits.{Each, ProgramFits}
-use Rattle.gypsy_space.specs.Needs.{Words, local_words, code_words}
+use Rattle.gypsy_space.specs.Needs.{StackSizes, local_words, code_words}
 use Rattle.gypsy_codegen.specs.WordsOf.{starts, words_of_values, local_shapes}
-use Rattle.gypsy_predef.specs.Runs.{can_fail}
+use Rattle.gypsy_syntax.specs.Predefined.{can_fail}
 use Rattle.gypsy_predef.specs.Calls.{test_code}
 use Rattle.gypsy_predef.specs.Texts.{body_texts}
 use Rattle.gypsy_codegen.specs.Generated.{Scope, InLoop, InBegin, push_words, push_indices, push_actuals, push_args, length_code}
@@ -155,29 +155,17 @@ module _ (q : Program) (p : ℕ) where
 
   length_targets : (shapes : List Shape) (r : Predef) (args : List Arg) → all_targets (unmarked (length_code shapes r args)) ≡ 0
   length_targets shapes row.MgSimpleVariableAssignment args = refl
-  length_targets shapes row.MgSimpleConstantAssignment args = refl
-  length_targets shapes row.MgSimpleVariableEq args = refl
-  length_targets shapes row.MgSimpleConstantEq args = refl
-  length_targets shapes row.MgIntegerLe args = refl
-  length_targets shapes row.MgIntegerUnaryMinus args = refl
-  length_targets shapes row.MgIntegerAdd args = refl
-  length_targets shapes row.MgIntegerSubtract args = refl
-  length_targets shapes row.MgIntegerMultiply args = refl
-  length_targets shapes row.MgBooleanOr args = refl
-  length_targets shapes row.MgBooleanAnd args = refl
-  length_targets shapes row.MgBooleanNot args = refl
-  length_targets shapes row.MgIndexArray args = refl
-  length_targets shapes row.MgArrayElementAssignment args = refl
+  length_targets shapes r args = refl
 
   check_targets : (b : Bool) (to : ℕ) → all_targets (unmarked (cond b (i.PushGlobal 0 ∷ i.Apply op.Sub1Nat ∷ i.TestAndJump family.Nat test.Zero to ∷ []) [])) ≡ 0
   check_targets true to = refl
   check_targets false to = refl
 
-  raises_targets : (env : List Scope) (l : ℕ) (cs : List Cond) → all_targets (marked_raises q p env l cs) ≡ 0
+  raises_targets : (env : List Scope) (l : ℕ) (cs : List ConditionOf) → all_targets (marked_raises q p env l cs) ≡ 0
   raises_targets env l [] = refl
   raises_targets env l (c ∷ cs) = omega (arith, raises_targets env (l + 1) cs)
 
-  raise_labels_count : (l : ℕ) (cs : List Cond) → length (raise_labels l cs) ≡ length cs
+  raise_labels_count : (l : ℕ) (cs : List ConditionOf) → length (raise_labels l cs) ≡ length cs
   raise_labels_count l [] = refl
   raise_labels_count l (c ∷ cs) = ap suc (raise_labels_count (l + 1) cs)
 
@@ -290,7 +278,7 @@ module _ (src : SourceOf) (fits : ProgramFits (program_of src)) where
   predefs_nodes : leb (node_counts (nodes (map program_tree body_texts))) 20000 ≡ true
   predefs_nodes = refl
 
-  pub system_nodes : (sizes : Words) (base : ℕ) → Each ProcForm src.procs → length src.procs ≤ 1000 → code_words_of (program_of src) (count_from 0 (length src.procs)) ≤ 2 ^ 20 →
+  pub system_nodes : (sizes : StackSizes) (base : ℕ) → Each ProcForm src.procs → length src.procs ≤ 1000 → code_words_of (program_of src) (count_from 0 (length src.procs)) ≤ 2 ^ 20 →
       length (opening_words (program_of src)) ≤ 65536 → node_count (tree_of (generated src sizes base)) ≤ 2 ^ 31
   system_nodes sizes base form few words stack =
       let procs = written_procedures src 0 src.procs in

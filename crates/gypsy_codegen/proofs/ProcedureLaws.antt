@@ -18,6 +18,7 @@ use Rattle.piton_check.specs.Violations.{temporary_breaches}
 use Rattle.piton_check.specs.Resolved.{resolved_temporary}
 use Rattle.piton_check.specs.Instruction as i
 use Rattle.gypsy_syntax.specs.Sources.{ProcOf, SourceOf}
+use Rattle.gypsy_syntax.specs.Predefined.{predefs}
 use Rattle.gypsy_syntax.specs.Programs.{Program, no_proc, proc_at, body_of, shapes_of, conds_of, words_of}
 use Rattle.gypsy_syntax.specs.Resolved.{shape_of, local_value, procedure_of, program_of}
 use Rattle.gypsy_syntax.specs.ProgramFits.{Each, ProgramFits}
@@ -107,7 +108,7 @@ marks_tail K (Marked l i ∷ ls) m = marks_tail K ls m.1
 
 -- ---- the program
 
-module _ (src : SourceOf) (fits : ProgramFits (program_of src)) (few : total_words (program_of src) ≤ 2 ^ 20) (s : SystemOf) (p : ℕ) (proc : ProcOf) (is : slice_get src.procs p ≡ Some proc) (lt : p < length src.procs) (form : ProcForm proc) (clean : procedure_breaches src proc ≡ []) (base : Base s (names_with src (frame_texts (program_of src) p proc)) (length (program_of src).procs + 14)) where
+module _ (src : SourceOf) (fits : ProgramFits (program_of src)) (few : total_words (program_of src) ≤ 2 ^ 20) (s : SystemOf) (p : ℕ) (proc : ProcOf) (is : slice_get src.procs p ≡ Some proc) (lt : p < length src.procs) (form : ProcForm proc) (clean : procedure_breaches src proc ≡ []) (base : Base s (names_with src (frame_texts (program_of src) p proc)) (length (program_of src).procs + length predefs)) where
   abbrev q : Program
   q = program_of src
 
@@ -144,7 +145,7 @@ module _ (src : SourceOf) (fits : ProgramFits (program_of src)) (few : total_wor
   small : size q (body_of q p) + 14 ≤ 2 ^ 20
   small = code_few q fits few p (omega (arith, lt, length-map src.procs (procedure_of src)))
 
-  made_procedure : Made s (written_procedure src p proc) names (lines_of q p) frame (cond (p == q.main) ws []) (length q.procs + 14) (2 + labels (body_of q p))
+  made_procedure : Made s (written_procedure src p proc) names (lines_of q p) frame (cond (p == q.main) ws []) (length q.procs + length predefs) (2 + labels (body_of q p))
   made_procedure =
       let b = p == q.main in
       let few_labels = labels_least q (body_of q p) in
@@ -167,7 +168,7 @@ module _ (src : SourceOf) (fits : ProgramFits (program_of src)) (few : total_wor
         small = omega (arith, few_labels, small);
         few = omega (arith, procedure_count q p, small);
         last = (Marked 1 i.Ret, last_part (lines q p [] 2 (body_of q p)) tail_lines (omega arith), refl);
-        world = world_of s (written_procedure src p proc) names (length q.procs + 14) base e differ h;
+        world = world_of s (written_procedure src p proc) names (length q.procs + length predefs) base e differ h;
       }
 
   pub procedure_total : length (written_procedure src p proc).formals + length (written_procedure src p proc).temporaries ≡ vars_of (proc_at q p)
@@ -180,7 +181,7 @@ module _ (src : SourceOf) (fits : ProgramFits (program_of src)) (few : total_wor
       let ls = lines_of q p in
       let words = cond (p == q.main) ws [] in
       let hi = 2 + labels (body_of q p) in
-      let programs = length q.procs + 14 in
+      let programs = length q.procs + length predefs in
       let m = made_procedure in
       let marks = made_marks s t names ls frame words programs hi m in
       let ends = marks_tail (Known t (found f)) (lines q p [] 2 (body_of q p)) marks in

@@ -11,13 +11,13 @@ use Rattle.stack_text.specs.Grammar.Parts.{IsNamed}
 use Rattle.piton_syntax.specs.Fits.{FitsInstruction, FitsTemporary, FitsProgram}
 use Rattle.stack_text.specs.Breaches.{when}
 use Rattle.stack_text.specs.Grammar.Printed.{unplaced}
+use Rattle.stack_text.proofs.SharedLaws.{both_none, get_map}
 use Rattle.piton_check.specs.Declarations.{label_name as label_of, local_names, label_names, formal_name, temporary_name, first_of, repeats}
 use Rattle.piton_check.specs.Violations.{temporary_breaches, instruction_breaches, end_breaches, program_breaches, is_end}
 use Rattle.piton_check.specs.Resolved.{resolved_instruction, resolved_temporary, resolved_program}
 use Rattle.piton_check.specs.Instruction as i
 use Rattle.piton_check.specs.Instruction.{Instruction, instruction_view, program_view}
 use Rattle.gypsy_syntax.specs.ProgramFits.{Each}
-use Rattle.gypsy_check.proofs.CleanLaws.{get_map}
 use Rattle.gypsy_codegen.specs.Written.{Names, Line, Plain, Marked, label_text, written_word, written, line_with_places}
 use Rattle.gypsy_codegen.specs.Text.{temporaries_of}
 use Rattle.gypsy_codegen.proofs.InstructionLaws.{InRange, World, Known, says, word_clean, word_fits, word_resolves}
@@ -27,9 +27,6 @@ use Rattle.gypsy_codegen.proofs.ResolveLaws.{found}
 use Rattle.gypsy_codegen.proofs.FineLaws.{Marks, FineLine}
 
 -- ---- lists
-
-pub two_none : {X : Type 0} (a b : List X) → a ≡ [] → b ≡ [] → a ++ b ≡ []
-two_none a b e f = ap (λ z. z ++ b) e ∙ f
 
 pub last_part : {X : Type 0} (xs ys : List X) → 0 < length ys → slice_get (xs ++ ys) (length (xs ++ ys) - 1) ≡ slice_get ys (length ys - 1)
 last_part [] ys some = refl
@@ -63,7 +60,7 @@ module _ (s : SystemOf) (t : ProgramOf) (n : Names) (f : ℕ → ℕ) (locals pr
 
   pub lines_clean : (ls : List Line) → Each (FineLine t f locals programs) ls → flat_map (instruction_breaches s t) (map (written n) ls) ≡ []
   lines_clean [] h = refl
-  lines_clean (l ∷ ls) h = two_none _ _ (line_clean l h.0) (lines_clean ls h.1)
+  lines_clean (l ∷ ls) h = both_none _ _ (line_clean l h.0) (lines_clean ls h.1)
 
   pub lines_view : (ls : List Line) → Each (FineLine t f locals programs) ls → map instruction_view (map (resolved_instruction s t) (map (written n) ls)) ≡ map (line_with_places f) ls
   lines_view [] h = refl
@@ -89,7 +86,7 @@ temporaries_fit n (name ∷ names) (w ∷ ws) h k =
 pub temporaries_clean : (s : SystemOf) (n : Names) (names : List (List ℕ)) (ws : List Word) → Each InRange ws → flat_map (temporary_breaches s) (temporaries_of n names ws) ≡ []
 temporaries_clean s n [] ws k = refl
 temporaries_clean s n (name ∷ names) [] k = refl
-temporaries_clean s n (name ∷ names) (w ∷ ws) k = two_none _ _ (word_clean s n w k.0) (temporaries_clean s n names ws k.1)
+temporaries_clean s n (name ∷ names) (w ∷ ws) k = both_none _ _ (word_clean s n w k.0) (temporaries_clean s n names ws k.1)
 
 pub temporaries_view : (s : SystemOf) (n : Names) (names : List (List ℕ)) (ws : List Word) → length names ≡ length ws → Each InRange ws →
     map (resolved_temporary s) (temporaries_of n names ws) ≡ ws
@@ -187,6 +184,6 @@ module _ (s : SystemOf) (t : ProgramOf) (n : Names) (ls : List Line) (frame : Li
           some_instrs = let some = some_last ls m.last.0 m.last.1 in omega (arith, some, instr_count);
           few_instrs = omega (arith, instr_count, m.few);
         };
-        clean = two_none _ _ (two_none _ _ (two_none _ _ (two_none _ _ locals_once labels_once) m.words_clean) lines_keep) end_keeps;
+        clean = both_none _ _ (both_none _ _ (both_none _ _ (both_none _ _ locals_once labels_once) m.words_clean) lines_keep) end_keeps;
         view = λ k. record { formals = length t.formals; temporaries = m.words_view k; instructions = seen k };
       }

@@ -14,7 +14,7 @@ use Rattle.piton_machine.specs.State.{locals_of}
 use Rattle.gypsy_syntax.specs.Programs.{Program, proc_at, shapes_of, words_of, Arg, Var, Lit}
 use Rattle.gypsy_syntax.specs.ProgramFits.{ProgramFits}
 use Rattle.gypsy_space.specs.Costs.{Tally, spend}
-use Rattle.gypsy_space.specs.Needs.{Words, temp_need, ctrl_need}
+use Rattle.gypsy_space.specs.Needs.{StackSizes, temp_need, ctrl_need}
 use Rattle.gypsy_meaning.specs.Machine.{Frame, Held, used}
 use Rattle.gypsy_meaning.specs.Kept.{VarsFit, FramesFit}
 use Rattle.gypsy_meaning.specs.Room.{HasWords, HaveWords}
@@ -77,7 +77,7 @@ pub record PredefsRun : Type 0 where
   pub values : ValuesKept
 
 -- an activation of procedure p above these, with its frames, in a program that fits and with room
-pub record Live (q : Program) (sizes : Words) (base p : ℕ) (fs : List Frame) (fr : List piton.Frame) : Type 0 where
+pub record Live (q : Program) (sizes : StackSizes) (base p : ℕ) (fs : List Frame) (fr : List piton.Frame) : Type 0 where
   pub fits : ProgramFits q
   pub small : sizes.temp ≤ 2 ^ 16
   pub bodies : PredefsRun
@@ -85,20 +85,20 @@ pub record Live (q : Program) (sizes : Words) (base p : ℕ) (fs : List Frame) (
   pub waits : Waits q p fs fr
   pub words : HaveWords q sizes p fs
 
-pub has_words : (q : Program) (sizes : Words) (p : ℕ) (fs : List Frame) → HaveWords q sizes p fs → HasWords q sizes p (used q p fs)
+pub has_words : (q : Program) (sizes : StackSizes) (p : ℕ) (fs : List Frame) → HaveWords q sizes p fs → HasWords q sizes p (used q p fs)
 has_words q sizes p [] h = h
 has_words q sizes p (Held c x w xs cs ∷ fs) h = h.0
 
 -- what is free
-pub free_temp : {q : Program} {sizes : Words} {base p : ℕ} {fs : List Frame} {fr : List piton.Frame} (a : Live q sizes base p fs fr) (x : List ValueOf) (st : List Word) → st ≡ stack_of q p x fs → VarsFit (shapes_of (proc_at q p)) x → length st + temp_need (proc_at q p) ≤ sizes.temp
+pub free_temp : {q : Program} {sizes : StackSizes} {base p : ℕ} {fs : List Frame} {fr : List piton.Frame} (a : Live q sizes base p fs fr) (x : List ValueOf) (st : List Word) → st ≡ stack_of q p x fs → VarsFit (shapes_of (proc_at q p)) x → length st + temp_need (proc_at q p) ≤ sizes.temp
 free_temp {q} {sizes} {base} {p} {fs} {fr} a x st es v =
     omega (arith, ap length es, height q p x fs v a.frames_fit, (has_words q sizes p fs a.words).0)
 
-pub free_ctrl : {q : Program} {sizes : Words} {base p : ℕ} {fs : List Frame} {fr : List piton.Frame} (a : Live q sizes base p fs fr) → piton.ctrl_used fr + ctrl_need (proc_at q p) ≤ sizes.ctrl
+pub free_ctrl : {q : Program} {sizes : StackSizes} {base p : ℕ} {fs : List Frame} {fr : List piton.Frame} (a : Live q sizes base p fs fr) → piton.ctrl_used fr + ctrl_need (proc_at q p) ≤ sizes.ctrl
 free_ctrl {q} {sizes} {base} {p} {fs} {fr} a =
     omega (arith, Rattle.gypsy_codegen.proofs.LayoutLaws.ctrl_is q p fs fr a.frames_fit a.waits, (has_words q sizes p fs a.words).1)
 
-module _ {q : Program} {sizes : Words} {base p : ℕ} {fs : List Frame} {fr : List piton.Frame} (a : Live q sizes base p fs fr) where
+module _ {q : Program} {sizes : StackSizes} {base p : ℕ} {fs : List Frame} {fr : List piton.Frame} (a : Live q sizes base p fs fr) where
   abbrev Here : P → P → Type 0
   Here = Goes (generated_view q sizes base)
 

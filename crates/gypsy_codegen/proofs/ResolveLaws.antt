@@ -13,12 +13,13 @@ use Rattle.piton_check.specs.Instruction as i
 use Rattle.piton_check.specs.Instruction.{Instruction}
 use Rattle.gypsy_syntax.specs.declared.predef.Predef.{Predef}
 use Rattle.gypsy_syntax.specs.declared.predef.Predef.TheVariants as row
-use Rattle.gypsy_syntax.specs.Programs.{Cond, Routine, Space, Arg, Var, Lit, Program, proc_at, body_of, shapes_of}
+use Rattle.gypsy_syntax.specs.Programs.{ConditionOf, Routine, Space, Arg, Var, Lit, Program, proc_at, body_of, shapes_of}
 use Rattle.gypsy_syntax.specs.Programs.{Stmt, Skip, NoOp, Signal, Seq, Loop, If, Begin, Call, Apply}
 use Rattle.gypsy_syntax.specs.Effects.{item_of_value}
-use Rattle.gypsy_space.specs.Needs.{Words, local_words, call_need}
+use Rattle.gypsy_space.specs.Needs.{StackSizes, local_words, call_need}
 use Rattle.gypsy_meaning.specs.Calls.{has_cond, is_leave, is_passed_on}
-use Rattle.gypsy_predef.specs.Runs.{word_of_item, can_fail}
+use Rattle.gypsy_syntax.specs.Predefined.{can_fail}
+use Rattle.gypsy_predef.specs.Runs.{word_of_item}
 use Rattle.gypsy_predef.specs.Bodies.{lengths_of}
 use Rattle.gypsy_predef.specs.Calls.{test_code}
 use Rattle.gypsy_codegen.specs.WordsOf.{words_of_values, local_shapes, number_of}
@@ -40,7 +41,7 @@ module _ (q : Program) (p : ℕ) where
   plain_count [] = refl
   plain_count (c ∷ is) = ap suc (plain_count is)
 
-  raises_count : (env : List Scope) (l : ℕ) (cs : List Cond) → length (marked_raises q p env l cs) ≡ 3 * length cs
+  raises_count : (env : List Scope) (l : ℕ) (cs : List ConditionOf) → length (marked_raises q p env l cs) ≡ 3 * length cs
   raises_count env l [] = refl
   raises_count env l (c ∷ cs) = omega (arith, raises_count env (l + 1) cs)
 
@@ -168,7 +169,7 @@ module _ (q : Program) (p n : ℕ) (f : ℕ → Option ℕ) (zero_at : f 0 ≡ S
   pick_place true l m a c x y = x
   pick_place false l m a c x y = y
 
-  target_is : (env : List Scope) (c : Cond) → g (label_to q p env c) ≡ target q p n (env_of g env) c
+  target_is : (env : List Scope) (c : ConditionOf) → g (label_to q p env c) ≡ target q p n (env_of g env) c
   target_is [] c = pick_place (is_passed_on q p c) 1 0 (n + 3) (n + 1) (stands f 1 (n + 3) one_at) (stands f 0 (n + 1) zero_at)
   target_is (InLoop b ∷ env) c = pick_place (is_leave c) b (label_to q p env c) (g b) _ refl (target_is env c)
   target_is (InBegin cs a ∷ env) c = pick_place (has_cond c cs) a (label_to q p env c) (g a) _ refl (target_is env c)
@@ -192,19 +193,7 @@ module _ (q : Program) (p n : ℕ) (f : ℕ → Option ℕ) (zero_at : f 0 ≡ S
 
   length_stays : (shapes : List Shape) (r : Predef) (args : List Arg) → Stays g (length_code shapes r args)
   length_stays shapes row.MgSimpleVariableAssignment args = refl
-  length_stays shapes row.MgSimpleConstantAssignment args = refl
-  length_stays shapes row.MgSimpleVariableEq args = refl
-  length_stays shapes row.MgSimpleConstantEq args = refl
-  length_stays shapes row.MgIntegerLe args = refl
-  length_stays shapes row.MgIntegerUnaryMinus args = refl
-  length_stays shapes row.MgIntegerAdd args = refl
-  length_stays shapes row.MgIntegerSubtract args = refl
-  length_stays shapes row.MgIntegerMultiply args = refl
-  length_stays shapes row.MgBooleanOr args = refl
-  length_stays shapes row.MgBooleanAnd args = refl
-  length_stays shapes row.MgBooleanNot args = refl
-  length_stays shapes row.MgIndexArray args = refl
-  length_stays shapes row.MgArrayElementAssignment args = refl
+  length_stays shapes r args = refl
 
   before_stays : (c : ℕ) (xs : List ℕ) → Stays g (before_code q p c xs)
   before_stays c xs =
@@ -213,13 +202,13 @@ module _ (q : Program) (p n : ℕ) (f : ℕ → Option ℕ) (zero_at : f 0 ≡ S
       (stays_both g (push_indices (local_words d) 0 0 (local_shapes d)) _ (indices_stay (local_words d) 0 0 (local_shapes d))
       (stays_both g (push_actuals q p xs) (i.Call c ∷ []) (actuals_stay xs) refl))
 
-  raises_resolve : (env : List Scope) (l : ℕ) (cs : List Cond) → map see (marked_raises q p env l cs) ≡ raises q p n (env_of g env) cs
+  raises_resolve : (env : List Scope) (l : ℕ) (cs : List ConditionOf) → map see (marked_raises q p env l cs) ≡ raises q p n (env_of g env) cs
   raises_resolve env l [] = refl
   raises_resolve env l (c ∷ cs) =
       ap (λ z. i.PushConstant (Nat (number_of c)) ∷ i.PopGlobal 0 ∷ i.Jump z ∷ map see (marked_raises q p env (l + 1) cs)) (target_is env c)
       ∙ ap (λ z. i.PushConstant (Nat (number_of c)) ∷ i.PopGlobal 0 ∷ i.Jump (target q p n (env_of g env) c) ∷ z) (raises_resolve env (l + 1) cs)
 
-  raise_labels_stand : (env : List Scope) (l at : ℕ) (cs : List Cond) → Good f at (marked_raises q p env l cs) → map g (raise_labels l cs) ≡ raise_places at cs
+  raise_labels_stand : (env : List Scope) (l at : ℕ) (cs : List ConditionOf) → Good f at (marked_raises q p env l cs) → map g (raise_labels l cs) ≡ raise_places at cs
   raise_labels_stand env l at [] h = refl
   raise_labels_stand env l at (c ∷ cs) h =
       let three_on : at + 1 + 1 + 1 ≡ at + 3 = omega arith in
@@ -227,20 +216,20 @@ module _ (q : Program) (p n : ℕ) (f : ℕ → Option ℕ) (zero_at : f 0 ≡ S
       ∙ ap (λ z. at ∷ z) (raise_labels_stand env (l + 1) (at + 3) cs (subst (λ j. Good f j (marked_raises q p env (l + 1) cs)) three_on h.1))
 
   -- where spaceerror is raised
-  space_stands : (env : List Scope) (l at m : ℕ) (cs : List Cond) → Good f at (after_lines q p env l m cs) → g (l + 2) ≡ at + 6
+  space_stands : (env : List Scope) (l at m : ℕ) (cs : List ConditionOf) → Good f at (after_lines q p env l m cs) → g (l + 2) ≡ at + 6
   space_stands env l at m cs h = let six_on : at + 1 + 1 + 1 + 1 + 1 + 1 ≡ at + 6 = omega arith in stands f (l + 2) _ h.1.0 ∙ six_on
 
   -- a raise that has a label, and what follows it
-  raise_resolves : (env : List Scope) (l : ℕ) (c : Cond) (rest : List Line) (code : List Instruction) → map see rest ≡ code → map see (marked_raise q p env l c ++ rest) ≡ raise_code q p n (env_of g env) c ++ code
+  raise_resolves : (env : List Scope) (l : ℕ) (c : ConditionOf) (rest : List Line) (code : List Instruction) → map see rest ≡ code → map see (marked_raise q p env l c ++ rest) ≡ raise_code q p n (env_of g env) c ++ code
   raise_resolves env l c rest code h =
       ap (λ z. i.PushConstant (Nat (number_of c)) ∷ i.PopGlobal 0 ∷ i.Jump z ∷ map see rest) (target_is env c)
       ∙ ap (λ z. raise_code q p n (env_of g env) c ++ z) h
 
   -- the guard, where its label stands
-  guard_resolves : (need : Words) (l to : ℕ) → g l ≡ to → map see (unmarked (guard_code need l)) ≡ guard_code need to
+  guard_resolves : (need : StackSizes) (l to : ℕ) → g l ≡ to → map see (unmarked (guard_code need l)) ≡ guard_code need to
   guard_resolves need l to e = ap (guard_code need) e
 
-  after_resolves : (env : List Scope) (l at m : ℕ) (cs : List Cond) → Good f at (after_lines q p env l m cs) → map see (after_lines q p env l m cs) ≡ after_code q p n (env_of g env) at m cs
+  after_resolves : (env : List Scope) (l at m : ℕ) (cs : List ConditionOf) → Good f at (after_lines q p env l m cs) → map see (after_lines q p env l m cs) ≡ after_code q p n (env_of g env) at m cs
   after_resolves env l at m cs h =
       let rs = marked_raises q p env (l + 3) cs in
       let last = Marked (l + 1) i.NoOp ∷ [] in

@@ -1,21 +1,21 @@
 -- The rows of the step machine, one by one.
 use Rattle.std.proofs.Common.{◌≡◌, ℕ, Bool, true, false, List, [], ◌∷◌, refl, subst}
 use Rattle.std.specs.Prelude.{◌&&◌, not, if◌then◌else◌}
-use Rattle.gypsy_syntax.specs.Programs.{Cond, Program, NoOp, Signal, Loop, If, Call, Apply}
+use Rattle.gypsy_syntax.specs.Programs.{ConditionOf, Program, NoOp, Signal, Loop, If, Call, Apply}
 use Rattle.gypsy_space.specs.Costs.{spend}
-use Rattle.gypsy_space.specs.Needs.{Words, has_temp_room, has_ctrl_room, has_room, lack_of}
+use Rattle.gypsy_space.specs.Needs.{StackSizes, has_temp_room, has_ctrl_room, has_room, lack_of}
 use Rattle.gypsy_space.specs.declared.need.Lack.{Lack}
 use Rattle.gypsy_space.specs.declared.need.Lack.TheVariants.{Nothing, Temporary, Control}
 use Rattle.gypsy_meaning.specs.Machine.{Item, Do, Back, JoinThen, JoinOne, Guard, Out, At, Next, used, either_move, call_step, apply_step, end_step, out_step, open_on, gypsy_step}
 use Rattle.gypsy_codegen.specs.Generated.{generated_view}
 use Rattle.gypsy_codegen.specs.Law.{Follows}
-use Rattle.gypsy_codegen.specs.Rows.{Top, IsShown, at_work, NoOpRow, SignalRow, LoopRow, BackRow, ThenRow, ElseRow, JoinThenRow, JoinOneRow, GuardRow}
-use Rattle.gypsy_codegen.specs.Rows.{CallRow, LackTemporaryRow, LackControlRow, WriteRow, FaultRow, BeyondRow, ReturnRow, OutRow, EndRow, MainOutRow}
+use Rattle.gypsy_codegen.specs.StepRows.{Top, IsShown, at_work, NoOpRow, SignalRow, LoopRow, BackRow, ThenRow, ElseRow, JoinThenRow, JoinOneRow, GuardRow}
+use Rattle.gypsy_codegen.specs.StepRows.{CallRow, LackTemporaryRow, LackControlRow, WriteRow, FaultRow, BeyondRow, ReturnRow, OutRow, EndRow, MainOutRow}
 use Rattle.gypsy_codegen.proofs.PushLaws.{PredefsRun}
 use Rattle.gypsy_codegen.proofs.RowLaws.{steps_follow}
 
 -- a call with room lacks nothing
-nothing_lacks : (q : Program) (sizes : Words) (p : ℕ) (u : Words) → has_room q sizes p u ≡ true → lack_of q sizes p u ≡ Nothing
+nothing_lacks : (q : Program) (sizes : StackSizes) (p : ℕ) (u : StackSizes) → has_room q sizes p u ≡ true → lack_of q sizes p u ≡ Nothing
 unfolding has_room lack_of
 nothing_lacks q sizes p u e = by_room (has_temp_room q sizes p u) (has_ctrl_room q sizes p u) e
   where
@@ -57,7 +57,7 @@ module _ (predefs : PredefsRun) where
   pub guard_row : GuardRow
   guard_row s place cs b h = follows s (Guard place cs b ∷ s.work) h
 
-  call_by : (s : Top) (place c : ℕ) (xs : List ℕ) (cs : List Cond) (l : Lack) → lack_of s.source s.sizes c (used s.source s.proc s.waiting) ≡ l → IsShown s (at_work s (Do (Call place c xs cs) ∷ s.work)) →
+  call_by : (s : Top) (place c : ℕ) (xs : List ℕ) (cs : List ConditionOf) (l : Lack) → lack_of s.source s.sizes c (used s.source s.proc s.waiting) ≡ l → IsShown s (at_work s (Do (Call place c xs cs) ∷ s.work)) →
       Follows s.source (generated_view s.source s.sizes s.base) s.piton s.spent (call_step s.source l c xs cs s.proc s.vars s.work s.waiting s.spent)
   call_by s place c xs cs l lack h =
       subst (λ z. Follows s.source (generated_view s.source s.sizes s.base) s.piton s.spent (call_step s.source z c xs cs s.proc s.vars s.work s.waiting s.spent)) lack (follows s (Do (Call place c xs cs) ∷ s.work) h)

@@ -5,6 +5,7 @@ use Rattle.stack_text.specs.declared.shape.Kind.{Kind}
 use Rattle.stack_text.specs.declared.shape.Kind.TheVariants.{Boolean}
 use Rattle.stack_text.specs.declared.shape.Shape.{Shape}
 use Rattle.stack_text.specs.Values.{ValueOf, item_count}
+use Rattle.stack_text.proofs.SharedLaws.{get_below, get_map}
 use Rattle.piton_words.specs.declared.word.Word.{Word}
 use Rattle.piton_words.specs.declared.word.Word.TheVariants.{Bool as Truth}
 use Rattle.piton_syntax.specs.declared.test_kind.TestFamily.TheVariants as family
@@ -12,12 +13,13 @@ use Rattle.piton_syntax.specs.declared.test_kind.TestKind.TheVariants as test
 use Rattle.piton_check.specs.Instruction as i
 use Rattle.piton_machine.specs.State as piton
 use Rattle.piton_machine.specs.State.{PitonState, element}
-use Rattle.gypsy_syntax.specs.Programs.{Cond, Program, proc_at, body_of, shapes_of, conds_of, simple}
+use Rattle.gypsy_syntax.specs.Programs.{ConditionOf, Program, proc_at, body_of, shapes_of, conds_of, simple}
 use Rattle.gypsy_syntax.specs.Programs.{Stmt, Skip, NoOp, Signal, Seq, Loop, If, Begin, Call, Apply}
 use Rattle.gypsy_syntax.specs.ProgramFits.{StmtFits, ValueFits}
-use Rattle.gypsy_syntax.specs.Effects.{predef_effect, value_at, is_true_value, item_of_value}
+use Rattle.gypsy_syntax.specs.Predefined.{predef_effect}
+use Rattle.gypsy_syntax.specs.Effects.{value_at, is_true_value, item_of_value}
 use Rattle.gypsy_space.specs.Costs.{Tally, spend}
-use Rattle.gypsy_space.specs.Needs.{Words, lack_of}
+use Rattle.gypsy_space.specs.Needs.{StackSizes, lack_of}
 use Rattle.gypsy_space.specs.declared.need.Lack.{Lack}
 use Rattle.gypsy_space.specs.declared.need.Lack.TheVariants.{Nothing, Temporary, Control}
 use Rattle.gypsy_meaning.specs.Calls.{values_of}
@@ -27,15 +29,13 @@ use Rattle.gypsy_meaning.specs.Room.{Covers, CoversWork}
 use Rattle.gypsy_meaning.proofs.EffectLaws.{value_fits}
 use Rattle.gypsy_predef.specs.Runs.{word_of_item, words_of_value}
 use Rattle.gypsy_codegen.specs.WordsOf.{number_of}
-use Rattle.gypsy_codegen.specs.Generated.{Scope, InLoop, back_code, offset, size, code_of, generated_view}
+use Rattle.gypsy_codegen.specs.Generated.{Scope, InLoop, back_code, size, code_of, generated_view}
 use Rattle.gypsy_codegen.specs.Memory.{stack_of, index_of}
 use Rattle.gypsy_codegen.specs.Showing.{HasAt, gen_in, Stands, Tops, cc_of}
 use Rattle.gypsy_codegen.specs.Law.{Follows, StepsFollow}
-use Rattle.gypsy_codegen.proofs.CopyLaws.{get_below}
-use Rattle.gypsy_check.proofs.CleanLaws.{get_map}
 use Rattle.gypsy_codegen.proofs.LayoutLaws.{get_there, reads_at}
 use Rattle.gypsy_codegen.proofs.StepLaws as go
-use Rattle.gypsy_codegen.proofs.StepLaws.{P, Pt, state, spent, Goes, steps_on, stay, lands_at, spend_two, three}
+use Rattle.gypsy_codegen.proofs.StepLaws.{P, Pt, state, spent, Goes, steps_on, spend_two, three}
 use Rattle.gypsy_codegen.proofs.PushLaws.{PredefsRun, Live, free_temp, here, top, passes, jumps, pushes_local}
 use Rattle.gypsy_codegen.proofs.StandLaws.{Opened, moved, after_gen, front_gen, settle_stands, open_stands, Comes, comes_on, leads, lands, raises_leads}
 use Rattle.gypsy_codegen.proofs.CallLaws.{Lacks, lacks, call_leads, lack_temporary_leads, lack_control_leads, normal_leads, out_leads, end_halts, out_halts}
@@ -48,7 +48,7 @@ simple_word k v e f =
     get_map (word_of_item v.shape.kind) v.items 0 (item_of_value v) (get_there v.items 0 (pos 0) (omega (arith, one)))
     ∙ ap (λ (t : Shape). Some (word_of_item t.kind (item_of_value v))) e
 
-module _ {q : Program} {sizes : Words} {base p : ℕ} {fs : List Frame} {fr : List piton.Frame} (a : Live q sizes base p fs fr) (x : List ValueOf) (s : List Word) (es : s ≡ stack_of q p x fs) (v : VarsFit (shapes_of (proc_at q p)) x) where
+module _ {q : Program} {sizes : StackSizes} {base p : ℕ} {fs : List Frame} {fr : List piton.Frame} (a : Live q sizes base p fs fr) (x : List ValueOf) (s : List Word) (es : s ≡ stack_of q p x fs) (v : VarsFit (shapes_of (proc_at q p)) x) where
   if_leads : (b : Bool) (at to : ℕ) (u : Tally) (g h : State) → slice_get (code_of q p) at ≡ Some (i.TestAndJump family.Bool test.F to) → Comes q (generated_view q sizes base) (Pt p (at + 1) 2 s fr (spend 2 1 u)) g → Comes q (generated_view q sizes base) (Pt p to 2 s fr (spend 2 1 u)) h → (c : P) → Goes (generated_view q sizes base) c (Pt p at 2 (Truth b ∷ s) fr u) → Follows q (generated_view q sizes base) (state c) (spent c) (either_move b (Next g) (Next h))
   if_leads true at to u g h i m n c st = leads (comes_on st (comes_on (go.tests_false q sizes base p (here a) fr _ _ (top a).is at 2 to true s u i) m))
   if_leads false at to u g h i m n c st = leads (comes_on st (comes_on (go.tests_false q sizes base p (here a) fr _ _ (top a).is at 2 to false s u i) n))
@@ -109,15 +109,15 @@ module _ {q : Program} {sizes : Words} {base p : ℕ} {fs : List Frame} {fr : Li
   do_follows (Apply place r args) env at w u t e f c wf cw st =
       apply_follows a x s es v place f.0 r args (predef_effect r (values_of x args)) env at w u t f.1 refl c.0 c.1 e st
 
-end_follows : {q : Program} {sizes : Words} {base p : ℕ} {fr : List piton.Frame} (fs : List Frame) (a : Live q sizes base p fs fr) (x : List ValueOf) (s : List Word) (at : ℕ) (u t : Tally) → s ≡ stack_of q p x fs → VarsFit (shapes_of (proc_at q p)) x → u ≡ t → at ≡ size q (body_of q p) → Follows q (generated_view q sizes base) (state (Pt p at 2 s fr u)) u (end_step q p x fs t)
+end_follows : {q : Program} {sizes : StackSizes} {base p : ℕ} {fr : List piton.Frame} (fs : List Frame) (a : Live q sizes base p fs fr) (x : List ValueOf) (s : List Word) (at : ℕ) (u t : Tally) → s ≡ stack_of q p x fs → VarsFit (shapes_of (proc_at q p)) x → u ≡ t → at ≡ size q (body_of q p) → Follows q (generated_view q sizes base) (state (Pt p at 2 s fr u)) u (end_step q p x fs t)
 end_follows [] a x s at u t es v e f = end_halts a x s es v at u t e f
 end_follows (Held c z w xs cs ∷ fs) a x s at u t es v e f = leads (normal_leads a x s es v at u t e f)
 
-out_follows : {q : Program} {sizes : Words} {base p : ℕ} {fr : List piton.Frame} (fs : List Frame) (a : Live q sizes base p fs fr) (x : List ValueOf) (s : List Word) (d : Cond) (at : ℕ) (u t : Tally) → s ≡ stack_of q p x fs → VarsFit (shapes_of (proc_at q p)) x → u ≡ t → at ≡ Rattle.gypsy_codegen.specs.Generated.out_place q p (size q (body_of q p)) d → Follows q (generated_view q sizes base) (state (Pt p at (number_of d) s fr u)) u (out_step q d p x fs t)
+out_follows : {q : Program} {sizes : StackSizes} {base p : ℕ} {fr : List piton.Frame} (fs : List Frame) (a : Live q sizes base p fs fr) (x : List ValueOf) (s : List Word) (d : ConditionOf) (at : ℕ) (u t : Tally) → s ≡ stack_of q p x fs → VarsFit (shapes_of (proc_at q p)) x → u ≡ t → at ≡ Rattle.gypsy_codegen.specs.Generated.out_place q p (size q (body_of q p)) d → Follows q (generated_view q sizes base) (state (Pt p at (number_of d) s fr u)) u (out_step q d p x fs t)
 out_follows [] a x s d at u t es v e f = out_halts a x s es v d at u t e f
 out_follows (Held c z w xs cs ∷ fs) a x s d at u t es v e f = leads (out_leads a x s es v d at u t e f)
 
-item_follows : {q : Program} {sizes : Words} {base p : ℕ} {fs : List Frame} {fr : List piton.Frame} (a : Live q sizes base p fs fr) (x : List ValueOf) (s : List Word) (w : List Item) (at : ℕ) (t : Tally) → s ≡ stack_of q p x fs → VarsFit (shapes_of (proc_at q p)) x → WorkFits q (proc_at q p) w → CoversWork (proc_at q p) w → Tops q p at w → Follows q (generated_view q sizes base) (state (Pt p at (cc_of w) s fr t)) t (gypsy_step q sizes (At p x w fs t))
+item_follows : {q : Program} {sizes : StackSizes} {base p : ℕ} {fs : List Frame} {fr : List piton.Frame} (a : Live q sizes base p fs fr) (x : List ValueOf) (s : List Word) (w : List Item) (at : ℕ) (t : Tally) → s ≡ stack_of q p x fs → VarsFit (shapes_of (proc_at q p)) x → WorkFits q (proc_at q p) w → CoversWork (proc_at q p) w → Tops q p at w → Follows q (generated_view q sizes base) (state (Pt p at (cc_of w) s fr t)) t (gypsy_step q sizes (At p x w fs t))
 item_follows {q} {sizes} {base} {p} {fs} {fr} a x s [] at t es v wf cw st = end_follows fs a x s at t t es v refl st.1.1
 item_follows {q} {sizes} {base} {p} {fs} {fr} a x s (Do r ∷ w) at t es v wf cw st = do_follows a x s es v r st.0 at w t t refl wf.0 cw.0 wf.1 cw.1 st.1
 item_follows {q} {sizes} {base} {p} {fs} {fr} a x s (Back place r ∷ w) at t es v wf cw top' =

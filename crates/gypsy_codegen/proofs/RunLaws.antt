@@ -3,24 +3,24 @@ use Rattle.std.proofs.Common.{◌≡◌, ℕ, zero, suc, ◌+◌, ◌-◌, List,
 use Rattle.std.specs.Prelude.{reverse, ◌==◌}
 use Rattle.std.proofs.lemmas.Bool.{eq-eqb}
 use Rattle.std.proofs.lemmas.List.{append-nil}
-use Rattle.stack_text.specs.Values.{ValueOf}
+use Rattle.stack_text.specs.Values.{ValueOf, item_count}
+use Rattle.stack_text.proofs.SharedLaws.{get_below}
 use Rattle.piton_words.specs.declared.word.Word.TheVariants.{Nat}
 use Rattle.piton_check.specs.Instruction.{SystemView, ProgramView}
 use Rattle.piton_machine.specs.State as piton
 use Rattle.piton_machine.specs.State.{PitonState, program_of, element}
-use Rattle.piton_machine.specs.Seen.{opening}
+use Rattle.piton_machine.specs.Seen.StateView.{opening}
 use Rattle.piton_machine.proofs.RunLaws.{halts}
 use Rattle.piton_machine.specs.Law.{Steps}
 use Rattle.gypsy_syntax.specs.Programs.{Program, proc_at, body_of, shapes_of}
 use Rattle.gypsy_syntax.specs.ProgramFits.{ProgramFits}
 use Rattle.gypsy_space.specs.Costs.{Tally, spend, start_tally}
-use Rattle.gypsy_space.specs.Needs.{Words}
-use Rattle.gypsy_meaning.specs.Calls.{Way, main_start}
+use Rattle.gypsy_space.specs.Needs.{StackSizes}
+use Rattle.gypsy_meaning.specs.Calls.{CurrentCondition, main_start}
 use Rattle.gypsy_meaning.specs.Machine.{Item, Do, Back, JoinThen, JoinOne, Guard, Out, Frame, State, At, Move, Next, Ended, Ending, Over, Going, go_on, run, gypsy_step, start, open_on}
 use Rattle.gypsy_meaning.specs.Kept.{VarsFit, StateFits, MoveFits}
 use Rattle.gypsy_meaning.specs.Room.{StateRoom, MoveRoom}
-use Rattle.gypsy_meaning.specs.Meaning.{Done}
-use Rattle.gypsy_meaning.specs.Counted.{CountedOutcome, CountedDone, CountedUnfinished, counted_meaning, uncounted}
+use Rattle.gypsy_meaning.specs.Counted.{counted_meaning}
 use Rattle.gypsy_meaning.proofs.CountLaws.{meaning-uncounted}
 use Rattle.gypsy_meaning.proofs.Runs.{agree}
 use Rattle.gypsy_meaning.proofs.Keeping.{step_keeps, start_fits}
@@ -35,18 +35,18 @@ use Rattle.gypsy_codegen.specs.Whole.{opened, SizesFit, CountedRuns, MeaningRuns
 use Rattle.std.proofs.Common.{◌<◌, drop}
 use Rattle.std.specs.Prelude.{slice_get, slice_index, nat_lt}
 use Rattle.std.proofs.lemmas.Bool.{lt-ltb}
-use Rattle.stack_text.specs.Values.{item_count}
 use Rattle.piton_words.specs.declared.word.Word.{Word}
-use Rattle.gypsy_syntax.specs.Programs.{Cond}
+use Rattle.gypsy_syntax.specs.Programs.{ConditionOf}
 use Rattle.gypsy_syntax.specs.Effects.{value_at}
 use Rattle.gypsy_meaning.specs.Calls.{copied_out}
 use Rattle.gypsy_meaning.specs.Machine.{Held, used}
 use Rattle.gypsy_meaning.specs.Kept.{FramesFit}
 use Rattle.gypsy_meaning.proofs.EffectLaws.{value_fits}
+use Rattle.gypsy_meaning.proofs.ReachLaws.{counted_too}
 use Rattle.gypsy_predef.specs.Runs.{words_of_value}
 use Rattle.gypsy_codegen.specs.WordsOf.{words_before, local_shapes}
 use Rattle.gypsy_codegen.specs.Memory.{base_of}
-use Rattle.gypsy_codegen.proofs.CopyLaws.{copied_miss, get_below}
+use Rattle.gypsy_codegen.proofs.CopyLaws.{copied_miss}
 use Rattle.gypsy_codegen.proofs.StackLaws.{push_all-length, below_pushed, value_words}
 use Rattle.gypsy_codegen.proofs.LayoutLaws.{height, low_fits, index_fits}
 use Rattle.gypsy_codegen.proofs.LayoutLaws.{if_yes, reads_at}
@@ -86,7 +86,7 @@ leads_on {q} {s} {a} {t} {g} {k} l m = record {
   shows = m.shows;
 }
 
-halts_on : {q : Program} {s : SystemView} {a : PitonState} {t : Tally} {g : State} {x : List ValueOf} {c : Way} {u : Tally} (l : Leads q s a t g) → Halts s l.to (tally_of g) x c u → Halts s a t x c u
+halts_on : {q : Program} {s : SystemView} {a : PitonState} {t : Tally} {g : State} {x : List ValueOf} {c : CurrentCondition} {u : Tally} (l : Leads q s a t g) → Halts s l.to (tally_of g) x c u → Halts s a t x c u
 halts_on {q} {s} {a} {t} {g} {x} {c} {u} l h = record {
   steps = l.steps + h.steps;
   cost = l.cost + h.cost;
@@ -103,7 +103,7 @@ abbrev HaltsAs : SystemView → PitonState → Tally → Ending → Type 0
 HaltsAs s a t (Over x c u) = Halts s a t x c u
 HaltsAs s a t Going = Unit {0}
 
-module _ (q : Program) (sizes : Words) (base : ℕ) (bodies : PredefsRun) (fits : ProgramFits q) (sz : SizesFit q sizes) where
+module _ (q : Program) (sizes : StackSizes) (base : ℕ) (bodies : PredefsRun) (fits : ProgramFits q) (sz : SizesFit q sizes) where
   on_from : (a : PitonState) (t : Tally) (g : State) (e : Ending) (l : Leads q (generated_view q sizes base) a t g) → HaltsAs (generated_view q sizes base) l.to (tally_of g) e → HaltsAs (generated_view q sizes base) a t e
   on_from a t g (Over x c u) l h = halts_on l h
   on_from a t g Going l h = tt
@@ -149,16 +149,9 @@ counted_runs bodies q sizes base v n x c t fits sz vf d =
       stack = h.stack;
     }
 
-done_counted : (o : CountedOutcome) (x : List ValueOf) (c : Way) → uncounted o ≡ Done x c → (t : Tally) × (o ≡ CountedDone x c t)
-done_counted (CountedDone y d t) x c e =
-    let same_vars : y ≡ x = cc in
-    let same_way : d ≡ c = cc in
-    (t, ap (λ z. CountedDone z d t) same_vars ∙ ap (λ z. CountedDone x z t) same_way)
-done_counted CountedUnfinished x c e = absurd cc
-
 pub meaning_runs : PredefsRun → MeaningRuns
 meaning_runs bodies q sizes base v n x c fits sz vf d =
-    let k = done_counted (counted_meaning q sizes v n) x c (meaning-uncounted q sizes v n ∙ d) in
+    let k = counted_too (counted_meaning q sizes v n) x c (meaning-uncounted q sizes v n ∙ d) in
     (k.0, k.1, counted_runs bodies q sizes base v n x c k.0 fits sz vf k.1)
 
 pub limited_run_halts : PredefsRun → LimitedRunHalts
@@ -200,7 +193,7 @@ variables_stand q a p x w fs t b shape sf sh e h u g =
 
 -- Activations that wait.
 
-stack_grows : (q : Program) (p c : ℕ) (x y : List ValueOf) (w : List Item) (xs : List ℕ) (cs : List Cond) (fs : List Frame) (j : ℕ) → j < length (stack_of q c (copied_out xs y x) fs) → element (stack_of q p y (Held c x w xs cs ∷ fs)) j ≡ element (stack_of q c (copied_out xs y x) fs) j
+stack_grows : (q : Program) (p c : ℕ) (x y : List ValueOf) (w : List Item) (xs : List ℕ) (cs : List ConditionOf) (fs : List Frame) (j : ℕ) → j < length (stack_of q c (copied_out xs y x) fs) → element (stack_of q p y (Held c x w xs cs ∷ fs)) j ≡ element (stack_of q c (copied_out xs y x) fs) j
 stack_grows q p c x y w xs cs fs j h = below_pushed (words_of_values (drop (length (proc_at q p).formals) y)) (stack_of q c (copied_out xs y x) fs) j h
 
 waiting_stand : (q : Program) (fs : List Frame) (p : ℕ) (y : List ValueOf) (stack : List Word) → VarsFit (shapes_of (proc_at q p)) y → FramesFit q p fs → ((j : ℕ) → j < length (stack_of q p y fs) → element stack j ≡ element (stack_of q p y fs) j) → WaitingStand q stack fs

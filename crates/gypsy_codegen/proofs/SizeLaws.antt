@@ -11,10 +11,10 @@ use Rattle.piton_check.specs.Instruction.{Instruction, ProgramView}
 use Rattle.piton_machine.specs.Placed.{instructions_size, program_size}
 use Rattle.gypsy_syntax.specs.declared.predef.Predef.{Predef}
 use Rattle.gypsy_syntax.specs.declared.predef.Predef.TheVariants as row
-use Rattle.gypsy_syntax.specs.Programs.{Cond, Routine, Space, Arg, Var, Lit, Proc, Program, proc_at, body_of, shapes_of}
+use Rattle.gypsy_syntax.specs.Programs.{ConditionOf, Routine, Space, Arg, Var, Lit, Program, proc_at, body_of, shapes_of}
 use Rattle.gypsy_syntax.specs.Programs.{Stmt, Skip, NoOp, Signal, Seq, Loop, If, Begin, Call, Apply}
 use Rattle.gypsy_syntax.specs.ProgramFits.{ProgramFits, StmtFits}
-use Rattle.gypsy_syntax.specs.PredefinedCosts.{predef_words}
+use Rattle.gypsy_syntax.specs.Predefined.{predef_words}
 use Rattle.gypsy_space.specs.Needs.{local_words, vars_of, call_need, args_words, statement_words, code_words}
 use Rattle.gypsy_codegen.specs.WordsOf.{words_of_values, starts, local_shapes}
 use Rattle.gypsy_codegen.specs.Guard.{guard_code, guard_size}
@@ -22,7 +22,7 @@ use Rattle.gypsy_codegen.specs.Generated.{Scope, InLoop, InBegin, target, raise_
 use Rattle.gypsy_predef.specs.Calls.{test_code}
 use Rattle.gypsy_codegen.specs.Sizes.{ProceduresTakeWords}
 use Rattle.gypsy_meaning.proofs.Keeping.{locals_fit}
-use Rattle.gypsy_codegen.proofs.CopyLaws.{actuals_number}
+use Rattle.gypsy_meaning.proofs.ReadyLaws.{actuals_length}
 use Rattle.gypsy_codegen.proofs.StackLaws.{values_words, starts-length}
 use Rattle.gypsy_codegen.proofs.StepLaws.{program_is}
 
@@ -47,15 +47,15 @@ sum_args q p [] = refl
 sum_args q p (Var b ∷ args) = omega (arith, sum_args q p args)
 sum_args q p (Lit v ∷ args) = omega (arith, sum_args q p args)
 
-sum_raises : (q : Program) (p n : ℕ) (env : List Scope) (cs : List Cond) → instructions_size (raises q p n env cs) ≡ 7 * length cs
+sum_raises : (q : Program) (p n : ℕ) (env : List Scope) (cs : List ConditionOf) → instructions_size (raises q p n env cs) ≡ 7 * length cs
 sum_raises q p n env [] = refl
 sum_raises q p n env (c ∷ cs) = omega (arith, sum-append (raise_code q p n env c) (raises q p n env cs), sum_raises q p n env cs)
 
-places_number : (at : ℕ) (cs : List Cond) → length (raise_places at cs) ≡ length cs
+places_number : (at : ℕ) (cs : List ConditionOf) → length (raise_places at cs) ≡ length cs
 places_number at [] = refl
 places_number at (c ∷ cs) = ap suc (places_number (at + 3) cs)
 
-sum_after : (q : Program) (p n : ℕ) (env : List Scope) (at l : ℕ) (cs : List Cond) → instructions_size (after_code q p n env at l cs) ≡ 28 + 8 * length cs
+sum_after : (q : Program) (p n : ℕ) (env : List Scope) (at l : ℕ) (cs : List ConditionOf) → instructions_size (after_code q p n env at l cs) ≡ 28 + 8 * length cs
 sum_after q p n env at l cs =
     let rest = raises q p n env cs ++ i.NoOp ∷ [] in
     omega (arith, sum-append (raise_code q p n env Routine) (raise_code q p n env Space ++ rest), sum-append (raise_code q p n env Space) rest, sum-append (raises q p n env cs) (i.NoOp ∷ []), sum_raises q p n env cs, places_number (at + 9) cs)
@@ -63,19 +63,7 @@ sum_after q p n env at l cs =
 -- the length and the check of a row
 sum_extra : (r : Predef) (shapes : List Shape) (args : List Arg) (to : ℕ) → instructions_size (length_code shapes r args) + instructions_size (test_code r to) ≡ predef_words r
 sum_extra row.MgSimpleVariableAssignment shapes args to = refl
-sum_extra row.MgSimpleConstantAssignment shapes args to = refl
-sum_extra row.MgSimpleVariableEq shapes args to = refl
-sum_extra row.MgSimpleConstantEq shapes args to = refl
-sum_extra row.MgIntegerLe shapes args to = refl
-sum_extra row.MgIntegerUnaryMinus shapes args to = refl
-sum_extra row.MgIntegerAdd shapes args to = refl
-sum_extra row.MgIntegerSubtract shapes args to = refl
-sum_extra row.MgBooleanOr shapes args to = refl
-sum_extra row.MgBooleanAnd shapes args to = refl
-sum_extra row.MgBooleanNot shapes args to = refl
-sum_extra row.MgIndexArray shapes args to = refl
-sum_extra row.MgArrayElementAssignment shapes args to = refl
-sum_extra row.MgIntegerMultiply shapes args to = refl
+sum_extra r shapes args to = refl
 
 module _ (q : Program) (fits : ProgramFits q) (p n : ℕ) (conds : ℕ) where
   sum_gen : (in_loop : Bool) (env : List Scope) (at : ℕ) (s : Stmt) → StmtFits q (shapes_of (proc_at q p)) conds in_loop s → instructions_size (gen q p n env at s) ≡ statement_words q s
@@ -106,7 +94,7 @@ module _ (q : Program) (fits : ProgramFits q) (p n : ℕ) (conds : ℕ) where
       let pa = push_actuals q p xs in
       let pi = push_indices l 0 0 (local_shapes d) in
       let pw = push_words ws in
-      let many = actuals_number (shapes_of (proc_at q p)) d.formals xs f.actuals in
+      let many = actuals_length (shapes_of (proc_at q p)) d.formals xs f.actuals in
       let words : length ws ≡ l = values_words (local_shapes d) d.locals (locals_fit d.locals (fits.procs c).locals) in
       let a : instructions_size pw ≡ 2 * l = sum_words ws ∙ ap (λ k. 2 * k) words in
       omega (arith, sum-append (guard_code (call_need q c) (behind + 6)) (pw ++ (pi ++ (pa ++ i.Call c ∷ after))), sum-append pw (pi ++ (pa ++ i.Call c ∷ after)), sum-append pi (pa ++ i.Call c ∷ after), sum-append pa (i.Call c ∷ after), a, sum_indices l 0 0 (local_shapes d), length-map d.locals (λ (v : ValueOf). v.shape), sum_actuals q p xs, sum_after q p n env behind l cs, many)

@@ -10,10 +10,11 @@ use Rattle.std.proofs.lemmas.Slice.Eq.{bytes_eq-Decides}
 use Rattle.std.proofs.lemmas.Bool.{and_parts}
 use Rattle.stack_text.specs.Names.{is_name}
 use Rattle.stack_text.specs.declared.name.Named.{Named}
+use Rattle.stack_text.proofs.SharedLaws.{not_true, rule_fails, append_none}
 use Rattle.gypsy_syntax.specs.declared.literal.Decl.{Decl}
 use Rattle.gypsy_syntax.specs.declared.predef.Predef.{Predef}
 use Rattle.gypsy_syntax.specs.declared.predef.Predef.TheVariants as row
-use Rattle.gypsy_syntax.specs.Keywords.{keyword_name, keywords}
+use Rattle.gypsy_syntax.specs.Keywords.{keyword_name, form_named, predef_named}
 use Rattle.gypsy_syntax.specs.Sources.{LocalOf, ProcOf, SourceOf}
 use Rattle.gypsy_syntax.specs.Programs.{Program}
 use Rattle.gypsy_syntax.specs.Predefined.{predefs, predef_name}
@@ -22,7 +23,7 @@ use Rattle.gypsy_syntax.specs.ProgramFits.{Each}
 use Rattle.gypsy_check.specs.Declarations.{procedure_named, is_predefined, variables_of, repeats}
 use Rattle.gypsy_check.specs.Rules.{type_breaches, local_breaches, condition_name_breaches, size_breaches, statement_breaches}
 use Rattle.gypsy_check.specs.Rules.{variable_breaches, procedure_breaches, name_breaches, main_breaches, violations}
-use Rattle.gypsy_check.proofs.CleanLaws.{two, three, four, fails}
+use Rattle.gypsy_check.proofs.CleanLaws.{three, four}
 use Rattle.gypsy_check.proofs.NameLaws.{Found, procedure_found}
 use Rattle.gypsy_codegen.specs.Text.{program_texts, frame_texts}
 use Rattle.gypsy_codegen.proofs.CopyLaws.{each_both}
@@ -32,10 +33,6 @@ use Rattle.gypsy_codegen.proofs.DeclareLaws.{Differ, Unlike, Cross, differ_both,
 abbrev pub differ_all : List (List ℕ) → Bool
 differ_all [] = true
 differ_all (n ∷ names) = list_all (λ m. not (bytes_eq m n)) names && differ_all names
-
-not_true : (b : Bool) → not b ≡ true → b ≡ false
-not_true true e = cc
-not_true false e = refl
 
 unlike_of : (name : List ℕ) (names : List (List ℕ)) → list_all (λ m. not (bytes_eq m name)) names ≡ true → Unlike name names
 unlike_of name [] e = tt
@@ -60,21 +57,9 @@ names_mapped (p ∷ procs) = ap (λ z. p.name.name ∷ z) (names_mapped procs)
 
 -- a name that isn't predefined is unlike each that is
 is_predefined_name : (r : Predef) → is_predefined (predef_name r) ≡ true
-unfolding keyword_name keywords
+unfolding keyword_name form_named predef_named
 is_predefined_name row.MgSimpleVariableAssignment = refl
-is_predefined_name row.MgSimpleConstantAssignment = refl
-is_predefined_name row.MgSimpleVariableEq = refl
-is_predefined_name row.MgSimpleConstantEq = refl
-is_predefined_name row.MgIntegerLe = refl
-is_predefined_name row.MgIntegerUnaryMinus = refl
-is_predefined_name row.MgIntegerAdd = refl
-is_predefined_name row.MgIntegerSubtract = refl
-is_predefined_name row.MgBooleanOr = refl
-is_predefined_name row.MgBooleanAnd = refl
-is_predefined_name row.MgBooleanNot = refl
-is_predefined_name row.MgIndexArray = refl
-is_predefined_name row.MgArrayElementAssignment = refl
-is_predefined_name row.MgIntegerMultiply = refl
+is_predefined_name r = refl
 
 unlike_predef : (name : List ℕ) (r : Predef) → is_predefined name ≡ false → bytes_eq (predef_name r) name ≡ false
 unlike_predef name r e = by_test (bytes_eq (predef_name r) name) refl
@@ -90,8 +75,8 @@ unlike_predefs name (r ∷ rs) e = (unlike_predef name r e, unlike_predefs name 
 cross_predefs : (procs : List ProcOf) → flat_map name_breaches procs ≡ [] → Cross (map (λ p. p.name.name) procs) (map predef_name predefs)
 cross_predefs [] e = tt
 cross_predefs (p ∷ procs) e =
-    let k = two (name_breaches p) (flat_map name_breaches procs) e in
-    (unlike_predefs p.name.name predefs (fails (is_predefined p.name.name) p.name.place 2 k.0), cross_predefs procs k.1)
+    let k = append_none (name_breaches p) (flat_map name_breaches procs) e in
+    (unlike_predefs p.name.name predefs (rule_fails (is_predefined p.name.name) p.name.place 2 k.0), cross_predefs procs k.1)
 
 -- what the rules leave
 pub record Kept (s : SourceOf) : Type 0 where
@@ -104,7 +89,7 @@ unfolding violations
 kept s e =
     let h = four (repeats 1 [] (map (λ p. p.name) s.procs)) (main_breaches s) (flat_map name_breaches s.procs) (flat_map (procedure_breaches s) s.procs) e in
     record {
-      main = procedure_found s.procs _ (fails (is_none (procedure_named s s.main.name)) s.main.place 3 h.1);
+      main = procedure_found s.procs _ (rule_fails (is_none (procedure_named s s.main.name)) s.main.place 3 h.1);
       names =
           differ_both (procedure_names s) (map predef_name predefs) (subst Differ (names_mapped s.procs) (differ_source 1 [] (map (λ p. p.name) s.procs) h.0))
           (differ_of (map predef_name predefs) refl) (cross_predefs s.procs h.2);

@@ -4,6 +4,7 @@ use Rattle.std.proofs.lemmas.List.{length-map}
 use Rattle.std.specs.Prelude.{slice_set, slice_get}
 use Rattle.stack_text.specs.declared.shape.Shape.{Shape}
 use Rattle.stack_text.specs.Values.{ValueOf, item_count}
+use Rattle.stack_text.proofs.SharedLaws.{get_front, get_after}
 use Rattle.piton_words.specs.declared.word.Word.{Word}
 use Rattle.piton_machine.specs.State.{element, with_element}
 use Rattle.piton_machine.proofs.ElementLaws.{element_top, element_below, with_element_top, with_element_below}
@@ -100,17 +101,6 @@ set_front [] b (v ∷ vs) h = absurd (omega (arith, h))
 set_front (w ∷ a) b [] h = absurd (omega (arith, h))
 set_front (w ∷ a) b (v ∷ vs) h =
     ap (λ l. slice_set l 0 v) (set_behind_one w (a ++ b) 0 vs) ∙ ap (λ l. v ∷ l) (set_front a b vs (omega (arith, h)))
-
-pub get_front : {A : Type 0} (a b : List A) (i : ℕ) (v : A) → slice_get a i ≡ Some v → slice_get (a ++ b) i ≡ Some v
-get_front [] b i v h = cc
-get_front (w ∷ a) b zero v h = h
-get_front (w ∷ a) b (suc i) v h = get_front a b i v h
-
-pub get_after : {A : Type 0} (a b : List A) (i : ℕ) → slice_get (a ++ b) (length a + i) ≡ slice_get b i
-get_after [] b i = let e : 0 + i ≡ i = omega arith in ap (slice_get b) e
-get_after (w ∷ a) b i =
-    let e : length (w ∷ a) + i ≡ suc (length a + i) = omega arith in
-    ap (slice_get (w ∷ (a ++ b))) e ∙ get_after a b i
 
 -- Values.
 

@@ -14,16 +14,16 @@ use Rattle.piton_check.specs.Instruction.{Instruction, SystemView}
 use Rattle.piton_machine.specs.State as piton
 use Rattle.gypsy_syntax.specs.declared.predef.Predef.{Predef}
 use Rattle.gypsy_syntax.specs.declared.predef.Predef.TheVariants as row
-use Rattle.gypsy_syntax.specs.Programs.{Cond, Arg, Routine, Space, Program, proc_at, body_of, shapes_of}
+use Rattle.gypsy_syntax.specs.Programs.{ConditionOf, Arg, Routine, Space, Program, proc_at, body_of, shapes_of}
 use Rattle.gypsy_syntax.specs.Programs.{Stmt, Skip, NoOp, Signal, Seq, Loop, If, Begin, Call, Apply}
 use Rattle.gypsy_space.specs.Costs.{Tally, spend}
-use Rattle.gypsy_space.specs.Needs.{Words, temp_need, local_words, call_need}
+use Rattle.gypsy_space.specs.Needs.{StackSizes, temp_need, local_words, call_need}
 use Rattle.gypsy_meaning.specs.Calls.{has_cond, is_leave}
 use Rattle.gypsy_meaning.specs.Machine.{Item, Do, Back, JoinThen, JoinOne, Guard, Out, Frame, State, At, opens, open_on, settle, stop_if, raise}
 use Rattle.gypsy_meaning.specs.Kept.{VarsFit}
 use Rattle.gypsy_codegen.specs.WordsOf.{number_of, words_of_values, local_shapes}
 use Rattle.gypsy_predef.specs.Bodies.{lengths_of}
-use Rattle.gypsy_predef.specs.Runs.{can_fail}
+use Rattle.gypsy_syntax.specs.Predefined.{can_fail}
 use Rattle.gypsy_predef.specs.Calls.{test_code}
 use Rattle.gypsy_codegen.specs.Guard.{guard_code, guard_size}
 use Rattle.gypsy_codegen.specs.Generated.{Scope, InLoop, InBegin, target, raise_code, back_code, raises, after_size, after_code, push_words, push_indices, push_actuals, push_args, before_size, length_code, predef_position, test_size, size, gen, tail_code, code_of, generated_view}
@@ -33,30 +33,18 @@ use Rattle.gypsy_codegen.specs.Law.{tally_of, Leads}
 use Rattle.gypsy_codegen.proofs.StepLaws.{P, Pt, state, spent, Goes, steps_on, stay, spend_two}
 use Rattle.gypsy_codegen.proofs.PushLaws.{has_front, has_back, has_all, size_words, size_indices, size_actuals, size_args, Live, free_temp, jumps, sets_cc}
 
-pub size_raises : (q : Program) (p n : ℕ) (env : List Scope) (cs : List Cond) → length (raises q p n env cs) ≡ 3 * length cs
+pub size_raises : (q : Program) (p n : ℕ) (env : List Scope) (cs : List ConditionOf) → length (raises q p n env cs) ≡ 3 * length cs
 size_raises q p n env [] = refl
 size_raises q p n env (c ∷ cs) = omega (arith, length-append (raise_code q p n env c) (raises q p n env cs), size_raises q p n env cs)
 
-pub size_after : (q : Program) (p n : ℕ) (env : List Scope) (at l : ℕ) (cs : List Cond) → length (after_code q p n env at l cs) ≡ after_size cs
+pub size_after : (q : Program) (p n : ℕ) (env : List Scope) (at l : ℕ) (cs : List ConditionOf) → length (after_code q p n env at l cs) ≡ after_size cs
 size_after q p n env at l cs =
     let rest = raises q p n env cs ++ i.NoOp ∷ [] in
     omega (arith, length-append (raise_code q p n env Routine) (raise_code q p n env Space ++ rest), length-append (raise_code q p n env Space) rest, length-append (raises q p n env cs) (i.NoOp ∷ []), size_raises q p n env cs)
 
 pub size_length : (shapes : List Shape) (r : Predef) (args : List Arg) → length (length_code shapes r args) ≡ lengths_of r
 size_length shapes row.MgSimpleVariableAssignment args = refl
-size_length shapes row.MgSimpleConstantAssignment args = refl
-size_length shapes row.MgSimpleVariableEq args = refl
-size_length shapes row.MgSimpleConstantEq args = refl
-size_length shapes row.MgIntegerLe args = refl
-size_length shapes row.MgIntegerUnaryMinus args = refl
-size_length shapes row.MgIntegerAdd args = refl
-size_length shapes row.MgIntegerSubtract args = refl
-size_length shapes row.MgBooleanOr args = refl
-size_length shapes row.MgBooleanAnd args = refl
-size_length shapes row.MgBooleanNot args = refl
-size_length shapes row.MgIndexArray args = refl
-size_length shapes row.MgArrayElementAssignment args = refl
-size_length shapes row.MgIntegerMultiply args = refl
+size_length shapes r args = refl
 
 pub size_check : (b : Bool) (u v w : Instruction) → length (if b then u ∷ v ∷ w ∷ [] else []) ≡ (if b then 3 else 0)
 size_check true u v w = refl
@@ -188,7 +176,7 @@ comes_on x l = record { to = l.to; goes = steps_on x l.goes; shows = l.shows; ta
 pub leads : {q : Program} {s : SystemView} {a : P} {g : State} → Comes q s a g → Leads q s (state a) (spent a) g
 leads l = record { steps = l.goes.steps; cost = l.goes.cost; to = state l.to; runs = l.goes.runs; tally = l.tally ∙ l.goes.tally; shows = l.shows }
 
-module _ {q : Program} {sizes : Words} {base p : ℕ} {fs : List Frame} {fr : List piton.Frame} (a : Live q sizes base p fs fr) where
+module _ {q : Program} {sizes : StackSizes} {base p : ℕ} {fs : List Frame} {fr : List piton.Frame} (a : Live q sizes base p fs fr) where
   -- here the next item stands
   pub lands : (x : List ValueOf) (s : List Word) (at : ℕ) (w : List Item) (u t : Tally) → s ≡ stack_of q p x fs → u ≡ t → Opened q p at w → Comes q (generated_view q sizes base) (Pt p at 2 s fr u) (At p x w fs t)
   lands x s at w u t es e o =
@@ -215,7 +203,7 @@ module _ {q : Program} {sizes : Words} {base p : ℕ} {fs : List Frame} {fr : Li
     pick_leads false j k cc u g h m n = n
 
     -- from where a condition goes
-    pub raise_leads : (c : Cond) (w : List Item) (env : List Scope) (at : ℕ) (u t : Tally) → u ≡ t → Stands q p env at w → Comes q (generated_view q sizes base) (Pt p (target q p (size q (body_of q p)) env c) (number_of c) s fr u) (raise c p x w fs t)
+    pub raise_leads : (c : ConditionOf) (w : List Item) (env : List Scope) (at : ℕ) (u t : Tally) → u ≡ t → Stands q p env at w → Comes q (generated_view q sizes base) (Pt p (target q p (size q (body_of q p)) env c) (number_of c) s fr u) (raise c p x w fs t)
     raise_leads c [] env at u t e st =
         let n = size q (body_of q p) in
         let f = ap (λ v. target q p n v c) st.0 in
@@ -252,7 +240,7 @@ module _ {q : Program} {sizes : Words} {base p : ℕ} {fs : List Frame} {fr : Li
     raise_leads c (Out d ∷ w) env at u t e st = absurd st
 
     -- the three instructions of a raise
-    pub raises_leads : (c : Cond) (w : List Item) (env : List Scope) (j at cc : ℕ) (is : List Instruction) (u t : Tally) → spend 4 3 u ≡ t → HasAt (code_of q p) j (raise_code q p (size q (body_of q p)) env c ++ is) → Stands q p env at w → Comes q (generated_view q sizes base) (Pt p j cc s fr u) (raise c p x w fs t)
+    pub raises_leads : (c : ConditionOf) (w : List Item) (env : List Scope) (j at cc : ℕ) (is : List Instruction) (u t : Tally) → spend 4 3 u ≡ t → HasAt (code_of q p) j (raise_code q p (size q (body_of q p)) env c ++ is) → Stands q p env at w → Comes q (generated_view q sizes base) (Pt p j cc s fr u) (raise c p x w fs t)
     raises_leads c w env j at cc is u t e h st =
         let n = size q (body_of q p) in
         comes_on (steps_on (sets_cc a j cc (number_of c) s u (i.Jump (target q p n env c) ∷ is) h (omega (arith, free))) (jumps a (j + 1 + 1) (number_of c) (target q p n env c) s (spend 3 2 u) h.1.1.0)) (raise_leads c w env at _ t (spend_two 1 1 3 2 u ∙ e) st)

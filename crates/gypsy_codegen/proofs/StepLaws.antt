@@ -4,6 +4,7 @@ use Rattle.std.specs.Prelude.{slice_get, reverse, if◌then◌else◌, ◌==◌}
 use Rattle.std.proofs.lemmas.List.{length-map, length-reverse, reverse-append, reverse-reverse}
 use Rattle.std.proofs.lemmas.Option.{get_or_from_slice_get}
 use Rattle.std.proofs.Math.Seq.{take-append_seam, drop-append_seam}
+use Rattle.stack_text.proofs.SharedLaws.{get_front, get_after, get_map}
 use Rattle.piton_words.specs.declared.word.Word.{Word}
 use Rattle.piton_words.specs.declared.word.Word.TheVariants.{Nat, Bool as Truth}
 use Rattle.piton_words.specs.declared.op.WordOp.TheVariants as op
@@ -13,9 +14,9 @@ use Rattle.piton_syntax.specs.declared.test_kind.TestKind.TheVariants as test
 use Rattle.piton_check.specs.Instruction as i
 use Rattle.piton_check.specs.Instruction.{Instruction, ProgramView, SystemView}
 use Rattle.piton_machine.specs.State as piton
-use Rattle.piton_machine.specs.State.{PitonState, program_of, instruction_at, variables_of, locals_of, element, ctrl_used}
+use Rattle.piton_machine.specs.State.{PitonState, program_of, instruction_at, locals_of, element, ctrl_used}
 use Rattle.piton_machine.specs.Views.{test_of, then_on, Operands}
-use Rattle.piton_machine.specs.Rows.{row_of, ret}
+use Rattle.piton_machine.specs.InstructionRows.{row_of, ret}
 use Rattle.piton_machine.specs.Step.{cost_of, cost_from, cost_at, step_cost}
 use Rattle.piton_machine.specs.Law.{Steps, none, more}
 use Rattle.piton_machine.proofs.RowLaws.{step_is, does_push, does_push_local, does_push_global, does_pop_global, does_push_temp_stk_index, does_fetch_temp_stk, does_pop_star, does_jump_case, does_test_and_jump, does_call, does_apply}
@@ -23,13 +24,12 @@ use Rattle.gypsy_syntax.specs.declared.predef.Predef.{Predef}
 use Rattle.gypsy_syntax.specs.declared.predef.Predef.TheVariants as row
 use Rattle.gypsy_syntax.specs.Programs.{Program}
 use Rattle.gypsy_space.specs.Costs.{Tally, spend}
-use Rattle.gypsy_space.specs.Needs.{Words}
+use Rattle.gypsy_space.specs.Needs.{StackSizes}
 use Rattle.gypsy_predef.specs.Runs.{push_all}
 use Rattle.gypsy_predef.specs.Bodies as predefined
-use Rattle.gypsy_predef.specs.Bodies.{bodies, predef_number}
+use Rattle.gypsy_syntax.specs.Predefined.{predef_number}
+use Rattle.gypsy_predef.specs.Bodies.{bodies}
 use Rattle.gypsy_codegen.specs.Generated.{generated_view, generated_program, count_from, code_of}
-use Rattle.gypsy_codegen.proofs.StackLaws.{get_front, get_after}
-use Rattle.gypsy_check.proofs.CleanLaws.{get_map}
 
 -- Tallies.
 
@@ -132,19 +132,7 @@ counted-length n (suc k) = ap suc (counted-length (suc n) k)
 
 predef_at : (r : Predef) → slice_get bodies (predef_number r) ≡ Some (predefined.body_of r)
 predef_at row.MgSimpleVariableAssignment = refl
-predef_at row.MgSimpleConstantAssignment = refl
-predef_at row.MgSimpleVariableEq = refl
-predef_at row.MgSimpleConstantEq = refl
-predef_at row.MgIntegerLe = refl
-predef_at row.MgIntegerUnaryMinus = refl
-predef_at row.MgIntegerAdd = refl
-predef_at row.MgIntegerSubtract = refl
-predef_at row.MgBooleanOr = refl
-predef_at row.MgBooleanAnd = refl
-predef_at row.MgBooleanNot = refl
-predef_at row.MgIndexArray = refl
-predef_at row.MgArrayElementAssignment = refl
-predef_at row.MgIntegerMultiply = refl
+predef_at r = refl
 
 test_false : (b : Bool) → test_of family.Bool test.F (Truth b) ≡ Ok (not b)
 unfolding then_on
@@ -154,7 +142,7 @@ test_zero : (n : ℕ) → test_of family.Nat test.Zero (Nat n) ≡ Ok (n == 0)
 unfolding then_on
 test_zero n = refl
 
-module _ (q : Program) (sizes : Words) (base : ℕ) where
+module _ (q : Program) (sizes : StackSizes) (base : ℕ) where
   abbrev pub System : SystemView
   System = generated_view q sizes base
 

@@ -28,7 +28,7 @@ use Rattle.gypsy_syntax.specs.Predefined.{predefs, predef_name}
 use Rattle.gypsy_syntax.specs.Programs.{Program, proc_at, shapes_of, words_of}
 use Rattle.gypsy_syntax.specs.Resolved.{procedure_of, program_of, procedure_names}
 use Rattle.gypsy_syntax.specs.ProgramFits.{Each, is_in_range, ValueFits, ProgramFits}
-use Rattle.gypsy_space.specs.Needs.{Words, vars_of, frame_of, temp_need, ctrl_need, main_used, main_need}
+use Rattle.gypsy_space.specs.Needs.{StackSizes, vars_of, frame_of, temp_need, ctrl_need, main_used, main_need}
 use Rattle.gypsy_check.specs.Rules.{procedure_breaches, violations as source_violations}
 use Rattle.gypsy_check.proofs.CleanLaws.{at_place}
 use Rattle.gypsy_check.proofs.NameLaws.{found_below, found_name}
@@ -44,7 +44,7 @@ use Rattle.gypsy_predef.specs.Resolving.{BodiesFit, BodiesKeepRules, BodiesResol
 use Rattle.gypsy_codegen.specs.Generated.{generated_program, count_from, opening_words, generated_view}
 use Rattle.gypsy_codegen.specs.Written.{Names, written_word}
 use Rattle.gypsy_codegen.specs.Text.{program_texts, area_texts, frame_texts, names_with, written_procedure, written_procedures, written_area, generated}
-use Rattle.piton_machine.specs.Seen.{started}
+use Rattle.piton_machine.specs.Seen.StateView.{started}
 use Rattle.gypsy_meaning.specs.Calls.{main_start}
 use Rattle.gypsy_codegen.specs.WordsOf.{words_of_values}
 use Rattle.gypsy_codegen.specs.Whole.{RunsTo}
@@ -54,11 +54,11 @@ use Rattle.gypsy_codegen.specs.Acceptable.{SourceRuns, code_words_of, LimitsFit,
 use Rattle.gypsy_codegen.proofs.SourceLaws.{ProcForm}
 use Rattle.gypsy_codegen.proofs.InstructionLaws.{InRange, natural_is, word_clean, word_fits, word_resolves}
 use Rattle.gypsy_codegen.proofs.DeclareLaws.{declarations, found_at, names_apart, no_repeats, Apart}
-use Rattle.gypsy_codegen.proofs.CopyLaws.{get_below}
 use Rattle.gypsy_codegen.proofs.FineLaws.{values_in_range, all_words}
-use Rattle.gypsy_codegen.proofs.ProgramLaws.{Clean, two_none}
+use Rattle.gypsy_codegen.proofs.ProgramLaws.{Clean}
 use Rattle.stack_text.specs.Trees.{node_count}
 use Rattle.stack_text.specs.Grammar.Printed.{unplaced}
+use Rattle.stack_text.proofs.SharedLaws.{both_none, get_below, get_some}
 use Rattle.piton_syntax.specs.Printed.{tree_of}
 use Rattle.piton_syntax.proofs.MadeLaws.{fits_keeps}
 use Rattle.piton_check.specs.Sound.{IsSound}
@@ -77,16 +77,11 @@ each_at P [] k x h e = absurd cc
 each_at P (y ∷ xs) zero x h e = let same : y ≡ x = cc in subst P same h.0
 each_at P (y ∷ xs) (suc k) x h e = each_at P xs k x h.1 e
 
-get_some : {X : Type 0} (xs : List X) (k : ℕ) → k < length xs → (x : X) × (slice_get xs k ≡ Some x)
-get_some [] k lt = absurd (omega (arith, lt))
-get_some (x ∷ xs) zero lt = (x, refl)
-get_some (x ∷ xs) (suc k) lt = get_some xs k (omega (arith, lt))
-
 -- ---- words
 
 words_clean : (s : SystemOf) (n : Names) (ws : List Word) → Each InRange ws → flat_map (word_breaches s) (map (written_word n) ws) ≡ []
 words_clean s n [] h = refl
-words_clean s n (w ∷ ws) h = two_none _ _ (word_clean s n w h.0) (words_clean s n ws h.1)
+words_clean s n (w ∷ ws) h = both_none _ _ (word_clean s n w h.0) (words_clean s n ws h.1)
 
 words_view : (s : SystemOf) (n : Names) (ws : List Word) → Each InRange ws → map (resolved_word s) (map (written_word n) ws) ≡ ws
 words_view s n [] h = refl
@@ -131,7 +126,7 @@ clean_both s (t ∷ ts) us (m ∷ ms) ns h k = (h.0, clean_both s ts us ms ns h.
 all_clean : (s : SystemOf) (ts : List ProgramOf) (ms : List i.ProgramView) → CleanAll s ts ms → flat_map (program_breaches s) ts ≡ []
 all_clean s [] ms h = refl
 all_clean s (t ∷ ts) [] h = absurd h
-all_clean s (t ∷ ts) (m ∷ ms) h = two_none _ _ h.0.clean (all_clean s ts ms h.1)
+all_clean s (t ∷ ts) (m ∷ ms) h = both_none _ _ h.0.clean (all_clean s ts ms h.1)
 
 all_fit : (s : SystemOf) (ts : List ProgramOf) (ms : List i.ProgramView) → CleanAll s ts ms → All FitsProgram ts
 all_fit s [] ms h = All-nil FitsProgram
@@ -212,7 +207,7 @@ need_temp : (q : Program) → (main_need q).temp ≡ words_of (shapes_of (proc_a
 unfolding main_need main_used
 need_temp q = refl
 
-module _ (texts : TextsResolve) (src : SourceOf) (sizes : Words) (base : ℕ) (accepted : IsAccepted src) (fit : LimitsFit (program_of src) sizes base) where
+module _ (texts : TextsResolve) (src : SourceOf) (sizes : StackSizes) (base : ℕ) (accepted : IsAccepted src) (fit : LimitsFit (program_of src) sizes base) where
   form : FitsForm src
   form = source_form src accepted.form
 
@@ -239,14 +234,14 @@ module _ (texts : TextsResolve) (src : SourceOf) (sizes : Words) (base : ℕ) (a
       procs_named src 0 src.procs body_texts ∙ ap (λ z. declarations (procedure_names src) ++ z) (predefs_named src predefs)
       ∙ sym (declared_both (procedure_names src) (map predef_name predefs))
 
-  texts_count : length (program_texts src) ≡ length q.procs + 14
+  texts_count : length (program_texts src) ≡ length q.procs + length predefs
   texts_count =
       omega (arith, length-append (procedure_names src) (map predef_name predefs), length-map src.procs (λ p. p.name.name), length-map src.procs (procedure_of src), length-map predefs predef_name)
 
   texts_right : Each (λ name. IsTrue (is_name name)) (program_texts src)
   texts_right = proc_names_right src src.procs (map predef_name predefs) procs_fit (predef_names_right src predefs)
 
-  base_of : (locals : List (List ℕ)) → Base g (names_with src locals) (length q.procs + 14)
+  base_of : (locals : List (List ℕ)) → Base g (names_with src locals) (length q.procs + length predefs)
   base_of locals = record {
     program = λ c lt. ap (λ ds. first_of ds (get_or (program_texts src) c [])) names_are ∙ found_at (program_texts src) c k.names (omega (arith, lt, texts_count));
     area = found_at area_texts 0 (tt, tt) (omega arith);
@@ -322,23 +317,23 @@ module _ (texts : TextsResolve) (src : SourceOf) (sizes : Words) (base : ℕ) (a
       let frame : first_frame (main_of g) ≡ 2 + vars_of (proc_at q q.main) = ap first_frame main_is ∙ ap (λ n. 2 + n) main_count in
       let ctrl_least : 2 + vars_of (proc_at q q.main) ≤ sizes.ctrl = let h = fit.sizes_fit.suffice.ctrl in let e = need_ctrl q in omega (arith, h, e) in
       let temp_least : max (length g.stack) 1 ≤ sizes.temp = let h = fit.sizes_fit.suffice.temp in let e = need_temp q in omega (arith, h, e, opening_count) in
-      two_none _ _ (two_none _ _
+      both_none _ _ (both_none _ _
       (no_breach (is_within (first_frame (main_of g)) 65536 (pos sizes.ctrl)) 0 14 (is_within_true (first_frame (main_of g)) 65536 sizes.ctrl (omega (arith, frame, ctrl_least)) fit.few_ctrl))
       (no_breach (is_within (max (length g.stack) 1) 65536 (pos sizes.temp)) 0 14 (is_within_true (max (length g.stack) 1) 65536 sizes.temp temp_least fit.sizes_fit.small)))
       (no_breach (is_within 0 (2 ^ 31) (pos base)) 0 14 (is_within_true 0 (2 ^ 31) base (omega arith) fit.low_base))
 
   areas_keep : flat_map (area_breaches g) g.areas ≡ []
-  areas_keep = two_none _ _ (words_clean g (names_with src []) (Nat 2 ∷ []) (two_right, tt)) refl
+  areas_keep = both_none _ _ (words_clean g (names_with src []) (Nat 2 ∷ []) (two_right, tt)) refl
 
   names_keep : name_breaches g ≡ []
-  names_keep = two_none _ _ (no_repeats 2 (area_names g) (tt, tt)) (no_repeats 1 (program_names g) (subst Apart (sym names_are) (names_apart (program_texts src) k.names)))
+  names_keep = both_none _ _ (no_repeats 2 (area_names g) (tt, tt)) (no_repeats 1 (program_names g) (subst Apart (sym names_are) (names_apart (program_texts src) k.names)))
 
   is_clean : violations g ≡ []
   is_clean =
-      two_none _ _ names_keep
-      (two_none _ _ (two_none _ _ (two_none _ _ (two_none _ _ main_keeps sizes_keep) areas_keep) (words_clean g (names_with src []) (opening_words q) opening_right)) (all_clean g _ _ programs_all))
+      both_none _ _ names_keep
+      (both_none _ _ (both_none _ _ (both_none _ _ (both_none _ _ main_keeps sizes_keep) areas_keep) (words_clean g (names_with src []) (opening_words q) opening_right)) (all_clean g _ _ programs_all))
 
-  programs_count : length g.programs ≡ length src.procs + 14
+  programs_count : length g.programs ≡ length src.procs + length predefs
   programs_count =
       omega (arith, length-append (written_procedures src 0 src.procs) body_texts, procs_count src 0 src.procs, length-map predefs body_text)
 

@@ -16,26 +16,26 @@ use Rattle.gypsy_syntax.specs.declared.slot.Slot.{Slot}
 use Rattle.gypsy_syntax.specs.Predefined.{predefs, predef_name, slots_of}
 use Rattle.gypsy_syntax.specs.Programs.{Proc as Main}
 use Rattle.gypsy_syntax.specs.declared.proc.Proc.{Proc}
-use Rattle.gypsy_syntax.specs.SourceView.{proc_of}
+use Rattle.gypsy_syntax.specs.Seen.SourceView.{proc_of}
 use Rattle.stack_text.proofs.Loops.{drop-item}
 use Rattle.stack_text.specs.Grammar.Printed.{unplaced}
+use Rattle.stack_text.proofs.SharedLaws.{get_below}
 use Rattle.gypsy_syntax.specs.Programs.{Arg, Var, Lit, Program, no_proc, simple, proc_at, body_of, shapes_of, conds_of}
 use Rattle.gypsy_syntax.specs.Programs.{Stmt, Skip, NoOp, Signal, Seq, Loop, If, Begin, Call, Apply}
 use Rattle.gypsy_syntax.specs.ProgramFits.{Each, ActualsFit, ArgFits, ArgsFit, slot_kind, StmtFits, ProgramFits}
 use Rattle.gypsy_syntax.specs.Resolved.{shape_of, local_value, procedure_of, procedure_names, program_of}
 use Rattle.gypsy_syntax.specs.Sources.{ProcOf, SourceOf}
-use Rattle.gypsy_space.specs.Needs.{Words, vars_of}
+use Rattle.gypsy_space.specs.Needs.{StackSizes, vars_of}
 use Rattle.gypsy_check.proofs.CleanLaws.{get_or_map}
 use Rattle.gypsy_predef.specs.Texts.{body_texts, number}
 use Rattle.gypsy_codegen.specs.Acceptable.{total_words}
 use Rattle.gypsy_codegen.specs.Generated.{opening_words}
 use Rattle.gypsy_codegen.specs.Text.{procedure_with, procedures_with, program_texts, names_with, written_procedures, generated}
-use Rattle.gypsy_codegen.specs.Views.{HasWord, ArgHasWord, NamesAreThere, IsWritable, AreWritable, nameless, opening_text, area_text}
+use Rattle.gypsy_codegen.specs.Scaffold.Views.{HasWord, ArgHasWord, NamesAreThere, IsWritable, AreWritable, nameless, opening_text, area_text}
 use Rattle.gypsy_codegen.specs.WordsOf.{words_of_values, zero_value}
 use Rattle.gypsy_codegen.specs.Written.{written_word}
 use Rattle.gypsy_codegen.proofs.CallLaws.{values-split}
 use Rattle.gypsy_codegen.proofs.CodeLaws.{words_nameless}
-use Rattle.gypsy_codegen.proofs.CopyLaws.{get_below}
 use Rattle.gypsy_codegen.proofs.CountLaws.{labels_least, code_few}
 use Rattle.gypsy_codegen.proofs.FineLaws.{offset_below}
 use Rattle.gypsy_codegen.proofs.SourceLaws.{frame_count}
@@ -83,7 +83,7 @@ module _ (s : SourceOf) (fits : ProgramFits (program_of s)) (few : total_words (
   procs_count : length q.procs ≡ length s.procs
   procs_count = length-map s.procs (procedure_of s)
 
-  texts_count : length (program_texts s) ≡ length q.procs + 14
+  texts_count : length (program_texts s) ≡ length q.procs + length predefs
   texts_count =
       omega (arith, length-append (procedure_names s) (map predef_name predefs), length-map s.procs (λ p. p.name.name), procs_count, length-map predefs predef_name)
 
@@ -148,7 +148,7 @@ opening_is f x old a b empty e g =
     ∙ sym (map-append (written_word nameless) (words_of_values f) (words_of_values x)) ∙ ap (map (written_word nameless)) (sym (values-split f x))
 
 -- a system of its parts
-pub system_is : (s : SourceOf) (sizes : Words) (base : ℕ) (q : Program) (main : Named) (m : Main) (ctrl temp first : Number) (areas : List AreaOf)
+pub system_is : (s : SourceOf) (sizes : StackSizes) (base : ℕ) (q : Program) (main : Named) (m : Main) (ctrl temp first : Number) (areas : List AreaOf)
     (stack : List WordText) (programs : List ProgramOf) → q ≡ program_of s → m ≡ proc_at q q.main →
     main ≡ unplaced s.main.name → ctrl ≡ number (pos sizes.ctrl) → temp ≡ number (pos sizes.temp) → first ≡ number (pos base) →
     areas ≡ area_text ∷ [] → stack ≡ opening_text m → programs ≡ procedures_with q (program_texts s) 0 s.procs ++ body_texts →

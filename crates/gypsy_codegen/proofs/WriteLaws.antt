@@ -1,6 +1,7 @@
 -- Lines that are written one behind the other.
-use Rattle.std.proofs.Common.{◌≡◌, ℕ, zero, suc, ◌+◌, ◌-◌, ◌<◌, List, [], ◌∷◌, ◌++◌, length, drop, get_or, replicate, sym, refl, ap, ◌∙◌, append_assoc, arith}
+use Rattle.std.proofs.Common.{◌≡◌, ℕ, suc, ◌+◌, ◌-◌, ◌<◌, List, ◌∷◌, ◌++◌, length, drop, get_or, replicate, sym, ap, ◌∙◌, append_assoc, arith}
 use Rattle.stack_text.proofs.Loops.{drop-item}
+use Rattle.stack_text.proofs.SharedLaws.{same_item}
 
 -- the lines of an item are written: they, and those of what is left, behind what is there
 pub more_next : {X Y : Type 0} (f : List X → List Y) (xs : List X) (n : ℕ) (x : X) (piece old new all : List Y) →
@@ -11,12 +12,6 @@ more_next {X} {Y} f xs n x piece old new all lt is split now so_far =
     ∙ ap (λ (ys : List Y). old ++ ys) (sym split)
     ∙ ap (λ (rest : List X). old ++ f rest) (sym (drop-item xs n x lt is))
     ∙ so_far
-
--- an item that is there is there whatever stands past the end
-pub item_is : {X : Type 0} (xs : List X) (n : ℕ) (d e : X) → n < length xs → get_or xs n d ≡ get_or xs n e
-item_is [] n d e lt = absurd (omega (arith, lt))
-item_is (x ∷ xs) zero d e lt = refl
-item_is (x ∷ xs) (suc n) d e lt = item_is xs n d e (omega (arith, lt))
 
 -- one of several equal items is written, and one fewer is left
 pub copy_next : {X Y : Type 0} (f : List X → List Y) (x : X) (n k : ℕ) (piece old new all : List Y) → k < n →
@@ -39,5 +34,5 @@ numbered_next {X} {Y} f xs n d piece old new all lt split now so_far =
     let left = drop (n + 1) xs in
     ap (λ (ys : List Y). ys ++ f (n + 1) left) now ∙ append_assoc old piece (f (n + 1) left)
     ∙ ap (λ (ys : List Y). old ++ ys) (sym (split x left))
-    ∙ ap (λ (rest : List X). old ++ f n rest) (sym (drop-item xs n x lt (item_is xs n d x lt)))
+    ∙ ap (λ (rest : List X). old ++ f n rest) (sym (drop-item xs n x lt (same_item xs n d x lt)))
     ∙ so_far

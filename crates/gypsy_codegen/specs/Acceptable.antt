@@ -1,8 +1,10 @@
 -- What is known of the generated system as a text.
 use Rattle.std.specs.Prelude.{◌≡◌, ◌<◌, get_or, ℕ, ◌+◌, ◌≤◌, ◌^◌, List, [], ◌∷◌, length}
+use Rattle.fm_words.specs.WindowLimit.{most_window}
+use Rattle.stack_text.specs.SharedLimits.{most_stack}
 use Rattle.stack_text.specs.Values.{ValueOf}
-use Rattle.piton_machine.specs.Seen.{started}
-use Rattle.piton_syntax.specs.Answers.{KeepsForm}
+use Rattle.piton_machine.specs.Seen.StateView.{started}
+use Rattle.piton_syntax.specs.PitonReading.{KeepsForm}
 use Rattle.piton_check.specs.Violations.{violations}
 use Rattle.piton_check.specs.Resolved.{resolved}
 use Rattle.piton_check.specs.Instruction.{system_view}
@@ -12,8 +14,8 @@ use Rattle.gypsy_syntax.specs.Programs.{Program, proc_at}
 use Rattle.gypsy_syntax.specs.Resolved.{variable_names, procedure_of, program_of}
 use Rattle.gypsy_check.specs.Accepted.{IsAccepted}
 use Rattle.gypsy_space.specs.Costs.{Tally}
-use Rattle.gypsy_space.specs.Needs.{Words, code_words}
-use Rattle.gypsy_meaning.specs.Calls.{Way, main_start}
+use Rattle.gypsy_space.specs.Needs.{StackSizes, code_words}
+use Rattle.gypsy_meaning.specs.Calls.{CurrentCondition, main_start}
 use Rattle.gypsy_meaning.specs.Meaning.{Done, meaning}
 use Rattle.gypsy_meaning.specs.Counted.{CountedDone, counted_meaning}
 use Rattle.gypsy_meaning.specs.Kept.{VarsFit}
@@ -31,14 +33,14 @@ abbrev pub total_words : Program → ℕ
 total_words q = code_words_of q (count_from 0 (length q.procs))
 
 -- the sizes cover main's own need, and sizes, base and code are within their limits
-pub record LimitsFit (q : Program) (sizes : Words) (base : ℕ) : Type 0 where
+pub record LimitsFit (q : Program) (sizes : StackSizes) (base : ℕ) : Type 0 where
   pub sizes_fit : SizesFit q sizes
-  pub few_ctrl : sizes.ctrl ≤ 2 ^ 16
+  pub few_ctrl : sizes.ctrl ≤ most_stack
   pub low_base : base ≤ 2 ^ 31
-  pub few_words : total_words q ≤ 2 ^ 20
+  pub few_words : total_words q ≤ most_window
 
 -- it keeps the form, breaks no rule, and is seen as the system by places, which is sound
-pub record IsAcceptable (s : SourceOf) (sizes : Words) (base : ℕ) : Type 0 where
+pub record IsAcceptable (s : SourceOf) (sizes : StackSizes) (base : ℕ) : Type 0 where
   pub form : KeepsForm (generated s sizes base)
   pub rules : violations (generated s sizes base) ≡ []
   pub view : system_view (resolved (generated s sizes base)) ≡ generated_view (program_of s) sizes base
@@ -46,7 +48,7 @@ pub record IsAcceptable (s : SourceOf) (sizes : Words) (base : ℕ) : Type 0 whe
 
 -- the system of an accepted source is acceptable
 abbrev pub GeneratedIsAcceptable : Type 0
-GeneratedIsAcceptable = (s : SourceOf) (sizes : Words) (base : ℕ) → IsAccepted s → LimitsFit (program_of s) sizes base →
+GeneratedIsAcceptable = (s : SourceOf) (sizes : StackSizes) (base : ℕ) → IsAccepted s → LimitsFit (program_of s) sizes base →
     IsAcceptable s sizes base
 
 -- the name that is written for a variable is the variable's
@@ -57,7 +59,7 @@ VariablesKeepNames = (s : SourceOf) (q : Program) (p : ℕ) (proc : ProcOf) (v :
 -- Micro-Gypsy runs on Piton: where the meaning of an accepted source is done, the system that its text resolves to, with the
 -- values' words at the bottom of its first stack, first halts with the same, in the counted steps and at the counted cost.
 abbrev pub SourceRuns : Type 0
-SourceRuns = (s : SourceOf) (sizes : Words) (base : ℕ) (v : List ValueOf) (n : ℕ) (x : List ValueOf) (c : Way) →
+SourceRuns = (s : SourceOf) (sizes : StackSizes) (base : ℕ) (v : List ValueOf) (n : ℕ) (x : List ValueOf) (c : CurrentCondition) →
     IsAccepted s → LimitsFit (program_of s) sizes base →
     let q = program_of s in
     let system = system_view (resolved (generated s sizes base)) in

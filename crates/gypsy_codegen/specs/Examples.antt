@@ -7,17 +7,17 @@ use Rattle.piton_words.specs.declared.word.Word.{Word}
 use Rattle.piton_words.specs.declared.word.Word.TheVariants.{Int, Nat, Bool as Truth}
 use Rattle.piton_machine.specs.State as piton
 use Rattle.piton_machine.specs.State.{PitonState}
-use Rattle.piton_machine.specs.Rows.{Row}
+use Rattle.piton_machine.specs.InstructionRows.{Row}
 use Rattle.piton_machine.specs.Step.{piton_run, run_cost}
 use Rattle.gypsy_syntax.specs.declared.predef.Predef.TheVariants as row
 use Rattle.gypsy_syntax.specs.Programs.{Leave, Routine, Declared, Var, Lit, Proc, Program, simple}
 use Rattle.gypsy_syntax.specs.Programs.{Stmt, NoOp, Signal, Seq, Loop, If, Begin, Call, Apply}
 use Rattle.gypsy_syntax.specs.Effects.{integer_value, truth_value}
-use Rattle.gypsy_space.specs.Needs.{Words}
+use Rattle.gypsy_space.specs.Needs.{StackSizes}
 use Rattle.gypsy_codegen.specs.Generated.{generated_view}
 use Rattle.gypsy_codegen.specs.Whole.{opened}
 
-abbrev pub ample : Words
+abbrev pub ample : StackSizes
 ample = record { temp = 100; ctrl = 100 }
 
 abbrev pub halted_words : List piton.Frame → PitonState → Option (List (List Word) × List Word)
@@ -31,7 +31,7 @@ halted_with (Err e) = None
 
 -- with stacks of these sizes, from these values of main's formals the system halts after so many steps at this cost, with this
 -- number in `c-c` and this stack, its top first
-abbrev pub EndsIn : Words → Program → List ValueOf → ℕ → ℕ → ℕ → List Word → Type 0
+abbrev pub EndsIn : StackSizes → Program → List ValueOf → ℕ → ℕ → ℕ → List Word → Type 0
 EndsIn sizes q v steps cost c stack =
     (halted_with (piton_run (generated_view q sizes 0) steps (opened q sizes 0 v)) ≡ Some ((Nat c ∷ []) ∷ [], stack)) ×
     (run_cost (generated_view q sizes 0) steps (opened q sizes 0 v) ≡ cost)
@@ -92,13 +92,13 @@ countdown =
     (If 0 1 (NoOp 0) (Seq (Apply 0 row.MgIntegerSubtract (Var 0 ∷ Var 0 ∷ Var 2 ∷ [])) (Call 0 1 (0 ∷ []) [])))))
 
 -- stacks in which it comes to 0, and with a word less of one of them not
-abbrev pub enough : Words
+abbrev pub enough : StackSizes
 enough = record { temp = 10; ctrl = 24 }
 
-abbrev pub less_ctrl : Words
+abbrev pub less_ctrl : StackSizes
 less_ctrl = record { temp = 10; ctrl = 23 }
 
-abbrev pub less_temp : Words
+abbrev pub less_temp : StackSizes
 less_temp = record { temp = 9; ctrl = 24 }
 
 -- a condition that the callee signals is handled under the caller's own

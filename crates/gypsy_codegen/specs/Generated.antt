@@ -11,13 +11,14 @@ use Rattle.piton_check.specs.Instruction as i
 use Rattle.piton_check.specs.Instruction.{Instruction, ProgramView, SystemView}
 use Rattle.gypsy_syntax.specs.declared.predef.Predef.{Predef}
 use Rattle.gypsy_syntax.specs.declared.predef.Predef.TheVariants as row
-use Rattle.gypsy_syntax.specs.Programs.{Cond, Routine, Space, Arg, Var, Lit, Program, simple, proc_at, body_of, shapes_of}
+use Rattle.gypsy_syntax.specs.Programs.{ConditionOf, Routine, Space, Arg, Var, Lit, Program, simple, proc_at, body_of, shapes_of}
 use Rattle.gypsy_syntax.specs.Programs.{Stmt, Skip, NoOp, Signal, Seq, Loop, If, Begin, Call, Apply}
 use Rattle.gypsy_syntax.specs.Effects.{item_of_value}
-use Rattle.gypsy_space.specs.Needs.{Words, local_words, vars_of, call_need}
+use Rattle.gypsy_space.specs.Needs.{StackSizes, local_words, vars_of, call_need}
 use Rattle.gypsy_meaning.specs.Calls.{has_cond, is_leave, is_passed_on}
-use Rattle.gypsy_predef.specs.Bodies.{bodies, predef_number, lengths_of}
-use Rattle.gypsy_predef.specs.Runs.{word_of_item, can_fail}
+use Rattle.gypsy_syntax.specs.Predefined.{predef_number, can_fail}
+use Rattle.gypsy_predef.specs.Bodies.{bodies, lengths_of}
+use Rattle.gypsy_predef.specs.Runs.{word_of_item}
 use Rattle.gypsy_predef.specs.Calls.{test_code}
 use Rattle.gypsy_codegen.specs.WordsOf.{words_of_values, zero_value, starts, local_shapes, number_of, number_of_way}
 use Rattle.gypsy_codegen.specs.Guard.{guard_code, guard_size}
@@ -25,19 +26,19 @@ use Rattle.gypsy_codegen.specs.Guard.{guard_code, guard_size}
 -- what stands round a statement, the nearest first: a loop by the place of its b, a begin by its list and the place of its a
 pub data Scope : Type 0 where
   InLoop : (b : ℕ) → Scope
-  InBegin : (cs : List Cond) (a : ℕ) → Scope
+  InBegin : (cs : List ConditionOf) (a : ℕ) → Scope
 
 -- where a condition leaves procedure p, whose body has n instructions: L1 where it keeps its number, and else L0
-abbrev pub out_place : Program → ℕ → ℕ → Cond → ℕ
+abbrev pub out_place : Program → ℕ → ℕ → ConditionOf → ℕ
 out_place q p n c = if is_passed_on q p c then n + 3 else n + 1
 
 -- where a condition goes
-abbrev pub target : Program → ℕ → ℕ → List Scope → Cond → ℕ
+abbrev pub target : Program → ℕ → ℕ → List Scope → ConditionOf → ℕ
 target q p n [] c = out_place q p n c
 target q p n (InLoop b ∷ env) c = if is_leave c then b else target q p n env c
 target q p n (InBegin cs a ∷ env) c = if has_cond c cs then a else target q p n env c
 
-abbrev pub raise_code : Program → ℕ → ℕ → List Scope → Cond → List Instruction
+abbrev pub raise_code : Program → ℕ → ℕ → List Scope → ConditionOf → List Instruction
 raise_code q p n env c = i.PushConstant (Nat (number_of c)) ∷ i.PopGlobal 0 ∷ i.Jump (target q p n env c) ∷ []
 
 -- the condition is normal again
@@ -48,19 +49,19 @@ abbrev pub back_code : ℕ → List Instruction
 back_code a = i.Jump a ∷ normal_code
 
 -- the raises of the condition actuals, and their places
-abbrev pub raises : Program → ℕ → ℕ → List Scope → List Cond → List Instruction
+abbrev pub raises : Program → ℕ → ℕ → List Scope → List ConditionOf → List Instruction
 raises q p n env [] = []
 raises q p n env (c ∷ cs) = raise_code q p n env c ++ raises q p n env cs
 
-abbrev pub raise_places : ℕ → List Cond → List ℕ
+abbrev pub raise_places : ℕ → List ConditionOf → List ℕ
 raise_places at [] = []
 raise_places at (c ∷ cs) = at ∷ raise_places (at + 3) cs
 
 -- what follows a call whose callee has l words of locals; the raise of spaceerror is for the guard too
-abbrev pub after_size : List Cond → ℕ
+abbrev pub after_size : List ConditionOf → ℕ
 after_size cs = 3 * length cs + 10
 
-abbrev pub after_code : Program → ℕ → ℕ → List Scope → ℕ → ℕ → List Cond → List Instruction
+abbrev pub after_code : Program → ℕ → ℕ → List Scope → ℕ → ℕ → List ConditionOf → List Instruction
 after_code q p n env at l cs =
     i.PopStar l ∷ i.PushGlobal 0 ∷
     i.JumpCase ((at + 3) ∷ (at + 3) ∷ (at + 9 + 3 * length cs) ∷ (at + 6) ∷ raise_places (at + 9) cs) ∷
@@ -177,7 +178,7 @@ opening_words q =
     let p = proc_at q q.main in words_of_values (map zero_value p.formals ++ p.locals)
 
 -- the generated system
-abbrev pub generated_view : Program → Words → ℕ → SystemView
+abbrev pub generated_view : Program → StackSizes → ℕ → SystemView
 generated_view q sizes base = record {
   main = q.main;
   ctrl = sizes.ctrl;

@@ -6,7 +6,7 @@ use Rattle.piton_syntax.specs.declared.test_kind.TestFamily.TheVariants as famil
 use Rattle.piton_syntax.specs.declared.test_kind.TestKind.TheVariants as test
 use Rattle.piton_check.specs.Instruction as i
 use Rattle.piton_check.specs.Instruction.{Instruction}
-use Rattle.gypsy_space.specs.Needs.{Words}
+use Rattle.gypsy_space.specs.Needs.{StackSizes}
 
 -- where fewer words than this were pushed as the free ones, to this place
 abbrev pub below_code : ℕ → ℕ → List Instruction
@@ -21,7 +21,7 @@ abbrev pub ctrl_guard : ℕ → ℕ → List Instruction
 ctrl_guard need to = i.PushCtrlStkFreeSize ∷ below_code need to
 
 -- the temporary stack is looked at first
-abbrev pub guard_code : Words → ℕ → List Instruction
+abbrev pub guard_code : StackSizes → ℕ → List Instruction
 guard_code need to = temp_guard need.temp to ++ ctrl_guard need.ctrl to
 
 abbrev pub guard_size : ℕ

@@ -1,5 +1,6 @@
 -- One step of the step machine is so many steps of the generated system.
-use Rattle.std.specs.Prelude.{◌≡◌, ℕ, ◌≤◌, ◌^◌, List, [], ◌∷◌, ◌++◌, reverse}
+use Rattle.std.specs.Prelude.{◌≡◌, ℕ, ◌≤◌, List, [], ◌∷◌, ◌++◌, reverse}
+use Rattle.stack_text.specs.SharedLimits.{most_stack}
 use Rattle.stack_text.specs.Values.{ValueOf}
 use Rattle.piton_words.specs.declared.word.Word.{Word}
 use Rattle.piton_words.specs.declared.word.Word.TheVariants.{Nat}
@@ -9,8 +10,8 @@ use Rattle.piton_machine.specs.Law.{Steps}
 use Rattle.gypsy_syntax.specs.Programs.{Program}
 use Rattle.gypsy_syntax.specs.ProgramFits.{ProgramFits}
 use Rattle.gypsy_space.specs.Costs.{Tally, spend}
-use Rattle.gypsy_space.specs.Needs.{Words}
-use Rattle.gypsy_meaning.specs.Calls.{Way}
+use Rattle.gypsy_space.specs.Needs.{StackSizes}
+use Rattle.gypsy_meaning.specs.Calls.{CurrentCondition}
 use Rattle.gypsy_meaning.specs.Machine.{State, At, Move, Next, Ended, gypsy_step}
 use Rattle.gypsy_meaning.specs.Kept.{StateFits}
 use Rattle.gypsy_meaning.specs.Room.{StateRoom}
@@ -31,7 +32,7 @@ pub record Leads (q : Program) (s : SystemView) (a : PitonState) (t : Tally) (g 
   pub shows : Shows q to g
 
 -- so many steps lead to a state that has halted, with the condition in c-c and the words of main's formals on the stack's bottom
-pub record Halts (s : SystemView) (a : PitonState) (t : Tally) (x : List ValueOf) (c : Way) (u : Tally) : Type 0 where
+pub record Halts (s : SystemView) (a : PitonState) (t : Tally) (x : List ValueOf) (c : CurrentCondition) (u : Tally) : Type 0 where
   pub steps : ℕ
   pub cost : ℕ
   pub to : PitonState
@@ -48,5 +49,5 @@ Follows q s a t (Ended x c u) = Halts s a t x c u
 
 -- each step of a program that fits
 abbrev pub StepsFollow : Type 0
-StepsFollow = (q : Program) (sizes : Words) (base : ℕ) (a : PitonState) (g : State) → ProgramFits q → sizes.temp ≤ 2 ^ 16 →
+StepsFollow = (q : Program) (sizes : StackSizes) (base : ℕ) (a : PitonState) (g : State) → ProgramFits q → sizes.temp ≤ most_stack →
     StateFits q g → StateRoom q sizes g → Shows q a g → Follows q (generated_view q sizes base) a (tally_of g) (gypsy_step q sizes g)

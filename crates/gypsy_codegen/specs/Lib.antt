@@ -11,7 +11,7 @@ pub mod Text
 pub mod Showing
 pub mod GuardLaw
 pub mod Law
-pub mod Rows
+pub mod StepRows
 pub mod Whole
 pub mod Moments
 pub mod Marks
@@ -21,8 +21,7 @@ pub mod Acceptable
 pub mod Examples
 pub mod TextExamples
 pub mod MarkExamples
--- What clauses see of the code, and what it returns.
-pub mod Views
-pub mod Answers
--- Scaffold: what only private functions say.
-pub mod Marking
+-- What it returns.
+pub mod Generation
+-- In folders: scaffold.
+pub mod Scaffold

@@ -5,7 +5,7 @@ use Rattle.piton_syntax.specs.declared.test_kind.TestFamily.TheVariants as famil
 use Rattle.piton_syntax.specs.declared.test_kind.TestKind.TheVariants as test
 use Rattle.piton_check.specs.Instruction as i
 use Rattle.piton_check.specs.Instruction.{Instruction}
-use Rattle.gypsy_syntax.specs.Programs.{Cond, Routine, Space, Program, proc_at, body_of, shapes_of}
+use Rattle.gypsy_syntax.specs.Programs.{ConditionOf, Routine, Space, Program, proc_at, body_of, shapes_of}
 use Rattle.gypsy_syntax.specs.Programs.{Stmt, Skip, NoOp, Signal, Seq, Loop, If, Begin, Call, Apply}
 use Rattle.gypsy_space.specs.Needs.{local_words, call_need}
 use Rattle.gypsy_meaning.specs.Calls.{has_cond, is_leave, is_passed_on}
@@ -29,7 +29,7 @@ labels (Call place c xs cs) = length cs + 3
 labels (Apply place r args) = 0
 
 -- the label to which a condition goes, where the scopes hold labels: L1 or L0 out of the procedure
-abbrev pub label_to : Program → ℕ → List Scope → Cond → ℕ
+abbrev pub label_to : Program → ℕ → List Scope → ConditionOf → ℕ
 label_to q p [] c = if is_passed_on q p c then 1 else 0
 label_to q p (InLoop b ∷ env) c = if is_leave c then b else label_to q p env c
 label_to q p (InBegin cs a ∷ env) c = if has_cond c cs then a else label_to q p env c
@@ -37,20 +37,20 @@ label_to q p (InBegin cs a ∷ env) c = if has_cond c cs then a else label_to q 
 abbrev pub unmarked : List Instruction → List Line
 unmarked is = map (λ ins. Plain ins) is
 
-abbrev pub raise_lines : Program → ℕ → List Scope → Cond → List Line
+abbrev pub raise_lines : Program → ℕ → List Scope → ConditionOf → List Line
 raise_lines q p env c = unmarked (i.PushConstant (Nat (number_of c)) ∷ i.PopGlobal 0 ∷ i.Jump (label_to q p env c) ∷ [])
 
 -- the same, where its first instruction has a label
-abbrev pub marked_raise : Program → ℕ → List Scope → ℕ → Cond → List Line
+abbrev pub marked_raise : Program → ℕ → List Scope → ℕ → ConditionOf → List Line
 marked_raise q p env l c =
     Marked l (i.PushConstant (Nat (number_of c))) ∷ unmarked (i.PopGlobal 0 ∷ i.Jump (label_to q p env c) ∷ [])
 
 -- the raises of the condition actuals, with labels from this one on
-abbrev pub marked_raises : Program → ℕ → List Scope → ℕ → List Cond → List Line
+abbrev pub marked_raises : Program → ℕ → List Scope → ℕ → List ConditionOf → List Line
 marked_raises q p env l [] = []
 marked_raises q p env l (c ∷ cs) = marked_raise q p env l c ++ marked_raises q p env (l + 1) cs
 
-abbrev pub raise_labels : ℕ → List Cond → List ℕ
+abbrev pub raise_labels : ℕ → List ConditionOf → List ℕ
 raise_labels l [] = []
 raise_labels l (c ∷ cs) = l ∷ raise_labels (l + 1) cs
 
@@ -61,7 +61,7 @@ before_code q p c xs =
     (push_indices (local_words (proc_at q c)) 0 0 (local_shapes (proc_at q c)) ++ (push_actuals q p xs ++ i.Call c ∷ []))
 
 -- what follows a call whose callee has n words of locals
-abbrev pub after_lines : Program → ℕ → List Scope → ℕ → ℕ → List Cond → List Line
+abbrev pub after_lines : Program → ℕ → List Scope → ℕ → ℕ → List ConditionOf → List Line
 after_lines q p env l n cs =
     Plain (i.PopStar n) ∷ Plain (i.PushGlobal 0) ∷ Plain (i.JumpCase (l ∷ l ∷ (l + 1) ∷ (l + 2) ∷ raise_labels (l + 3) cs)) ∷
     (marked_raise q p env l Routine ++

@@ -3,7 +3,7 @@ use Rattle.std.specs.Prelude.{◌≡◌, ℕ, pos, List, [], ◌∷◌, map, Non
 use Rattle.stack_text.specs.declared.shape.Kind.TheVariants.{Integer, Boolean}
 use Rattle.piton_machine.specs.Placed.{address_of_place}
 use Rattle.gypsy_syntax.specs.declared.predef.Predef.TheVariants as row
-use Rattle.gypsy_syntax.specs.Programs.{Leave, Routine, Var, Lit, Proc, Program, Stmt, simple}
+use Rattle.gypsy_syntax.specs.Programs.{Leave, Routine, Var, Lit, Program, simple}
 use Rattle.gypsy_syntax.specs.Programs.{NoOp, Signal, Seq, Loop, If, Begin, Call, Apply}
 use Rattle.gypsy_syntax.specs.Effects.{integer_value}
 use Rattle.gypsy_meaning.specs.Machine.{At, Next, Ended}

@@ -7,7 +7,7 @@ use Rattle.piton_machine.specs.Fits.{IsPlace}
 use Rattle.gypsy_syntax.specs.Programs.{Program, proc_at, body_of}
 use Rattle.gypsy_syntax.specs.Programs.{Stmt, Skip, NoOp, Signal, Seq, Loop, If, Begin, Call, Apply}
 use Rattle.gypsy_syntax.specs.ProgramFits.{Each, ProgramFits}
-use Rattle.gypsy_space.specs.Needs.{Words}
+use Rattle.gypsy_space.specs.Needs.{StackSizes}
 use Rattle.gypsy_meaning.specs.Kept.{VarsFit}
 use Rattle.gypsy_meaning.specs.Machine.{State, At, Next, place_of}
 use Rattle.gypsy_codegen.specs.declared.marking.MarkAt.{MarkAt}
@@ -58,7 +58,7 @@ top_mark q (At p x w fs t) = mark_at p (mark_of q p w) (place_of q (At p x w fs 
 
 -- each mark of the step machine is among them
 abbrev pub EachMomentIsMarked : Type 0
-EachMomentIsMarked = (q : Program) (sizes : Words) (v : List ValueOf) (j : ℕ) (g : State) → ProgramFits q →
+EachMomentIsMarked = (q : Program) (sizes : StackSizes) (v : List ValueOf) (j : ℕ) (g : State) → ProgramFits q →
     VarsFit (proc_at q q.main).formals v → moment_from q sizes v j ≡ Next g → Contains (marks_of q) (top_mark q g)
 
 -- one mark stands before another: in an earlier program, or earlier in the same one
@@ -76,8 +76,8 @@ abbrev pub MarksAscend : Type 0
 MarksAscend = (q : Program) → Ascend (marks_of q)
 
 -- each stands at an instruction of a procedure's program
-abbrev pub IsMarkPlace : Program → Words → ℕ → MarkAt → Type 0
+abbrev pub IsMarkPlace : Program → StackSizes → ℕ → MarkAt → Type 0
 IsMarkPlace q sizes base m = (m.program < length q.procs) × IsPlace (generated_view q sizes base) m.program m.at
 
 abbrev pub MarksArePlaces : Type 0
-MarksArePlaces = (q : Program) (sizes : Words) (base : ℕ) → Each (IsMarkPlace q sizes base) (marks_of q)
+MarksArePlaces = (q : Program) (sizes : StackSizes) (base : ℕ) → Each (IsMarkPlace q sizes base) (marks_of q)

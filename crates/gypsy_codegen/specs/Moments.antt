@@ -1,5 +1,5 @@
 -- Every moment of a run: where the step machine stands after so many steps, and what the generated system has there.
-use Rattle.std.specs.Prelude.{◌≡◌, ℕ, zero, suc, ◌+◌, ◌<◌, ◌≤◌, List, [], ◌∷◌, length, Some, slice_get}
+use Rattle.std.specs.Prelude.{◌≡◌, ℕ, ◌<◌, ◌≤◌, List, [], ◌∷◌, length, Some, slice_get}
 use Rattle.stack_text.specs.declared.shape.Shape.{Shape}
 use Rattle.stack_text.specs.Values.{ValueOf}
 use Rattle.piton_words.specs.declared.word.Word.TheVariants.{Nat}
@@ -11,10 +11,11 @@ use Rattle.gypsy_syntax.specs.Programs.{Program, proc_at, shapes_of}
 use Rattle.gypsy_syntax.specs.ProgramFits.{ProgramFits}
 use Rattle.gypsy_syntax.specs.Effects.{value_at}
 use Rattle.gypsy_space.specs.Costs.{Tally}
-use Rattle.gypsy_space.specs.Needs.{Words, vars_of}
+use Rattle.gypsy_space.specs.Needs.{StackSizes, vars_of}
 use Rattle.gypsy_meaning.specs.Kept.{VarsFit}
-use Rattle.gypsy_meaning.specs.Machine.{Item, Frame, Held, State, At, Move, Next, Ended, gypsy_step, start}
-use Rattle.gypsy_meaning.specs.Seen.{spent_at, top_way}
+use Rattle.gypsy_meaning.specs.Machine.{Item, Frame, Held, State, At, Move, Next, Ended, gypsy_step}
+pub use Rattle.gypsy_meaning.specs.Seen.Moments.{moment, moment_from, moved_on}
+use Rattle.gypsy_meaning.specs.Seen.RunView.{spent_at, top_way}
 use Rattle.gypsy_predef.specs.Runs.{Holds, words_of_value}
 use Rattle.gypsy_codegen.specs.WordsOf.{number_of_way}
 use Rattle.gypsy_codegen.specs.Generated.{offset, generated_view}
@@ -23,23 +24,8 @@ use Rattle.gypsy_codegen.specs.Whole.{SizesFit, RunsTo, opened}
 
 -- 1. The step machine.
 
--- one step more: what has ended stays as it is
-abbrev pub moved_on : Move → (State → Move) → Move
-moved_on (Next g) go = go g
-moved_on (Ended x c t) go = Ended x c t
-
--- Where the step machine stands after so many steps: in a state, or at its end, with main's formals and a condition. What is
--- spent in it is the sum of the costs of these steps.
-abbrev pub moment : Program → Words → ℕ → State → Move
-moment q sizes zero g = Next g
-moment q sizes (suc j) g = moved_on (gypsy_step q sizes g) (moment q sizes j)
-
--- from these values of main's formals
-abbrev pub moment_from : Program → Words → List ValueOf → ℕ → Move
-moment_from q sizes v j = moment q sizes j (start q v)
-
 -- it goes on for ever
-abbrev pub NeverEnds : Program → Words → List ValueOf → Type 0
+abbrev pub NeverEnds : Program → StackSizes → List ValueOf → Type 0
 NeverEnds q sizes v = (j : ℕ) → (g : State) × (moment_from q sizes v j ≡ Next g)
 
 -- 2. The generated system.
@@ -82,7 +68,7 @@ HasMoment q s a (Ended x c t) = RunsTo s a x c t
 
 -- Every moment of the step machine is one of the generated system.
 abbrev pub EachMomentIsReached : Type 0
-EachMomentIsReached = (q : Program) (sizes : Words) (base : ℕ) (v : List ValueOf) (j : ℕ) → ProgramFits q → SizesFit q sizes →
+EachMomentIsReached = (q : Program) (sizes : StackSizes) (base : ℕ) (v : List ValueOf) (j : ℕ) → ProgramFits q → SizesFit q sizes →
     VarsFit (proc_at q q.main).formals v →
     HasMoment q (generated_view q sizes base) (opened q sizes base v) (moment_from q sizes v j)
 
@@ -95,9 +81,9 @@ CostsSome g (Ended x c t) = spent_at g < t.count
 
 -- so does each step, up to the one that ends the run
 abbrev pub EachStepCosts : Type 0
-EachStepCosts = (q : Program) (sizes : Words) (v : List ValueOf) (j : ℕ) (g : State) → moment_from q sizes v j ≡ Next g →
+EachStepCosts = (q : Program) (sizes : StackSizes) (v : List ValueOf) (j : ℕ) (g : State) → moment_from q sizes v j ≡ Next g →
     CostsSome g (gypsy_step q sizes g)
 
 -- so after j steps at least j instructions are counted
 abbrev pub CountsGrow : Type 0
-CountsGrow = (q : Program) (sizes : Words) (v : List ValueOf) (j : ℕ) (g : State) → moment_from q sizes v j ≡ Next g → j ≤ spent_at g
+CountsGrow = (q : Program) (sizes : StackSizes) (v : List ValueOf) (j : ℕ) (g : State) → moment_from q sizes v j ≡ Next g → j ≤ spent_at g

@@ -4,10 +4,10 @@ use Rattle.piton_machine.specs.State.{program_of}
 use Rattle.piton_machine.specs.Placed.{program_size}
 use Rattle.gypsy_syntax.specs.Programs.{Program}
 use Rattle.gypsy_syntax.specs.ProgramFits.{ProgramFits}
-use Rattle.gypsy_space.specs.Needs.{Words, code_words}
+use Rattle.gypsy_space.specs.Needs.{StackSizes, code_words}
 use Rattle.gypsy_codegen.specs.Generated.{generated_view}
 
 -- each procedure takes its code words
 abbrev pub ProceduresTakeWords : Type 0
-ProceduresTakeWords = (q : Program) (sizes : Words) (base p : ℕ) → ProgramFits q → p < length q.procs →
+ProceduresTakeWords = (q : Program) (sizes : StackSizes) (base p : ℕ) → ProgramFits q → p < length q.procs →
     program_size (program_of (generated_view q sizes base) p) ≡ code_words q p

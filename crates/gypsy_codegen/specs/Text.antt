@@ -10,7 +10,7 @@ use Rattle.gypsy_syntax.specs.Sources.{ProcOf, SourceOf}
 use Rattle.gypsy_syntax.specs.Programs.{Program, proc_at, shapes_of}
 use Rattle.gypsy_syntax.specs.Predefined.{predefs, predef_name}
 use Rattle.gypsy_syntax.specs.Resolved.{variable_names, procedure_names, program_of}
-use Rattle.gypsy_space.specs.Needs.{Words}
+use Rattle.gypsy_space.specs.Needs.{StackSizes}
 use Rattle.gypsy_predef.specs.Texts.{condition_area, body_texts, number}
 use Rattle.gypsy_codegen.specs.WordsOf.{starts, number_of_way}
 use Rattle.gypsy_codegen.specs.Generated.{opening_words}
@@ -68,7 +68,7 @@ abbrev pub written_area : SourceOf → AreaOf
 written_area s = new_area 0 (unplaced condition_area) (written_word (names_with s []) (Nat (number_of_way None)) ∷ [])
 
 -- the system of a source, with these sizes of the stacks and this base
-abbrev pub generated : SourceOf → Words → ℕ → SystemOf
+abbrev pub generated : SourceOf → StackSizes → ℕ → SystemOf
 generated s sizes base =
     new_system 0 (unplaced s.main.name) (number (pos sizes.ctrl)) (number (pos sizes.temp)) (number (pos base))
     (written_area s ∷ []) (map (written_word (names_with s [])) (opening_words (program_of s)))

@@ -3,8 +3,8 @@ use Rattle.std.specs.Prelude.{ℕ, suc, ◌+◌, pos, List, [], ◌∷◌, ◌++
 use Rattle.stack_text.specs.declared.shape.Shape.{Shape}
 use Rattle.stack_text.specs.Values.{ValueOf, item_count}
 use Rattle.piton_words.specs.declared.word.Word.{Word}
-use Rattle.gypsy_syntax.specs.Programs.{Cond, Leave, Routine, Space, Declared, Proc, words_of}
-use Rattle.gypsy_meaning.specs.Calls.{Way}
+use Rattle.gypsy_syntax.specs.Programs.{ConditionOf, Leave, Routine, Space, Declared, Proc, words_of}
+use Rattle.gypsy_meaning.specs.Calls.{CurrentCondition}
 use Rattle.gypsy_predef.specs.Runs.{words_of_value}
 
 -- the words of values, one after the other
@@ -30,13 +30,13 @@ abbrev pub local_shapes : Proc → List Shape
 local_shapes p = map (λ v. v.shape) p.locals
 
 -- the number of a condition in a procedure
-abbrev pub number_of : Cond → ℕ
+abbrev pub number_of : ConditionOf → ℕ
 number_of Leave = 0
 number_of Routine = 1
 number_of Space = 3
 number_of (Declared i) = suc (suc (suc (suc i)))
 
 -- what a program ends with: 2 is the number of the normal condition
-abbrev pub number_of_way : Way → ℕ
+abbrev pub number_of_way : CurrentCondition → ℕ
 number_of_way None = 2
 number_of_way (Some c) = number_of c

@@ -4,12 +4,11 @@ ghost use Rattle.std.specs.Prelude.{◌≡◌, ◌++◌, ◌∷◌, [], map, get
 ghost use Rattle.gypsy_syntax.specs.Programs.{Var, Apply};
 ghost use Rattle.gypsy_syntax.specs.ProgramFits.{Each};
 ghost use Rattle.gypsy_space.specs.Nodes.{seen_arg};
-ghost use Rattle.gypsy_predef.specs.Bodies.{predef_number};
+ghost use Rattle.gypsy_syntax.specs.Predefined.{predef_number, can_fail};
 ghost use Rattle.gypsy_predef.specs.Calls.{test_code};
-ghost use Rattle.gypsy_predef.specs.Runs.{can_fail};
 ghost use Rattle.gypsy_codegen.specs.Generated.{arg_length, length_code, push_args};
 ghost use Rattle.gypsy_codegen.specs.Lines.{apply_code};
-ghost use Rattle.gypsy_codegen.specs.Views.{ArgHasWord, code_in, env, IsReady, program_in};
+ghost use Rattle.gypsy_codegen.specs.Scaffold.Views.{ArgHasWord, code_in, env, IsReady, program_in};
 
 use crate::calls::{call_program, push_local};
 use crate::context::{Context, Scopes, label_to, shape_at};
@@ -90,18 +89,10 @@ fn push_length(
 }
 
 /// Whether a predefined procedure may signal routineerror.
-fn can_fail(which: Predef) -> bool
+pub(crate) fn can_fail(which: Predef) -> bool
     ensures { result ≡ can_fail which }
 {
-    matches!(
-        which,
-        Predef::MgIntegerUnaryMinus
-            | Predef::MgIntegerAdd
-            | Predef::MgIntegerSubtract
-            | Predef::MgIndexArray
-            | Predef::MgArrayElementAssignment
-            | Predef::MgIntegerMultiply
-    )
+    which.row().can_fail
 }
 
 /// The test for a fault, and the jump to a label.

@@ -1,43 +1,42 @@
 //! The generator.
 
 ghost use Rattle.std.specs.Prelude.{◌≡◌, ◌≤◌, ◌<◌, ◌^◌, [], length, IfOk};
-ghost use Rattle.piton_syntax.specs.Answers.{KeepsForm};
-ghost use Rattle.piton_check.specs.Answers.{IsChecked};
+ghost use Rattle.piton_syntax.specs.PitonReading.{KeepsForm};
+ghost use Rattle.piton_check.specs.PitonChecking.{IsChecked};
 ghost use Rattle.piton_check.specs.Violations.{violations};
 ghost use Rattle.gypsy_syntax.specs.ProgramFits.{ProgramFits};
 ghost use Rattle.gypsy_syntax.specs.Resolved.{program_of};
-ghost use Rattle.gypsy_syntax.specs.SourceView.{source_of};
+ghost use Rattle.gypsy_syntax.specs.Seen.SourceView.{source_of};
+ghost use Rattle.gypsy_check.specs.Accepted.{IsAccepted};
 ghost use Rattle.gypsy_space.specs.Events.{AreNeeds, AreSmall};
-ghost use Rattle.gypsy_space.specs.Needs.{stack_words};
+ghost use Rattle.gypsy_space.specs.Needs.{stack_sizes};
 ghost use Rattle.gypsy_space.specs.Nodes.{seen_program};
-ghost use Rattle.gypsy_codegen.specs.Answers.{Gives, SystemImplements, TakesCodeWords};
-ghost use Rattle.gypsy_codegen.specs.Answers.{are_sizes, generation, size_fault};
-ghost use Rattle.gypsy_codegen.specs.Views.{AreModest, words_together};
+ghost use Rattle.gypsy_codegen.specs.Generation.{GivesGenerated, SystemImplements, TakesCodeWords};
+ghost use Rattle.gypsy_codegen.specs.Generation.{are_sizes, generation, size_fault};
+ghost use Rattle.gypsy_codegen.specs.Scaffold.Views.{AreModest, words_together};
 
 use crate::fault::GenFault;
 use crate::law::{
     generated_is_acceptable, moments_are_reached, procedures_take_words, source_runs,
 };
 use crate::system::system;
+use fm_words::MOST_WINDOW;
 use gypsy_check::Accepted;
 use gypsy_meaning::{control_need, temporary_need};
 use gypsy_space::{Need, Needs, Program, resolve};
 use piton_check::{CheckFault, Checked, check};
 use piton_syntax::System;
-use stack_text::Memory;
+use stack_text::{MOST_STACK, Memory};
 use std::alloc::Global;
 
-/// The most words of a stack.
-const MAX_SIZE: u32 = 65_536;
-
 /// The most words of code.
-const MAX_WORDS: u64 = 1_048_576;
+const MOST_WORDS: u64 = MOST_WINDOW as u64;
 
 /// Whether both stacks have 1 to 65,536 words.
 fn are_sizes(ctrl: u32, temp: u32) -> bool
-    ensures { result ≡ are_sizes (stack_words temp ctrl) }
+    ensures { result ≡ are_sizes (stack_sizes ctrl temp) }
 {
-    1 <= ctrl && ctrl <= MAX_SIZE && 1 <= temp && temp <= MAX_SIZE
+    1 <= ctrl && ctrl <= MOST_STACK && 1 <= temp && temp <= MOST_STACK
 }
 
 /// The words of the code of all procedures.
@@ -54,14 +53,14 @@ fn words_together(needs: &[Need]) -> u64
 }
 
 /// The first limit that the sizes of the stacks or the words of the code are outside of.
-#[tactic(auto, unfolding(crate::specs::Answers::size_fault))]
+#[tactic(auto, unfolding(crate::specs::Generation::size_fault))]
 fn size_fault(program: &Program, needs: &Needs, ctrl: u32, temp: u32) -> Option<GenFault>
     requires needs { AreNeeds (seen_program program.now) needs.now.procedures.items }
     requires small { AreSmall needs.now.procedures.items }
     requires fits { ProgramFits (seen_program program.now) }
     requires few { length needs.now.procedures.items ≤ 1000 }
     requires modest { AreModest needs.now.procedures.items }
-    ensures { result ≡ size_fault (seen_program program.now) (stack_words temp ctrl) }
+    ensures { result ≡ size_fault (seen_program program.now) (stack_sizes ctrl temp) }
 {
     if !are_sizes(ctrl, temp) {
         return Some(GenFault::Size);
@@ -75,7 +74,7 @@ fn size_fault(program: &Program, needs: &Needs, ctrl: u32, temp: u32) -> Option<
         return Some(GenFault::Temporary { need });
     }
     let count = words_together(needs.procedures.as_slice());
-    if MAX_WORDS < count {
+    if MOST_WORDS < count {
         return Some(GenFault::Words { count });
     }
     None
@@ -122,19 +121,42 @@ pub fn generate(
     requires small { AreSmall needs.now.procedures.items }
     requires base { base ≤ 2 ^ 31 }
     ensures value { let s = source_of accepted.now in
-        Gives (λ checked. checked.system) result (generation s (stack_words temp ctrl) base) }
-    ensures runs { IfOk result (SystemImplements (source_of accepted.now) (stack_words temp ctrl) base) }
+        GivesGenerated (λ checked. checked.system) result (generation s (stack_sizes ctrl temp) base) }
+    ensures runs { IfOk result (SystemImplements (source_of accepted.now) (stack_sizes ctrl temp) base) }
     ensures words { IfOk result (TakesCodeWords (source_of accepted.now)) }
 {
     let program = resolve(alloc, accepted)?;
-    if let Some(fault) = size_fault(&program, needs, ctrl, temp) {
+    generate_with(alloc, accepted, &program, needs, ctrl, temp, base)
+}
+
+/// The same where the program that the source is has been made.
+pub fn generate_with(
+    alloc: Global,
+    accepted: &Accepted,
+    program: &Program,
+    needs: &Needs,
+    ctrl: u32,
+    temp: u32,
+    base: u32,
+) -> Result<Checked, GenFault>
+    requires program { seen_program program.now ≡ program_of (source_of accepted.now) }
+    requires accepted { IsAccepted (source_of accepted.now) }
+    requires needs { AreNeeds (program_of (source_of accepted.now)) needs.now.procedures.items }
+    requires small { AreSmall needs.now.procedures.items }
+    requires base { base ≤ 2 ^ 31 }
+    ensures value { let s = source_of accepted.now in
+        GivesGenerated (λ checked. checked.system) result (generation s (stack_sizes ctrl temp) base) }
+    ensures runs { IfOk result (SystemImplements (source_of accepted.now) (stack_sizes ctrl temp) base) }
+    ensures words { IfOk result (TakesCodeWords (source_of accepted.now)) }
+{
+    if let Some(fault) = size_fault(program, needs, ctrl, temp) {
         return Err(fault);
     }
     generated_is_acceptable();
     source_runs();
     moments_are_reached();
     procedures_take_words();
-    let system = system(alloc, accepted.source(), &program, needs, ctrl, temp, base)?;
+    let system = system(alloc, accepted.source(), program, needs, ctrl, temp, base)?;
     let made = checked(alloc, system)?;
     Ok(made)
 }

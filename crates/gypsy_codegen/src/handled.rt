@@ -1,7 +1,7 @@
 //! The conditions that a `begin` handles.
 
 ghost use Rattle.std.specs.Prelude.{◌≡◌, ◌==◌, ◌<◌, ◌^◌, ℕ, map, get_or, false, OnOk, IfOk, if◌then◌else◌, true};
-ghost use Rattle.gypsy_syntax.specs.Programs.{Cond};
+ghost use Rattle.gypsy_syntax.specs.Programs.{ConditionOf};
 ghost use Rattle.gypsy_space.specs.Nodes.{seen_cond};
 ghost use Rattle.gypsy_meaning.specs.Calls.{has_cond};
 ghost use Rattle.gypsy_codegen.specs.WordsOf.{number_of};
@@ -16,7 +16,7 @@ use std::alloc::Global;
 pub(crate) struct Handled<'a> {
     pub conds: &'a [Condition],
     table: Vec<bool>,
-    ghost tells: { (c : Cond) → get_or table.items (number_of c) false ≡ has_cond c (map seen_cond conds.now) },
+    ghost tells: { (c : ConditionOf) → get_or table.items (number_of c) false ≡ has_cond c (map seen_cond conds.now) },
 }
 
 /// Makes one entry of a table true. Those that it doesn't have yet are false.

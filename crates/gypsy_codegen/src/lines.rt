@@ -6,11 +6,11 @@ ghost use Rattle.piton_syntax.specs.declared.op.PitonOp.TheVariants as op;
 ghost use Rattle.piton_syntax.specs.declared.word_text.WordItem.TheVariants as item;
 ghost use Rattle.stack_text.specs.Grammar.Printed.{unplaced};
 ghost use Rattle.gypsy_predef.specs.Texts.{instruction, constant, of_name, condition_area, number};
-ghost use Rattle.gypsy_codegen.specs.Views.{labelled};
+ghost use Rattle.gypsy_codegen.specs.Scaffold.Views.{labelled};
 ghost use Rattle.gypsy_codegen.specs.Written.{label_name, label_arg, name_in};
 
 use gypsy_predef::instruction_text;
-use gypsy_predef::instruction_text::{number, of_name};
+use gypsy_predef::instruction_text::{condition_area, number, of_name};
 use piton_syntax::{ArgText, InstrText, PitonOp, TestKind, WordItem, WordText};
 use stack_text::{Memory, Name, Named};
 use std::alloc::Global;
@@ -30,13 +30,6 @@ pub(crate) fn push_label(alloc: Global, args: &mut Vec<ArgText>, label: u32) -> 
 {
     let name = label_named(alloc, label)?;
     Ok(args.push(ArgText::Name(name))?)
-}
-
-/// The name of the area that holds the condition.
-pub(crate) fn condition_area(alloc: Global) -> Result<Named, Memory>
-    ensures { IfOk result (λ name. name ≡ unplaced condition_area) }
-{
-    Named::unplaced(alloc, b"c-c".as_slice())
 }
 
 /// A name of a table.

@@ -3,17 +3,19 @@
 ghost use Rattle.std.specs.Prelude.{◌≡◌, ◌+◌, ◌^◌, ◌++◌, ◌∷◌, [], ◌<◌, ◌≤◌, length, OnOk, IfOk};
 ghost use Rattle.gypsy_syntax.specs.Programs.{body_of, proc_at};
 ghost use Rattle.gypsy_syntax.specs.Resolved.{program_of};
-ghost use Rattle.gypsy_syntax.specs.SourceView.{source_of};
+ghost use Rattle.gypsy_syntax.specs.Seen.SourceView.{source_of};
+ghost use Rattle.gypsy_check.specs.Accepted.{IsAccepted};
 ghost use Rattle.gypsy_space.specs.Events.{AreNeeds};
 ghost use Rattle.gypsy_space.specs.Nodes.{seen_program, seen_statement, seen_statements};
 ghost use Rattle.gypsy_predef.specs.Bodies.{lengths_of};
 ghost use Rattle.gypsy_codegen.specs.Acceptable.{total_words};
 ghost use Rattle.gypsy_codegen.specs.Generated.{size, test_size};
-ghost use Rattle.gypsy_codegen.specs.Marking.{IsKnown, application_of, call_of, marked_program};
+ghost use Rattle.gypsy_codegen.specs.Scaffold.Listing.{IsKnown, application_of, call_of, marked_program};
 ghost use Rattle.gypsy_codegen.specs.Marks.{mark_at, marks_of, procedure_marks, statement_marks, tail_marks};
-ghost use Rattle.gypsy_codegen.specs.Views.{NamesAreThere};
+ghost use Rattle.gypsy_codegen.specs.Scaffold.Views.{NamesAreThere};
 ghost use Rattle.gypsy_codegen.specs.WordsOf.{words_of_values};
 
+use crate::apply::can_fail;
 use crate::context::procedure_at;
 use gypsy_check::Accepted;
 use gypsy_space::{Application, CallSite, Needs, Node, Program, resolve};
@@ -84,19 +86,31 @@ fn call_size(marking: &Marking, site: &CallSite) -> u32
     (words + locals + actuals + 3 * conds + 19) as u32
 }
 
+/// How many lengths of arrays a predefined call pushes.
+fn lengths_of(which: Predef) -> u32
+    ensures exact { result ≡ lengths_of which }
+    ensures small { result ≤ 1 }
+{
+    match which {
+        Predef::MgIndexArray | Predef::MgArrayElementAssignment => 1,
+        _ => 0,
+    }
+}
+
+/// How many instructions test for a fault.
+fn test_size(which: Predef) -> u32
+    ensures exact { result ≡ test_size which }
+    ensures small { result ≤ 3 }
+{
+    if can_fail(which) { 3 } else { 0 }
+}
+
 /// How many instructions a predefined call has beside its pushes.
 fn row_size(which: Predef) -> u32
     ensures exact { result ≡ lengths_of which + (test_size which + 1) }
     ensures small { result ≤ 5 }
 {
-    match which {
-        Predef::MgIntegerUnaryMinus
-        | Predef::MgIntegerAdd
-        | Predef::MgIntegerSubtract
-        | Predef::MgIntegerMultiply => 4,
-        Predef::MgIndexArray | Predef::MgArrayElementAssignment => 5,
-        _ => 1,
-    }
+    lengths_of(which) + (test_size(which) + 1)
 }
 
 /// How many instructions a predefined call has.
@@ -251,10 +265,26 @@ pub fn marks(alloc: Global, accepted: &Accepted, needs: &Needs) -> Result<Vec<Ma
     ensures { IfOk result (λ marks. marks.items ≡ marks_of (program_of (source_of accepted.now))) }
 {
     let program = resolve(alloc, accepted)?;
+    marks_with(alloc, accepted, &program, needs)
+}
+
+/// The same where the program that the source is has been made.
+pub fn marks_with(
+    alloc: Global,
+    _accepted: &Accepted,
+    program: &Program,
+    needs: &Needs,
+) -> Result<Vec<MarkAt>, Memory>
+    requires program { seen_program program.now ≡ program_of (source_of _accepted.now) }
+    requires accepted { IsAccepted (source_of _accepted.now) }
+    requires needs { AreNeeds (program_of (source_of _accepted.now)) needs.now.procedures.items }
+    requires words { total_words (program_of (source_of _accepted.now)) ≤ 2 ^ 20 }
+    ensures { IfOk result (λ marks. marks.items ≡ marks_of (program_of (source_of _accepted.now))) }
+{
     let mut listed = Vec::new(alloc);
     for number in 0..program.procedures.len() {
         let marking = Marking {
-            program: &program,
+            program,
             needs,
             procedure: number as u32,
         };

@@ -3,21 +3,20 @@
 ghost use Rattle.std.specs.Prelude.{◌≡◌, ◌^◌, ◌++◌, ◌≤◌, length, map, pos, OnOk, IfOk};
 ghost use Rattle.gypsy_check.specs.Accepted.{IsAccepted};
 ghost use Rattle.gypsy_syntax.specs.Resolved.{program_of};
-ghost use Rattle.gypsy_syntax.specs.SourceView.{proc_of, source_of};
+ghost use Rattle.gypsy_syntax.specs.Seen.SourceView.{proc_of, source_of};
 ghost use Rattle.gypsy_space.specs.Events.{AreNeeds, AreSmall};
-ghost use Rattle.gypsy_space.specs.Needs.{stack_words};
+ghost use Rattle.gypsy_space.specs.Needs.{stack_sizes};
 ghost use Rattle.gypsy_space.specs.Nodes.{seen_proc, seen_program};
 ghost use Rattle.gypsy_predef.specs.Texts.{body_texts, number};
 ghost use Rattle.gypsy_codegen.specs.Acceptable.{total_words};
 ghost use Rattle.gypsy_codegen.specs.Text.{generated, procedures_with, program_texts};
-ghost use Rattle.gypsy_codegen.specs.Views.{AreWritable, area_text, opening_text};
+ghost use Rattle.gypsy_codegen.specs.Scaffold.Views.{AreWritable, area_text, opening_text};
 
 use crate::context::{NORMAL, procedure_at};
-use crate::lines::condition_area;
 use crate::procedure::procedure;
 use crate::words::{formal_words, local_words};
 use gypsy_predef::bodies;
-use gypsy_predef::instruction_text::number;
+use gypsy_predef::instruction_text::{condition_area, number};
 use gypsy_space::{Needs, Procedure, Program};
 use gypsy_syntax::{Proc, Source};
 use piton_syntax::{Area, Number, System, WordItem, WordText};
@@ -154,7 +153,7 @@ pub(crate) fn system(
     requires small { AreSmall needs.now.procedures.items }
     requires accepted { IsAccepted (source_of source.now) }
     requires few { total_words (program_of (source_of source.now)) ≤ 2 ^ 20 }
-    ensures { IfOk result (λ system. system ≡ generated (source_of source.now) (stack_words temp ctrl) base) }
+    ensures { IfOk result (λ system. system ≡ generated (source_of source.now) (stack_sizes ctrl temp) base) }
 {
     Ok(System {
         place: 0,

@@ -4,7 +4,7 @@ ghost use Rattle.std.specs.Prelude.{◌≡◌, ◌++◌, ◌≤◌, map, OnOk};
 ghost use Rattle.gypsy_syntax.specs.Effects.{item_of_value};
 ghost use Rattle.gypsy_syntax.specs.Programs.{words_of};
 ghost use Rattle.gypsy_predef.specs.Runs.{word_of_item, words_of_value};
-ghost use Rattle.gypsy_codegen.specs.Views.{nameless, word_texts};
+ghost use Rattle.gypsy_codegen.specs.Scaffold.Views.{nameless, word_texts};
 ghost use Rattle.gypsy_codegen.specs.WordsOf.{words_of_values, zero_value};
 ghost use Rattle.gypsy_codegen.specs.Written.{item_text};
 

@@ -1,19 +1,9 @@
 -- Calls and procedures that are made one after the other.
-use Rattle.std.proofs.Common.{◌≡◌, ◌+◌, ◌-◌, ◌<◌, ◌≤◌, ℕ, suc, List, [], ◌∷◌, ◌++◌, map, sym, ap, ◌∙◌, append_assoc, append-nil, arith}
-use Rattle.std.proofs.lemmas.List.{map-append}
+use Rattle.std.proofs.Common.{◌≡◌, ◌+◌, ◌-◌, ◌<◌, ◌≤◌, ℕ, suc, List, [], ◌∷◌, ◌++◌, map, sym, ap, ◌∙◌, append-nil, arith}
+use Rattle.stack_text.proofs.SharedLaws.{seen_more}
 use Rattle.gypsy_syntax.specs.Sources.{StmtOf, ProcOf}
 use Rattle.gypsy_gen.specs.Parts.{call_of}
 use Rattle.gypsy_gen.specs.Large.{next_state, procedure, procedures_from, calls_from}
-
--- one more is seen
-seen_more : {X Y : Type 0} (see : X → Y) (items new : List X) (x : X) (y : Y) (rest all : List Y) → new ≡ items ++ x ∷ [] → see x ≡ y
-    → map see items ++ y ∷ rest ≡ all → map see new ++ rest ≡ all
-seen_more {X} {Y} see items new x y rest all pushed is so_far =
-    ap (λ (xs : List X). map see xs ++ rest) pushed
-    ∙ ap (λ (ys : List Y). ys ++ rest) (map-append see items (x ∷ []))
-    ∙ append_assoc (map see items) (see x ∷ []) rest
-    ∙ ap (λ (z : Y). map see items ++ z ∷ rest) is
-    ∙ so_far
 
 pub call_more : {X : Type 0} (see : X → StmtOf) (items new : List X) (x : X) (index size : ℕ) (all : List StmtOf) → index < size + 1
     → new ≡ items ++ x ∷ [] → see x ≡ call_of index → map see items ++ calls_from index (size + 1 - index) ≡ all

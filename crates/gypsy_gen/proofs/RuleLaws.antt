@@ -8,7 +8,7 @@ use Rattle.std.proofs.lemmas.Iterator.Adapters.{position_from-zero}
 use Rattle.stack_text.specs.Breaches.{when}
 use Rattle.stack_text.specs.Grammar.Printed.{unplaced}
 use Rattle.gypsy_syntax.specs.Made.{statements, new_proc}
-use Rattle.gypsy_syntax.specs.Keywords.{keyword_name, keywords}
+use Rattle.gypsy_syntax.specs.Keywords.{keyword_name, form_named, predef_named}
 use Rattle.gypsy_syntax.specs.Resolved.{place_among, procedure_names}
 use Rattle.gypsy_syntax.specs.Sources.{ProcOf, SourceOf}
 use Rattle.gypsy_check.specs.Declarations.{repeats, is_among, is_predefined, procedure_at, procedure_named}
@@ -92,7 +92,7 @@ found_in number size i low high few =
 -- ---- each procedure
 
 not_predefined : (i : ℕ) → is_predefined (procedure_name i) ≡ false
-unfolding keywords keyword_name
+unfolding keyword_name form_named predef_named
 not_predefined i = refl
 
 names_free : (i state count : ℕ) → flat_map name_breaches (procedures_from i state count) ≡ []
@@ -151,7 +151,7 @@ main_first : Newer (codes "main" ∷ []) 1
 main_first = record { misses = λ k low small. refl }
 
 pub large_clean : (number size : ℕ) → size ≤ 900 → violations (large_of number size) ≡ []
-unfolding violations keywords keyword_name
+unfolding violations keyword_name form_named predef_named
 large_clean number size few =
     rw (
       no_repeats (codes "main" ∷ []) 1 number size (omega arith) main_first,

@@ -2,12 +2,12 @@
 use Rattle.std.proofs.Common.{◌≡◌, ℕ, ◌+◌, List, [], ◌∷◌, slice_set, Bool, true, false, Some, None, refl, ap, ◌∙◌, add_assoc, add-zero}
 use Rattle.stack_text.specs.Values.{ValueOf}
 use Rattle.gypsy_syntax.specs.declared.predef.Predef.{Predef}
-use Rattle.gypsy_syntax.specs.PredefinedCosts.{predef_cost}
-use Rattle.gypsy_syntax.specs.Programs.{Cond, Routine, Space, Arg, Program, body_of}
+use Rattle.gypsy_syntax.specs.Predefined.{predef_cost, predef_effect}
+use Rattle.gypsy_syntax.specs.Programs.{ConditionOf, Routine, Space, Arg, Program, body_of}
 use Rattle.gypsy_syntax.specs.Programs.{Stmt, Skip, NoOp, Signal, Seq, Loop, If, Begin, Call, Apply}
-use Rattle.gypsy_syntax.specs.Effects.{Effect, Normal, Fault, Beyond, predef_effect, value_at, is_true_value}
+use Rattle.gypsy_syntax.specs.Effects.{Effect, Normal, Fault, Beyond, value_at, is_true_value}
 use Rattle.gypsy_space.specs.Costs.{Tally, spend, start_tally, predef_spend, out_spend, main_spend}
-use Rattle.gypsy_space.specs.Needs.{Words, lack_of, call_spend}
+use Rattle.gypsy_space.specs.Needs.{StackSizes, lack_of, call_spend}
 use Rattle.gypsy_space.specs.declared.need.Lack.{Lack}
 use Rattle.gypsy_space.specs.declared.need.Lack.TheVariants.{Nothing, Temporary, Control}
 use Rattle.gypsy_meaning.specs.Calls.{has_cond, is_leave, is_passed_on, matching, main_way, values_of, target_of, copied_in, copied_out, main_formals}
@@ -59,7 +59,7 @@ module _ (t : Tally) where
   at_apart : (p : ℕ) (x : List ValueOf) (w : List Item) (fs : List Frame) (u v : Tally) → u ≡ plus t v → At p x w fs u ≡ add t (At p x w fs v)
   at_apart p x w fs u v e = ap (At p x w fs) e
 
-  raise_apart : (c : Cond) (p : ℕ) (x : List ValueOf) (w : List Item) (fs : List Frame) (u : Tally) → raise c p x w fs (plus t u) ≡ add t (raise c p x w fs u)
+  raise_apart : (c : ConditionOf) (p : ℕ) (x : List ValueOf) (w : List Item) (fs : List Frame) (u : Tally) → raise c p x w fs (plus t u) ≡ add t (raise c p x w fs u)
   raise_apart c p x [] fs u = refl
   raise_apart c p x (Do s ∷ w) fs u = raise_apart c p x w fs u
   raise_apart c p x (Back place s ∷ w) fs u =
@@ -73,7 +73,7 @@ module _ (t : Tally) where
   raise_apart c p x (Out d ∷ w) fs u = raise_apart c p x w fs u
 
   -- a condition that is raised after a cost
-  raised_apart : (c : Cond) (p : ℕ) (x : List ValueOf) (w : List Item) (fs : List Frame) (u v : Tally) → u ≡ plus t v → Next (raise c p x w fs u) ≡ Next (add t (raise c p x w fs v))
+  raised_apart : (c : ConditionOf) (p : ℕ) (x : List ValueOf) (w : List Item) (fs : List Frame) (u v : Tally) → u ≡ plus t v → Next (raise c p x w fs u) ≡ Next (add t (raise c p x w fs v))
   raised_apart c p x w fs u v e = ap Next (ap (raise c p x w fs) e ∙ raise_apart c p x w fs v)
 
   next_apart : (p : ℕ) (x : List ValueOf) (w : List Item) (fs : List Frame) (u v : Tally) → u ≡ plus t v → Next (At p x w fs u) ≡ Next (add t (At p x w fs v))
@@ -89,12 +89,12 @@ module _ (t : Tally) where
   either_apart true a r a' r' e f = ap Next e
   either_apart false a r a' r' e f = ap Next f
 
-  called_apart : (q : Program) (l : Lack) (c : ℕ) (xs : List ℕ) (cs : List Cond) (p : ℕ) (x : List ValueOf) (w : List Item) (fs : List Frame) (u : Tally) → call_step q l c xs cs p x w fs (plus t u) ≡ add_to t (call_step q l c xs cs p x w fs u)
+  called_apart : (q : Program) (l : Lack) (c : ℕ) (xs : List ℕ) (cs : List ConditionOf) (p : ℕ) (x : List ValueOf) (w : List Item) (fs : List Frame) (u : Tally) → call_step q l c xs cs p x w fs (plus t u) ≡ add_to t (call_step q l c xs cs p x w fs u)
   called_apart q Nothing c xs cs p x w fs u = next_apart c (copied_in q c xs x) (open_on (body_of q c) []) (Held p x w xs cs ∷ fs) (call_spend q c (plus t u)) (call_spend q c u) (call_apart q c t u)
   called_apart q Temporary c xs cs p x w fs u = raised_apart Space p x w fs (spend 15 7 (plus t u)) (spend 15 7 u) (spend_apart 15 7 t u)
   called_apart q Control c xs cs p x w fs u = raised_apart Space p x w fs (spend 26 11 (plus t u)) (spend 26 11 u) (spend_apart 26 11 t u)
 
-  module _ (q : Program) (sizes : Words) where
+  module _ (q : Program) (sizes : StackSizes) where
     do_apart : (s : Stmt) (p : ℕ) (x : List ValueOf) (w : List Item) (fs : List Frame) (u : Tally) → do_step q sizes s p x w fs (plus t u) ≡ add_to t (do_step q sizes s p x w fs u)
     do_apart Skip p x w fs u = refl
     do_apart (NoOp place) p x w fs u = next_apart p x (settle w) fs (spend 1 1 (plus t u)) (spend 1 1 u) (spend_apart 1 1 t u)
@@ -113,7 +113,7 @@ module _ (t : Tally) where
     end_apart p y [] u = ap (Ended (main_formals q y) None) (spend_apart 5 2 t u)
     end_apart p y (Held c x w xs cs ∷ fs) u = next_apart c (copied_out xs y x) (settle w) fs (spend 12 6 (plus t u)) (spend 12 6 u) (spend_apart 12 6 t u)
 
-    out_from_apart : (d : Cond) (p : ℕ) (y : List ValueOf) (fs : List Frame) (u : Tally) → out_step q d p y fs (plus t u) ≡ add_to t (out_step q d p y fs u)
+    out_from_apart : (d : ConditionOf) (p : ℕ) (y : List ValueOf) (fs : List Frame) (u : Tally) → out_step q d p y fs (plus t u) ≡ add_to t (out_step q d p y fs u)
     out_from_apart d p y [] u = ap (Ended (main_formals q y) (Some (main_way q d))) (main_apart (is_passed_on q q.main d) t u)
     out_from_apart d p y (Held c x w xs cs ∷ fs) u =
         raised_apart (matching q p cs d) c (copied_out xs y x) w fs (out_spend (is_passed_on q p d) (plus t u)) (out_spend (is_passed_on q p d) u) (out_apart (is_passed_on q p d) t u)

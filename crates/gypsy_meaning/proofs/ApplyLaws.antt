@@ -6,7 +6,7 @@ use Rattle.gypsy_syntax.specs.declared.predef.Predef.TheVariants as row
 use Rattle.gypsy_syntax.specs.Programs.{Arg, Lit, Routine}
 use Rattle.gypsy_syntax.specs.Effects.{Effect, Normal}
 use Rattle.gypsy_space.specs.Costs.{Tally, spend, predef_spend}
-use Rattle.gypsy_syntax.specs.PredefinedCosts.{predef_cost}
+use Rattle.gypsy_syntax.specs.Predefined.{predef_cost, effect_by, predef_effect}
 use Rattle.gypsy_space.specs.Events.{event_spend, effect_of}
 use Rattle.gypsy_space.specs.declared.event.CostEvent.{CostEvent}
 use Rattle.gypsy_space.specs.declared.event.CostEvent.TheVariants as event
@@ -14,17 +14,17 @@ use Rattle.gypsy_space.specs.declared.event.Outcome.{Outcome}
 use Rattle.gypsy_space.specs.declared.event.Outcome.TheVariants as outcome
 use Rattle.gypsy_space.specs.declared.program.Application.{Application}
 use Rattle.gypsy_meaning.specs.Machine.{Item, Frame, At, Next, settle, raise, apply_step}
-use Rattle.gypsy_meaning.specs.Work.{work_of, caught_spend}
-use Rattle.gypsy_meaning.specs.Turns.{IsPlain, GoesOn, RaisesOn}
-use Rattle.gypsy_meaning.specs.Applied.{call_item, WritesOn, IsApplied}
+use Rattle.gypsy_meaning.specs.Seen.Work.{work_of, caught_spend}
+use Rattle.gypsy_meaning.specs.Scaffold.Turns.{IsPlain, GoesOn, RaisesOn}
+use Rattle.gypsy_meaning.specs.Scaffold.PredefinedSteps.{call_item, WritesOn, IsApplied}
 use Rattle.gypsy_meaning.specs.declared.applying.Applied.{Applied}
 use Rattle.gypsy_meaning.specs.declared.applying.Applied.TheVariants.{Writes, Fails}
 use Rattle.gypsy_meaning.specs.declared.turn.Advance.{Advance}
-use Rattle.gypsy_syntax.specs.Effects.{value_at, no_value, effect_by, predef_effect}
+use Rattle.gypsy_syntax.specs.Effects.{value_at, no_value}
 use Rattle.gypsy_space.specs.declared.program.Argument.{Argument}
 use Rattle.gypsy_space.specs.Nodes.{seen_arg}
 use Rattle.gypsy_meaning.specs.Calls.{value_of, values_of, target_of}
-use Rattle.gypsy_meaning.specs.Applying.{applied_effect}
+use Rattle.gypsy_meaning.specs.Scaffold.PredefinedEffects.{applied_effect}
 
 pub value_listed : (x : List ValueOf) (args : List Arg) (i : ℕ) → value_of x (get_or args i (Lit no_value)) ≡ value_at (values_of x args) i
 unfolding values_of
@@ -39,19 +39,7 @@ applied_is r x args = λ i. effect_by r (λ n. value_listed x (map seen_arg args
 normal_cost : (r : Predef) (v : ValueOf) → predef_cost r (Normal v) ≡ predef_cost r (Normal no_value)
 unfolding predef_cost
 normal_cost row.MgSimpleVariableAssignment v = refl
-normal_cost row.MgSimpleConstantAssignment v = refl
-normal_cost row.MgSimpleVariableEq v = refl
-normal_cost row.MgSimpleConstantEq v = refl
-normal_cost row.MgIntegerLe v = refl
-normal_cost row.MgIntegerUnaryMinus v = refl
-normal_cost row.MgIntegerAdd v = refl
-normal_cost row.MgIntegerSubtract v = refl
-normal_cost row.MgBooleanOr v = refl
-normal_cost row.MgBooleanAnd v = refl
-normal_cost row.MgBooleanNot v = refl
-normal_cost row.MgIndexArray v = refl
-normal_cost row.MgArrayElementAssignment v = refl
-normal_cost row.MgIntegerMultiply v = refl
+normal_cost r v = refl
 
 normal_spend : (r : Predef) (v : ValueOf) (t : Tally) → predef_spend r (Normal v) t ≡ predef_spend r (Normal no_value) t
 unfolding predef_spend

@@ -11,7 +11,7 @@ use Rattle.stack_text.specs.declared.value.Value.{Value}
 use Rattle.gypsy_syntax.specs.Effects.{value_at}
 use Rattle.gypsy_syntax.specs.Programs.{Program, body_of, proc_at}
 use Rattle.gypsy_space.specs.Costs.{Tally, start_tally}
-use Rattle.gypsy_space.specs.Needs.{call_spend, lack_of, stack_words, with_call}
+use Rattle.gypsy_space.specs.Needs.{call_spend, lack_of, stack_sizes, with_call}
 use Rattle.gypsy_space.specs.Nodes.{seen_cond, seen_program}
 use Rattle.gypsy_space.specs.Events.{AreNeeds, event_count, has_ctrl_room_by, has_temp_room_by, lack_by, need_at, need_of}
 use Rattle.gypsy_space.specs.declared.event.CostEvent.TheVariants as event
@@ -20,15 +20,15 @@ use Rattle.gypsy_space.specs.declared.need.Lack.TheVariants.{Nothing, Temporary,
 use Rattle.gypsy_space.specs.declared.need.Need.{Need}
 use Rattle.gypsy_space.specs.declared.program.CallSite.{CallSite}
 use Rattle.gypsy_space.proofs.EventLaws.{call_table, lack_same}
-use Rattle.gypsy_meaning.specs.Calling.{RaisesSpace, Waits, call_top, with_words}
+use Rattle.gypsy_meaning.specs.Scaffold.Entering.{RaisesSpace, Waits, call_top, with_words}
 use Rattle.gypsy_meaning.specs.Calls.{copied_in, copied_out}
-use Rattle.gypsy_meaning.specs.Held.{AreActivations, IsActivation, IsHeld, Moves}
+use Rattle.gypsy_meaning.specs.Seen.Held.{AreActivations, IsActivation, IsHeld, Moves}
 use Rattle.gypsy_meaning.specs.Machine.{Item, At, call_step, gypsy_step, open_on, used}
 use Rattle.gypsy_meaning.specs.Machine as machine
-use Rattle.gypsy_meaning.specs.Named.{variables_of}
-use Rattle.gypsy_meaning.specs.Running.{Goes, frames_in, frames_of, kept_frames, sizes_of, state_of, paid}
-use Rattle.gypsy_meaning.specs.Seen.{added, handed_back}
-use Rattle.gypsy_meaning.specs.Work.{work_of}
+use Rattle.gypsy_meaning.specs.Seen.Named.{variables_of}
+use Rattle.gypsy_meaning.specs.Seen.Running.{Goes, frames_in, frames_of, kept_frames, sizes_of, state_of, paid}
+use Rattle.gypsy_meaning.specs.Seen.RunView.{added, handed_back}
+use Rattle.gypsy_meaning.specs.Seen.Work.{work_of}
 use Rattle.gypsy_meaning.specs.declared.names.Names.{Names}
 use Rattle.gypsy_meaning.specs.declared.running.Frame.{Frame}
 use Rattle.gypsy_meaning.specs.declared.running.Meaning.{Meaning}
@@ -38,30 +38,30 @@ use Rattle.gypsy_meaning.proofs.ReturningLaws.{kept_frames-push, same_state}
 use Rattle.gypsy_meaning.proofs.Rooms.{rooms}
 
 module _ (m : Meaning) (ns : List Need) (site : CallSite) (below : List Item) (needs : AreNeeds (seen_program m.program) ns) (there : site.callee < length (seen_program m.program).procs)
-    (turn : work_of m.work.value ≡ call_top site ∷ below) (counts : used (seen_program m.program) m.procedure (kept_frames m.waiting.items) ≡ stack_words m.used_temp m.used_ctrl) where
+    (turn : work_of m.work.value ≡ call_top site ∷ below) (counts : used (seen_program m.program) m.procedure (kept_frames m.waiting.items) ≡ stack_sizes m.used_ctrl m.used_temp) where
   abbrev q : Program
   q = seen_program m.program
 
   abbrev x : List ValueOf
   x = map (λ v. v.1) m.variables.items
 
-  pub lack_is : lack_of q (sizes_of m) site.callee (used q m.procedure (frames_in m)) ≡ lack_by (need_at ns site.callee) (sizes_of m) (stack_words m.used_temp m.used_ctrl)
+  pub lack_is : lack_of q (sizes_of m) site.callee (used q m.procedure (frames_in m)) ≡ lack_by (need_at ns site.callee) (sizes_of m) (stack_sizes m.used_ctrl m.used_temp)
   lack_is =
       ap (lack_of q (sizes_of m) site.callee) (used_back q m.procedure x (kept_frames m.waiting.items) ∙ counts)
-      ∙ lack_same q (sizes_of m) site.callee (stack_words m.used_temp m.used_ctrl)
-      ∙ ap (λ (n : Need). lack_by n (sizes_of m) (stack_words m.used_temp m.used_ctrl)) (sym (needs.each site.callee there))
+      ∙ lack_same q (sizes_of m) site.callee (stack_sizes m.used_ctrl m.used_temp)
+      ∙ ap (λ (n : Need). lack_by n (sizes_of m) (stack_sizes m.used_ctrl m.used_temp)) (sym (needs.each site.callee there))
 
   -- the step by what the call lacks
-  pub call_steps : (l : Lack) → lack_by (need_at ns site.callee) (sizes_of m) (stack_words m.used_temp m.used_ctrl) ≡ l →
+  pub call_steps : (l : Lack) → lack_by (need_at ns site.callee) (sizes_of m) (stack_sizes m.used_ctrl m.used_temp) ≡ l →
       gypsy_step q (sizes_of m) (state_of m) ≡ call_step q l site.callee site.actuals.items (map seen_cond site.conds.items) m.procedure x below (frames_in m) start_tally
   call_steps l h =
       ap (λ (w : List Item). gypsy_step q (sizes_of m) (At m.procedure x w (frames_in m) start_tally)) turn
       ∙ ap (λ (k : Lack). call_step q k site.callee site.actuals.items (map seen_cond site.conds.items) m.procedure x below (frames_in m) start_tally) (lack_is ∙ h)
 
-  pub lacks_temporary : lack_by (need_at ns site.callee) (sizes_of m) (stack_words m.used_temp m.used_ctrl) ≡ Temporary → RaisesSpace m below event.LackTemporary
+  pub lacks_temporary : lack_by (need_at ns site.callee) (sizes_of m) (stack_sizes m.used_ctrl m.used_temp) ≡ Temporary → RaisesSpace m below event.LackTemporary
   lacks_temporary h = call_steps Temporary h
 
-  pub lacks_control : lack_by (need_at ns site.callee) (sizes_of m) (stack_words m.used_temp m.used_ctrl) ≡ Control → RaisesSpace m below event.LackControl
+  pub lacks_control : lack_by (need_at ns site.callee) (sizes_of m) (stack_sizes m.used_ctrl m.used_temp) ≡ Control → RaisesSpace m below event.LackControl
   lacks_control h = call_steps Control h
 
 -- the state after the step, from the one in which the caller waits
@@ -69,7 +69,7 @@ abbrev pub after_call : List Need → ℕ → Rc Work Global → Meaning → Mea
 after_call ns callee w a = paid (event_count ns (event.Call callee)) (with_words (need_at ns callee) (record a { procedure = callee; work = w }))
 
 module _ (m a : Meaning) (ns : List Need) (site : Rc CallSite Global) (below w : Rc Work Global) (callee : Vec (Name × Value)) (needs : AreNeeds (seen_program m.program) ns) (there : site.value.callee < length (seen_program m.program).procs)
-    (turn : work_of m.work.value ≡ call_top site.value ∷ work_of below.value) (held : IsHeld m) (room : lack_by (need_at ns site.value.callee) (sizes_of m) (stack_words m.used_temp m.used_ctrl) ≡ Nothing)
+    (turn : work_of m.work.value ≡ call_top site.value ∷ work_of below.value) (held : IsHeld m) (room : lack_by (need_at ns site.value.callee) (sizes_of m) (stack_sizes m.used_ctrl m.used_temp) ≡ Nothing)
     (locals : drop (length site.value.actuals.items) (map (λ v. v.1) callee.items) ≡ (proc_at (seen_program m.program) site.value.callee).locals)
     (named : map (λ v. v.0) callee.items ≡ variables_of m.names.items site.value.callee)
     (body : work_of w.value ≡ open_on (body_of (seen_program m.program) site.value.callee) []) (waits : Waits m callee below site a) where
@@ -137,7 +137,7 @@ module _ (m a : Meaning) (ns : List Need) (site : Rc CallSite Global) (below w :
         record { counted = ap₂ added shown cost; last = cost },
       )
 
-  enter_uses : m.temp < 2 ^ 32 → m.ctrl < 2 ^ 32 → used (seen_program a.program) site.value.callee (kept_frames a.waiting.items) ≡ stack_words after.used_temp after.used_ctrl
+  enter_uses : m.temp < 2 ^ 32 → m.ctrl < 2 ^ 32 → used (seen_program a.program) site.value.callee (kept_frames a.waiting.items) ≡ stack_sizes after.used_ctrl after.used_temp
   unfolding lack_by with_call
   enter_uses lt_temp lt_ctrl =
       let n = need_at ns site.value.callee in
@@ -154,9 +154,9 @@ module _ (m a : Meaning) (ns : List Need) (site : Rc CallSite Global) (below w :
       ap (λ (p : _). used (seen_program p) c (kept_frames a.waiting.items)) program_is
       ∙ ap (used r c) kept_are
       ∙ ap (with_call r c) held.top.used_words
-      ∙ ap₂ stack_words
-      (ap (λ (k : Need). m.used_temp + k.locals_words) (sym exact) ∙ sym new_temp)
+      ∙ ap₂ stack_sizes
       (ap (λ (k : Need). m.used_ctrl + (2 + k.vars)) (sym exact) ∙ sym new_ctrl)
+      (ap (λ (k : Need). m.used_temp + k.locals_words) (sym exact) ∙ sym new_temp)
 
   enter_waiting : AreActivations (seen_program a.program) a.names.items (reverse a.waiting.items)
   enter_waiting =

@@ -1,12 +1,12 @@
 -- Conditions in lists.
 use Rattle.std.specs.List.{list_any}
 use Rattle.std.proofs.Common.{◌≡◌, List, [], ◌∷◌, map, Bool, true, false, if◌then◌else◌, ◌||◌, refl}
-use Rattle.gypsy_syntax.specs.Programs.{Cond}
+use Rattle.gypsy_syntax.specs.Programs.{ConditionOf}
 use Rattle.gypsy_meaning.specs.Calls.{has_cond, same_cond}
 use Rattle.gypsy_space.specs.Nodes.{seen_cond}
 use Rattle.gypsy_space.specs.declared.program.Condition.{Condition}
 
-pub has_any : (c : Cond) (ds : List Condition) → has_cond c (map seen_cond ds) ≡ list_any (λ d. same_cond c (seen_cond d)) ds
+pub has_any : (c : ConditionOf) (ds : List Condition) → has_cond c (map seen_cond ds) ≡ list_any (λ d. same_cond c (seen_cond d)) ds
 has_any c [] = refl
 has_any c (d ∷ ds) = pick (same_cond c (seen_cond d)) (has_any c ds)
   where

@@ -12,10 +12,10 @@ use Rattle.gypsy_syntax.specs.declared.predef.Predef.TheVariants as row
 use Rattle.gypsy_syntax.specs.declared.slot.Form.{Form}
 use Rattle.gypsy_syntax.specs.declared.slot.Form.TheVariants.{Simple, Array, Literal}
 use Rattle.gypsy_syntax.specs.declared.slot.Slot.{Slot}
-use Rattle.gypsy_syntax.specs.Predefined.{slots_of, integer_slot, boolean_slot, shared}
+use Rattle.gypsy_syntax.specs.Predefined.{slots_of, integer_slot, boolean_slot, shared, predef_effect}
 use Rattle.gypsy_syntax.specs.Programs.{simple, Arg, Var, Lit}
 use Rattle.gypsy_syntax.specs.ProgramFits.{is_in_range, ValueFits, ArgFits, ArgsFit, slot_kind}
-use Rattle.gypsy_syntax.specs.Effects.{Effect, Normal, Fault, Beyond, integer_value, truth_value, item_of_value, value_at, number_effect, indexed, stored, predef_effect}
+use Rattle.gypsy_syntax.specs.Effects.{Effect, Normal, Fault, Beyond, integer_value, truth_value, item_of_value, value_at, number_effect, indexed, stored}
 use Rattle.gypsy_meaning.specs.Calls.{value_of, values_of, target_of}
 use Rattle.gypsy_meaning.specs.Kept.{VarsFit}
 
@@ -222,20 +222,8 @@ target_shape shapes x k s slots (Var i ∷ args) e h f =
 
 -- the first argument of each is a variable
 first_slot : (r : Predef) → (s : Slot) × (slots : List Slot) × (slots_of r ≡ s ∷ slots) × (is_variable s.form ≡ true)
-first_slot row.MgSimpleVariableAssignment = (shared Simple, shared Simple ∷ [], refl, refl)
-first_slot row.MgSimpleConstantAssignment = (shared Simple, shared Literal ∷ [], refl, refl)
-first_slot row.MgSimpleVariableEq = (boolean_slot, shared Simple ∷ shared Simple ∷ [], refl, refl)
-first_slot row.MgSimpleConstantEq = (boolean_slot, shared Simple ∷ shared Literal ∷ [], refl, refl)
-first_slot row.MgIntegerLe = (boolean_slot, integer_slot ∷ integer_slot ∷ [], refl, refl)
-first_slot row.MgIntegerUnaryMinus = (integer_slot, integer_slot ∷ [], refl, refl)
-first_slot row.MgIntegerAdd = (integer_slot, integer_slot ∷ integer_slot ∷ [], refl, refl)
-first_slot row.MgIntegerSubtract = (integer_slot, integer_slot ∷ integer_slot ∷ [], refl, refl)
-first_slot row.MgBooleanOr = (boolean_slot, boolean_slot ∷ boolean_slot ∷ [], refl, refl)
-first_slot row.MgBooleanAnd = (boolean_slot, boolean_slot ∷ boolean_slot ∷ [], refl, refl)
-first_slot row.MgBooleanNot = (boolean_slot, boolean_slot ∷ [], refl, refl)
-first_slot row.MgIndexArray = (shared Simple, shared Array ∷ integer_slot ∷ [], refl, refl)
-first_slot row.MgArrayElementAssignment = (shared Array, integer_slot ∷ shared Simple ∷ [], refl, refl)
-first_slot row.MgIntegerMultiply = (integer_slot, integer_slot ∷ integer_slot ∷ [], refl, refl)
+first_slot row.MgSimpleVariableAssignment = (_, _, refl, refl)
+first_slot r = (_, _, refl, refl)
 
 -- a predefined call keeps the variables' shapes
 pub apply_fits : (shapes : List Shape) (x : List ValueOf) (k : Kind) (r : Predef) (args : List Arg) (v : ValueOf) → VarsFit shapes x → ArgsFit shapes k (slots_of r) args → predef_effect r (values_of x args) ≡ Normal v → VarsFit shapes (slice_set x (target_of args) v)

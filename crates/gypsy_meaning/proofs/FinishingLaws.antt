@@ -4,7 +4,7 @@ use Rattle.std.proofs.lemmas.List.{take-map}
 use Rattle.std.specs.Global.{Vec}
 use Rattle.stack_text.specs.declared.name.Name.{Name}
 use Rattle.stack_text.specs.declared.value.Value.{Value}
-use Rattle.gypsy_syntax.specs.Programs.{Cond, proc_at}
+use Rattle.gypsy_syntax.specs.Programs.{ConditionOf, proc_at}
 use Rattle.gypsy_space.specs.Costs.{Tally, spend, main_spend, start_tally}
 use Rattle.gypsy_space.specs.Nodes.{seen_cond, seen_program}
 use Rattle.gypsy_space.specs.Events.{event_count}
@@ -12,13 +12,13 @@ use Rattle.gypsy_space.specs.declared.event.CostEvent.TheVariants as event
 use Rattle.gypsy_space.specs.declared.need.Need.{Need}
 use Rattle.gypsy_space.specs.declared.program.Condition.{Condition}
 use Rattle.gypsy_meaning.specs.Calls.{is_passed_on, main_formals, main_way}
-use Rattle.gypsy_meaning.specs.Finishing.{IsFinished, end_price}
-use Rattle.gypsy_meaning.specs.Held.{EndsRun, Keeps}
+use Rattle.gypsy_meaning.specs.Scaffold.Finishing.{IsFinished, end_price}
+use Rattle.gypsy_meaning.specs.Seen.Held.{EndsRun, Keeps}
 use Rattle.gypsy_meaning.specs.Machine.{Item, Out, At, Ended, gypsy_step}
 use Rattle.gypsy_meaning.specs.Machine as machine
-use Rattle.gypsy_meaning.specs.Running.{frames_in, frames_of, sizes_of, state_of, way_of, paid}
-use Rattle.gypsy_meaning.specs.Seen.{added}
-use Rattle.gypsy_meaning.specs.Work.{work_of}
+use Rattle.gypsy_meaning.specs.Seen.Running.{frames_in, frames_of, sizes_of, state_of, way_of, paid}
+use Rattle.gypsy_meaning.specs.Seen.RunView.{added}
+use Rattle.gypsy_meaning.specs.Seen.Work.{work_of}
 use Rattle.gypsy_meaning.specs.declared.running.Ending.{Ending}
 use Rattle.gypsy_meaning.specs.declared.running.Ending.TheVariants as ending
 use Rattle.gypsy_meaning.specs.declared.running.Meaning.{Meaning}
@@ -82,4 +82,4 @@ leave_finishes m n c d below out alone way f =
     finishes (ending.Raised d) (end_price passed) m n (main_spend passed start_tally) alone f (price_is passed)
     (ap (λ (w : List Item). gypsy_step q (sizes_of m) (At m.procedure x w (frames_in m) start_tally)) out
     ∙ ap (λ (fs : List machine.Frame). gypsy_step q (sizes_of m) (At m.procedure x (Out (seen_cond c) ∷ below) fs start_tally)) (ap (frames_of x) alone)
-    ∙ ap (λ (k : Cond). Ended (main_formals q x) (Some k) (main_spend passed start_tally)) (sym way))
+    ∙ ap (λ (k : ConditionOf). Ended (main_formals q x) (Some k) (main_spend passed start_tally)) (sym way))

@@ -3,15 +3,16 @@ use Rattle.std.proofs.Common.{◌≡◌, ℕ, ◌+◌, ◌≤◌, List, [], ◌�
 use Rattle.std.specs.List.{list_all}
 use Rattle.std.proofs.lemmas.Bool.{and_parts, and_from, leb-true}
 use Rattle.stack_text.specs.declared.shape.Shape.{Shape}
-use Rattle.stack_text.specs.Values.{ValueOf, item_count}
+use Rattle.stack_text.specs.Values.{ValueOf, item_count, same_kind}
+use Rattle.stack_text.proofs.SharedLaws.{kind_same}
 use Rattle.gypsy_syntax.specs.ProgramFits.{ProgramFits, ValueFits, is_in_range}
 use Rattle.gypsy_syntax.specs.Programs.{Program, proc_at, words_of}
-use Rattle.gypsy_check.specs.Types.{same_kind}
-use Rattle.gypsy_check.proofs.LiteralLaws.{kind_same, kind_self}
+use Rattle.gypsy_check.proofs.LiteralLaws.{kind_self}
 use Rattle.gypsy_space.specs.Events.{AreNeeds, need_at, need_of}
-use Rattle.gypsy_space.specs.Needs.{Words, main_need, main_used}
+use Rattle.gypsy_space.specs.Needs.{StackSizes, main_need, main_used}
 use Rattle.gypsy_space.specs.declared.need.Need.{Need}
-use Rattle.gypsy_meaning.specs.Fitting.{CanStart, are_as_many, are_values, can_start, is_value_of, same_shape, suffice}
+use Rattle.gypsy_space.proofs.SmallLaws.{words_of-append}
+use Rattle.gypsy_meaning.specs.Seen.Fitting.{CanStart, are_as_many, are_values, can_start, is_value_of, same_shape, suffice}
 use Rattle.gypsy_meaning.specs.Kept.{VarsFit}
 
 shapes_same : (a b : Shape) → same_shape a b ≡ true → a ≡ b
@@ -62,16 +63,12 @@ are_those (s ∷ shapes) (v ∷ x) h = and_from (is_value_of s v) (are_values sh
 
 -- Main's own need.
 
-pub words-append : (a b : List Shape) → words_of (a ++ b) ≡ words_of a + words_of b
-words-append [] b = omega arith
-words-append (s ∷ a) b = let e : words_of (a ++ b) ≡ words_of a + words_of b = words-append a b in omega (arith, e)
-
 pub formals_small : (q : Program) → ProgramFits q → words_of (proc_at q q.main).formals ≤ 65536
 formals_small q fits =
     let p = proc_at q q.main in
     let locals = map (λ (v : ValueOf). v.shape) p.locals in
     let all : words_of (p.formals ++ locals) ≤ 65536 = (fits.procs q.main).words in
-    let both : words_of (p.formals ++ locals) ≡ words_of p.formals + words_of locals = words-append p.formals locals in
+    let both : words_of (p.formals ++ locals) ≡ words_of p.formals + words_of locals = words_of-append p.formals locals in
     omega (arith, all, both)
 
 pub temporary_is : (q : Program) (ns : List Need) (words : ℕ) → AreNeeds q ns → ProgramFits q → words ≡ words_of (proc_at q q.main).formals →
@@ -81,7 +78,7 @@ temporary_is q ns words needs fits is =
     let p = proc_at q q.main in
     let locals = map (λ (v : ValueOf). v.shape) p.locals in
     let exact : need_at ns q.main ≡ need_of q q.main = needs.each q.main fits.main in
-    let both : words_of (p.formals ++ locals) ≡ words_of p.formals + words_of locals = words-append p.formals locals in
+    let both : words_of (p.formals ++ locals) ≡ words_of p.formals + words_of locals = words_of-append p.formals locals in
     ap₂ (λ (n : ℕ) (k : Need). n + k.locals_words + k.temp) is exact ∙ ap (λ (n : ℕ). n + (need_of q q.main).temp) (sym both)
 
 pub control_is : (q : Program) (ns : List Need) → AreNeeds q ns → ProgramFits q → 2 + (need_at ns q.main).vars + (need_at ns q.main).ctrl ≡ (main_need q).ctrl
@@ -90,7 +87,7 @@ control_is q ns needs fits =
     let exact : need_at ns q.main ≡ need_of q q.main = needs.each q.main fits.main in
     ap (λ (k : Need). 2 + k.vars + k.ctrl) exact
 
-pub is_start : (q : Program) (x : List ValueOf) (sizes : Words) → can_start q x sizes ≡ true → CanStart q x sizes
+pub is_start : (q : Program) (x : List ValueOf) (sizes : StackSizes) → can_start q x sizes ≡ true → CanStart q x sizes
 is_start q x sizes e =
     let need = main_need q in
     let p = and_parts (are_values (proc_at q q.main).formals x) (suffice need sizes) e in
@@ -100,7 +97,7 @@ is_start q x sizes e =
       sizes_suffice = record { temp = leb-true need.temp sizes.temp r.0; ctrl = leb-true need.ctrl sizes.ctrl r.1 };
     }
 
-pub start_is : (q : Program) (x : List ValueOf) (sizes : Words) → CanStart q x sizes → can_start q x sizes ≡ true
+pub start_is : (q : Program) (x : List ValueOf) (sizes : StackSizes) → CanStart q x sizes → can_start q x sizes ≡ true
 start_is q x sizes h =
     let need = main_need q in
     and_from (are_values (proc_at q q.main).formals x) (suffice need sizes) (are_those (proc_at q q.main).formals x h.values_fit)

@@ -4,12 +4,13 @@ use Rattle.std.proofs.Common.{Bool, true, false, Some, refl, ap, sym, ◌∙◌,
 use Rattle.stack_text.specs.declared.shape.Shape.{Shape}
 use Rattle.stack_text.specs.Values.{ValueOf}
 use Rattle.gypsy_syntax.specs.declared.predef.Predef.{Predef}
-use Rattle.gypsy_syntax.specs.Programs.{Cond, Leave, Routine, Space, Declared, Arg, Proc, Program, proc_at, body_of, shapes_of, conds_of}
+use Rattle.gypsy_syntax.specs.Programs.{ConditionOf, Leave, Routine, Space, Declared, Arg, Proc, Program, proc_at, body_of, shapes_of, conds_of}
 use Rattle.gypsy_syntax.specs.Programs.{Stmt, Skip, NoOp, Signal, Seq, Loop, If, Begin, Call, Apply}
 use Rattle.gypsy_syntax.specs.ProgramFits.{ValueFits, Each, CondFits, ActualsFit, CallFits, StmtFits, ProgramFits}
-use Rattle.gypsy_syntax.specs.Effects.{Effect, Normal, Fault, Beyond, predef_effect, value_at, is_true_value}
+use Rattle.gypsy_syntax.specs.Predefined.{predef_effect}
+use Rattle.gypsy_syntax.specs.Effects.{Effect, Normal, Fault, Beyond, value_at, is_true_value}
 use Rattle.gypsy_space.specs.Costs.{Tally, spend, predef_spend, out_spend}
-use Rattle.gypsy_space.specs.Needs.{Words, lack_of}
+use Rattle.gypsy_space.specs.Needs.{StackSizes, lack_of}
 use Rattle.gypsy_space.specs.declared.need.Lack.{Lack}
 use Rattle.gypsy_space.specs.declared.need.Lack.TheVariants.{Nothing, Temporary, Control}
 use Rattle.gypsy_meaning.specs.Calls.{has_cond, is_passed_on, matching, main_way, values_of, copied_in, copied_out, main_start, main_formals}
@@ -53,18 +54,18 @@ front_fits (s ∷ formals) rest (v ∷ x) h = (h.0, h.1, front_fits formals rest
 -- Conditions.
 
 -- what a statement may raise is raised
-raised_of : (b : Bool) (n : ℕ) (c : Cond) → CondFits b n c → RaisedFits b n c
+raised_of : (b : Bool) (n : ℕ) (c : ConditionOf) → CondFits b n c → RaisedFits b n c
 raised_of b n Leave h = h
 raised_of b n Routine h = h
 raised_of b n Space h = absurd h
 raised_of b n (Declared i) h = h
 
-actual_raised : (b : Bool) (n : ℕ) (cs : List Cond) (i : ℕ) → Each (CondFits b n) cs → RaisedFits b n (get_or cs i Routine)
+actual_raised : (b : Bool) (n : ℕ) (cs : List ConditionOf) (i : ℕ) → Each (CondFits b n) cs → RaisedFits b n (get_or cs i Routine)
 actual_raised b n [] i h = tt
 actual_raised b n (c ∷ cs) zero h = raised_of b n c h.0
 actual_raised b n (c ∷ cs) (suc i) h = actual_raised b n cs i h.1
 
-matched : (q : Program) (p : ℕ) (b : Bool) (n : ℕ) (cs : List Cond) (d : Cond) → Each (CondFits b n) cs → RaisedFits b n (matching q p cs d)
+matched : (q : Program) (p : ℕ) (b : Bool) (n : ℕ) (cs : List ConditionOf) (d : ConditionOf) → Each (CondFits b n) cs → RaisedFits b n (matching q p cs d)
 unfolding matching
 matched q p b n cs Leave h = tt
 matched q p b n cs Routine h = tt
@@ -75,7 +76,7 @@ matched q p b n cs (Declared i) h = pick (nat_lt i (proc_at q p).conds)
     pick true = actual_raised b n cs i h
     pick false = tt
 
-main_ends : (q : Program) (d : Cond) → EndFits q (Some (main_way q d))
+main_ends : (q : Program) (d : ConditionOf) → EndFits q (Some (main_way q d))
 unfolding main_way is_passed_on
 main_ends q Leave = tt
 main_ends q Routine = tt
@@ -86,7 +87,7 @@ main_ends q (Declared i) = pick (nat_lt i (proc_at q q.main).conds) refl
     pick true e = ltb-true i (proc_at q q.main).conds e
     pick false e = tt
 
-module _ (q : Program) (sizes : Words) (fits : ProgramFits q) where
+module _ (q : Program) (sizes : StackSizes) (fits : ProgramFits q) where
   -- Work.
 
   opens_fits : (p : Proc) (s : Stmt) (w ws : List Item) → StmtFits q (shapes_of p) (conds_of p) (in_loop w) s → WorkFits q p w → WorkFits q p ws → WorkFits q p (opens s w ws)
@@ -113,7 +114,7 @@ module _ (q : Program) (sizes : Words) (fits : ProgramFits q) where
   open_fits : (p : Proc) (s : Stmt) (w : List Item) → StmtFits q (shapes_of p) (conds_of p) (in_loop w) s → WorkFits q p w → WorkFits q p (open_on s w)
   open_fits p s w f h = opens_fits p s w (settle w) f h (settle_fits p w h)
 
-  raise_fits : (c : Cond) (p : ℕ) (x : List ValueOf) (w : List Item) (fs : List Frame) (t : Tally) → RaisedFits (in_loop w) (conds_of (proc_at q p)) c → VarsFit (shapes_of (proc_at q p)) x → WorkFits q (proc_at q p) w → FramesFit q p fs → StateFits q (raise c p x w fs t)
+  raise_fits : (c : ConditionOf) (p : ℕ) (x : List ValueOf) (w : List Item) (fs : List Frame) (t : Tally) → RaisedFits (in_loop w) (conds_of (proc_at q p)) c → VarsFit (shapes_of (proc_at q p)) x → WorkFits q (proc_at q p) w → FramesFit q p fs → StateFits q (raise c p x w fs t)
   raise_fits c p x [] fs t f v h g = (v, (f, refl), g)
   raise_fits c p x (Do s ∷ w) fs t f v h g = raise_fits c p x w fs t f v h.1 g
   raise_fits Leave p x (Back place s ∷ w) fs t f v h g = (v, settle_fits (proc_at q p) w h.1, g)
@@ -143,7 +144,7 @@ module _ (q : Program) (sizes : Words) (fits : ProgramFits q) where
       let c = proc_at q p in
       vars_join c.formals (map (λ (u : ValueOf). u.shape) c.locals) (map (value_at x) xs) c.locals (actuals_copied shapes c.formals xs x f v) (locals_fit c.locals (fits.procs p).locals)
 
-  call_keeps : (l : Lack) (c : ℕ) (xs : List ℕ) (cs : List Cond) (p : ℕ) (x : List ValueOf) (w : List Item) (fs : List Frame) (t : Tally) → CallFits q (shapes_of (proc_at q p)) (conds_of (proc_at q p)) (in_loop w) c xs cs → VarsFit (shapes_of (proc_at q p)) x → WorkFits q (proc_at q p) w → FramesFit q p fs → MoveFits q (call_step q l c xs cs p x w fs t)
+  call_keeps : (l : Lack) (c : ℕ) (xs : List ℕ) (cs : List ConditionOf) (p : ℕ) (x : List ValueOf) (w : List Item) (fs : List Frame) (t : Tally) → CallFits q (shapes_of (proc_at q p)) (conds_of (proc_at q p)) (in_loop w) c xs cs → VarsFit (shapes_of (proc_at q p)) x → WorkFits q (proc_at q p) w → FramesFit q p fs → MoveFits q (call_step q l c xs cs p x w fs t)
   call_keeps Nothing c xs cs p x w fs t f v h g =
       (callee_vars c (shapes_of (proc_at q p)) xs x f.actuals v, open_fits (proc_at q c) (body_of q c) [] (fits.procs c).body tt, (f, v, h, g))
   call_keeps Temporary c xs cs p x w fs t f v h g = raise_fits Space p x w fs (spend 15 7 t) tt v h g
@@ -175,7 +176,7 @@ module _ (q : Program) (sizes : Words) (fits : ProgramFits q) where
   end_keeps p y (Held c x w xs cs ∷ fs) t v g =
       (copies_back (shapes_of (proc_at q c)) (proc_at q p).formals (map (λ (u : ValueOf). u.shape) (proc_at q p).locals) xs y x g.0.actuals v g.1, settle_fits (proc_at q c) w g.2, g.3)
 
-  out_keeps : (d : Cond) (p : ℕ) (y : List ValueOf) (fs : List Frame) (t : Tally) → VarsFit (shapes_of (proc_at q p)) y → FramesFit q p fs → MoveFits q (out_step q d p y fs t)
+  out_keeps : (d : ConditionOf) (p : ℕ) (y : List ValueOf) (fs : List Frame) (t : Tally) → VarsFit (shapes_of (proc_at q p)) y → FramesFit q p fs → MoveFits q (out_step q d p y fs t)
   out_keeps d p y [] t v g = (main_vars p y g v, main_ends q d)
   out_keeps d p y (Held c x w xs cs ∷ fs) t v g =
       raise_fits (matching q p cs d) c (copied_out xs y x) w fs (out_spend (is_passed_on q p d) t) (matched q p (in_loop w) (conds_of (proc_at q c)) cs d g.0.conds) (copies_back (shapes_of (proc_at q c)) (proc_at q p).formals (map (λ (u : ValueOf). u.shape) (proc_at q p).locals) xs y x g.0.actuals v g.1) g.2 g.3

@@ -1,5 +1,5 @@
 -- What those that wait have lent to their callees: no step looks at it before it writes it.
-use Rattle.std.proofs.Common.{◌≡◌, ◌≢◌, ℕ, zero, suc, ◌<◌, ◌≤◌, List, [], ◌∷◌, ◌++◌, length, map, take, drop, slice_set, slice_get, get_or, Bool, true, false, Some}
+use Rattle.std.proofs.Common.{◌≡◌, ◌≢◌, ℕ, zero, suc, ◌<◌, ◌≤◌, List, [], ◌∷◌, ◌++◌, length, map, take, drop, slice_set, slice_get, Bool, true, false, Some}
 use Rattle.std.proofs.Common.{refl, ap, sym, ◌∙◌, subst, ⊎_elim, arith}
 use Rattle.std.proofs.lemmas.Bool.{cases_eq}
 use Rattle.std.proofs.lemmas.List.{drop_all, length-set, set-set, set_comm, get_or-set_other, take-append-drop}
@@ -7,11 +7,12 @@ use Rattle.stack_text.specs.declared.shape.Shape.{Shape}
 use Rattle.stack_text.specs.Values.{ValueOf}
 use Rattle.gypsy_syntax.specs.declared.predef.Predef.{Predef}
 use Rattle.gypsy_syntax.specs.ProgramFits.{ActualsFit, Distinct, Each, Misses}
-use Rattle.gypsy_syntax.specs.Programs.{Cond, Routine, Space, Arg, Program, body_of, proc_at, shapes_of}
+use Rattle.gypsy_syntax.specs.Programs.{ConditionOf, Routine, Space, Arg, Program, body_of, proc_at, shapes_of}
 use Rattle.gypsy_syntax.specs.Programs.{Stmt, Skip, NoOp, Signal, Seq, Loop, If, Begin, Call, Apply}
-use Rattle.gypsy_syntax.specs.Effects.{Effect, Normal, Fault, Beyond, predef_effect, no_value, value_at, is_true_value}
+use Rattle.gypsy_syntax.specs.Predefined.{predef_effect}
+use Rattle.gypsy_syntax.specs.Effects.{Effect, Normal, Fault, Beyond, no_value, value_at, is_true_value}
 use Rattle.gypsy_space.specs.Costs.{Tally, spend, predef_spend, out_spend}
-use Rattle.gypsy_space.specs.Needs.{Words, lack_of, call_spend, with_call}
+use Rattle.gypsy_space.specs.Needs.{StackSizes, lack_of, call_spend, with_call}
 use Rattle.gypsy_space.specs.declared.need.Lack.{Lack}
 use Rattle.gypsy_space.specs.declared.need.Lack.TheVariants.{Nothing, Temporary, Control}
 use Rattle.gypsy_meaning.specs.Calls.{has_cond, is_leave, is_passed_on, matching, values_of, target_of, copied_in, copied_out}
@@ -19,7 +20,7 @@ use Rattle.gypsy_meaning.specs.Kept.{FramesFit, VarsFit}
 use Rattle.gypsy_meaning.specs.Machine.{Item, Do, Back, JoinThen, JoinOne, Guard, Out, Frame, Held, State, At, Move, Next, Ended, Ending, go_on}
 use Rattle.gypsy_meaning.specs.Machine.{open_on, settle, stop_if, raise, either_move, apply_step, used, call_step, do_step, end_step, out_step, gypsy_step, run}
 use Rattle.gypsy_meaning.specs.Room.{HasWords, HaveWords}
-use Rattle.gypsy_meaning.specs.Seen.{handed_back, lending, lending_move}
+use Rattle.gypsy_meaning.specs.Seen.RunView.{handed_back, lending, lending_move}
 use Rattle.gypsy_meaning.proofs.Keeping.{copies_back}
 
 -- Writes.
@@ -96,11 +97,11 @@ back_fits q p y (Held c x w xs cs ∷ fs) v g =
     let z = copies_back (shapes_of (proc_at q c)) (proc_at q p).formals (map (λ (u : ValueOf). u.shape) (proc_at q p).locals) xs y x g.0.actuals v g.1 in
     (g.0, z, g.2, back_fits q c (copied_out xs y x) fs z g.3)
 
-pub back_words : (q : Program) (sizes : Words) (p : ℕ) (y : List ValueOf) (fs : List Frame) → HaveWords q sizes p fs → HaveWords q sizes p (handed_back y fs)
+pub back_words : (q : Program) (sizes : StackSizes) (p : ℕ) (y : List ValueOf) (fs : List Frame) → HaveWords q sizes p fs → HaveWords q sizes p (handed_back y fs)
 back_words q sizes p y [] h = h
 back_words q sizes p y (Held c x w xs cs ∷ fs) h =
     let z = copied_out xs y x in
-    let P : Words → Type 0 = λ u. HasWords q sizes p (with_call q p u) in
+    let P : StackSizes → Type 0 = λ u. HasWords q sizes p (with_call q p u) in
     (subst P (sym (used_back q c z fs)) h.0, h.1, back_words q sizes c z fs h.2)
 
 -- Steps.
@@ -115,7 +116,7 @@ stop_lent false g r h s e f = f
 at_lent : (p : ℕ) (y x : List ValueOf) (w : List Item) (fs : List Frame) (t : Tally) → length y ≡ length x → lending (At p x w (handed_back y fs) t) ≡ lending (At p x w fs t)
 at_lent p y x w fs t e = ap (λ (gs : List Frame). At p x w gs t) (back_again y x fs e)
 
-raise_lent : (c : Cond) (p : ℕ) (y x : List ValueOf) (w : List Item) (fs : List Frame) (t : Tally) → length y ≡ length x → lending (raise c p x w (handed_back y fs) t) ≡ lending (raise c p x w fs t)
+raise_lent : (c : ConditionOf) (p : ℕ) (y x : List ValueOf) (w : List Item) (fs : List Frame) (t : Tally) → length y ≡ length x → lending (raise c p x w (handed_back y fs) t) ≡ lending (raise c p x w fs t)
 raise_lent c p y x [] fs t e = at_lent p y x (Out c ∷ []) fs t e
 raise_lent c p y x (Do s ∷ w) fs t e = raise_lent c p y x w fs t e
 raise_lent c p y x (Back place s ∷ w) fs t e =
@@ -128,7 +129,7 @@ raise_lent c p y x (Guard place cs v ∷ w) fs t e =
     (at_lent p y x (open_on v (JoinOne place ∷ w)) fs (spend 3 2 t) e) (raise_lent c p y x w fs t e)
 raise_lent c p y x (Out d ∷ w) fs t e = raise_lent c p y x w fs t e
 
-raised_lent : (c : Cond) (p : ℕ) (y x : List ValueOf) (w : List Item) (fs : List Frame) (t : Tally) → length y ≡ length x → lending_move (Next (raise c p x w (handed_back y fs) t)) ≡ lending_move (Next (raise c p x w fs t))
+raised_lent : (c : ConditionOf) (p : ℕ) (y x : List ValueOf) (w : List Item) (fs : List Frame) (t : Tally) → length y ≡ length x → lending_move (Next (raise c p x w (handed_back y fs) t)) ≡ lending_move (Next (raise c p x w fs t))
 raised_lent c p y x w fs t e = ap Next (raise_lent c p y x w fs t e)
 
 apply_lent : (r : Predef) (args : List Arg) (o : Effect) (p : ℕ) (x : List ValueOf) (w : List Item) (fs : List Frame) (t : Tally) → lending_move (apply_step r args o p x w (handed_back x fs) t) ≡ lending_move (apply_step r args o p x w fs t)
@@ -141,7 +142,7 @@ either_lent : (b : Bool) (g r h s : State) → lending g ≡ lending h → lendi
 either_lent true g r h s e f = ap Next e
 either_lent false g r h s e f = ap Next f
 
-called_lent : (q : Program) (l : Lack) (c : ℕ) (xs : List ℕ) (cs : List Cond) (p : ℕ) (x : List ValueOf) (w : List Item) (fs : List Frame) (t : Tally) → lending_move (call_step q l c xs cs p x w (handed_back x fs) t) ≡ lending_move (call_step q l c xs cs p x w fs t)
+called_lent : (q : Program) (l : Lack) (c : ℕ) (xs : List ℕ) (cs : List ConditionOf) (p : ℕ) (x : List ValueOf) (w : List Item) (fs : List Frame) (t : Tally) → lending_move (call_step q l c xs cs p x w (handed_back x fs) t) ≡ lending_move (call_step q l c xs cs p x w fs t)
 called_lent q Nothing c xs cs p x w fs t =
     let y = copied_in q c xs x in
     let z = copied_out xs y x in
@@ -150,7 +151,7 @@ called_lent q Nothing c xs cs p x w fs t =
 called_lent q Temporary c xs cs p x w fs t = raised_lent Space p x x w fs (spend 15 7 t) refl
 called_lent q Control c xs cs p x w fs t = raised_lent Space p x x w fs (spend 26 11 t) refl
 
-module _ (q : Program) (sizes : Words) where
+module _ (q : Program) (sizes : StackSizes) where
   do_lent : (s : Stmt) (p : ℕ) (x : List ValueOf) (w : List Item) (fs : List Frame) (t : Tally) → lending_move (do_step q sizes s p x w (handed_back x fs) t) ≡ lending_move (do_step q sizes s p x w fs t)
   do_lent Skip p x w fs t = next_lent p x x (settle w) fs t refl
   do_lent (NoOp place) p x w fs t = next_lent p x x (settle w) fs (spend 1 1 t) refl
@@ -163,7 +164,7 @@ module _ (q : Program) (sizes : Words) where
       (at_lent p x x (open_on v (JoinOne place ∷ w)) fs (spend 9 4 t) refl)
   do_lent (Begin place s cs v) p x w fs t = next_lent p x x (open_on (Begin place s cs v) w) fs t refl
   do_lent (Call place c xs cs) p x w fs t =
-      ap (λ (u : Words). lending_move (call_step q (lack_of q sizes c u) c xs cs p x w (handed_back x fs) t)) (used_back q p x fs)
+      ap (λ (u : StackSizes). lending_move (call_step q (lack_of q sizes c u) c xs cs p x w (handed_back x fs) t)) (used_back q p x fs)
       ∙ called_lent q (lack_of q sizes c (used q p fs)) c xs cs p x w fs t
   do_lent (Apply place r args) p x w fs t = apply_lent r args (predef_effect r (values_of x args)) p x w fs t
 
@@ -174,7 +175,7 @@ module _ (q : Program) (sizes : Words) where
       ap (λ (l : List ValueOf). lending_move (Next (At c l (settle w) (handed_back z fs) (spend 12 6 t)))) (copied_again xs y y x refl)
       ∙ next_lent c z z (settle w) fs (spend 12 6 t) refl
 
-  out_lent : (d : Cond) (p : ℕ) (y : List ValueOf) (fs : List Frame) (t : Tally) → lending_move (out_step q d p y (handed_back y fs) t) ≡ lending_move (out_step q d p y fs t)
+  out_lent : (d : ConditionOf) (p : ℕ) (y : List ValueOf) (fs : List Frame) (t : Tally) → lending_move (out_step q d p y (handed_back y fs) t) ≡ lending_move (out_step q d p y fs t)
   out_lent d p y [] t = refl
   out_lent d p y (Held c x w xs cs ∷ fs) t =
       let z = copied_out xs y x in
@@ -228,18 +229,11 @@ taken_all (a ∷ xs) x (v ∷ y) h le =
     (taken_all xs (slice_set x a v) y h.1 (omega (arith, le))
     ∙ ap (λ (l : List ValueOf). l ++ drop (length xs) y) (unread a v xs x h.0))
 
--- all of them
-pub all_left : (xs : List ℕ) (k : ℕ) (x y : List ValueOf) → length xs ≤ k → copied_out (drop k xs) y x ≡ x
-all_left xs k x y le = ap (λ (l : List ℕ). copied_out l y x) (drop_all k xs le)
-
+-- once all have gone over
 pub all_taken : (xs : List ℕ) (k : ℕ) (x y : List ValueOf) → length xs ≤ k → take k y ++ taken (drop k xs) x (drop k y) ≡ y
 all_taken xs k x y le = ap (λ (l : List ℕ). take k y ++ taken l x (drop k y)) (drop_all k xs le) ∙ take-append-drop k y
 
--- what is lent is there
-pub each_at : (n : ℕ) (xs : List ℕ) (k : ℕ) → Each (λ a. a < n) xs → k < length xs → get_or xs k 0 < n
-each_at n [] k h lt = absurd (omega (arith, lt))
-each_at n (a ∷ xs) zero h lt = h.0
-each_at n (a ∷ xs) (suc k) h lt = each_at n xs k h.1 (omega (arith, lt))
+-- The actuals of a call that fits are there.
 
 listed : (shapes : List Shape) (a : ℕ) (s : Shape) → slice_get shapes a ≡ Some s → a < length shapes
 listed [] a s e = absurd cc

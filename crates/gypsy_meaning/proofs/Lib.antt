@@ -14,9 +14,10 @@ mod ReturningLaws
 mod CallingLaws
 mod ValueLaws
 mod FinishingLaws
-mod ReadyLaws
+pub mod ReadyLaws
 mod ApartLaws
 pub mod SeenLaws
+mod MomentLaws
 pub mod ReachLaws
 mod StepLaws
 mod NamedLaws

@@ -4,13 +4,13 @@ use Rattle.std.specs.Prelude.{option_map}
 use Rattle.stack_text.specs.Values.{ValueOf}
 use Rattle.gypsy_syntax.specs.Programs.{Program}
 use Rattle.gypsy_space.specs.Costs.{Tally, start_tally}
-use Rattle.gypsy_space.specs.Needs.{Words}
-use Rattle.gypsy_meaning.specs.Calls.{Way}
+use Rattle.gypsy_space.specs.Needs.{StackSizes}
+use Rattle.gypsy_meaning.specs.Calls.{CurrentCondition}
 use Rattle.gypsy_meaning.specs.Meaning.{Done, meaning}
 use Rattle.gypsy_meaning.specs.Counted.{CountedDone, CountedOutcome, CountedUnfinished, counted_meaning, tally_of, uncounted}
 use Rattle.gypsy_meaning.specs.Machine.{At, Ended, Frame, Going, Item, Move, Next, Over, State, go_on, gypsy_step, run, start}
-use Rattle.gypsy_meaning.specs.Seen.{Finished, IsEnd, Running, Seen, Shows, Stage, added, after, after_move, answer_by, answer_from, answer_of, bare, end_by, handed_back, left_from, left_of, opening, ran_on, run_of}
-use Rattle.gypsy_meaning.specs.Agreed.{MeansEnd}
+use Rattle.gypsy_meaning.specs.Seen.RunView.{Finished, IsEnd, Running, Seen, Shows, Stage, added, after, after_move, answer_by, answer_from, answer_of, bare, end_by, handed_back, left_from, left_of, opening, ran_on, meaning_run}
+use Rattle.gypsy_meaning.specs.Seen.RunAgrees.{MeansEnd}
 use Rattle.gypsy_meaning.proofs.ApartLaws.{add, add_to, plus, plus-nothing, step_apart}
 use Rattle.gypsy_meaning.proofs.CountLaws.{meaning-uncounted}
 use Rattle.gypsy_meaning.proofs.LendingLaws.{run_lent}
@@ -29,7 +29,7 @@ pub record Reached (v : Seen) : Type 0 where
   pub counted : Shows v.counted spent.count
   pub at : IsAt v v.stage made spent
 
-pub opening_reached : (q : Program) (sizes : Words) (v : List ValueOf) → Reached (opening q sizes v)
+pub opening_reached : (q : Program) (sizes : StackSizes) (v : List ValueOf) → Reached (opening q sizes v)
 opening_reached q sizes v = record {
   made = 0;
   spent = start_tally;
@@ -42,11 +42,11 @@ opening_reached q sizes v = record {
 added_shows : (shown n m : ℕ) → Shows shown n → Shows (added shown m) (n + m)
 added_shows shown n m h = omega (arith, h)
 
-stepped : (q : Program) (sizes : Words) (g : State) (t : Tally) (a : Move) (k : ℕ) → gypsy_step q sizes g ≡ a → run q sizes (suc k) (add t g) ≡ go_on (add_to t a) (run q sizes k)
+stepped : (q : Program) (sizes : StackSizes) (g : State) (t : Tally) (a : Move) (k : ℕ) → gypsy_step q sizes g ≡ a → run q sizes (suc k) (add t g) ≡ go_on (add_to t a) (run q sizes k)
 stepped q sizes g t a k e = ap (λ m. go_on m (run q sizes k)) (step_apart t q sizes g ∙ ap (add_to t) e)
 
 -- what is spent is counted apart, and what is lent changes no run
-bare_run : (q : Program) (sizes : Words) (k : ℕ) (t : Tally) (p : ℕ) (x : List ValueOf) (w : List Item) (fs : List Frame) (u : Tally) → run q sizes k (add t (At p x w fs u)) ≡ run q sizes k (add (plus t u) (bare (At p x w fs u)))
+bare_run : (q : Program) (sizes : StackSizes) (k : ℕ) (t : Tally) (p : ℕ) (x : List ValueOf) (w : List Item) (fs : List Frame) (u : Tally) → run q sizes k (add t (At p x w fs u)) ≡ run q sizes k (add (plus t u) (bare (At p x w fs u)))
 bare_run q sizes k t p x w fs u =
     sym (run_lent q sizes k (At p x w fs (plus t u)))
     ∙ ap (λ (v : Tally). run q sizes k (At p x w (handed_back x fs) v)) (sym (plus-nothing (plus t u)))
@@ -89,7 +89,7 @@ after_reached (suc k) v r = after_reached k (left_of v) (left_reached v r)
 -- The agreement.
 
 -- where a run is over
-pub end_agrees : (v : Seen) (x : List ValueOf) (c : Way) → Reached v → v.stage ≡ Finished x c → MeansEnd v x c
+pub end_agrees : (v : Seen) (x : List ValueOf) (c : CurrentCondition) → Reached v → v.stage ≡ Finished x c → MeansEnd v x c
 end_agrees v x c r e =
     let q = v.program in
     let P : Stage → Type 0 = λ s. IsAt v s r.made r.spent in
@@ -105,29 +105,29 @@ end_agrees v x c r e =
     }
 
 -- what is done without counts is done with them
-counted_too : (o : CountedOutcome) (x : List ValueOf) (c : Way) → uncounted o ≡ Done x c → (t : Tally) × (o ≡ CountedDone x c t)
+pub counted_too : (o : CountedOutcome) (x : List ValueOf) (c : CurrentCondition) → uncounted o ≡ Done x c → (t : Tally) × (o ≡ CountedDone x c t)
 counted_too (CountedDone y d t) x c e = (t, grind arith)
 counted_too CountedUnfinished x c e = absurd cc
 
 -- the machine ends within so many steps
-abbrev EndsWithin : Seen → Stage → ℕ → List ValueOf → Way → Type 0
+abbrev EndsWithin : Seen → Stage → ℕ → List ValueOf → CurrentCondition → Type 0
 EndsWithin v (Running g) k x c = (t u : Tally) × (run v.program v.sizes k (add t g) ≡ Over x c u)
 EndsWithin v (Finished y d) k x c = (y ≡ x) × (d ≡ c)
 
-same_end : (x y : List ValueOf) (c d : Way) (t u : Tally) → Over x c t ≡ Over y d u → (x ≡ y) × (c ≡ d)
+same_end : (x y : List ValueOf) (c d : CurrentCondition) (t u : Tally) → Over x c t ≡ Over y d u → (x ≡ y) × (c ≡ d)
 same_end x y c d t u e = (cc, cc)
 
-module _ (x : List ValueOf) (c : Way) where
-  move_ends : (k : ℕ) (v : Seen) (t u : Tally) (a : Move) → ((w : Seen) → EndsWithin w w.stage k x c → IsEnd (run_of k w) x c) → go_on (add_to t a) (run v.program v.sizes k) ≡ Over x c u →
-      IsEnd (ran_on (answer_by a) (after_move v a) (run_of k)) x c
+module _ (x : List ValueOf) (c : CurrentCondition) where
+  move_ends : (k : ℕ) (v : Seen) (t u : Tally) (a : Move) → ((w : Seen) → EndsWithin w w.stage k x c → IsEnd (meaning_run k w) x c) → go_on (add_to t a) (run v.program v.sizes k) ≡ Over x c u →
+      IsEnd (ran_on (answer_by a) (after_move v a) (meaning_run k)) x c
   move_ends k v t u (Next (At p y w fs s)) rest h =
       rest (after_move v (Next (At p y w fs s))) (plus t s, u, sym (bare_run v.program v.sizes k t p y w fs s) ∙ h)
   move_ends k v t u (Ended y d s) rest h =
       let same = same_end y x d c (plus t s) u h in
       record { run = refl; stage = ap₂ Finished same.0 same.1 }
 
-  from_ends : (k : ℕ) (v : Seen) (s : Stage) → ((w : Seen) → EndsWithin w w.stage k x c → IsEnd (run_of k w) x c) → v.stage ≡ s → EndsWithin v s (suc k) x c →
-      IsEnd (ran_on (answer_from v s) (left_from v s) (run_of k)) x c
+  from_ends : (k : ℕ) (v : Seen) (s : Stage) → ((w : Seen) → EndsWithin w w.stage k x c → IsEnd (meaning_run k w) x c) → v.stage ≡ s → EndsWithin v s (suc k) x c →
+      IsEnd (ran_on (answer_from v s) (left_from v s) (meaning_run k)) x c
   from_ends k v (Running g) rest e h =
       let q = v.program in
       move_ends k v h.0 h.1 (gypsy_step q v.sizes g) rest (sym (stepped q v.sizes g h.0 (gypsy_step q v.sizes g) k refl) ∙ h.2)
@@ -137,8 +137,8 @@ module _ (x : List ValueOf) (c : Way) where
   here_ends v (Running g) e h = let never : Going ≡ Over x c h.1 = h.2 in absurd cc
   here_ends v (Finished y d) e h = record { run = refl; stage = e ∙ ap₂ Finished h.0 h.1 }
 
-  run_ends : (k : ℕ) (v : Seen) → EndsWithin v v.stage k x c → IsEnd (run_of k v) x c
-  unfolding run_of answer_of left_of
+  run_ends : (k : ℕ) (v : Seen) → EndsWithin v v.stage k x c → IsEnd (meaning_run k v) x c
+  unfolding meaning_run answer_of left_of
   run_ends zero v h = here_ends v v.stage refl h
   run_ends (suc k) v h = from_ends k v v.stage (run_ends k) refl h
 
@@ -151,7 +151,7 @@ module _ (x : List ValueOf) (c : Way) where
       same_end y x d c spent t (one_end q v.sizes made j (start q v.values) (Over y d spent) (Over x c t) tt tt at over)
 
   -- where the meaning is done, a run with a limit large enough ends with the same
-  pub completes : (v : Seen) (n : ℕ) → Reached v → meaning v.program v.sizes v.values n ≡ Done x c → (j : ℕ) × ((limit : ℕ) → j ≤ limit → IsEnd (run_of limit v) x c)
+  pub completes : (v : Seen) (n : ℕ) → Reached v → meaning v.program v.sizes v.values n ≡ Done x c → (j : ℕ) × ((limit : ℕ) → j ≤ limit → IsEnd (meaning_run limit v) x c)
   completes v n r done =
       let q = v.program in
       let counted = counted_too (counted_meaning q v.sizes v.values n) x c (meaning-uncounted q v.sizes v.values n ∙ done) in

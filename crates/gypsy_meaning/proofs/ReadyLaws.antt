@@ -14,15 +14,15 @@ use Rattle.gypsy_space.specs.Nodes.{seen_arg, seen_program}
 use Rattle.gypsy_space.specs.declared.need.Need.{Need}
 use Rattle.gypsy_space.specs.declared.program.Argument.{Argument}
 use Rattle.gypsy_space.specs.declared.program.CallSite.{CallSite}
-use Rattle.gypsy_meaning.specs.Applying.{Suits}
-use Rattle.gypsy_meaning.specs.Calling.{AreLent, call_top}
+use Rattle.gypsy_meaning.specs.Scaffold.PredefinedEffects.{Suits}
+use Rattle.gypsy_meaning.specs.Scaffold.Entering.{AreLent, call_top}
 use Rattle.gypsy_meaning.specs.Calls.{values_of}
 use Rattle.gypsy_meaning.specs.Kept.{VarsFit, WorkFits}
 use Rattle.gypsy_meaning.specs.Machine.{Item}
-use Rattle.gypsy_meaning.specs.Named.{variables_of}
-use Rattle.gypsy_meaning.specs.Stepping.{IsReady}
-use Rattle.gypsy_meaning.specs.Within.{WorkSuits}
-use Rattle.gypsy_meaning.specs.Work.{work_of}
+use Rattle.gypsy_meaning.specs.Seen.Named.{variables_of}
+use Rattle.gypsy_meaning.specs.Scaffold.Stepping.{IsReady}
+use Rattle.gypsy_meaning.specs.Scaffold.Within.{WorkSuits}
+use Rattle.gypsy_meaning.specs.Seen.Work.{work_of}
 use Rattle.gypsy_meaning.specs.declared.running.Meaning.{Meaning}
 use Rattle.gypsy_meaning.proofs.ApplyLaws.{value_listed}
 use Rattle.gypsy_meaning.proofs.EffectLaws.{stored_item}
@@ -30,7 +30,7 @@ use Rattle.gypsy_meaning.proofs.LendingLaws.{actuals_there, as_many}
 use Rattle.gypsy_meaning.proofs.ValueLaws.{range_item}
 
 -- as many actuals as formals
-actuals_length : (shapes formals : List Shape) (xs : List ℕ) → ActualsFit shapes formals xs → length xs ≡ length formals
+pub actuals_length : (shapes formals : List Shape) (xs : List ℕ) → ActualsFit shapes formals xs → length xs ≡ length formals
 actuals_length shapes [] [] f = refl
 actuals_length shapes [] (x ∷ xs) f = absurd f
 actuals_length shapes (s ∷ formals) [] f = absurd f
@@ -63,24 +63,12 @@ call_lent ns m site below ready turn =
 
 suits : (r : Predef) (shapes : List Shape) (k : Kind) (x : List ValueOf) (args : List Argument) → VarsFit shapes x → ArgsFit shapes k (slots_of r) (map seen_arg args) → Suits r x args
 unfolding Suits values_of
-suits row.MgSimpleVariableAssignment shapes k x args h f = tt
-suits row.MgSimpleConstantAssignment shapes k x args h f = tt
-suits row.MgSimpleVariableEq shapes k x args h f = tt
-suits row.MgSimpleConstantEq shapes k x args h f = tt
-suits row.MgIntegerLe shapes k x args h f = tt
-suits row.MgIntegerUnaryMinus shapes k x args h f = tt
-suits row.MgIntegerAdd shapes k x args h f = tt
-suits row.MgIntegerSubtract shapes k x args h f = tt
-suits row.MgBooleanOr shapes k x args h f = tt
-suits row.MgBooleanAnd shapes k x args h f = tt
-suits row.MgBooleanNot shapes k x args h f = tt
-suits row.MgIndexArray shapes k x args h f = tt
-suits row.MgIntegerMultiply shapes k x args h f = tt
 suits row.MgArrayElementAssignment shapes k x args h f =
     let vs = values_of x (map seen_arg args) in
     let item : is_item (value_at vs 0).shape.kind (item_of_value (value_at vs 2)) ≡ true =
     range_item (value_at vs 0).shape.kind (item_of_value (value_at vs 2)) (stored_item shapes x k (map seen_arg args) h f) in
     ap₂ (λ (a b : ValueOf). is_item a.shape.kind (item_of_value b)) (value_listed x (map seen_arg args) 0) (value_listed x (map seen_arg args) 2) ∙ item
+suits r shapes k x args h f = tt
 
 -- the predefined call on top suits
 pub work_suits : (ns : List Need) (m : Meaning) → IsReady ns m → WorkSuits (map (λ v. v.1) m.variables.items) (work_of m.work.value)

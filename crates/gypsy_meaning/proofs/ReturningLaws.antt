@@ -3,22 +3,22 @@ use Rattle.std.proofs.Common.{◌≡◌, ℕ, zero, suc, ◌+◌, ◌-◌, List,
 use Rattle.std.specs.Prelude.{slice_get}
 use Rattle.std.proofs.lemmas.List.{reverse-append}
 use Rattle.stack_text.specs.Values.{ValueOf}
-use Rattle.gypsy_syntax.specs.Programs.{Cond, Program}
+use Rattle.gypsy_syntax.specs.Programs.{ConditionOf, Program}
 use Rattle.gypsy_space.specs.Costs.{Tally, spend, out_spend, start_tally}
-use Rattle.gypsy_space.specs.Needs.{stack_words}
+use Rattle.gypsy_space.specs.Needs.{stack_sizes}
 use Rattle.gypsy_space.specs.Nodes.{seen_cond, seen_program}
 use Rattle.gypsy_space.specs.Events.{event_count}
 use Rattle.gypsy_space.specs.declared.event.CostEvent.TheVariants as event
 use Rattle.gypsy_space.specs.declared.need.Need.{Need}
 use Rattle.gypsy_meaning.specs.Calls.{copied_out, is_passed_on, matching}
-use Rattle.gypsy_meaning.specs.Held.{AreActivations, IsActivation, IsHeld, Keeps, Moves}
+use Rattle.gypsy_meaning.specs.Seen.Held.{AreActivations, IsActivation, IsHeld, Keeps, Moves}
 use Rattle.gypsy_meaning.specs.Machine.{Item, Out, State, At, Next, gypsy_step, settle, raise, used}
 use Rattle.gypsy_meaning.specs.Machine as machine
-use Rattle.gypsy_meaning.specs.Named.{variables_of}
-use Rattle.gypsy_meaning.specs.Returning.{HasResumed, IsLast, RaisesTo, Resumes, out_price}
-use Rattle.gypsy_meaning.specs.Running.{frame_of, frames_in, frames_of, kept_frames, sizes_of, state_of, paid}
-use Rattle.gypsy_meaning.specs.Seen.{added, bare, handed_back}
-use Rattle.gypsy_meaning.specs.Work.{caught_spend, work_of}
+use Rattle.gypsy_meaning.specs.Seen.Named.{variables_of}
+use Rattle.gypsy_meaning.specs.Scaffold.Returning.{HasResumed, IsLast, RaisesTo, Resumes, out_price}
+use Rattle.gypsy_meaning.specs.Seen.Running.{frame_of, frames_in, frames_of, kept_frames, sizes_of, state_of, paid}
+use Rattle.gypsy_meaning.specs.Seen.RunView.{added, bare, handed_back}
+use Rattle.gypsy_meaning.specs.Seen.Work.{caught_spend, work_of}
 use Rattle.gypsy_meaning.specs.declared.names.Names.{Names}
 use Rattle.gypsy_meaning.specs.declared.running.Frame.{Frame}
 use Rattle.gypsy_meaning.specs.declared.running.Meaning.{Meaning}
@@ -63,7 +63,7 @@ resume_held w cost m n gs f e es r h =
             ∙ ap (λ (p : ℕ). used q p (kept_frames n.waiting.items)) r.procedure
             ∙ ap (λ (fs : List Frame). used q f.procedure (kept_frames fs)) es
             ∙ a.used_words
-            ∙ ap₂ stack_words (sym r.used_temp) (sym r.used_ctrl);
+            ∙ ap₂ stack_sizes (sym r.used_ctrl) (sym r.used_temp);
       };
       waiting =
           let R : Program → Type 0 = λ p. AreActivations p n.names.items (reverse n.waiting.items) in
@@ -144,7 +144,7 @@ out_paid true false t = refl
 out_paid false true t = omega arith
 out_paid false false t = refl
 
-pub leave_moves : (m n : Meaning) (w : Work) (caught : Bool) (d : Cond) (below : List Item) → work_of m.work.value ≡ Out d ∷ below → IsLast m.waiting.items (RaisesTo (seen_program m.program) m.procedure d w caught) → HasResumed w m n →
+pub leave_moves : (m n : Meaning) (w : Work) (caught : Bool) (d : ConditionOf) (below : List Item) → work_of m.work.value ≡ Out d ∷ below → IsLast m.waiting.items (RaisesTo (seen_program m.program) m.procedure d w caught) → HasResumed w m n →
     Moves m (paid (out_price (is_passed_on (seen_program m.program) m.procedure d) caught) n)
 leave_moves m n w caught d below out last resumed =
     let q = seen_program m.program in

@@ -6,19 +6,19 @@ use Rattle.std.specs.declared.rc.Rc.{Rc}
 use Rattle.stack_text.specs.Values.{ValueOf}
 use Rattle.gypsy_syntax.specs.Programs.{Program}
 use Rattle.gypsy_space.specs.Costs.{Tally, spend, start_tally, predef_spend}
-use Rattle.gypsy_space.specs.Needs.{Words}
+use Rattle.gypsy_space.specs.Needs.{StackSizes}
 use Rattle.gypsy_space.specs.Nodes.{seen_program}
 use Rattle.gypsy_space.specs.Events.{event_count, event_spend, predef_count}
 use Rattle.gypsy_space.specs.declared.event.CostEvent.{CostEvent}
 use Rattle.gypsy_space.specs.declared.event.CostEvent.TheVariants as event
 use Rattle.gypsy_space.specs.declared.need.Need.{Need}
 use Rattle.gypsy_meaning.specs.Machine.{Item, Frame, At, Next, gypsy_step}
-use Rattle.gypsy_meaning.specs.Work.{work_of, caught_spend}
-use Rattle.gypsy_meaning.specs.Turns.{IsPlain, GoesOn, OpensTo}
-use Rattle.gypsy_meaning.specs.Applied.{WritesOn}
-use Rattle.gypsy_meaning.specs.Seen.{added, bare, handed_back}
-use Rattle.gypsy_meaning.specs.Held.{Moves}
-use Rattle.gypsy_meaning.specs.Running.{price, advanced, Goes, frames_in, kept_frames, sizes_of, state_of, paid}
+use Rattle.gypsy_meaning.specs.Seen.Work.{work_of, caught_spend}
+use Rattle.gypsy_meaning.specs.Scaffold.Turns.{IsPlain, GoesOn, OpensTo}
+use Rattle.gypsy_meaning.specs.Scaffold.PredefinedSteps.{WritesOn}
+use Rattle.gypsy_meaning.specs.Seen.RunView.{added, bare, handed_back}
+use Rattle.gypsy_meaning.specs.Seen.Held.{Moves}
+use Rattle.gypsy_meaning.specs.Seen.Running.{price, advanced, Goes, frames_in, kept_frames, sizes_of, state_of, paid}
 use Rattle.gypsy_meaning.specs.declared.turn.Advance.{Advance}
 use Rattle.gypsy_meaning.specs.declared.running.Meaning.{Meaning}
 use Rattle.gypsy_meaning.specs.declared.work.Work.{Work}
@@ -56,7 +56,7 @@ still_lent : (p : ℕ) (x : List ValueOf) (w : List Item) (fs : List Frame) (t :
 still_lent p x w fs t = ap (λ (gs : List Frame). At p x w gs start_tally) (back_again x x fs refl)
 
 -- a step that changes the work alone
-advance_goes : (q : Program) (sizes : Words) (ns : List Need) (a : Advance) (m : Meaning) → IsPlain a.event →
+advance_goes : (q : Program) (sizes : StackSizes) (ns : List Need) (a : Advance) (m : Meaning) → IsPlain a.event →
     gypsy_step q sizes (state_of m) ≡ Next (At m.procedure (map (λ v. v.1) m.variables.items) (work_of a.work.value) (frames_in m) (caught_spend a.caught (event_spend q a.event start_tally))) → Goes q sizes m (advanced ns a m)
 advance_goes q sizes ns a m plain step =
     let u = event_spend q a.event start_tally in

@@ -3,14 +3,15 @@ use Rattle.std.proofs.Common.{◌≡◌, ℕ, zero, suc, ◌≤◌, List, [], �
 use Rattle.std.proofs.lemmas.Bool.{cases_lt}
 use Rattle.stack_text.specs.Values.{ValueOf}
 use Rattle.gypsy_syntax.specs.declared.predef.Predef.{Predef}
-use Rattle.gypsy_syntax.specs.Programs.{Cond, Arg, Program, body_of}
+use Rattle.gypsy_syntax.specs.Programs.{ConditionOf, Arg, Program, body_of}
 use Rattle.gypsy_syntax.specs.Programs.{Stmt, Skip, NoOp, Signal, Seq, Loop, If, Begin, Call, Apply}
-use Rattle.gypsy_syntax.specs.Effects.{Effect, Normal, Fault, Beyond, predef_effect, value_at, is_true_value}
+use Rattle.gypsy_syntax.specs.Predefined.{predef_effect}
+use Rattle.gypsy_syntax.specs.Effects.{Effect, Normal, Fault, Beyond, value_at, is_true_value}
 use Rattle.gypsy_space.specs.Costs.{Tally, spend, start_tally}
-use Rattle.gypsy_space.specs.Needs.{Words, main_used, with_call, lack_of, call_spend}
+use Rattle.gypsy_space.specs.Needs.{StackSizes, main_used, with_call, lack_of, call_spend}
 use Rattle.gypsy_space.specs.declared.need.Lack.{Lack}
 use Rattle.gypsy_space.specs.declared.need.Lack.TheVariants.{Nothing, Temporary, Control}
-use Rattle.gypsy_meaning.specs.Calls.{Way, has_cond, is_leave, values_of, copied_in, main_start}
+use Rattle.gypsy_meaning.specs.Calls.{CurrentCondition, has_cond, is_leave, values_of, copied_in, main_start}
 use Rattle.gypsy_meaning.specs.Counted.{CountedOutcome, CountedDone, CountedUnfinished, CountedMeans, counted_then, counted_part, counted_either, counted_caught, counted_round_end, counted_applied, counted_returned, counted_if_room, counted_evaluate, counted_main_end, counted_meaning}
 use Rattle.gypsy_meaning.specs.Machine.{Item, Do, Back, JoinThen, JoinOne, Guard, Frame, Held, State, At, Move, Next, Ended, open_on, settle, stop_if, raise, either_move, apply_step, used, call_step, gypsy_step, Ending, Over, Going, go_on, run, start}
 use Rattle.gypsy_meaning.specs.Agree.{Agree}
@@ -24,7 +25,7 @@ go_longer : (f h : State → Ending) → ((g : State) (o : Ending) → IsOver o 
 go_longer f h l (Next g) o over e = l g o over e
 go_longer f h l (Ended x c t) o over e = e
 
-module _ (q : Program) (sizes : Words) where
+module _ (q : Program) (sizes : StackSizes) where
   -- the machine goes from one state to another, in no step or more
   record Comes (g h : State) : Type 0 where
     by : (k : ℕ) → (j : ℕ) × (k ≤ j) × (run q sizes j g ≡ run q sizes k h)
@@ -65,7 +66,7 @@ module _ (q : Program) (sizes : Words) where
   seq_runs n p fs g b w CountedUnfinished m rb r = r
 
   -- an item that only costs
-  join_runs : (n p : ℕ) (fs : List Frame) (g : State) (i : Item) (w : List Item) (pay : Tally → Tally) (o : CountedOutcome) → ((x : List ValueOf) (t : Tally) → gypsy_step q sizes (At p x (settle (i ∷ w)) fs t) ≡ Next (At p x (settle w) fs (pay t))) → ((c : Cond) (x : List ValueOf) (t : Tally) → raise c p x (i ∷ w) fs t ≡ raise c p x w fs t) → Runs n p fs g (i ∷ w) o → Runs n p fs g w (counted_part o pay)
+  join_runs : (n p : ℕ) (fs : List Frame) (g : State) (i : Item) (w : List Item) (pay : Tally → Tally) (o : CountedOutcome) → ((x : List ValueOf) (t : Tally) → gypsy_step q sizes (At p x (settle (i ∷ w)) fs t) ≡ Next (At p x (settle w) fs (pay t))) → ((c : ConditionOf) (x : List ValueOf) (t : Tally) → raise c p x (i ∷ w) fs t ≡ raise c p x w fs t) → Runs n p fs g (i ∷ w) o → Runs n p fs g w (counted_part o pay)
   join_runs n p fs g i w pay (CountedDone x None t) st up r = comes_on g _ _ r (one_step _ _ (st x t))
   join_runs n p fs g i w pay (CountedDone x (Some c) t) st up r = subst (Comes g) (up c x t) r
   join_runs n p fs g i w pay CountedUnfinished st up r = r
@@ -74,7 +75,7 @@ module _ (q : Program) (sizes : Words) where
   if_runs n p true fs g ga gb w oa ob e ra rb = after n p fs g ga w oa (one_step g ga e) ra
   if_runs n p false fs g ga gb w oa ob e ra rb = after n p fs g gb w ob (one_step g gb e) rb
 
-  guard_runs : (n p : ℕ) (fs : List Frame) (g : State) (place : ℕ) (cs : List Cond) (v : Stmt) (w : List Item) (arm : List ValueOf → Tally → CountedOutcome) (o : CountedOutcome) → ((x : List ValueOf) (t : Tally) → Runs n p fs (At p x (open_on v (JoinOne place ∷ w)) fs t) (JoinOne place ∷ w) (arm x t)) → Runs n p fs g (Guard place cs v ∷ w) o → Runs n p fs g w (counted_caught o cs arm)
+  guard_runs : (n p : ℕ) (fs : List Frame) (g : State) (place : ℕ) (cs : List ConditionOf) (v : Stmt) (w : List Item) (arm : List ValueOf → Tally → CountedOutcome) (o : CountedOutcome) → ((x : List ValueOf) (t : Tally) → Runs n p fs (At p x (open_on v (JoinOne place ∷ w)) fs t) (JoinOne place ∷ w) (arm x t)) → Runs n p fs g (Guard place cs v ∷ w) o → Runs n p fs g w (counted_caught o cs arm)
   guard_runs n p fs g place cs v w arm (CountedDone x None t) ra r = comes_on g _ _ r (one_step _ _ refl)
   guard_runs n p fs g place cs v w arm (CountedDone x (Some c) t) ra r = pick (has_cond c cs) r
     where
@@ -99,12 +100,12 @@ module _ (q : Program) (sizes : Words) where
   apply_runs n p r args fs g Beyond x w t is = one_step g _ is
 
   -- the callee's end, seen from the caller
-  return_runs : (n p c : ℕ) (fs : List Frame) (x : List ValueOf) (w : List Item) (xs : List ℕ) (cs : List Cond) (h : State) (o : CountedOutcome) → Runs n c (Held p x w xs cs ∷ fs) h [] o → Runs n p fs h w (counted_returned q c xs cs x o)
+  return_runs : (n p c : ℕ) (fs : List Frame) (x : List ValueOf) (w : List Item) (xs : List ℕ) (cs : List ConditionOf) (h : State) (o : CountedOutcome) → Runs n c (Held p x w xs cs ∷ fs) h [] o → Runs n p fs h w (counted_returned q c xs cs x o)
   return_runs n p c fs x w xs cs h (CountedDone y None t) r = comes_on h _ _ r (one_step _ _ refl)
   return_runs n p c fs x w xs cs h (CountedDone y (Some d) t) r = comes_on h _ _ r (one_step _ _ refl)
   return_runs n p c fs x w xs cs h CountedUnfinished r = r
 
-  call_runs : (n p c : ℕ) (xs : List ℕ) (cs : List Cond) (fs : List Frame) (g : State) (x : List ValueOf) (w : List Item) (t : Tally) (o : CountedOutcome) (l : Lack) → gypsy_step q sizes g ≡ call_step q l c xs cs p x w fs t →
+  call_runs : (n p c : ℕ) (xs : List ℕ) (cs : List ConditionOf) (fs : List Frame) (g : State) (x : List ValueOf) (w : List Item) (t : Tally) (o : CountedOutcome) (l : Lack) → gypsy_step q sizes g ≡ call_step q l c xs cs p x w fs t →
       Runs n p fs (At c (copied_in q c xs x) (open_on (body_of q c) []) (Held p x w xs cs ∷ fs) (call_spend q c t)) w o → Runs (suc n) p fs g w (counted_if_room l x t o)
   call_runs n p c xs cs fs g x w t o Nothing e r = after_step n p fs g _ w o e r
   call_runs n p c xs cs fs g x w t o Temporary e r = one_step g _ e
@@ -161,12 +162,12 @@ module _ (q : Program) (sizes : Words) where
   met v n = main_met (start q v) n (counted_evaluate q sizes n (body_of q q.main) (main_used q) (main_start q v) start_tally) (evaluate_follows n (body_of q q.main) q.main (main_start q v) start_tally [] [])
 
   -- a run of the machine that is over, and the counted meaning at as many rounds
-  over_too : (g : State) (j : ℕ) (x : List ValueOf) (c : Way) (t : Tally) (o : CountedOutcome) → run q sizes j g ≡ Over x c t → IsMet g (suc j) o → o ≡ CountedDone x c t
+  over_too : (g : State) (j : ℕ) (x : List ValueOf) (c : CurrentCondition) (t : Tally) (o : CountedOutcome) → run q sizes j g ≡ Over x c t → IsMet g (suc j) o → o ≡ CountedDone x c t
   over_too g j x c t (CountedDone y d u) e m = grind (arith, one_end j m.0 g (Over x c t) (Over y d u) tt tt e m.1)
   over_too g j x c t CountedUnfinished e m =
       absurd (subst IsOver (sym (longer j m.0 (omega (arith, m.1)) g (Over x c t) tt e) ∙ m.2) tt)
 
-pub agree : (q : Program) (sizes : Words) (v : List ValueOf) → Agree q sizes v
+pub agree : (q : Program) (sizes : StackSizes) (v : List ValueOf) → Agree q sizes v
 agree q sizes v = record {
   ended = λ j x c t e. over_too q sizes (start q v) j x c t (counted_meaning q sizes v (suc j)) e (met q sizes v (suc j));
   done = λ n x c t e. subst (IsMet q sizes (start q v) n) e (met q sizes v n);

@@ -3,12 +3,12 @@ use Rattle.std.proofs.Common.{◌≡◌, ℕ, zero, suc, ◌≤◌, List, refl, 
 use Rattle.stack_text.specs.Values.{ValueOf}
 use Rattle.gypsy_syntax.specs.ProgramFits.{ProgramFits}
 use Rattle.gypsy_syntax.specs.Programs.{Program, proc_at}
-use Rattle.gypsy_space.specs.Needs.{Words, main_need}
-use Rattle.gypsy_meaning.specs.Belongs.{StageFits}
+use Rattle.gypsy_space.specs.Needs.{StackSizes, main_need}
+use Rattle.gypsy_meaning.specs.Seen.Belongs.{StageFits}
 use Rattle.gypsy_meaning.specs.Kept.{MoveFits, VarsFit}
 use Rattle.gypsy_meaning.specs.Room.{MoveRoom, StateRoom}
 use Rattle.gypsy_meaning.specs.Machine.{At, Ended, Move, Next, gypsy_step}
-use Rattle.gypsy_meaning.specs.Seen.{Finished, IsOfRun, Running, Seen, Stage, after, after_move, answer_of, left_from, left_of, opening, ran_on, run_of}
+use Rattle.gypsy_meaning.specs.Seen.RunView.{Finished, IsOfRun, Running, Seen, Stage, after, after_move, answer_of, left_from, left_of, opening, ran_on, meaning_run}
 use Rattle.gypsy_meaning.specs.declared.answers.Moved.{Moved}
 use Rattle.gypsy_meaning.specs.declared.answers.Moved.TheVariants as moved
 use Rattle.gypsy_meaning.proofs.Keeping.{start_fits, step_keeps}
@@ -41,12 +41,12 @@ after_same (suc k) v =
     let t = after_same k (left_of v) in
     record { program = t.program ∙ s.program; sizes = t.sizes ∙ s.sizes; values = t.values ∙ s.values }
 
-by_same : (k : ℕ) (a : Moved) (v : Seen) → ((w : Seen) → IsOfRun w (run_of k w).seen) → IsOfRun v (ran_on a v (run_of k)).seen
+by_same : (k : ℕ) (a : Moved) (v : Seen) → ((w : Seen) → IsOfRun w (meaning_run k w).seen) → IsOfRun v (ran_on a v (meaning_run k)).seen
 by_same k moved.Moved v rest = rest v
 by_same k moved.Ended v rest = record { program = refl; sizes = refl; values = refl }
 
-pub run_same : (k : ℕ) (v : Seen) → IsOfRun v (run_of k v).seen
-unfolding run_of
+pub run_same : (k : ℕ) (v : Seen) → IsOfRun v (meaning_run k v).seen
+unfolding meaning_run
 run_same zero v = record { program = refl; sizes = refl; values = refl }
 run_same (suc k) v =
     let s = left_same v in
@@ -55,7 +55,7 @@ run_same (suc k) v =
 
 -- What stages keep.
 
-abbrev pub StageRoom : Program → Words → Stage → Type 0
+abbrev pub StageRoom : Program → StackSizes → Stage → Type 0
 StageRoom q sizes (Running g) = StateRoom q sizes g
 StageRoom q sizes (Finished x c) = Unit {0}
 
@@ -82,6 +82,6 @@ after_fits (suc k) v fits h =
     let P : Program → Type 0 = ProgramFits in
     after_fits k (left_of v) (subst P (sym (left_same v).program) fits) (left_fits v fits h)
 
-pub opening_fits : (q : Program) (sizes : Words) (v : List ValueOf) → ProgramFits q → VarsFit (proc_at q q.main).formals v →
+pub opening_fits : (q : Program) (sizes : StackSizes) (v : List ValueOf) → ProgramFits q → VarsFit (proc_at q q.main).formals v →
     (main_need q).temp ≤ sizes.temp → (main_need q).ctrl ≤ sizes.ctrl → Fits (opening q sizes v)
 opening_fits q sizes v fits h temp ctrl = (start_fits q sizes fits v h, start_room q sizes v temp ctrl)

@@ -6,17 +6,17 @@ use Rattle.std.proofs.lemmas.List.{length-map, length-reverse}
 use Rattle.gypsy_syntax.specs.Sources.{SourceOf}
 use Rattle.gypsy_syntax.specs.Programs.{Declared, Program, proc_at}
 use Rattle.gypsy_syntax.specs.Resolved.{program_of}
-use Rattle.gypsy_space.specs.Needs.{Words, ctrl_need, main_used, with_call}
+use Rattle.gypsy_space.specs.Needs.{StackSizes, ctrl_need, main_used, with_call}
 use Rattle.gypsy_space.specs.Nodes.{seen_program, seen_statements}
 use Rattle.gypsy_space.specs.declared.need.Need.{Need}
 use Rattle.gypsy_space.specs.declared.program.Node.{Node}
-use Rattle.gypsy_meaning.specs.Belongs.{BelongsTo, IsKept}
+use Rattle.gypsy_meaning.specs.Seen.Belongs.{BelongsTo, IsKept}
 use Rattle.gypsy_meaning.specs.Room.{HaveWords}
 use Rattle.gypsy_meaning.specs.Machine.{Frame, Held, statement_place, used}
-use Rattle.gypsy_meaning.specs.Named.{conditions_of, current_or, shown_names, variables_of}
-use Rattle.gypsy_meaning.specs.Running.{frame_of, frames_in, kept_frames, seen, sizes_of, stage_by}
-use Rattle.gypsy_meaning.specs.Seen.{depth_at, procedure_at, way_at}
-use Rattle.gypsy_meaning.specs.Shown.{condition_at, conditions_at, current_by, named_or, names_at}
+use Rattle.gypsy_meaning.specs.Seen.Named.{conditions_of, current_or, shown_names, variables_of}
+use Rattle.gypsy_meaning.specs.Seen.Running.{frame_of, frames_in, kept_frames, seen, sizes_of, stage_by}
+use Rattle.gypsy_meaning.specs.Seen.RunView.{depth_at, procedure_at, way_at}
+use Rattle.gypsy_meaning.specs.Seen.Shown.{condition_at, conditions_at, current_by, named_or, names_at}
 use Rattle.gypsy_meaning.specs.declared.conditions.Current.{Current}
 use Rattle.gypsy_meaning.specs.declared.conditions.Current.TheVariants as current
 use Rattle.gypsy_meaning.specs.declared.running.Ending.{Ending}
@@ -71,7 +71,7 @@ unfolding main_used with_call
 two_words q p [] = omega arith
 two_words q p (Held c x w xs cs ∷ fs) = let h : 2 * (length fs + 1) ≤ (used q c fs).ctrl = two_words q c fs in omega (arith, h)
 
-has_words : (q : Program) (sizes : Words) (p : ℕ) (fs : List Frame) → HaveWords q sizes p fs → (used q p fs).ctrl + ctrl_need (proc_at q p) ≤ sizes.ctrl
+has_words : (q : Program) (sizes : StackSizes) (p : ℕ) (fs : List Frame) → HaveWords q sizes p fs → (used q p fs).ctrl + ctrl_need (proc_at q p) ≤ sizes.ctrl
 has_words q sizes p [] h = h.1
 has_words q sizes p (Held c x w xs cs ∷ fs) h = h.0.1
 

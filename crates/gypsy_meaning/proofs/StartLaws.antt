@@ -11,19 +11,19 @@ use Rattle.gypsy_syntax.specs.Resolved.{program_of}
 use Rattle.gypsy_check.specs.Accepted.{IsAccepted}
 use Rattle.gypsy_space.specs.Costs.{start_tally}
 use Rattle.gypsy_space.specs.Events.{AreNeeds, AreSmall}
-use Rattle.gypsy_space.specs.Needs.{main_used, stack_words}
+use Rattle.gypsy_space.specs.Needs.{main_used, stack_sizes}
 use Rattle.gypsy_space.specs.Nodes.{seen_program}
 use Rattle.gypsy_space.specs.declared.need.Need.{Need}
 use Rattle.gypsy_space.specs.declared.program.Program.{Program as Code}
-use Rattle.gypsy_meaning.specs.Belongs.{BelongsTo, IsKept, Suffices}
+use Rattle.gypsy_meaning.specs.Seen.Belongs.{BelongsTo, IsKept, Suffices}
 use Rattle.gypsy_meaning.specs.Calls.{main_start}
-use Rattle.gypsy_meaning.specs.Held.{AreActivations, IsHeld}
+use Rattle.gypsy_meaning.specs.Seen.Held.{AreActivations, IsHeld}
 use Rattle.gypsy_meaning.specs.Kept.{VarsFit}
 use Rattle.gypsy_meaning.specs.Machine.{At, Frame, Item, open_on, start, used}
-use Rattle.gypsy_meaning.specs.Named.{proc_names, seen_names, unnamed, variables_of}
-use Rattle.gypsy_meaning.specs.Running.{frames_in, frames_of, kept_frames, seen, sizes_of, stage_by}
-use Rattle.gypsy_meaning.specs.Seen.{Running, after, opening}
-use Rattle.gypsy_meaning.specs.Work.{work_of}
+use Rattle.gypsy_meaning.specs.Seen.Named.{proc_names, seen_names, unnamed, variables_of}
+use Rattle.gypsy_meaning.specs.Seen.Running.{frames_in, frames_of, kept_frames, seen, sizes_of, stage_by}
+use Rattle.gypsy_meaning.specs.Seen.RunView.{Running, after, opening}
+use Rattle.gypsy_meaning.specs.Seen.Work.{work_of}
 use Rattle.gypsy_meaning.specs.declared.names.Names.{Names}
 use Rattle.gypsy_meaning.specs.declared.running.Frame.{Frame as Waiting}
 use Rattle.gypsy_meaning.specs.declared.running.Meaning.{Meaning}
@@ -42,7 +42,7 @@ module _ (s : SourceOf) (accepted : IsAccepted s) (code : Code) (program : seen_
   main_vars x fit =
       let q = program_of s in
       let P : Program → Type 0 = λ r. VarsFit (shapes_of (proc_at r r.main)) (main_start r x) in
-      subst P (sym program) (start_fits q (stack_words 0 0) accepted.fits x fit).0
+      subst P (sym program) (start_fits q (stack_sizes 0 0) accepted.fits x fit).0
 
   pub main_words : (vars : List (Name × Value)) (x : List ValueOf) → VarsFit (proc_at (program_of s) (program_of s).main).formals x → map (λ v. v.1) vars ≡ main_start (seen_program code) x →
       words_of (map (λ v. v.shape) (map (λ v. v.1) vars)) ≤ 65536
@@ -117,7 +117,7 @@ module _ (s : SourceOf) (m : Meaning) (accepted : IsAccepted s) (program : seen_
           named = named ∙ ap (variables_of m.names.items) (sym procedure);
           used_words =
               ap (λ (fs : List Waiting). used q m.procedure (kept_frames fs)) waiting
-              ∙ ap₂ stack_words (ap words_of (sym shapes) ∙ sym temp) (sym number);
+              ∙ ap₂ stack_sizes (sym number) (ap words_of (sym shapes) ∙ sym temp);
         };
         waiting = subst P (sym waiting) tt;
       }

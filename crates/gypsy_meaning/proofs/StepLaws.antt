@@ -6,20 +6,20 @@ use Rattle.gypsy_syntax.specs.Sources.{SourceOf}
 use Rattle.gypsy_syntax.specs.Programs.{Program, proc_at}
 use Rattle.gypsy_syntax.specs.Resolved.{program_of}
 use Rattle.gypsy_space.specs.Events.{AreNeeds}
-use Rattle.gypsy_meaning.specs.Belongs.{BelongsTo, IsKept, IsRunOf, StageFits, Suffices}
+use Rattle.gypsy_meaning.specs.Seen.Belongs.{BelongsTo, IsKept, IsRunOf, StageFits, Suffices}
 use Rattle.gypsy_meaning.specs.Kept.{FramesFit, StateFits, VarsFit}
 use Rattle.gypsy_space.specs.Costs.{start_tally}
-use Rattle.gypsy_space.specs.Needs.{Words, stack_words}
+use Rattle.gypsy_space.specs.Needs.{StackSizes, stack_sizes}
 use Rattle.gypsy_space.specs.Nodes.{seen_program}
 use Rattle.gypsy_space.specs.declared.need.Need.{Need}
-use Rattle.gypsy_meaning.specs.Calling.{IsUnchanged}
-use Rattle.gypsy_meaning.specs.Held.{AreActivations, EndsRun, IsActivation, Keeps, Moves}
+use Rattle.gypsy_meaning.specs.Scaffold.Entering.{IsUnchanged}
+use Rattle.gypsy_meaning.specs.Seen.Held.{AreActivations, EndsRun, IsActivation, Keeps, Moves}
 use Rattle.gypsy_meaning.specs.Machine.{At, Ended, Move, Next, gypsy_step}
-use Rattle.gypsy_meaning.specs.Named.{seen_names, variables_of}
-use Rattle.gypsy_meaning.specs.Running.{Costs, frames_of, kept_frames, seen, sizes_of, stage_by, state_of, way_of}
-use Rattle.gypsy_meaning.specs.Seen.{Finished, Running, Seen, Stage, added, after, after_move, answer_by, answer_from, answer_of, bare, is_over, left_from, left_of, opening, spent_at}
-use Rattle.gypsy_meaning.specs.Stepping.{Does, IsReady}
-use Rattle.gypsy_meaning.specs.Work.{work_of}
+use Rattle.gypsy_meaning.specs.Seen.Named.{seen_names, variables_of}
+use Rattle.gypsy_meaning.specs.Seen.Running.{Costs, frames_of, kept_frames, seen, sizes_of, stage_by, state_of, way_of}
+use Rattle.gypsy_meaning.specs.Seen.RunView.{Finished, Running, Seen, Stage, added, after, after_move, answer_by, answer_from, answer_of, bare, is_over, left_from, left_of, opening, spent_at}
+use Rattle.gypsy_meaning.specs.Scaffold.Stepping.{Does, IsReady}
+use Rattle.gypsy_meaning.specs.Seen.Work.{work_of}
 use Rattle.gypsy_meaning.specs.declared.answers.Moved.{Moved}
 use Rattle.gypsy_meaning.specs.declared.answers.Moved.TheVariants as moved
 use Rattle.gypsy_meaning.specs.declared.running.Ending.{Ending}
@@ -56,7 +56,7 @@ alike : (m n : Meaning) (s : Stage) (cost : ℕ) → Keeps m n → stage_by n.en
 unfolding seen
 alike m n s cost k e f = λ i. record {
   program = seen_program (k.program i);
-  sizes = stack_words (k.temp i) (k.ctrl i);
+  sizes = stack_sizes (k.ctrl i) (k.temp i);
   values = (k.values i).items;
   stage = e i;
   steps = k.steps i;
@@ -166,9 +166,9 @@ module _ (s : SourceOf) (ns : List Need) (m : Meaning) (b : BelongsTo s ns m) wh
   belongs_after n k left kept =
       let q = program_of s in
       let values : n.values.items ≡ m.values.items = ap (λ v. v.items) k.values in
-      let sizes : sizes_of n ≡ sizes_of m = ap₂ stack_words k.temp k.ctrl in
+      let sizes : sizes_of n ≡ sizes_of m = ap₂ stack_sizes k.ctrl k.temp in
       let P : List ValueOf → Type 0 = VarsFit (proc_at q q.main).formals in
-      let Q : Words → Type 0 = Suffices q in
+      let Q : StackSizes → Type 0 = Suffices q in
       record {
         accepted = b.accepted;
         needs_are = b.needs_are;
@@ -176,7 +176,7 @@ module _ (s : SourceOf) (ns : List Need) (m : Meaning) (b : BelongsTo s ns m) wh
         values_fit = subst P (sym values) b.values_fit;
         sizes_suffice = subst Q (sym sizes) b.sizes_suffice;
         number = suc b.number;
-        run = left ∙ ap left_of b.run ∙ sym (after_last b.number (opened s m)) ∙ sym (ap₂ (λ (w : Words) (x : List ValueOf). after (suc b.number) (opening q w x)) sizes values);
+        run = left ∙ ap left_of b.run ∙ sym (after_last b.number (opened s m)) ∙ sym (ap₂ (λ (w : StackSizes) (x : List ValueOf). after (suc b.number) (opening q w x)) sizes values);
         names = ap (λ t. map seen_names t.items) k.names ∙ b.names;
         unnamed_are = k.unnamed ∙ b.unnamed_are;
         kept = kept;

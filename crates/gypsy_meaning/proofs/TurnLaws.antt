@@ -7,7 +7,7 @@ use Rattle.gypsy_syntax.specs.Programs.{Stmt}
 use Rattle.gypsy_space.specs.declared.program.Node.{Node}
 use Rattle.gypsy_space.specs.Nodes.{seen_statements}
 use Rattle.gypsy_meaning.specs.Machine.{Item, Do, open_on}
-use Rattle.gypsy_meaning.specs.Turns.{OpensTo, GoesOn}
+use Rattle.gypsy_meaning.specs.Scaffold.Turns.{OpensTo, GoesOn}
 use Rattle.gypsy_meaning.specs.declared.turn.Advance.{Advance}
 
 pub parts_open : (ns : List (Rc Node Global)) (x : List ValueOf) (w : List Item) → OpensTo x (Do (seen_statements ns) ∷ w) (open_on (seen_statements ns) w)

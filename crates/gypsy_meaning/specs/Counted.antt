@@ -2,26 +2,27 @@
 use Rattle.std.specs.Prelude.{ℕ, zero, suc, List, Bool, true, false, Option, Some, None, option_map, slice_set}
 use Rattle.stack_text.specs.Values.{ValueOf}
 use Rattle.gypsy_syntax.specs.declared.predef.Predef.{Predef}
-use Rattle.gypsy_syntax.specs.Programs.{Cond, Routine, Space, Arg, Program, body_of}
+use Rattle.gypsy_syntax.specs.Programs.{ConditionOf, Routine, Space, Arg, Program, body_of}
 use Rattle.gypsy_syntax.specs.Programs.{Stmt, Skip, NoOp, Signal, Seq, Loop, If, Begin, Call, Apply}
-use Rattle.gypsy_syntax.specs.Effects.{Effect, Normal, Fault, Beyond, predef_effect, value_at, is_true_value}
+use Rattle.gypsy_syntax.specs.Predefined.{predef_effect}
+use Rattle.gypsy_syntax.specs.Effects.{Effect, Normal, Fault, Beyond, value_at, is_true_value}
 use Rattle.gypsy_space.specs.Costs.{Tally, spend, start_tally, predef_spend, out_spend, main_spend}
-use Rattle.gypsy_space.specs.Needs.{Words, main_used, with_call, lack_of, call_spend}
+use Rattle.gypsy_space.specs.Needs.{StackSizes, main_used, with_call, lack_of, call_spend}
 use Rattle.gypsy_space.specs.declared.need.Lack.{Lack}
 use Rattle.gypsy_space.specs.declared.need.Lack.TheVariants.{Nothing, Temporary, Control}
-use Rattle.gypsy_meaning.specs.Calls.{Way, has_cond, is_leave, is_passed_on, matching}
+use Rattle.gypsy_meaning.specs.Calls.{CurrentCondition, has_cond, is_leave, is_passed_on, matching}
 use Rattle.gypsy_meaning.specs.Calls.{main_way, values_of, target_of, copied_in, copied_out}
 use Rattle.gypsy_meaning.specs.Calls.{main_start, main_formals}
-use Rattle.gypsy_meaning.specs.Meaning.{Outcome, Done, Unfinished}
+use Rattle.gypsy_meaning.specs.Meaning.{MeaningOutcome, Done, Unfinished}
 
 -- done, with the variables, the condition and what is spent in all; or not done within the bound
 pub data CountedOutcome : Type 0 where
-  CountedDone : (x : List ValueOf) (c : Way) (t : Tally) → CountedOutcome
+  CountedDone : (x : List ValueOf) (c : CurrentCondition) (t : Tally) → CountedOutcome
   CountedUnfinished : CountedOutcome
 
 -- a statement in the normal condition, with these words in use, from these variables, when so much was spent
 abbrev pub CountedMeans : Type 0
-CountedMeans = Stmt → Words → List ValueOf → Tally → CountedOutcome
+CountedMeans = Stmt → StackSizes → List ValueOf → Tally → CountedOutcome
 
 -- goes on where the first is done in the normal condition
 abbrev pub counted_then : CountedOutcome → (List ValueOf → Tally → CountedOutcome) → CountedOutcome
@@ -40,7 +41,7 @@ counted_either true a b = a
 counted_either false a b = b
 
 -- where the body's condition is in the list, the arm
-abbrev pub counted_caught : CountedOutcome → List Cond → (List ValueOf → Tally → CountedOutcome) → CountedOutcome
+abbrev pub counted_caught : CountedOutcome → List ConditionOf → (List ValueOf → Tally → CountedOutcome) → CountedOutcome
 counted_caught (CountedDone x None t) cs arm = CountedDone x None (spend 2 2 t)
 counted_caught (CountedDone x (Some c) t) cs arm =
     counted_either (has_cond c cs) (counted_part (arm x (spend 3 2 t)) (spend 1 1)) (CountedDone x (Some c) t)
@@ -60,7 +61,7 @@ counted_applied r args Fault x t = CountedDone x (Some Routine) (predef_spend r 
 counted_applied r args Beyond x t = CountedDone x (Some Routine) (predef_spend r Beyond t)
 
 -- a call's end
-abbrev pub counted_returned : Program → ℕ → List ℕ → List Cond → List ValueOf → CountedOutcome → CountedOutcome
+abbrev pub counted_returned : Program → ℕ → List ℕ → List ConditionOf → List ValueOf → CountedOutcome → CountedOutcome
 counted_returned q p xs cs x (CountedDone y None t) = CountedDone (copied_out xs y x) None (spend 12 6 t)
 counted_returned q p xs cs x (CountedDone y (Some c) t) =
     CountedDone (copied_out xs y x) (Some (matching q p cs c)) (out_spend (is_passed_on q p c) t)
@@ -73,7 +74,7 @@ counted_if_room Temporary x t o = CountedDone x (Some Space) (spend 15 7 t)
 counted_if_room Control x t o = CountedDone x (Some Space) (spend 26 11 t)
 
 -- at a bound, which falls at each further round of a loop and at each call
-abbrev pub counted_evaluate : Program → Words → ℕ → CountedMeans
+abbrev pub counted_evaluate : Program → StackSizes → ℕ → CountedMeans
 counted_evaluate q sizes zero s u x t = CountedUnfinished
 counted_evaluate q sizes (suc n) Skip u x t = CountedDone x None t
 counted_evaluate q sizes (suc n) (NoOp place) u x t = CountedDone x None (spend 1 1 t)
@@ -105,11 +106,11 @@ counted_main_end q (CountedDone x (Some c) t) =
 counted_main_end q CountedUnfinished = CountedUnfinished
 
 -- the counted meaning of a program, with these values of main's formals
-abbrev pub counted_meaning : Program → Words → List ValueOf → ℕ → CountedOutcome
+abbrev pub counted_meaning : Program → StackSizes → List ValueOf → ℕ → CountedOutcome
 counted_meaning q sizes v n = counted_main_end q (counted_evaluate q sizes n (body_of q q.main) (main_used q) (main_start q v) start_tally)
 
 -- what is left without the costs
-abbrev pub uncounted : CountedOutcome → Outcome
+abbrev pub uncounted : CountedOutcome → MeaningOutcome
 uncounted (CountedDone x c t) = Done x c
 uncounted CountedUnfinished = Unfinished
 
@@ -119,8 +120,8 @@ tally_of (CountedDone x c t) = Some t
 tally_of CountedUnfinished = None
 
 -- the instructions of the processor that a meaning takes, and the steps of Piton
-abbrev pub instruction_count : Program → Words → List ValueOf → ℕ → Option ℕ
+abbrev pub instruction_count : Program → StackSizes → List ValueOf → ℕ → Option ℕ
 instruction_count q sizes v n = option_map (λ t. t.count) (tally_of (counted_meaning q sizes v n))
 
-abbrev pub piton_steps : Program → Words → List ValueOf → ℕ → Option ℕ
+abbrev pub piton_steps : Program → StackSizes → List ValueOf → ℕ → Option ℕ
 piton_steps q sizes v n = option_map (λ t. t.steps) (tally_of (counted_meaning q sizes v n))

@@ -2,9 +2,9 @@
 use Rattle.std.specs.Prelude.{◌≡◌, ℕ, ◌<◌, List, [], ◌∷◌, Bool, true, false, Some, None}
 use Rattle.stack_text.specs.declared.shape.Shape.{Shape}
 use Rattle.stack_text.specs.Values.{ValueOf}
-use Rattle.gypsy_syntax.specs.Programs.{Cond, Leave, Routine, Space, Declared, Proc, Program, proc_at, shapes_of, conds_of}
+use Rattle.gypsy_syntax.specs.Programs.{ConditionOf, Leave, Routine, Space, Declared, Proc, Program, proc_at, shapes_of, conds_of}
 use Rattle.gypsy_syntax.specs.ProgramFits.{ValueFits, Each, HandlerFits, CallFits, StmtFits}
-use Rattle.gypsy_meaning.specs.Calls.{Way}
+use Rattle.gypsy_meaning.specs.Calls.{CurrentCondition}
 use Rattle.gypsy_meaning.specs.Machine.{Item, Do, Back, JoinThen, JoinOne, Guard, Out, Frame, Held, State, At, Move, Next, Ended}
 
 -- values of these shapes
@@ -25,7 +25,7 @@ in_loop (Guard place cs v ∷ w) = in_loop w
 in_loop (Out c ∷ w) = in_loop w
 
 -- a condition that is raised, inside a loop or not, where so many are declared
-abbrev pub RaisedFits : Bool → ℕ → Cond → Type 0
+abbrev pub RaisedFits : Bool → ℕ → ConditionOf → Type 0
 RaisedFits in_loop n Leave = in_loop ≡ true
 RaisedFits in_loop n Routine = Unit {0}
 RaisedFits in_loop n Space = Unit {0}
@@ -55,7 +55,7 @@ abbrev pub StateFits : Program → State → Type 0
 StateFits q (At p x w fs t) = VarsFit (shapes_of (proc_at q p)) x × WorkFits q (proc_at q p) w × FramesFit q p fs
 
 -- what main ends with: normal, routineerror, spaceerror or a formal condition
-abbrev pub EndFits : Program → Way → Type 0
+abbrev pub EndFits : Program → CurrentCondition → Type 0
 EndFits q None = Unit {0}
 EndFits q (Some Leave) = ⊥
 EndFits q (Some Routine) = Unit {0}

@@ -5,63 +5,64 @@
 -- no room sets the condition spaceerror.
 use Rattle.std.specs.Prelude.{ℕ, zero, suc, List, Bool, true, false, Some, None, slice_set}
 use Rattle.stack_text.specs.Values.{ValueOf}
-use Rattle.gypsy_syntax.specs.Programs.{Cond, Routine, Space, Arg, Program, body_of}
+use Rattle.gypsy_syntax.specs.Programs.{ConditionOf, Routine, Space, Arg, Program, body_of}
 use Rattle.gypsy_syntax.specs.Programs.{Stmt, Skip, NoOp, Signal, Seq, Loop, If, Begin, Call, Apply}
-use Rattle.gypsy_syntax.specs.Effects.{Effect, Normal, Fault, Beyond, predef_effect, value_at, is_true_value}
-use Rattle.gypsy_space.specs.Needs.{Words, main_used, with_call, has_room}
-use Rattle.gypsy_meaning.specs.Calls.{Way, has_cond, is_leave, matching, main_way, values_of, target_of}
+use Rattle.gypsy_syntax.specs.Predefined.{predef_effect}
+use Rattle.gypsy_syntax.specs.Effects.{Effect, Normal, Fault, Beyond, value_at, is_true_value}
+use Rattle.gypsy_space.specs.Needs.{StackSizes, main_used, with_call, has_room}
+use Rattle.gypsy_meaning.specs.Calls.{CurrentCondition, has_cond, is_leave, matching, main_way, values_of, target_of}
 use Rattle.gypsy_meaning.specs.Calls.{copied_in, copied_out, main_start, main_formals}
 
 -- done, with these variables and this condition; or not done within the bound
-pub data Outcome : Type 0 where
-  Done : (x : List ValueOf) (c : Way) → Outcome
-  Unfinished : Outcome
+pub data MeaningOutcome : Type 0 where
+  Done : (x : List ValueOf) (c : CurrentCondition) → MeaningOutcome
+  Unfinished : MeaningOutcome
 
 -- what a statement does from these variables, with these words in use
 abbrev pub Means : Type 0
-Means = Stmt → Words → List ValueOf → Outcome
+Means = Stmt → StackSizes → List ValueOf → MeaningOutcome
 
 -- what follows runs where the first is done in the normal condition
-abbrev pub then_do : Outcome → (List ValueOf → Outcome) → Outcome
+abbrev pub then_do : MeaningOutcome → (List ValueOf → MeaningOutcome) → MeaningOutcome
 then_do (Done x None) next = next x
 then_do (Done x (Some c)) next = Done x (Some c)
 then_do Unfinished next = Unfinished
 
-abbrev pub either_way : Bool → Outcome → Outcome → Outcome
+abbrev pub either_way : Bool → MeaningOutcome → MeaningOutcome → MeaningOutcome
 either_way true a b = a
 either_way false a b = b
 
 -- where the body's condition is in the list, the arm runs in the normal condition
-abbrev pub caught : Outcome → List Cond → (List ValueOf → Outcome) → Outcome
+abbrev pub caught : MeaningOutcome → List ConditionOf → (List ValueOf → MeaningOutcome) → MeaningOutcome
 caught (Done x None) cs arm = Done x None
 caught (Done x (Some c)) cs arm = either_way (has_cond c cs) (arm x) (Done x (Some c))
 caught Unfinished cs arm = Unfinished
 
 -- after a round the next one, but `leave` ends the loop in the normal condition, and another condition passes on
-abbrev pub round_end : Outcome → (List ValueOf → Outcome) → Outcome
+abbrev pub round_end : MeaningOutcome → (List ValueOf → MeaningOutcome) → MeaningOutcome
 round_end (Done x None) again = again x
 round_end (Done x (Some c)) again = either_way (is_leave c) (Done x None) (Done x (Some c))
 round_end Unfinished again = Unfinished
 
 -- a predefined call writes its first argument; where it fails, no variable changes and the condition is routineerror
-abbrev pub applied : List Arg → Effect → List ValueOf → Outcome
+abbrev pub applied : List Arg → Effect → List ValueOf → MeaningOutcome
 applied args (Normal v) x = Done (slice_set x (target_of args) v) None
 applied args Fault x = Done x (Some Routine)
 applied args Beyond x = Done x (Some Routine)
 
 -- after a call the actuals get the formals' values, in every condition
-abbrev pub returned : Program → ℕ → List ℕ → List Cond → List ValueOf → Outcome → Outcome
+abbrev pub returned : Program → ℕ → List ℕ → List ConditionOf → List ValueOf → MeaningOutcome → MeaningOutcome
 returned q p xs cs x (Done y None) = Done (copied_out xs y x) None
 returned q p xs cs x (Done y (Some c)) = Done (copied_out xs y x) (Some (matching q p cs c))
 returned q p xs cs x Unfinished = Unfinished
 
 -- a call without room changes no variable
-abbrev pub if_room : Bool → List ValueOf → Outcome → Outcome
+abbrev pub if_room : Bool → List ValueOf → MeaningOutcome → MeaningOutcome
 if_room true x o = o
 if_room false x o = Done x (Some Space)
 
 -- the bound falls at each further round of a loop and at each call
-abbrev pub evaluate : Program → Words → ℕ → Means
+abbrev pub evaluate : Program → StackSizes → ℕ → Means
 evaluate q sizes zero s u x = Unfinished
 evaluate q sizes (suc n) Skip u x = Done x None
 evaluate q sizes (suc n) (NoOp place) u x = Done x None
@@ -79,11 +80,11 @@ evaluate q sizes (suc n) (Call place p xs cs) u x =
 evaluate q sizes (suc n) (Apply place r args) u x = applied args (predef_effect r (values_of x args)) x
 
 -- main ends with its formals, and with normal, a formal condition, spaceerror or routineerror
-abbrev pub main_end : Program → Outcome → Outcome
+abbrev pub main_end : Program → MeaningOutcome → MeaningOutcome
 main_end q (Done x None) = Done (main_formals q x) None
 main_end q (Done x (Some c)) = Done (main_formals q x) (Some (main_way q c))
 main_end q Unfinished = Unfinished
 
 -- the meaning of a program, with these values of main's formals
-abbrev pub meaning : Program → Words → List ValueOf → ℕ → Outcome
+abbrev pub meaning : Program → StackSizes → List ValueOf → ℕ → MeaningOutcome
 meaning q sizes v n = main_end q (evaluate q sizes n (body_of q q.main) (main_used q) (main_start q v))

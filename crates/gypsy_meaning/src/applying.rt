@@ -3,12 +3,12 @@
 ghost use Rattle.std.specs.Prelude.{◌≡◌, IfOk, map};
 ghost use Rattle.gypsy_space.specs.Nodes.{seen_arg};
 ghost use Rattle.gypsy_meaning.specs.Calls.{target_of};
-ghost use Rattle.gypsy_meaning.specs.Work.{work_of};
-ghost use Rattle.gypsy_meaning.specs.Turns.{RaisesOn};
-ghost use Rattle.gypsy_meaning.specs.Applied.{IsApplied};
-ghost use Rattle.gypsy_meaning.specs.Applying.{Suits};
+ghost use Rattle.gypsy_meaning.specs.Seen.Work.{work_of};
+ghost use Rattle.gypsy_meaning.specs.Scaffold.Turns.{RaisesOn};
+ghost use Rattle.gypsy_meaning.specs.Scaffold.PredefinedSteps.{IsApplied};
+ghost use Rattle.gypsy_meaning.specs.Scaffold.PredefinedEffects.{Suits};
 
-use crate::effects::{Effected, apply};
+use crate::effects::{OwnedEffect, apply};
 use crate::turn::Advance;
 use crate::work::{Work, raise, settled};
 use gypsy_space::{Application, Argument, Condition, CostEvent, Outcome};
@@ -67,7 +67,7 @@ pub fn application(
     ensures { IfOk result (IsApplied (map (λ v. v.1) variables.now) call.now (work_of below.now.value)) }
 {
     match apply(alloc, call.which, variables, call.args.as_slice())? {
-        Effected::Normal(value) => Ok(Applied::Writes(
+        OwnedEffect::Normal(value) => Ok(Applied::Writes(
             target(call.args.as_slice()),
             value,
             Advance {
@@ -79,7 +79,7 @@ pub fn application(
                 caught: false,
             },
         )),
-        Effected::Fault => Ok(Applied::Fails(fail(alloc, call.which, Outcome::Fault, below)?)),
-        Effected::Beyond => Ok(Applied::Fails(fail(alloc, call.which, Outcome::Beyond, below)?)),
+        OwnedEffect::Fault => Ok(Applied::Fails(fail(alloc, call.which, Outcome::Fault, below)?)),
+        OwnedEffect::Beyond => Ok(Applied::Fails(fail(alloc, call.which, Outcome::Beyond, below)?)),
     }
 }

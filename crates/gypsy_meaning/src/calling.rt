@@ -3,15 +3,15 @@
 ghost use Rattle.std.specs.Prelude.{◌≡◌, ◌<◌, ◌≤◌, ◌+◌, [], ◌∷◌, IfErr, IfOk, drop, length, map};
 ghost use Rattle.gypsy_syntax.specs.Programs.{body_of, proc_at};
 ghost use Rattle.gypsy_space.specs.Events.{AreNeeds, AreSmall, lack_by, need_at};
-ghost use Rattle.gypsy_space.specs.Needs.{stack_words};
+ghost use Rattle.gypsy_space.specs.Needs.{stack_sizes};
 ghost use Rattle.gypsy_space.specs.Nodes.{seen_program};
 ghost use Rattle.gypsy_space.specs.declared.need.Lack.TheVariants as lack;
-ghost use Rattle.gypsy_meaning.specs.Calling.{AreLent, IsUnchanged, RaisesSpace, Waits, call_top, with_words};
-ghost use Rattle.gypsy_meaning.specs.Held.{IsHeld, Moves};
+ghost use Rattle.gypsy_meaning.specs.Scaffold.Entering.{AreLent, IsUnchanged, RaisesSpace, Waits, call_top, with_words};
+ghost use Rattle.gypsy_meaning.specs.Seen.Held.{IsHeld, Moves};
 ghost use Rattle.gypsy_meaning.specs.Machine.{open_on};
-ghost use Rattle.gypsy_meaning.specs.Named.{variables_of};
-ghost use Rattle.gypsy_meaning.specs.Turns.{IsPlain};
-ghost use Rattle.gypsy_meaning.specs.Work.{work_of};
+ghost use Rattle.gypsy_meaning.specs.Seen.Named.{variables_of};
+ghost use Rattle.gypsy_meaning.specs.Scaffold.Turns.{IsPlain};
+ghost use Rattle.gypsy_meaning.specs.Seen.Work.{work_of};
 
 use crate::copying::{callee_variables, lend};
 use crate::names::Names;
@@ -146,8 +146,8 @@ impl Meaning {
         requires turn { work_of self.old.work.value ≡ call_top site.value ∷ work_of below.value }
         requires held { IsHeld self.old }
         requires room { let need = need_at needs.now.procedures.items site.value.callee in
-            let used = stack_words self.old.used_temp self.old.used_ctrl in
-            lack_by need (stack_words self.old.temp self.old.ctrl) used ≡ lack.Nothing }
+            let used = stack_sizes self.old.used_ctrl self.old.used_temp in
+            lack_by need (stack_sizes self.old.ctrl self.old.temp) used ≡ lack.Nothing }
         ensures done { IfOk result (λ u. Moves self.old self.new) }
         ensures unchanged { IfErr result (λ e. IsUnchanged self.old self.new) }
     {

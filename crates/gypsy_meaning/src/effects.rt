@@ -5,7 +5,7 @@ ghost use Rattle.stack_text.specs.Values.{is_item};
 ghost use Rattle.gypsy_syntax.specs.Programs.{simple};
 ghost use Rattle.gypsy_syntax.specs.Effects as effect;
 ghost use Rattle.gypsy_syntax.specs.Effects.{item_of_value, is_true_value, value_at, number_effect, truth_value, indexed, stored, no_value};
-ghost use Rattle.gypsy_meaning.specs.Applying.{Suits, effect_of, argument_at, applied_effect};
+ghost use Rattle.gypsy_meaning.specs.Scaffold.PredefinedEffects.{Suits, effect_of, argument_at, applied_effect};
 
 use crate::turn::item_of;
 use gypsy_space::Argument;
@@ -15,7 +15,7 @@ use std::alloc::{AllocError, Global};
 
 /// The value that a predefined call writes, or how it fails.
 #[derive(Drop)]
-pub enum Effected {
+pub enum OwnedEffect {
     /// The value that the variable takes.
     Normal(Value),
     /// A number that doesn't fit 32 signed bits, or a negative index.
@@ -102,13 +102,13 @@ fn argument(
 }
 
 /// A number, where 32 signed bits have it.
-fn number(alloc: Global, number: i64) -> Result<Effected, AllocError>
+fn number(alloc: Global, number: i64) -> Result<OwnedEffect, AllocError>
     ensures { IfOk result (λ e. effect_of e ≡ number_effect number) }
 {
     if -2_147_483_648 <= number && number <= 2_147_483_647 {
-        Ok(Effected::Normal(simple_value(alloc, Kind::Integer, number as i32)?))
+        Ok(OwnedEffect::Normal(simple_value(alloc, Kind::Integer, number as i32)?))
     } else {
-        Ok(Effected::Fault)
+        Ok(OwnedEffect::Fault)
     }
 }
 
@@ -119,26 +119,26 @@ fn product(left: i32, right: i32) -> i64
     left as i64 * right as i64
 }
 
-fn truth(alloc: Global, truth: bool) -> Result<Effected, AllocError>
+fn truth(alloc: Global, truth: bool) -> Result<OwnedEffect, AllocError>
     ensures { IfOk result (λ e. effect_of e ≡ effect.Normal (truth_value truth)) }
 {
     if truth {
-        Ok(Effected::Normal(simple_value(alloc, Kind::Boolean, 1)?))
+        Ok(OwnedEffect::Normal(simple_value(alloc, Kind::Boolean, 1)?))
     } else {
-        Ok(Effected::Normal(simple_value(alloc, Kind::Boolean, 0)?))
+        Ok(OwnedEffect::Normal(simple_value(alloc, Kind::Boolean, 0)?))
     }
 }
 
 /// The item at an index.
-fn indexed(alloc: Global, array: &Value, index: i32) -> Result<Effected, AllocError>
+fn indexed(alloc: Global, array: &Value, index: i32) -> Result<OwnedEffect, AllocError>
     ensures { IfOk result (λ e. effect_of e ≡ indexed array.now index) }
 {
     if index < 0 {
-        return Ok(Effected::Fault);
+        return Ok(OwnedEffect::Fault);
     }
     match array.items.get(index as usize) {
-        Some(item) => Ok(Effected::Normal(simple_value(alloc, array.shape.kind, *item)?)),
-        None => Ok(Effected::Beyond),
+        Some(item) => Ok(OwnedEffect::Normal(simple_value(alloc, array.shape.kind, *item)?)),
+        None => Ok(OwnedEffect::Beyond),
     }
 }
 
@@ -165,18 +165,18 @@ fn with_item(alloc: Global, array: &Value, place: usize, item: i32) -> Result<Va
 }
 
 /// The array with another item at an index.
-fn stored(alloc: Global, array: &Value, index: i32, item: i32) -> Result<Effected, AllocError>
+fn stored(alloc: Global, array: &Value, index: i32, item: i32) -> Result<OwnedEffect, AllocError>
     requires { IsTrue (is_item array.now.shape.kind item) }
     ensures { IfOk result (λ e. effect_of e ≡ stored array.now index item) }
 {
     if index < 0 {
-        return Ok(Effected::Fault);
+        return Ok(OwnedEffect::Fault);
     }
     let place = index as usize;
     if place >= array.items.len() {
-        return Ok(Effected::Beyond);
+        return Ok(OwnedEffect::Beyond);
     }
-    Ok(Effected::Normal(with_item(alloc, array, place, item)?))
+    Ok(OwnedEffect::Normal(with_item(alloc, array, place, item)?))
 }
 
 /// The item of an array argument.
@@ -184,7 +184,7 @@ fn index_array(
     alloc: Global,
     variables: &[(Name, Value)],
     args: &[Argument],
-) -> Result<Effected, AllocError>
+) -> Result<OwnedEffect, AllocError>
     ensures { let value = argument_at (map (λ v. v.1) variables.now) args.now in
         IfOk result (λ e. effect_of e ≡ indexed (value 1) (item_of_value (value 2))) }
 {
@@ -200,7 +200,7 @@ fn store_in_array(
     alloc: Global,
     variables: &[(Name, Value)],
     args: &[Argument],
-) -> Result<Effected, AllocError>
+) -> Result<OwnedEffect, AllocError>
     requires { let value = argument_at (map (λ v. v.1) variables.now) args.now in
         IsTrue (is_item (value 0).shape.kind (item_of_value (value 2))) }
     ensures { let value = argument_at (map (λ v. v.1) variables.now) args.now in
@@ -215,19 +215,19 @@ fn store_in_array(
 }
 
 /// What a predefined call does.
-#[tactic(auto, unfolding(crate::specs::Applying::applied_effect, gypsy_syntax::specs::Effects::effect_by, crate::specs::Applying::Suits))]
+#[tactic(auto, unfolding(crate::specs::Scaffold::PredefinedEffects::applied_effect, gypsy_syntax::specs::Predefined::effect_by, crate::specs::Scaffold::PredefinedEffects::Suits))]
 pub fn apply(
     alloc: Global,
     which: Predef,
     variables: &[(Name, Value)],
     args: &[Argument],
-) -> Result<Effected, AllocError>
+) -> Result<OwnedEffect, AllocError>
     requires { Suits which (map (λ v. v.1) variables.now) args.now }
     ensures { IfOk result (λ e. effect_of e ≡ applied_effect which (map (λ v. v.1) variables.now) args.now) }
 {
     match which {
         Predef::MgSimpleVariableAssignment | Predef::MgSimpleConstantAssignment => {
-            Ok(Effected::Normal(argument(alloc, variables, args, 1)?))
+            Ok(OwnedEffect::Normal(argument(alloc, variables, args, 1)?))
         }
         Predef::MgSimpleVariableEq | Predef::MgSimpleConstantEq => truth(
             alloc,

@@ -5,12 +5,12 @@ ghost use Rattle.std.specs.List.{list_all};
 ghost use Rattle.gypsy_syntax.specs.ProgramFits.{ProgramFits, is_in_range};
 ghost use Rattle.gypsy_syntax.specs.Programs.{proc_at, words_of};
 ghost use Rattle.gypsy_space.specs.Events.{AreNeeds, AreSmall};
-ghost use Rattle.gypsy_space.specs.Needs.{main_need, stack_words};
+ghost use Rattle.gypsy_space.specs.Needs.{main_need, stack_sizes};
 ghost use Rattle.gypsy_space.specs.Nodes.{seen_program};
-ghost use Rattle.gypsy_meaning.specs.Fitting.{are_as_many, are_values, can_start, is_value_of, same_shape, suffice};
+ghost use Rattle.gypsy_meaning.specs.Seen.Fitting.{are_as_many, are_values, can_start, is_value_of, same_shape, suffice};
 
 use gypsy_space::{Needs, Program};
-use stack_text::{Kind, Name, Shape, Value};
+use stack_text::{Kind, MOST_ARRAY, Name, Shape, Value};
 
 /// Whether an item is one of the kind.
 fn is_in_range(kind: Kind, item: i32) -> bool
@@ -34,7 +34,7 @@ fn are_in_range(kind: Kind, items: &[i32]) -> bool
 fn are_as_many(shape: Shape, items: &[i32]) -> bool
     ensures { result ≡ are_as_many shape items.now }
 {
-    shape.length <= 4096 && items.len() == shape.item_count()
+    shape.length <= MOST_ARRAY && items.len() == shape.item_count()
 }
 
 /// Whether two shapes are the same.
@@ -45,7 +45,7 @@ fn same_shape(left: Shape, right: Shape) -> bool
 }
 
 /// Whether a value is one of the shape.
-#[tactic(auto, unfolding(crate::specs::Fitting::is_value_of))]
+#[tactic(auto, unfolding(crate::specs::Seen::Fitting::is_value_of))]
 fn is_value_of(shape: Shape, value: &Value) -> bool
     ensures { result ≡ is_value_of shape value.now }
 {
@@ -123,7 +123,7 @@ fn suffice(program: &Program, needs: &Needs, ctrl: u32, temp: u32) -> bool
     requires needs { AreNeeds (seen_program program.now) needs.now.procedures.items }
     requires small { AreSmall needs.now.procedures.items }
     requires fits { ProgramFits (seen_program program.now) }
-    ensures { result ≡ suffice (main_need (seen_program program.now)) (stack_words temp ctrl) }
+    ensures { result ≡ suffice (main_need (seen_program program.now)) (stack_sizes ctrl temp) }
 {
     temporary_need(program, needs) <= temp as u64 && control_need(program, needs) <= ctrl as u64
 }
@@ -133,7 +133,7 @@ pub fn can_start(program: &Program, needs: &Needs, values: &[Value], ctrl: u32, 
     requires needs { AreNeeds (seen_program program.now) needs.now.procedures.items }
     requires small { AreSmall needs.now.procedures.items }
     requires fits { ProgramFits (seen_program program.now) }
-    ensures { result ≡ can_start (seen_program program.now) values.now (stack_words temp ctrl) }
+    ensures { result ≡ can_start (seen_program program.now) values.now (stack_sizes ctrl temp) }
 {
     are_values(main_formals(program), values) && suffice(program, needs, ctrl, temp)
 }

@@ -4,12 +4,13 @@ ghost use Rattle.std.specs.Prelude.{◌≡◌, ℕ, ◌≤◌, List};
 ghost use Rattle.stack_text.specs.Values.{ValueOf};
 ghost use Rattle.gypsy_syntax.specs.Programs.{Program, proc_at};
 ghost use Rattle.gypsy_syntax.specs.ProgramFits.{ProgramFits};
-ghost use Rattle.gypsy_space.specs.Needs.{Words, main_need};
+ghost use Rattle.gypsy_space.specs.Needs.{StackSizes, main_need};
 ghost use Rattle.gypsy_syntax.specs.Sources.{SourceOf};
 ghost use Rattle.gypsy_space.specs.declared.need.Need.{Need};
 ghost use Rattle.gypsy_meaning.specs.Agree.{Agree};
-ghost use Rattle.gypsy_meaning.specs.Belongs.{BelongsTo, IsRunOf};
-ghost use Rattle.gypsy_meaning.specs.Seen.{IsOfRun, Seen, left_of, lending, lending_move, run_of};
+ghost use Rattle.gypsy_meaning.specs.Seen.Belongs.{BelongsTo, IsRunOf};
+ghost use Rattle.gypsy_meaning.specs.Seen.Moments.{IsMoment, moment_from};
+ghost use Rattle.gypsy_meaning.specs.Seen.RunView.{IsOfRun, Seen, after, left_of, lending, lending_move, opening, meaning_run};
 ghost use Rattle.gypsy_meaning.specs.declared.running.Meaning.{Meaning};
 ghost use Rattle.gypsy_meaning.specs.Counted.{counted_meaning, uncounted};
 ghost use Rattle.gypsy_meaning.specs.Machine.{State, start, gypsy_step};
@@ -19,12 +20,12 @@ ghost use Rattle.gypsy_meaning.specs.Room.{StateRoom, MoveRoom};
 
 /// The step machine and the meaning agree, and count the same instructions and the same steps of Piton.
 pub fn meanings_agree()
-    ensures { (q : Program) (sizes : Words) (v : List ValueOf) → Agree q sizes v }
+    ensures { (q : Program) (sizes : StackSizes) (v : List ValueOf) → Agree q sizes v }
 {}
 
 /// Counting changes no meaning.
 pub fn counting_changes_nothing()
-    ensures { (q : Program) (sizes : Words) (v : List ValueOf) (n : ℕ) →
+    ensures { (q : Program) (sizes : StackSizes) (v : List ValueOf) (n : ℕ) →
         uncounted (counted_meaning q sizes v n) ≡ meaning q sizes v n }
 {}
 
@@ -36,28 +37,35 @@ pub fn start_fits()
 
 /// Each step of a program that fits leads from a state that fits to another, or to an end that fits.
 pub fn steps_keep_fit()
-    ensures { (q : Program) (sizes : Words) (g : State) → ProgramFits q → StateFits q g →
+    ensures { (q : Program) (sizes : StackSizes) (g : State) → ProgramFits q → StateFits q g →
         MoveFits q (gypsy_step q sizes g) }
 {}
 
 /// Where the sizes cover main's own needs, a program starts with room for its predefined calls, and each step keeps it.
 pub fn steps_keep_room()
-    ensures start { (q : Program) (sizes : Words) (v : List ValueOf) →
+    ensures start { (q : Program) (sizes : StackSizes) (v : List ValueOf) →
         (main_need q).temp ≤ sizes.temp → (main_need q).ctrl ≤ sizes.ctrl → StateRoom q sizes (start q v) }
-    ensures step { (q : Program) (sizes : Words) (g : State) → StateRoom q sizes g →
+    ensures step { (q : Program) (sizes : StackSizes) (g : State) → StateRoom q sizes g →
         MoveRoom q sizes (gypsy_step q sizes g) }
 {}
 
 /// What those that wait have lent to their callees changes no step: `bare` leaves it out, and each step comes to the same.
 pub fn lending_changes_no_step()
-    ensures { (q : Program) (sizes : Words) (g : State) →
+    ensures { (q : Program) (sizes : StackSizes) (g : State) →
         lending_move (gypsy_step q sizes (lending g)) ≡ lending_move (gypsy_step q sizes g) }
+{}
+
+/// What a run shows after so many steps is where the step machine then stands, and what is spent there: its state, in which
+/// those that wait have what they would get back.
+pub fn runs_show_moments()
+    ensures { (q : Program) (sizes : StackSizes) (v : List ValueOf) (k : ℕ) →
+        IsMoment (after k (opening q sizes v)) (moment_from q sizes v k) }
 {}
 
 /// No step and no run changes the program, the sizes or the values with which a run was started; and what belongs to a
 /// source is a run of its program, which fits it.
 pub fn runs_keep_their_source()
     ensures step { (v : Seen) → IsOfRun v (left_of v) }
-    ensures run { (limit : ℕ) (v : Seen) → IsOfRun v (run_of limit v).seen }
+    ensures run { (limit : ℕ) (v : Seen) → IsOfRun v (meaning_run limit v).seen }
     ensures belongs { (s : SourceOf) (needs : List Need) (m : Meaning) → BelongsTo s needs m → IsRunOf s m }
 {}

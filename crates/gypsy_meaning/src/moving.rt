@@ -4,17 +4,17 @@ ghost use Rattle.std.specs.Prelude.{◌≡◌, ◌≤◌, ℕ, List, IfErr, IfNo
 ghost use Rattle.stack_text.specs.Values.{ValueOf};
 ghost use Rattle.gypsy_syntax.specs.Programs.{proc_at};
 ghost use Rattle.gypsy_syntax.specs.Resolved.{program_of};
-ghost use Rattle.gypsy_syntax.specs.SourceView.{source_of};
+ghost use Rattle.gypsy_syntax.specs.Seen.SourceView.{source_of};
 ghost use Rattle.gypsy_space.specs.Events.{AreNeeds, AreSmall};
-ghost use Rattle.gypsy_space.specs.Needs.{stack_words};
-ghost use Rattle.gypsy_meaning.specs.Agreed.{RunAgrees};
-ghost use Rattle.gypsy_meaning.specs.Belongs.{BelongsTo, Suffices};
-ghost use Rattle.gypsy_meaning.specs.Calls.{Way};
-ghost use Rattle.gypsy_meaning.specs.Fitting.{CanStart};
+ghost use Rattle.gypsy_space.specs.Needs.{stack_sizes};
+ghost use Rattle.gypsy_meaning.specs.Seen.RunAgrees.{RunAgrees};
+ghost use Rattle.gypsy_meaning.specs.Seen.Belongs.{BelongsTo, Suffices};
+ghost use Rattle.gypsy_meaning.specs.Calls.{CurrentCondition};
+ghost use Rattle.gypsy_meaning.specs.Seen.Fitting.{CanStart};
 ghost use Rattle.gypsy_meaning.specs.Kept.{VarsFit};
 ghost use Rattle.gypsy_meaning.specs.Meaning.{Done, meaning};
-ghost use Rattle.gypsy_meaning.specs.Running.{seen};
-ghost use Rattle.gypsy_meaning.specs.Seen.{IsEnd, after, answer_of, left_of, opening, run_of};
+ghost use Rattle.gypsy_meaning.specs.Seen.Running.{seen};
+ghost use Rattle.gypsy_meaning.specs.Seen.RunView.{IsEnd, after, answer_of, left_of, opening, meaning_run};
 
 use crate::answers::{MeanRun, Moved};
 use crate::calling::Start;
@@ -45,9 +45,9 @@ impl Meaning {
         requires needs { AreNeeds (program_of (source_of accepted.now)) needs.now.procedures.items }
         requires small { AreSmall needs.now.procedures.items }
         requires values { let q = program_of (source_of accepted.now) in VarsFit (proc_at q q.main).formals values.now }
-        requires sizes { Suffices (program_of (source_of accepted.now)) (stack_words temp ctrl) }
+        requires sizes { Suffices (program_of (source_of accepted.now)) (stack_sizes ctrl temp) }
         ensures opening { let q = program_of (source_of accepted.now) in
-            IfOk result (λ m. seen m ≡ opening q (stack_words temp ctrl) values.now) }
+            IfOk result (λ m. seen m ≡ opening q (stack_sizes ctrl temp) values.now) }
         ensures belongs { IfOk result (BelongsTo (source_of accepted.now) needs.now.procedures.items) }
     {
         let program = resolve(alloc, accepted)?;
@@ -93,10 +93,10 @@ impl Meaning {
         requires needs { AreNeeds (program_of (source_of accepted.now)) needs.now.procedures.items }
         requires small { AreSmall needs.now.procedures.items }
         ensures opening { let q = program_of (source_of accepted.now) in
-            IfOk result (λ o. IfSome o (λ m. seen m ≡ opening q (stack_words temp ctrl) values.now)) }
+            IfOk result (λ o. IfSome o (λ m. seen m ≡ opening q (stack_sizes ctrl temp) values.now)) }
         ensures belongs { IfOk result (λ o. IfSome o (BelongsTo (source_of accepted.now) needs.now.procedures.items)) }
         ensures none { IfOk result (λ o. IfNone o
-            (CanStart (program_of (source_of accepted.now)) values.now (stack_words temp ctrl) → ⊥)) }
+            (CanStart (program_of (source_of accepted.now)) values.now (stack_sizes ctrl temp) → ⊥)) }
     {
         let program = resolve(alloc, accepted)?;
         if !can_start(&program, needs, values, ctrl, temp) {
@@ -144,12 +144,13 @@ impl Meaning {
         limit: u64,
     ) -> Result<MeanRun, Memory>
         requires { BelongsTo (source_of accepted.now) needs.now.procedures.items self.old }
-        ensures ran { IfOk result (λ run. run_of limit (seen self.old) ≡ record { run = run; seen = seen self.new }) }
+        ensures ran { IfOk result
+            (λ run. meaning_run limit (seen self.old) ≡ record { run = run; seen = seen self.new }) }
         ensures made { IfErr result (λ e. (k : ℕ) × (k ≤ limit) × (seen self.new ≡ after k (seen self.old))) }
         ensures agrees { IfOk result (RunAgrees (seen self.new)) }
         ensures completes { let v = seen self.old in
-            (n : ℕ) (x : List ValueOf) (c : Way) → meaning v.program v.sizes v.values n ≡ Done x c →
-            (j : ℕ) × ((most : ℕ) → j ≤ most → IsEnd (run_of most v) x c) }
+            (n : ℕ) (x : List ValueOf) (c : CurrentCondition) → meaning v.program v.sizes v.values n ≡ Done x c →
+            (j : ℕ) × ((most : ℕ) → j ≤ most → IsEnd (meaning_run most v) x c) }
         ensures belongs { BelongsTo (source_of accepted.now) needs.now.procedures.items self.new }
     {
         let run = self.make_steps(alloc, accepted, needs, limit)?;
@@ -165,7 +166,8 @@ impl Meaning {
         limit: u64,
     ) -> Result<MeanRun, Memory>
         requires { BelongsTo (source_of accepted.now) needs.now.procedures.items self.old }
-        ensures ran { IfOk result (λ run. run_of limit (seen self.old) ≡ record { run = run; seen = seen self.new }) }
+        ensures ran { IfOk result
+            (λ run. meaning_run limit (seen self.old) ≡ record { run = run; seen = seen self.new }) }
         ensures made { IfErr result (λ e. (k : ℕ) × (k ≤ limit) × (seen self.new ≡ after k (seen self.old))) }
         ensures belongs { BelongsTo (source_of accepted.now) needs.now.procedures.items self.new }
     {

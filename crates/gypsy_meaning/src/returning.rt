@@ -6,10 +6,10 @@ ghost use Rattle.gypsy_syntax.specs.Programs.{Routine};
 ghost use Rattle.gypsy_space.specs.Nodes.{seen_cond, seen_program};
 ghost use Rattle.gypsy_meaning.specs.Calls.{is_passed_on, matching};
 ghost use Rattle.gypsy_meaning.specs.Machine.{settle};
-ghost use Rattle.gypsy_meaning.specs.Returning.{HasResumed, IsLast, Leaves, RaisesTo, out_price};
-ghost use Rattle.gypsy_meaning.specs.Held.{Moves};
-ghost use Rattle.gypsy_meaning.specs.Running.{paid};
-ghost use Rattle.gypsy_meaning.specs.Work.{work_of};
+ghost use Rattle.gypsy_meaning.specs.Scaffold.Returning.{HasResumed, IsLast, Leaves, RaisesTo, out_price};
+ghost use Rattle.gypsy_meaning.specs.Seen.Held.{Moves};
+ghost use Rattle.gypsy_meaning.specs.Seen.Running.{paid};
+ghost use Rattle.gypsy_meaning.specs.Seen.Work.{work_of};
 
 use crate::copying::copy_out;
 use crate::running::{Frame, Meaning};

@@ -2,13 +2,13 @@
 
 ghost use Rattle.std.specs.Prelude.{◌≡◌, ◌∷◌, map, IfOk, IfErr};
 ghost use Rattle.gypsy_space.specs.Events.{AreSmall};
-ghost use Rattle.gypsy_meaning.specs.Held.{Moves};
-ghost use Rattle.gypsy_meaning.specs.Running.{price, advanced};
-ghost use Rattle.gypsy_meaning.specs.Turns.{GoesOn, OpensTo};
-ghost use Rattle.gypsy_meaning.specs.Within.{IsWithin, WorkSuits};
-ghost use Rattle.gypsy_meaning.specs.Work.{work_of};
-ghost use Rattle.gypsy_meaning.specs.Applied.{WritesOn, call_item};
-ghost use Rattle.gypsy_meaning.specs.Applying.{Suits};
+ghost use Rattle.gypsy_meaning.specs.Seen.Held.{Moves};
+ghost use Rattle.gypsy_meaning.specs.Seen.Running.{price, advanced};
+ghost use Rattle.gypsy_meaning.specs.Scaffold.Turns.{GoesOn, OpensTo};
+ghost use Rattle.gypsy_meaning.specs.Scaffold.Within.{IsWithin, WorkSuits};
+ghost use Rattle.gypsy_meaning.specs.Seen.Work.{work_of};
+ghost use Rattle.gypsy_meaning.specs.Scaffold.PredefinedSteps.{WritesOn, call_item};
+ghost use Rattle.gypsy_meaning.specs.Scaffold.PredefinedEffects.{Suits};
 
 use crate::applying::{Applied, application};
 use crate::names::{Names, Unnamed};
@@ -95,7 +95,7 @@ pub struct Meaning {
 }
 
 /// What an event costs, and a condition's stop where there was one.
-#[tactic(auto, unfolding(crate::specs::Running::price))]
+#[tactic(auto, unfolding(crate::specs::Seen::Running::price))]
 fn price(needs: &Needs, event: CostEvent, caught: bool) -> u64
     requires { AreSmall needs.now.procedures.items }
     ensures { result ≡ price needs.now.procedures.items event caught }

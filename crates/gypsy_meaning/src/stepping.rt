@@ -2,10 +2,10 @@
 
 ghost use Rattle.std.specs.Prelude.{◌≡◌, ◌∷◌, [], IfErr, IfOk};
 ghost use Rattle.gypsy_space.specs.Nodes.{seen_cond};
-ghost use Rattle.gypsy_meaning.specs.Calling.{IsUnchanged, call_top};
-ghost use Rattle.gypsy_meaning.specs.Returning.{Leaves};
-ghost use Rattle.gypsy_meaning.specs.Stepping.{Does, IsReady};
-ghost use Rattle.gypsy_meaning.specs.Work.{work_of};
+ghost use Rattle.gypsy_meaning.specs.Scaffold.Entering.{IsUnchanged, call_top};
+ghost use Rattle.gypsy_meaning.specs.Scaffold.Returning.{Leaves};
+ghost use Rattle.gypsy_meaning.specs.Scaffold.Stepping.{Does, IsReady};
+ghost use Rattle.gypsy_meaning.specs.Seen.Work.{work_of};
 
 use crate::answers::Moved;
 use crate::running::{Crossing, Meaning};

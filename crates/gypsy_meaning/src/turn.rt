@@ -6,8 +6,8 @@ ghost use Rattle.gypsy_syntax.specs.Programs as program;
 ghost use Rattle.gypsy_syntax.specs.Effects.{item_of_value, is_true_value, value_at};
 ghost use Rattle.gypsy_space.specs.Nodes.{seen_statement, seen_cond};
 ghost use Rattle.gypsy_meaning.specs.Machine as machine;
-ghost use Rattle.gypsy_meaning.specs.Work.{work_of};
-ghost use Rattle.gypsy_meaning.specs.Turns.{GoesOn, IsTurn};
+ghost use Rattle.gypsy_meaning.specs.Seen.Work.{work_of};
+ghost use Rattle.gypsy_meaning.specs.Scaffold.Turns.{GoesOn, IsTurn};
 
 use crate::effects::item_in;
 use crate::work::{Item, Work, opened, opened_parts, put, raise, settled};

@@ -1,9 +1,10 @@
 -- The code of a predefined call: the pushes, the call, the test.
-use Rattle.std.proofs.Common.{◌≡◌, ℕ, suc, ◌+◌, ◌≤◌, ◌<◌, Some, Ok, Bool, true, false, List, [], ◌∷◌, ◌++◌, length, map, refl, ap, sym, ◌∙◌, subst, arith, length-append}
+use Rattle.std.proofs.Common.{◌≡◌, ℕ, suc, ◌+◌, ◌≤◌, ◌<◌, Some, Ok, Bool, true, false, ◌||◌, List, [], ◌∷◌, ◌++◌, length, map, refl, ap, sym, ◌∙◌, subst, arith, length-append}
 use Rattle.std.proofs.lemmas.List.{length-map}
 use Rattle.std.specs.Prelude.{slice_get, if◌then◌else◌}
 use Rattle.stack_text.specs.declared.shape.Kind.{Kind}
 use Rattle.stack_text.specs.Values.{ValueOf}
+use Rattle.stack_text.proofs.SharedLaws.{get_after}
 use Rattle.piton_words.specs.declared.word.Word.{Word}
 use Rattle.piton_words.specs.declared.word.Word.TheVariants.{Nat}
 use Rattle.piton_words.specs.declared.op.WordOp.TheVariants as op
@@ -14,19 +15,17 @@ use Rattle.piton_check.specs.Instruction.{Instruction, SystemView, PushConstant,
 use Rattle.piton_machine.specs.State.{Frame, PitonState, program_of, instruction_at, word_at, with_word}
 use Rattle.piton_machine.specs.Views.{then_on, test_of}
 use Rattle.piton_machine.specs.Law.{Steps, none}
-use Rattle.piton_words.specs.Rows as words
+use Rattle.piton_words.specs.OperationRows as words
 use Rattle.piton_machine.proofs.RowLaws.{does_push, does_push_local, does_push_global, does_test_and_jump, does_apply}
 use Rattle.gypsy_syntax.specs.declared.slot.Form.{Form}
 use Rattle.gypsy_syntax.specs.declared.slot.Form.TheVariants.{Simple, Array, Literal}
 use Rattle.gypsy_syntax.specs.declared.slot.Slot.{Slot}
 use Rattle.gypsy_syntax.specs.declared.predef.Predef.{Predef}
 use Rattle.gypsy_syntax.specs.declared.predef.Predef.TheVariants as row
-use Rattle.gypsy_syntax.specs.Predefined.{slots_of}
-use Rattle.gypsy_syntax.specs.Effects.{Effect, Normal, Fault, Beyond, predef_effect}
-use Rattle.gypsy_syntax.specs.PredefinedCosts.{predef_cost}
-use Rattle.gypsy_syntax.specs.PredefinedCosts.{predef_temp}
-use Rattle.gypsy_predef.specs.Bodies.{body_of, bodies, predef_number, lengths_of}
-use Rattle.gypsy_predef.specs.Runs.{Argument, ArgumentsFit, pushed_word, pushed_words, push_all, values_of, length_words, can_fail, with_elements, target_of, words_of_value, push_count, pushes_count, called_count, called_steps, after_call, IsAtCall}
+use Rattle.gypsy_syntax.specs.Predefined.{slots_of, predef_effect, predef_cost, predef_temp, predef_number, can_fail}
+use Rattle.gypsy_syntax.specs.Effects.{Effect, Normal, Fault, Beyond}
+use Rattle.gypsy_predef.specs.Bodies.{body_of, bodies, lengths_of}
+use Rattle.gypsy_predef.specs.Runs.{Argument, ArgumentsFit, pushed_word, pushed_words, push_all, values_of, length_words, with_elements, target_of, words_of_value, push_count, pushes_count, called_count, called_steps, after_call, IsAtCall}
 use Rattle.gypsy_predef.specs.Calls.{argument_code, arguments_code, test_code, CodeAt, LocalHolds, LocalsHold, after_code, PredefCallRuns, BodiesStand}
 use Rattle.gypsy_predef.proofs.StackLaws.{written_length}
 use Rattle.gypsy_predef.proofs.RunningLaws.{step_first, joined, counted}
@@ -122,54 +121,32 @@ constants_push locals (w ∷ words) =
 
 lengths_are : (r : Predef) (vs : List ValueOf) → length (length_words r vs) ≡ lengths_of r
 lengths_are row.MgSimpleVariableAssignment vs = refl
-lengths_are row.MgSimpleConstantAssignment vs = refl
-lengths_are row.MgSimpleVariableEq vs = refl
-lengths_are row.MgSimpleConstantEq vs = refl
-lengths_are row.MgIntegerLe vs = refl
-lengths_are row.MgIntegerUnaryMinus vs = refl
-lengths_are row.MgIntegerAdd vs = refl
-lengths_are row.MgIntegerSubtract vs = refl
-lengths_are row.MgBooleanOr vs = refl
-lengths_are row.MgBooleanAnd vs = refl
-lengths_are row.MgBooleanNot vs = refl
-lengths_are row.MgIndexArray vs = refl
-lengths_are row.MgArrayElementAssignment vs = refl
-lengths_are row.MgIntegerMultiply vs = refl
+lengths_are r vs = refl
 
 -- the words that a call needs cover its arguments, and one more word at least
 temp_covers : (r : Predef) → (length (slots_of r) + lengths_of r ≤ predef_temp r) × (1 ≤ predef_temp r)
 temp_covers row.MgSimpleVariableAssignment = (omega arith, omega arith)
-temp_covers row.MgSimpleConstantAssignment = (omega arith, omega arith)
-temp_covers row.MgSimpleVariableEq = (omega arith, omega arith)
-temp_covers row.MgSimpleConstantEq = (omega arith, omega arith)
-temp_covers row.MgIntegerLe = (omega arith, omega arith)
-temp_covers row.MgIntegerUnaryMinus = (omega arith, omega arith)
-temp_covers row.MgIntegerAdd = (omega arith, omega arith)
-temp_covers row.MgIntegerSubtract = (omega arith, omega arith)
-temp_covers row.MgBooleanOr = (omega arith, omega arith)
-temp_covers row.MgBooleanAnd = (omega arith, omega arith)
-temp_covers row.MgBooleanNot = (omega arith, omega arith)
-temp_covers row.MgIndexArray = (omega arith, omega arith)
-temp_covers row.MgArrayElementAssignment = (omega arith, omega arith)
-temp_covers row.MgIntegerMultiply = (omega arith, omega arith)
+temp_covers r = (omega arith, omega arith)
+
+abbrev is_normal : Effect → Bool
+is_normal (Normal v) = true
+is_normal e = false
+
+fails_or_normal : (r : Predef) (vs : List ValueOf) → (can_fail r || is_normal (predef_effect r vs)) ≡ true
+unfolding predef_effect
+fails_or_normal row.MgSimpleVariableAssignment vs = refl
+fails_or_normal r vs = refl
+
+written_value : (e : Effect) → is_normal e ≡ true → (v : ValueOf) × (e ≡ Normal v)
+written_value (Normal v) h = (v, refl)
+written_value e h = cc
 
 -- a program that can't fail has a normal effect
-is_normal : (r : Predef) (vs : List ValueOf) → can_fail r ≡ false → (v : ValueOf) × (predef_effect r vs ≡ Normal v)
-unfolding predef_effect
-is_normal row.MgSimpleVariableAssignment vs h = (_, refl)
-is_normal row.MgSimpleConstantAssignment vs h = (_, refl)
-is_normal row.MgSimpleVariableEq vs h = (_, refl)
-is_normal row.MgSimpleConstantEq vs h = (_, refl)
-is_normal row.MgIntegerLe vs h = (_, refl)
-is_normal row.MgIntegerUnaryMinus vs h = cc
-is_normal row.MgIntegerAdd vs h = cc
-is_normal row.MgIntegerSubtract vs h = cc
-is_normal row.MgBooleanOr vs h = (_, refl)
-is_normal row.MgBooleanAnd vs h = (_, refl)
-is_normal row.MgBooleanNot vs h = (_, refl)
-is_normal row.MgIndexArray vs h = cc
-is_normal row.MgArrayElementAssignment vs h = cc
-is_normal row.MgIntegerMultiply vs h = cc
+cannot_fail : (r : Predef) (vs : List ValueOf) → can_fail r ≡ false → (v : ValueOf) × (predef_effect r vs ≡ Normal v)
+cannot_fail r vs h =
+    let e = predef_effect r vs in
+    let normal : is_normal e ≡ true = sym (ap (λ b. b || is_normal e) h) ∙ fails_or_normal r vs in
+    written_value e normal
 
 word_set : (areas : List (List Word)) (v w : Word) → word_at areas 0 0 ≡ Some v → word_at (with_word areas 0 0 w) 0 0 ≡ Some w
 word_set [] v w h = cc
@@ -196,10 +173,10 @@ test_follows s r args f fs p place target size words (Normal v) false he hb fram
     let q = with_elements p.stack (target_of args) (words_of_value v) in
     subst (λ l. Steps s 0 0 (state s p.program f fs p.areas (place + 1) q) (state s p.program f fs p.areas l q)) same none
 test_follows s r args f fs p place target size words Fault false he hb frames two room code at lengths =
-    let n = is_normal r (values_of args) hb in
+    let n = cannot_fail r (values_of args) hb in
     let clash : Normal n.0 ≡ Fault = sym n.1 ∙ he in cc
 test_follows s r args f fs p place target size words Beyond false he hb frames two room code at lengths =
-    let n = is_normal r (values_of args) hb in
+    let n = cannot_fail r (values_of args) hb in
     let clash : Normal n.0 ≡ Beyond = sym n.1 ∙ he in cc
 test_follows s r args f fs p place target size words (Normal v) true he hb frames two room code at lengths =
     let same : place + 1 + 1 + 1 + 1 ≡ p.place + size = omega (arith, at) in
@@ -273,27 +250,9 @@ calls s start target r k args f fs p found at =
     (counted s spent_steps spent_count (predef_cost r e).1 (predef_cost r e).0 p0 end steps count
     (joined pushed (joined longer (joined called after))))
 
-pub get_after : {X : Type 0} (xs ys : List X) (i : ℕ) → slice_get (xs ++ ys) (length xs + i) ≡ slice_get ys i
-get_after [] ys i = ap (slice_get ys) (omega arith)
-get_after (x ∷ xs) ys i =
-    let same : suc (length xs) + i ≡ suc (length xs + i) = omega arith in
-    ap (slice_get (x ∷ xs ++ ys)) same ∙ get_after xs ys i
-
 number_is : (r : Predef) → slice_get bodies (predef_number r) ≡ Some (body_of r)
 number_is row.MgSimpleVariableAssignment = refl
-number_is row.MgSimpleConstantAssignment = refl
-number_is row.MgSimpleVariableEq = refl
-number_is row.MgSimpleConstantEq = refl
-number_is row.MgIntegerLe = refl
-number_is row.MgIntegerUnaryMinus = refl
-number_is row.MgIntegerAdd = refl
-number_is row.MgIntegerSubtract = refl
-number_is row.MgBooleanOr = refl
-number_is row.MgBooleanAnd = refl
-number_is row.MgBooleanNot = refl
-number_is row.MgIndexArray = refl
-number_is row.MgArrayElementAssignment = refl
-number_is row.MgIntegerMultiply = refl
+number_is r = refl
 
 pub stand : BodiesStand
 stand s programs r h =

@@ -1,4 +1,4 @@
-mod StackLaws
+pub mod StackLaws
 mod RunningLaws
 mod ValueLaws
 mod NumberLaws

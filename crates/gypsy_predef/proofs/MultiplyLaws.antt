@@ -7,7 +7,7 @@ use Rattle.piton_words.specs.declared.word.Word.{Word}
 use Rattle.piton_words.specs.declared.word.Word.TheVariants.{Int, Nat, Bool as Truth}
 use Rattle.piton_words.specs.declared.op.WordOp.TheVariants as op
 use Rattle.piton_words.specs.declared.outcome.Outcome.TheVariants.{One, Two}
-use Rattle.piton_words.specs.Rows as words
+use Rattle.piton_words.specs.OperationRows as words
 use Rattle.piton_words.specs.Views.{where_true}
 use Rattle.fm_words.specs.Word.{is_int}
 use Rattle.piton_syntax.specs.declared.test_kind.TestFamily.TheVariants as family

@@ -11,10 +11,10 @@ use Rattle.piton_words.specs.declared.word.Word.{Word}
 use Rattle.piton_words.specs.declared.word.Word.TheVariants.{Int, Nat, Bool as Truth}
 use Rattle.piton_words.specs.declared.op.WordOp.TheVariants as op
 use Rattle.piton_words.specs.declared.outcome.Outcome.TheVariants.{One}
-use Rattle.piton_words.specs.Rows as words
+use Rattle.piton_words.specs.OperationRows as words
 use Rattle.fm_words.specs.Word.{are_same_ints, is_int}
 use Rattle.fm_words.specs.Alu.{are_same as are_same_bools}
-use Rattle.piton_words.specs.Rows.{are_same, bool_word, int_word, int_carried}
+use Rattle.piton_words.specs.OperationRows.{are_same, bool_word, int_word, int_carried}
 use Rattle.stack_text.specs.Results.{◌>>=◌}
 use Rattle.piton_words.specs.Views.{where_true}
 use Rattle.piton_syntax.specs.declared.test_kind.TestFamily.TheVariants as family

@@ -1,5 +1,5 @@
 -- The arithmetic of a product that is added up bit by bit, over whole numbers.
-use Rattle.std.proofs.Common.{◌≡◌, ℕ, zero, suc, ◌+◌, ◌*◌, ◌-◌, ◌%◌, ◌≤◌, ◌<◌, ◌^◌, ℤ, pos, negsuc, ◌+ℤ◌, ◌-ℤ◌, ◌*ℤ◌, neg_ℤ, Bool, true, false, not, ◌||◌, ◌⊎◌, inl, inr, FitsSigned, refl, ap, sym, ◌∙◌, subst, arith}
+use Rattle.std.proofs.Common.{◌≡◌, ℕ, zero, suc, ◌+◌, ◌*◌, ◌-◌, ◌%◌, ◌≤◌, ◌<◌, ◌^◌, ℤ, pos, negsuc, ◌+ℤ◌, ◌-ℤ◌, ◌*ℤ◌, neg_ℤ, Bool, true, false, not, ◌||◌, ◌⊎◌, inl, inr, refl, ap, sym, ◌∙◌, subst, arith}
 use Rattle.std.specs.Prelude.{nat_lt, if◌then◌else◌}
 use Rattle.std.specs.Int.{w32, cast_signed, cast_unsigned, int_wrap}
 use Rattle.std.proofs.lemmas.Bool.{lt-ltb, ltb-true, ltb-false, or_parts, or_cases, false_from_ne_true, not-false, not-true, both_ways}
@@ -9,6 +9,7 @@ use Rattle.std.proofs.Math.IntN.{+ℤ_comm}
 use Rattle.std.proofs.Math.Nat.{mul-le-mul_left}
 use borrow.Author.Differences.{up, down, sum_is_lem, product_is, same_in}
 use Rattle.fm_words.specs.Word.{is_int, wrapped}
+use Rattle.fm_words.proofs.WordLaws.{is_int_from_fits, fits_signed}
 use Rattle.piton_machine.specs.Views.{is_negative}
 
 -- ---- sums and products
@@ -108,25 +109,17 @@ cut_up_to (negsuc y) (negsuc h) scale low some few small e =
 abbrev pub kept : ℤ → ℤ
 kept z = cast_signed w32 (wrapped z)
 
-is_fit : (z : ℤ) → is_int z ≡ true → FitsSigned w32 z
-is_fit (pos n) h = record { sfits = ltb-true n (2 ^ 31) h }
-is_fit (negsuc n) h = record { sfits = ltb-true n (2 ^ 31) h }
-
-fit_is : (z : ℤ) → FitsSigned w32 z → is_int z ≡ true
-fit_is (pos n) f = lt-ltb n (2 ^ 31) f.sfits
-fit_is (negsuc n) f = lt-ltb n (2 ^ 31) f.sfits
-
 pub kept_is : (z : ℤ) → is_int z ≡ true → kept z ≡ z
 unfolding int_wrap
-kept_is z h = int_wrap_fits w32 z (is_fit z h)
+kept_is z h = int_wrap_fits w32 z (fits_signed z h)
 
 pub kept_fits : (z : ℤ) → is_int (kept z) ≡ true
 unfolding int_wrap
-kept_fits z = fit_is (kept z) (SFits-int_wrap w32 z)
+kept_fits z = is_int_from_fits (kept z) (SFits-int_wrap w32 z)
 
 -- the bits of a number that fits
 pub bits_of : (z : ℤ) → is_int z ≡ true → cast_signed w32 (cast_unsigned w32 z) ≡ z
-bits_of z h = to_z-of_z w32 z (is_fit z h)
+bits_of z h = to_z-of_z w32 z (fits_signed z h)
 
 -- twice a number: its bits, moved up by one
 pub kept_twice : (n : ℕ) → n < 2 ^ 32 → kept (cast_signed w32 n +ℤ cast_signed w32 n) ≡ cast_signed w32 ((n + n) % 2 ^ 32)

@@ -1,52 +1,38 @@
 -- The texts of the bodies keep the form and the rules, and mean the programs.
-use Rattle.std.proofs.Common.{◌≡◌, ◌+◌, ◌++◌, List, map, length, Some, refl, ap, ◌∙◌}
+use Rattle.std.proofs.Common.{◌≡◌, ℕ, ◌+◌, ◌++◌, List, [], map, length, Option, Some, refl, ap, ◌∙◌}
 use Rattle.std.specs.Prelude.{slice_get}
 use Rattle.std.specs.Option.{option_map}
 use Rattle.std.proofs.lemmas.Option.{slice_get-map}
-use Rattle.piton_syntax.specs.Systems.{ProgramOf}
+use Rattle.stack_text.specs.declared.breach.Breach.{Breach}
+use Rattle.stack_text.proofs.SharedLaws.{get_after}
+use Rattle.piton_syntax.specs.Systems.{ProgramOf, SystemOf}
 use Rattle.piton_syntax.specs.Operations as operations
 use Rattle.piton_check.specs.Resolved.{resolved, resolved_program}
-use Rattle.piton_check.specs.Instruction.{program_view, system_view}
+use Rattle.piton_check.specs.Declarations.{area_names, first_of}
+use Rattle.piton_check.specs.Violations.{program_breaches}
+use Rattle.piton_check.specs.Instruction.{ProgramView, program_view, system_view}
 use Rattle.gypsy_syntax.specs.declared.predef.Predef.{Predef}
 use Rattle.gypsy_syntax.specs.declared.predef.Predef.TheVariants as row
-use Rattle.gypsy_predef.specs.Bodies.{predef_number}
-use Rattle.gypsy_predef.specs.Texts.{body_text, body_texts}
+use Rattle.gypsy_syntax.specs.Predefined.{predef_number}
+use Rattle.gypsy_predef.specs.Bodies.{body_of}
+use Rattle.gypsy_predef.specs.Texts.{body_text, body_texts, condition_area}
 use Rattle.gypsy_predef.specs.Resolving.{BodiesResolve, BodiesStandResolved, BodiesKeepRules, DoTheirCalls, DoTheirRows}
-use Rattle.gypsy_predef.proofs.CallLaws.{calls, get_after}
+use Rattle.gypsy_predef.proofs.CallLaws.{calls}
 use Rattle.gypsy_predef.proofs.RowLaws.{runs}
 
-pub resolve : BodiesResolve
+-- with the area's position beside it, which not all of the bodies name
+resolve_there : (s : SystemOf) (r : Predef) → first_of (area_names s) condition_area ≡ Some 0 →
+    ◌≡◌ {A = Option ℕ × ProgramView} (first_of (area_names s) condition_area, program_view (resolved_program s (body_text r))) (Some 0, body_of r)
 unfolding operations.row_of
-resolve s row.MgSimpleVariableAssignment h = refl
-resolve s row.MgSimpleConstantAssignment h = refl
-resolve s row.MgSimpleVariableEq h = refl
-resolve s row.MgSimpleConstantEq h = refl
-resolve s row.MgIntegerLe h = refl
-resolve s row.MgIntegerUnaryMinus h = rw h refl
-resolve s row.MgIntegerAdd h = rw h refl
-resolve s row.MgIntegerSubtract h = rw h refl
-resolve s row.MgBooleanOr h = refl
-resolve s row.MgBooleanAnd h = refl
-resolve s row.MgBooleanNot h = refl
-resolve s row.MgIndexArray h = rw h refl
-resolve s row.MgArrayElementAssignment h = rw h refl
-resolve s row.MgIntegerMultiply h = rw h refl
+resolve_there s row.MgSimpleVariableAssignment h = rw h refl
+resolve_there s r h = rw h refl
+
+pub resolve : BodiesResolve
+resolve s r h = ap (λ b. b.1) (resolve_there s r h)
 
 text_number : (r : Predef) → slice_get body_texts (predef_number r) ≡ Some (body_text r)
 text_number row.MgSimpleVariableAssignment = refl
-text_number row.MgSimpleConstantAssignment = refl
-text_number row.MgSimpleVariableEq = refl
-text_number row.MgSimpleConstantEq = refl
-text_number row.MgIntegerLe = refl
-text_number row.MgIntegerUnaryMinus = refl
-text_number row.MgIntegerAdd = refl
-text_number row.MgIntegerSubtract = refl
-text_number row.MgBooleanOr = refl
-text_number row.MgBooleanAnd = refl
-text_number row.MgBooleanNot = refl
-text_number row.MgIndexArray = refl
-text_number row.MgArrayElementAssignment = refl
-text_number row.MgIntegerMultiply = refl
+text_number r = refl
 
 pub stand_resolved : BodiesStandResolved
 stand_resolved s programs r e h =
@@ -67,19 +53,11 @@ do_calls texts same s programs target r k args f fs p ends area at =
     let last : s.programs ≡ programs ++ body_texts = ends ∙ ap (λ (ps : List ProgramOf). programs ++ ps) same in
     calls (system_view (resolved s)) (length programs) target r k args f fs p (stand_resolved s programs r last area) at
 
-pub keep_rules : BodiesKeepRules
+keep_there : (s : SystemOf) (r : Predef) → first_of (area_names s) condition_area ≡ Some 0 →
+    ◌≡◌ {A = Option ℕ × List Breach} (first_of (area_names s) condition_area, program_breaches s (body_text r)) (Some 0, [])
 unfolding operations.row_of
-keep_rules s row.MgSimpleVariableAssignment h = refl
-keep_rules s row.MgSimpleConstantAssignment h = refl
-keep_rules s row.MgSimpleVariableEq h = refl
-keep_rules s row.MgSimpleConstantEq h = refl
-keep_rules s row.MgIntegerLe h = refl
-keep_rules s row.MgIntegerUnaryMinus h = rw h refl
-keep_rules s row.MgIntegerAdd h = rw h refl
-keep_rules s row.MgIntegerSubtract h = rw h refl
-keep_rules s row.MgBooleanOr h = refl
-keep_rules s row.MgBooleanAnd h = refl
-keep_rules s row.MgBooleanNot h = refl
-keep_rules s row.MgIndexArray h = rw h refl
-keep_rules s row.MgArrayElementAssignment h = rw h refl
-keep_rules s row.MgIntegerMultiply h = rw h refl
+keep_there s row.MgSimpleVariableAssignment h = rw h refl
+keep_there s r h = rw h refl
+
+pub keep_rules : BodiesKeepRules
+keep_rules s r h = ap (λ b. b.1) (keep_there s r h)

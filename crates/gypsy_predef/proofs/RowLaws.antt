@@ -15,7 +15,7 @@ use Rattle.piton_words.specs.declared.op.WordOp.TheVariants as op
 use Rattle.piton_words.specs.declared.outcome.Outcome.{Outcome}
 use Rattle.piton_words.specs.declared.outcome.Outcome.TheVariants.{One, Two}
 use Rattle.piton_words.specs.declared.outcome.WordError.{WordError}
-use Rattle.piton_words.specs.Rows as words
+use Rattle.piton_words.specs.OperationRows as words
 use Rattle.fm_words.specs.Word.{are_same_ints, is_int, wrapped}
 use Rattle.piton_syntax.specs.declared.test_kind.TestFamily.TheVariants as family
 use Rattle.piton_syntax.specs.declared.test_kind.TestKind.TheVariants as test
@@ -25,14 +25,12 @@ use Rattle.piton_machine.specs.Law.{Steps}
 use Rattle.gypsy_syntax.specs.declared.slot.Form.TheVariants.{Simple, Array, Literal}
 use Rattle.gypsy_syntax.specs.declared.predef.Predef.{Predef}
 use Rattle.gypsy_syntax.specs.declared.predef.Predef.TheVariants as row
-use Rattle.gypsy_syntax.specs.Predefined.{slots_of, shared, integer_slot, boolean_slot}
-use Rattle.gypsy_syntax.specs.Effects.{Effect, Normal, Fault, Beyond, item_of_value, truth_value, integer_value, are_same, is_true_value, predef_effect}
+use Rattle.gypsy_syntax.specs.Predefined.{slots_of, shared, integer_slot, boolean_slot, predef_effect, predef_cost, predef_temp, predef_ctrl, predef_number}
+use Rattle.gypsy_syntax.specs.Effects.{Normal, Fault, Beyond, item_of_value, truth_value, integer_value, are_same, is_true_value}
 use Rattle.gypsy_syntax.specs.Effects as effects
 use Rattle.gypsy_syntax.specs.Effects.{number_effect, indexed}
 use Rattle.gypsy_syntax.specs.ProgramFits.{is_in_range}
-use Rattle.gypsy_syntax.specs.PredefinedCosts.{predef_cost}
-use Rattle.gypsy_syntax.specs.PredefinedCosts.{predef_temp, predef_ctrl}
-use Rattle.gypsy_predef.specs.Bodies.{body_of, predef_number}
+use Rattle.gypsy_predef.specs.Bodies.{body_of}
 use Rattle.gypsy_predef.specs.Runs.{word_of_item, words_of_value, with_elements, length_word, Argument, values_of, ArgumentFits, ArgumentsFit, with_arguments, Runs, PredefRuns, CountsAdd, WordsWritten}
 use Rattle.gypsy_predef.proofs.RunningLaws.{Called, program_is, calls, gets, puts, fails, pushes, pushes_local, pops_local, sets_local, fetches, deposits, jumps, applies_one, applies_two, applies_three, returns}
 use Rattle.gypsy_predef.proofs.StackLaws.{element_over, element_under_two, element_there, written_one, written_length, written_word, written_other}
@@ -674,32 +672,12 @@ module _ (s : SystemView) (program caller place : ℕ) (f : Frame) (fs : List Fr
 
 pub counts : CountsAdd
 unfolding predef_cost
-counts row.MgSimpleVariableAssignment e = (refl, refl)
-counts row.MgSimpleConstantAssignment e = (refl, refl)
-counts row.MgSimpleVariableEq e = (refl, refl)
-counts row.MgSimpleConstantEq e = (refl, refl)
-counts row.MgIntegerLe e = (refl, refl)
-counts row.MgIntegerUnaryMinus (Normal v) = (refl, refl)
-counts row.MgIntegerUnaryMinus Fault = (refl, refl)
-counts row.MgIntegerUnaryMinus Beyond = (refl, refl)
-counts row.MgIntegerAdd (Normal v) = (refl, refl)
-counts row.MgIntegerAdd Fault = (refl, refl)
-counts row.MgIntegerAdd Beyond = (refl, refl)
-counts row.MgIntegerSubtract (Normal v) = (refl, refl)
-counts row.MgIntegerSubtract Fault = (refl, refl)
-counts row.MgIntegerSubtract Beyond = (refl, refl)
-counts row.MgBooleanOr e = (refl, refl)
-counts row.MgBooleanAnd e = (refl, refl)
-counts row.MgBooleanNot e = (refl, refl)
-counts row.MgIndexArray (Normal v) = (refl, refl)
-counts row.MgIndexArray Fault = (refl, refl)
-counts row.MgIndexArray Beyond = (refl, refl)
-counts row.MgArrayElementAssignment (Normal v) = (refl, refl)
-counts row.MgArrayElementAssignment Fault = (refl, refl)
-counts row.MgArrayElementAssignment Beyond = (refl, refl)
-counts row.MgIntegerMultiply (Normal v) = (refl, refl)
-counts row.MgIntegerMultiply Fault = (refl, refl)
-counts row.MgIntegerMultiply Beyond = (refl, refl)
+counts row.MgSimpleVariableAssignment (Normal v) = (refl, refl)
+counts r (Normal v) = (refl, refl)
+counts row.MgSimpleVariableAssignment Fault = (refl, refl)
+counts r Fault = (refl, refl)
+counts row.MgSimpleVariableAssignment Beyond = (refl, refl)
+counts r Beyond = (refl, refl)
 
 pub runs : PredefRuns
 runs s start r k args stack f fs p found at fit =

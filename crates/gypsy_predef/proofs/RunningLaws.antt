@@ -6,14 +6,14 @@ use Rattle.piton_words.specs.declared.word.Word.{Word}
 use Rattle.piton_words.specs.declared.word.Word.TheVariants.{Nat}
 use Rattle.piton_words.specs.declared.op.WordOp.{WordOp}
 use Rattle.piton_words.specs.declared.outcome.Outcome.{Outcome}
-use Rattle.piton_words.specs.Rows as words
+use Rattle.piton_words.specs.OperationRows as words
 use Rattle.piton_syntax.specs.declared.test_kind.TestFamily.{TestFamily}
 use Rattle.piton_syntax.specs.declared.test_kind.TestKind.{TestKind}
 use Rattle.piton_check.specs.Instruction as i
 use Rattle.piton_check.specs.Instruction.{Instruction, ProgramView, SystemView}
 use Rattle.piton_machine.specs.State.{Frame, PitonState, program_of, instruction_at, ctrl_used, element, with_element, with_word}
 use Rattle.piton_machine.specs.Views.{then_on, words_taken, operands_of, test_of}
-use Rattle.piton_machine.specs.Rows.{does_grow, results_on, row_of}
+use Rattle.piton_machine.specs.InstructionRows.{does_grow, results_on, row_of}
 use Rattle.piton_machine.specs.Step.{piton_step, step_cost, cost_of, cost_at, operation_cost}
 use Rattle.piton_machine.specs.Law.{Steps, none, more}
 use Rattle.piton_machine.proofs.RowLaws.{step_is, does_push, does_push_local, does_pop_local, does_set_local, does_pop_global, does_fetch_temp_stk, does_deposit_temp_stk, does_test_and_jump, does_call, does_apply}

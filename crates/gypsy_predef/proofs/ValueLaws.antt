@@ -1,5 +1,5 @@
 -- What the arguments of a call read as.
-use Rattle.std.proofs.Common.{◌≡◌, ℕ, ◌+◌, ◌<◌, ℤ, pos, Some, Bool, true, false, List, [], ◌∷◌, length, map, get_or, refl, ap, sym, ◌∙◌, subst, arith}
+use Rattle.std.proofs.Common.{◌≡◌, ℕ, ◌+◌, ◌<◌, pos, Some, Bool, true, false, List, [], ◌∷◌, length, map, get_or, refl, ap, sym, ◌∙◌, subst, arith}
 use Rattle.std.specs.Prelude.{slice_get}
 use Rattle.std.proofs.lemmas.Bool.{and_parts}
 use Rattle.std.specs.List.{list_all}
@@ -8,6 +8,7 @@ use Rattle.std.proofs.lemmas.Option.{slice_get-map, slice_get-get_or}
 use Rattle.stack_text.specs.declared.shape.Kind.{Kind}
 use Rattle.stack_text.specs.declared.shape.Shape.{Shape}
 use Rattle.stack_text.specs.Values.{ValueOf, item_count}
+use Rattle.stack_text.proofs.SharedLaws.{one_item}
 use Rattle.piton_words.specs.declared.word.Word.{Word}
 use Rattle.piton_words.specs.declared.word.Word.TheVariants.{Bool as Truth}
 use Rattle.piton_machine.specs.State.{element}
@@ -18,11 +19,6 @@ use Rattle.gypsy_syntax.specs.ProgramFits.{ValueFits, slot_kind, is_in_range}
 use Rattle.gypsy_syntax.specs.Effects.{item_of_value, truth_value}
 use Rattle.gypsy_predef.specs.Runs.{word_of_item, words_of_value, Argument, ArgumentFits, ArgumentsFit}
 use Rattle.gypsy_predef.proofs.StackLaws.{element_there}
-
-one_item : (items : List ℤ) → length items ≡ 1 → items ≡ get_or items 0 (pos 0) ∷ []
-one_item [] h = absurd (omega (arith, h))
-one_item (z ∷ []) h = refl
-one_item (z ∷ y ∷ items) h = absurd (omega (arith, h))
 
 -- a simple value has one item, in range
 pub simple_items : (k : Kind) (v : ValueOf) → v.shape ≡ simple k → ValueFits v → v.items ≡ item_of_value v ∷ []

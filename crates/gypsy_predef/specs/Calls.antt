@@ -1,5 +1,6 @@
 -- The code of a predefined call, as a generator gives it: the arguments pushed, the call, and the test for a fault.
-use Rattle.std.specs.Prelude.{◌≡◌, ℕ, ◌+◌, ◌^◌, ◌≤◌, List, [], ◌∷◌, ◌++◌, length, map, slice_get, Some, if◌then◌else◌}
+use Rattle.std.specs.Prelude.{◌≡◌, ℕ, ◌+◌, ◌≤◌, List, [], ◌∷◌, ◌++◌, length, map, slice_get, Some, if◌then◌else◌}
+use Rattle.stack_text.specs.SharedLimits.{most_stack}
 use Rattle.stack_text.specs.declared.shape.Kind.{Kind}
 use Rattle.stack_text.specs.declared.shape.Shape.{Shape}
 use Rattle.stack_text.specs.Values.{ValueOf}
@@ -16,14 +17,13 @@ use Rattle.gypsy_syntax.specs.declared.slot.Form.{Form}
 use Rattle.gypsy_syntax.specs.declared.slot.Form.TheVariants.{Simple, Array, Literal}
 use Rattle.gypsy_syntax.specs.declared.slot.Slot.{Slot}
 use Rattle.gypsy_syntax.specs.declared.predef.Predef.{Predef}
-use Rattle.gypsy_syntax.specs.Predefined.{slots_of}
+use Rattle.gypsy_syntax.specs.Predefined.{slots_of, predef_effect, predef_cost, predef_temp, predef_ctrl, predef_number, can_fail}
 use Rattle.gypsy_syntax.specs.Programs.{Arg, Var, Lit}
 use Rattle.gypsy_syntax.specs.ProgramFits.{ArgsFit, ValueFits}
-use Rattle.gypsy_syntax.specs.Effects.{Effect, Normal, Fault, Beyond, predef_effect, value_at}
-use Rattle.gypsy_syntax.specs.PredefinedCosts.{predef_cost, predef_temp, predef_ctrl}
-use Rattle.gypsy_predef.specs.Bodies.{body_of, bodies, predef_number}
+use Rattle.gypsy_syntax.specs.Effects.{Effect, Normal, Fault, Beyond, value_at}
+use Rattle.gypsy_predef.specs.Bodies.{body_of, bodies}
 use Rattle.gypsy_predef.specs.Runs.{Argument, ArgumentsFit, Holds, pushed_word, values_of, length_words}
-use Rattle.gypsy_predef.specs.Runs.{can_fail, with_elements, target_of, words_of_value}
+use Rattle.gypsy_predef.specs.Runs.{with_elements, target_of, words_of_value}
 
 -- the instruction that pushes an argument
 abbrev pub argument_code : Form → Argument → Instruction
@@ -69,7 +69,7 @@ pub record IsAtCode (s : SystemView) (program target : ℕ) (r : Predef) (k : Ki
   pub locals : LocalsHold f.locals (slots_of r) args
   pub arguments : ArgumentsFit p.stack k (slots_of r) args
   pub condition : word_at p.areas 0 0 ≡ Some (Nat 2)
-  pub temp : s.temp ≤ 2 ^ 16
+  pub temp : s.temp ≤ most_stack
   pub temp_room : length p.stack + predef_temp r ≤ s.temp
   pub ctrl_room : ctrl_used (f ∷ fs) + predef_ctrl r ≤ s.ctrl
 

@@ -11,10 +11,8 @@ use Rattle.piton_check.specs.Instruction.{program_view, system_view}
 use Rattle.piton_machine.specs.State.{Frame, PitonState}
 use Rattle.piton_machine.specs.Law.{Steps}
 use Rattle.gypsy_syntax.specs.declared.predef.Predef.{Predef}
-use Rattle.gypsy_syntax.specs.Predefined.{slots_of}
-use Rattle.gypsy_syntax.specs.Effects.{predef_effect}
-use Rattle.gypsy_syntax.specs.PredefinedCosts.{predef_cost}
-use Rattle.gypsy_predef.specs.Bodies.{body_of, predef_number}
+use Rattle.gypsy_syntax.specs.Predefined.{slots_of, predef_effect, predef_cost, predef_number}
+use Rattle.gypsy_predef.specs.Bodies.{body_of}
 use Rattle.gypsy_predef.specs.Calls.{IsAtCode, after_code, predef_code}
 use Rattle.gypsy_predef.specs.Runs.{Argument, ArgumentsFit, IsAtCall, Runs, values_of}
 use Rattle.gypsy_predef.specs.Texts.{body_text, body_texts, condition_area}

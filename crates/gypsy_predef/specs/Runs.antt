@@ -1,6 +1,7 @@
 -- What a call of a predefined program does: from the `call`, its arguments pushed, to the place after it.
-use Rattle.std.specs.Prelude.{◌≡◌, ℕ, ◌+◌, ◌-◌, ◌^◌, ◌≤◌, ◌<◌, ◌≢◌, ℤ, pos, Bool, true, false, List, [], ◌∷◌, length, map, slice_get, Some}
+use Rattle.std.specs.Prelude.{◌≡◌, ℕ, ◌+◌, ◌-◌, ◌≤◌, ◌<◌, ◌≢◌, ℤ, pos, List, [], ◌∷◌, length, map, slice_get, Some}
 use Rattle.std.specs.Prelude.{if◌then◌else◌}
+use Rattle.stack_text.specs.SharedLimits.{most_stack}
 use Rattle.stack_text.specs.declared.shape.Kind.{Kind}
 use Rattle.stack_text.specs.declared.shape.Kind.TheVariants.{Integer, Boolean, Character}
 use Rattle.stack_text.specs.Values.{ValueOf, item_count}
@@ -14,12 +15,11 @@ use Rattle.gypsy_syntax.specs.declared.slot.Form.TheVariants.{Simple, Array, Lit
 use Rattle.gypsy_syntax.specs.declared.slot.Slot.{Slot}
 use Rattle.gypsy_syntax.specs.declared.predef.Predef.{Predef}
 use Rattle.gypsy_syntax.specs.declared.predef.Predef.TheVariants as row
-use Rattle.gypsy_syntax.specs.Predefined.{slots_of}
+use Rattle.gypsy_syntax.specs.Predefined.{slots_of, predef_effect, predef_cost, predef_temp, predef_ctrl, predef_number, can_fail}
 use Rattle.gypsy_syntax.specs.Programs.{simple}
 use Rattle.gypsy_syntax.specs.ProgramFits.{ValueFits, slot_kind}
-use Rattle.gypsy_syntax.specs.Effects.{Effect, Normal, Fault, Beyond, same_int, item_of_value, predef_effect, value_at}
-use Rattle.gypsy_syntax.specs.PredefinedCosts.{predef_cost, predef_temp, predef_ctrl}
-use Rattle.gypsy_predef.specs.Bodies.{body_of, predef_number, lengths_of}
+use Rattle.gypsy_syntax.specs.Effects.{Effect, Normal, Fault, Beyond, same_int, item_of_value, value_at}
+use Rattle.gypsy_predef.specs.Bodies.{body_of, lengths_of}
 
 -- an item as a word
 abbrev pub word_of_item : Kind → ℤ → Word
@@ -111,15 +111,6 @@ abbrev pub pushes_count : List Slot → ℕ
 pushes_count [] = 0
 pushes_count (slot ∷ slots) = push_count slot.form + pushes_count slots
 
-abbrev pub can_fail : Predef → Bool
-can_fail row.MgIntegerUnaryMinus = true
-can_fail row.MgIntegerAdd = true
-can_fail row.MgIntegerSubtract = true
-can_fail row.MgIndexArray = true
-can_fail row.MgArrayElementAssignment = true
-can_fail row.MgIntegerMultiply = true
-can_fail r = false
-
 abbrev pub beside_count : Predef → ℕ
 beside_count r = pushes_count (slots_of r) + lengths_of r + (if can_fail r then 5 else 0)
 
@@ -139,7 +130,7 @@ pub record IsAtCall (s : SystemView) (program : ℕ) (r : Predef) (args : List A
   pub call : instruction_at s p.program p.place ≡ Some (Call program)
   pub frames : p.frames ≡ f ∷ fs
   pub pushed : p.stack ≡ with_arguments r args stack
-  pub temp : s.temp ≤ 2 ^ 16
+  pub temp : s.temp ≤ most_stack
   pub temp_room : length stack + predef_temp r ≤ s.temp
   pub ctrl_room : ctrl_used (f ∷ fs) + predef_ctrl r ≤ s.ctrl
 

@@ -1,8 +1,9 @@
 //! Instructions of a text, put one behind the other. All their places are 0.
 
-ghost use Rattle.std.specs.Prelude.{◌≡◌, ◌++◌, [], ◌∷◌, None, OnOk};
+ghost use Rattle.std.specs.Prelude.{◌≡◌, ◌++◌, [], ◌∷◌, None, OnOk, IfOk};
+ghost use Rattle.stack_text.specs.Grammar.Printed.{unplaced};
 ghost use Rattle.piton_syntax.specs.declared.argument.ArgText.TheVariants as arg;
-ghost use Rattle.gypsy_predef.specs.Texts.{constant, instruction, number};
+ghost use Rattle.gypsy_predef.specs.Texts.{condition_area, constant, instruction, number};
 
 use piton_syntax::{ArgText, InstrText, Number, PitonOp, TestKind, WordItem, WordText};
 use stack_text::{Memory, Named};
@@ -87,4 +88,11 @@ pub fn test(
 {
     let args = vec![in alloc; ArgText::Test(kind), ArgText::Name(to)]?;
     put(instrs, None, op, args)
+}
+
+/// The name of the area that holds the current condition.
+pub fn condition_area(alloc: Global) -> Result<Named, Memory>
+    ensures { IfOk result (λ name. name ≡ unplaced condition_area) }
+{
+    Named::unplaced(alloc, b"c-c".as_slice())
 }

@@ -1,4 +1,4 @@
-//! The fourteen bodies, line by line.
+//! The bodies, line by line.
 
 ghost use Rattle.std.specs.Prelude.{◌≡◌, IsTrue};
 ghost use Rattle.stack_text.specs.Names.{is_name};
@@ -222,61 +222,94 @@ static OF_THE_PRODUCT: [Temporary; 5] = [
     Temporary::Int(Local::T, 0),
 ];
 
-/// The lines of a body.
-pub fn lines_of(row: Predef) -> &'static [Line]
-    ensures { result.now ≡ lines_of row }
-{
-    match row {
-        Predef::MgSimpleVariableAssignment => SIMPLE_VARIABLE_ASSIGNMENT.as_slice(),
-        Predef::MgSimpleConstantAssignment => SIMPLE_CONSTANT_ASSIGNMENT.as_slice(),
-        Predef::MgSimpleVariableEq => SIMPLE_VARIABLE_EQ.as_slice(),
-        Predef::MgSimpleConstantEq => SIMPLE_CONSTANT_EQ.as_slice(),
-        Predef::MgIntegerLe => INTEGER_LE.as_slice(),
-        Predef::MgIntegerUnaryMinus => INTEGER_UNARY_MINUS.as_slice(),
-        Predef::MgIntegerAdd => INTEGER_ADD.as_slice(),
-        Predef::MgIntegerSubtract => INTEGER_SUBTRACT.as_slice(),
-        Predef::MgBooleanOr => BOOLEAN_OR.as_slice(),
-        Predef::MgBooleanAnd => BOOLEAN_AND.as_slice(),
-        Predef::MgBooleanNot => BOOLEAN_NOT.as_slice(),
-        Predef::MgIndexArray => INDEX_ARRAY.as_slice(),
-        Predef::MgArrayElementAssignment => ARRAY_ELEMENT_ASSIGNMENT.as_slice(),
-        Predef::MgIntegerMultiply => INTEGER_MULTIPLY.as_slice(),
-    }
+/// A body.
+#[derive(Clone, Copy)]
+pub struct Body {
+    /// The formals: one for each argument, and one for an array's length.
+    pub formals: &'static [Local],
+    /// The temporaries.
+    pub temporaries: &'static [Temporary],
+    /// The lines.
+    pub lines: &'static [Line],
 }
 
-/// The formals of a body: one for each argument, and one for an array's length.
-pub fn formals_of(row: Predef) -> &'static [Local]
-    ensures { result.now ≡ formals_of row }
+/// The body of a row.
+pub fn listed_body(row: Predef) -> Body
+    ensures formals { result.formals.now ≡ formals_of row }
+    ensures temporaries { result.temporaries.now ≡ temporary_locals row }
+    ensures lines { result.lines.now ≡ lines_of row }
 {
     match row {
-        Predef::MgSimpleVariableAssignment => D_X.as_slice(),
-        Predef::MgSimpleConstantAssignment => D_V.as_slice(),
-        Predef::MgSimpleVariableEq => B_X_Y.as_slice(),
-        Predef::MgSimpleConstantEq => B_X_V.as_slice(),
-        Predef::MgIntegerLe => B_X_Y.as_slice(),
-        Predef::MgIntegerUnaryMinus => D_X.as_slice(),
-        Predef::MgIntegerAdd => D_X_Y.as_slice(),
-        Predef::MgIntegerSubtract => D_X_Y.as_slice(),
-        Predef::MgBooleanOr => B_X_Y.as_slice(),
-        Predef::MgBooleanAnd => B_X_Y.as_slice(),
-        Predef::MgBooleanNot => B_X.as_slice(),
-        Predef::MgIndexArray => D_A_I_N.as_slice(),
-        Predef::MgArrayElementAssignment => A_I_X_N.as_slice(),
-        Predef::MgIntegerMultiply => D_X_Y.as_slice(),
-    }
-}
-
-/// The temporaries of a body.
-pub fn temporary_locals(row: Predef) -> &'static [Temporary]
-    ensures { result.now ≡ temporary_locals row }
-{
-    match row {
-        Predef::MgIntegerAdd
-        | Predef::MgIntegerSubtract
-        | Predef::MgIndexArray
-        | Predef::MgArrayElementAssignment => ONE_NUMBER.as_slice(),
-        Predef::MgIntegerMultiply => OF_THE_PRODUCT.as_slice(),
-        _ => NO_TEMPORARY.as_slice(),
+        Predef::MgSimpleVariableAssignment => Body {
+            formals: D_X.as_slice(),
+            temporaries: NO_TEMPORARY.as_slice(),
+            lines: SIMPLE_VARIABLE_ASSIGNMENT.as_slice(),
+        },
+        Predef::MgSimpleConstantAssignment => Body {
+            formals: D_V.as_slice(),
+            temporaries: NO_TEMPORARY.as_slice(),
+            lines: SIMPLE_CONSTANT_ASSIGNMENT.as_slice(),
+        },
+        Predef::MgSimpleVariableEq => Body {
+            formals: B_X_Y.as_slice(),
+            temporaries: NO_TEMPORARY.as_slice(),
+            lines: SIMPLE_VARIABLE_EQ.as_slice(),
+        },
+        Predef::MgSimpleConstantEq => Body {
+            formals: B_X_V.as_slice(),
+            temporaries: NO_TEMPORARY.as_slice(),
+            lines: SIMPLE_CONSTANT_EQ.as_slice(),
+        },
+        Predef::MgIntegerLe => Body {
+            formals: B_X_Y.as_slice(),
+            temporaries: NO_TEMPORARY.as_slice(),
+            lines: INTEGER_LE.as_slice(),
+        },
+        Predef::MgIntegerUnaryMinus => Body {
+            formals: D_X.as_slice(),
+            temporaries: NO_TEMPORARY.as_slice(),
+            lines: INTEGER_UNARY_MINUS.as_slice(),
+        },
+        Predef::MgIntegerAdd => Body {
+            formals: D_X_Y.as_slice(),
+            temporaries: ONE_NUMBER.as_slice(),
+            lines: INTEGER_ADD.as_slice(),
+        },
+        Predef::MgIntegerSubtract => Body {
+            formals: D_X_Y.as_slice(),
+            temporaries: ONE_NUMBER.as_slice(),
+            lines: INTEGER_SUBTRACT.as_slice(),
+        },
+        Predef::MgBooleanOr => Body {
+            formals: B_X_Y.as_slice(),
+            temporaries: NO_TEMPORARY.as_slice(),
+            lines: BOOLEAN_OR.as_slice(),
+        },
+        Predef::MgBooleanAnd => Body {
+            formals: B_X_Y.as_slice(),
+            temporaries: NO_TEMPORARY.as_slice(),
+            lines: BOOLEAN_AND.as_slice(),
+        },
+        Predef::MgBooleanNot => Body {
+            formals: B_X.as_slice(),
+            temporaries: NO_TEMPORARY.as_slice(),
+            lines: BOOLEAN_NOT.as_slice(),
+        },
+        Predef::MgIndexArray => Body {
+            formals: D_A_I_N.as_slice(),
+            temporaries: ONE_NUMBER.as_slice(),
+            lines: INDEX_ARRAY.as_slice(),
+        },
+        Predef::MgArrayElementAssignment => Body {
+            formals: A_I_X_N.as_slice(),
+            temporaries: ONE_NUMBER.as_slice(),
+            lines: ARRAY_ELEMENT_ASSIGNMENT.as_slice(),
+        },
+        Predef::MgIntegerMultiply => Body {
+            formals: D_X_Y.as_slice(),
+            temporaries: OF_THE_PRODUCT.as_slice(),
+            lines: INTEGER_MULTIPLY.as_slice(),
+        },
     }
 }
 

@@ -9,10 +9,10 @@ ghost use Rattle.gypsy_predef.specs.Resolving.{DoTheirCalls, DoTheirRows};
 ghost use Rattle.gypsy_predef.specs.Texts.{body_text, body_texts, branch_text, line_text, named_local, temporary_text};
 ghost use Rattle.gypsy_predef.specs.Texts.{fail_label, label_name, local_name, of_name, plain_at};
 
-use crate::instruction_text::{constant, number, of_name, plain, test};
+use crate::instruction_text::{condition_area, constant, number, of_name, plain, test};
 use crate::line::{Label, Line, Local, Temporary, label_name, local_name};
-use crate::rows::{formals_of, lines_of, program_name, temporary_locals};
-use gypsy_syntax::Predef;
+use crate::rows::{listed_body, program_name};
+use gypsy_syntax::{Predef, predefs};
 use piton_syntax::{InstrText, PitonOp, Program, TestKind, WordItem, WordText};
 use stack_text::{Memory, Named};
 use std::alloc::Global;
@@ -132,7 +132,7 @@ fn fail(alloc: Global, instrs: &mut Vec<InstrText>) -> Result<(), Memory>
     let label = fail_label(alloc)?;
     let item = WordItem::Nat(number(ROUTINE_ERROR));
     constant(alloc, instrs, Some(label), item)?;
-    let area = Named::unplaced(alloc, b"c-c".as_slice())?;
+    let area = condition_area(alloc)?;
     of_name(alloc, instrs, PitonOp::PopGlobal, area)?;
     plain(alloc, instrs, None, PitonOp::Ret)
 }
@@ -212,9 +212,10 @@ fn body(alloc: Global, row: Predef) -> Result<Program, Memory>
     ensures { IfOk result (λ program. program ≡ body_text row) }
 {
     let name = Named::unplaced(alloc, program_name(row))?;
-    let formals = names(alloc, formals_of(row))?;
-    let temporaries = temporaries(alloc, temporary_locals(row))?;
-    let instrs = instructions(alloc, lines_of(row))?;
+    let listed = listed_body(row);
+    let formals = names(alloc, listed.formals)?;
+    let temporaries = temporaries(alloc, listed.temporaries)?;
+    let instrs = instructions(alloc, listed.lines)?;
     Ok(Program {
         place: 0,
         name,
@@ -236,29 +237,12 @@ fn programs(alloc: Global, rows: &[Predef]) -> Result<Vec<Program>, Memory>
     Ok(programs)
 }
 
-static PREDEFS: [Predef; 14] = [
-    Predef::MgSimpleVariableAssignment,
-    Predef::MgSimpleConstantAssignment,
-    Predef::MgSimpleVariableEq,
-    Predef::MgSimpleConstantEq,
-    Predef::MgIntegerLe,
-    Predef::MgIntegerUnaryMinus,
-    Predef::MgIntegerAdd,
-    Predef::MgIntegerSubtract,
-    Predef::MgBooleanOr,
-    Predef::MgBooleanAnd,
-    Predef::MgBooleanNot,
-    Predef::MgIndexArray,
-    Predef::MgArrayElementAssignment,
-    Predef::MgIntegerMultiply,
-];
-
-/// The fourteen predefined programs, in the order of the table. Where a system ends with them and its first area is `c-c`,
+/// The predefined programs, in the order of the table. Where a system ends with them and its first area is `c-c`,
 /// each does its row: from the call itself, and from the first push of a statement's code until after the test for a fault.
 pub fn bodies(alloc: Global) -> Result<Vec<Program>, Memory>
     ensures texts { IfOk result (λ programs. programs.items ≡ body_texts) }
     ensures rows { IfOk result (λ programs. DoTheirRows programs.items) }
     ensures calls { IfOk result (λ programs. DoTheirCalls programs.items) }
 {
-    programs(alloc, PREDEFS.as_slice())
+    programs(alloc, predefs())
 }

@@ -10,6 +10,7 @@ use Rattle.stack_text.specs.declared.shape.Kind.{Kind}
 use Rattle.stack_text.specs.declared.shape.Kind.TheVariants.{Integer, Boolean, Character}
 use Rattle.stack_text.specs.declared.shape.Shape.{Shape}
 use Rattle.stack_text.specs.Values.{ValueOf, is_item, is_value, item_count}
+use Rattle.stack_text.proofs.SharedLaws.{rule_holds, append_none}
 use Rattle.gypsy_syntax.specs.declared.literal.Decl.{Decl}
 use Rattle.gypsy_syntax.specs.declared.literal.Literal.{Literal}
 use Rattle.gypsy_syntax.specs.declared.literal.TypeText.{TypeText}
@@ -24,13 +25,13 @@ use Rattle.gypsy_syntax.specs.ProgramFits.{ArgFits, ArgsFit, Each, ProcFits, Stm
 use Rattle.gypsy_syntax.specs.Resolved.{argument_of, condition_names, item_of, items_of_all, local_value, place_among, position_of, procedure_of, program_of, statement_of, statement_of_all, value_items, variable_names, variable_types}
 use Rattle.gypsy_syntax.specs.Sources.{LiteralOf, integer, truth, character, array, ArgOf, variable, constant, LocalOf, ProcOf, SourceOf}
 use Rattle.gypsy_syntax.specs.Sources.{StmtOf, StmtsOf, no_op, signal, seq, loop, branch, begin, call, predef, no_parts, part}
-use Rattle.gypsy_syntax.specs.SourceView.{items_of_list, literal_of, parts_of_list, stmt_of}
+use Rattle.gypsy_syntax.specs.Seen.SourceView.{items_of_list, literal_of, parts_of_list, stmt_of}
 use Rattle.gypsy_syntax.proofs.FitsLaws.{keeps_fits}
 use Rattle.gypsy_check.specs.Accepted.{IsAccepted}
 use Rattle.gypsy_check.specs.Declarations.{repeats, variables_of}
 use Rattle.gypsy_check.specs.Rules.{condition_name_breaches, local_breaches, main_breaches, name_breaches, procedure_breaches, size_breaches, statement_breaches, type_breaches, variable_breaches, violations}
 use Rattle.gypsy_check.specs.Types.{has_length}
-use Rattle.gypsy_check.proofs.CleanLaws.{four, holds, three, two}
+use Rattle.gypsy_check.proofs.CleanLaws.{four, three}
 use Rattle.gypsy_space.specs.Resolvable.{ConstantFits, ConstantsFit, IsResolvable, LocalFits, PartsFit}
 
 -- ---- positions
@@ -83,7 +84,7 @@ all_wider k (z ∷ zs) e =
     let p = and_parts (is_in_range k z) (list_all (is_in_range k) zs) e in
     and_from (is_in_range Integer z) (list_all (is_in_range Integer) zs) (wider k z p.0) (all_wider k zs p.1)
 
-item_is : (k : Kind) (z : ℤ) → is_in_range k z ≡ true → is_item k z ≡ true
+pub item_is : (k : Kind) (z : ℤ) → is_in_range k z ≡ true → is_item k z ≡ true
 item_is Integer z e = refl
 item_is Boolean (pos n) e = e
 item_is Boolean (negsuc n) e = e
@@ -162,15 +163,15 @@ module _ (s : SourceOf) (p : ProcOf) (shapes : List Shape) (n : ℕ) where
 lengths_of : (formals : List Decl) (types : List TypeText) → flat_map type_breaches (map (λ (d : Decl). d.shape) formals ++ types) ≡ [] → All (λ (d : Decl). IsTrue (has_length d.shape.length)) formals × (flat_map type_breaches types ≡ [])
 lengths_of [] types e = (All-nil (λ (d : Decl). IsTrue (has_length d.shape.length)), e)
 lengths_of (d ∷ ds) types e =
-    let h = two (type_breaches d.shape) (flat_map type_breaches (map (λ (d : Decl). d.shape) ds ++ types)) e in
+    let h = append_none (type_breaches d.shape) (flat_map type_breaches (map (λ (d : Decl). d.shape) ds ++ types)) e in
     let k = lengths_of ds types h.1 in
-    (All-cons (λ (d : Decl). IsTrue (has_length d.shape.length)) d ds (holds (has_length d.shape.length) d.shape.place 7 h.0) k.0, k.1)
+    (All-cons (λ (d : Decl). IsTrue (has_length d.shape.length)) d ds (rule_holds (has_length d.shape.length) d.shape.place 7 h.0) k.0, k.1)
 
 locals_fit : (locals : List LocalOf) → flat_map type_breaches (map (λ (l : LocalOf). l.decl.shape) locals) ≡ [] → Each ValueFits (map local_value locals) → All LocalFits locals
 locals_fit [] e f = All-nil LocalFits
 locals_fit (l ∷ ls) e f =
-    let h = two (type_breaches l.decl.shape) (flat_map type_breaches (map (λ (l : LocalOf). l.decl.shape) ls)) e in
-    All-cons LocalFits l ls (record { length = holds (has_length l.decl.shape.length) l.decl.shape.place 7 h.0; value = f.0 }) (locals_fit ls h.1 f.1)
+    let h = append_none (type_breaches l.decl.shape) (flat_map type_breaches (map (λ (l : LocalOf). l.decl.shape) ls)) e in
+    All-cons LocalFits l ls (record { length = rule_holds (has_length l.decl.shape.length) l.decl.shape.place 7 h.0; value = f.0 }) (locals_fit ls h.1 f.1)
 
 resolvable : (s : SourceOf) (p : ProcOf) → FitsProcedure p → procedure_breaches s p ≡ [] → ProcFits (program_of s) (procedure_of s p) → IsResolvable p
 resolvable s p form clean fits =
@@ -187,7 +188,7 @@ resolvable s p form clean fits =
 all_resolvable : (s : SourceOf) (ps : List ProcOf) → All FitsProcedure ps → flat_map (procedure_breaches s) ps ≡ [] → ((i : ℕ) → ProcFits (program_of s) (get_or (map (procedure_of s) ps) i no_proc)) → All IsResolvable ps
 all_resolvable s [] form clean fits = All-nil IsResolvable
 all_resolvable s (p ∷ ps) form clean fits =
-    let h = two (procedure_breaches s p) (flat_map (procedure_breaches s) ps) clean in
+    let h = append_none (procedure_breaches s p) (flat_map (procedure_breaches s) ps) clean in
     All-cons IsResolvable p ps (resolvable s p (All-head FitsProcedure p ps form) h.0 (fits 0)) (all_resolvable s ps (All-tail FitsProcedure p ps form) h.1 (λ i. fits (suc i)))
 
 pub source_form : (s : SourceOf) → IsAccepted s → FitsForm s

@@ -9,9 +9,9 @@ use Rattle.gypsy_syntax.specs.declared.literal.Decl.{Decl}
 use Rattle.gypsy_syntax.specs.declared.literal.Local.{Local}
 use Rattle.gypsy_syntax.specs.declared.proc.Proc.{Proc}
 use Rattle.gypsy_syntax.specs.Resolved.{condition_names, place_among, position_of, variable_names}
-use Rattle.gypsy_syntax.specs.SourceView.{local_of, proc_of}
+use Rattle.gypsy_syntax.specs.Seen.SourceView.{local_of, proc_of}
 use Rattle.gypsy_syntax.specs.Sources.{LocalOf}
-use Rattle.gypsy_check.proofs.LookupLaws.{place_cons}
+use Rattle.gypsy_check.proofs.LookupLaws.{place_cons, place_nil}
 
 position_or_len-map : {X Y : Type 0} (p : Y → Bool) (f : X → Y) (xs : List X) → position_or_len (λ x. p (f x)) xs ≡ position_or_len p (map f xs)
 position_or_len-map p f [] = refl
@@ -22,10 +22,6 @@ pub position-map : {X : Type 0} (name : List ℕ) (key : X → List ℕ) (xs : L
 unfolding place_among
 position-map name key xs =
     ap₂ (λ (n l : ℕ). cond (nat_lt n l) (Some n) None) (position_or_len-map (bytes_eq name) key xs) (sym (length-map xs key))
-
-pub place_none : (name : List ℕ) → place_among name [] ≡ None
-unfolding place_among
-place_none name = refl
 
 -- the place in the first list, and else in the second, after so many
 abbrev pub place_or : ℕ → Option ℕ → Option ℕ → Option ℕ
@@ -42,7 +38,7 @@ place_or-zero None = refl
 place_or-zero (Some i) = ap Some (zero-add i)
 
 pub place_among-append : (name : List ℕ) (ms ns : List (List ℕ)) → place_among name (ms ++ ns) ≡ place_or (length ms) (place_among name ms) (place_among name ns)
-place_among-append name [] ns = sym (ap (λ (m : Option ℕ). place_or 0 m (place_among name ns)) (place_none name) ∙ place_or-zero (place_among name ns))
+place_among-append name [] ns = sym (ap (λ (m : Option ℕ). place_or 0 m (place_among name ns)) (place_nil name) ∙ place_or-zero (place_among name ns))
 place_among-append name (m ∷ ms) ns =
     place_cons name m (ms ++ ns)
     ∙ pick (bytes_eq name m) (place_among-append name ms ns)

@@ -5,13 +5,10 @@ use Rattle.std.proofs.lemmas.List.{length-map}
 use Rattle.stack_text.specs.declared.name.Named.{Named}
 use Rattle.stack_text.specs.declared.shape.Shape.{Shape}
 use Rattle.stack_text.specs.Trees.{node_count, node_counts}
-use Rattle.stack_text.specs.TreeView.{nodes}
+use Rattle.stack_text.specs.Seen.TreeView.{nodes}
 use Rattle.stack_text.specs.Values.{item_count}
 use Rattle.stack_text.specs.Grammar.Printed.{name_tree}
-use Rattle.gypsy_syntax.specs.declared.predef.Predef.{Predef}
-use Rattle.gypsy_syntax.specs.declared.predef.Predef.TheVariants as row
-use Rattle.gypsy_syntax.specs.Answers.{KeepsForm}
-use Rattle.gypsy_syntax.specs.PredefinedCosts.{predef_words}
+use Rattle.gypsy_syntax.specs.GypsyReading.{KeepsForm}
 use Rattle.gypsy_syntax.specs.Printed.{arg_tree, literal_tree, proc_tree, stmt_tree, stmt_trees}
 use Rattle.gypsy_syntax.specs.ProgramFits.{ProcFits, ProgramFits}
 use Rattle.gypsy_syntax.specs.Programs.{Program, Proc, no_proc, proc_at, shapes_of, words_of}
@@ -20,20 +17,21 @@ use Rattle.gypsy_syntax.specs.Sources.{ArgOf, variable, constant, LiteralOf, int
 use Rattle.gypsy_syntax.specs.Sources.{StmtOf, StmtsOf, no_op, signal, seq, loop, branch, begin, call, predef, no_parts, part, ProcOf, SourceOf}
 use Rattle.gypsy_space.specs.Needs.{arg_words, args_words, code_words, local_words, statement_words, vars_of}
 use Rattle.gypsy_syntax.proofs.FitsLaws.{keeps_fits}
+use Rattle.gypsy_syntax.proofs.PredefLaws.{few_words}
 use Rattle.gypsy_space.specs.declared.need.Need.{Need}
 use Rattle.gypsy_space.specs.Events.{AreNeeds, need_of}
 use Rattle.gypsy_space.specs.StatementNeeds.{AreCapped, capped, capped_need}
 
 -- ---- the words of variables
 
-item_count-positive : (s : Shape) → 0 < item_count s
+pub item_count-positive : (s : Shape) → 0 < item_count s
 item_count-positive s = grind (arith)
 
-words_of-append : (xs ys : List Shape) → words_of (xs ++ ys) ≡ words_of xs + words_of ys
+pub words_of-append : (xs ys : List Shape) → words_of (xs ++ ys) ≡ words_of xs + words_of ys
 words_of-append [] ys = omega arith
 words_of-append (x ∷ xs) ys = let e : words_of (xs ++ ys) ≡ words_of xs + words_of ys = words_of-append xs ys in omega (arith, e)
 
-length-words_of : (xs : List Shape) → length xs ≤ words_of xs
+pub length-words_of : (xs : List Shape) → length xs ≤ words_of xs
 length-words_of [] = omega arith
 length-words_of (x ∷ xs) = let le = length-words_of xs in let some_ = item_count-positive x in omega (arith, le, some_)
 
@@ -41,8 +39,8 @@ record AreFew (p : Proc) : Type 0 where
   words : local_words p ≤ 65536
   vars : vars_of p ≤ 65536
 
-few_words : (q : Program) (p : Proc) → ProcFits q p → AreFew p
-few_words q p fits =
+are_few : (q : Program) (p : Proc) → ProcFits q p → AreFew p
+are_few q p fits =
     let all : words_of (shapes_of p) ≡ words_of p.formals + local_words p = words_of-append p.formals (map (λ v. v.shape) p.locals) in
     let formals = length-words_of p.formals in
     let locals : length (map (λ v. v.shape) p.locals) ≤ local_words p = length-words_of (map (λ v. v.shape) p.locals) in
@@ -79,22 +77,6 @@ args_count p (a ∷ as_) =
     let product : 4 * (n + m) ≡ 4 * n + 4 * m = omega arith in
     omega (arith, one, others, product)
 
-predef_words-few : (r : Predef) → predef_words r ≤ 9
-predef_words-few row.MgSimpleVariableAssignment = omega arith
-predef_words-few row.MgSimpleConstantAssignment = omega arith
-predef_words-few row.MgSimpleVariableEq = omega arith
-predef_words-few row.MgSimpleConstantEq = omega arith
-predef_words-few row.MgIntegerLe = omega arith
-predef_words-few row.MgIntegerUnaryMinus = omega arith
-predef_words-few row.MgIntegerAdd = omega arith
-predef_words-few row.MgIntegerSubtract = omega arith
-predef_words-few row.MgBooleanOr = omega arith
-predef_words-few row.MgBooleanAnd = omega arith
-predef_words-few row.MgBooleanNot = omega arith
-predef_words-few row.MgIndexArray = omega arith
-predef_words-few row.MgArrayElementAssignment = omega arith
-predef_words-few row.MgIntegerMultiply = omega arith
-
 module _ (s : SourceOf) (p : ProcOf) (few : (i : ℕ) → AreFew (proc_at (program_of s) i)) where
   mutual
     statement_count : (st : StmtOf) → statement_words (program_of s) (statement_of s p st) ≤ 400000 * node_count (stmt_tree st)
@@ -111,7 +93,7 @@ module _ (s : SourceOf) (p : ProcOf) (few : (i : ℕ) → AreFew (proc_at (progr
         omega (arith, callee.words, callee.vars, conds, names)
     statement_count (predef place which args) =
         let all = args_count p args in
-        let few_ = predef_words-few which in
+        let few_ = few_words which in
         omega (arith, all, few_)
 
     parts_count : (ss : StmtsOf) → statement_words (program_of s) (statement_of_all s p ss) ≤ 400000 * node_counts (stmt_trees ss)
@@ -143,7 +125,7 @@ code_small s form few i =
 
 -- no procedure of an accepted source has more words of code
 pub code_modest : (s : SourceOf) → KeepsForm s → ProgramFits (program_of s) → (i : ℕ) → code_words (program_of s) i ≤ 2 ^ 50
-code_modest s form fits = code_small s form (λ j. few_words (program_of s) (proc_at (program_of s) j) (fits.procs j))
+code_modest s form fits = code_small s form (λ j. are_few (program_of s) (proc_at (program_of s) j) (fits.procs j))
 
 same_need : (n : Need) → n.locals_words ≤ 2 ^ 60 → n.vars ≤ 2 ^ 60 → n.code_words ≤ 2 ^ 60 → capped_need n ≡ n
 same_need n l v w =
@@ -154,7 +136,7 @@ same_need n l v w =
 
 need_exact : (s : SourceOf) → KeepsForm s → ProgramFits (program_of s) → (i : ℕ) → capped_need (need_of (program_of s) i) ≡ need_of (program_of s) i
 need_exact s form fits i =
-    let few = λ (j : ℕ). few_words (program_of s) (proc_at (program_of s) j) (fits.procs j) in
+    let few = λ (j : ℕ). are_few (program_of s) (proc_at (program_of s) j) (fits.procs j) in
     let own = few i in
     same_need (need_of (program_of s) i) (omega (arith, own.words)) (omega (arith, own.vars)) (let code = code_small s form few i in omega (arith, code))
 

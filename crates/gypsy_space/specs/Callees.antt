@@ -6,7 +6,7 @@ use Rattle.std.specs.Str.{bytes_eq}
 use Rattle.indexmap.specs.IndexMap.{IndexMap}
 use Rattle.gypsy_syntax.specs.declared.proc.Proc.{Proc}
 use Rattle.gypsy_syntax.specs.Resolved.{place_among, procedure_names}
-use Rattle.gypsy_syntax.specs.SourceView.{source_of}
+use Rattle.gypsy_syntax.specs.Seen.SourceView.{source_of}
 use Rattle.gypsy_space.specs.declared.callees.Callees.{Callees}
 
 -- the names of procedures, in order

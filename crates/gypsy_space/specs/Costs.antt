@@ -2,7 +2,7 @@
 use Rattle.std.specs.Prelude.{ℕ, ◌+◌, Bool, true, false}
 use Rattle.gypsy_syntax.specs.declared.predef.Predef.{Predef}
 use Rattle.gypsy_syntax.specs.Effects.{Effect}
-use Rattle.gypsy_syntax.specs.PredefinedCosts.{predef_cost}
+use Rattle.gypsy_syntax.specs.Predefined.{predef_cost}
 
 -- what was spent
 pub record Tally : Type 0 where

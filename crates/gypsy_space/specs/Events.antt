@@ -5,8 +5,8 @@ use Rattle.gypsy_syntax.specs.Programs.{Program, proc_at}
 use Rattle.gypsy_syntax.specs.Effects.{Effect, no_value}
 use Rattle.gypsy_syntax.specs.Effects as effect
 use Rattle.gypsy_space.specs.Costs.{Tally, spend, predef_spend}
-use Rattle.gypsy_syntax.specs.PredefinedCosts.{predef_cost}
-use Rattle.gypsy_space.specs.Needs.{Words, temp_need, ctrl_need, local_words, vars_of, code_words, call_spend}
+use Rattle.gypsy_syntax.specs.Predefined.{predef_cost}
+use Rattle.gypsy_space.specs.Needs.{StackSizes, temp_need, ctrl_need, local_words, vars_of, code_words, call_spend}
 use Rattle.gypsy_space.specs.declared.event.Outcome.{Outcome}
 use Rattle.gypsy_space.specs.declared.event.Outcome.TheVariants.{Normal, Fault, Beyond}
 use Rattle.gypsy_space.specs.declared.event.CostEvent.{CostEvent}
@@ -61,11 +61,11 @@ abbrev pub has_ctrl_room_by : Need → ℕ → ℕ → Bool
 has_ctrl_room_by n size used = nat_le (used + (2 + n.vars + n.ctrl)) size
 
 -- whether a call has room
-unfoldable pub has_room_by : Need → Words → Words → Bool
+unfoldable pub has_room_by : Need → StackSizes → StackSizes → Bool
 has_room_by n sizes used = has_temp_room_by n sizes.temp used.temp && has_ctrl_room_by n sizes.ctrl used.ctrl
 
 -- which stack lacks room for a call; the temporary one is looked at first
-unfoldable pub lack_by : Need → Words → Words → Lack
+unfoldable pub lack_by : Need → StackSizes → StackSizes → Lack
 lack_by n sizes used =
     if not (has_temp_room_by n sizes.temp used.temp) then Temporary else
     if not (has_ctrl_room_by n sizes.ctrl used.ctrl) then Control else

@@ -1,7 +1,7 @@
 -- The words that programs need: of both stacks, and of code.
 use Rattle.std.specs.Prelude.{ℕ, ◌+◌, ◌*◌, List, [], ◌∷◌, map, length, max, nat_le, Bool, true, false, not, ◌&&◌, ◌==◌, if◌then◌else◌}
 use Rattle.gypsy_syntax.specs.declared.predef.Predef.{Predef}
-use Rattle.gypsy_syntax.specs.PredefinedCosts.{predef_temp, predef_ctrl, predef_words}
+use Rattle.gypsy_syntax.specs.Predefined.{predef_temp, predef_ctrl, predef_words}
 use Rattle.gypsy_syntax.specs.Programs.{Arg, Var, Lit, Proc, Program, proc_at, shapes_of, words_of}
 use Rattle.gypsy_syntax.specs.Programs.{Stmt, Skip, NoOp, Signal, Seq, Loop, If, Begin, Call, Apply}
 use Rattle.gypsy_space.specs.Costs.{Tally, spend}
@@ -9,12 +9,12 @@ use Rattle.gypsy_space.specs.declared.need.Lack.{Lack}
 use Rattle.gypsy_space.specs.declared.need.Lack.TheVariants.{Nothing, Temporary, Control}
 
 -- the sizes of the two stacks, and the words in use of each
-pub record Words : Type 0 where
+pub record StackSizes : Type 0 where
   pub temp : ℕ
   pub ctrl : ℕ
 
-abbrev pub stack_words : ℕ → ℕ → Words
-stack_words temp ctrl = record { temp = temp; ctrl = ctrl }
+abbrev pub stack_sizes : ℕ → ℕ → StackSizes
+stack_sizes ctrl temp = record { temp = temp; ctrl = ctrl }
 
 -- the greatest of a measure over the calls of a statement, and 0 without any: so much at each call of a procedure, and by its
 -- row at a predefined call
@@ -55,30 +55,30 @@ abbrev pub frame_of : Proc → ℕ
 frame_of p = 2 + vars_of p
 
 -- main's words, without what its predefined calls need
-unfoldable pub main_used : Program → Words
+unfoldable pub main_used : Program → StackSizes
 main_used q = let p = proc_at q q.main in record { temp = words_of (shapes_of p); ctrl = frame_of p }
 
 -- the words in use in a call of p, without what its predefined calls need
-unfoldable pub with_call : Program → ℕ → Words → Words
+unfoldable pub with_call : Program → ℕ → StackSizes → StackSizes
 with_call q p u = let c = proc_at q p in record { temp = u.temp + local_words c; ctrl = u.ctrl + frame_of c }
 
 -- the words that a call of p wants beside those in use: of the temporary stack its locals, and what is pushed for it or what
 -- its own calls take, whichever is more; of the control stack its frame and the greatest of its predefined calls
-unfoldable pub call_need : Program → ℕ → Words
+unfoldable pub call_need : Program → ℕ → StackSizes
 call_need q p =
     let c = proc_at q p in
     let l = local_words c in
     record { temp = max (l + length c.locals + length c.formals) (l + temp_need c); ctrl = frame_of c + ctrl_need c }
 
 -- whether a call of p has room on each stack
-abbrev pub has_temp_room : Program → Words → ℕ → Words → Bool
+abbrev pub has_temp_room : Program → StackSizes → ℕ → StackSizes → Bool
 has_temp_room q sizes p u = nat_le (u.temp + (call_need q p).temp) sizes.temp
 
-abbrev pub has_ctrl_room : Program → Words → ℕ → Words → Bool
+abbrev pub has_ctrl_room : Program → StackSizes → ℕ → StackSizes → Bool
 has_ctrl_room q sizes p u = nat_le (u.ctrl + (call_need q p).ctrl) sizes.ctrl
 
 -- whether a call of p has room
-unfoldable pub has_room : Program → Words → ℕ → Words → Bool
+unfoldable pub has_room : Program → StackSizes → ℕ → StackSizes → Bool
 has_room q sizes p u = has_temp_room q sizes p u && has_ctrl_room q sizes p u
 
 -- whether a call has room, by what it lacks
@@ -88,14 +88,14 @@ is_nothing Temporary = false
 is_nothing Control = false
 
 -- which stack lacks room for a call of p; the temporary one is looked at first
-unfoldable pub lack_of : Program → Words → ℕ → Words → Lack
+unfoldable pub lack_of : Program → StackSizes → ℕ → StackSizes → Lack
 lack_of q sizes p u =
     if not (has_temp_room q sizes p u) then Temporary else
     if not (has_ctrl_room q sizes p u) then Control else
     Nothing
 
 -- what main itself needs
-unfoldable pub main_need : Program → Words
+unfoldable pub main_need : Program → StackSizes
 unfolding main_used
 main_need q =
     let p = proc_at q q.main in

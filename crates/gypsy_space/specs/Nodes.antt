@@ -2,7 +2,7 @@
 use Rattle.std.specs.Prelude.{ℕ, List, [], ◌∷◌, ◌++◌, map, length}
 use Rattle.std.specs.declared.rc.Rc.{Rc}
 use Rattle.std.specs.declared.alloc.Global.{Global}
-use Rattle.gypsy_syntax.specs.Programs.{Cond, Leave, Routine, Space, Declared, Arg, Var, Lit, Stmt, Proc}
+use Rattle.gypsy_syntax.specs.Programs.{ConditionOf, Leave, Routine, Space, Declared, Arg, Var, Lit, Stmt, Proc}
 use Rattle.gypsy_syntax.specs.Resolved.{condition_names, variable_names}
 use Rattle.gypsy_syntax.specs.Sources.{ProcOf}
 use Rattle.gypsy_space.specs.declared.program.Procedure.{Procedure}
@@ -15,7 +15,7 @@ use Rattle.gypsy_space.specs.declared.program.Argument.TheVariants.{Variable, Co
 use Rattle.gypsy_space.specs.declared.program.Node.{Node, NoOp, Signal, Seq', Loop', If', Begin', Call, Apply}
 use Rattle.gypsy_space.specs.declared.program.Node.{Row_of-Node-Seq-0-1, end_of-Node-Seq-0-1, more_of-Node-Seq-0-1}
 
-abbrev pub seen_cond : Condition → Cond
+abbrev pub seen_cond : Condition → ConditionOf
 seen_cond condition.Leave = Leave
 seen_cond condition.Routine = Routine
 seen_cond condition.Space = Space

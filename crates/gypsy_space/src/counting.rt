@@ -2,9 +2,9 @@
 
 ghost use Rattle.std.specs.Prelude.{◌≡◌, ◌+◌, ◌^◌, ◌*◌, ◌≤◌, ◌<◌, IfOk, map, length};
 ghost use Rattle.gypsy_syntax.specs.Programs.{proc_at, words_of};
-ghost use Rattle.gypsy_syntax.specs.PredefinedCosts.{predef_ctrl, predef_temp, predef_words};
 ghost use Rattle.gypsy_syntax.specs.Resolved.{program_of};
-ghost use Rattle.gypsy_syntax.specs.SourceView.{source_of};
+ghost use Rattle.gypsy_syntax.specs.Seen.SourceView.{source_of};
+ghost use Rattle.gypsy_check.specs.Accepted.{IsAccepted};
 ghost use Rattle.gypsy_space.specs.Events.{AreNeeds, AreSmall, IsSmall, need_of};
 ghost use Rattle.gypsy_space.specs.Needs.{arg_words, args_words, local_words, vars_of};
 ghost use Rattle.gypsy_space.specs.Nodes.{seen_arg, seen_program, seen_statement, seen_statements};
@@ -14,7 +14,6 @@ use crate::need::{Need, Needs};
 use crate::program::{Argument, CallSite, Node, Program};
 use crate::resolving::resolve;
 use gypsy_check::Accepted;
-use gypsy_syntax::Predef;
 use stack_text::{Memory, Name, Value};
 use std::alloc::Global;
 use std::rc::Rc;
@@ -52,63 +51,6 @@ fn sum(left: u64, right: u64) -> u64
     ensures { result ≡ capped (left + right) }
 {
     left.saturating_add(right).min(MOST)
-}
-
-/// The words of the temporary stack that a predefined call takes.
-fn predef_temp(which: Predef) -> u64
-    ensures exact { result ≡ predef_temp which }
-    ensures bounded { result ≤ 4 }
-{
-    match which {
-        Predef::MgSimpleVariableAssignment
-        | Predef::MgSimpleConstantAssignment
-        | Predef::MgIntegerUnaryMinus
-        | Predef::MgBooleanNot => 2,
-        Predef::MgSimpleVariableEq
-        | Predef::MgSimpleConstantEq
-        | Predef::MgIntegerLe
-        | Predef::MgIntegerAdd
-        | Predef::MgIntegerSubtract
-        | Predef::MgIntegerMultiply
-        | Predef::MgBooleanOr
-        | Predef::MgBooleanAnd => 3,
-        Predef::MgIndexArray | Predef::MgArrayElementAssignment => 4,
-    }
-}
-
-/// The frame of a predefined call.
-fn predef_ctrl(which: Predef) -> u64
-    ensures exact { result ≡ predef_ctrl which }
-    ensures bounded { result ≤ 10 }
-{
-    match which {
-        Predef::MgSimpleVariableAssignment
-        | Predef::MgSimpleConstantAssignment
-        | Predef::MgIntegerUnaryMinus
-        | Predef::MgBooleanNot => 4,
-        Predef::MgSimpleVariableEq
-        | Predef::MgSimpleConstantEq
-        | Predef::MgIntegerLe
-        | Predef::MgBooleanOr
-        | Predef::MgBooleanAnd => 5,
-        Predef::MgIntegerAdd | Predef::MgIntegerSubtract => 6,
-        Predef::MgIndexArray | Predef::MgArrayElementAssignment => 7,
-        Predef::MgIntegerMultiply => 10,
-    }
-}
-
-/// The words of code of a predefined call, beside its pushes and the call itself.
-fn predef_words(which: Predef) -> u64
-    ensures { result ≡ predef_words which }
-{
-    match which {
-        Predef::MgIntegerUnaryMinus
-        | Predef::MgIntegerAdd
-        | Predef::MgIntegerSubtract
-        | Predef::MgIntegerMultiply => 7,
-        Predef::MgIndexArray | Predef::MgArrayElementAssignment => 9,
-        _ => 0,
-    }
 }
 
 /// The words of a procedure's locals.
@@ -213,14 +155,14 @@ fn statement_need(program: &Program, node: &Rc<Node>) -> StatementNeed
             ctrl: 0,
             words: call_words(program, call),
         },
-        Node::Apply(call) => StatementNeed {
-            temp: predef_temp(call.which),
-            ctrl: predef_ctrl(call.which),
-            words: sum(
-                sum(4, args_words(call.args.as_slice())),
-                predef_words(call.which),
-            ),
-        },
+        Node::Apply(call) => {
+            let row = call.which.row();
+            StatementNeed {
+                temp: row.temp,
+                ctrl: row.ctrl,
+                words: sum(sum(4, args_words(call.args.as_slice())), row.words),
+            }
+        }
     }
 }
 
@@ -274,6 +216,17 @@ pub fn needs(alloc: Global, accepted: &Accepted) -> Result<Needs, Memory>
     ensures small { IfOk result (λ n. AreSmall n.procedures.items) }
 {
     let program = resolve(alloc, accepted)?;
-    let needs = needs_of(alloc, &program)?;
+    let needs = needs_with(alloc, accepted, &program)?;
+    Ok(needs)
+}
+
+/// The same where the program that the source is has been made.
+pub fn needs_with(alloc: Global, _accepted: &Accepted, program: &Program) -> Result<Needs, Memory>
+    requires program { seen_program program.now ≡ program_of (source_of _accepted.now) }
+    requires accepted { IsAccepted (source_of _accepted.now) }
+    ensures exact { IfOk result (λ n. AreNeeds (program_of (source_of _accepted.now)) n.procedures.items) }
+    ensures small { IfOk result (λ n. AreSmall n.procedures.items) }
+{
+    let needs = needs_of(alloc, program)?;
     Ok(needs)
 }

@@ -60,35 +60,15 @@ pub enum CostEvent {
 }
 
 /// The instructions of a predefined call.
-#[tactic(auto, unfolding(crate::specs::Events::predef_count, gypsy_syntax::specs::PredefinedCosts::predef_cost))]
+#[tactic(auto, unfolding(crate::specs::Events::predef_count))]
 pub fn predef_count(which: Predef, outcome: Outcome) -> u64
     ensures count { result ≡ predef_count which outcome }
     ensures bounded { result ≤ 2599 }
 {
-    match which {
-        Predef::MgSimpleVariableAssignment => 28,
-        Predef::MgSimpleConstantAssignment => 23,
-        Predef::MgSimpleVariableEq => 42,
-        Predef::MgSimpleConstantEq => 37,
-        Predef::MgIntegerLe => 44,
-        Predef::MgIntegerUnaryMinus => match outcome {
-            Outcome::Normal => 47,
-            Outcome::Fault | Outcome::Beyond => 37,
-        },
-        Predef::MgIntegerAdd | Predef::MgIntegerSubtract => match outcome {
-            Outcome::Normal => 60,
-            Outcome::Fault | Outcome::Beyond => 54,
-        },
-        Predef::MgBooleanOr | Predef::MgBooleanAnd => 39,
-        Predef::MgBooleanNot => 29,
-        Predef::MgIndexArray | Predef::MgArrayElementAssignment => match outcome {
-            Outcome::Normal => 69,
-            Outcome::Fault => 42,
-            Outcome::Beyond => 55,
-        },
-        Predef::MgIntegerMultiply => match outcome {
-            Outcome::Normal => 2599,
-            Outcome::Fault | Outcome::Beyond => 2593,
-        },
+    let row = which.row();
+    match outcome {
+        Outcome::Normal => row.normal,
+        Outcome::Fault => row.fault,
+        Outcome::Beyond => row.beyond,
     }
 }

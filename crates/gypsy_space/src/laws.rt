@@ -3,7 +3,7 @@
 ghost use Rattle.std.specs.Prelude.{◌≡◌, ℕ, ◌+◌, ◌<◌, List, length};
 ghost use Rattle.gypsy_syntax.specs.Programs.{Program};
 ghost use Rattle.gypsy_space.specs.Costs.{Tally};
-ghost use Rattle.gypsy_space.specs.Needs.{Words, has_room, is_nothing, lack_of};
+ghost use Rattle.gypsy_space.specs.Needs.{StackSizes, has_room, is_nothing, lack_of};
 ghost use Rattle.gypsy_space.specs.Events.{AreNeeds, need_of, has_room_by, lack_by, event_count, event_spend};
 ghost use Rattle.gypsy_space.specs.declared.need.Need.{Need};
 ghost use Rattle.gypsy_space.specs.declared.event.CostEvent.TheVariants as event;
@@ -11,11 +11,11 @@ ghost use Rattle.gypsy_space.specs.declared.event.CostEvent.TheVariants as event
 /// A call has room by a procedure's needs exactly where it has room, and lacks by them what it lacks. It has room exactly
 /// where it lacks nothing.
 pub fn room_is_room()
-    ensures room { (q : Program) (sizes : Words) (p : ℕ) (u : Words) →
+    ensures room { (q : Program) (sizes : StackSizes) (p : ℕ) (u : StackSizes) →
         has_room q sizes p u ≡ has_room_by (need_of q p) sizes u }
-    ensures lack { (q : Program) (sizes : Words) (p : ℕ) (u : Words) →
+    ensures lack { (q : Program) (sizes : StackSizes) (p : ℕ) (u : StackSizes) →
         lack_of q sizes p u ≡ lack_by (need_of q p) sizes u }
-    ensures nothing { (q : Program) (sizes : Words) (p : ℕ) (u : Words) →
+    ensures nothing { (q : Program) (sizes : StackSizes) (p : ℕ) (u : StackSizes) →
         has_room q sizes p u ≡ is_nothing (lack_of q sizes p u) }
 {}
 

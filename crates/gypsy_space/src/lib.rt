@@ -11,7 +11,7 @@ mod need;
 mod program;
 mod resolving;
 
-pub use counting::needs;
+pub use counting::{needs, needs_with};
 pub use event::{CostEvent, Outcome};
 pub use laws::{calls_cost, room_is_room};
 pub use need::{Lack, Need, Needs};

@@ -2,7 +2,7 @@
 
 ghost use Rattle.std.specs.Prelude.{◌≡◌, ◌^◌, ◌<◌};
 ghost use Rattle.gypsy_space.specs.Events.{AreSmall, IsSmall, event_count, has_ctrl_room_by, has_room_by, has_temp_room_by, lack_by, need_at};
-ghost use Rattle.gypsy_space.specs.Needs.{stack_words};
+ghost use Rattle.gypsy_space.specs.Needs.{stack_sizes};
 
 use crate::event::{CostEvent, predef_count};
 
@@ -81,7 +81,7 @@ impl Needs {
     pub fn room(&self, callee: u32, used_temp: u64, used_ctrl: u64, temp: u32, ctrl: u32) -> bool
         requires { AreSmall self.now.procedures.items }
         ensures { let need = need_at self.now.procedures.items callee in
-            result ≡ has_room_by need (stack_words temp ctrl) (stack_words used_temp used_ctrl) }
+            result ≡ has_room_by need (stack_sizes ctrl temp) (stack_sizes used_ctrl used_temp) }
     {
         let need = self.need_of(callee);
         need.has_temp_room(temp, used_temp) && need.has_ctrl_room(ctrl, used_ctrl)
@@ -93,7 +93,7 @@ impl Needs {
     pub fn lack(&self, callee: u32, used_temp: u64, used_ctrl: u64, temp: u32, ctrl: u32) -> Lack
         requires { AreSmall self.now.procedures.items }
         ensures { let need = need_at self.now.procedures.items callee in
-            result ≡ lack_by need (stack_words temp ctrl) (stack_words used_temp used_ctrl) }
+            result ≡ lack_by need (stack_sizes ctrl temp) (stack_sizes used_ctrl used_temp) }
     {
         let need = self.need_of(callee);
         if !need.has_temp_room(temp, used_temp) {

@@ -8,7 +8,7 @@ use Rattle.stack_text.specs.declared.text_fault.TextFault.{TextFault}
 use Rattle.stack_text.specs.declared.text_fault.TextFault.TheVariants as text
 use Rattle.stack_text.specs.declared.grammar.fault.FormFault.{FormFault}
 use Rattle.stack_text.specs.declared.grammar.fault.FormFault.TheVariants.{Form, Memory}
-use Rattle.gypsy_syntax.specs.Answers.{fault_of, fault_of_form, fault_of_text, form_fault, gypsy_in}
+use Rattle.gypsy_syntax.specs.GypsyReading.{fault_of, fault_of_form, fault_of_text, form_fault, gypsy_in}
 use Rattle.gypsy_syntax.specs.Grammar.{source_in}
 use Rattle.stack_text.specs.Grammar.Reading.{IsFirstFault}
 use Rattle.stack_text.proofs.RiseLaws.{first_is_judged}

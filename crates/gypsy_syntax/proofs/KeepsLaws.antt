@@ -5,7 +5,7 @@ use Rattle.std.specs.List.{list_all}
 use Rattle.std.specs.Char.{is_ascii_digit, is_ascii_alphabetic}
 use Rattle.std.specs.Str.{bytes_eq}
 use Rattle.std.specs.Fmt.{signed_decimal}
-use Rattle.std.proofs.Math.Dec.{eqb, leb}
+use Rattle.std.proofs.Math.Dec.{eqb}
 use Rattle.std.proofs.lemmas.Bool.{eqb-true, lt-leb}
 use Rattle.stack_text.specs.declared.name.Named.{Named}
 use Rattle.stack_text.specs.declared.shape.Kind.{Kind}
@@ -13,7 +13,7 @@ use Rattle.stack_text.specs.declared.shape.Kind.TheVariants.{Integer, Boolean, C
 use Rattle.stack_text.specs.Names.{is_name, is_truth_word}
 use Rattle.stack_text.specs.Numerals.{is_digits, is_numeral, numeral_value, fits_128_bits, IsNumber}
 use Rattle.stack_text.specs.Trees.{Node, Nodes, atom, list, none, more, place_of, IsWellFormed}
-use Rattle.stack_text.specs.TreeView.{nodes}
+use Rattle.stack_text.specs.Seen.TreeView.{nodes}
 use Rattle.std.proofs.lemmas.Bool.{and_parts}
 use Rattle.stack_text.proofs.NumeralLaws.{digit_in_range}
 use Rattle.stack_text.proofs.AtomLaws.{name_is_run, numeral_is_run}
@@ -23,14 +23,15 @@ use Rattle.stack_text.specs.Grammar.Printed.{list_tree, name_tree, unplaced_name
 use Rattle.stack_text.specs.Values.{kind_name}
 use Rattle.stack_text.proofs.NumeralTextLaws.{value-signed_decimal, numeral-signed_decimal, digits-signed_decimal}
 use Rattle.stack_text.proofs.KeepsLaws.{Alike, AllAlike, Holds, IsRun, Keeps, KeepsEach, KeepsName, alike_list_length, alike_items, holds_at, holds_judged, holds_more, holds_one, holds_six, holds_three, holds_two, keeps_each, keeps_list, keeps_name, keeps_named, named_again, ok_one, ok_six, ok_three, ok_two, passes, well_formed}
+use Rattle.stack_text.proofs.SharedLaws.{and_false}
 use Rattle.gypsy_syntax.specs.declared.keyword.Keyword.{Keyword}
 use Rattle.gypsy_syntax.specs.declared.keyword.Keyword.TheVariants as word
 use Rattle.gypsy_syntax.specs.declared.literal.Decl.{Decl}
 use Rattle.gypsy_syntax.specs.declared.literal.TypeText.{TypeText}
 use Rattle.gypsy_syntax.specs.declared.predef.Predef.TheVariants as row
-use Rattle.gypsy_syntax.specs.Answers.{KeepsForm}
+use Rattle.gypsy_syntax.specs.GypsyReading.{KeepsForm}
 use Rattle.gypsy_syntax.specs.Grammar.{named_in, names_in, number_at, simple_type, array_type, type_in, is_character, simple_at, simple_in, literal_in, decl_in, local_in, arg_in, is_empty_list, statement_in, form_in, statements_in, are_few, procedure_in, source_in}
-use Rattle.gypsy_syntax.specs.Keywords.{keyword_name, keyword_named, keywords, kind_named}
+use Rattle.gypsy_syntax.specs.Keywords.{keyword_name, keyword_named, form_named, predef_named, kind_named}
 use Rattle.gypsy_syntax.specs.Made.{literals, statements, new_name, new_array, new_decl, new_local, new_list, new_seq, new_branch, new_begin, new_call, new_predef, new_proc, new_source}
 use Rattle.gypsy_syntax.specs.Places.{unplaced_type, unplaced_literal, unplaced_arg, unplaced_decl, unplaced_local, unplaced_stmt, unplaced_proc, without_places}
 use Rattle.gypsy_syntax.specs.Printed.{number_tree, type_tree, type_tree_by, literal_tree, literal_trees, arg_tree, decl_tree, local_tree, keyword_tree, stmt_tree, stmt_trees, proc_tree, tree_of}
@@ -85,10 +86,6 @@ numeral_no_name (b ∷ bs) h = by_sign (eqb b 45) refl
     by_sign : (s : Bool) → eqb b 45 ≡ s → is_name (b ∷ bs) ≡ false
     by_sign false e = digits_no_name (b ∷ bs) (subst (λ (t : Bool). is_digits (cond t bs (b ∷ bs)) ≡ true) e h)
     by_sign true e = let k : b ≡ 45 = eqb-true b 45 e in rw (small_no_letter b (omega (arith, k))) refl
-
-and_false : (b : Bool) → (b && false) ≡ false
-and_false true = refl
-and_false false = refl
 
 mark_no_numeral : (ds : List ℕ) → is_numeral (35 ∷ ds) ≡ false
 mark_no_numeral ds = and_false (nat_lt 0 (length (35 ∷ ds)))
@@ -283,50 +280,14 @@ keeps_arg (atom p w) = pick (is_name w) refl
 pub keyword_run : (k : Keyword) → IsRun (keyword_name k)
 unfolding keyword_name
 keyword_run word.NoOp = (omega arith, refl)
-keyword_run word.Signal = (omega arith, refl)
-keyword_run word.Seq = (omega arith, refl)
-keyword_run word.Loop = (omega arith, refl)
-keyword_run word.If = (omega arith, refl)
-keyword_run word.Begin = (omega arith, refl)
-keyword_run word.Call = (omega arith, refl)
 keyword_run (word.Predef row.MgSimpleVariableAssignment) = (omega arith, refl)
-keyword_run (word.Predef row.MgSimpleConstantAssignment) = (omega arith, refl)
-keyword_run (word.Predef row.MgSimpleVariableEq) = (omega arith, refl)
-keyword_run (word.Predef row.MgSimpleConstantEq) = (omega arith, refl)
-keyword_run (word.Predef row.MgIntegerLe) = (omega arith, refl)
-keyword_run (word.Predef row.MgIntegerUnaryMinus) = (omega arith, refl)
-keyword_run (word.Predef row.MgIntegerAdd) = (omega arith, refl)
-keyword_run (word.Predef row.MgIntegerSubtract) = (omega arith, refl)
-keyword_run (word.Predef row.MgBooleanOr) = (omega arith, refl)
-keyword_run (word.Predef row.MgBooleanAnd) = (omega arith, refl)
-keyword_run (word.Predef row.MgBooleanNot) = (omega arith, refl)
-keyword_run (word.Predef row.MgIndexArray) = (omega arith, refl)
-keyword_run (word.Predef row.MgArrayElementAssignment) = (omega arith, refl)
-keyword_run (word.Predef row.MgIntegerMultiply) = (omega arith, refl)
+keyword_run k = (omega arith, refl)
 
 pub keyword_again : (k : Keyword) → keyword_named (keyword_name k) ≡ Some k
-unfolding keyword_name keywords
+unfolding keyword_name form_named predef_named
 keyword_again word.NoOp = refl
-keyword_again word.Signal = refl
-keyword_again word.Seq = refl
-keyword_again word.Loop = refl
-keyword_again word.If = refl
-keyword_again word.Begin = refl
-keyword_again word.Call = refl
 keyword_again (word.Predef row.MgSimpleVariableAssignment) = refl
-keyword_again (word.Predef row.MgSimpleConstantAssignment) = refl
-keyword_again (word.Predef row.MgSimpleVariableEq) = refl
-keyword_again (word.Predef row.MgSimpleConstantEq) = refl
-keyword_again (word.Predef row.MgIntegerLe) = refl
-keyword_again (word.Predef row.MgIntegerUnaryMinus) = refl
-keyword_again (word.Predef row.MgIntegerAdd) = refl
-keyword_again (word.Predef row.MgIntegerSubtract) = refl
-keyword_again (word.Predef row.MgBooleanOr) = refl
-keyword_again (word.Predef row.MgBooleanAnd) = refl
-keyword_again (word.Predef row.MgBooleanNot) = refl
-keyword_again (word.Predef row.MgIndexArray) = refl
-keyword_again (word.Predef row.MgArrayElementAssignment) = refl
-keyword_again (word.Predef row.MgIntegerMultiply) = refl
+keyword_again k = refl
 
 abbrev KeepsStmt : Node → StmtOf → Type 0
 KeepsStmt = Keeps statement_in stmt_tree unplaced_stmt

@@ -5,7 +5,7 @@ use Rattle.std.specs.Prelude.{ℤ, ◌&&◌}
 use Rattle.std.proofs.lemmas.Bool.{le-leb}
 use Rattle.stack_text.specs.declared.name.Named.{Named}
 use Rattle.stack_text.specs.Trees.{Node, Nodes, list, none, more, depth, depths, node_count, AtomsAreRuns, AllAtomsAreRuns}
-use Rattle.stack_text.specs.TreeView.{nodes}
+use Rattle.stack_text.specs.Seen.TreeView.{nodes}
 use Rattle.stack_text.specs.Grammar.Judged.{front, each_of}
 use Rattle.stack_text.specs.Grammar.Parts.{count_of}
 use Rattle.stack_text.specs.Grammar.Printed.{list_tree, name_tree, unplaced_name}
@@ -17,7 +17,7 @@ use Rattle.gypsy_syntax.specs.declared.keyword.Keyword.{Keyword}
 use Rattle.gypsy_syntax.specs.declared.keyword.Keyword.TheVariants as word
 use Rattle.gypsy_syntax.specs.declared.literal.Decl.{Decl}
 use Rattle.gypsy_syntax.specs.declared.literal.TypeText.{TypeText}
-use Rattle.gypsy_syntax.specs.Answers.{KeepsForm}
+use Rattle.gypsy_syntax.specs.GypsyReading.{KeepsForm}
 use Rattle.gypsy_syntax.specs.Fits.{FitsLength, FitsSimple, AllSimple, FitsLiteral, FitsArgument, FitsDecl, FitsLocal, FitsStatement, FitsStatements, FitsProcedure, FitsForm}
 use Rattle.gypsy_syntax.specs.Grammar.{simple_type, type_in, simple_in, literal_in, decl_in, local_in, arg_in, is_empty_list, statement_in, form_in, statements_in, are_few, procedure_in, source_in}
 use Rattle.gypsy_syntax.specs.Made.{literals, statements, new_decl, new_local, new_list, new_seq, new_branch, new_begin, new_call, new_predef, new_proc, new_source}

@@ -3,7 +3,7 @@ use Rattle.std.proofs.Common.{◌≡◌, ℕ, List, [], ◌∷◌, Option, Some,
 use Rattle.std.specs.Prelude.{ℤ, Bool, codes, drop}
 use Rattle.stack_text.specs.Trees.{atom, list}
 use Rattle.stack_text.specs.Trees.{ReadsAs as TreeReadsAs, without_places as unplaced_tree, all_without_places}
-use Rattle.stack_text.specs.Spellings.{Spells}
+use Rattle.stack_text.specs.Scaffold.Spellings.{Spells}
 use Rattle.stack_text.specs.declared.shape.Kind.{Kind}
 use Rattle.stack_text.proofs.SpellingLaws.{spelled_is_read}
 use Rattle.stack_text.proofs.TreeInLaws.{tree_in-TreeOf}
@@ -12,7 +12,7 @@ use Rattle.stack_text.proofs.PlacesLaws.{same_lifted}
 use Rattle.stack_text.proofs.PartTextLaws.{spells_list, unplaced_all}
 use Rattle.stack_text.proofs.PrintLaws.{Spells-tree_text}
 use Rattle.gypsy_syntax.specs.declared.literal.Decl.{Decl}
-use Rattle.gypsy_syntax.specs.Answers.{KeepsForm, ReadsAs, gypsy_by, judgement}
+use Rattle.gypsy_syntax.specs.GypsyReading.{KeepsForm, ReadsAs, gypsy_by, judgement}
 use Rattle.gypsy_syntax.specs.Grammar.{source_in}
 use Rattle.gypsy_syntax.specs.Places.{without_places}
 use Rattle.gypsy_syntax.specs.Printed.{type_tree_by, truth_tree, literal_tree, literal_trees, arg_tree, decl_tree, local_tree, stmt_tree, stmt_trees, proc_tree, proc_text, source_head, tree_of, gypsy_text}

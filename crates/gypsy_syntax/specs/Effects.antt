@@ -1,14 +1,11 @@
--- What each predefined procedure does with the values of its arguments.
-use Rattle.std.specs.Prelude.{ℕ, ℤ, pos, negsuc, ◌+ℤ◌, ◌-ℤ◌, ◌*ℤ◌, neg_ℤ, int_le, List, [], ◌∷◌, length, get_or, slice_set}
-use Rattle.std.specs.Prelude.{Bool, not, ◌&&◌, ◌||◌, nat_lt, if◌then◌else◌}
+-- What calls of predefined procedures do: outcomes, and what makes them of values.
+use Rattle.std.specs.Prelude.{ℕ, ℤ, pos, negsuc, List, [], ◌∷◌, length, get_or, slice_set, Bool, nat_lt, if◌then◌else◌}
 use Rattle.std.specs.Ordering.{int_eq}
 use Rattle.stack_text.specs.declared.shape.Kind.TheVariants.{Integer, Boolean}
 use Rattle.stack_text.specs.Values.{ValueOf}
-use Rattle.gypsy_syntax.specs.declared.predef.Predef.{Predef}
-use Rattle.gypsy_syntax.specs.declared.predef.Predef.TheVariants as row
 use Rattle.gypsy_syntax.specs.Programs.{simple}
 use Rattle.gypsy_syntax.specs.Resolved.{truth_item}
-use Rattle.gypsy_syntax.specs.ProgramFits.{is_in_range}
+use Rattle.gypsy_syntax.specs.Ranges.{is_in_range}
 
 -- the value that is written to the first argument; a fault; or an index that isn't below the length
 pub data Effect : Type 0 where
@@ -56,25 +53,3 @@ stored a (pos i) z = if nat_lt i (length a.items) then Normal record { shape = a
 
 abbrev pub are_same : ValueOf → ValueOf → Bool
 are_same v w = same_int (item_of_value v) (item_of_value w)
-
--- on the values of the arguments, by their positions
-unfoldable pub effect_by : Predef → (ℕ → ValueOf) → Effect
-effect_by row.MgSimpleVariableAssignment v = Normal (v 1)
-effect_by row.MgSimpleConstantAssignment v = Normal (v 1)
-effect_by row.MgSimpleVariableEq v = Normal (truth_value (are_same (v 1) (v 2)))
-effect_by row.MgSimpleConstantEq v = Normal (truth_value (are_same (v 1) (v 2)))
-effect_by row.MgIntegerLe v = Normal (truth_value (int_le (item_of_value (v 1)) (item_of_value (v 2))))
-effect_by row.MgIntegerUnaryMinus v = number_effect (neg_ℤ (item_of_value (v 1)))
-effect_by row.MgIntegerAdd v = number_effect (item_of_value (v 1) +ℤ item_of_value (v 2))
-effect_by row.MgIntegerSubtract v = number_effect (item_of_value (v 1) -ℤ item_of_value (v 2))
-effect_by row.MgBooleanOr v = Normal (truth_value (is_true_value (v 1) || is_true_value (v 2)))
-effect_by row.MgBooleanAnd v = Normal (truth_value (is_true_value (v 1) && is_true_value (v 2)))
-effect_by row.MgBooleanNot v = Normal (truth_value (not (is_true_value (v 1))))
-effect_by row.MgIndexArray v = indexed (v 1) (item_of_value (v 2))
-effect_by row.MgArrayElementAssignment v = stored (v 0) (item_of_value (v 1)) (item_of_value (v 2))
-effect_by row.MgIntegerMultiply v = number_effect (item_of_value (v 1) *ℤ item_of_value (v 2))
-
--- on the values of all arguments, in their order
-unfoldable pub predef_effect : Predef → List ValueOf → Effect
-unfolding effect_by
-predef_effect r vs = effect_by r (value_at vs)

@@ -1,6 +1,7 @@
 -- The form of a source in plain words: names are names, what must not be empty isn't, a value is simple or a list of simple
 -- values, numbers have 128 bits, and all counts are within the limits.
 use Rattle.std.specs.Prelude.{◌+◌, ◌<◌, ◌≤◌, ℤ, length, Option, Some, None, All}
+use Rattle.stack_text.specs.SharedLimits.{most_declared, most_procedures}
 use Rattle.stack_text.specs.Grammar.Parts.{IsNamed}
 use Rattle.stack_text.specs.Numerals.{IsNatural, IsNumber}
 use Rattle.gypsy_syntax.specs.declared.literal.Decl.{Decl}
@@ -71,12 +72,12 @@ pub record FitsProcedure (p : ProcOf) : Type 0 where
   pub locals : All FitsLocal p.locals
   pub local_conds : All IsNamed p.local_conds
   pub body : FitsStatement p.body
-  pub few_variables : length p.formals + length p.locals ≤ 200
-  pub few_conds : length p.conds + length p.local_conds ≤ 200
+  pub few_variables : length p.formals + length p.locals ≤ most_declared
+  pub few_conds : length p.conds + length p.local_conds ≤ most_declared
   pub shallow : nesting p.body ≤ 198
 
 pub record FitsForm (s : SourceOf) : Type 0 where
   pub main : IsNamed s.main
   pub procs : All FitsProcedure s.procs
   pub some_procs : 0 < length s.procs
-  pub few_procs : length s.procs ≤ 1000
+  pub few_procs : length s.procs ≤ most_procedures

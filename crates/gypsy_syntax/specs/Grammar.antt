@@ -2,6 +2,7 @@
 use Rattle.std.specs.Prelude.{◌+◌, ℕ, ℤ, List, [], ◌∷◌, Ok, Option, Some, None, drop}
 use Rattle.std.specs.Prelude.{Bool, true, false, ◌&&◌, ◌==◌, nat_le, codes, if◌then◌else◌}
 use Rattle.std.specs.Str.{bytes_eq}
+use Rattle.stack_text.specs.SharedLimits.{most_declared, most_procedures}
 use Rattle.stack_text.specs.Names.{is_name, is_truth_word}
 use Rattle.stack_text.specs.Numerals.{is_digits, is_numeral, numeral_value, fits_128_bits}
 use Rattle.stack_text.specs.Trees.{Node, Nodes, atom, list, none, more, place_of}
@@ -132,7 +133,7 @@ abbrev mutual
 
 -- two lists, or trees in their places, with at most 200 items together
 abbrev pub are_few : Node → Node → Bool
-are_few t u = nat_le (list_length t + list_length u) 200
+are_few t u = nat_le (list_length t + list_length u) most_declared
 
 -- `(proc NAME FORMALS CONDS LOCALS CONDS STMT)`, or M2; M12 where it declares too many variables or conditions
 abbrev pub procedure_in : Node → Judged ProcOf
@@ -147,5 +148,5 @@ procedure_in t = fault (place_of t) 2
 abbrev pub source_in : Node → Judged SourceOf
 source_in (list p (more w (more main (more q qs)))) =
     judged p 1 (is_word (codes "program") w)
-    (judged p 12 (nat_le (count_of (more q qs)) 1000) (Ok (new_source p) ⊛ named_in main ⊛ each_of procedure_in (more q qs)))
+    (judged p 12 (nat_le (count_of (more q qs)) most_procedures) (Ok (new_source p) ⊛ named_in main ⊛ each_of procedure_in (more q qs)))
 source_in t = fault (place_of t) 1

@@ -3,7 +3,6 @@ use Rattle.std.specs.Prelude.{ℕ, ℤ, List, [], ◌∷◌, ◌++◌, map, Opti
 use Rattle.std.specs.Fmt.{signed_decimal}
 use Rattle.stack_text.specs.Trees.{Node, Nodes, atom, list, none, more}
 use Rattle.stack_text.specs.TreeText.{tree_text}
-use Rattle.stack_text.specs.TreeView.{nodes}
 use Rattle.stack_text.specs.declared.shape.Kind.{Kind}
 use Rattle.stack_text.specs.Values.{kind_name}
 use Rattle.stack_text.specs.Grammar.Printed.{lines_text, list_tree, name_tree, tree_of_all}

@@ -1,31 +1,23 @@
 -- What is known of the program of a source that breaks no static rule.
-use Rattle.std.specs.Prelude.{◌≡◌, ◌≢◌, ℕ, ◌<◌, ◌≤◌, ◌^◌, ℤ, pos, negsuc, List, [], ◌∷◌, length, slice_get}
-use Rattle.std.specs.Prelude.{Bool, true, false, ◌==◌, ◌||◌, nat_lt, nat_le, Option, Some, None}
+use Rattle.std.specs.Prelude.{◌≡◌, ◌≢◌, ℕ, ◌<◌, ◌≤◌, List, [], ◌∷◌, length, slice_get, Bool, true, false, Option, Some, None}
 use Rattle.std.specs.List.{list_all}
+use Rattle.stack_text.specs.SharedLimits.{most_stack, most_array}
 use Rattle.stack_text.specs.declared.shape.Kind.{Kind}
-use Rattle.stack_text.specs.declared.shape.Kind.TheVariants.{Integer, Boolean, Character}
+use Rattle.stack_text.specs.declared.shape.Kind.TheVariants.{Boolean}
 use Rattle.stack_text.specs.declared.shape.Shape.{Shape}
 use Rattle.stack_text.specs.Values.{ValueOf, item_count}
 use Rattle.gypsy_syntax.specs.declared.slot.Form.{Form}
 use Rattle.gypsy_syntax.specs.declared.slot.Form.TheVariants.{Simple, Array, Literal}
 use Rattle.gypsy_syntax.specs.declared.slot.Slot.{Slot}
 use Rattle.gypsy_syntax.specs.Predefined.{slots_of}
-use Rattle.gypsy_syntax.specs.Programs.{Cond, Leave, Routine, Space, Declared, Arg, Var, Lit}
+pub use Rattle.gypsy_syntax.specs.Ranges.{is_in_range}
+use Rattle.gypsy_syntax.specs.Programs.{ConditionOf, Leave, Routine, Space, Declared, Arg, Var, Lit}
 use Rattle.gypsy_syntax.specs.Programs.{Proc, Program, simple, proc_at, shapes_of, conds_of, words_of}
 use Rattle.gypsy_syntax.specs.Programs.{Stmt, Skip, NoOp, Signal, Seq, Loop, If, Begin, Call, Apply}
 
--- a signed number of 32 bits; 0 or 1; or 0 to 127
-abbrev pub is_in_range : Kind → ℤ → Bool
-is_in_range Integer (pos n) = nat_lt n (2 ^ 31)
-is_in_range Integer (negsuc n) = nat_lt n (2 ^ 31)
-is_in_range Boolean (pos n) = n == 0 || n == 1
-is_in_range Boolean (negsuc n) = false
-is_in_range Character (pos n) = nat_le n 127
-is_in_range Character (negsuc n) = false
-
 -- a value has its shape's number of items, each in range
 pub record ValueFits (v : ValueOf) : Type 0 where
-  pub few : v.shape.length ≤ 4096
+  pub few : v.shape.length ≤ most_array
   pub number : length v.items ≡ item_count v.shape
   pub items : list_all (is_in_range v.shape.kind) v.items ≡ true
 
@@ -45,14 +37,14 @@ Each P [] = Unit {0}
 Each P (x ∷ xs) = P x × Each P xs
 
 -- a condition that is signalled or given, inside a loop or not, where so many are declared: never spaceerror
-abbrev pub CondFits : Bool → ℕ → Cond → Type 0
+abbrev pub CondFits : Bool → ℕ → ConditionOf → Type 0
 CondFits in_loop n Leave = in_loop ≡ true
 CondFits in_loop n Routine = Unit {0}
 CondFits in_loop n Space = ⊥
 CondFits in_loop n (Declared i) = i < n
 
 -- a condition that is handled
-abbrev pub HandlerFits : ℕ → Cond → Type 0
+abbrev pub HandlerFits : ℕ → ConditionOf → Type 0
 HandlerFits n Leave = ⊥
 HandlerFits n Routine = Unit {0}
 HandlerFits n Space = Unit {0}
@@ -68,7 +60,7 @@ ActualsFit shapes (f ∷ fs) (x ∷ xs) = (slice_get shapes x ≡ Some f) × Act
 -- an argument of this form and kind
 abbrev pub ArgFits : List Shape → Form → Kind → Arg → Type 0
 ArgFits shapes Simple k (Var i) = slice_get shapes i ≡ Some (simple k)
-ArgFits shapes Array k (Var i) = (n : ℕ) × (0 < n) × (n ≤ 4096) × (slice_get shapes i ≡ Some record { kind = k; length = n })
+ArgFits shapes Array k (Var i) = (n : ℕ) × (0 < n) × (n ≤ most_array) × (slice_get shapes i ≡ Some record { kind = k; length = n })
 ArgFits shapes Literal k (Var i) = ⊥
 ArgFits shapes Simple k (Lit v) = ⊥
 ArgFits shapes Array k (Lit v) = ⊥
@@ -86,7 +78,8 @@ ArgsFit shapes k (slot ∷ slots) [] = ⊥
 ArgsFit shapes k (slot ∷ slots) (a ∷ args) = ArgFits shapes slot.form (slot_kind k slot.kind) a × ArgsFit shapes k slots args
 
 -- a call's callee, with the data and condition actuals
-pub record CallFits (q : Program) (shapes : List Shape) (n : ℕ) (in_loop : Bool) (p : ℕ) (xs : List ℕ) (cs : List Cond) : Type 0 where
+pub record CallFits (q : Program) (shapes : List Shape) (n : ℕ) (in_loop : Bool) (p : ℕ) (xs : List ℕ)
+    (cs : List ConditionOf) : Type 0 where
   pub callee : p < length q.procs
   pub not_main : p ≢ q.main
   pub actuals : ActualsFit shapes (proc_at q p).formals xs
@@ -109,9 +102,9 @@ StmtFits q shapes n in_loop (Call place p xs cs) = CallFits q shapes n in_loop p
 StmtFits q shapes n in_loop (Apply place row args) = (k : Kind) × ArgsFit shapes k (slots_of row) args
 
 pub record ProcFits (q : Program) (p : Proc) : Type 0 where
-  pub formals : Each (λ s. s.length ≤ 4096) p.formals
+  pub formals : Each (λ s. s.length ≤ most_array) p.formals
   pub locals : Each ValueFits p.locals
-  pub words : words_of (shapes_of p) ≤ 65536
+  pub words : words_of (shapes_of p) ≤ most_stack
   pub body : StmtFits q (shapes_of p) (conds_of p) false p.body
 
 -- main is there, and each procedure fits, what stands past the last one too

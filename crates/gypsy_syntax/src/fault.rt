@@ -23,7 +23,7 @@ pub enum GypsyFault {
     /// | M6 | locals are no list, or one is no list of three |
     /// | M7 | a type is neither a simple type's word nor `array`, such a word and a numeral |
     /// | M8 | a value is neither simple nor a list of simple values, or an argument is neither a name nor a simple value |
-    /// | M9 | a statement is no list that begins with one of the twenty-one words |
+    /// | M9 | a statement is no list that begins with the word of a form or a predefined name |
     /// | M10 | a statement of the seven forms has a wrong number of items, or its list of handled conditions is empty |
     /// | M11 | a numeral, or the number of a character, is outside -2^127 to 2^127 - 1 |
     /// | M12 | the whole tree has over 1,000 procedures; a procedure has over 200 formals and locals, or conditions |
@@ -36,7 +36,7 @@ pub enum GypsyFault {
 
 impl From<TextFault> for GypsyFault {
     ghost use Rattle.std.specs.Prelude.{◌≡◌};
-    ghost use Rattle.gypsy_syntax.specs.Answers.{fault_of_text};
+    ghost use Rattle.gypsy_syntax.specs.GypsyReading.{fault_of_text};
 
     ghost from_gives = { λ e f. f ≡ fault_of_text e };
 
@@ -50,7 +50,7 @@ impl From<TextFault> for GypsyFault {
 
 impl From<FormFault> for GypsyFault {
     ghost use Rattle.std.specs.Prelude.{◌≡◌};
-    ghost use Rattle.gypsy_syntax.specs.Answers.{fault_of_form};
+    ghost use Rattle.gypsy_syntax.specs.GypsyReading.{fault_of_form};
 
     ghost from_gives = { λ e f. f ≡ fault_of_form e };
 

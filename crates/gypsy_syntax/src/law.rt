@@ -2,7 +2,7 @@
 
 ghost use Rattle.std.specs.Prelude.{◌≤◌, ◌^◌};
 ghost use Rattle.stack_text.specs.Trees.{node_count};
-ghost use Rattle.gypsy_syntax.specs.Answers.{KeepsForm};
+ghost use Rattle.gypsy_syntax.specs.GypsyReading.{KeepsForm};
 ghost use Rattle.gypsy_syntax.specs.Fits.{FitsForm};
 ghost use Rattle.gypsy_syntax.specs.Printed.{tree_of};
 ghost use Rattle.gypsy_syntax.specs.Sizes.{text_size};

@@ -3,11 +3,11 @@
 ghost use Rattle.std.specs.Prelude.{◌≡◌, ◌++◌, ◌∷◌, map, OnOk, IfOk};
 ghost use Rattle.std.specs.List.{flat_map};
 ghost use Rattle.stack_text.specs.TreeText.{items_text, spaced_text};
-ghost use Rattle.stack_text.specs.TreeView.{nodes};
+ghost use Rattle.stack_text.specs.Seen.TreeView.{nodes};
 ghost use Rattle.stack_text.specs.Grammar.Printed.{lines_text};
-ghost use Rattle.gypsy_syntax.specs.Answers.{KeepsForm, ReadsAs};
+ghost use Rattle.gypsy_syntax.specs.GypsyReading.{KeepsForm, ReadsAs};
 ghost use Rattle.gypsy_syntax.specs.Printed.{gypsy_text, proc_head, proc_rest, proc_text, source_head};
-ghost use Rattle.gypsy_syntax.specs.SourceView.{proc_of, source_of};
+ghost use Rattle.gypsy_syntax.specs.Seen.SourceView.{proc_of, source_of};
 
 mod declaration;
 mod literals;

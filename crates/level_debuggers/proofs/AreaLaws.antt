@@ -3,11 +3,11 @@ use Rattle.std.proofs.Common.{◌≡◌, ◌≤◌, List, [], ◌∷◌, length,
 use Rattle.std.specs.List.{flat_map}
 use Rattle.std.proofs.lemmas.List.{length-map}
 use Rattle.piton_words.specs.declared.word.Word.{Word}
-use Rattle.piton_check.specs.Answers.{CheckedOf, IsChecked}
+use Rattle.piton_check.specs.PitonChecking.{CheckedOf, IsChecked}
 use Rattle.piton_check.specs.Resolved.{ResolvedOf}
 use Rattle.piton_check.specs.Instruction.{SystemView, system_view}
 use Rattle.piton_machine.specs.Fits.{Each, IsWordOf, system_in}
-use Rattle.piton_machine.specs.Seen.{Seen, IsSeen}
+use Rattle.piton_machine.specs.Seen.StateView.{Seen, IsSeen}
 use Rattle.piton_machine.proofs.EachLaws.{each_append}
 use Rattle.level_debuggers.specs.PitonReadings.{area_words}
 

@@ -9,7 +9,7 @@ use Rattle.piton_check.specs.Instruction.{SystemView}
 use Rattle.piton_machine.specs.declared.error_kind.ErrorKind.{ErrorKind}
 use Rattle.piton_machine.specs.Fits.{system_in}
 use Rattle.piton_machine.specs.Law.{Steps, none, more, advanced}
-use Rattle.piton_machine.specs.Seen.{Seen, saturated, seen_after, seen_from, seen_step}
+use Rattle.piton_machine.specs.Seen.StateView.{Seen, saturated, seen_after, seen_from, seen_step}
 use Rattle.piton_machine.specs.State.{Frame, PitonState}
 use Rattle.piton_machine.specs.Step.{piton_step, step_cost}
 use Rattle.piton_machine.specs.Views as views

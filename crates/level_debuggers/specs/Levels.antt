@@ -1,12 +1,13 @@
 -- Runs at each level.
-use Rattle.std.specs.Prelude.{ℕ, ◌≤◌, ◌^◌, List, Option, Some, None}
+use Rattle.std.specs.Prelude.{ℕ, ◌≤◌, List, Option, Some, None}
+use Rattle.fm_words.specs.WindowLimit.{most_window}
 use Rattle.fm_show.specs.Listing.{machine_listing}
-use Rattle.gypsy_syntax.specs.SourceView.{source_of}
-use Rattle.gypsy_meaning.specs.Belongs.{BelongsTo}
-use Rattle.gypsy_meaning.specs.Running.{seen}
+use Rattle.gypsy_syntax.specs.Seen.SourceView.{source_of}
+use Rattle.gypsy_meaning.specs.Seen.Belongs.{BelongsTo}
+use Rattle.gypsy_meaning.specs.Seen.Running.{seen}
 use Rattle.piton_machine.specs.Fits.{system_in}
 use Rattle.piton_machine.specs.Placed.{placed}
-use Rattle.piton_machine.specs.Seen.{IsSeen}
+use Rattle.piton_machine.specs.Seen.StateView.{IsSeen}
 use Rattle.piton_show.specs.NamedWords.{program_name}
 use Rattle.level_debuggers.specs.declared.runner.Runner.{Runner}
 use Rattle.level_debuggers.specs.declared.runner.Runner.TheVariants as runner
@@ -26,7 +27,7 @@ pub data LevelOf : Type 0 where
 -- of the system, which has a place in memory.
 abbrev pub IsRunner : Runner → Type 0
 IsRunner (runner.Gypsy accepted needs meaning) = BelongsTo (source_of accepted) needs.procedures.items meaning
-IsRunner (runner.Piton checked image state) = IsSeen (system_in checked) state × ((placed (system_in checked)).size ≤ 2 ^ 20)
+IsRunner (runner.Piton checked image state) = IsSeen (system_in checked) state × ((placed (system_in checked)).size ≤ most_window)
 IsRunner (runner.Fm image machine) = Unit {0}
 
 -- the run that a runner begins with

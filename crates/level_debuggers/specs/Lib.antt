@@ -5,7 +5,6 @@ pub mod Texts
 pub mod FmLevels
 pub mod PitonLevels
 pub mod PitonReadings
-pub mod Standings
 pub mod GypsyLevels
 pub mod Levels
 pub mod Walks
@@ -13,6 +12,6 @@ pub mod Taken
 pub mod Transcripts
 pub mod ScriptSteps
 pub mod RunWalks
--- How clauses see a session and its run, as the code keeps them.
-pub mod Belonging
-pub mod Sessions
+-- In folders: how clauses see the code, scaffold.
+pub mod Seen
+pub mod Scaffold

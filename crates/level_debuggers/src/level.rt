@@ -20,7 +20,7 @@ impl Level {
     ghost use Rattle.std.specs.Prelude.{◌≡◌, IfOk, OnErr};
     ghost use Rattle.std.specs.Option.{option_map};
     ghost use Rattle.level_debuggers.specs.Levels.{IsRunner, level_of, next_of, program_named, show_text, up_text};
-    ghost use Rattle.level_debuggers.specs.Belonging.{IsLevel, level_seen};
+    ghost use Rattle.level_debuggers.specs.Seen.Belonging.{IsLevel, level_seen};
     ghost use Rattle.level_debuggers.specs.Steps.{IsAdvance, is_over};
 
     pub(crate) fn new(runner: Runner) -> Level

@@ -29,7 +29,7 @@ pub(crate) struct PitonLevel {
 impl Model for PitonLevel {
     ghost use Rattle.piton_machine.specs.Fits.{system_in};
     ghost use Rattle.std.specs.Prelude.{◌≤◌, ◌^◌};
-    ghost use Rattle.piton_machine.specs.Seen.{IsSeen};
+    ghost use Rattle.piton_machine.specs.Seen.StateView.{IsSeen};
     ghost use Rattle.piton_machine.specs.Placed.{placed};
     ghost use Rattle.level_debuggers.specs.PitonLevels.{PitonLevelOf};
 
@@ -45,7 +45,7 @@ impl PitonLevel {
     ghost use Rattle.std.specs.Prelude.{◌≡◌, ◌≤◌, ◌^◌, IfOk};
     ghost use Rattle.piton_machine.specs.Addresses.{numbers};
     ghost use Rattle.piton_machine.specs.Fits.{system_in};
-    ghost use Rattle.piton_machine.specs.Seen.{IsSeen};
+    ghost use Rattle.piton_machine.specs.Seen.StateView.{IsSeen};
     ghost use Rattle.piton_machine.specs.Placed.{address_of_place, placed, addresses_of};
     ghost use Rattle.piton_machine.specs.State.{locals_of};
     ghost use Rattle.piton_show.specs.NamedWords.{program_name};
@@ -53,7 +53,7 @@ impl PitonLevel {
     ghost use Rattle.level_debuggers.specs.Levels.{IsRunner, Piton, level_of};
     ghost use Rattle.level_debuggers.specs.PitonLevels.{piton_listing, piton_next, piton_over};
     ghost use Rattle.level_debuggers.specs.PitonReadings.{area_words, element_numbers, is_covered, piton_at, piton_end, piton_reading_of, piton_up};
-    ghost use Rattle.level_debuggers.specs.Standings.{standing_of};
+    ghost use Rattle.level_debuggers.specs.Scaffold.Standings.{standing_of};
 
     pub(crate) fn new(checked: Checked, image: Image, state: State) -> PitonLevel
         requires seen { IsSeen (system_in checked) state }

@@ -24,7 +24,7 @@ fn number_at(numbers: &[u32], place: u64) -> Option<u32>
 }
 
 impl Standing for PitonAt {
-    ghost use Rattle.level_debuggers.specs.Standings.{standing_of};
+    ghost use Rattle.level_debuggers.specs.Scaffold.Standings.{standing_of};
 
     ghost standing = { standing_of };
 

@@ -1,7 +1,7 @@
 //! Scripts, line by line.
 
 ghost use Rattle.std.specs.Prelude.{◌≡◌, ◌++◌, IfOk, OnErr};
-ghost use Rattle.level_debuggers.specs.Sessions.{IsSession, session_of};
+ghost use Rattle.level_debuggers.specs.Seen.Sessions.{IsSession, session_of};
 ghost use Rattle.level_debuggers.specs.Tallies.{watching};
 ghost use Rattle.level_debuggers.specs.Transcripts.{IsLeftBy, IsLeftIn, IsSaid, attach_said, attached_word, detach_said, followed, rule_of_word, run_end, run_text, said_to};
 

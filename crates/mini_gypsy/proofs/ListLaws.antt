@@ -1,24 +1,15 @@
 -- Lists that are made item by item.
 use Rattle.std.proofs.Common.{◌≡◌, ◌+◌, ◌-◌, ◌<◌, ◌≤◌, ℕ, suc, List, [], ◌∷◌, ◌++◌, drop, get_or, length, map, sym, ap, subst, ◌∙◌, append_assoc, append-nil, arith}
-use Rattle.std.proofs.lemmas.List.{map-append, drop_all}
+use Rattle.std.proofs.lemmas.List.{drop_all}
 use Rattle.stack_text.proofs.Loops.{drop-item}
+use Rattle.stack_text.proofs.SharedLaws.{seen_more}
 use Rattle.gypsy_syntax.specs.Sources.{LocalOf, StmtOf}
 use Rattle.mini_syntax.specs.declared.program.Statement.{Statement}
 use Rattle.mini_syntax.specs.declared.sort.Sort.{Sort}
 use Rattle.mini_gypsy.specs.Lowered.{locals_from, statement_parts, temporary_local}
-use Rattle.mini_syntax.specs.ProgramView.{block_in, statement_in}
+use Rattle.mini_syntax.specs.Seen.ProgramView.{block_in, statement_in}
 use Rattle.mini_syntax.specs.Sorted.{AreFine}
 use Rattle.mini_syntax.specs.Sorted.{depths}
-
--- one more is seen
-seen_more : {X Y : Type 0} (see : X → Y) (items new : List X) (x : X) (y : Y) (rest all : List Y) → new ≡ items ++ x ∷ [] → see x ≡ y
-    → map see items ++ y ∷ rest ≡ all → map see new ++ rest ≡ all
-seen_more {X} {Y} see items new x y rest all pushed is so_far =
-    ap (λ (xs : List X). map see xs ++ rest) pushed
-    ∙ ap (λ (ys : List Y). ys ++ rest) (map-append see items (x ∷ []))
-    ∙ append_assoc (map see items) (see x ∷ []) rest
-    ∙ ap (λ (z : Y). map see items ++ z ∷ rest) is
-    ∙ so_far
 
 pub locals_more : {X : Type 0} (see : X → LocalOf) (items new : List X) (x : X) (s : Sort) (k : ℕ) (all : List LocalOf) → k < depths
     → new ≡ items ++ x ∷ [] → see x ≡ temporary_local s k → map see items ++ locals_from s k (depths - k) ≡ all

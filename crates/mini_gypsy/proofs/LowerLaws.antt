@@ -1,17 +1,17 @@
 -- What a text becomes.
 use Rattle.std.proofs.Common.{◌≡◌, ℕ, List, length, sym, ap, subst, ◌∙◌, arith}
-use Rattle.gypsy_syntax.specs.Answers.{KeepsForm}
+use Rattle.gypsy_syntax.specs.GypsyReading.{KeepsForm}
 use Rattle.gypsy_syntax.specs.Printed.{gypsy_text}
 use Rattle.gypsy_syntax.specs.Resolved.{program_of}
 use Rattle.gypsy_syntax.specs.Sources.{SourceOf}
 use Rattle.gypsy_syntax.proofs.ReadAgainLaws.{gypsy_text_reads}
-use Rattle.mini_syntax.specs.Answers.{IsFault, ReadsText}
+use Rattle.mini_syntax.specs.MiniReading.{IsFault, ReadsText}
 use Rattle.mini_syntax.specs.Breaches.{body_of, declared_of}
 use Rattle.mini_syntax.specs.declared.program.Declared.{Declared}
-use Rattle.mini_syntax.specs.declared.program.Program as made
-use Rattle.mini_syntax.specs.Grammar.{Program}
+use Rattle.mini_syntax.specs.declared.program.InfixProgram as made
+use Rattle.mini_syntax.specs.Grammar.{InfixProgram}
 use Rattle.mini_syntax.specs.Lawful.{IsLawful}
-use Rattle.mini_syntax.specs.ProgramView.{block_in}
+use Rattle.mini_syntax.specs.Seen.ProgramView.{block_in}
 use Rattle.mini_syntax.proofs.OneAnswerLaws.{either_way}
 use Rattle.mini_syntax.proofs.OneProgramLaws.{program_is}
 use Rattle.mini_gypsy.specs.Lowered.{lowered}
@@ -20,11 +20,11 @@ use Rattle.mini_gypsy.proofs.MeaningLaws.{means_same}
 use Rattle.mini_gypsy.proofs.TextLaws.{lowered_short}
 
 -- a program that was read is lawful
-pub lawful_read : (text : List ℕ) (program : made.Program) → ReadsText text program → IsLawful program.declared.items (block_in program.body.items)
+pub lawful_read : (text : List ℕ) (program : made.InfixProgram) → ReadsText text program → IsLawful program.declared.items (block_in program.body.items)
 lawful_read text program r =
     subst (λ (ds : List Declared). IsLawful ds (block_in program.body.items)) (sym r.declared) (subst (IsLawful (declared_of r.tree)) (sym r.body) r.lawful)
 
-pub text_lowers : (text : List ℕ) (program : made.Program) (s : SourceOf) → ReadsText text program → KeepsForm s → s ≡ lowered program.declared.items (block_in program.body.items) → Lowers text s
+pub text_lowers : (text : List ℕ) (program : made.InfixProgram) (s : SourceOf) → ReadsText text program → KeepsForm s → s ≡ lowered program.declared.items (block_in program.body.items) → Lowers text s
 text_lowers text program s r form is =
     let ds = declared_of r.tree in
     let b = body_of r.tree in
@@ -43,7 +43,7 @@ text_lowers text program s r form is =
 pub one_source : (text : List ℕ) (s t : SourceOf) → Lowers text s → Lowers text t → s ≡ t
 one_source text s t a b =
     let same : a.program ≡ b.program = program_is text a.program b.program a.faultless.read.program b.faultless.read.program in
-    a.source ∙ ap (λ (p : Program). lowered (declared_of p) (body_of p)) same ∙ sym b.source
+    a.source ∙ ap (λ (p : InfixProgram). lowered (declared_of p) (body_of p)) same ∙ sym b.source
 
 pub no_fault : (text : List ℕ) (rule place : ℕ) (s : SourceOf) → IsFault text rule place → Lowers text s → ⊥
 no_fault text rule place s f a = either_way text rule place a.program f a.faultless

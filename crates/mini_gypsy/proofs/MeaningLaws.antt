@@ -1,5 +1,5 @@
 -- The lowered source means what the program does.
-use Rattle.std.proofs.Common.{◌≡◌, ℕ, zero, suc, ◌*◌, List, [], ◌∷◌, ◌++◌, map, length, take, get_or, true, false, Some, None, refl, sym, ap, ap₂, subst, ◌∙◌, arith}
+use Rattle.std.proofs.Common.{◌≡◌, ℕ, zero, suc, ◌*◌, List, [], ◌∷◌, ◌++◌, map, length, take, true, false, Some, None, refl, sym, ap, ap₂, subst, ◌∙◌}
 use Rattle.std.specs.Prelude.{ℤ, pos, negsuc, ◌==◌, ◌||◌, ◌&&◌}
 use Rattle.std.specs.Prelude as std
 use Rattle.std.specs.List.{list_all}
@@ -9,16 +9,17 @@ use Rattle.stack_text.specs.declared.shape.Kind.{Kind}
 use Rattle.stack_text.specs.declared.shape.Kind.TheVariants.{Integer, Boolean}
 use Rattle.stack_text.specs.declared.shape.Shape.{Shape}
 use Rattle.stack_text.specs.Values.{ValueOf, item_count}
+use Rattle.stack_text.proofs.SharedLaws.{one_item}
 use Rattle.gypsy_syntax.specs.declared.literal.Decl.{Decl}
 use Rattle.gypsy_syntax.specs.Effects.{integer_value, truth_value, item_of_value, is_true_value, same_int}
 use Rattle.gypsy_syntax.specs.ProgramFits.{is_in_range, ValueFits}
 use Rattle.gypsy_syntax.specs.Programs.{Program, Leave, Routine, Space, simple, proc_at}
 use Rattle.gypsy_syntax.specs.Programs as gypsy
 use Rattle.gypsy_syntax.specs.Resolved.{program_of, shape_of, truth_item, statement_of, local_value, place_among}
-use Rattle.gypsy_space.specs.Needs.{Words, main_used}
+use Rattle.gypsy_space.specs.Needs.{StackSizes, main_used}
 use Rattle.gypsy_meaning.specs.Calls.{main_start, main_formals, main_way, is_passed_on}
 use Rattle.gypsy_meaning.specs.Kept.{VarsFit}
-use Rattle.gypsy_meaning.specs.Meaning.{Outcome, Done, Unfinished, evaluate, main_end, meaning}
+use Rattle.gypsy_meaning.specs.Meaning.{MeaningOutcome, Done, Unfinished, evaluate, main_end, meaning}
 use Rattle.mini_syntax.specs.declared.program.Declared.{Declared}
 use Rattle.mini_syntax.specs.declared.sort.Sort.{Sort}
 use Rattle.mini_syntax.specs.declared.sort.Sort.TheVariants.{Int, Bool}
@@ -36,11 +37,6 @@ use Rattle.mini_gypsy.proofs.StatementLaws.{Follows, statements_follow}
 
 -- ---- values that fit are held
 
-single : (items : List ℤ) → length items ≡ 1 → items ≡ get_or items 0 (pos 0) ∷ []
-single [] e = cc
-single (z ∷ []) e = refl
-single (z ∷ (y ∷ items)) e = absurd (omega (arith, e))
-
 truth_of : (z : ℤ) → is_in_range Boolean z ≡ true → z ≡ truth_item (same_int z (pos 1))
 truth_of (negsuc n) e = cc
 truth_of (pos n) e = pick (n == 0) (n == 1) refl refl e
@@ -57,7 +53,7 @@ one_truth : (v : ValueOf) → v.shape ≡ simple Boolean → v.items ≡ truth_i
 one_truth v e f = λ i. record { shape = e i; items = f i }
 
 one_of : (v : ValueOf) (k : Kind) → v.shape ≡ simple k → ValueFits v → v.items ≡ item_of_value v ∷ []
-one_of v k e fits = single v.items (fits.number ∙ ap item_count e)
+one_of v k e fits = one_item v.items (fits.number ∙ ap item_count e)
 
 one_held : (v : ValueOf) (s : Sort) → v.shape ≡ simple (kind_of s) → ValueFits v → Holds (worth_in s v) v
 one_held v Int e fits = one_number v e (one_of v Integer e fits)
@@ -103,7 +99,7 @@ body_is ds s lawful =
     ∙ ap in_turn (statements_are q p names sorts (knows ds s (all_named ds lawful.names) lawful.apart) s lawful.fine ∙ ap (λ (n : ℕ). statement_steps n s) (sorts_count ds)))
 
 -- what main ends with is what the program does
-ends_so : (q : Program) (sorts : List Sort) (count : length (proc_at q q.main).formals ≡ length sorts) (r o : Outcome) → Follows sorts r o → main_end q o ≡ r
+ends_so : (q : Program) (sorts : List Sort) (count : length (proc_at q q.main).formals ≡ length sorts) (r o : MeaningOutcome) → Follows sorts r o → main_end q o ≡ r
 unfolding main_formals main_way is_passed_on
 ends_so q sorts count (Done d None) o follows =
     ap (main_end q) follows.is
@@ -117,7 +113,7 @@ ends_so q sorts count (Done d (Some (gypsy.Declared i))) o follows = absurd foll
 ends_so q sorts count Unfinished o follows = ap (main_end q) follows
 
 -- at every bound and all sizes, on all values that fit
-pub lowered_means : (ds : List Declared) (s : Stmt) → IsLawful ds s → (sizes : Words) (v : List ValueOf) (n : ℕ) →
+pub lowered_means : (ds : List Declared) (s : Stmt) → IsLawful ds s → (sizes : StackSizes) (v : List ValueOf) (n : ℕ) →
     VarsFit (proc_at (program_of (lowered ds s)) (program_of (lowered ds s)).main).formals v → meaning (program_of (lowered ds s)) sizes v n ≡ program_run s v n
 unfolding place_among program_run main_start
 lowered_means ds s lawful sizes v zero fits = refl

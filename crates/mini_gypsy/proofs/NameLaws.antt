@@ -2,9 +2,10 @@
 use Rattle.std.proofs.Common.{◌≡◌, ℕ, zero, suc, ◌+◌, ◌<◌, List, [], ◌∷◌, ◌++◌, map, length, cond, bytes_eq, Bool, true, false, Option, Some, None, is_none, option_map, refl, sym, ap, ◌∙◌, arith, true≢false}
 use Rattle.std.specs.Prelude.{slice_get, ◌==◌, ◌&&◌, ◌||◌, nat_le, IsTrue}
 use Rattle.std.specs.List.{list_all}
-use Rattle.std.proofs.lemmas.Bool.{agree_below_at, eqb-true}
+use Rattle.std.proofs.lemmas.Bool.{agree_below_at, eqb-true, and_parts}
 use Rattle.std.proofs.lemmas.Slice.Eq.{bytes_eq-Decides}
 use Rattle.stack_text.specs.Names.{is_name, begins_with_letter}
+use Rattle.stack_text.proofs.SharedLaws.{and_false, get_below, get_front}
 use Rattle.gypsy_syntax.specs.declared.literal.TypeText.{TypeText}
 use Rattle.gypsy_syntax.specs.Made.{new_simple}
 use Rattle.gypsy_syntax.specs.ProgramFits.{Each}
@@ -23,7 +24,6 @@ use Rattle.mini_syntax.specs.Names.{is_variable_name, is_word_byte, word_named}
 use Rattle.mini_syntax.specs.Language.{Stmt}
 use Rattle.mini_gypsy.specs.Lowered.{main_procedure, decl_of, kind_of, temporary_name, temporaries, locals_from, letter_of}
 use Rattle.mini_syntax.specs.Lawful.{nth_name}
-use Rattle.mini_syntax.proofs.VariableLaws.{and_parts}
 
 -- a name is itself, and another isn't
 pub same_name : (name : List ℕ) → bytes_eq name name ≡ true
@@ -88,11 +88,6 @@ get_after [] ys i n e = ap (slice_get ys) (let same : n + i ≡ i = omega arith 
 get_after (x ∷ xs) ys i n e =
     ap (slice_get ((x ∷ xs) ++ ys)) (let more : n + i ≡ suc (length xs + i) = omega arith in more) ∙ get_after xs ys i (length xs) refl
 
-get_before : {X : Type 0} (xs ys : List X) (i : ℕ) (x : X) → slice_get xs i ≡ Some x → slice_get (xs ++ ys) i ≡ Some x
-get_before [] ys i x e = cc
-get_before (y ∷ xs) ys zero x e = e
-get_before (y ∷ xs) ys (suc i) x e = get_before xs ys i x e
-
 pub get_map : {X Y : Type 0} (g : X → Y) (xs : List X) (i : ℕ) (y : Y) → slice_get (map g xs) i ≡ Some y → (x : X) × (slice_get xs i ≡ Some x) × (g x ≡ y)
 get_map g [] i y e = cc
 get_map g (x ∷ xs) zero y e = (x, refl, cc)
@@ -100,7 +95,7 @@ get_map g (x ∷ xs) (suc i) y e = get_map g xs i y e
 
 temporary_shape : (s : Sort) (k : ℕ) → k < depths → slice_get (map (λ (l : LocalOf). l.decl.shape) temporaries) (temporary s k) ≡ Some (new_simple 0 (kind_of s))
 unfolding temporaries locals_from
-temporary_shape sort.Int k lt = get_before (map (λ (l : LocalOf). l.decl.shape) (locals_from sort.Int 0 depths)) (map (λ (l : LocalOf). l.decl.shape) (locals_from sort.Bool 0 depths)) k (new_simple 0 (kind_of sort.Int)) (from_at sort.Int 0 depths k lt)
+temporary_shape sort.Int k lt = get_front (map (λ (l : LocalOf). l.decl.shape) (locals_from sort.Int 0 depths)) (map (λ (l : LocalOf). l.decl.shape) (locals_from sort.Bool 0 depths)) k (new_simple 0 (kind_of sort.Int)) (from_at sort.Int 0 depths k lt)
 temporary_shape sort.Bool k lt =
     get_after (map (λ (l : LocalOf). l.decl.shape) (locals_from sort.Int 0 depths)) (map (λ (l : LocalOf). l.decl.shape) (locals_from sort.Bool 0 depths)) k depths refl
     ∙ from_at sort.Bool 0 depths k lt
@@ -111,11 +106,6 @@ pub record Knows (names : List (List ℕ)) (sorts : List Sort) (p : ProcOf) : Ty
   pub declared_type : (i : ℕ) (s : Sort) → slice_get sorts i ≡ Some s → type_of p (nth_name names i) ≡ Some (new_simple 0 (kind_of s))
   pub temporary_stands : (s : Sort) (k : ℕ) → k < depths → place_among (temporary_name s k) (variable_names p) ≡ Some (length names + temporary s k)
   pub temporary_type : (s : Sort) (k : ℕ) → k < depths → type_of p (temporary_name s k) ≡ Some (new_simple 0 (kind_of s))
-
--- no variable has a temporary's name
-and_false : (b : Bool) → (b && false) ≡ false
-and_false true = refl
-and_false false = refl
 
 -- each declared name is one
 pub all_named : (ds : List Declared) → list_all (λ (d : Declared). is_variable_name d.name) ds ≡ true → Each (λ (d : Declared). is_variable_name d.name ≡ true) ds
@@ -146,11 +136,6 @@ unmarked : (ds : List Declared) (s : Sort) (k : ℕ) → Each (λ d. is_variable
 unmarked [] s k h = refl
 unmarked (d ∷ ds) s k h = rw (marked d.name s k h.0) (unmarked ds s k h.1)
 
-some_below : {X : Type 0} (xs : List X) (i : ℕ) (x : X) → slice_get xs i ≡ Some x → i < length xs
-some_below [] i x e = cc
-some_below (y ∷ xs) zero x e = omega arith
-some_below (y ∷ xs) (suc i) x e = let lt = some_below xs i x e in omega arith
-
 map_decl_names : (ds : List Declared) → map (λ (d : Decl). d.name.name) (map (λ (d : Declared). decl_of d.name d.sort) ds) ≡ map (λ (d : Declared). d.name) ds
 map_decl_names [] = refl
 map_decl_names (d ∷ ds) = ap (λ (ns : List (List ℕ)). d.name ∷ ns) (map_decl_names ds)
@@ -178,7 +163,7 @@ pub knows : (ds : List Declared) (b : Stmt) → Each (λ d. is_variable_name d.n
     Knows (map (λ d. d.name) ds) (map (λ d. d.sort) ds) (main_procedure ds b)
 knows ds b good apart = record {
   declared_place = stands;
-  declared_type = λ i s e. ap (type_at (variable_types p)) (stands i s e) ∙ get_before shapes (map (λ (l : LocalOf). l.decl.shape) temporaries) i (new_simple 0 (kind_of s)) (declared_shape ds i s e);
+  declared_type = λ i s e. ap (type_at (variable_types p)) (stands i s e) ∙ get_front shapes (map (λ (l : LocalOf). l.decl.shape) temporaries) i (new_simple 0 (kind_of s)) (declared_shape ds i s e);
   temporary_stands = after;
   temporary_type = λ s k lt.
       ap (type_at (variable_types p)) (after s k lt)
@@ -203,7 +188,7 @@ knows ds b good apart = record {
 
     stands : (i : ℕ) (s : Sort) → slice_get (map (λ (d : Declared). d.sort) ds) i ≡ Some s → place_among (nth_name names i) (variable_names p) ≡ Some i
     stands i s e =
-        let lt = some_below (map (λ (d : Declared). d.sort) ds) i s e in
+        let lt = get_below (map (λ (d : Declared). d.sort) ds) i s e in
         ap (place_among (nth_name names i)) whole ∙ place_at names others i (omega (arith, lt, names_length ds)) apart
 
     after : (s : Sort) (k : ℕ) → k < depths → place_among (temporary_name s k) (variable_names p) ≡ Some (length names + temporary s k)

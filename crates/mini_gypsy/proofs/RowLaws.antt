@@ -1,10 +1,11 @@
 -- Each operator's predefined procedure does what the operator does.
 use Rattle.std.proofs.Common.{◌≡◌, ℕ, ℤ, ◌+ℤ◌, ◌-ℤ◌, ◌*ℤ◌, neg_ℤ, List, [], ◌∷◌, true, false, not, ◌||◌, ◌&&◌, refl, ap}
-use Rattle.std.specs.Prelude.{Bool, int_le, slice_set}
+use Rattle.std.specs.Prelude.{Bool}
 use Rattle.std.specs.Prelude as std
 use Rattle.stack_text.specs.Values.{ValueOf}
 use Rattle.stack_text.specs.declared.shape.Kind.TheVariants.{Integer}
-use Rattle.gypsy_syntax.specs.Effects.{Effect, Normal, Beyond, integer_value, truth_value, value_at, no_value, number_effect, is_true_value, effect_by, predef_effect, are_same}
+use Rattle.gypsy_syntax.specs.Predefined.{effect_by}
+use Rattle.gypsy_syntax.specs.Effects.{Effect, Normal, integer_value, truth_value, value_at, number_effect, is_true_value, are_same}
 use Rattle.gypsy_syntax.specs.Effects as effect
 use Rattle.gypsy_syntax.specs.ProgramFits.{is_in_range}
 use Rattle.gypsy_syntax.specs.Programs.{Arg, Var}

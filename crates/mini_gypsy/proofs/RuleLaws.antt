@@ -1,16 +1,17 @@
 -- The lowered source breaks no static rule.
 use Rattle.std.proofs.Common.{◌≡◌, ℕ, zero, suc, ◌+◌, ◌^◌, ◌<◌, ◌≤◌, List, [], ◌∷◌, ◌++◌, map, length, bytes_eq, true, false, Some, refl, ap, ap₂, arith}
-use Rattle.std.specs.Prelude.{slice_get, pos, codes, is_none, ◌||◌}
+use Rattle.std.specs.Prelude.{pos, ◌||◌}
 use Rattle.std.specs.Prelude as std
 use Rattle.std.specs.List.{flat_map}
-use Rattle.std.proofs.lemmas.Bool.{lt-ltb, le-ltb}
+use Rattle.std.proofs.lemmas.Bool.{lt-ltb, le-ltb, or_parts}
 use Rattle.stack_text.specs.declared.breach.Breach.{Breach}
 use Rattle.stack_text.specs.declared.name.Named.{Named}
 use Rattle.stack_text.specs.Breaches.{when}
+use Rattle.stack_text.proofs.SharedLaws.{rule_fails, append_none, both_none}
 use Rattle.gypsy_syntax.specs.declared.literal.Decl.{Decl}
 use Rattle.gypsy_syntax.specs.declared.literal.TypeText.{TypeText}
 use Rattle.gypsy_syntax.specs.declared.predef.Predef.TheVariants as row
-use Rattle.gypsy_syntax.specs.Keywords.{keyword_name, keywords}
+use Rattle.gypsy_syntax.specs.Keywords.{keyword_name, form_named, predef_named}
 use Rattle.gypsy_syntax.specs.Made.{statements, new_seq, new_predef, new_simple}
 use Rattle.gypsy_syntax.specs.Predefined.{slots_of}
 use Rattle.gypsy_syntax.specs.ProgramFits.{Each}
@@ -19,7 +20,6 @@ use Rattle.gypsy_syntax.specs.Sources.{integer, truth, constant, loop, LocalOf, 
 use Rattle.gypsy_check.specs.Declarations.{type_of, is_among, repeats}
 use Rattle.gypsy_check.specs.Rules.{predef_breaches, statement_breaches, parts_breaches, type_breaches, local_breaches, procedure_breaches, violations}
 use Rattle.gypsy_check.specs.Types.{words_of_types}
-use Rattle.gypsy_check.proofs.CleanLaws.{two, fails}
 use Rattle.mini_syntax.specs.declared.program.Declared.{Declared}
 use Rattle.mini_syntax.specs.declared.sort.Sort.{Sort}
 use Rattle.mini_syntax.specs.declared.sort.Sort.TheVariants.{Int, Bool}
@@ -39,9 +39,6 @@ use Rattle.mini_syntax.specs.Sorted.{depths}
 use Rattle.mini_syntax.specs.Operands.{sort_of, prefix_sort, infix_sort}
 use Rattle.mini_gypsy.proofs.NameLaws.{all_named, Knows, knows, marked}
 use Rattle.mini_gypsy.proofs.ResolveLaws.{depth_some}
-
-none_then : {X : Type 0} (a b : List X) → a ≡ [] → b ≡ [] → a ++ b ≡ []
-none_then a b e f = ap₂ (λ x y. x ++ y) e f
 
 module _ (q : SourceOf) (p : ProcOf) where
   set_clean : (s : Sort) (a b : List ℕ) → type_of p a ≡ Some (new_simple 0 (kind_of s)) → type_of p b ≡ Some (new_simple 0 (kind_of s)) →
@@ -99,11 +96,11 @@ module _ (q : SourceOf) (p : ProcOf) where
   parts_append : (l : std.Bool) (xs ys : List StmtOf) → parts_breaches q p l (statements xs) ≡ [] → parts_breaches q p l (statements ys) ≡ [] → parts_breaches q p l (statements (xs ++ ys)) ≡ []
   parts_append l [] ys e f = f
   parts_append l (s ∷ xs) ys e f =
-      let k = two (statement_breaches q p l s) (parts_breaches q p l (statements xs)) e in
-      none_then (statement_breaches q p l s) (parts_breaches q p l (statements (xs ++ ys))) k.0 (parts_append l xs ys k.1 f)
+      let k = append_none (statement_breaches q p l s) (parts_breaches q p l (statements xs)) e in
+      both_none (statement_breaches q p l s) (parts_breaches q p l (statements (xs ++ ys))) k.0 (parts_append l xs ys k.1 f)
 
   one_clean : (l : std.Bool) (s : StmtOf) → statement_breaches q p l s ≡ [] → parts_breaches q p l (statements (s ∷ [])) ≡ []
-  one_clean l s e = none_then (statement_breaches q p l s) [] e refl
+  one_clean l s e = both_none (statement_breaches q p l s) [] e refl
 
   module _ (names : List (List ℕ)) (sorts : List Sort) (known : Knows names sorts p) where
     values_clean : (l : std.Bool) (k : ℕ) (e : Exp) → IsSorted sorts e → k + depth e ≤ depths → parts_breaches q p l (statements (value_parts names k e)) ≡ []
@@ -131,7 +128,7 @@ module _ (q : SourceOf) (p : ProcOf) where
         (known.temporary_type (infix_sort op) k (omega arith)) (known.temporary_type (sort_of a) k (omega arith)) (known.temporary_type (sort_of b) (suc k) (omega arith)))))
 
     choice_clean : (l : std.Bool) (s t : StmtOf) → statement_breaches q p l s ≡ [] → statement_breaches q p l t ≡ [] → statement_breaches q p l (choice_parts s t) ≡ []
-    choice_clean l s t e f = rw (known.temporary_type Bool 0 (omega arith)) (none_then (statement_breaches q p l s) (statement_breaches q p l t) e f)
+    choice_clean l s t e f = rw (known.temporary_type Bool 0 (omega arith)) (both_none (statement_breaches q p l s) (statement_breaches q p l t) e f)
 
     statements_clean : (l : std.Bool) (s : Stmt) → AreFine sorts s → parts_breaches q p l (statements (statement_parts names s)) ≡ []
     unfolding statement_parts
@@ -157,17 +154,13 @@ module _ (q : SourceOf) (p : ProcOf) where
 or_none : (a b : std.Bool) → a ≡ false → b ≡ false → (a || b) ≡ false
 or_none a b e f = ap₂ (λ (x y : std.Bool). x || y) e f
 
-or_parts : (a b : std.Bool) → (a || b) ≡ false → (a ≡ false) × (b ≡ false)
-or_parts true b e = cc
-or_parts false b e = (refl, e)
-
 -- among more names, none of which these are
 repeats_apart : (rule : ℕ) (known earlier : List (List ℕ)) (ns : List Named) → Each (λ (n : Named). is_among n.name earlier ≡ false) ns → repeats rule known ns ≡ [] → repeats rule (known ++ earlier) ns ≡ []
 repeats_apart rule known earlier [] apart e = refl
 repeats_apart rule known earlier (n ∷ ns) apart e =
-    let k = two (when (is_among n.name known) n.place rule) (repeats rule (n.name ∷ known) ns) e in
-    none_then (when (is_among n.name (known ++ earlier)) n.place rule) (repeats rule (n.name ∷ (known ++ earlier)) ns)
-    (ap (λ (b : std.Bool). when b n.place rule) (any_append n.name known earlier (fails (is_among n.name known) n.place rule k.0) apart.0))
+    let k = append_none (when (is_among n.name known) n.place rule) (repeats rule (n.name ∷ known) ns) e in
+    both_none (when (is_among n.name (known ++ earlier)) n.place rule) (repeats rule (n.name ∷ (known ++ earlier)) ns)
+    (ap (λ (b : std.Bool). when b n.place rule) (any_append n.name known earlier (rule_fails (is_among n.name known) n.place rule k.0) apart.0))
     (repeats_apart rule (n.name ∷ known) earlier ns apart.1 k.1)
   where
     any_append : (name : List ℕ) (xs ys : List (List ℕ)) → is_among name xs ≡ false → is_among name ys ≡ false → is_among name (xs ++ ys) ≡ false
@@ -205,7 +198,7 @@ variables_differ : (ds : List Declared) (earlier : List (List ℕ)) → Each (λ
     repeats 4 earlier (map (λ (d : Decl). d.name) (map (λ (d : Declared). decl_of d.name d.sort) ds) ++ map (λ (l : LocalOf). l.decl.name) temporaries) ≡ []
 variables_differ [] earlier good apart new none = repeats_apart 4 [] earlier (map (λ (l : LocalOf). l.decl.name) temporaries) (temporaries_miss earlier none) temporaries_differ
 variables_differ (d ∷ ds) earlier good apart new none =
-    none_then (when (is_among d.name earlier) 0 4) (repeats 4 (d.name ∷ earlier) (map (λ (e : Decl). e.name) (map (λ (e : Declared). decl_of e.name e.sort) ds) ++ map (λ (l : LocalOf). l.decl.name) temporaries))
+    both_none (when (is_among d.name earlier) 0 4) (repeats 4 (d.name ∷ earlier) (map (λ (e : Decl). e.name) (map (λ (e : Declared). decl_of e.name e.sort) ds) ++ map (λ (l : LocalOf). l.decl.name) temporaries))
     (ap (λ (b : std.Bool). when b 0 4) (new 0 (omega arith)))
     (variables_differ ds (d.name ∷ earlier) good.1 apart.1
     (λ i lt. or_none (bytes_eq (nth_name (map (λ (e : Declared). e.name) ds) i) d.name) (is_among (nth_name (map (λ (e : Declared). e.name) ds) i) earlier) (apart.0 i lt) (new (suc i) (omega arith)))
@@ -215,7 +208,7 @@ variables_differ (d ∷ ds) earlier good apart new none =
 
 types_append : (f : TypeText → List Breach) (xs ys : List TypeText) → flat_map f xs ≡ [] → flat_map f ys ≡ [] → flat_map f (xs ++ ys) ≡ []
 types_append f [] ys e g = g
-types_append f (x ∷ xs) ys e g = let k = two (f x) (flat_map f xs) e in none_then (f x) (flat_map f (xs ++ ys)) k.0 (types_append f xs ys k.1 g)
+types_append f (x ∷ xs) ys e g = let k = append_none (f x) (flat_map f xs) e in both_none (f x) (flat_map f (xs ++ ys)) k.0 (types_append f xs ys k.1 g)
 
 formal_types : (ds : List Declared) → flat_map type_breaches (map (λ (d : Decl). d.shape) (map (λ (d : Declared). decl_of d.name d.sort) ds)) ≡ []
 formal_types [] = refl
@@ -247,5 +240,5 @@ variables_clean ds s lawful =
     (statements_clean (lowered ds s) (main_procedure ds s) names (map (λ (d : Declared). d.sort) ds) (knows ds s (all_named ds lawful.names) lawful.apart) false s lawful.fine)
 
 pub lowered_clean : (ds : List Declared) (s : Stmt) → IsLawful ds s → violations (lowered ds s) ≡ []
-unfolding violations keywords keyword_name place_among
-lowered_clean ds s lawful = none_then [] (procedure_breaches (lowered ds s) (main_procedure ds s) ++ []) refl (none_then (procedure_breaches (lowered ds s) (main_procedure ds s)) [] (variables_clean ds s lawful) refl)
+unfolding violations keyword_name form_named predef_named place_among
+lowered_clean ds s lawful = both_none [] (procedure_breaches (lowered ds s) (main_procedure ds s) ++ []) refl (both_none (procedure_breaches (lowered ds s) (main_procedure ds s)) [] (variables_clean ds s lawful) refl)

@@ -6,8 +6,8 @@ use Rattle.stack_text.specs.Values.{ValueOf}
 use Rattle.gypsy_syntax.specs.Effects.{value_at, no_value}
 use Rattle.gypsy_syntax.specs.Programs.{Program}
 use Rattle.gypsy_syntax.specs.Programs as gypsy
-use Rattle.gypsy_space.specs.Needs.{Words}
-use Rattle.gypsy_meaning.specs.Meaning.{Outcome, Done, Unfinished, evaluate, then_do}
+use Rattle.gypsy_space.specs.Needs.{StackSizes}
+use Rattle.gypsy_meaning.specs.Meaning.{MeaningOutcome, Done, Unfinished, evaluate, then_do}
 use Rattle.mini_gypsy.specs.Steps.{in_turn}
 
 pub read_declared : (d t : List ValueOf) (i : ℕ) → i < length d → value_at (d ++ t) i ≡ value_at d i
@@ -25,12 +25,12 @@ write_temporary n d t i v e =
     set-append_right d t n (n + i) v e (omega arith) ∙ ap (λ (k : ℕ). d ++ slice_set t k v) back
 
 -- one after the other
-then_through : (o : Outcome) (f g h : List ValueOf → Outcome) → ((y : List ValueOf) → f y ≡ then_do (g y) h) → then_do o f ≡ then_do (then_do o g) h
+then_through : (o : MeaningOutcome) (f g h : List ValueOf → MeaningOutcome) → ((y : List ValueOf) → f y ≡ then_do (g y) h) → then_do o f ≡ then_do (then_do o g) h
 then_through (Done x None) f g h e = e x
 then_through (Done x (Some c)) f g h e = refl
 then_through Unfinished f g h e = refl
 
-pub turn_append : (q : Program) (sizes : Words) (m : ℕ) (u : Words) (xs ys : List gypsy.Stmt) (x : List ValueOf) →
+pub turn_append : (q : Program) (sizes : StackSizes) (m : ℕ) (u : StackSizes) (xs ys : List gypsy.Stmt) (x : List ValueOf) →
     evaluate q sizes (suc m) (in_turn (xs ++ ys)) u x ≡ then_do (evaluate q sizes (suc m) (in_turn xs) u x) (evaluate q sizes (suc m) (in_turn ys) u)
 turn_append q sizes m u [] ys x = refl
 turn_append q sizes m u (s ∷ xs) ys x =
@@ -38,12 +38,12 @@ turn_append q sizes m u (s ∷ xs) ys x =
     (evaluate q sizes (suc m) (in_turn (xs ++ ys)) u) (evaluate q sizes (suc m) (in_turn xs) u) (evaluate q sizes (suc m) (in_turn ys) u)
     (λ y. turn_append q sizes m u xs ys y)
 
-pub then_none : (o : Outcome) → then_do o (λ y. Done y None) ≡ o
+pub then_none : (o : MeaningOutcome) → then_do o (λ y. Done y None) ≡ o
 then_none (Done x None) = refl
 then_none (Done x (Some c)) = refl
 then_none Unfinished = refl
 
 -- one statement alone
-pub turn_one : (q : Program) (sizes : Words) (m : ℕ) (u : Words) (s : gypsy.Stmt) (x : List ValueOf) →
+pub turn_one : (q : Program) (sizes : StackSizes) (m : ℕ) (u : StackSizes) (s : gypsy.Stmt) (x : List ValueOf) →
     evaluate q sizes (suc m) (in_turn (s ∷ [])) u x ≡ evaluate q sizes (suc m) s u x
 turn_one q sizes m u s x = then_none (evaluate q sizes (suc m) s u x)

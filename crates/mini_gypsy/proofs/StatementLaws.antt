@@ -3,12 +3,13 @@ use Rattle.std.proofs.Common.{◌≡◌, ℕ, zero, suc, ◌*◌, ◌<◌, List,
 use Rattle.std.specs.Prelude.{slice_get, slice_set}
 use Rattle.std.specs.Prelude as std
 use Rattle.stack_text.specs.Values.{ValueOf}
-use Rattle.gypsy_syntax.specs.Effects.{integer_value, truth_value, value_at, is_true_value, predef_effect, effect_by}
-use Rattle.gypsy_syntax.specs.Programs.{Program, Var, Leave, Routine, Space, Declared}
+use Rattle.gypsy_syntax.specs.Predefined.{predef_effect, effect_by}
+use Rattle.gypsy_syntax.specs.Effects.{integer_value, truth_value, value_at, is_true_value}
+use Rattle.gypsy_syntax.specs.Programs.{Program, Leave, Routine, Space, Declared}
 use Rattle.gypsy_syntax.specs.Programs as gypsy
-use Rattle.gypsy_space.specs.Needs.{Words}
-use Rattle.gypsy_meaning.specs.Calls.{Way, values_of, target_of}
-use Rattle.gypsy_meaning.specs.Meaning.{Outcome, Done, Unfinished, evaluate, then_do, either_way, round_end}
+use Rattle.gypsy_space.specs.Needs.{StackSizes}
+use Rattle.gypsy_meaning.specs.Calls.{CurrentCondition, values_of, target_of}
+use Rattle.gypsy_meaning.specs.Meaning.{MeaningOutcome, Done, Unfinished, evaluate, then_do, either_way, round_end}
 use Rattle.mini_syntax.specs.declared.sort.Sort.{Sort}
 use Rattle.mini_syntax.specs.declared.sort.Sort.TheVariants.{Bool}
 use Rattle.mini_syntax.specs.Language.{Exp, Stmt, Nothing, Then, Assign, While, If}
@@ -22,7 +23,7 @@ use Rattle.mini_gypsy.proofs.HeldLaws.{HasSort, Holds, AreHeld, held_length, hel
 use Rattle.mini_gypsy.proofs.ValueLaws.{Puts, ended, values_put}
 
 -- normal or routineerror
-abbrev pub IsEnd : Way → Type 0
+abbrev pub IsEnd : CurrentCondition → Type 0
 IsEnd None = Unit {0}
 IsEnd (Some Leave) = ⊥
 IsEnd (Some Routine) = Unit {0}
@@ -30,7 +31,7 @@ IsEnd (Some Space) = ⊥
 IsEnd (Some (Declared i)) = ⊥
 
 -- done, with some temporaries after the declared variables
-pub record EndsSo (sorts : List Sort) (d : List ValueOf) (c : Way) (o : Outcome) : Type 0 where
+pub record EndsSo (sorts : List Sort) (d : List ValueOf) (c : CurrentCondition) (o : MeaningOutcome) : Type 0 where
   pub rest : List ValueOf
   pub many : length rest ≡ 2 * depths
   pub held : AreHeld sorts d
@@ -38,54 +39,54 @@ pub record EndsSo (sorts : List Sort) (d : List ValueOf) (c : Way) (o : Outcome)
   pub is : o ≡ Done (d ++ rest) c
 
 -- the outcome over all variables is that over the declared ones
-abbrev pub Follows : List Sort → Outcome → Outcome → Type 0
+abbrev pub Follows : List Sort → MeaningOutcome → MeaningOutcome → Type 0
 Follows sorts (Done d c) o = EndsSo sorts d c o
 Follows sorts Unfinished o = o ≡ Unfinished
 
 -- from variables of these sorts, and so many temporaries
-abbrev pub FollowsFrom : List Sort → (List ValueOf → Outcome) → (List ValueOf → Outcome) → Type 0
+abbrev pub FollowsFrom : List Sort → (List ValueOf → MeaningOutcome) → (List ValueOf → MeaningOutcome) → Type 0
 FollowsFrom sorts f g = (d t : List ValueOf) → AreHeld sorts d → length t ≡ 2 * depths → Follows sorts (f d) (g (d ++ t))
 
-pub follows_then : (sorts : List Sort) (r o : Outcome) (f g : List ValueOf → Outcome) → Follows sorts r o → FollowsFrom sorts f g → Follows sorts (then_do r f) (then_do o g)
+pub follows_then : (sorts : List Sort) (r o : MeaningOutcome) (f g : List ValueOf → MeaningOutcome) → Follows sorts r o → FollowsFrom sorts f g → Follows sorts (then_do r f) (then_do o g)
 follows_then sorts (Done d None) o f g first next =
-    subst (Follows sorts (f d)) (sym (ap (λ (p : Outcome). then_do p g) first.is)) (next d first.rest first.held first.many)
+    subst (Follows sorts (f d)) (sym (ap (λ (p : MeaningOutcome). then_do p g) first.is)) (next d first.rest first.held first.many)
 follows_then sorts (Done d (Some c)) o f g first next = record {
   rest = first.rest;
   many = first.many;
   held = first.held;
   ending = first.ending;
-  is = ap (λ (p : Outcome). then_do p g) first.is;
+  is = ap (λ (p : MeaningOutcome). then_do p g) first.is;
 }
-follows_then sorts Unfinished o f g first next = ap (λ (p : Outcome). then_do p g) first
+follows_then sorts Unfinished o f g first next = ap (λ (p : MeaningOutcome). then_do p g) first
 
 -- by an equation of outcomes
-follows_by : (sorts : List Sort) (r o p : Outcome) → o ≡ p → Follows sorts r p → Follows sorts r o
+follows_by : (sorts : List Sort) (r o p : MeaningOutcome) → o ≡ p → Follows sorts r p → Follows sorts r o
 follows_by sorts r o p e follows = subst (Follows sorts r) (sym e) follows
 
 -- a round of a loop whose round is over: the next one
-follows_round : (sorts : List Sort) (r o : Outcome) (f g : List ValueOf → Outcome) → Follows sorts r o → FollowsFrom sorts f g → Follows sorts (then_do r f) (round_end o g)
+follows_round : (sorts : List Sort) (r o : MeaningOutcome) (f g : List ValueOf → MeaningOutcome) → Follows sorts r o → FollowsFrom sorts f g → Follows sorts (then_do r f) (round_end o g)
 follows_round sorts (Done d None) o f g first next =
-    subst (Follows sorts (f d)) (sym (ap (λ (p : Outcome). round_end p g) first.is)) (next d first.rest first.held first.many)
+    subst (Follows sorts (f d)) (sym (ap (λ (p : MeaningOutcome). round_end p g) first.is)) (next d first.rest first.held first.many)
 follows_round sorts (Done d (Some Leave)) o f g first next = absurd first.ending
 follows_round sorts (Done d (Some Routine)) o f g first next = record {
   rest = first.rest;
   many = first.many;
   held = first.held;
   ending = first.ending;
-  is = ap (λ (p : Outcome). round_end p g) first.is;
+  is = ap (λ (p : MeaningOutcome). round_end p g) first.is;
 }
 follows_round sorts (Done d (Some Space)) o f g first next = absurd first.ending
 follows_round sorts (Done d (Some (Declared i))) o f g first next = absurd first.ending
-follows_round sorts Unfinished o f g first next = ap (λ (p : Outcome). round_end p g) first
+follows_round sorts Unfinished o f g first next = ap (λ (p : MeaningOutcome). round_end p g) first
 
-module _ (q : Program) (sizes u : Words) (sorts : List Sort) where
+module _ (q : Program) (sizes u : StackSizes) (sorts : List Sort) where
   -- after the steps of an expression, one more statement
   value_then : (m : ℕ) (e : Exp) (w : Worth) (d t : List ValueOf) (last : gypsy.Stmt) (puts : Puts q sizes u m (length sorts) (value_steps (length sorts) 0 e) 0 (sort_of e) w d t) →
       evaluate q sizes (suc m) (in_turn (value_steps (length sorts) 0 e ++ last ∷ [])) u (d ++ t)
       ≡ then_do (ended w (d ++ puts.after)) (evaluate q sizes (suc m) (in_turn (last ∷ [])) u)
   value_then m e w d t last puts =
       turn_append q sizes m u (value_steps (length sorts) 0 e) (last ∷ []) (d ++ t)
-      ∙ ap (λ (o : Outcome). then_do o (evaluate q sizes (suc m) (in_turn (last ∷ [])) u)) puts.runs
+      ∙ ap (λ (o : MeaningOutcome). then_do o (evaluate q sizes (suc m) (in_turn (last ∷ [])) u)) puts.runs
 
   -- a variable is set to another's value
   variable_set : (m i j : ℕ) (x : List ValueOf) (v : ValueOf) → value_at x j ≡ v → evaluate q sizes (suc m) (in_turn (set_variable i j ∷ [])) u x ≡ Done (slice_set x i v) None
@@ -195,13 +196,13 @@ module _ (q : Program) (sizes u : Words) (sorts : List Sort) where
       follows_by sorts (program_run (While e s) d (suc m))
       (round_end (evaluate q sizes (suc m) body_of u (d ++ t)) again)
       (round_end (by_test (expression_value e d) x (evaluate q sizes (suc m) (in_turn ss) u x) (Done x (Some Leave))) again)
-      (ap (λ (o : Outcome). round_end o again) chosen.runs)
+      (ap (λ (o : MeaningOutcome). round_end o again) chosen.runs)
       (by_worth (expression_value e d) chosen.after chosen.many (λ d' t' held' many'. loop_follows e s ss fine body m d' t' held' many'))
     where
       body_of : gypsy.Stmt
       body_of = in_turn (value_steps (length sorts) 0 e ++ choice_of (length sorts) (block_of ss) (gypsy.Signal 0 Leave) ∷ [])
 
-      again : List ValueOf → Outcome
+      again : List ValueOf → MeaningOutcome
       again = evaluate q sizes m (gypsy.Loop 0 body_of) u
 
       by_worth : (w : Worth) (y : List ValueOf) → length y ≡ 2 * depths →
@@ -252,7 +253,7 @@ module _ (q : Program) (sizes u : Words) (sorts : List Sort) where
       in_order one other (suc m) d t held many =
           let ss = statement_steps (length sorts) s in
           let ss' = statement_steps (length sorts) s' in
-          let rest : List ValueOf → Outcome = evaluate q sizes (suc m) (in_turn ss') u in
+          let rest : List ValueOf → MeaningOutcome = evaluate q sizes (suc m) (in_turn ss') u in
           follows_by sorts (program_run (Then s s') d (suc m)) (evaluate q sizes (suc m) (in_turn (ss ++ ss')) u (d ++ t)) (then_do (evaluate q sizes (suc m) (in_turn ss) u (d ++ t)) rest)
           (turn_append q sizes m u ss ss' (d ++ t))
           (follows_then sorts (program_run s d (suc m)) (evaluate q sizes (suc m) (in_turn ss) u (d ++ t)) (λ y. program_run s' y (suc m)) rest

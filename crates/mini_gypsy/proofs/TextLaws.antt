@@ -6,7 +6,7 @@ use Rattle.std.specs.Fmt.{decimal, digits}
 use Rattle.std.proofs.lemmas.Fmt.{length-decimal-le}
 use Rattle.stack_text.specs.Trees.{Node, Nodes, atom, list, none, more}
 use Rattle.stack_text.specs.TreeText.{tree_text, spaced_text}
-use Rattle.stack_text.specs.TreeView.{nodes}
+use Rattle.stack_text.specs.Seen.TreeView.{nodes}
 use Rattle.stack_text.specs.Grammar.Printed.{list_tree, tree_of_all}
 use Rattle.gypsy_syntax.specs.declared.predef.Predef.{Predef}
 use Rattle.gypsy_syntax.specs.declared.predef.Predef.TheVariants as row
@@ -59,19 +59,7 @@ four_atoms a b c d =
 
 row_short : (r : Predef) → length (predef_name r) ≤ 32
 row_short row.MgSimpleVariableAssignment = omega arith
-row_short row.MgSimpleConstantAssignment = omega arith
-row_short row.MgSimpleVariableEq = omega arith
-row_short row.MgSimpleConstantEq = omega arith
-row_short row.MgIntegerLe = omega arith
-row_short row.MgIntegerUnaryMinus = omega arith
-row_short row.MgIntegerAdd = omega arith
-row_short row.MgIntegerSubtract = omega arith
-row_short row.MgBooleanOr = omega arith
-row_short row.MgBooleanAnd = omega arith
-row_short row.MgBooleanNot = omega arith
-row_short row.MgIndexArray = omega arith
-row_short row.MgArrayElementAssignment = omega arith
-row_short row.MgIntegerMultiply = omega arith
+row_short r = omega arith
 
 two_length : (r : Predef) (a b : List ℕ) → length (tree_text (stmt_tree (new_predef 0 r (argument a ∷ argument b ∷ [])))) ≤ 36 + length a + length b
 unfolding keyword_name

@@ -5,12 +5,13 @@ use Rattle.std.proofs.lemmas.List.{length-set, get_or-set_same, get_or-set_other
 use Rattle.stack_text.specs.Values.{ValueOf}
 use Rattle.gypsy_syntax.specs.declared.predef.Predef.{Predef}
 use Rattle.gypsy_syntax.specs.declared.predef.Predef.TheVariants as row
-use Rattle.gypsy_syntax.specs.Effects.{Normal, integer_value, truth_value, value_at, no_value, effect_by, predef_effect}
+use Rattle.gypsy_syntax.specs.Predefined.{effect_by, predef_effect}
+use Rattle.gypsy_syntax.specs.Effects.{Normal, integer_value, truth_value, value_at, no_value}
 use Rattle.gypsy_syntax.specs.Programs.{Program, Arg, Var, Lit, Routine}
 use Rattle.gypsy_syntax.specs.Programs as gypsy
-use Rattle.gypsy_space.specs.Needs.{Words}
+use Rattle.gypsy_space.specs.Needs.{StackSizes}
 use Rattle.gypsy_meaning.specs.Calls.{values_of}
-use Rattle.gypsy_meaning.specs.Meaning.{Outcome, Done, evaluate, then_do, applied}
+use Rattle.gypsy_meaning.specs.Meaning.{MeaningOutcome, Done, evaluate, then_do, applied}
 use Rattle.mini_syntax.specs.declared.sort.Sort.{Sort}
 use Rattle.mini_syntax.specs.declared.sort.Sort.TheVariants.{Int, Bool}
 use Rattle.mini_syntax.specs.declared.operator.Prefix.{Prefix}
@@ -28,7 +29,7 @@ use Rattle.mini_gypsy.proofs.RowLaws.{effect_of, applied_worth, prefix_number, p
 use Rattle.mini_gypsy.proofs.HeldLaws.{HasSort, Holds, AreHeld, held_there, held_effect, value_sort}
 
 -- with routineerror where it is a fault
-abbrev pub ended : Worth → List ValueOf → Outcome
+abbrev pub ended : Worth → List ValueOf → MeaningOutcome
 ended (Number z) x = Done x None
 ended (Truth b) x = Done x None
 ended Fault x = Done x (Some Routine)
@@ -51,7 +52,7 @@ depth_some (language.Truth b) = omega arith
 depth_some (Before op e) = depth_some e
 depth_some (Between op a b) = omega arith
 
-module _ (q : Program) (sizes u : Words) (m n : ℕ) where
+module _ (q : Program) (sizes u : StackSizes) (m n : ℕ) where
   pub record Puts (steps : List gypsy.Stmt) (k : ℕ) (s : Sort) (w : Worth) (d t : List ValueOf) : Type 0 where
     pub after : List ValueOf
     pub many : length after ≡ length t
@@ -118,7 +119,7 @@ module _ (q : Program) (sizes u : Words) (m n : ℕ) where
     many = later.many ∙ many;
     runs =
         turn_append q sizes m u first rest (d ++ t)
-        ∙ ap (λ (o : Outcome). then_do o (evaluate q sizes (suc m) (in_turn rest) u)) runs
+        ∙ ap (λ (o : MeaningOutcome). then_do o (evaluate q sizes (suc m) (in_turn rest) u)) runs
         ∙ later.runs;
     holds = later.holds;
     keeps = λ r j lt. later.keeps r j lt ∙ keeps r j lt;
@@ -132,7 +133,7 @@ module _ (q : Program) (sizes u : Words) (m n : ℕ) where
     many = before.many;
     runs =
         turn_append q sizes m u first rest (d ++ t)
-        ∙ ap (λ (o : Outcome). then_do o (evaluate q sizes (suc m) (in_turn rest) u)) before.runs;
+        ∙ ap (λ (o : MeaningOutcome). then_do o (evaluate q sizes (suc m) (in_turn rest) u)) before.runs;
     holds = tt;
     keeps = λ p i lt. before.keeps p i (omega arith);
   }

@@ -7,7 +7,7 @@ use Rattle.stack_text.specs.Values.{ValueOf}
 use Rattle.gypsy_syntax.specs.Effects.{integer_value, truth_value, item_of_value, is_true_value, value_at}
 use Rattle.gypsy_syntax.specs.ProgramFits.{is_in_range}
 use Rattle.gypsy_syntax.specs.Programs.{Routine}
-use Rattle.gypsy_meaning.specs.Meaning.{Outcome, Done, Unfinished, then_do, either_way}
+use Rattle.gypsy_meaning.specs.Meaning.{MeaningOutcome, Done, Unfinished, then_do, either_way}
 use Rattle.mini_syntax.specs.declared.sort.Sort.{Sort}
 use Rattle.mini_syntax.specs.declared.sort.Sort.TheVariants as sort
 use Rattle.mini_syntax.specs.declared.operator.Prefix.{Prefix}
@@ -63,20 +63,20 @@ expression_value (Before op e) x = prefix_worth op (expression_value e x)
 expression_value (Between op a b) x = infix_worth op (expression_value a x) (expression_value b x)
 
 -- an assignment sets its variable; a fault ends the program with routineerror, and the variables stay
-abbrev pub assigned : ℕ → Worth → List ValueOf → Outcome
+abbrev pub assigned : ℕ → Worth → List ValueOf → MeaningOutcome
 assigned i (Number z) x = Done (slice_set x i (integer_value z)) None
 assigned i (Truth b) x = Done (slice_set x i (truth_value b)) None
 assigned i Fault x = Done x (Some Routine)
 
 -- one of two runs, by a test; a fault in it ends the program in the same way
-abbrev pub by_test : Worth → List ValueOf → Outcome → Outcome → Outcome
+abbrev pub by_test : Worth → List ValueOf → MeaningOutcome → MeaningOutcome → MeaningOutcome
 by_test (Truth b) x o p = either_way b o p
 by_test (Number z) x o p = Done x (Some Routine)
 by_test Fault x o p = Done x (Some Routine)
 
 -- Statements run in turn with the same bound, and after one that is unfinished or ended the program no further one runs. The
 -- bound falls at each further round of a `while`.
-unfoldable pub program_run : Stmt → List ValueOf → ℕ → Outcome
+unfoldable pub program_run : Stmt → List ValueOf → ℕ → MeaningOutcome
 unfolding expression_value
 program_run s x zero = Unfinished
 program_run Nothing x (suc n) = Done x None

@@ -1,18 +1,18 @@
 -- What is promised of the lowering.
 use Rattle.std.specs.Prelude.{◌≡◌, ◌+◌, ◌*◌, ◌≤◌, ℕ, List, length, ◌↔◌}
 use Rattle.stack_text.specs.Values.{ValueOf}
-use Rattle.gypsy_syntax.specs.Answers.{ReadsAs}
+use Rattle.gypsy_syntax.specs.GypsyReading.{ReadsAs}
 use Rattle.gypsy_syntax.specs.Printed.{gypsy_text}
 use Rattle.gypsy_syntax.specs.Programs as gypsy
 use Rattle.gypsy_syntax.specs.Resolved.{program_of}
 use Rattle.gypsy_syntax.specs.Sources.{SourceOf}
-use Rattle.gypsy_space.specs.Needs.{Words}
-use Rattle.gypsy_meaning.specs.Calls.{Way}
-use Rattle.gypsy_meaning.specs.Fitting.{CanStart}
+use Rattle.gypsy_space.specs.Needs.{StackSizes}
+use Rattle.gypsy_meaning.specs.Calls.{CurrentCondition}
+use Rattle.gypsy_meaning.specs.Seen.Fitting.{CanStart}
 use Rattle.gypsy_meaning.specs.Meaning.{Done, meaning}
-use Rattle.mini_syntax.specs.Answers.{IsFaultless}
+use Rattle.mini_syntax.specs.MiniReading.{IsFaultless}
 use Rattle.mini_syntax.specs.Breaches.{body_of, declared_of}
-use Rattle.mini_syntax.specs.Grammar.{Program}
+use Rattle.mini_syntax.specs.Grammar.{InfixProgram}
 use Rattle.mini_syntax.specs.Language.{Stmt}
 use Rattle.mini_gypsy.specs.Lowered.{lowered}
 use Rattle.mini_gypsy.specs.Meant.{program_run}
@@ -20,13 +20,13 @@ use Rattle.mini_gypsy.specs.Meant.{program_run}
 -- for all values and sizes with which a run can start, and every bound, the program of Micro-Gypsy is done exactly where the program of
 -- the infix language is, and in the same way; in fact its meaning is the run
 pub record MeansSame (q : gypsy.Program) (s : Stmt) : Type 0 where
-  pub done : (sizes : Words) (v : List ValueOf) (n : ℕ) (x : List ValueOf) (c : Way) → CanStart q v sizes →
+  pub done : (sizes : StackSizes) (v : List ValueOf) (n : ℕ) (x : List ValueOf) (c : CurrentCondition) → CanStart q v sizes →
       (meaning q sizes v n ≡ Done x c) ↔ (program_run s v n ≡ Done x c)
-  pub equal : (sizes : Words) (v : List ValueOf) (n : ℕ) → CanStart q v sizes → meaning q sizes v n ≡ program_run s v n
+  pub equal : (sizes : StackSizes) (v : List ValueOf) (n : ℕ) → CanStart q v sizes → meaning q sizes v n ≡ program_run s v n
 
 -- the text has no fault, and the source is what its program becomes: it means the same, its text is read again, and isn't long
 pub record Lowers (text : List ℕ) (s : SourceOf) : Type 0 where
-  pub program : Program
+  pub program : InfixProgram
   pub faultless : IsFaultless text program
   pub source : s ≡ lowered (declared_of program) (body_of program)
   pub means : MeansSame (program_of s) (body_of program)

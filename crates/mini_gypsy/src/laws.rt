@@ -3,7 +3,7 @@
 ghost use Rattle.std.specs.Prelude.{◌≡◌, ℕ, List};
 ghost use Rattle.gypsy_syntax.specs.Resolved.{program_of};
 ghost use Rattle.gypsy_syntax.specs.Sources.{SourceOf};
-ghost use Rattle.mini_syntax.specs.Answers.{IsFault};
+ghost use Rattle.mini_syntax.specs.MiniReading.{IsFault};
 ghost use Rattle.mini_syntax.specs.declared.program.Declared.{Declared};
 ghost use Rattle.mini_syntax.specs.Language.{Stmt};
 ghost use Rattle.mini_syntax.specs.Lawful.{IsLawful};

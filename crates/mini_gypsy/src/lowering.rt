@@ -1,24 +1,24 @@
 //! The source that a program becomes.
 
 ghost use Rattle.std.specs.Prelude.{◌≡◌, ◌≤◌, ◌^◌, IfOk, length};
-ghost use Rattle.gypsy_syntax.specs.SourceView.{proc_of, source_of};
+ghost use Rattle.gypsy_syntax.specs.Seen.SourceView.{proc_of, source_of};
 ghost use Rattle.gypsy_check.specs.Accepted.{IsAccepted};
 ghost use Rattle.mini_syntax.specs.Lawful.{IsLawful};
 ghost use Rattle.mini_gypsy.specs.Lowered.{lowered, main_procedure};
 ghost use Rattle.mini_gypsy.specs.Promises.{Lowers};
-ghost use Rattle.mini_syntax.specs.Answers.{RefusesText};
-ghost use Rattle.mini_syntax.specs.ProgramView.{block_in};
+ghost use Rattle.mini_syntax.specs.MiniReading.{RefusesText};
+ghost use Rattle.mini_syntax.specs.Seen.ProgramView.{block_in};
 
 use crate::statements::block;
 use crate::temporaries::{formals, temporaries};
 use gypsy_check::{Accepted, CheckFault, check};
 use gypsy_syntax::{Proc, Source, plain_form};
-use mini_syntax::{MiniFault, Program, read_mini};
+use mini_syntax::{InfixProgram, MiniFault, read_mini};
 use stack_text::{Memory, Named};
 use std::alloc::Global;
 
 /// The procedure that a program becomes.
-fn main_procedure(alloc: Global, program: &Program) -> Result<Proc, Memory>
+fn main_procedure(alloc: Global, program: &InfixProgram) -> Result<Proc, Memory>
     requires lawful { IsLawful program.now.declared.items (block_in program.now.body.items) }
     ensures { IfOk result (λ made.
         proc_of made ≡ main_procedure program.now.declared.items (block_in program.now.body.items)) }
@@ -36,7 +36,7 @@ fn main_procedure(alloc: Global, program: &Program) -> Result<Proc, Memory>
 }
 
 /// The source that a program becomes.
-fn source(alloc: Global, program: &Program) -> Result<Source, Memory>
+fn source(alloc: Global, program: &InfixProgram) -> Result<Source, Memory>
     requires lawful { IsLawful program.now.declared.items (block_in program.now.body.items) }
     ensures { IfOk result (λ made.
         source_of made ≡ lowered program.now.declared.items (block_in program.now.body.items)) }
@@ -54,7 +54,7 @@ fn source(alloc: Global, program: &Program) -> Result<Source, Memory>
 ///
 /// It has one procedure `main`, whose formals are the declared variables in order, and means the same as the program. The
 /// only error is out of memory.
-fn lower_program(alloc: Global, program: &Program) -> Result<Accepted, Memory>
+fn lower_program(alloc: Global, program: &InfixProgram) -> Result<Accepted, Memory>
     requires lawful { IsLawful program.now.declared.items (block_in program.now.body.items) }
     ensures lowered { IfOk result (λ accepted.
         source_of accepted ≡ lowered program.now.declared.items (block_in program.now.body.items)) }

@@ -16,9 +16,9 @@ use Rattle.mini_syntax.specs.declared.operator.Infix.{Infix}
 use Rattle.mini_syntax.specs.declared.operator.Prefix.{Prefix}
 use Rattle.mini_syntax.specs.declared.operator.Prefix.TheVariants as before
 use Rattle.mini_syntax.specs.Expected.{is_over, may_be_empty, same_mark, taken, takes}
-use Rattle.mini_syntax.specs.Lexemes.{next_kind}
-use Rattle.mini_syntax.specs.Phrases.{Completes, factor_kind, more_after, sort_declared, statement_kind}
-use Rattle.mini_syntax.specs.Phrases.{term_operator, sum_operator, relation_operator, conjunction_operator, disjunction_operator}
+use Rattle.mini_syntax.specs.Scaffold.Lexemes.{next_kind}
+use Rattle.mini_syntax.specs.Scaffold.Phrases.{Completes, factor_kind, more_after, sort_declared, statement_kind}
+use Rattle.mini_syntax.specs.Scaffold.Phrases.{term_operator, sum_operator, relation_operator, conjunction_operator, disjunction_operator}
 use Rattle.mini_syntax.specs.Tokens.{Token, mark_at, word_at, kind_of, place_of, token_of}
 use Rattle.mini_syntax.proofs.ExpectedLaws.{Leads, none_taken}
 use Rattle.mini_syntax.proofs.GoesOnLaws.{bytes_of, same_marks, token_is}

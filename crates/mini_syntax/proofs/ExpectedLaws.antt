@@ -10,10 +10,10 @@ use Rattle.mini_syntax.specs.declared.word.Word.TheVariants as word
 use Rattle.mini_syntax.specs.Expected.{takes, taken, at_start, is_over, expression, a_block}
 use Rattle.mini_syntax.specs.Grammar.{Disjunction, conjunction, or, Conjunction, relation, and, Relation, sum, at_most, equals}
 use Rattle.mini_syntax.specs.Grammar.{Sum, term, add, subtract, Term, factor, multiply, Factor, variable, number, truth, not, minus, group}
-use Rattle.mini_syntax.specs.Grammar.{Form, assign, loop, branch, Block, block, Forms, no_forms, form, Decl, Program, GoesOn}
+use Rattle.mini_syntax.specs.Grammar.{Form, assign, loop, branch, Block, block, Forms, no_forms, form, Decl, InfixProgram, GoesOn}
 use Rattle.mini_syntax.specs.Grammar.{disjunction_tokens, conjunction_tokens, relation_tokens, sum_tokens, term_tokens, factor_tokens}
 use Rattle.mini_syntax.specs.Grammar.{form_tokens, block_tokens, forms_tokens, decl_tokens, decls_tokens, program_tokens}
-use Rattle.mini_syntax.specs.Phrases.{is_open, is_open_at, is_open_in, more_after}
+use Rattle.mini_syntax.specs.Scaffold.Phrases.{is_open, is_open_at, is_open_in, more_after}
 use Rattle.mini_syntax.specs.Tokens.{Token, name_at, number_at, word_at, mark_at, kind_of}
 
 -- the tokens lead from one stack to another, whatever follows
@@ -192,7 +192,7 @@ all_forms : (fs : Forms) → Leads at_start (forms_tokens fs) (end_of fs)
 all_forms no_forms = none_leads at_start
 all_forms (form f fs) = join (form_tokens f) (forms_tokens fs) (first_form f) (forms_leads fs [])
 
-program_leads : (p : Program) → Leads at_start (program_tokens p) (end_of p.forms)
+program_leads : (p : InfixProgram) → Leads at_start (program_tokens p) (end_of p.forms)
 program_leads p = join (decls_tokens p.decls) (forms_tokens p.forms) (decls_lead p.decls (wants.MoreStatements ∷ [])) (all_forms p.forms)
 
 -- nothing more is expected there
@@ -201,7 +201,7 @@ over_end no_forms = refl
 over_end (form f fs) = refl
 
 -- all tokens of a program are taken
-pub program_taken : (p : Program) → taken (Some at_start) (program_tokens p) ≡ Some (end_of p.forms)
+pub program_taken : (p : InfixProgram) → taken (Some at_start) (program_tokens p) ≡ Some (end_of p.forms)
 program_taken p = ap (taken (Some at_start)) (sym (append-nil (program_tokens p))) ∙ (program_leads p).on []
 
 -- ---- what isn't taken

@@ -13,7 +13,7 @@ use Rattle.mini_syntax.specs.declared.word.Word.TheVariants as word
 use Rattle.mini_syntax.specs.Expected.{takes, taken, at_start, is_over, same_mark, expression, a_block}
 use Rattle.mini_syntax.specs.Grammar.{Disjunction, conjunction, or, Conjunction, relation, and, Relation, sum, at_most, equals}
 use Rattle.mini_syntax.specs.Grammar.{Sum, term, add, subtract, Term, factor, multiply, Factor, variable, number, truth, not, minus, group}
-use Rattle.mini_syntax.specs.Grammar.{assign, loop, branch, block, Forms, no_forms, form, Decl, Program, GoesOn}
+use Rattle.mini_syntax.specs.Grammar.{assign, loop, branch, block, Forms, no_forms, form, Decl, InfixProgram, GoesOn}
 use Rattle.mini_syntax.specs.Grammar.{disjunction_tokens, conjunction_tokens, relation_tokens, sum_tokens, term_tokens, factor_tokens}
 use Rattle.mini_syntax.specs.Grammar.{forms_tokens, decls_tokens, program_tokens}
 use Rattle.mini_syntax.specs.Tokens.{Token, name_at, number_at, word_at, mark_at, wrong_at, kind_of, place_of, token_of}
@@ -520,7 +520,7 @@ taken_back (t ∷ ts) st st' e us d = pick (takes st (kind_of t)) refl e (λ mid
         let b = step_back t (place_of t) (bytes_of t) st mid (kind_of t) (token_is t) p (ts ++ us) (later mid h) in
         record { all = b.all; is = b.is }
 
-program_from : (ts : List Token) → Rest at_start ts → (p : Program) × (program_tokens p ≡ ts)
+program_from : (ts : List Token) → Rest at_start ts → (p : InfixProgram) × (program_tokens p ≡ ts)
 program_from ts d =
     (record { decls = d.all.0; forms = d.all.1.0 }, ap (λ (us : List Token). decls_tokens d.all.0 ++ us) (sym (append-nil (forms_tokens d.all.1.0))) ∙ d.is)
 
@@ -544,7 +544,7 @@ over_rest (wants.MoreStatements ∷ st) e = let r = over_rest st e in record { a
 over_rest (x ∷ st) e = cc
 
 -- and they are a program where nothing more is expected
-pub is_whole : (ts : List Token) (st : List Expected) → taken (Some at_start) ts ≡ Some st → is_over st ≡ true → (p : Program) × (program_tokens p ≡ ts)
+pub is_whole : (ts : List Token) (st : List Expected) → taken (Some at_start) ts ≡ Some st → is_over st ≡ true → (p : InfixProgram) × (program_tokens p ≡ ts)
 is_whole ts st e over =
     let p = program_from (ts ++ []) (taken_back ts at_start st e [] (over_rest st over)) in
     (p.0, p.1 ∙ append-nil ts)

@@ -17,16 +17,16 @@ use Rattle.mini_syntax.specs.declared.program.Declared.{Declared}
 use Rattle.mini_syntax.specs.declared.sort.Sort.{Sort}
 use Rattle.mini_syntax.specs.declared.typed.Typed.{Typed}
 use Rattle.mini_syntax.specs.Breaches.{factor_breaches, factor_exp, factor_sort, infix_breaches, prefix_breaches, with_infix}
-use Rattle.mini_syntax.specs.Combined.{IsInfix, IsPrefix}
+use Rattle.mini_syntax.specs.Scaffold.Combined.{IsInfix, IsPrefix}
 use Rattle.mini_syntax.specs.Grammar.{Disjunction, or, Conjunction, and, Relation, at_most, equals}
 use Rattle.mini_syntax.specs.Grammar.{Sum, add, subtract, Term, multiply, Factor}
 use Rattle.mini_syntax.specs.Language.{Before, Between}
-use Rattle.mini_syntax.specs.Lexemes.{token_seen}
+use Rattle.mini_syntax.specs.Scaffold.Lexemes.{token_seen}
 use Rattle.mini_syntax.specs.Operands.{infix_sort}
-use Rattle.mini_syntax.specs.Phrases.{Completes, IsTyped, Reads, Syntax, is_open, is_open_at, is_open_in, more_after}
-use Rattle.mini_syntax.specs.Phrases.{conjunctions, disjunctions, factors, relations, sums, terms}
-use Rattle.mini_syntax.specs.Phrases.{conjunction_operator, disjunction_operator, relation_operator, sum_operator, term_operator}
-use Rattle.mini_syntax.specs.ProgramView.{exp_of}
+use Rattle.mini_syntax.specs.Scaffold.Phrases.{Completes, IsTyped, Reads, Syntax, is_open, is_open_at, is_open_in, more_after}
+use Rattle.mini_syntax.specs.Scaffold.Phrases.{conjunctions, disjunctions, factors, relations, sums, terms}
+use Rattle.mini_syntax.specs.Scaffold.Phrases.{conjunction_operator, disjunction_operator, relation_operator, sum_operator, term_operator}
+use Rattle.mini_syntax.specs.Seen.ProgramView.{exp_of}
 use Rattle.mini_syntax.specs.Tokens.{Token, mark_at, word_at, token_of}
 
 -- a tree of two others, with an operator between

@@ -1,9 +1,9 @@
 -- What is judged token by token is what keeps a text from being a program.
 use Rattle.std.proofs.Common.{◌≡◌, ◌⊎◌, inl, inr, ℕ, ◌+◌, ◌-◌, ◌<◌, ◌≤◌, List, [], ◌∷◌, ◌++◌, length, drop, map, true, false, cond, Option, Some, None, refl, sym, ap, subst, ◌∙◌, append_assoc, arith}
-use Rattle.std.specs.Prelude.{◌&&◌, nat_le, reverse}
+use Rattle.std.specs.Prelude.{nat_le, reverse}
 use Rattle.std.specs.Prelude as std
 use Rattle.std.specs.List.{slice_range}
-use Rattle.std.proofs.lemmas.Bool.{leb-true, leb-false}
+use Rattle.std.proofs.lemmas.Bool.{leb-true, leb-false, and_parts}
 use Rattle.std.proofs.lemmas.List.{append-nil, length-append, map_push}
 use Rattle.mini_syntax.specs.declared.expected.Expected.{Expected}
 use Rattle.mini_syntax.specs.declared.judging.Counts.{Counts}
@@ -14,12 +14,12 @@ use Rattle.mini_syntax.specs.declared.lexer.TokenSpan.{TokenSpan}
 use Rattle.mini_syntax.specs.Expected.{at_start, is_over, taken, takes}
 use Rattle.mini_syntax.specs.Faults.{AreFree, BreaksAt, BreaksFirst, EndsEarly, blocks, brackets, count_of, no_program, no_token, open_blocks, open_brackets, operators, too_many}
 use Rattle.mini_syntax.specs.Faults.{begins_expression, closes_block, closes_bracket, is_operator, opens_block, opens_bracket}
-use Rattle.mini_syntax.specs.Grammar.{GoesOn, IsProgram, Program}
-use Rattle.mini_syntax.specs.Judging.{counted, IsBelow, counts_of, is_over_limit, is_wrong, Judges, limit_of, tally}
-use Rattle.mini_syntax.specs.Judging as judging
-use Rattle.mini_syntax.specs.Lexemes.{token_seen}
+use Rattle.mini_syntax.specs.Grammar.{GoesOn, IsProgram, InfixProgram}
+use Rattle.mini_syntax.specs.Scaffold.Judging.{counted, IsBelow, counts_of, is_over_limit, is_wrong, Judges, limit_of, tally}
+use Rattle.mini_syntax.specs.Scaffold.Judging as judging
+use Rattle.mini_syntax.specs.Scaffold.Lexemes.{token_seen}
 use Rattle.mini_syntax.specs.Tokens.{Token, name_at, number_at, word_at, mark_at, wrong_at, kind_of, place_of, token_of, tokens, tokens_in, between}
-use Rattle.mini_syntax.specs.TokenSpans.{FindsToken, token_in}
+use Rattle.mini_syntax.specs.Scaffold.TokenSpans.{FindsToken, token_in}
 use Rattle.mini_syntax.proofs.ExpectedLaws.{end_of, not_taken, over_end, program_taken, taken_append}
 use Rattle.mini_syntax.proofs.GoesOnLaws.{goes_on, is_whole}
 use Rattle.mini_syntax.proofs.LimitLaws.{count_append, operators_append}
@@ -82,11 +82,6 @@ only before t e goes other (brackets u g o l) = record { which = inl (refl, inl 
 only before t e goes other (blocks u g o l) = record { which = inl (refl, inr (o, l)) }
 only before t e goes other (too_many u g o l) = record { which = inr (refl, o, l) }
 
-both : (p q : std.Bool) → (p && q) ≡ true → (p ≡ true) × (q ≡ true)
-both true true e = (refl, refl)
-both true false e = cc
-both false q e = cc
-
 full : (m n : ℕ) → nat_le (n + 40) m ≡ true → 40 ≤ m - n
 full m n e = let h : n + 40 ≤ m = leb-true (n + 40) m e in omega (arith, h)
 
@@ -127,13 +122,13 @@ module _ (before : List Token) (t : Token) (right : is_wrong (kind_of t) ≡ fal
           is_over_limit (opens_block (kind_of t)) (count_of opens_block before) (count_of closes_block before) ≡ y → is_over_limit (is_operator (kind_of t)) (operators before) 0 ≡ z →
           Verdict before t (cond x (Some 3) (cond y (Some 3) (cond z (Some 4) None)))
       pick true y z ex ey ez =
-          let h = both (opens_bracket (kind_of t)) (nat_le (count_of closes_bracket before + 40) (count_of opens_bracket before)) ex in
+          let h = and_parts (opens_bracket (kind_of t)) (nat_le (count_of closes_bracket before + 40) (count_of opens_bracket before)) ex in
           (brackets t goes h.0 (full (count_of opens_bracket before) (count_of closes_bracket before) h.1), λ other b. three_least before t other (only before t right goes other b))
       pick false true z ex ey ez =
-          let h = both (opens_block (kind_of t)) (nat_le (count_of closes_block before + 40) (count_of opens_block before)) ey in
+          let h = and_parts (opens_block (kind_of t)) (nat_le (count_of closes_block before + 40) (count_of opens_block before)) ey in
           (blocks t goes h.0 (full (count_of opens_block before) (count_of closes_block before) h.1), λ other b. three_least before t other (only before t right goes other b))
       pick false false true ex ey ez =
-          let h = both (is_operator (kind_of t)) (nat_le (0 + 40) (operators before)) ez in
+          let h = and_parts (is_operator (kind_of t)) (nat_le (0 + 40) (operators before)) ez in
           let le : 0 + 40 ≤ operators before = leb-true (0 + 40) (operators before) h.1 in
           (too_many t goes h.0 (omega (arith, le)), λ other b. let e : other ≡ 4 = (nothing_else ex ey other b).0 in omega (arith, e))
       pick false false false ex ey ez = λ rule b.
@@ -262,7 +257,7 @@ module _ (text : List ℕ) (at : ℕ) (ls : List Lexeme) (stack : List Expected)
   pub all_free : AreFree (tokens_in text)
   all_free = subst AreFree all_seen st.free
 
-  pub has_program : is_over (reverse stack) ≡ true → (p : Program) × IsProgram text p
+  pub has_program : is_over (reverse stack) ≡ true → (p : InfixProgram) × IsProgram text p
   has_program over = let w = is_whole (seen ls) (reverse stack) st.taken_is over in (w.0, sym all_seen ∙ sym w.1)
 
   pub ends_early : is_over (reverse stack) ≡ false → EndsEarly text 2 (length text)

@@ -1,12 +1,13 @@
 -- A program within the limits that breaks no rule can be lowered.
 use Rattle.std.proofs.Common.{◌≡◌, ℕ, zero, suc, ◌+◌, ◌^◌, ◌<◌, ◌≤◌, max, List, [], ◌∷◌, ◌++◌, map, length, bytes_eq, true, false, cond, Option, Some, None, is_none, is_some, option_map, refl, sym, ap, ap₂, subst, ◌∙◌, append_assoc, arith}
-use Rattle.std.specs.Prelude.{slice_get, ◌==◌, ◌&&◌, nat_lt}
+use Rattle.std.specs.Prelude.{slice_get, ◌==◌, ◌&&◌}
 use Rattle.std.specs.Prelude as std
 use Rattle.std.specs.List.{list_all}
 use Rattle.std.proofs.lemmas.Bool.{eqb-false, ltb-false}
 use Rattle.std.proofs.lemmas.List.{length-append}
 use Rattle.std.proofs.lemmas.Slice.Eq.{bytes_eq-Decides}
 use Rattle.stack_text.specs.Breaches.{when}
+use Rattle.stack_text.proofs.SharedLaws.{rule_holds, rule_fails}
 use Rattle.mini_syntax.specs.Breaches.{breaches, body_of, decl_breaches, decls_breaches, declared_by, declared_of, is_too_large, named_from, names_of, number_of, or_first, variable_named, sort_named, infix_breaches, prefix_breaches, same_sort, assigns_breaches, test_breaches}
 use Rattle.mini_syntax.specs.Breaches.{disjunction_breaches, conjunction_breaches, relation_breaches, sum_breaches, term_breaches, factor_breaches}
 use Rattle.mini_syntax.specs.Breaches.{disjunction_sort, conjunction_sort, relation_sort, sum_sort, term_sort, factor_sort}
@@ -22,16 +23,16 @@ use Rattle.mini_syntax.specs.declared.operator.Infix.{Infix}
 use Rattle.mini_syntax.specs.declared.operator.Infix.TheVariants as between
 use Rattle.mini_syntax.specs.Grammar.{Disjunction, conjunction, or, Conjunction, relation, and, Relation, sum, at_most, equals}
 use Rattle.mini_syntax.specs.Grammar.{Sum, term, add, subtract, Term, factor, multiply, Factor, variable, number, truth, not, minus, group}
-use Rattle.mini_syntax.specs.Grammar.{Form, assign, loop, branch, Block, block, Forms, no_forms, form, Decl, Program}
+use Rattle.mini_syntax.specs.Grammar.{Form, assign, loop, branch, Block, block, Forms, no_forms, form, Decl, InfixProgram}
 use Rattle.mini_syntax.specs.Operands.{prefix_takes, infix_takes, prefix_sort, infix_sort, sort_of}
-use Rattle.mini_syntax.specs.Language.{Exp, Stmt}
+use Rattle.mini_syntax.specs.Language.{Exp}
 use Rattle.mini_syntax.specs.Language as language
 use Rattle.mini_syntax.specs.Lawful.{AreApart, IsLawful, levels, part_count, nth_name}
-use Rattle.mini_syntax.specs.Limits.{disjunction_operators, conjunction_operators, relation_operators, sum_operators, term_operators, factor_operators}
-use Rattle.mini_syntax.specs.Limits.{form_blocks, block_blocks, forms_blocks, FormIsSmall, BlockIsSmall, FormsAreSmall, KeepsLimits}
+use Rattle.mini_syntax.specs.Scaffold.Limits.{disjunction_operators, conjunction_operators, relation_operators, sum_operators, term_operators, factor_operators}
+use Rattle.mini_syntax.specs.Scaffold.Limits.{form_blocks, block_blocks, forms_blocks, FormIsSmall, BlockIsSmall, FormsAreSmall, KeepsLimits}
 use Rattle.mini_syntax.specs.Names.{is_variable_name}
 use Rattle.mini_syntax.specs.Sorted.{depth, IsSorted, IsFine, AreFine}
-use Rattle.mini_syntax.proofs.EmptyLaws.{two, three, fails, holds}
+use Rattle.mini_syntax.proofs.EmptyLaws.{two, three}
 
 -- ---- how deep an expression is
 
@@ -126,13 +127,13 @@ variable_known ds name e =
 infix_known : (ds : List Declared) (place : ℕ) (op : Infix) (s t : Option Sort) (a b : Exp) → Known ds s a → Known ds t b → infix_breaches place op s t ≡ [] →
     Known ds (Some (infix_sort op)) (language.Between op a b)
 infix_known ds place op s t a b p r e = record {
-  sorted = (p.sorted, r.sorted, holds (infix_takes op (sort_of a) (sort_of b)) place 7 (sym (ap₂ (infix_breaches place op) p.sort r.sort) ∙ e));
+  sorted = (p.sorted, r.sorted, rule_holds (infix_takes op (sort_of a) (sort_of b)) place 7 (sym (ap₂ (infix_breaches place op) p.sort r.sort) ∙ e));
   sort = refl;
 }
 
 prefix_known : (ds : List Declared) (place : ℕ) (op : Prefix) (s : Option Sort) (a : Exp) → Known ds s a → prefix_breaches place op s ≡ [] → Known ds (Some (prefix_sort op)) (language.Before op a)
 prefix_known ds place op s a p e = record {
-  sorted = (p.sorted, holds (prefix_takes op (sort_of a)) place 7 (sym (ap (prefix_breaches place op) p.sort) ∙ e));
+  sorted = (p.sorted, rule_holds (prefix_takes op (sort_of a)) place 7 (sym (ap (prefix_breaches place op) p.sort) ∙ e));
   sort = refl;
 }
 
@@ -174,7 +175,7 @@ mutual
       infix_known ds place between.Multiply (term_sort ds t) (factor_sort ds f) (term_exp ds t) (factor_exp ds f) (term_known ds t k.0) (factor_known ds f k.1) k.2
 
   factor_known : (ds : List Declared) (f : Factor) → factor_breaches ds f ≡ [] → Known ds (factor_sort ds f) (factor_exp ds f)
-  factor_known ds (variable place name) h = variable_known ds name (fails (is_none (variable_named ds name)) place 6 h)
+  factor_known ds (variable place name) h = variable_known ds name (rule_fails (is_none (variable_named ds name)) place 6 h)
   factor_known ds (number place digits) h = record { sorted = small (is_too_large (number_of digits)) refl; sort = refl }
     where
       small : (b : std.Bool) → is_too_large (number_of digits) ≡ b → cond b 0 (number_of digits) < 2 ^ 31
@@ -207,17 +208,17 @@ fine_of ds e s clean small same = record {
 test_fine : (ds : List Declared) (place : ℕ) (e : Disjunction) → test_breaches place (disjunction_sort ds e) ≡ [] → disjunction_breaches ds e ≡ [] → disjunction_operators e ≤ 40 → IsFine (map (λ (d : Declared). d.sort) ds) Bool (disjunction_exp ds e)
 test_fine ds place e test clean small =
     fine_of ds e Bool clean small
-    (same_sorts (sort_of (disjunction_exp ds e)) Bool (holds (same_sort (sort_of (disjunction_exp ds e)) Bool) place 7 (sym (ap (test_breaches place) (disjunction_known ds e clean).sort) ∙ test)))
+    (same_sorts (sort_of (disjunction_exp ds e)) Bool (rule_holds (same_sort (sort_of (disjunction_exp ds e)) Bool) place 7 (sym (ap (test_breaches place) (disjunction_known ds e clean).sort) ∙ test)))
 
 mutual
   form_fine : (ds : List Declared) (f : Form) → form_breaches ds f ≡ [] → FormIsSmall f → AreFine (map (λ (d : Declared). d.sort) ds) (form_stmt ds f)
   form_fine ds (assign place name becomes e closing) h small =
       let k = three (when (is_none (variable_named ds name)) place 6) (disjunction_breaches ds e) (assigns_breaches becomes (sort_named ds name) (disjunction_sort ds e)) h in
-      let known = variable_known ds name (fails (is_none (variable_named ds name)) place 6 k.0) in
+      let known = variable_known ds name (rule_fails (is_none (variable_named ds name)) place 6 k.0) in
       let s = (or_first (variable_named ds name)).sort in
       let same : s ≡ sort_of (disjunction_exp ds e) =
       same_sorts s (sort_of (disjunction_exp ds e))
-      (holds (same_sort s (sort_of (disjunction_exp ds e))) becomes 7
+      (rule_holds (same_sort s (sort_of (disjunction_exp ds e))) becomes 7
       (sym (ap₂ (assigns_breaches becomes) known.sort (disjunction_known ds e k.1).sort) ∙ k.2)) in
       (known.sorted ∙ ap Some same, fine_of ds e (sort_of (disjunction_exp ds e)) k.1 small.0 refl)
   form_fine ds (loop place e b) h small =
@@ -258,7 +259,7 @@ few_declared earlier [] le h = omega arith
 few_declared earlier (d ∷ ds) le h =
     let k = two (decl_breaches earlier d) (decls_breaches (earlier ++ declared_by d ∷ []) ds) h in
     let l = two (when (is_some (variable_named earlier d.name)) d.place 5) (when (length earlier == 100) d.place 9) k.0 in
-    let differs = eqb-false (length earlier) 100 (fails (length earlier == 100) d.place 9 l.1) in
+    let differs = eqb-false (length earlier) 100 (rule_fails (length earlier == 100) d.place 9 l.1) in
     let longer = length-append earlier (declared_by d ∷ []) in
     let rest = few_declared (earlier ++ declared_by d ∷ []) ds (omega (arith, differs, longer)) k.1 in
     omega (arith, rest, longer)
@@ -284,7 +285,7 @@ new_names front d back [] h i lt = absurd (omega arith)
 new_names front d back (e ∷ ds) h zero lt =
     let k = two (decl_breaches (front ++ d ∷ back) e) (decls_breaches ((front ++ d ∷ back) ++ declared_by e ∷ []) ds) h in
     let l = two (when (is_some (variable_named (front ++ d ∷ back) e.name)) e.place 5) (when (length (front ++ d ∷ back) == 100) e.place 9) k.0 in
-    none_named 0 front d back e.name (fails (is_some (variable_named (front ++ d ∷ back) e.name)) e.place 5 l.0)
+    none_named 0 front d back e.name (rule_fails (is_some (variable_named (front ++ d ∷ back) e.name)) e.place 5 l.0)
 new_names front d back (e ∷ ds) h (suc i) lt =
     let k = two (decl_breaches (front ++ d ∷ back) e) (decls_breaches ((front ++ d ∷ back) ++ declared_by e ∷ []) ds) h in
     let moved : (front ++ d ∷ back) ++ declared_by e ∷ [] ≡ front ++ d ∷ (back ++ declared_by e ∷ []) = append_assoc front (d ∷ back) (declared_by e ∷ []) in
@@ -313,7 +314,7 @@ declared_count : (ds : List Decl) → length (map declared_by ds) ≡ length ds
 declared_count [] = refl
 declared_count (d ∷ ds) = ap suc (declared_count ds)
 
-pub rules_make_lawful : (p : Program) → KeepsLimits p → breaches p ≡ [] → part_count (body_of p) ≤ 2 ^ 20 → IsLawful (declared_of p) (body_of p)
+pub rules_make_lawful : (p : InfixProgram) → KeepsLimits p → breaches p ≡ [] → part_count (body_of p) ≤ 2 ^ 20 → IsLawful (declared_of p) (body_of p)
 rules_make_lawful p limits clean short =
     let k = two (decls_breaches [] p.decls) (forms_breaches (declared_of p) p.forms) clean in
     record {

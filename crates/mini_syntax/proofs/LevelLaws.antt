@@ -9,14 +9,14 @@ use Rattle.mini_syntax.specs.declared.lexer.TokenKind.{TokenKind}
 use Rattle.mini_syntax.specs.declared.operator.Infix.{Infix}
 use Rattle.mini_syntax.specs.declared.program.Declared.{Declared}
 use Rattle.mini_syntax.specs.declared.typed.Typed.{Typed}
-use Rattle.mini_syntax.specs.Combined.{IsInfix}
+use Rattle.mini_syntax.specs.Scaffold.Combined.{IsInfix}
 use Rattle.mini_syntax.specs.Expected.{expression, takes}
 use Rattle.mini_syntax.specs.Grammar.{conjunction, relation, sum, term, factor}
 use Rattle.mini_syntax.specs.Grammar.{conjunction_tokens, factor_tokens, relation_tokens, sum_tokens, term_tokens}
-use Rattle.mini_syntax.specs.Lexemes.{next_kind, token_seen}
-use Rattle.mini_syntax.specs.Phrases.{Awaits, Completes, Reads, Syntax, is_open, is_open_at, is_open_in, more_after}
-use Rattle.mini_syntax.specs.Phrases.{conjunctions, disjunctions, factors, relations, sums, terms}
-use Rattle.mini_syntax.specs.Phrases.{conjunction_operator, disjunction_operator, relation_operator, sum_operator, term_operator}
+use Rattle.mini_syntax.specs.Scaffold.Lexemes.{next_kind, token_seen}
+use Rattle.mini_syntax.specs.Scaffold.Phrases.{Awaits, Completes, Reads, Syntax, is_open, is_open_at, is_open_in, more_after}
+use Rattle.mini_syntax.specs.Scaffold.Phrases.{conjunctions, disjunctions, factors, relations, sums, terms}
+use Rattle.mini_syntax.specs.Scaffold.Phrases.{conjunction_operator, disjunction_operator, relation_operator, sum_operator, term_operator}
 use Rattle.mini_syntax.specs.Tokens.{Token}
 use Rattle.mini_syntax.proofs.AwaitLaws.{moved, no_relation, stepped, conjunction_goes_on, disjunction_goes_on, relation_goes_on, sum_goes_on, term_goes_on}
 use Rattle.mini_syntax.proofs.ExpectedLaws.{Leads, conjunction_leads, factor_leads, relation_leads, sum_leads, term_leads}

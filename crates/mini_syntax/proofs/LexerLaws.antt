@@ -1,21 +1,22 @@
 -- One byte of a text after the other.
-use Rattle.std.proofs.Common.{◌≡◌, ℕ, ◌+◌, ◌-◌, ◌<◌, ◌≤◌, List, [], ◌∷◌, ◌++◌, length, get_or, take, drop, ⊎_elim, true, false, cond, Option, Some, None, refl, sym, ap, subst, ◌∙◌, append_assoc, arith}
-use Rattle.std.specs.Prelude.{nat_le, ◌==◌, ◌||◌}
+use Rattle.std.proofs.Common.{◌≡◌, ℕ, ◌+◌, ◌-◌, ◌<◌, ◌≤◌, List, [], ◌∷◌, ◌++◌, length, get_or, drop, ⊎_elim, true, false, cond, Option, Some, None, refl, sym, ap, subst, ◌∙◌, append_assoc, arith}
+use Rattle.std.specs.Prelude.{◌==◌, ◌||◌}
 use Rattle.std.specs.Prelude as std
 use Rattle.std.specs.Char.{is_ascii_alphabetic, is_ascii_digit}
 use Rattle.std.specs.Int.{is_in_range}
 use Rattle.std.specs.List.{slice_range}
 use Rattle.std.proofs.lemmas.Bool.{cases_lt, eqb-true}
-use Rattle.std.proofs.lemmas.List.{drop_more, drop_all, take_more, get_or-drop, length-drop, length-take, append-nil}
+use Rattle.std.proofs.lemmas.List.{drop_more, drop_all, length-take, append-nil}
+use Rattle.stack_text.proofs.TokenLaws.{slice_range-more}
 use Rattle.mini_syntax.specs.declared.lexer.Run.{Run}
 use Rattle.mini_syntax.specs.declared.lexer.Run.TheVariants as runs
 use Rattle.mini_syntax.specs.declared.lexer.TokenKind.TheVariants as kind
 use Rattle.mini_syntax.specs.declared.lexer.TokenSpan.{TokenSpan}
 use Rattle.mini_syntax.specs.declared.mark.Mark.{Mark}
 use Rattle.mini_syntax.specs.Names.{is_word_byte}
-use Rattle.mini_syntax.specs.Tokens.{Token, number_at, mark_at, wrong_at, Mode, after_fresh, begins, fresh, is_blank, is_pair, mark_of, mark_token, next, run_of, second_is, token_of, tokens, tokens_in, word_kind, word_token}
+use Rattle.mini_syntax.specs.Tokens.{Token, number_at, mark_at, Mode, after_fresh, begins, fresh, is_blank, is_pair, mark_of, mark_token, next, longest_run, tokens, word_kind, word_token}
 use Rattle.mini_syntax.specs.Tokens as mode
-use Rattle.mini_syntax.specs.TokenSpans.{FindsToken, run_mode, run_test}
+use Rattle.mini_syntax.specs.Scaffold.TokenSpans.{FindsToken, run_mode, run_test}
 use Rattle.mini_syntax.proofs.SpanLaws.{no_pair}
 
 -- ---- one byte
@@ -30,33 +31,26 @@ unfolding tokens
 tokens_past m text at le = rw (drop_all at text le) refl
 
 pub run_step : (test : ℕ → std.Bool) (text : List ℕ) (at : ℕ) → at < length text →
-    run_of test (drop at text) ≡ cond (test (get_or text at 0)) (get_or text at 0 ∷ run_of test (drop (at + 1) text)) []
+    longest_run test (drop at text) ≡ cond (test (get_or text at 0)) (get_or text at 0 ∷ longest_run test (drop (at + 1) text)) []
 run_step test text at lt = rw (drop_more text at 0 lt) refl
 
-pub run_past : (test : ℕ → std.Bool) (text : List ℕ) (at : ℕ) → length text ≤ at → run_of test (drop at text) ≡ []
+pub run_past : (test : ℕ → std.Bool) (text : List ℕ) (at : ℕ) → length text ≤ at → longest_run test (drop at text) ≡ []
 run_past test text at le = rw (drop_all at text le) refl
-
-slice_range-more : (text : List ℕ) (from at : ℕ) → from ≤ at → at < length text → slice_range text from (at + 1) ≡ slice_range text from at ++ get_or text at 0 ∷ []
-slice_range-more text from at le lt =
-    let one : (at + 1) - from ≡ (at - from) + 1 = omega arith in
-    let there : from + (at - from) ≡ at = omega arith in
-    let more = take_more (drop from text) (at - from) 0 (omega (arith, length-drop from text)) in
-    rw one (more ∙ ap (λ (b : ℕ). take (at - from) (drop from text) ++ b ∷ []) (get_or-drop from text (at - from) 0 ∙ ap (λ (i : ℕ). get_or text i 0) there))
 
 -- ---- runs
 
 pub run_goes_on : (test : ℕ → std.Bool) (text : List ℕ) (from at : ℕ) → from ≤ at → at < length text → test (get_or text at 0) ≡ true →
-    slice_range text from at ++ run_of test (drop at text) ≡ slice_range text from (at + 1) ++ run_of test (drop (at + 1) text)
+    slice_range text from at ++ longest_run test (drop at text) ≡ slice_range text from (at + 1) ++ longest_run test (drop (at + 1) text)
 run_goes_on test text from at le lt e =
-    ap (λ (r : List ℕ). slice_range text from at ++ r) (run_step test text at lt ∙ ap (λ (c : std.Bool). cond c (get_or text at 0 ∷ run_of test (drop (at + 1) text)) []) e)
-    ∙ sym (append_assoc (slice_range text from at) (get_or text at 0 ∷ []) (run_of test (drop (at + 1) text)))
-    ∙ ap (λ (r : List ℕ). r ++ run_of test (drop (at + 1) text)) (sym (slice_range-more text from at le lt))
+    ap (λ (r : List ℕ). slice_range text from at ++ r) (run_step test text at lt ∙ ap (λ (c : std.Bool). cond c (get_or text at 0 ∷ longest_run test (drop (at + 1) text)) []) e)
+    ∙ sym (append_assoc (slice_range text from at) (get_or text at 0 ∷ []) (longest_run test (drop (at + 1) text)))
+    ∙ ap (λ (r : List ℕ). r ++ longest_run test (drop (at + 1) text)) (sym (slice_range-more text from at le lt))
 
-pub run_over : (test : ℕ → std.Bool) (text : List ℕ) (at : ℕ) → at < length text → test (get_or text at 0) ≡ false → run_of test (drop at text) ≡ []
-run_over test text at lt e = run_step test text at lt ∙ ap (λ (c : std.Bool). cond c (get_or text at 0 ∷ run_of test (drop (at + 1) text)) []) e
+pub run_over : (test : ℕ → std.Bool) (text : List ℕ) (at : ℕ) → at < length text → test (get_or text at 0) ≡ false → longest_run test (drop at text) ≡ []
+run_over test text at lt e = run_step test text at lt ∙ ap (λ (c : std.Bool). cond c (get_or text at 0 ∷ longest_run test (drop (at + 1) text)) []) e
 
-pub run_ends : (test : ℕ → std.Bool) (text : List ℕ) (from at : ℕ) → run_of test (drop from text) ≡ slice_range text from at ++ run_of test (drop at text) → run_of test (drop at text) ≡ [] →
-    slice_range text from at ≡ run_of test (drop from text)
+pub run_ends : (test : ℕ → std.Bool) (text : List ℕ) (from at : ℕ) → longest_run test (drop from text) ≡ slice_range text from at ++ longest_run test (drop at text) → longest_run test (drop at text) ≡ [] →
+    slice_range text from at ≡ longest_run test (drop from text)
 run_ends test text from at is over = sym (is ∙ ap (λ (r : List ℕ). slice_range text from at ++ r) over ∙ append-nil (slice_range text from at))
 
 pub mode_goes_on : (run : Run) (text : List ℕ) (at : ℕ) → at < length text → run_test run (get_or text at 0) ≡ true →
@@ -110,7 +104,7 @@ blank text at lt e = tokens_step mode.between text at lt ∙ skips (get_or text 
 -- a byte's token, where it isn't blank, by what the byte is
 abbrev pub begun : (blank letter digit : std.Bool) (at byte : ℕ) (rest : List ℕ) → List Token
 begun blank letter digit at byte rest =
-    cond blank [] (cond letter (word_token at (run_of is_word_byte (byte ∷ rest)) ∷ []) (cond digit (number_at at (run_of is_ascii_digit (byte ∷ rest)) ∷ []) (mark_token at (mark_of byte rest) ∷ []))) ++
+    cond blank [] (cond letter (word_token at (longest_run is_word_byte (byte ∷ rest)) ∷ []) (cond digit (number_at at (longest_run is_ascii_digit (byte ∷ rest)) ∷ []) (mark_token at (mark_of byte rest) ∷ []))) ++
     tokens (cond letter mode.in_word (cond digit mode.in_number (cond (is_pair (mark_of byte rest)) mode.in_pair mode.between))) (at + 1) rest
 
 pub begins_with : (text : List ℕ) (at : ℕ) (a b c : std.Bool) → at < length text → is_blank (get_or text at 0) ≡ a → is_ascii_alphabetic (get_or text at 0) ≡ b →
@@ -130,14 +124,14 @@ letter_goes_on b e = pick (is_in_range 48 57 b) (is_in_range 65 90 b) (is_in_ran
     pick false false true e = refl
     pick false false false e = cc
 
-run_is_long : (test : ℕ → std.Bool) (text : List ℕ) (at to : ℕ) → at < length text → test (get_or text at 0) ≡ true → slice_range text at to ≡ run_of test (drop at text) → at < to
+run_is_long : (test : ℕ → std.Bool) (text : List ℕ) (at to : ℕ) → at < length text → test (get_or text at 0) ≡ true → slice_range text at to ≡ longest_run test (drop at text) → at < to
 run_is_long test text at to lt e is =
-    let long = ap length (is ∙ run_step test text at lt ∙ ap (λ (c : std.Bool). cond c (get_or text at 0 ∷ run_of test (drop (at + 1) text)) []) e) in
+    let long = ap length (is ∙ run_step test text at lt ∙ ap (λ (c : std.Bool). cond c (get_or text at 0 ∷ longest_run test (drop (at + 1) text)) []) e) in
     omega (arith, long, length-take (to - at) (drop at text))
 
 -- a word that ends at a place
 pub word_found : (text : List ℕ) (at to : ℕ) → at < length text → is_blank (get_or text at 0) ≡ false → is_ascii_alphabetic (get_or text at 0) ≡ true → at ≤ to → to ≤ length text →
-    slice_range text at to ≡ run_of is_word_byte (drop at text) → tokens mode.in_word at (drop at text) ≡ tokens mode.between to (drop to text) →
+    slice_range text at to ≡ longest_run is_word_byte (drop at text) → tokens mode.in_word at (drop at text) ≡ tokens mode.between to (drop to text) →
     FindsToken text at (record { kind = word_kind (slice_range text at to); start = at; «end» = to })
 word_found text at to lt visible letter le within is rest =
     let more = letter_goes_on (get_or text at 0) letter in
@@ -151,7 +145,7 @@ word_found text at to lt visible letter le within is rest =
 
 -- a number
 pub number_found : (text : List ℕ) (at to : ℕ) → at < length text → is_blank (get_or text at 0) ≡ false → is_ascii_alphabetic (get_or text at 0) ≡ false → is_ascii_digit (get_or text at 0) ≡ true →
-    at ≤ to → to ≤ length text → slice_range text at to ≡ run_of is_ascii_digit (drop at text) → tokens mode.in_number at (drop at text) ≡ tokens mode.between to (drop to text) →
+    at ≤ to → to ≤ length text → slice_range text at to ≡ longest_run is_ascii_digit (drop at text) → tokens mode.in_number at (drop at text) ≡ tokens mode.between to (drop to text) →
     FindsToken text at (record { kind = kind.Number; start = at; «end» = to })
 number_found text at to lt visible letter digit le within is rest =
     record {

@@ -14,12 +14,12 @@ use Rattle.mini_syntax.specs.declared.word.Word.TheVariants as word
 use Rattle.mini_syntax.specs.Faults.{AreFree, blocks, brackets, too_many, begins_expression, closes_block, closes_bracket, count_of, is_operator, open_blocks, open_brackets, operators, operators_from, opens_block, opens_bracket}
 use Rattle.mini_syntax.specs.Grammar.{Disjunction, conjunction, or, Conjunction, relation, and, Relation, sum, at_most, equals}
 use Rattle.mini_syntax.specs.Grammar.{Sum, term, add, subtract, Term, factor, multiply, Factor, variable, number, truth, not, minus, group}
-use Rattle.mini_syntax.specs.Grammar.{Form, assign, loop, branch, Block, block, Forms, no_forms, form, Decl, Program, GoesOn, IsProgram}
+use Rattle.mini_syntax.specs.Grammar.{Form, assign, loop, branch, Block, block, Forms, no_forms, form, Decl, InfixProgram, GoesOn, IsProgram}
 use Rattle.mini_syntax.specs.Grammar.{disjunction_tokens, conjunction_tokens, relation_tokens, sum_tokens, term_tokens, factor_tokens}
 use Rattle.mini_syntax.specs.Grammar.{form_tokens, block_tokens, forms_tokens, decl_tokens, decls_tokens, program_tokens}
-use Rattle.mini_syntax.specs.Limits.{disjunction_operators, conjunction_operators, relation_operators, sum_operators, term_operators, factor_operators}
-use Rattle.mini_syntax.specs.Limits.{disjunction_brackets, conjunction_brackets, relation_brackets, sum_brackets, term_brackets, factor_brackets}
-use Rattle.mini_syntax.specs.Limits.{form_blocks, block_blocks, forms_blocks, IsSmall, FormIsSmall, BlockIsSmall, FormsAreSmall}
+use Rattle.mini_syntax.specs.Scaffold.Limits.{disjunction_operators, conjunction_operators, relation_operators, sum_operators, term_operators, factor_operators}
+use Rattle.mini_syntax.specs.Scaffold.Limits.{disjunction_brackets, conjunction_brackets, relation_brackets, sum_brackets, term_brackets, factor_brackets}
+use Rattle.mini_syntax.specs.Scaffold.Limits.{form_blocks, block_blocks, forms_blocks, IsSmall, FormIsSmall, BlockIsSmall, FormsAreSmall}
 use Rattle.mini_syntax.specs.Tokens.{Token, name_at, word_at, mark_at, kind_of, tokens_in}
 use Rattle.mini_syntax.proofs.SpanLaws.{IsShort, text_is_lawful}
 
@@ -34,7 +34,7 @@ abbrev Keeps : List Token → List Token → Type 0
 Keeps before [] = Unit {0}
 Keeps before (t ∷ ts) = Fits before t × Keeps (before ++ t ∷ []) ts
 
-fits_at : (p : Program) (before : List Token) (t : Token) (after : List Token) → AreFree (program_tokens p) → program_tokens p ≡ before ++ t ∷ after → Fits before t
+fits_at : (p : InfixProgram) (before : List Token) (t : Token) (after : List Token) → AreFree (program_tokens p) → program_tokens p ≡ before ++ t ∷ after → Fits before t
 fits_at p before t after free is = record {
   bracket = λ h. ⊎_elim (λ lt. lt) (λ le. absurd (free before t after 3 is (brackets t goes h le))) (cases_lt (open_brackets before) 40);
   block = λ h. ⊎_elim (λ lt. lt) (λ le. absurd (free before t after 3 is (blocks t goes h le))) (cases_lt (open_blocks before) 40);
@@ -44,7 +44,7 @@ fits_at p before t after free is = record {
     goes : GoesOn (before ++ t ∷ [])
     goes = (p, after, is ∙ sym (append_assoc before (t ∷ []) after))
 
-keeps_all : (p : Program) (before ts : List Token) → AreFree (program_tokens p) → program_tokens p ≡ before ++ ts → Keeps before ts
+keeps_all : (p : InfixProgram) (before ts : List Token) → AreFree (program_tokens p) → program_tokens p ≡ before ++ ts → Keeps before ts
 keeps_all p before [] free is = tt
 keeps_all p before (t ∷ ts) free is = (fits_at p before t ts free is, keeps_all p (before ++ t ∷ []) ts free (is ∙ sym (append_assoc before (t ∷ []) ts)))
 
@@ -387,11 +387,11 @@ decls_closed [] = record { brackets = refl; blocks = refl }
 decls_closed (d ∷ ds) =
     closed_append (decl_tokens d) (decls_tokens ds) record { brackets = refl; blocks = refl } (decls_closed ds)
 
-pub record IsWithin (p : Program) : Type 0 where
+pub record IsWithin (p : InfixProgram) : Type 0 where
   pub small : FormsAreSmall p.forms
   pub blocks : forms_blocks p.forms ≤ 40
 
-pub free_within : (p : Program) → AreFree (program_tokens p) → IsWithin p
+pub free_within : (p : InfixProgram) → AreFree (program_tokens p) → IsWithin p
 free_within p free =
     let parts = keeps_parts [] (decls_tokens p.decls) (forms_tokens p.forms) (keeps_all p [] (program_tokens p) free refl) in
     let closed = decls_closed p.decls in
@@ -399,7 +399,7 @@ free_within p free =
     record { small = w.small; blocks = omega (arith, w.blocks) }
 
 -- a text of which no token breaks a rule, and whose program breaks none
-pub free_is_lawful : (text : List ℕ) (p : Program) → IsProgram text p → length text ≤ 2 ^ 20 → AreFree (tokens_in text) → breaches p ≡ [] → IsShort text p
+pub free_is_lawful : (text : List ℕ) (p : InfixProgram) → IsProgram text p → length text ≤ 2 ^ 20 → AreFree (tokens_in text) → breaches p ≡ [] → IsShort text p
 free_is_lawful text p is few free clean =
     let within = free_within p (subst AreFree is free) in
     text_is_lawful text p is few within.small within.blocks clean

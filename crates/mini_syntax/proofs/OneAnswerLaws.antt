@@ -2,9 +2,9 @@
 use Rattle.std.proofs.Common.{◌≡◌, ℕ, List, Some, None, sym, ap, ◌∙◌}
 use Rattle.stack_text.specs.declared.breach.Breach.{Breach}
 use Rattle.stack_text.specs.Breaches.{least}
-use Rattle.mini_syntax.specs.Answers.{IsFault, of_tokens, of_program, IsFaultless}
+use Rattle.mini_syntax.specs.MiniReading.{IsFault, of_tokens, of_program, IsFaultless}
 use Rattle.mini_syntax.specs.Breaches.{breaches}
-use Rattle.mini_syntax.specs.Grammar.{Program}
+use Rattle.mini_syntax.specs.Grammar.{InfixProgram}
 use Rattle.mini_syntax.proofs.OneFaultLaws.{none, one}
 use Rattle.mini_syntax.proofs.OneProgramLaws.{program_is}
 
@@ -14,14 +14,14 @@ one_fault text rule place other there (of_tokens f) (of_program q read least_is)
 one_fault text rule place other there (of_program p read least_is) (of_tokens g) = absurd (none text other there p read.free read.program g)
 one_fault text rule place other there (of_program p read least_is) (of_program q read' least_is') =
     let same : p ≡ q = program_is text p q read.program read'.program in
-    let both : Some record { place = place; rule = rule } ≡ Some record { place = there; rule = other } = sym least_is ∙ ap (λ (x : Program). least (breaches x)) same ∙ least_is' in
+    let both : Some record { place = place; rule = rule } ≡ Some record { place = there; rule = other } = sym least_is ∙ ap (λ (x : InfixProgram). least (breaches x)) same ∙ least_is' in
     let breach : record { place = place; rule = rule } ≡ record { place = there; rule = other } = cc in
     (ap (λ (b : Breach). b.rule) breach, ap (λ (b : Breach). b.place) breach)
 
-pub either_way : (text : List ℕ) (rule place : ℕ) (q : Program) → IsFault text rule place → IsFaultless text q → ⊥
+pub either_way : (text : List ℕ) (rule place : ℕ) (q : InfixProgram) → IsFault text rule place → IsFaultless text q → ⊥
 either_way text rule place q (of_tokens f) a = none text rule place q a.read.free a.read.program f
 either_way text rule place q (of_program p read least_is) a =
     let same : p ≡ q = program_is text p q read.program a.read.program in
-    let clean : least (breaches p) ≡ None = ap (λ (x : Program). least (breaches x)) same ∙ ap least a.clean in
+    let clean : least (breaches p) ≡ None = ap (λ (x : InfixProgram). least (breaches x)) same ∙ ap least a.clean in
     let both = sym least_is ∙ clean in
     cc

@@ -1,7 +1,7 @@
 -- A text has at most one fault of its tokens, and none where it is a program's whose tokens break no rule.
 use Rattle.std.proofs.Common.{◌≡◌, inl, inr, ℕ, ◌≤◌, List, [], ◌∷◌, ◌++◌, refl, sym, ap, subst, ◌∙◌, arith}
 use Rattle.mini_syntax.specs.Faults.{AreFree, BreaksAt, BreaksFirst, IsTextFault}
-use Rattle.mini_syntax.specs.Grammar.{IsProgram, Program}
+use Rattle.mini_syntax.specs.Grammar.{IsProgram, InfixProgram}
 use Rattle.mini_syntax.specs.Tokens.{Token, place_of, tokens_in}
 
 -- two tokens of one list are the same, or one of them comes first
@@ -45,6 +45,6 @@ module _ (text : List ℕ) where
   one r p s q (inr f) (inl g) = absurd (broken s q g f.free)
   one r p s q (inr f) (inr g) = (f.rule_is ∙ sym g.rule_is, f.at ∙ sym g.at)
 
-  pub none : (r p : ℕ) (q : Program) → AreFree (tokens_in text) → IsProgram text q → IsTextFault text r p → ⊥
+  pub none : (r p : ℕ) (q : InfixProgram) → AreFree (tokens_in text) → IsProgram text q → IsTextFault text r p → ⊥
   none r p q free is (inl f) = broken r p f free
   none r p q free is (inr f) = f.no_program q is

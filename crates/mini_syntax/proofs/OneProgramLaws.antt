@@ -9,10 +9,10 @@ use Rattle.mini_syntax.specs.declared.mark.Mark.TheVariants as mark
 use Rattle.mini_syntax.specs.declared.word.Word.TheVariants as word
 use Rattle.mini_syntax.specs.Grammar.{Disjunction, conjunction, or, Conjunction, relation, and, Relation, sum, at_most, equals}
 use Rattle.mini_syntax.specs.Grammar.{Sum, term, add, subtract, Term, factor, multiply, Factor, variable, number, truth, not, minus, group}
-use Rattle.mini_syntax.specs.Grammar.{Form, assign, loop, branch, Block, block, Forms, no_forms, form, Decl, Program, IsProgram}
+use Rattle.mini_syntax.specs.Grammar.{Form, assign, loop, branch, Block, block, Forms, no_forms, form, Decl, InfixProgram, IsProgram}
 use Rattle.mini_syntax.specs.Grammar.{disjunction_tokens, conjunction_tokens, relation_tokens, sum_tokens, term_tokens, factor_tokens}
 use Rattle.mini_syntax.specs.Grammar.{form_tokens, block_tokens, forms_tokens, decls_tokens, program_tokens}
-use Rattle.mini_syntax.specs.Lexemes.{next_kind}
+use Rattle.mini_syntax.specs.Scaffold.Lexemes.{next_kind}
 use Rattle.mini_syntax.specs.Tokens.{Token, name_at, number_at, word_at, mark_at}
 
 -- ---- what stands before
@@ -435,7 +435,7 @@ none_declares (form (assign p n b e q) fs) = refl
 none_declares (form (loop p e b) fs) = refl
 none_declares (form (branch p e b l c) fs) = refl
 
-program_same : (p q : Program) → program_tokens p ≡ program_tokens q → p ≡ q
+program_same : (p q : InfixProgram) → program_tokens p ≡ program_tokens q → p ≡ q
 program_same p q is =
     let h = decls_same p.decls q.decls (forms_tokens p.forms) (forms_tokens q.forms) (none_declares p.forms) (none_declares q.forms) is in
     let k = forms_same p.forms q.forms [] [] at_end at_end (append-nil (forms_tokens p.forms) ∙ h.rest ∙ sym (append-nil (forms_tokens q.forms))) in
@@ -443,5 +443,5 @@ program_same p q is =
     let same_forms : p.forms ≡ q.forms = k.tree in
     λ i. record { decls = same_decls i; forms = same_forms i }
 
-pub program_is : (text : List ℕ) (p q : Program) → IsProgram text p → IsProgram text q → p ≡ q
+pub program_is : (text : List ℕ) (p q : InfixProgram) → IsProgram text p → IsProgram text q → p ≡ q
 program_is text p q a b = program_same p q (sym a ∙ b)

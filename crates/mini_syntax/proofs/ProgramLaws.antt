@@ -4,9 +4,9 @@ use Rattle.std.proofs.lemmas.List.{append-nil, length-map}
 use Rattle.stack_text.specs.declared.breach.Breach.{Breach}
 use Rattle.stack_text.specs.Breaches.{least, lesser_of}
 use Rattle.stack_text.proofs.BreachLaws.{none_least, notes_more}
-use Rattle.mini_syntax.specs.Answers.{IsFault, IsRead, ReadsText, RefusesText, of_program, of_tokens}
+use Rattle.mini_syntax.specs.MiniReading.{IsFault, IsRead, ReadsText, RefusesText, of_program, of_tokens}
 use Rattle.mini_syntax.specs.Breaches.{body_of, breaches, declared_of, decls_breaches, forms_breaches, forms_stmt}
-use Rattle.mini_syntax.specs.Declaring.{ReadsDecls, ReadsProgram, are_proper}
+use Rattle.mini_syntax.specs.Scaffold.Declaring.{ReadsDecls, ReadsProgram, are_proper}
 use Rattle.mini_syntax.specs.declared.fault.MiniFault.{MiniFault}
 use Rattle.mini_syntax.specs.declared.fault.MiniFault.TheVariants.{Memory, Refused}
 use Rattle.mini_syntax.specs.declared.lexeme.Lexeme.{Lexeme}
@@ -14,18 +14,18 @@ use Rattle.mini_syntax.specs.declared.program.Declared.{Declared}
 use Rattle.mini_syntax.specs.declared.program.Statement.{Statement}
 use Rattle.mini_syntax.specs.declared.reading.Reading.{Reading}
 use Rattle.mini_syntax.specs.Faults.{AreFree}
-use Rattle.mini_syntax.specs.Grammar.{IsProgram, Program, decls_tokens, forms_tokens, program_tokens}
-use Rattle.mini_syntax.specs.Judging.{Refuses}
-use Rattle.mini_syntax.specs.Lexemes.{token_seen}
-use Rattle.mini_syntax.specs.Phrases.{ReadsForms}
-use Rattle.mini_syntax.specs.ProgramView.{block_in}
+use Rattle.mini_syntax.specs.Grammar.{IsProgram, InfixProgram, decls_tokens, forms_tokens, program_tokens}
+use Rattle.mini_syntax.specs.Scaffold.Judging.{Refuses}
+use Rattle.mini_syntax.specs.Scaffold.Lexemes.{token_seen}
+use Rattle.mini_syntax.specs.Scaffold.Phrases.{ReadsForms}
+use Rattle.mini_syntax.specs.Seen.ProgramView.{block_in}
 use Rattle.mini_syntax.specs.Tokens.{Token, between, tokens_in}
 use Rattle.mini_syntax.proofs.LimitLaws.{free_is_lawful}
 use Rattle.mini_syntax.proofs.SpanLaws.{all_good, tokens_few}
 
 -- declarations and statements are a program where no token is left
 pub record WholeRead (ts : List Token) (ds : List Declared) (body : List Statement) (breach : Option Breach) : Type 0 where
-  pub tree : Program
+  pub tree : InfixProgram
   pub tokens_are : ts ≡ program_tokens tree
   pub declared : ds ≡ declared_of tree
   pub means : block_in body ≡ body_of tree

@@ -7,7 +7,7 @@ use Rattle.stack_text.specs.declared.breach.Breach.{Breach}
 use Rattle.stack_text.specs.Breaches.{Notes, least, lesser_of, when}
 use Rattle.stack_text.proofs.BreachLaws.{notes_more, notes_none}
 use Rattle.mini_syntax.specs.Breaches.{assigns_breaches, block_breaches, block_stmt, declared_by, decl_breaches, decls_breaches, disjunction_breaches, disjunction_exp, disjunction_sort, form_breaches, form_stmt, forms_breaches, forms_stmt, or_first, sort_named, test_breaches, variable_named}
-use Rattle.mini_syntax.specs.Declaring.{ReadsDecl, ReadsDecls}
+use Rattle.mini_syntax.specs.Scaffold.Declaring.{ReadsDecl, ReadsDecls}
 use Rattle.mini_syntax.specs.declared.expected.Expected.{Expected}
 use Rattle.mini_syntax.specs.declared.expected.Expected.TheVariants as wants
 use Rattle.mini_syntax.specs.declared.lexeme.Lexeme.{Lexeme}
@@ -25,9 +25,9 @@ use Rattle.mini_syntax.specs.Grammar.{Factor, Form, assign, loop, branch, block,
 use Rattle.mini_syntax.specs.Grammar.{block_tokens, decl_tokens, decls_tokens, disjunction_tokens, factor_tokens, form_tokens, forms_tokens}
 use Rattle.mini_syntax.specs.Language.{Exp, Stmt, Nothing, Then}
 use Rattle.mini_syntax.specs.Language as language
-use Rattle.mini_syntax.specs.Lexemes.{token_seen}
-use Rattle.mini_syntax.specs.Phrases.{Completes, IsTyped, Reads, ReadsBlock, ReadsForm, ReadsForms, disjunctions, factors, is_open_at, more_after}
-use Rattle.mini_syntax.specs.ProgramView.{block_in, exp_of, statement_in}
+use Rattle.mini_syntax.specs.Scaffold.Lexemes.{token_seen}
+use Rattle.mini_syntax.specs.Scaffold.Phrases.{Completes, IsTyped, Reads, ReadsBlock, ReadsForm, ReadsForms, disjunctions, factors, is_open_at, more_after}
+use Rattle.mini_syntax.specs.Seen.ProgramView.{block_in, exp_of, statement_in}
 use Rattle.mini_syntax.specs.Tokens.{Token, name_at, word_at, mark_at, kind_of, token_of}
 use Rattle.mini_syntax.proofs.AwaitLaws.{moved}
 use Rattle.mini_syntax.proofs.ExpectedLaws.{disjunction_leads}

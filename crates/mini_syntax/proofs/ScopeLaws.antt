@@ -8,7 +8,7 @@ use Rattle.indexmap.specs.IndexMap.{insert_entry}
 use Rattle.mini_syntax.specs.Breaches.{named_from, variable_named}
 use Rattle.mini_syntax.specs.declared.program.Declared.{Declared}
 use Rattle.mini_syntax.specs.declared.scope.Variable.{Variable}
-use Rattle.mini_syntax.specs.Scopes.{first_or}
+use Rattle.stack_text.specs.Options.{first_or}
 
 abbrev Key : Type 0
 Key = Bor (List ℕ)
@@ -52,14 +52,14 @@ known_stays known name v there other = by_test (bytes_eq other name) (bytes_eq-D
 named_from-push : (n : ℕ) (ds : List Declared) (d : Declared) (name : List ℕ) → named_from n (ds ++ d ∷ []) name ≡ first_or (named_from n ds name) (bytes_eq name d.name) record { index = n + length ds; sort = d.sort }
 named_from-push n [] d name = by_test (bytes_eq name d.name)
   where
-    by_test : (b : std.Bool) → cond b (Some record { index = n; sort = d.sort }) None ≡ first_or None b record { index = n + 0; sort = d.sort }
+    by_test : (b : std.Bool) → cond {A = Option Variable} b (Some record { index = n; sort = d.sort }) None ≡ first_or {V = Variable} None b record { index = n + 0; sort = d.sort }
     by_test true = let e : n ≡ n + 0 = omega arith in ap (λ (i : ℕ). Some record { index = i; sort = d.sort }) e
     by_test false = refl
 named_from-push n (c ∷ ds) d name = by_test (bytes_eq name c.name) (named_from-push (n + 1) ds d name)
   where
     by_test : (b : std.Bool) → named_from (n + 1) (ds ++ d ∷ []) name ≡ first_or (named_from (n + 1) ds name) (bytes_eq name d.name) record { index = n + 1 + length ds; sort = d.sort } →
-        cond b (Some record { index = n; sort = c.sort }) (named_from (n + 1) (ds ++ d ∷ []) name)
-        ≡ first_or (cond b (Some record { index = n; sort = c.sort }) (named_from (n + 1) ds name)) (bytes_eq name d.name) record { index = n + suc (length ds); sort = d.sort }
+        cond {A = Option Variable} b (Some record { index = n; sort = c.sort }) (named_from (n + 1) (ds ++ d ∷ []) name)
+        ≡ first_or (cond {A = Option Variable} b (Some record { index = n; sort = c.sort }) (named_from (n + 1) ds name)) (bytes_eq name d.name) record { index = n + suc (length ds); sort = d.sort }
     by_test true h = refl
     by_test false h =
         let counted : n + 1 + length ds ≡ n + suc (length ds) = omega arith in

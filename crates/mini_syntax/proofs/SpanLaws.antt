@@ -1,19 +1,22 @@
 -- What a text's length and its tokens say of its program.
 use Rattle.std.proofs.Common.{◌≡◌, ℕ, suc, ◌+◌, ◌^◌, ◌≤◌, max, List, [], ◌∷◌, ◌++◌, map, length, find, true, false, cond, Option, Some, None, is_none, bytes_eq, refl, sym, ap, ap₂, ◌∙◌, arith}
-use Rattle.std.specs.Prelude.{◌&&◌, ◌||◌, ◌==◌, nat_le}
+use Rattle.std.specs.Prelude.{◌&&◌, ◌==◌, nat_le}
 use Rattle.std.specs.Prelude as std
 use Rattle.std.specs.Char.{is_ascii_alphabetic, is_ascii_digit, is_ascii_lowercase, is_ascii_uppercase}
 use Rattle.std.specs.List.{list_all}
 use Rattle.std.proofs.lemmas.List.{length-append}
 use Rattle.std.proofs.lemmas.Slice.Eq.{bytes_eq-Decides}
+use Rattle.std.proofs.lemmas.Bool.{and_parts}
 use Rattle.stack_text.specs.Breaches.{when}
 use Rattle.stack_text.specs.Names.{begins_with_letter}
+use Rattle.stack_text.proofs.SharedLaws.{rule_fails}
+use Rattle.stack_text.proofs.NumberedNameLaws.{letter_passes}
 use Rattle.mini_syntax.specs.Breaches.{breaches, body_of, decls_breaches, declared_by, declared_of, variable_named, sort_named, infix_breaches, prefix_breaches, assigns_breaches, test_breaches}
 use Rattle.mini_syntax.specs.Breaches.{disjunction_breaches, conjunction_breaches, relation_breaches, sum_breaches, term_breaches, factor_breaches}
 use Rattle.mini_syntax.specs.Breaches.{disjunction_sort, conjunction_sort, relation_sort, sum_sort, term_sort, factor_sort}
 use Rattle.mini_syntax.specs.Breaches.{disjunction_exp, conjunction_exp, relation_exp, sum_exp, term_exp, factor_exp}
 use Rattle.mini_syntax.specs.Breaches.{form_breaches, block_breaches, forms_breaches, form_stmt, block_stmt, forms_stmt}
-use Rattle.mini_syntax.specs.Declaring.{are_proper, is_proper}
+use Rattle.mini_syntax.specs.Scaffold.Declaring.{are_proper, is_proper}
 use Rattle.mini_syntax.specs.declared.lexer.TokenKind.TheVariants as kind
 use Rattle.mini_syntax.specs.declared.mark.Mark.{Mark}
 use Rattle.mini_syntax.specs.declared.mark.Mark.TheVariants as mark
@@ -27,35 +30,34 @@ use Rattle.mini_syntax.specs.declared.operator.Infix.{Infix}
 use Rattle.mini_syntax.specs.declared.operator.Infix.TheVariants as between
 use Rattle.mini_syntax.specs.Grammar.{Disjunction, conjunction, or, Conjunction, relation, and, Relation, sum, at_most, equals}
 use Rattle.mini_syntax.specs.Grammar.{Sum, term, add, subtract, Term, factor, multiply, Factor, variable, number, truth, not, minus, group}
-use Rattle.mini_syntax.specs.Grammar.{Form, assign, loop, branch, Block, block, Forms, no_forms, form, Decl, Program, IsProgram}
+use Rattle.mini_syntax.specs.Grammar.{Form, assign, loop, branch, Block, block, Forms, no_forms, form, Decl, InfixProgram, IsProgram}
 use Rattle.mini_syntax.specs.Grammar.{disjunction_tokens, conjunction_tokens, relation_tokens, sum_tokens, term_tokens, factor_tokens}
 use Rattle.mini_syntax.specs.Grammar.{form_tokens, block_tokens, forms_tokens, decls_tokens}
 use Rattle.mini_syntax.specs.Language.{Exp, Stmt}
 use Rattle.mini_syntax.specs.Language as language
 use Rattle.mini_syntax.specs.Lawful.{IsLawful, part_count, size_of}
-use Rattle.mini_syntax.specs.Limits.{FormsAreSmall, forms_blocks}
+use Rattle.mini_syntax.specs.Scaffold.Limits.{FormsAreSmall, forms_blocks}
 use Rattle.mini_syntax.specs.Names.{is_variable_name, is_word_byte, spelling, word_named, words}
 use Rattle.mini_syntax.specs.Spelled.{bytes_of_all, declared_bytes, exp_bytes, program_bytes, stmt_bytes, token_bytes}
-use Rattle.mini_syntax.specs.Tokens.{Token, name_at, number_at, word_at, mark_at, wrong_at, Mode, after_fresh, begins, fresh, is_blank, is_pair, mark_of, mark_token, named_kind, next, run_of, second_is, token_of, tokens, tokens_in, word_token}
+use Rattle.mini_syntax.specs.Tokens.{Token, number_at, word_at, mark_at, Mode, after_fresh, begins, fresh, is_blank, is_pair, mark_of, mark_token, named_kind, next, longest_run, token_of, tokens, tokens_in, word_token}
 use Rattle.mini_syntax.specs.Tokens as mode
-use Rattle.mini_syntax.proofs.EmptyLaws.{two, three, fails}
+use Rattle.mini_syntax.proofs.EmptyLaws.{two, three}
 use Rattle.mini_syntax.proofs.LawfulLaws.{name_there, rules_make_lawful}
-use Rattle.mini_syntax.proofs.VariableLaws.{and_parts}
 
 -- ---- the bytes of the tokens are those of the text, or fewer
 
 -- bytes that were counted at the token's beginning
 abbrev covered : Mode → List ℕ → ℕ
 covered mode.between text = 0
-covered mode.in_word text = length (run_of is_word_byte text)
-covered mode.in_number text = length (run_of is_ascii_digit text)
+covered mode.in_word text = length (longest_run is_word_byte text)
+covered mode.in_number text = length (longest_run is_ascii_digit text)
 covered mode.in_pair [] = 0
 covered mode.in_pair (b ∷ text) = 1
 
-run_more : (test : ℕ → std.Bool) (b : ℕ) (text : List ℕ) → length (run_of test (b ∷ text)) ≤ suc (length (run_of test text))
+run_more : (test : ℕ → std.Bool) (b : ℕ) (text : List ℕ) → length (longest_run test (b ∷ text)) ≤ suc (length (longest_run test text))
 run_more test b text = pick (test b)
   where
-    pick : (c : std.Bool) → length (cond c (b ∷ run_of test text) []) ≤ suc (length (run_of test text))
+    pick : (c : std.Bool) → length (cond c (b ∷ longest_run test text) []) ≤ suc (length (longest_run test text))
     pick true = omega arith
     pick false = omega arith
 
@@ -117,12 +119,12 @@ fresh_fits at byte rest later = pick (is_blank byte) (is_ascii_alphabetic byte) 
         by_pair false more = let e = later.enough mode.between in omega (arith, e)
 
     pick : (blank letter digit : std.Bool) (mk : Option Mark) → (is_pair mk ≡ true → 1 ≤ covered mode.in_pair rest) →
-        bytes_of_all (cond blank [] (cond letter (word_token at (run_of is_word_byte (byte ∷ rest)) ∷ []) (cond digit (number_at at (run_of is_ascii_digit (byte ∷ rest)) ∷ []) (mark_token at mk ∷ []))) ++
+        bytes_of_all (cond blank [] (cond letter (word_token at (longest_run is_word_byte (byte ∷ rest)) ∷ []) (cond digit (number_at at (longest_run is_ascii_digit (byte ∷ rest)) ∷ []) (mark_token at mk ∷ []))) ++
         tokens (cond letter mode.in_word (cond digit mode.in_number (cond (is_pair mk) mode.in_pair mode.between))) (at + 1) rest) ≤ suc (length rest)
     pick true letter digit mk more = let e = later.enough (cond letter mode.in_word (cond digit mode.in_number (cond (is_pair mk) mode.in_pair mode.between))) in omega (arith, e)
     pick false true digit mk more =
         let e = later.enough mode.in_word in
-        omega (arith, e, word_bytes at (run_of is_word_byte (byte ∷ rest)), run_more is_word_byte byte rest)
+        omega (arith, e, word_bytes at (longest_run is_word_byte (byte ∷ rest)), run_more is_word_byte byte rest)
     pick false false true mk more = let e = later.enough mode.in_number in omega (arith, e, run_more is_ascii_digit byte rest)
     pick false false false None more = let e = later.enough mode.between in omega (arith, e)
     pick false false false (Some m) more = by_mark m more
@@ -142,12 +144,12 @@ all_fit (b ∷ text) at = record { enough = some (all_fit text (at + 1)) }
     some later mode.between = let e = fresh_fits at b text later in omega (arith, e)
     some later mode.in_word = pick (is_word_byte b)
       where
-        pick : (c : std.Bool) → bytes_of_all (cond c [] (fresh at b text) ++ tokens (cond c mode.in_word (after_fresh b text)) (at + 1) text) + length (cond c (b ∷ run_of is_word_byte text) []) ≤ suc (length text)
+        pick : (c : std.Bool) → bytes_of_all (cond c [] (fresh at b text) ++ tokens (cond c mode.in_word (after_fresh b text)) (at + 1) text) + length (cond c (b ∷ longest_run is_word_byte text) []) ≤ suc (length text)
         pick true = let e = later.enough mode.in_word in omega (arith, e)
         pick false = let e = fresh_fits at b text later in omega (arith, e)
     some later mode.in_number = pick (is_ascii_digit b)
       where
-        pick : (c : std.Bool) → bytes_of_all (cond c [] (fresh at b text) ++ tokens (cond c mode.in_number (after_fresh b text)) (at + 1) text) + length (cond c (b ∷ run_of is_ascii_digit text) []) ≤ suc (length text)
+        pick : (c : std.Bool) → bytes_of_all (cond c [] (fresh at b text) ++ tokens (cond c mode.in_number (after_fresh b text)) (at + 1) text) + length (cond c (b ∷ longest_run is_ascii_digit text) []) ≤ suc (length text)
         pick true = let e = later.enough mode.in_number in omega (arith, e)
         pick false = let e = fresh_fits at b text later in omega (arith, e)
     some later mode.in_pair = let e = later.enough mode.between in omega (arith, e)
@@ -160,8 +162,8 @@ tokens_fit text = let e = (all_fit text 0).enough mode.between in omega (arith, 
 fresh_few : (at byte : ℕ) (rest : List ℕ) → length (fresh at byte rest) ≤ 1
 fresh_few at byte rest = pick (is_blank byte) (is_ascii_alphabetic byte) (is_ascii_digit byte)
   where
-    pick : (blank letter digit : std.Bool) → length (cond blank [] (cond letter (word_token at (run_of is_word_byte (byte ∷ rest)) ∷ [])
-        (cond digit (number_at at (run_of is_ascii_digit (byte ∷ rest)) ∷ []) (mark_token at (mark_of byte rest) ∷ [])))) ≤ 1
+    pick : (blank letter digit : std.Bool) → length (cond blank [] (cond letter (word_token at (longest_run is_word_byte (byte ∷ rest)) ∷ [])
+        (cond digit (number_at at (longest_run is_ascii_digit (byte ∷ rest)) ∷ []) (mark_token at (mark_of byte rest) ∷ [])))) ≤ 1
     pick true letter digit = omega arith
     pick false true digit = omega arith
     pick false false true = omega arith
@@ -193,31 +195,25 @@ tokens_few text = few_tokens text mode.between 0
 
 -- ---- the names of a text are names
 
-run_all : (text : List ℕ) → list_all is_word_byte (run_of is_word_byte text) ≡ true
+run_all : (text : List ℕ) → list_all is_word_byte (longest_run is_word_byte text) ≡ true
 run_all [] = refl
 run_all (b ∷ text) = pick (is_word_byte b) refl (run_all text)
   where
-    pick : (c : std.Bool) → is_word_byte b ≡ c → list_all is_word_byte (run_of is_word_byte text) ≡ true → list_all is_word_byte (cond c (b ∷ run_of is_word_byte text) []) ≡ true
+    pick : (c : std.Bool) → is_word_byte b ≡ c → list_all is_word_byte (longest_run is_word_byte text) ≡ true → list_all is_word_byte (cond c (b ∷ longest_run is_word_byte text) []) ≡ true
     pick true e all = ap₂ (λ (x y : std.Bool). x && y) e all
     pick false e all = refl
 
-letter_word : (digit upper lower line : std.Bool) → (upper || lower) ≡ true → (((digit || upper) || lower) || line) ≡ true
-letter_word true upper lower line e = refl
-letter_word false true lower line e = refl
-letter_word false false true line e = refl
-letter_word false false false line e = cc
-
-word_good : (at byte : ℕ) (rest : List ℕ) → is_ascii_alphabetic byte ≡ true → is_proper (word_token at (run_of is_word_byte (byte ∷ rest))) ≡ true
-word_good at byte rest letter = pick (nat_le (length (run_of is_word_byte (byte ∷ rest))) 60) refl (word_named (run_of is_word_byte (byte ∷ rest))) refl
+word_good : (at byte : ℕ) (rest : List ℕ) → is_ascii_alphabetic byte ≡ true → is_proper (word_token at (longest_run is_word_byte (byte ∷ rest))) ≡ true
+word_good at byte rest letter = pick (nat_le (length (longest_run is_word_byte (byte ∷ rest))) 60) refl (word_named (longest_run is_word_byte (byte ∷ rest))) refl
   where
     first : is_word_byte byte ≡ true
-    first = letter_word (is_ascii_digit byte) (is_ascii_uppercase byte) (is_ascii_lowercase byte) (byte == 95) letter
+    first = letter_passes (is_ascii_digit byte) (is_ascii_uppercase byte) (is_ascii_lowercase byte) (byte == 95) letter
 
-    begun : begins_with_letter (run_of is_word_byte (byte ∷ rest)) ≡ true
-    begun = ap (λ (c : std.Bool). begins_with_letter (cond c (byte ∷ run_of is_word_byte rest) [])) first ∙ letter
+    begun : begins_with_letter (longest_run is_word_byte (byte ∷ rest)) ≡ true
+    begun = ap (λ (c : std.Bool). begins_with_letter (cond c (byte ∷ longest_run is_word_byte rest) [])) first ∙ letter
 
-    pick : (c : std.Bool) → nat_le (length (run_of is_word_byte (byte ∷ rest))) 60 ≡ c → (o : Option Word) → word_named (run_of is_word_byte (byte ∷ rest)) ≡ o →
-        is_proper (token_of (cond c (named_kind o) kind.Wrong) at (run_of is_word_byte (byte ∷ rest))) ≡ true
+    pick : (c : std.Bool) → nat_le (length (longest_run is_word_byte (byte ∷ rest))) 60 ≡ c → (o : Option Word) → word_named (longest_run is_word_byte (byte ∷ rest)) ≡ o →
+        is_proper (token_of (cond c (named_kind o) kind.Wrong) at (longest_run is_word_byte (byte ∷ rest))) ≡ true
     pick true e None f = rw (begun, run_all (byte ∷ rest), e, f) refl
     pick true e (Some w) f = refl
     pick false e o f = refl
@@ -233,9 +229,9 @@ fresh_good : (at byte : ℕ) (rest : List ℕ) (more : List Token) → are_prope
 fresh_good at byte rest more good = pick (is_blank byte) (is_ascii_alphabetic byte) refl (is_ascii_digit byte)
   where
     pick : (blank letter : std.Bool) → is_ascii_alphabetic byte ≡ letter → (digit : std.Bool) →
-        are_proper (cond blank [] (cond letter (word_token at (run_of is_word_byte (byte ∷ rest)) ∷ []) (cond digit (number_at at (run_of is_ascii_digit (byte ∷ rest)) ∷ []) (mark_token at (mark_of byte rest) ∷ []))) ++ more) ≡ true
+        are_proper (cond blank [] (cond letter (word_token at (longest_run is_word_byte (byte ∷ rest)) ∷ []) (cond digit (number_at at (longest_run is_ascii_digit (byte ∷ rest)) ∷ []) (mark_token at (mark_of byte rest) ∷ []))) ++ more) ≡ true
     pick true letter e digit = good
-    pick false true e digit = one_good (word_token at (run_of is_word_byte (byte ∷ rest))) more (word_good at byte rest e) good
+    pick false true e digit = one_good (word_token at (longest_run is_word_byte (byte ∷ rest))) more (word_good at byte rest e) good
     pick false false e true = good
     pick false false e false = one_good (mark_token at (mark_of byte rest)) more (mark_good at (mark_of byte rest)) good
 
@@ -261,7 +257,7 @@ decls_good (d ∷ ds) more good =
     let k = and_parts (is_variable_name d.name) (are_proper (decls_tokens ds ++ more)) good in
     ap₂ (λ (x y : std.Bool). x && y) k.0 (decls_good ds more k.1)
 
-pub names_are_names : (text : List ℕ) (p : Program) → IsProgram text p → list_all (λ (d : Decl). is_variable_name d.name) p.decls ≡ true
+pub names_are_names : (text : List ℕ) (p : InfixProgram) → IsProgram text p → list_all (λ (d : Decl). is_variable_name d.name) p.decls ≡ true
 names_are_names text p is = decls_good p.decls (forms_tokens p.forms) (ap are_proper (sym is) ∙ all_good text mode.between 0)
 
 -- ---- the bytes of a program's tokens
@@ -323,7 +319,7 @@ mutual
 
   factor_spans : (ds : List Declared) (f : Factor) → factor_breaches ds f ≡ [] → Spans ds (factor_exp ds f) (factor_tokens f)
   factor_spans ds (variable place name) h =
-      let same = ap length (name_there ds name (fails (is_none (variable_named ds name)) place 6 h)) in
+      let same = ap length (name_there ds name (rule_fails (is_none (variable_named ds name)) place 6 h)) in
       record { bytes = omega (arith, same); size = omega arith }
   factor_spans ds (number place digits) h = record { bytes = omega arith; size = omega arith }
   factor_spans ds (truth place true) h = record { bytes = omega arith; size = omega arith }
@@ -355,7 +351,7 @@ mutual
   form_covers : (ds : List Declared) (f : Form) → form_breaches ds f ≡ [] → Covers ds (form_stmt ds f) (form_tokens f)
   form_covers ds (assign place name becomes e closing) h =
       let k = three (when (is_none (variable_named ds name)) place 6) (disjunction_breaches ds e) (assigns_breaches becomes (sort_named ds name) (disjunction_sort ds e)) h in
-      let same = ap length (name_there ds name (fails (is_none (variable_named ds name)) place 6 k.0)) in
+      let same = ap length (name_there ds name (rule_fails (is_none (variable_named ds name)) place 6 k.0)) in
       let a = disjunction_spans ds e k.1 in
       let all = bytes_append (disjunction_tokens e) (mark_at closing mark.Semicolon ∷ []) in
       record { bytes = omega (arith, a.bytes, all, same); count = omega (arith, a.size, all) }
@@ -401,11 +397,11 @@ decls_cover (d ∷ ds) = by_sort d.sort (decls_cover ds)
     by_sort Bool rest = omega (arith, rest)
 
 -- a program of a text that breaks no rule is lawful, and no longer than the text
-pub record IsShort (text : List ℕ) (p : Program) : Type 0 where
+pub record IsShort (text : List ℕ) (p : InfixProgram) : Type 0 where
   pub lawful : IsLawful (declared_of p) (body_of p)
   pub short : program_bytes (declared_of p) (body_of p) ≤ length text
 
-pub text_is_lawful : (text : List ℕ) (p : Program) → IsProgram text p → length text ≤ 2 ^ 20 → FormsAreSmall p.forms → forms_blocks p.forms ≤ 40 → breaches p ≡ [] → IsShort text p
+pub text_is_lawful : (text : List ℕ) (p : InfixProgram) → IsProgram text p → length text ≤ 2 ^ 20 → FormsAreSmall p.forms → forms_blocks p.forms ≤ 40 → breaches p ≡ [] → IsShort text p
 text_is_lawful text p is few small blocks clean =
     let k = two (decls_breaches [] p.decls) (forms_breaches (declared_of p) p.forms) clean in
     let fit = tokens_fit text in

@@ -1,12 +1,13 @@
 -- What the reader awaits after each part of a program, and the factors, statements and declarations that it makes of the parts.
 use Rattle.std.proofs.Common.{◌≡◌, ◌≢◌, ℕ, List, [], ◌∷◌, ◌++◌, Option, Some, None, true, false, refl, sym, ap, ap₂, ◌∙◌, append_assoc}
 use Rattle.std.specs.Prelude.{◌==◌, is_some, length}
+use Rattle.std.proofs.lemmas.Bool.{and_parts}
 use Rattle.stack_text.specs.declared.breach.Breach.{Breach}
 use Rattle.stack_text.specs.Breaches.{Notes, when}
 use Rattle.stack_text.proofs.BreachLaws.{notes_more}
 use Rattle.mini_syntax.specs.Breaches.{decl_breaches, variable_named}
-use Rattle.mini_syntax.specs.Combined.{IsPrefix}
-use Rattle.mini_syntax.specs.Declaring.{ReadsDecl, ReadsDecls, are_proper, is_proper}
+use Rattle.mini_syntax.specs.Scaffold.Combined.{IsPrefix}
+use Rattle.mini_syntax.specs.Scaffold.Declaring.{ReadsDecl, ReadsDecls, are_proper, is_proper}
 use Rattle.mini_syntax.specs.declared.expected.Expected.{Expected}
 use Rattle.mini_syntax.specs.declared.expected.Expected.TheVariants as wants
 use Rattle.mini_syntax.specs.declared.lexeme.Lexeme.{Lexeme}
@@ -22,17 +23,16 @@ use Rattle.mini_syntax.specs.declared.sort.Sort.{Sort}
 use Rattle.mini_syntax.specs.declared.typed.Typed.{Typed}
 use Rattle.mini_syntax.specs.declared.word.Word.TheVariants as word
 use Rattle.mini_syntax.specs.Expected.{a_block, at_start, expression, may_be_empty, taken, takes}
-use Rattle.mini_syntax.specs.Grammar.{not, minus, group, Decl, Program}
+use Rattle.mini_syntax.specs.Grammar.{not, minus, group, Decl, InfixProgram}
 use Rattle.mini_syntax.specs.Grammar.{block_tokens, decl_tokens, decls_tokens, disjunction_tokens, form_tokens, forms_tokens, program_tokens}
-use Rattle.mini_syntax.specs.Lexemes.{next_kind, token_seen}
+use Rattle.mini_syntax.specs.Scaffold.Lexemes.{next_kind, token_seen}
 use Rattle.mini_syntax.specs.Names.{is_variable_name}
-use Rattle.mini_syntax.specs.Phrases.{Awaits, Completes, Reads, ReadsBlock, ReadsForm, ReadsForms, disjunctions, factors, is_open_at, more_after, factor_kind}
+use Rattle.mini_syntax.specs.Scaffold.Phrases.{Awaits, Completes, Reads, ReadsBlock, ReadsForm, ReadsForms, disjunctions, factors, is_open_at, more_after, factor_kind}
 use Rattle.mini_syntax.specs.Tokens.{Token, name_at, word_at, mark_at, kind_of, place_of}
 use Rattle.mini_syntax.proofs.AwaitLaws.{after_mark, moved, next_is_else, next_is_mark, next_is_name, next_is_operand, not_over, prefix_kind, stepped}
 use Rattle.mini_syntax.proofs.ExpectedLaws.{block_leads, decl_leads, decls_lead, end_of, form_leads, forms_leads, over_end, program_taken}
 use Rattle.mini_syntax.proofs.JoinLaws.{prefix_exp, prefix_noted}
 use Rattle.mini_syntax.proofs.ReadingLaws.{after_expression, behind, kind_seen, token_by_kind}
-use Rattle.mini_syntax.proofs.VariableLaws.{and_parts}
 
 -- ---- what is awaited
 
@@ -172,7 +172,7 @@ decl_passed {old = old} {new = new} a r = record { rest = a.rest; completes = mo
 -- ---- programs
 
 -- what a program's tokens complete
-pub program_completes : (ts : List Token) (p : Program) → ts ≡ program_tokens p → Completes at_start ts
+pub program_completes : (ts : List Token) (p : InfixProgram) → ts ≡ program_tokens p → Completes at_start ts
 program_completes ts p e = record { last = end_of p.forms; taken_is = ap (taken (Some at_start)) e ∙ program_taken p; over = over_end p.forms }
 
 -- after the declarations, statements are awaited, and after them nothing

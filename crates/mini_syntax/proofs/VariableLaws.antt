@@ -4,7 +4,7 @@ use Rattle.std.specs.Prelude.{codes, ◌||◌, ◌&&◌, ◌==◌, nat_le, IsTru
 use Rattle.std.specs.Prelude as std
 use Rattle.std.specs.Char.{is_ascii_alphanumeric}
 use Rattle.std.specs.List.{list_all}
-use Rattle.std.proofs.lemmas.Bool.{le-leb, leb-true}
+use Rattle.std.proofs.lemmas.Bool.{le-leb, leb-true, and_parts}
 use Rattle.stack_text.specs.Names.{is_name, is_name_byte, begins_with_letter, is_truth_word, name_of}
 use Rattle.mini_syntax.specs.declared.sort.Sort.TheVariants.{Int, Bool}
 use Rattle.mini_syntax.specs.declared.word.Word.TheVariants as word
@@ -15,10 +15,6 @@ word_byte true dash line star dollar e = refl
 word_byte false true line star dollar e = refl
 word_byte false false true star dollar e = refl
 word_byte false false false star dollar e = cc
-
-pub and_parts : (a b : std.Bool) → (a && b) ≡ true → (a ≡ true) × (b ≡ true)
-and_parts true b e = (refl, e)
-and_parts false b e = cc
 
 word_bytes : (bytes : List ℕ) → list_all is_word_byte bytes ≡ true → list_all is_name_byte bytes ≡ true
 word_bytes [] e = refl

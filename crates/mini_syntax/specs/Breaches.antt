@@ -5,6 +5,7 @@ use Rattle.std.specs.Prelude.{ℕ, ◌+◌, ◌-◌, ◌*◌, List, [], ◌∷�
 use Rattle.std.specs.Prelude.{Option, Some, None, is_none, is_some, option_map}
 use Rattle.std.specs.Prelude as std
 use Rattle.std.specs.Str.{bytes_eq}
+use Rattle.mini_syntax.specs.InfixLimits.{most_infix_variables}
 use Rattle.stack_text.specs.declared.breach.Breach.{Breach}
 use Rattle.stack_text.specs.Breaches.{when}
 use Rattle.mini_syntax.specs.declared.program.Declared.{Declared}
@@ -17,7 +18,7 @@ use Rattle.mini_syntax.specs.declared.operator.Infix.{Infix}
 use Rattle.mini_syntax.specs.declared.operator.Infix.TheVariants as between
 use Rattle.mini_syntax.specs.Grammar.{Disjunction, conjunction, or, Conjunction, relation, and, Relation, sum, at_most, equals}
 use Rattle.mini_syntax.specs.Grammar.{Sum, term, add, subtract, Term, factor, multiply, Factor, variable, number, truth, minus, group}
-use Rattle.mini_syntax.specs.Grammar.{Form, assign, loop, branch, Block, block, Forms, no_forms, form, Decl, Program}
+use Rattle.mini_syntax.specs.Grammar.{Form, assign, loop, branch, Block, block, Forms, no_forms, form, Decl, InfixProgram}
 use Rattle.mini_syntax.specs.Grammar as grammar
 use Rattle.mini_syntax.specs.Operands.{prefix_takes, infix_takes}
 use Rattle.mini_syntax.specs.Language.{Exp, Stmt}
@@ -27,7 +28,7 @@ use Rattle.mini_syntax.specs.Language as language
 abbrev pub declared_by : Decl → Declared
 declared_by d = record { name = d.name; sort = d.sort }
 
-abbrev pub declared_of : Program → List Declared
+abbrev pub declared_of : InfixProgram → List Declared
 declared_of p = map declared_by p.decls
 
 abbrev pub names_of : List Declared → List (List ℕ)
@@ -228,15 +229,16 @@ abbrev mutual
 
 -- a declaration after these, and several
 abbrev pub decl_breaches : List Declared → Decl → List Breach
-decl_breaches earlier d = when (is_some (variable_named earlier d.name)) d.place 5 ++ when (length earlier == 100) d.place 9
+decl_breaches earlier d =
+    when (is_some (variable_named earlier d.name)) d.place 5 ++ when (length earlier == most_infix_variables) d.place 9
 
 abbrev pub decls_breaches : List Declared → List Decl → List Breach
 decls_breaches earlier [] = []
 decls_breaches earlier (d ∷ ds) = decl_breaches earlier d ++ decls_breaches (earlier ++ declared_by d ∷ []) ds
 
 -- all of them
-abbrev pub breaches : Program → List Breach
+abbrev pub breaches : InfixProgram → List Breach
 breaches p = decls_breaches [] p.decls ++ forms_breaches (declared_of p) p.forms
 
-abbrev pub body_of : Program → Stmt
+abbrev pub body_of : InfixProgram → Stmt
 body_of p = forms_stmt (declared_of p) p.forms

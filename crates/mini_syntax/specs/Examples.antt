@@ -3,11 +3,12 @@ use Rattle.std.specs.Prelude.{◌≡◌, [], ◌∷◌, codes}
 use Rattle.mini_syntax.specs.Breaches.{breaches}
 use Rattle.mini_syntax.specs.declared.mark.Mark.TheVariants as mark
 use Rattle.mini_syntax.specs.declared.sort.Sort.TheVariants.{Int}
-use Rattle.mini_syntax.specs.Grammar.{conjunction, relation, sum, term, factor, add, variable, assign, no_forms, form, IsProgram, Program}
+use Rattle.mini_syntax.specs.Grammar.{conjunction, relation, sum, term, factor, add}
+use Rattle.mini_syntax.specs.Grammar.{variable, assign, no_forms, form, IsProgram, InfixProgram}
 use Rattle.mini_syntax.specs.Tokens.{name_at, number_at, mark_at, wrong_at, tokens_in}
 
 -- `int x; x := x + y;`
-abbrev pub adds_undeclared : Program
+abbrev pub adds_undeclared : InfixProgram
 adds_undeclared = record {
   decls = record { start = 0; sort = Int; place = 4; name = codes "x"; closing = 5 } ∷ [];
   forms =

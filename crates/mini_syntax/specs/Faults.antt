@@ -6,7 +6,7 @@ use Rattle.mini_syntax.specs.declared.lexer.TokenKind.{TokenKind}
 use Rattle.mini_syntax.specs.declared.lexer.TokenKind.TheVariants as kind
 use Rattle.mini_syntax.specs.declared.mark.Mark.TheVariants as mark
 use Rattle.mini_syntax.specs.declared.word.Word.TheVariants as word
-use Rattle.mini_syntax.specs.Grammar.{Program, IsProgram, GoesOn}
+use Rattle.mini_syntax.specs.Grammar.{InfixProgram, IsProgram, GoesOn}
 use Rattle.mini_syntax.specs.Tokens.{Token, wrong_at, place_of, kind_of, tokens_in}
 
 abbrev pub opens_bracket : TokenKind → Bool
@@ -91,7 +91,7 @@ pub record BreaksFirst (text : List ℕ) (rule place : ℕ) : Type 0 where
 -- the text ends too early
 pub record EndsEarly (text : List ℕ) (rule place : ℕ) : Type 0 where
   pub free : AreFree (tokens_in text)
-  pub no_program : (p : Program) → IsProgram text p → ⊥
+  pub no_program : (p : InfixProgram) → IsProgram text p → ⊥
   pub rule_is : rule ≡ 2
   pub at : place ≡ length text
 

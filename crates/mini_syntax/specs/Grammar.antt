@@ -119,17 +119,17 @@ decls_tokens [] = []
 decls_tokens (d ∷ ds) = decl_tokens d ++ decls_tokens ds
 
 -- PROGRAM = DECL* STMT*
-pub record Program : Type 0 where
+pub record InfixProgram : Type 0 where
   pub decls : List Decl
   pub forms : Forms
 
-abbrev pub program_tokens : Program → List Token
+abbrev pub program_tokens : InfixProgram → List Token
 program_tokens p = decls_tokens p.decls ++ forms_tokens p.forms
 
 -- the text is the program
-abbrev pub IsProgram : List ℕ → Program → Type 0
+abbrev pub IsProgram : List ℕ → InfixProgram → Type 0
 IsProgram text p = tokens_in text ≡ program_tokens p
 
 -- a program goes on with these tokens
 abbrev pub GoesOn : List Token → Type 0
-GoesOn ts = (p : Program) × (rest : List Token) × (program_tokens p ≡ ts ++ rest)
+GoesOn ts = (p : InfixProgram) × (rest : List Token) × (program_tokens p ≡ ts ++ rest)

@@ -1,7 +1,9 @@
 -- Programs that break no rule.
-use Rattle.std.specs.Prelude.{◌≡◌, ℕ, suc, ◌+◌, ◌^◌, ◌≤◌, ◌<◌, List, [], ◌∷◌, map, length, max, get_or, true, false}
+use Rattle.std.specs.Prelude.{◌≡◌, ℕ, suc, ◌+◌, ◌≤◌, ◌<◌, List, [], ◌∷◌, map, length, max, get_or, true, false}
 use Rattle.std.specs.List.{list_all}
 use Rattle.std.specs.Str.{bytes_eq}
+use Rattle.mini_syntax.specs.InfixLimits.{most_infix_variables}
+use Rattle.stack_text.specs.SharedLimits.{most_text}
 use Rattle.mini_syntax.specs.declared.program.Declared.{Declared}
 use Rattle.mini_syntax.specs.Language.{Exp, Variable, Number, Truth, Before, Between, Stmt, Nothing, Then, Assign, While, If}
 use Rattle.mini_syntax.specs.Names.{is_variable_name}
@@ -42,7 +44,7 @@ part_count (If e s t) = suc (size_of e + part_count s + part_count t)
 pub record IsLawful (ds : List Declared) (s : Stmt) : Type 0 where
   pub names : list_all (λ d. is_variable_name d.name) ds ≡ true
   pub apart : AreApart (map (λ d. d.name) ds)
-  pub few : length ds ≤ 100
+  pub few : length ds ≤ most_infix_variables
   pub fine : AreFine (map (λ d. d.sort) ds) s
   pub shallow : levels s ≤ 40
-  pub short : part_count s ≤ 2 ^ 20
+  pub short : part_count s ≤ most_text

@@ -3,6 +3,7 @@ use Rattle.std.specs.Prelude.{ℕ, List, [], ◌∷◌, length, Bool, true, fals
 use Rattle.std.specs.List.{find, list_all}
 use Rattle.std.specs.Str.{bytes_eq}
 use Rattle.std.specs.Char.{is_ascii_alphanumeric}
+use Rattle.mini_syntax.specs.InfixLimits.{most_infix_name_bytes}
 use Rattle.stack_text.specs.Names.{begins_with_letter}
 use Rattle.mini_syntax.specs.declared.sort.Sort.TheVariants as sort
 use Rattle.mini_syntax.specs.declared.word.Word.{Word}
@@ -36,4 +37,4 @@ word_named bytes = find (λ w. bytes_eq bytes (spelling w)) words
 -- a letter, and then up to 59 letters, digits and `_`, but none of the words
 abbrev pub is_variable_name : List ℕ → Bool
 is_variable_name bytes =
-    begins_with_letter bytes && list_all is_word_byte bytes && nat_le (length bytes) 60 && is_none (word_named bytes)
+    begins_with_letter bytes && list_all is_word_byte bytes && nat_le (length bytes) most_infix_name_bytes && is_none (word_named bytes)

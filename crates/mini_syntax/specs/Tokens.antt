@@ -1,6 +1,7 @@
 -- The tokens of a text of the infix language, with the places of their first bytes.
 use Rattle.std.specs.Prelude.{ℕ, ◌+◌, List, [], ◌∷◌, ◌++◌, length, Bool, true, false, ◌==◌, ◌||◌, nat_le, if◌then◌else◌, Option, Some, None}
 use Rattle.std.specs.Char.{is_ascii_alphabetic, is_ascii_digit}
+use Rattle.mini_syntax.specs.InfixLimits.{most_infix_name_bytes}
 use Rattle.mini_syntax.specs.declared.lexer.TokenKind.{TokenKind}
 use Rattle.mini_syntax.specs.declared.lexer.TokenKind.TheVariants as kind
 use Rattle.mini_syntax.specs.declared.mark.Mark.{Mark}
@@ -70,9 +71,9 @@ is_pair (Some mark.AtMost) = true
 is_pair _ = false
 
 -- the longest run of bytes that pass a test
-abbrev pub run_of : (ℕ → Bool) → List ℕ → List ℕ
-run_of test [] = []
-run_of test (b ∷ bytes) = if test b then b ∷ run_of test bytes else []
+abbrev pub longest_run : (ℕ → Bool) → List ℕ → List ℕ
+longest_run test [] = []
+longest_run test (b ∷ bytes) = if test b then b ∷ longest_run test bytes else []
 
 -- what the text is in before a byte: between tokens, in a word, in a number, or in a mark of two bytes
 pub data Mode : Type 0 where
@@ -87,7 +88,7 @@ named_kind (Some w) = kind.Word w
 named_kind None = kind.Name
 
 abbrev pub word_kind : List ℕ → TokenKind
-word_kind bytes = if nat_le (length bytes) 60 then named_kind (word_named bytes) else kind.Wrong
+word_kind bytes = if nat_le (length bytes) most_infix_name_bytes then named_kind (word_named bytes) else kind.Wrong
 
 abbrev pub word_token : ℕ → List ℕ → Token
 word_token at bytes = token_of (word_kind bytes) at bytes
@@ -100,8 +101,8 @@ mark_token at (Some m) = mark_at at m
 abbrev pub fresh : ℕ → ℕ → List ℕ → List Token
 fresh at byte rest =
     if is_blank byte then [] else
-    if is_ascii_alphabetic byte then word_token at (run_of is_word_byte (byte ∷ rest)) ∷ [] else
-    if is_ascii_digit byte then number_at at (run_of is_ascii_digit (byte ∷ rest)) ∷ [] else
+    if is_ascii_alphabetic byte then word_token at (longest_run is_word_byte (byte ∷ rest)) ∷ [] else
+    if is_ascii_digit byte then number_at at (longest_run is_ascii_digit (byte ∷ rest)) ∷ [] else
     mark_token at (mark_of byte rest) ∷ []
 
 abbrev pub after_fresh : ℕ → List ℕ → Mode

@@ -3,11 +3,11 @@
 ghost use Rattle.std.specs.Prelude.{◌≡◌, [], ◌∷◌, IfOk};
 ghost use Rattle.mini_syntax.specs.declared.expected.Expected.TheVariants as wants;
 ghost use Rattle.mini_syntax.specs.Expected.{expression};
-ghost use Rattle.mini_syntax.specs.Lexemes.{left_of};
-ghost use Rattle.mini_syntax.specs.Phrases.{Awaits, factor_kind, is_open, is_open_at, is_open_in, more_after, Reads};
-ghost use Rattle.mini_syntax.specs.Phrases.{conjunctions, disjunctions, factors, relations, sums, terms};
-ghost use Rattle.mini_syntax.specs.Phrases.{conjunction_operator, disjunction_operator, relation_operator, sum_operator, term_operator};
-ghost use Rattle.mini_syntax.specs.Scopes.{IsScope};
+ghost use Rattle.mini_syntax.specs.Scaffold.Lexemes.{left_of};
+ghost use Rattle.mini_syntax.specs.Scaffold.Phrases.{Awaits, factor_kind, is_open, is_open_at, is_open_in, more_after, Reads};
+ghost use Rattle.mini_syntax.specs.Scaffold.Phrases.{conjunctions, disjunctions, factors, relations, sums, terms};
+ghost use Rattle.mini_syntax.specs.Scaffold.Phrases.{conjunction_operator, disjunction_operator, relation_operator, sum_operator, term_operator};
+ghost use Rattle.mini_syntax.specs.Scaffold.Scopes.{IsScope};
 
 use crate::lexeme::Cursor;
 use crate::lexer::TokenKind;

@@ -4,11 +4,11 @@ ghost use Rattle.std.specs.Prelude.{◌≡◌, ◌+◌, ◌<◌, ◌≤◌, ◌^
 ghost use Rattle.mini_syntax.specs.declared.fault.MiniFault.TheVariants.{Refused};
 ghost use Rattle.mini_syntax.specs.Expected.{at_start};
 ghost use Rattle.mini_syntax.specs.Faults.{AreFree, begins_expression, closes_block, closes_bracket, is_operator, opens_block, opens_bracket};
-ghost use Rattle.mini_syntax.specs.Grammar.{IsProgram, Program};
-ghost use Rattle.mini_syntax.specs.Judging.{counted, counts_of, IsBelow, is_over_limit, Judges, limit_of, Refuses, tally};
-ghost use Rattle.mini_syntax.specs.Lexemes.{token_seen};
+ghost use Rattle.mini_syntax.specs.Grammar.{IsProgram, InfixProgram};
+ghost use Rattle.mini_syntax.specs.Scaffold.Judging.{counted, counts_of, IsBelow, is_over_limit, Judges, limit_of, Refuses, tally};
+ghost use Rattle.mini_syntax.specs.Scaffold.Lexemes.{token_seen};
 ghost use Rattle.mini_syntax.specs.Tokens.{tokens_in};
-ghost use Rattle.mini_syntax.specs.TokenSpans.{token_in};
+ghost use Rattle.mini_syntax.specs.Scaffold.TokenSpans.{token_in};
 
 use crate::expected::{Expected, is_over, take};
 use crate::fault::MiniFault;
@@ -242,7 +242,7 @@ pub(crate) fn judge_text(alloc: Global, text: &[u8]) -> Result<Vec<Lexeme<'_>>, 
     requires { length text.now ≤ 2 ^ 20 }
     ensures tokens { IfOk result (λ lexemes. map token_seen lexemes.items ≡ tokens_in text.now) }
     ensures free { IfOk result (λ lexemes. AreFree (tokens_in text.now)) }
-    ensures program { IfOk result (λ lexemes. (p : Program) × IsProgram text.now p) }
+    ensures program { IfOk result (λ lexemes. (p : InfixProgram) × IsProgram text.now p) }
     ensures fault { Refuses text.now result }
 {
     let mut lexemes = Vec::new(alloc);

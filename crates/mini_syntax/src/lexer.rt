@@ -2,8 +2,8 @@
 
 ghost use Rattle.std.specs.Prelude.{◌≡◌, ◌+◌, ◌<◌, ◌≤◌, ◌^◌, Some, if◌then◌else◌, length, drop, get_or, slice_range, false, [], IfNone, IfSome};
 ghost use Rattle.std.specs.Char.{is_ascii_alphabetic, is_ascii_digit};
-ghost use Rattle.mini_syntax.specs.Tokens.{between, is_blank, is_pair, mark_of, run_of, second_is, tokens, word_kind};
-ghost use Rattle.mini_syntax.specs.TokenSpans.{FindsToken, run_mode, run_test};
+ghost use Rattle.mini_syntax.specs.Tokens.{between, is_blank, is_pair, mark_of, longest_run, second_is, tokens, word_kind};
+ghost use Rattle.mini_syntax.specs.Scaffold.TokenSpans.{FindsToken, run_mode, run_test};
 
 use crate::mark::Mark;
 use crate::word::{Word, word_named};
@@ -61,7 +61,7 @@ fn run_end(text: &[u8], from: usize, run: Run) -> usize
     requires { from ≤ length text.now }
     ensures later { from ≤ result }
     ensures within { result ≤ length text.now }
-    ensures run { slice_range text.now from result ≡ run_of (run_test run) (drop from text.now) }
+    ensures run { slice_range text.now from result ≡ longest_run (run_test run) (drop from text.now) }
     ensures tokens { tokens (run_mode run) from (drop from text.now) ≡ tokens between result (drop result text.now) }
 {
     let mut at = from;

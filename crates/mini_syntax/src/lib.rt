@@ -23,6 +23,6 @@ mod word;
 pub use fault::MiniFault;
 pub use laws::{examples_compute, expected_decides, texts_have_one_answer};
 pub use operator::{Infix, Prefix};
-pub use program::{Declared, Exp, Program, Statement};
+pub use program::{Declared, Exp, InfixProgram, Statement};
 pub use reading::read_mini;
 pub use sort::Sort;

@@ -67,7 +67,7 @@ pub enum Statement {
 
 /// A program that was read: its declarations, and its statements.
 #[derive(Debug, Drop)]
-pub struct Program {
+pub struct InfixProgram {
     /// The declared variables, in order.
     pub declared: Vec<Declared>,
     /// The statements, in turn.
@@ -76,7 +76,7 @@ pub struct Program {
 
 impl Exp {
     ghost use Rattle.std.specs.Prelude.{◌≡◌};
-    ghost use Rattle.mini_syntax.specs.ProgramView.{exp_of};
+    ghost use Rattle.mini_syntax.specs.Seen.ProgramView.{exp_of};
     ghost use Rattle.mini_syntax.specs.Operands.{sort_of};
 
     /// The sort of what the expression is worth.

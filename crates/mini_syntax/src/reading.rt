@@ -1,13 +1,13 @@
 //! Programs, read from the tokens of a judged text.
 
 ghost use Rattle.std.specs.Prelude.{◌≡◌, ◌<◌, ◌≤◌, ◌^◌, [], ◌∷◌, length, map, IfOk, OnOk, Some, true};
-ghost use Rattle.mini_syntax.specs.Answers.{ReadsText, RefusesText};
-ghost use Rattle.mini_syntax.specs.Declaring.{are_proper, ReadsDecl, ReadsDecls, ReadsProgram};
+ghost use Rattle.mini_syntax.specs.MiniReading.{ReadsText, RefusesText};
+ghost use Rattle.mini_syntax.specs.Scaffold.Declaring.{are_proper, ReadsDecl, ReadsDecls, ReadsProgram};
 ghost use Rattle.mini_syntax.specs.declared.expected.Expected.TheVariants as wants;
 ghost use Rattle.mini_syntax.specs.Grammar as grammar;
-ghost use Rattle.mini_syntax.specs.Lexemes.{left_of, next_kind, token_seen};
-ghost use Rattle.mini_syntax.specs.Phrases.{Awaits, sort_declared};
-ghost use Rattle.mini_syntax.specs.Scopes.{IsScope};
+ghost use Rattle.mini_syntax.specs.Scaffold.Lexemes.{left_of, next_kind, token_seen};
+ghost use Rattle.mini_syntax.specs.Scaffold.Phrases.{Awaits, sort_declared};
+ghost use Rattle.mini_syntax.specs.Scaffold.Scopes.{IsScope};
 
 use crate::blocks::statements;
 use crate::fault::MiniFault;
@@ -15,7 +15,7 @@ use crate::judging::judge_text;
 use crate::lexeme::{Cursor, Lexeme};
 use crate::lexer::TokenKind;
 use crate::mark::Mark;
-use crate::program::Program;
+use crate::program::InfixProgram;
 use crate::scope::{Scope, enter};
 use crate::sort::Sort;
 use crate::word::Word;
@@ -30,7 +30,7 @@ const MAX_VARIABLES: usize = 100;
 #[derive(Debug, Drop)]
 pub struct Reading {
     /// What was read, which counts where there is no breach.
-    pub program: Program,
+    pub program: InfixProgram,
     /// The least breach of the rules Y5 to Y9, if there is one.
     pub breach: Option<Breach>,
 }
@@ -108,7 +108,7 @@ fn declarations<'a>(
 
 /// The program that the tokens of a judged text are.
 fn read_program(alloc: Global, lexemes: &[Lexeme<'_>]) -> Result<Reading, Memory>
-    requires program { (p : grammar.Program) × (map token_seen lexemes.now ≡ grammar.program_tokens p) }
+    requires program { (p : grammar.InfixProgram) × (map token_seen lexemes.now ≡ grammar.program_tokens p) }
     requires named { are_proper (map token_seen lexemes.now) ≡ true }
     requires few { length lexemes.now < 2 ^ 32 }
     ensures { IfOk result (ReadsProgram (map token_seen lexemes.now)) }
@@ -122,7 +122,7 @@ fn read_program(alloc: Global, lexemes: &[Lexeme<'_>]) -> Result<Reading, Memory
         variables: _,
     } = scope;
     Ok(Reading {
-        program: Program { declared, body },
+        program: InfixProgram { declared, body },
         breach,
     })
 }
@@ -135,7 +135,7 @@ fn read_program(alloc: Global, lexemes: &[Lexeme<'_>]) -> Result<Reading, Memory
 ///
 /// The first token that breaks one of the rules 1 to 4, with the least rule that it breaks; or else the least place and
 /// then the least rule of 5 to 9; or out of memory.
-pub fn read_mini(alloc: Global, text: &[u8]) -> Result<Program, MiniFault>
+pub fn read_mini(alloc: Global, text: &[u8]) -> Result<InfixProgram, MiniFault>
     requires { length text.now ≤ 2 ^ 20 }
     ensures read { IfOk result (ReadsText text.now) }
     ensures fault { RefusesText text.now result }

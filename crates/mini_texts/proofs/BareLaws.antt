@@ -4,13 +4,13 @@ use Rattle.std.specs.Prelude.{◌&&◌, nat_le, nat_lt}
 use Rattle.stack_text.specs.declared.shape.Shape.{Shape}
 use Rattle.stack_text.specs.Values.{ValueOf}
 use Rattle.gypsy_syntax.specs.declared.predef.Predef.{Predef}
-use Rattle.gypsy_syntax.specs.PredefinedCosts.{predef_temp, predef_ctrl}
+use Rattle.gypsy_syntax.specs.Predefined.{predef_temp, predef_ctrl}
 use Rattle.gypsy_syntax.specs.Effects.{value_at, is_true_value}
-use Rattle.gypsy_syntax.specs.Programs.{Cond, Leave, Routine, Space, Declared, Proc, Program, no_proc, proc_at, body_of, shapes_of, words_of}
+use Rattle.gypsy_syntax.specs.Programs.{ConditionOf, Leave, Routine, Space, Declared, Proc, Program, no_proc, proc_at, body_of, shapes_of, words_of}
 use Rattle.gypsy_syntax.specs.Programs.{Stmt, Skip, NoOp, Signal, Seq, Loop, If, Begin, Call, Apply}
-use Rattle.gypsy_space.specs.Needs.{Words, greatest, temp_need, ctrl_need, local_words, frame_of, main_used, with_call, call_need, has_room}
+use Rattle.gypsy_space.specs.Needs.{StackSizes, greatest, temp_need, ctrl_need, local_words, frame_of, main_used, with_call, call_need, has_room}
 use Rattle.gypsy_meaning.specs.Calls.{is_passed_on, matching, main_way, copied_in, copied_out, main_start, main_formals}
-use Rattle.gypsy_meaning.specs.Meaning.{Outcome, Done, Unfinished, then_do, either_way, caught, round_end, returned, if_room, evaluate, main_end, meaning}
+use Rattle.gypsy_meaning.specs.Meaning.{MeaningOutcome, Done, Unfinished, then_do, either_way, caught, round_end, returned, if_room, evaluate, main_end, meaning}
 
 -- ---- a program with 0 in all its places
 
@@ -59,7 +59,7 @@ ctrl_bare : (c : Proc) → ctrl_need (bare_procedure c) ≡ ctrl_need c
 ctrl_bare c = greatest_bare 0 predef_ctrl c.body
 
 -- what a call of a procedure wants, by the procedure
-abbrev need_by : Proc → Words
+abbrev need_by : Proc → StackSizes
 need_by c = record { temp = max (local_words c + length c.locals + length c.formals) (local_words c + temp_need c); ctrl = frame_of c + ctrl_need c }
 
 need_bare : (c : Proc) → need_by (bare_procedure c) ≡ need_by c
@@ -72,18 +72,18 @@ call_bare : (q : Program) (p : ℕ) → call_need (bare_program q) p ≡ call_ne
 unfolding call_need
 call_bare q p = ap need_by (proc_bare q p) ∙ need_bare (proc_at q p)
 
-room_bare : (q : Program) (sizes : Words) (p : ℕ) (u : Words) → has_room (bare_program q) sizes p u ≡ has_room q sizes p u
+room_bare : (q : Program) (sizes : StackSizes) (p : ℕ) (u : StackSizes) → has_room (bare_program q) sizes p u ≡ has_room q sizes p u
 unfolding has_room
-room_bare q sizes p u = ap (λ (w : Words). nat_le (u.temp + w.temp) sizes.temp && nat_le (u.ctrl + w.ctrl) sizes.ctrl) (call_bare q p)
+room_bare q sizes p u = ap (λ (w : StackSizes). nat_le (u.temp + w.temp) sizes.temp && nat_le (u.ctrl + w.ctrl) sizes.ctrl) (call_bare q p)
 
-abbrev used_by : Words → Proc → Words
+abbrev used_by : StackSizes → Proc → StackSizes
 used_by u c = record { temp = u.temp + local_words c; ctrl = u.ctrl + frame_of c }
 
-used_bare : (q : Program) (p : ℕ) (u : Words) → with_call (bare_program q) p u ≡ with_call q p u
+used_bare : (q : Program) (p : ℕ) (u : StackSizes) → with_call (bare_program q) p u ≡ with_call q p u
 unfolding with_call
 used_bare q p u = ap (used_by u) (proc_bare q p)
 
-abbrev main_words : Proc → Words
+abbrev main_words : Proc → StackSizes
 main_words c = record { temp = words_of (shapes_of c); ctrl = frame_of c }
 
 main_used_bare : (q : Program) → main_used (bare_program q) ≡ main_used q
@@ -96,26 +96,26 @@ copied_bare : (q : Program) (p : ℕ) (xs : List ℕ) (x : List ValueOf) → cop
 unfolding copied_in
 copied_bare q p xs x = ap (λ (c : Proc). map (value_at x) xs ++ c.locals) (proc_bare q p)
 
-matching_bare : (q : Program) (p : ℕ) (cs : List Cond) (c : Cond) → matching (bare_program q) p cs c ≡ matching q p cs c
+matching_bare : (q : Program) (p : ℕ) (cs : List ConditionOf) (c : ConditionOf) → matching (bare_program q) p cs c ≡ matching q p cs c
 unfolding matching
 matching_bare q p cs Leave = refl
 matching_bare q p cs Routine = refl
 matching_bare q p cs Space = refl
 matching_bare q p cs (Declared i) = ap (λ (d : Proc). cond (nat_lt i d.conds) (get_or cs i Routine) Routine) (proc_bare q p)
 
-returned_bare : (q : Program) (p : ℕ) (xs : List ℕ) (cs : List Cond) (x : List ValueOf) (o : Outcome) → returned (bare_program q) p xs cs x o ≡ returned q p xs cs x o
+returned_bare : (q : Program) (p : ℕ) (xs : List ℕ) (cs : List ConditionOf) (x : List ValueOf) (o : MeaningOutcome) → returned (bare_program q) p xs cs x o ≡ returned q p xs cs x o
 returned_bare q p xs cs x (Done y None) = refl
-returned_bare q p xs cs x (Done y (Some c)) = ap (λ (d : Cond). Done (copied_out xs y x) (Some d)) (matching_bare q p cs c)
+returned_bare q p xs cs x (Done y (Some c)) = ap (λ (d : ConditionOf). Done (copied_out xs y x) (Some d)) (matching_bare q p cs c)
 returned_bare q p xs cs x Unfinished = refl
 
-passed_bare : (q : Program) (p : ℕ) (c : Cond) → is_passed_on (bare_program q) p c ≡ is_passed_on q p c
+passed_bare : (q : Program) (p : ℕ) (c : ConditionOf) → is_passed_on (bare_program q) p c ≡ is_passed_on q p c
 unfolding is_passed_on
 passed_bare q p Leave = refl
 passed_bare q p Routine = refl
 passed_bare q p Space = refl
 passed_bare q p (Declared i) = ap (λ (d : Proc). nat_lt i d.conds) (proc_bare q p)
 
-way_bare : (q : Program) (c : Cond) → main_way (bare_program q) c ≡ main_way q c
+way_bare : (q : Program) (c : ConditionOf) → main_way (bare_program q) c ≡ main_way q c
 unfolding main_way
 way_bare q c = ap (λ (b : Bool). cond b c Routine) (passed_bare q q.main c)
 
@@ -129,16 +129,16 @@ formals_bare q x = ap (λ (c : Proc). take (length c.formals) x) (proc_bare q q.
 
 -- ---- what it means
 
-then_same : (o p : Outcome) (f g : List ValueOf → Outcome) → o ≡ p → ((x : List ValueOf) → f x ≡ g x) → then_do o f ≡ then_do p g
-then_same o p f g e h = ap (λ (r : Outcome). then_do r f) e ∙ ap (then_do p) (λ i x. h x i)
+then_same : (o p : MeaningOutcome) (f g : List ValueOf → MeaningOutcome) → o ≡ p → ((x : List ValueOf) → f x ≡ g x) → then_do o f ≡ then_do p g
+then_same o p f g e h = ap (λ (r : MeaningOutcome). then_do r f) e ∙ ap (then_do p) (λ i x. h x i)
 
-round_same : (o p : Outcome) (f g : List ValueOf → Outcome) → o ≡ p → ((x : List ValueOf) → f x ≡ g x) → round_end o f ≡ round_end p g
-round_same o p f g e h = ap (λ (r : Outcome). round_end r f) e ∙ ap (round_end p) (λ i x. h x i)
+round_same : (o p : MeaningOutcome) (f g : List ValueOf → MeaningOutcome) → o ≡ p → ((x : List ValueOf) → f x ≡ g x) → round_end o f ≡ round_end p g
+round_same o p f g e h = ap (λ (r : MeaningOutcome). round_end r f) e ∙ ap (round_end p) (λ i x. h x i)
 
-caught_same : (o p : Outcome) (cs : List Cond) (f g : List ValueOf → Outcome) → o ≡ p → ((x : List ValueOf) → f x ≡ g x) → caught o cs f ≡ caught p cs g
-caught_same o p cs f g e h = ap (λ (r : Outcome). caught r cs f) e ∙ ap (caught p cs) (λ i x. h x i)
+caught_same : (o p : MeaningOutcome) (cs : List ConditionOf) (f g : List ValueOf → MeaningOutcome) → o ≡ p → ((x : List ValueOf) → f x ≡ g x) → caught o cs f ≡ caught p cs g
+caught_same o p cs f g e h = ap (λ (r : MeaningOutcome). caught r cs f) e ∙ ap (caught p cs) (λ i x. h x i)
 
-evaluate_bare : (q : Program) (sizes : Words) (n : ℕ) (s : Stmt) (u : Words) (x : List ValueOf) → evaluate (bare_program q) sizes n (bare_statement s) u x ≡ evaluate q sizes n s u x
+evaluate_bare : (q : Program) (sizes : StackSizes) (n : ℕ) (s : Stmt) (u : StackSizes) (x : List ValueOf) → evaluate (bare_program q) sizes n (bare_statement s) u x ≡ evaluate q sizes n s u x
 evaluate_bare q sizes zero s u x = refl
 evaluate_bare q sizes (suc n) Skip u x = refl
 evaluate_bare q sizes (suc n) (NoOp place) u x = refl
@@ -164,7 +164,7 @@ evaluate_bare q sizes (suc n) (Call place p xs cs) u x =
     ∙ ap (if_room (has_room q sizes p u) x) (returned_bare q p xs cs x (evaluate q sizes n (body_of q p) (with_call q p u) (copied_in q p xs x)))
 evaluate_bare q sizes (suc n) (Apply place r args) u x = refl
 
-end_bare : (q : Program) (o : Outcome) → main_end (bare_program q) o ≡ main_end q o
+end_bare : (q : Program) (o : MeaningOutcome) → main_end (bare_program q) o ≡ main_end q o
 end_bare q (Done x None) = ap (λ (y : List ValueOf). Done y None) (formals_bare q x)
 end_bare q (Done x (Some c)) =
     let formals = formals_bare q x in
@@ -172,7 +172,7 @@ end_bare q (Done x (Some c)) =
     λ i. Done (formals i) (Some (way i))
 end_bare q Unfinished = refl
 
-meaning_bare : (q : Program) (sizes : Words) (v : List ValueOf) (n : ℕ) → meaning (bare_program q) sizes v n ≡ meaning q sizes v n
+meaning_bare : (q : Program) (sizes : StackSizes) (v : List ValueOf) (n : ℕ) → meaning (bare_program q) sizes v n ≡ meaning q sizes v n
 meaning_bare q sizes v n =
     let body = ap (λ (c : Proc). c.body) (proc_bare q q.main) in
     let used = main_used_bare q in
@@ -191,5 +191,5 @@ module _ (q r : Program) (same : bare_program q ≡ bare_program r) where
   same_shapes =
       sym (ap (λ (c : Proc). c.formals) (proc_bare q q.main)) ∙ ap (λ (p : Program). (proc_at p p.main).formals) same ∙ ap (λ (c : Proc). c.formals) (proc_bare r r.main)
 
-  pub same_meaning : (sizes : Words) (v : List ValueOf) (n : ℕ) → meaning q sizes v n ≡ meaning r sizes v n
+  pub same_meaning : (sizes : StackSizes) (v : List ValueOf) (n : ℕ) → meaning q sizes v n ≡ meaning r sizes v n
   same_meaning sizes v n = sym (meaning_bare q sizes v n) ∙ ap (λ (p : Program). meaning p sizes v n) same ∙ meaning_bare r sizes v n

@@ -6,10 +6,10 @@ use Rattle.stack_text.specs.Breaches.{least}
 use Rattle.stack_text.proofs.BreachLaws.{none_least}
 use Rattle.gypsy_syntax.specs.Sources.{SourceOf}
 use Rattle.mini_syntax.specs.declared.expected.Expected.{Expected}
-use Rattle.mini_syntax.specs.Answers.{IsFault, of_tokens, of_program, IsRead}
+use Rattle.mini_syntax.specs.MiniReading.{IsFault, of_tokens, of_program, IsRead}
 use Rattle.mini_syntax.specs.Breaches.{breaches}
 use Rattle.mini_syntax.specs.Expected.{at_start, is_over, taken}
-use Rattle.mini_syntax.specs.Grammar.{IsProgram, Program}
+use Rattle.mini_syntax.specs.Grammar.{IsProgram, InfixProgram}
 use Rattle.mini_syntax.specs.Tokens.{place_of, tokens_in}
 use Rattle.mini_syntax.proofs.ExpectedLaws.{end_of, over_end, program_taken}
 use Rattle.mini_syntax.proofs.GoesOnLaws.{is_whole}
@@ -20,7 +20,7 @@ use Rattle.mini_texts.specs.Readings.{Reading, faultless, faulty, lowering_by, s
 use Rattle.mini_texts.proofs.TokenLaws.{FreeAfter, Walked, stops, ends_so, walk}
 
 -- a program is never at its end where more is expected
-not_over : (text : List ℕ) (st : List Expected) → taken (Some at_start) (tokens_in text) ≡ Some st → is_over st ≡ false → (p : Program) → IsProgram text p → ⊥
+not_over : (text : List ℕ) (st : List Expected) → taken (Some at_start) (tokens_in text) ≡ Some st → is_over st ≡ false → (p : InfixProgram) → IsProgram text p → ⊥
 not_over text st e over p is =
     let whole : Some (end_of p.forms) ≡ Some st = sym (program_taken p) ∙ ap (taken (Some at_start)) (sym is) ∙ e in
     let same : end_of p.forms ≡ st = cc in
@@ -30,7 +30,7 @@ not_over text st e over p is =
 pub read : (text : List ℕ) → Reading text
 read text = by_walk (walk [] (tokens_in text) at_start refl)
   where
-    by_breaches : (p : Program) → IsRead text p → (found : Option Breach) → least (breaches p) ≡ found → Reading text
+    by_breaches : (p : InfixProgram) → IsRead text p → (found : Option Breach) → least (breaches p) ≡ found → Reading text
     by_breaches p is None none = faultless p record { read = is; clean = none_least (breaches p) none }
     by_breaches p is (Some breach) some = faulty breach (of_program p is some)
 
@@ -59,5 +59,5 @@ fault_read text rule place f (faulty b g) =
 pub source_read : (text : List ℕ) (s : SourceOf) → Lowers text s → (found : Reading text) → lowering_by found ≡ Ok s
 source_read text s a (faultless p is) =
     let same : p ≡ a.program = program_is text p a.program is.read.program a.faultless.read.program in
-    ap (λ (q : Program). Ok (source_for q)) same ∙ ap (λ (t : SourceOf). Ok t) (sym a.source)
+    ap (λ (q : InfixProgram). Ok (source_for q)) same ∙ ap (λ (t : SourceOf). Ok t) (sym a.source)
 source_read text s a (faulty b g) = absurd (either_way text b.rule b.place a.program g a.faultless)

@@ -3,7 +3,7 @@ use Rattle.std.proofs.Common.{◌≡◌, ◌≤◌, ℕ, ◌+◌, ◌*◌, List,
 use Rattle.std.specs.Prelude.{◌^◌}
 use Rattle.stack_text.specs.declared.shape.Shape.{Shape}
 use Rattle.stack_text.specs.Trees.{node_count}
-use Rattle.gypsy_syntax.specs.Answers.{KeepsForm}
+use Rattle.gypsy_syntax.specs.GypsyReading.{KeepsForm}
 use Rattle.gypsy_syntax.specs.Printed.{tree_of}
 use Rattle.gypsy_syntax.specs.Programs as gypsy
 use Rattle.gypsy_syntax.specs.Resolved.{program_of}
@@ -11,10 +11,10 @@ use Rattle.gypsy_syntax.proofs.MadeLaws.{fits_keeps}
 use Rattle.gypsy_syntax.proofs.ReadAgainLaws.{gypsy_text_reads}
 use Rattle.gypsy_syntax.proofs.SizeLaws.{text_over}
 use Rattle.gypsy_meaning.specs.Kept.{VarsFit}
-use Rattle.mini_syntax.specs.Answers.{IsFaultless}
+use Rattle.mini_syntax.specs.MiniReading.{IsFaultless}
 use Rattle.mini_syntax.specs.Breaches.{body_of, declared_of}
 use Rattle.mini_syntax.specs.declared.program.Declared.{Declared}
-use Rattle.mini_syntax.specs.Grammar.{Program}
+use Rattle.mini_syntax.specs.Grammar.{InfixProgram}
 use Rattle.mini_syntax.specs.Language.{Stmt}
 use Rattle.mini_syntax.specs.Lawful.{IsLawful}
 use Rattle.mini_syntax.proofs.LimitLaws.{free_is_lawful}
@@ -39,7 +39,7 @@ means_again : (q r : gypsy.Program) (s : Stmt) → bare_program q ≡ bare_progr
 means_again q r s same means sizes v n fits =
     same_meaning q r same sizes v n ∙ means sizes v n (subst (λ (shapes : List Shape). VarsFit shapes v) (same_shapes q r same) fits)
 
-pub stands : (text : List ℕ) (program : Program) → length text ≤ 2 ^ 20 → IsFaultless text program → StandsFor (stored_text program) program
+pub stands : (text : List ℕ) (program : InfixProgram) → length text ≤ 2 ^ 20 → IsFaultless text program → StandsFor (stored_text program) program
 stands text program few is =
     let ds = declared_of program in
     let body = body_of program in
@@ -54,7 +54,7 @@ stands text program few is =
       means = means_again (program_of again.0) (program_of source) body (bare_same again.0 source again.2) (lowered_means ds body lawful);
     }
 
-pub stored_short : (text : List ℕ) (program : Program) → length text ≤ 2 ^ 20 → IsFaultless text program → length (stored_text program) ≤ 60 * length text + 2000
+pub stored_short : (text : List ℕ) (program : InfixProgram) → length text ≤ 2 ^ 20 → IsFaultless text program → length (stored_text program) ≤ 60 * length text + 2000
 stored_short text program few is =
     let short = free_is_lawful text program is.read.program few is.read.free is.clean in
     let whole = lowered_short (declared_of program) (body_of program) short.lawful in

@@ -2,14 +2,14 @@
 use Rattle.std.proofs.Common.{◌≡◌, ℕ, ◌≤◌, List, [], ◌∷◌, ◌++◌, true, false, Option, Some, None, refl, sym, ap, subst, ◌∙◌, append_assoc, arith}
 use Rattle.std.specs.Prelude.{◌&&◌, nat_le}
 use Rattle.std.specs.Prelude as std
-use Rattle.std.proofs.lemmas.Bool.{leb-true, le-leb}
+use Rattle.std.proofs.lemmas.Bool.{leb-true, le-leb, and_parts}
 use Rattle.std.proofs.lemmas.List.{append-nil}
 use Rattle.mini_syntax.specs.declared.expected.Expected.{Expected}
 use Rattle.mini_syntax.specs.Expected.{at_start, taken, takes}
 use Rattle.mini_syntax.specs.Faults.{BreaksAt, blocks, brackets, no_program, no_token, open_blocks, open_brackets, operators, too_many}
 use Rattle.mini_syntax.specs.Faults.{is_operator, opens_block, opens_bracket}
 use Rattle.mini_syntax.specs.Grammar.{GoesOn}
-use Rattle.mini_syntax.specs.Judging.{is_wrong}
+use Rattle.mini_syntax.specs.Scaffold.Judging.{is_wrong}
 use Rattle.mini_syntax.specs.Tokens.{Token, name_at, number_at, word_at, mark_at, wrong_at, kind_of}
 use Rattle.mini_syntax.proofs.ExpectedLaws.{not_taken, taken_append}
 use Rattle.mini_syntax.proofs.GoesOnLaws.{goes_on}
@@ -22,11 +22,6 @@ is_full test n = test && nat_le 40 n
 
 full : (test : std.Bool) (n : ℕ) → test ≡ true → 40 ≤ n → is_full test n ≡ true
 full test n holds le = rw (holds, le-leb 40 n le) refl
-
-both : (p q : std.Bool) → (p && q) ≡ true → (p ≡ true) × (q ≡ true)
-both true true e = (refl, refl)
-both true false e = absurd cc
-both false q e = absurd cc
 
 -- what is known where a token breaks a rule
 data Broken (before : List Token) (t : Token) (rule : ℕ) : Type 0 where
@@ -96,13 +91,13 @@ module _ (before : List Token) (t : Token) (st : List Expected) (is : taken (Som
     by_limits : (a b c : std.Bool) → is_full (opens_bracket (kind_of t)) (open_brackets before) ≡ a → is_full (opens_block (kind_of t)) (open_blocks before) ≡ b
         → is_full (is_operator (kind_of t)) (operators before) ≡ c → Judged before t
     by_limits true b c x y z =
-        let h = both (opens_bracket (kind_of t)) (nat_le 40 (open_brackets before)) x in
+        let h = and_parts (opens_bracket (kind_of t)) (nat_le 40 (open_brackets before)) x in
         breaks 3 (brackets t goes h.0 (leb-true 40 (open_brackets before) h.1)) (λ rule k. at_least_three right goes rule (broken before t rule k))
     by_limits false true c x y z =
-        let h = both (opens_block (kind_of t)) (nat_le 40 (open_blocks before)) y in
+        let h = and_parts (opens_block (kind_of t)) (nat_le 40 (open_blocks before)) y in
         breaks 3 (blocks t goes h.0 (leb-true 40 (open_blocks before) h.1)) (λ rule k. at_least_three right goes rule (broken before t rule k))
     by_limits false false true x y z =
-        let h = both (is_operator (kind_of t)) (nat_le 40 (operators before)) z in
+        let h = and_parts (is_operator (kind_of t)) (nat_le 40 (operators before)) z in
         breaks 4 (too_many t goes h.0 (leb-true 40 (operators before) h.1)) (λ rule k. at_least_four rule (broken before t rule k))
       where
         at_least_four : (rule : ℕ) → Broken before t rule → 4 ≤ rule

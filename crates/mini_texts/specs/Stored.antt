@@ -1,7 +1,7 @@
 -- That a text is a source of Micro-Gypsy which means what a program of the infix language does.
 use Rattle.std.specs.Prelude.{◌≡◌, ℕ, List, [], Ok}
 use Rattle.stack_text.specs.Values.{ValueOf}
-use Rattle.gypsy_syntax.specs.Answers.{gypsy_in}
+use Rattle.gypsy_syntax.specs.GypsyReading.{gypsy_in}
 use Rattle.gypsy_syntax.specs.Places.{without_places}
 use Rattle.gypsy_syntax.specs.Printed.{gypsy_text}
 use Rattle.gypsy_syntax.specs.Programs.{proc_at}
@@ -9,27 +9,27 @@ use Rattle.gypsy_syntax.specs.Programs as gypsy
 use Rattle.gypsy_syntax.specs.Resolved.{program_of}
 use Rattle.gypsy_syntax.specs.Sources.{SourceOf}
 use Rattle.gypsy_check.specs.Rules.{violations}
-use Rattle.gypsy_space.specs.Needs.{Words}
+use Rattle.gypsy_space.specs.Needs.{StackSizes}
 use Rattle.gypsy_meaning.specs.Kept.{VarsFit}
 use Rattle.gypsy_meaning.specs.Meaning.{meaning}
 use Rattle.mini_syntax.specs.Breaches.{body_of}
-use Rattle.mini_syntax.specs.Grammar.{Program}
+use Rattle.mini_syntax.specs.Grammar.{InfixProgram}
 use Rattle.mini_syntax.specs.Language.{Stmt}
 use Rattle.mini_gypsy.specs.Meant.{program_run}
 use Rattle.mini_texts.specs.Readings.{source_for}
 
 -- what is stored of a program
-abbrev pub stored_text : Program → List ℕ
+abbrev pub stored_text : InfixProgram → List ℕ
 stored_text program = gypsy_text (source_for program)
 
 -- on all values that fit, with stacks of any sizes and at every bound, the program of Micro-Gypsy means what the infix program does
 abbrev pub MeansAlways : gypsy.Program → Stmt → Type 0
 MeansAlways q s =
-    (sizes : Words) (v : List ValueOf) (n : ℕ) → VarsFit (proc_at q q.main).formals v → meaning q sizes v n ≡ program_run s v n
+    (sizes : StackSizes) (v : List ValueOf) (n : ℕ) → VarsFit (proc_at q q.main).formals v → meaning q sizes v n ≡ program_run s v n
 
 -- The text is read as a source that breaks no static rule. But for places it is the one that the program becomes, and it means what the
 -- program does.
-pub record StandsFor (text : List ℕ) (program : Program) : Type 0 where
+pub record StandsFor (text : List ℕ) (program : InfixProgram) : Type 0 where
   pub source : SourceOf
   pub read : gypsy_in text ≡ Ok source
   pub rules : violations source ≡ []

@@ -40,6 +40,7 @@ use Rattle.piton_check.specs.Declarations.{Declaration, area_name, program_name,
 use Rattle.piton_check.specs.Instruction as seen
 use Rattle.piton_check.specs.Instruction.{Instruction, instruction_of, instruction_view, program_view, system_view, with_word, with_number, with_local, with_place, with_area, with_program, with_test, place_of}
 use Rattle.stack_text.specs.Options.{◌>>=◌}
+use Rattle.stack_text.proofs.SharedLaws.{rule_fails, some_of, some_is, append_none, get_map}
 use Rattle.piton_check.specs.Meaning.{natural, integer, position_in, area_lengths, program_lengths, word_of, name_kind, count_of}
 use Rattle.piton_check.specs.Resolved.{resolved, resolved_word, resolved_temporary, resolved_area, resolved_argument, resolved_instruction, resolved_program, resolved_number}
 use Rattle.piton_check.specs.Sound.{Exists, IsPlace, IsLocal, IsArea, IsProgram, IsCount, IsPlaced, IsEnd, IsSoundProgram, IsMain, IsSound, local_count}
@@ -54,18 +55,9 @@ view_in s p = program_view (resolved_program s p)
 
 -- ---- lists
 
-append_none : {X : Type 0} (xs ys : List X) → xs ++ ys ≡ [] → (xs ≡ []) × (ys ≡ [])
-append_none [] ys h = (refl, h)
-append_none (x ∷ xs) ys h = absurd cc
-
 none_each : {X : Type 0} (f : X → List Breach) (xs : List X) → flat_map f xs ≡ [] → All (λ x. f x ≡ []) xs
 none_each f [] h = All-nil (λ x. f x ≡ [])
 none_each f (x ∷ xs) h = let p = append_none (f x) (flat_map f xs) h in All-cons (λ y. f y ≡ []) x xs p.0 (none_each f xs p.1)
-
-get-map : {X Y : Type 0} (f : X → Y) (xs : List X) (i : ℕ) (x : X) → slice_get xs i ≡ Some x → slice_get (map f xs) i ≡ Some (f x)
-get-map f [] i x h = absurd cc
-get-map f (y ∷ xs) zero x h = let e : y ≡ x = cc in ap (λ z. Some (f z)) e
-get-map f (y ∷ xs) (suc i) x h = get-map f xs i x h
 
 get-or : {X : Type 0} (xs : List X) (i : ℕ) (d : X) → i < length xs → slice_get xs i ≡ Some (get_or xs i d)
 get-or [] i d lt = absurd (omega (arith, lt))
@@ -79,14 +71,6 @@ or-map f (x ∷ xs) (suc i) d e lt = or-map f xs i d e (omega (arith, lt))
 
 -- ---- what means something
 
-when_none : (b : Bool) (place rule : ℕ) → when b place rule ≡ [] → b ≡ false
-when_none true place rule h = absurd cc
-when_none false place rule h = refl
-
-meant : {X : Type 0} (o : Option X) → is_none o ≡ false → (x : X) × (o ≡ Some x)
-meant None h = absurd cc
-meant (Some x) h = (x, refl)
-
 map_some : {X Y : Type 0} (f : X → Y) (o : Option X) (y : Y) → option_map f o ≡ Some y → (x : X) × (o ≡ Some x) × (f x ≡ y)
 map_some f None y h = absurd cc
 map_some f (Some x) y h = (x, refl, cc)
@@ -94,9 +78,6 @@ map_some f (Some x) y h = (x, refl, cc)
 test_some : {X : Type 0} (b : Bool) (x y : X) → cond b (Some x) None ≡ Some y → (b ≡ true) × (x ≡ y)
 test_some true x y h = (refl, cc)
 test_some false x y h = absurd cc
-
-some_is : {X : Type 0} (x y : X) → Some x ≡ Some y → x ≡ y
-some_is x y h = cc
 
 first_within : (ds : List Declaration) (name : List ℕ) (i : ℕ) → first_of ds name ≡ Some i → i < length ds
 first_within ds name i h = (position-Some (is_named name) ds i None h).0
@@ -167,7 +148,7 @@ word_exists s (item.Subr program) w h =
 
 word_sound : (s : SystemOf) (w : WordText) → word_breaches s w ≡ [] → Exists (view_of s) (resolved_word s w)
 word_sound s w h =
-    let m = meant (word_of s w.item) (when_none (is_none (word_of s w.item)) w.place 11 h) in
+    let m = some_of (word_of s w.item) (rule_fails (is_none (word_of s w.item)) w.place 11 h) in
     subst (λ (o : Option Word). Exists (view_of s) (unwrap_or o (word.Bool false))) (sym m.1) (word_exists s w.item m.0 m.1)
 
 words_sound : (s : SystemOf) (ws : List WordText) → flat_map (word_breaches s) ws ≡ [] → All (Exists (view_of s)) (map (resolved_word s) ws)
@@ -184,7 +165,7 @@ temporaries_sound s ts h =
 name_meant : (ds : List Declaration) (make : ℕ → ResolvedArg) (name : List ℕ) (place rule : ℕ) → when (is_none (option_map make (first_of ds name))) place rule ≡ [] →
     (i : ℕ) × (unwrap_or (option_map make (first_of ds name)) (arg.Number 0) ≡ make i) × (i < length ds)
 name_meant ds make name place rule h =
-    let m = meant (option_map make (first_of ds name)) (when_none (is_none (option_map make (first_of ds name))) place rule h) in
+    let m = some_of (option_map make (first_of ds name)) (rule_fails (is_none (option_map make (first_of ds name))) place rule h) in
     let f = map_some make (first_of ds name) m.0 m.1 in
     (f.0, ap (λ (o : Option ResolvedArg). unwrap_or o (arg.Number 0)) m.1 ∙ sym f.2, first_within ds name f.0 f.1)
 
@@ -244,7 +225,7 @@ module _ (s : SystemOf) (p : ProgramOf) where
   one_count : (make : ℕ → Instruction) (args : List ArgText) → FitsArguments (One kind.Count) args → flat_map (argument_breaches s p kind.Count) args ≡ [] →
       (i : ℕ) × (with_number make (map (resolved_argument s p kind.Count) args) ≡ make i) × IsCount i
   one_count make (text.Number n ∷ []) fits h =
-      let m = meant (count_of n.number) (when_none (is_none (count_of n.number)) n.place 13 (none_one kind.Count (text.Number n) h)) in
+      let m = some_of (count_of n.number) (rule_fails (is_none (count_of n.number)) n.place 13 (none_one kind.Count (text.Number n) h)) in
       (m.0, ap (λ (o : Option ℕ). make (unwrap_or o 0)) m.1, count_below n.number m.0 m.1)
   one_count make (a ∷ []) fits h = absurd fits
   one_count make [] fits h = absurd fits
@@ -321,7 +302,7 @@ module _ (s : SystemOf) (p : ProgramOf) where
   end_sound o args is fits h = absurd (true≢false (sym is))
 
   last_end : (o : PitonOp) (place : ℕ) → when (not (is_end o)) place 12 ≡ [] → is_end o ≡ true
-  last_end o place h = by_test (is_end o) (when_none (not (is_end o)) place 12 h)
+  last_end o place h = by_test (is_end o) (rule_fails (not (is_end o)) place 12 h)
     where
       by_test : (b : Bool) → not b ≡ false → b ≡ true
       by_test true e = refl
@@ -372,14 +353,14 @@ within_number low high (pos n) small h =
     (omega (arith, value, above), omega (arith, value, below))
 
 size_sound : (low high : ℕ) (n : Number) → high ≤ 2 ^ 31 → when (not (is_within low high n.number)) n.place 14 ≡ [] → (low ≤ resolved_number n.number) × (resolved_number n.number ≤ high)
-size_sound low high n small h = within_number low high n.number small (by_test (is_within low high n.number) (when_none (not (is_within low high n.number)) n.place 14 h))
+size_sound low high n small h = within_number low high n.number small (by_test (is_within low high n.number) (rule_fails (not (is_within low high n.number)) n.place 14 h))
   where
     by_test : (b : Bool) → not b ≡ false → b ≡ true
     by_test true e = refl
     by_test false e = absurd cc
 
 no_formals : {X : Type 0} (xs : List X) (place : ℕ) → when (ltb 0 (length xs)) place 4 ≡ [] → length xs ≡ 0
-no_formals xs place h = let le : length xs ≤ 0 = ltb-false 0 (length xs) (when_none (ltb 0 (length xs)) place 4 h) in omega (arith, le)
+no_formals xs place h = let le : length xs ≤ 0 = ltb-false 0 (length xs) (rule_fails (ltb 0 (length xs)) place 4 h) in omega (arith, le)
 
 main_sound : (s : SystemOf) → main_breaches s (main_of s) ≡ [] → first_frame (main_of s) ≤ (view_of s).ctrl → (p : seen.ProgramView) × IsMain (view_of s) p
 main_sound s none room = by_main (main_of s) refl none room
@@ -389,7 +370,7 @@ main_sound s none room = by_main (main_of s) refl none room
     by_main (Some p) e h r =
         let b = bind_some (first_of (program_names s) s.main.name) (slice_get s.programs) p e in
         let main_is : (view_of s).main ≡ b.0 = ap (λ (o : Option ℕ). unwrap_or o 0) b.1 in
-        let there : slice_get (view_of s).programs b.0 ≡ Some (view_in s p) = get-map program_view (map (resolved_program s) s.programs) b.0 (resolved_program s p) (get-map (resolved_program s) s.programs b.0 p b.2) in
+        let there : slice_get (view_of s).programs b.0 ≡ Some (view_in s p) = get_map program_view (map (resolved_program s) s.programs) b.0 (resolved_program s p) (get_map (resolved_program s) s.programs b.0 p b.2) in
         let frame : 2 + length p.temporaries ≤ (view_of s).ctrl = r in (
           view_in s p,
           record {

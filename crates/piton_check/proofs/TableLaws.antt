@@ -9,7 +9,8 @@ use Rattle.indexmap.specs.IndexMap.{insert_entry}
 use Rattle.stack_text.specs.declared.breach.Breach.{Breach}
 use Rattle.stack_text.specs.Breaches.{when, lesser_of, least, Notes}
 use Rattle.piton_check.specs.Declarations.{Declaration, is_named, first_of, repeat_of, repeats}
-use Rattle.piton_check.specs.Tables.{first_or, repeated}
+use Rattle.piton_check.specs.Scaffold.Tables.{repeated}
+use Rattle.stack_text.specs.Options.{first_or}
 use Rattle.stack_text.proofs.BreachLaws.{notes_more}
 
 abbrev Key : Type 0

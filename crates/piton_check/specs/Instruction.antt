@@ -9,7 +9,7 @@ use Rattle.piton_syntax.specs.declared.test_kind.TestFamily.TheVariants as famil
 use Rattle.piton_syntax.specs.declared.test_kind.TestKind.{TestKind}
 use Rattle.piton_check.specs.declared.resolved.ResolvedArg.{ResolvedArg}
 use Rattle.piton_check.specs.declared.resolved.ResolvedArg.TheVariants as arg
-use Rattle.piton_check.specs.Words.{word_operation}
+use Rattle.piton_check.specs.WordOperations.{word_operation}
 use Rattle.piton_check.specs.Resolved.{ResolvedInstrOf, ResolvedProgramOf, ResolvedOf}
 
 -- A place is the position of an instruction in its program, an offset that of a word in the frame.

@@ -3,9 +3,9 @@ pub mod Declarations
 pub mod Meaning
 pub mod Resolved
 pub mod Violations
-pub mod Words
+pub mod WordOperations
 pub mod Instruction
 pub mod Sound
-pub mod Answers
--- Scaffold: what only private functions say.
-pub mod Tables
+pub mod PitonChecking
+-- In folders: scaffold.
+pub mod Scaffold

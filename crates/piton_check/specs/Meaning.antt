@@ -1,6 +1,7 @@
 -- What the words, names and numbers of a system mean: positions of first declarations, and numbers in range.
 use Rattle.std.specs.Prelude.{ℕ, ◌^◌, ℤ, pos, negsuc, List, map, length, get_or, Option, Some, None, nat_lt, nat_le, if◌then◌else◌}
 use Rattle.std.specs.Option.{option_map}
+use Rattle.stack_text.specs.SharedLimits.{most_stack}
 use Rattle.fm_words.specs.Word.{is_int}
 use Rattle.piton_words.specs.declared.word.Word.{Word}
 use Rattle.piton_words.specs.declared.word.Word.TheVariants as word
@@ -64,4 +65,4 @@ name_of s p _ name = None
 
 -- a count that an instruction may have
 abbrev pub count_of : ℤ → Option ℕ
-count_of number = natural number >>= λ n. if nat_le n 65536 then Some n else None
+count_of number = natural number >>= λ n. if nat_le n most_stack then Some n else None

@@ -1,6 +1,8 @@
 -- What is known of a checked system: all that it names exists, and its numbers are within their limits.
 use Rattle.std.specs.Prelude.{◌≡◌, ℕ, ◌+◌, ◌-◌, ◌<◌, ◌≤◌, ◌^◌, [], length, map, get_or, slice_get, Some, All, Contains, IsTrue}
 use Rattle.std.specs.List.{sum_by}
+use Rattle.piton_syntax.specs.Limits.{most_instructions, most_areas, most_programs, most_program_variables}
+use Rattle.stack_text.specs.SharedLimits.{most_stack}
 use Rattle.fm_words.specs.Word.{is_int}
 use Rattle.piton_words.specs.declared.word.Word.{Word}
 use Rattle.piton_words.specs.declared.word.Word.TheVariants as word
@@ -42,7 +44,7 @@ abbrev pub IsProgram : SystemView → ℕ → Type 0
 IsProgram s program = program < length s.programs
 
 abbrev pub IsCount : ℕ → Type 0
-IsCount n = n ≤ 65536
+IsCount n = n ≤ most_stack
 
 -- what an instruction names exists
 abbrev pub IsPlaced : SystemView → ProgramView → Instruction → Type 0
@@ -91,8 +93,8 @@ pub record IsSoundProgram (s : SystemView) (p : ProgramView) : Type 0 where
   pub instructions : All (IsPlaced s p) p.instructions
   pub some_instructions : 0 < length p.instructions
   pub last : IsEnd (get_or p.instructions (length p.instructions - 1) NoOp)
-  pub few_instructions : length p.instructions ≤ 1048576
-  pub few_locals : local_count p ≤ 400
+  pub few_instructions : length p.instructions ≤ most_instructions
+  pub few_locals : local_count p ≤ most_program_variables
 
 -- the program that is run takes nothing, and the control stack has room for its frame
 pub record IsMain (s : SystemView) (p : ProgramView) : Type 0 where
@@ -102,15 +104,15 @@ pub record IsMain (s : SystemView) (p : ProgramView) : Type 0 where
 
 pub record IsSound (s : SystemView) : Type 0 where
   pub main : (p : ProgramView) × IsMain s p
-  pub few_ctrl : s.ctrl ≤ 65536
+  pub few_ctrl : s.ctrl ≤ most_stack
   pub some_temp : 0 < s.temp
-  pub few_temp : s.temp ≤ 65536
+  pub few_temp : s.temp ≤ most_stack
   pub stack_fits : length s.stack ≤ s.temp
   pub low_base : s.base ≤ 2 ^ 31
   pub areas : All (All (Exists s)) s.areas
   pub some_words : All (λ words. 0 < length words) s.areas
   pub stack : All (Exists s) s.stack
   pub programs : All (IsSoundProgram s) s.programs
-  pub few_areas : length s.areas ≤ 1000
-  pub few_programs : length s.programs ≤ 1100
+  pub few_areas : length s.areas ≤ most_areas
+  pub few_programs : length s.programs ≤ most_programs
   pub few_words : all_words s + all_targets s ≤ 2 ^ 31

@@ -3,6 +3,7 @@ use Rattle.std.specs.Prelude.{ℕ, ◌+◌, ◌-◌, ◌^◌, max, ℤ, pos, neg
 use Rattle.std.specs.Prelude.{not, ◌&&◌, nat_lt, nat_le, slice_get}
 use Rattle.std.specs.List.{flat_map}
 use Rattle.std.specs.Option.{is_none}
+use Rattle.stack_text.specs.SharedLimits.{most_stack}
 use Rattle.stack_text.specs.declared.name.Named.{Named}
 use Rattle.piton_syntax.specs.declared.argument.ArgKind.{ArgKind}
 use Rattle.piton_syntax.specs.declared.argument.ArgKind.TheVariants as kind
@@ -87,8 +88,8 @@ first_frame (Some p) = 2 + length p.temporaries
 -- empty or over 65,536 words, or the base is over 2^31
 abbrev pub size_breaches : SystemOf → List Breach
 size_breaches s =
-    when (not (is_within (first_frame (main_of s)) 65536 s.ctrl.number)) s.ctrl.place 14
-    ++ when (not (is_within (max (length s.stack) 1) 65536 s.temp.number)) s.temp.place 14
+    when (not (is_within (first_frame (main_of s)) most_stack s.ctrl.number)) s.ctrl.place 14
+    ++ when (not (is_within (max (length s.stack) 1) most_stack s.temp.number)) s.temp.place 14
     ++ when (not (is_within 0 (2 ^ 31) s.base.number)) s.base.place 14
 
 -- Q2 of areas, Q1 of programs

@@ -6,25 +6,22 @@ ghost use Rattle.stack_text.specs.Breaches.{Notes};
 ghost use Rattle.piton_check.specs.Declarations.{label_names, local_names, first_of};
 ghost use Rattle.piton_check.specs.Meaning.{count_of, name_kind, name_of};
 ghost use Rattle.piton_check.specs.Resolved.{resolved_argument, resolved_instruction};
-ghost use Rattle.piton_check.specs.Tables.{KnowsProgram};
+ghost use Rattle.piton_check.specs.Scaffold.Tables.{KnowsProgram};
 ghost use Rattle.piton_check.specs.Violations.{name_rule, argument_breaches, instruction_breaches};
 
 use crate::names::{Scope, position};
 use crate::resolved::{ResolvedArg, ResolvedInstr};
 use crate::word::{area_position, natural, program_position, word};
 use piton_syntax::{ArgKind, ArgText, Arguments, InstrText};
-use stack_text::{Breach, Memory, Name, note_if};
+use stack_text::{Breach, MOST_STACK, Memory, Name, note_if};
 use std::alloc::Global;
-
-/// The largest count of an instruction.
-const MAX_COUNT: u32 = 65_536;
 
 /// The number, where an instruction may have it as its count.
 fn count(number: i128) -> Option<u32>
     ensures { result ≡ count_of number }
 {
     let count = natural(number)?;
-    if count <= MAX_COUNT {
+    if count <= MOST_STACK {
         Some(count)
     } else {
         None
@@ -123,7 +120,7 @@ fn arguments(
         let breaches = flat_map (argument_breaches system scope.now.program.now kind) texts.now in
         OnOk result (Notes best.old breaches best.new) }
 {
-    let mut args = Vec::new(alloc);
+    let mut args = Vec::with_capacity(alloc, texts.len())?;
     for text in texts {
         args.push(argument(best, scope, kind, text))?;
     }
@@ -162,7 +159,7 @@ pub(crate) fn instructions(
         let breaches = flat_map (instruction_breaches system scope.now.program.now) texts.now in
         OnOk result (Notes best.old breaches best.new) }
 {
-    let mut instrs = Vec::new(alloc);
+    let mut instrs = Vec::with_capacity(alloc, texts.len())?;
     for text in texts {
         instrs.push(instruction(alloc, best, scope, text)?)?;
     }

@@ -1,8 +1,8 @@
 //! Checked systems.
 
 ghost use Rattle.std.specs.Prelude.{◌≡◌, IfOk, IfErr};
-ghost use Rattle.piton_syntax.specs.Answers.{KeepsForm};
-ghost use Rattle.piton_check.specs.Answers.{IsLeast, IsChecked};
+ghost use Rattle.piton_syntax.specs.PitonReading.{KeepsForm};
+ghost use Rattle.piton_check.specs.PitonChecking.{IsLeast, IsChecked};
 
 use crate::fault::CheckFault;
 use crate::resolved::Resolved;
@@ -22,7 +22,7 @@ pub struct Checked {
 }
 
 impl Model for Checked {
-    ghost use Rattle.piton_check.specs.Answers.{CheckedOf, IsChecked};
+    ghost use Rattle.piton_check.specs.PitonChecking.{CheckedOf, IsChecked};
 
     ghost Value = { CheckedOf };
 

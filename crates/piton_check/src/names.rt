@@ -4,7 +4,8 @@ ghost use Rattle.std.specs.Prelude.{◌≡◌, ℕ, ◌+◌, ◌≤◌, ◌^◌,
 ghost use Rattle.std.specs.Str.{bytes_eq};
 ghost use Rattle.stack_text.specs.Breaches.{when, Notes};
 ghost use Rattle.piton_check.specs.Declarations.{area_name, program_name, formal_name, temporary_name, label_name, is_named, repeats};
-ghost use Rattle.piton_check.specs.Tables.{look_up, first_or, repeated, Knows};
+ghost use Rattle.piton_check.specs.Scaffold.Tables.{look_up, repeated, Knows};
+ghost use Rattle.stack_text.specs.Options.{first_or};
 
 use indexmap::IndexMap;
 use piton_syntax::{Area, InstrText, Program, System, WordText};

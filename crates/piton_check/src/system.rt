@@ -5,7 +5,7 @@ ghost use Rattle.std.specs.List.{flat_map};
 ghost use Rattle.std.specs.Option.{option_map};
 ghost use Rattle.stack_text.specs.Breaches.{when, Notes};
 ghost use Rattle.piton_check.specs.Resolved.{resolved, resolved_area, resolved_number};
-ghost use Rattle.piton_check.specs.Tables.{IsSmallSystem, KnowsSystem};
+ghost use Rattle.piton_check.specs.Scaffold.Tables.{IsSmallSystem, KnowsSystem};
 ghost use Rattle.piton_check.specs.Violations.{area_breaches, first_frame, is_within, main_breaches, main_of, name_breaches, part_breaches, size_breaches, violations};
 
 use crate::names::{Names, declare_areas, declare_programs};
@@ -15,11 +15,11 @@ use crate::word::{natural, program_position, words};
 use indexmap::IndexMap;
 use piton_syntax::{Area, Number, Program, System};
 use piton_words::Word;
-use stack_text::{Breach, Memory, note_if};
+use stack_text::{Breach, MOST_STACK, Memory, note_if};
 use std::alloc::Global;
 
 /// The most words of a stack.
-const MAX_STACK: u64 = 65_536;
+const MAX_STACK: u64 = MOST_STACK as u64;
 
 /// The greatest base.
 const MAX_BASE: u64 = 1 << 31;

@@ -1,7 +1,7 @@
 //! The operations on words, as the text of Piton names them.
 
 ghost use Rattle.std.specs.Prelude.{◌≡◌};
-ghost use Rattle.piton_check.specs.Words.{word_operation};
+ghost use Rattle.piton_check.specs.WordOperations.{word_operation};
 
 use piton_syntax::PitonOp;
 use piton_words::WordOp;

@@ -1,18 +1,18 @@
 -- The words of a sound system are few enough for their sums to be numbers of 64 bits.
 use Rattle.std.proofs.Common.{◌≡◌, ℕ, zero, suc, ◌+◌, ◌<◌, ◌≤◌, List, [], ◌∷◌, length, map, refl, sym, ap, ◌∙◌, subst, arith}
-use Rattle.std.specs.Prelude.{◌*◌, ◌^◌, All, take, slice_get, get_or, Some, sum_by}
+use Rattle.std.specs.Prelude.{◌*◌, ◌^◌, take, slice_get, get_or, Some, sum_by}
 use Rattle.std.proofs.lemmas.List.Sums.{sum_by-cons}
 use Rattle.piton_words.specs.declared.word.Word.{Word}
 use Rattle.piton_words.specs.declared.op.WordOp.{WordOp}
 use Rattle.piton_words.specs.declared.op.WordOp.TheVariants as word_op
-use Rattle.piton_check.specs.Answers.{CheckedOf, IsChecked}
+use Rattle.piton_check.specs.PitonChecking.{CheckedOf, IsChecked}
 use Rattle.piton_check.specs.Resolved.{ResolvedOf}
 use Rattle.piton_check.specs.Instruction as i
 use Rattle.piton_check.specs.Instruction.{Instruction, ProgramView, SystemView, system_view}
-use Rattle.piton_check.specs.Sound.{IsSound, IsSoundProgram, target_count, program_targets, all_targets, all_words}
+use Rattle.piton_check.specs.Sound.{IsSound, IsSoundProgram, target_count, program_targets}
 use Rattle.piton_machine.specs.Fits.{Each, system_in}
 use Rattle.piton_machine.proofs.SoundLaws.{all_each}
-use Rattle.piton_machine.specs.Placed.{instruction_size, instructions_size, prelude_size, program_size, programs_size, areas_size}
+use Rattle.piton_machine.specs.Placed.{instruction_size, instructions_size, program_size, programs_size, areas_size}
 use Rattle.piton_machine.specs.Step.{operation_cost}
 
 operation_few : (o : WordOp) → operation_cost o ≤ 7
@@ -108,14 +108,6 @@ checked_programs c r same h = subst (λ (u : ResolvedOf). programs_size (system_
 
 pub checked_areas : (c : CheckedOf) (r : ResolvedOf) → r ≡ c.resolved → IsChecked c → areas_size (system_view r).areas < 2 ^ 40
 checked_areas c r same h = subst (λ (u : ResolvedOf). areas_size (system_view u).areas < 2 ^ 40) (sym same) (data_few (system_in c) h.sound)
-
--- the items before the next one
-pub lengths_next : (is : List Instruction) (k : ℕ) (x : Instruction) → slice_get is k ≡ Some x → instructions_size (take (k + 1) is) ≡ instructions_size (take k is) + instruction_size x
-lengths_next [] k x h = cc
-lengths_next (y ∷ is) zero x h = let same : y ≡ x = cc in omega (arith, ap instruction_size same)
-lengths_next (y ∷ is) (suc k) x h =
-    let count : suc k + 1 ≡ suc (k + 1) = omega arith in
-    ap (λ n. instructions_size (take n (y ∷ is))) count ∙ omega (arith, lengths_next is k x h)
 
 pub lengths_within : (is : List Instruction) (k : ℕ) → instructions_size (take k is) ≤ instructions_size is
 lengths_within [] zero = omega arith

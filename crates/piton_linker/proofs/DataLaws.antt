@@ -1,15 +1,9 @@
 -- The numbers of the data of a placed system.
-use Rattle.std.proofs.Common.{◌≡◌, ℕ, zero, suc, ◌+◌, ◌-◌, ◌<◌, Some, List, [], ◌∷◌, ◌++◌, length, map, take, reverse, refl, sym, ap, ◌∙◌, subst, arith, append_assoc}
+use Rattle.std.proofs.Common.{◌≡◌, ℕ, zero, suc, ◌+◌, ◌-◌, ◌<◌, Some, List, [], ◌∷◌, ◌++◌, length, take, reverse, sym, ap, ◌∙◌, arith, append_assoc}
 use Rattle.std.specs.Prelude.{get_or, slice_get}
 use Rattle.std.proofs.lemmas.List.{append-nil, length-reverse, get_or-reverse}
-use Rattle.std.proofs.lemmas.Option.{slice_get-get_or}
 use Rattle.piton_words.specs.declared.word.Word.{Word}
 use Rattle.piton_check.specs.Instruction.{SystemView}
-use Rattle.piton_machine.specs.Fits.{Each, IsWordOf}
-use Rattle.piton_machine.proofs.EachLaws.{each_get}
-use Rattle.piton_machine.specs.Templates.{word_piece}
-use Rattle.piton_machine.specs.Templates.{word_of}
-use Rattle.piton_machine.proofs.PieceLaws.{word_is}
 use Rattle.piton_machine.specs.Addresses.{word_number, numbers}
 use Rattle.piton_machine.specs.Placed.{addresses_of}
 use Rattle.piton_linker.specs.Tables.{areas_words}

@@ -1,19 +1,19 @@
 -- What the pieces of placed code name is in the system.
-use Rattle.std.proofs.Common.{◌≡◌, ℕ, zero, suc, ◌+◌, ◌<◌, Some, List, [], ◌∷◌, ◌++◌, length, map, take, refl, sym, ap, ◌∙◌, subst, arith, length-append}
+use Rattle.std.proofs.Common.{◌≡◌, ℕ, zero, suc, ◌+◌, ◌<◌, Some, List, [], ◌∷◌, ◌++◌, length, map, take, sym, ap, ◌∙◌, arith}
 use Rattle.std.specs.Prelude.{get_or, slice_get, replicate}
 use Rattle.std.proofs.lemmas.Option.{slice_get-get_or}
 use Rattle.piton_machine.specs.Placed.{addresses_of}
 use Rattle.piton_words.specs.declared.word.Word.{Word}
 use Rattle.piton_words.specs.declared.word.Word.TheVariants.{Int, Nat, Bitv, Bool as Truth, Addr, Pc, Subr}
 use Rattle.piton_machine.specs.Templates.{operation_code}
-use Rattle.fm_code.specs.Words.{mov, push, pop, literal}
+use Rattle.fm_code.specs.InstructionWords.{mov, push, pop, literal}
 use Rattle.piton_check.specs.Instruction as i
 use Rattle.piton_check.specs.Instruction.{Instruction, ProgramView, SystemView}
 use Rattle.piton_machine.specs.Fits.{Each, IsPlace, IsWordOf, IsInstructionOf}
 use Rattle.piton_machine.proofs.EachLaws.{each_append}
 use Rattle.piton_check.specs.declared.piece.Piece.{Piece}
 use Rattle.piton_check.specs.declared.piece.Piece.TheVariants.{Code, Place}
-use Rattle.piton_machine.specs.Templates.{word_piece, code_pieces, literal_pieces, jump_case_pieces, pieces_of, temporary_pieces, prelude_pieces}
+use Rattle.piton_machine.specs.Templates.{word_piece, code_pieces, literal_pieces, pieces_of, temporary_pieces, prelude_pieces}
 use Rattle.piton_machine.specs.Templates.{word_of, words_of}
 use Rattle.piton_linker.specs.Tables.{PieceExists}
 

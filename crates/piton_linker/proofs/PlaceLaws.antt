@@ -1,13 +1,14 @@
 -- The rows of the table are the addresses of the instructions.
-use Rattle.std.proofs.Common.{◌≡◌, ℕ, zero, suc, ◌+◌, ◌<◌, ◌≤◌, Some, List, [], ◌∷◌, length, map, take, refl, sym, ap, ◌∙◌, subst, arith}
-use Rattle.std.specs.Prelude.{slice_get, slice_index_or}
+use Rattle.std.proofs.Common.{◌≡◌, ℕ, suc, ◌+◌, Some, List, [], ◌∷◌, map, refl, ap, ◌∙◌, arith}
+use Rattle.std.specs.Prelude.{slice_get}
 use Rattle.std.proofs.lemmas.Option.{get_or_from_slice_get}
 use Rattle.piton_check.specs.Instruction.{Instruction, ProgramView, SystemView}
 use Rattle.piton_machine.specs.State.{no_program, program_of}
-use Rattle.piton_machine.specs.Placed.{instruction_size, instructions_size, prelude_size, program_size, programs_size, entry_of, address_of_place}
+use Rattle.piton_machine.specs.Placed.{instruction_size, prelude_size, program_size, entry_of, address_of_place}
+use Rattle.piton_machine.proofs.PlacingLaws.{size_next}
 use Rattle.piton_linker.specs.Layouts.{places_from, places_of}
-use Rattle.piton_linker.specs.Tables.{TableOf, starts, place_rows, table_of}
-use Rattle.piton_linker.proofs.BoundLaws.{lengths_next, programs_next}
+use Rattle.piton_linker.specs.Tables.{starts, place_rows, table_of}
+use Rattle.piton_linker.proofs.BoundLaws.{programs_next}
 
 -- those of one program, from a place on
 row_from : (s : SystemView) (program place a : ℕ) (is : List Instruction) → a ≡ address_of_place s program place → ((j : ℕ) (x : Instruction) → slice_get is j ≡ Some x → slice_get (program_of s program).instructions (place + j) ≡ Some x) → starts a (map instruction_size is) ≡ places_from s program place is
@@ -15,7 +16,7 @@ row_from s program place a [] e there = refl
 row_from s program place a (x ∷ is) e there =
     let all = (program_of s program).instructions in
     let here : slice_get all place ≡ Some x = ap (slice_get all) (omega arith) ∙ there 0 x refl in
-    let next : a + instruction_size x ≡ address_of_place s program (place + 1) = omega (arith, lengths_next all place x here) in
+    let next : a + instruction_size x ≡ address_of_place s program (place + 1) = omega (arith, size_next all place x here) in
     let rest = row_from s program (place + 1) (a + instruction_size x) is next (λ j y h. ap (slice_get all) (omega arith) ∙ there (suc j) y h) in
     λ t. e t ∷ rest t
 

@@ -1,5 +1,5 @@
 -- Each run of Piton is one of the processor, from its placed words.
-use Rattle.std.proofs.Common.{◌≡◌, ℕ, zero, suc, ◌+◌, ◌-◌, ◌<◌, ◌≤◌, Ok, Err, List, [], ◌∷◌, length, refl, sym, ap, ◌∙◌, subst, arith}
+use Rattle.std.proofs.Common.{◌≡◌, ℕ, zero, suc, ◌+◌, ◌-◌, ◌<◌, ◌≤◌, Ok, Err, List, [], ◌∷◌, refl, sym, ap, ◌∙◌, subst, arith}
 use Rattle.std.specs.Prelude.{◌^◌, IsOk, Result}
 use Rattle.fm_machine.specs.State.{Fm}
 use Rattle.fm_machine.specs.Run.{fm_run, Avoids}
@@ -7,16 +7,15 @@ use Rattle.fm_machine.specs.Step as machine_step
 use Rattle.fm_machine.specs.declared.fault.Outside.{Outside}
 use Rattle.fm_machine.proofs.RunLaws as machine
 use Rattle.fm_code.proofs.RunLaws.{arrives_then, arrives_at_once}
-use Rattle.piton_words.specs.declared.word.Word.{Word}
 use Rattle.piton_check.specs.Instruction.{SystemView}
-use Rattle.piton_check.specs.Answers.{CheckedOf, IsChecked}
+use Rattle.piton_check.specs.PitonChecking.{CheckedOf, IsChecked}
 use Rattle.piton_check.specs.Sound.{IsSound}
 use Rattle.piton_machine.specs.State.{Frame, PitonState}
 use Rattle.piton_machine.specs.Views.{then_on}
-use Rattle.piton_machine.specs.Rows.{Row}
+use Rattle.piton_machine.specs.InstructionRows.{Row}
 use Rattle.piton_machine.specs.Step.{piton_step, piton_run, step_cost, run_cost, cost_after}
-use Rattle.piton_machine.specs.Seen.{started, IsSeen}
-use Rattle.piton_machine.specs.Fits.{IsPlace, IsState, IsInitialStack, system_in}
+use Rattle.piton_machine.specs.Seen.StateView.{started}
+use Rattle.piton_machine.specs.Fits.{IsPlace, IsState, system_in}
 use Rattle.piton_machine.specs.Placed.{placed, final_pc_of, end_of, addresses_of, loaded}
 use Rattle.piton_machine.specs.Stands.{address_from, Stands, Simulates}
 use Rattle.piton_machine.proofs.KeepLaws.{step_kept}
@@ -28,7 +27,7 @@ use Rattle.piton_machine.proofs.OpeningLaws.{opening_stands}
 use Rattle.piton_machine.proofs.ReadyLaws.{place_below, end_fits}
 use Rattle.piton_machine.proofs.StepViewLaws.{refused, by_ok}
 use Rattle.piton_machine.proofs.StepLaws.{step_simulated}
-use Rattle.piton_linker.specs.Theorem.{ComesToStand, RunsOnProcessor, PitonRunsOnProcessor}
+use Rattle.piton_linker.specs.Theorem.{RunsOnProcessor, PitonRunsOnProcessor}
 
 module _ (s : SystemView) (sound : IsSound s) (fits_in : end_of s < 2 ^ 32) where
   -- so many steps of Piton are as many instructions as they cost

@@ -1,5 +1,6 @@
 -- What laying out and linking return.
-use Rattle.std.specs.Prelude.{◌≡◌, ℕ, zero, suc, ◌+◌, ◌<◌, ◌^◌, List, [], ◌∷◌}
+use Rattle.std.specs.Prelude.{◌≡◌, ℕ, zero, ◌+◌, ◌<◌, List, [], ◌∷◌}
+use Rattle.fm_words.specs.WindowLimit.{most_window}
 use Rattle.piton_linker.specs.declared.fault.LinkFault.{LinkFault}
 use Rattle.piton_linker.specs.declared.fault.LinkFault.TheVariants.{Large, Memory}
 use Rattle.piton_linker.specs.declared.placement.Layout.{Layout}
@@ -38,5 +39,5 @@ trimmed (word ∷ words) = before_zeros word (trimmed words)
 
 -- why a system is not linked: its words are over 2^20, and that is how many; out of memory alone is free
 abbrev pub IsFault : SystemView → LinkFault → Type 0
-IsFault s (Large words) = (words ≡ (placed s).size) × (2 ^ 20 < (placed s).size)
+IsFault s (Large words) = (words ≡ (placed s).size) × (most_window < (placed s).size)
 IsFault s Memory = Unit {0}

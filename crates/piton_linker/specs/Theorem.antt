@@ -1,5 +1,6 @@
 -- Piton runs on the processor: a placed system does what its steps are, in the instructions that they cost.
-use Rattle.std.specs.Prelude.{◌≡◌, ◌↔◌, ℕ, ◌≤◌, ◌^◌, List, [], Ok, IsOk}
+use Rattle.std.specs.Prelude.{◌≡◌, ◌↔◌, ℕ, ◌≤◌, List, [], Ok, IsOk}
+use Rattle.fm_words.specs.WindowLimit.{most_window}
 use Rattle.piton_words.specs.declared.word.Word.{Word}
 use Rattle.fm_machine.specs.State.{Fm}
 use Rattle.fm_machine.specs.Run.{fm_run, pc_of, Avoids}
@@ -8,7 +9,7 @@ use Rattle.piton_check.specs.Sound.{IsSound}
 use Rattle.piton_machine.specs.State.{PitonState}
 use Rattle.piton_machine.specs.Step.{piton_run, run_cost}
 use Rattle.piton_machine.specs.Fits.{IsInitialStack}
-use Rattle.piton_machine.specs.Seen.{started}
+use Rattle.piton_machine.specs.Seen.StateView.{started}
 use Rattle.piton_machine.specs.Placed.{placed, final_pc_of, loaded}
 use Rattle.piton_machine.specs.Stands.{Stands}
 
@@ -30,4 +31,4 @@ RunsOnProcessor s = (stack : List Word) (j : ℕ) (p : PitonState) → IsInitial
 
 -- So it is for each sound system whose placed size is at most 2^20.
 abbrev pub PitonRunsOnProcessor : Type 0
-PitonRunsOnProcessor = (s : SystemView) → IsSound s → (placed s).size ≤ 2 ^ 20 → RunsOnProcessor s
+PitonRunsOnProcessor = (s : SystemView) → IsSound s → (placed s).size ≤ most_window → RunsOnProcessor s

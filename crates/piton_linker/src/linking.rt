@@ -1,6 +1,7 @@
 //! Linked systems.
 
-ghost use Rattle.std.specs.Prelude.{◌≡◌, ◌≤◌, ◌^◌, IfOk, IfErr, map};
+ghost use Rattle.std.specs.Prelude.{◌≡◌, ◌≤◌, IfOk, IfErr, map};
+ghost use Rattle.fm_words.specs.WindowLimit.{most_window};
 ghost use Rattle.piton_machine.specs.Fits.{system_in};
 ghost use Rattle.piton_machine.specs.Placed.{placed};
 ghost use Rattle.piton_linker.specs.Layouts.{layout_of, places_of, trimmed, IsFault};
@@ -12,6 +13,7 @@ use crate::placement::Layout;
 use crate::sizes::layout;
 use crate::table::completed;
 use crate::words::{Pass, code};
+use fm_words::MOST_WINDOW;
 use piton_check::Checked;
 use stack_text::Memory;
 use std::alloc::Global;
@@ -42,7 +44,7 @@ pub struct Linked {
 ///
 /// Its placed words are over 1,048,576, or memory runs out.
 pub fn link(alloc: Global, checked: &Checked) -> Result<Linked, LinkFault>
-    ensures small { IfOk result (λ linked. (placed (system_in checked.now)).size ≤ 2 ^ 20) }
+    ensures small { IfOk result (λ linked. (placed (system_in checked.now)).size ≤ most_window) }
     ensures fault { IfErr result (IsFault (system_in checked.now)) }
     ensures base { IfOk result (λ linked. linked.base ≡ (system_in checked.now).base) }
     ensures size { IfOk result (λ linked. linked.size ≡ (placed (system_in checked.now)).size) }
@@ -55,7 +57,7 @@ pub fn link(alloc: Global, checked: &Checked) -> Result<Linked, LinkFault>
     ensures runs { IfOk result (λ linked. RunsOnProcessor (system_in checked.now)) }
 {
     let parts = layout(checked);
-    if parts.size > 1_048_576 {
+    if parts.size > u64::from(MOST_WINDOW) {
         return Err(LinkFault::Large { words: parts.size });
     }
     Ok(link_small(alloc, checked, parts)?)
@@ -64,7 +66,7 @@ pub fn link(alloc: Global, checked: &Checked) -> Result<Linked, LinkFault>
 /// Links a system whose placed words are few enough.
 #[tactic(auto, using(crate::proofs::ProcessorLaws::checked_end))]
 fn link_small(alloc: Global, checked: &Checked, parts: Layout) -> Result<Linked, Memory>
-    requires small { (placed (system_in checked.now)).size ≤ 2 ^ 20 }
+    requires small { (placed (system_in checked.now)).size ≤ most_window }
     requires parts { parts ≡ layout_of (system_in checked.now) }
     ensures base { IfOk result (λ linked. linked.base ≡ (system_in checked.now).base) }
     ensures size { IfOk result (λ linked. linked.size ≡ (placed (system_in checked.now)).size) }

@@ -3,7 +3,7 @@
 ghost use Rattle.std.specs.Prelude.{◌≡◌, ◌<◌, ◌^◌, map};
 ghost use Rattle.piton_check.specs.Instruction.{instruction_view, program_view};
 ghost use Rattle.piton_machine.specs.Fits.{system_in};
-ghost use Rattle.piton_machine.specs.Stacked.{words_in};
+ghost use Rattle.piton_machine.specs.Seen.Stacked.{words_in};
 ghost use Rattle.piton_machine.specs.Placed.{instruction_size, instructions_size, prelude_size, program_size, programs_size, areas_size};
 ghost use Rattle.piton_machine.specs.Step.{operation_cost};
 ghost use Rattle.piton_linker.specs.Layouts.{layout_of};

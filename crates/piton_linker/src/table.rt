@@ -3,7 +3,7 @@
 ghost use Rattle.std.specs.Prelude.{◌≡◌, ◌+◌, ◌<◌, ◌^◌, IfOk, map, length, get_or, slice_get};
 ghost use Rattle.piton_check.specs.Instruction.{instruction_view, program_view, system_view};
 ghost use Rattle.piton_machine.specs.Fits.{IsPlace};
-ghost use Rattle.piton_machine.specs.Stacked.{words_in};
+ghost use Rattle.piton_machine.specs.Seen.Stacked.{words_in};
 ghost use Rattle.piton_machine.specs.Placed.{instruction_size, instructions_size, program_size, programs_size, areas_size, entry_of, address_of_place, address_of_area, end_of, addresses_of};
 ghost use Rattle.piton_linker.specs.Layouts.{layout_of};
 ghost use Rattle.piton_linker.specs.Tables.{starts, place_rows, table_of, place_in, PieceExists};

@@ -6,7 +6,7 @@ use Rattle.std.proofs.lemmas.Bool.{ltb-true}
 use Rattle.fm_words.specs.Word.{is_int, word_of_int}
 use Rattle.piton_words.specs.declared.word.Word.{Word}
 use Rattle.piton_words.specs.declared.word.Word.TheVariants.{Int, Nat, Bitv, Bool as Truth, Addr, Pc, Subr}
-use Rattle.piton_words.specs.Rows.{are_same}
+use Rattle.piton_words.specs.OperationRows.{are_same}
 use Rattle.piton_words.specs.declared.op.WordOp.{WordOp}
 use Rattle.piton_words.specs.declared.op.WordOp.TheVariants as word_op
 use Rattle.piton_check.specs.Instruction as i

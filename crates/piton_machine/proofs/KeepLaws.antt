@@ -8,13 +8,13 @@ use Rattle.std.proofs.Math.Seq.{map-set_same}
 use Rattle.piton_words.specs.declared.word.Word.{Word}
 use Rattle.piton_words.specs.declared.word.Word.TheVariants.{Nat, Pc}
 use Rattle.piton_words.specs.declared.op.WordOp.{WordOp}
-use Rattle.piton_words.specs.Rows as words
+use Rattle.piton_words.specs.OperationRows as words
 use Rattle.piton_machine.specs.declared.error_kind.ErrorKind.TheVariants.{TempEmpty, Range, TempFull, CtrlFull}
 use Rattle.piton_check.specs.Instruction as i
 use Rattle.piton_check.specs.Instruction.{Instruction, ProgramView, SystemView}
 use Rattle.piton_machine.specs.State.{Frame, PitonState, program_of, ctrl_used, locals_of, with_local, word_at, with_word, element, with_element}
 use Rattle.piton_machine.specs.Views.{One, Two, one_of, two_of, Operands, words_taken, operands_of}
-use Rattle.piton_machine.specs.Rows.{to_place, to_next, with_room, pushed, jump_where, frame_of, call, ret, does_grow, results_on, apply, row_of}
+use Rattle.piton_machine.specs.InstructionRows.{to_place, to_next, with_room, pushed, jump_where, frame_of, call, ret, does_grow, results_on, apply, row_of}
 use Rattle.piton_machine.specs.Step.{step_from, piton_step}
 use Rattle.piton_machine.specs.Fits.{Each, IsPlace, IsWordOf, IsInstructionOf, IsWellFormed, AreFrames, IsState}
 use Rattle.piton_machine.proofs.WordViewLaws.{same_Ok}

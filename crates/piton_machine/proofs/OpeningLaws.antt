@@ -6,12 +6,12 @@ use Rattle.std.proofs.lemmas.List.{append_assoc, append-nil, length-replicate, l
 use Rattle.fm_machine.specs.State.{word_at}
 use Rattle.fm_code.specs.Areas.{joined}
 use Rattle.fm_code.specs.Execution.{Holds}
-use Rattle.fm_code.specs.Words.{halt_word}
+use Rattle.fm_code.specs.InstructionWords.{halt_word}
 use Rattle.piton_words.specs.declared.word.Word.{Word}
 use Rattle.piton_check.specs.Instruction.{SystemView}
 use Rattle.piton_machine.specs.State.{program_of}
 use Rattle.piton_machine.specs.Fits.{IsWellFormed}
-use Rattle.piton_machine.specs.Seen.{started}
+use Rattle.piton_machine.specs.Seen.StateView.{started}
 use Rattle.piton_machine.specs.Addresses.{numbers}
 use Rattle.piton_machine.specs.Placed.{final_pc_of, areas_start, ctrl_start, temp_start, addresses_of, code_of, first_frame, first_frame_at, first_top, words_with, loaded}
 use Rattle.piton_machine.specs.Stands.{Stands}

@@ -2,7 +2,7 @@
 use Rattle.std.specs.Prelude.{◌≡◌, ℕ, ◌+◌, ◌<◌, ◌^◌, ◌==◌, ◌&&◌, true, List, [], ◌∷◌, ◌++◌, length, get_or}
 use Rattle.fm_words.specs.Word.{is_int}
 use Rattle.fm_code.specs.Execution.{Parts, Executes, view}
-use Rattle.fm_code.specs.Rows.{HasRoom}
+use Rattle.fm_code.specs.CodeRows.{HasRoom}
 use Rattle.piton_words.specs.declared.word.Word.{Word}
 use Rattle.piton_words.specs.declared.word.Word.TheVariants.{Int, Nat, Bitv, Bool as Truth, Addr, Pc, Subr}
 use Rattle.piton_words.specs.declared.op.WordOp.{WordOp}

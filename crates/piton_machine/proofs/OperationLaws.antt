@@ -9,7 +9,7 @@ use Rattle.fm_words.specs.Alu.{are_same as are_same_tests}
 use Rattle.fm_words.specs.Word.{is_int, is_nat, are_same_ints, word_of_int, wrapped}
 use Rattle.fm_words.proofs.WordLaws.{word_of_int-cast_signed, wrapped_below}
 use Rattle.fm_code.specs.Execution.{Parts, Executes, view}
-use Rattle.fm_code.specs.Rows.{WordRows}
+use Rattle.fm_code.specs.CodeRows.{WordRows}
 use Rattle.fm_code.specs.Templates.{eq_code}
 use Rattle.fm_code.proofs.RowLaws.{word_rows, move_rows}
 use Rattle.piton_words.specs.declared.word.Word.{Word}
@@ -19,7 +19,7 @@ use Rattle.piton_words.specs.declared.op.WordOp.TheVariants as op
 use Rattle.piton_words.specs.declared.outcome.Outcome.{Outcome}
 use Rattle.piton_words.specs.declared.outcome.Outcome.TheVariants.{One, Two}
 use Rattle.piton_words.specs.declared.outcome.WordError.TheVariants.{Tag}
-use Rattle.piton_words.specs.Rows.{row_of, is_offset}
+use Rattle.piton_words.specs.OperationRows.{row_of, is_offset}
 use Rattle.piton_machine.specs.Addresses.{Addresses}
 use Rattle.piton_machine.specs.Templates.{operation_code}
 use Rattle.piton_machine.proofs.OperationForms.{HasRoomFor, IsWordBy, TellApart, DoesOperation}

@@ -1,7 +1,7 @@
 -- What the pieces are once all addresses are known.
 use Rattle.std.proofs.Common.{◌≡◌, ℕ, zero, suc, ◌+◌, List, [], ◌∷◌, ◌++◌, length, map, refl, ap, ◌∙◌, arith}
 use Rattle.std.specs.Prelude.{replicate}
-use Rattle.fm_code.specs.Words.{reg, at, push, pop, literal, mov, add}
+use Rattle.fm_code.specs.InstructionWords.{reg, at, push, pop, literal, mov, add}
 use Rattle.fm_code.specs.Templates.{jump_case_code, temporaries_code, prelude_code}
 use Rattle.piton_words.specs.declared.word.Word.{Word}
 use Rattle.piton_words.specs.declared.word.Word.TheVariants.{Int, Nat, Bitv, Bool as Truth, Addr, Pc, Subr}

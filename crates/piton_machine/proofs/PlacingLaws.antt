@@ -1,6 +1,6 @@
 -- Each program's prelude and each instruction's code stand where the addresses say.
 use Rattle.std.proofs.Common.{◌≡◌, ℕ, zero, suc, ◌+◌, Some, List, [], ◌∷◌, length, sym, ap, ◌∙◌, subst, arith}
-use Rattle.std.specs.Prelude.{take, slice_get, slice_index_or}
+use Rattle.std.specs.Prelude.{take, slice_get}
 use Rattle.std.proofs.lemmas.Option.{get_or_from_slice_get}
 use Rattle.fm_code.specs.Execution.{Parts, CodeAt}
 use Rattle.fm_code.proofs.CodeLaws.{code_whole, code_front, code_after}
@@ -63,7 +63,7 @@ module _ (s : SystemView) (k : ℕ) (p : ProgramView) (some : slice_get s.progra
       let there : address_of_place s k 0 + instructions_size (take place p.instructions) ≡ address_of_place s k place = omega arith in
       subst (λ a. CodeAt (parts_of s) a (template A k place (local_count p) instruction)) there here
 
-size_next : (is : List Instruction) (place : ℕ) (instruction : Instruction) → slice_get is place ≡ Some instruction → instructions_size (take (place + 1) is) ≡ instructions_size (take place is) + instruction_size instruction
+pub size_next : (is : List Instruction) (place : ℕ) (instruction : Instruction) → slice_get is place ≡ Some instruction → instructions_size (take (place + 1) is) ≡ instructions_size (take place is) + instruction_size instruction
 size_next [] place instruction h = cc
 size_next (x ∷ is) zero instruction h = let same : x ≡ instruction = cc in omega (arith, ap instruction_size same)
 size_next (x ∷ is) (suc place) instruction h =

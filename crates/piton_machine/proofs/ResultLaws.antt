@@ -13,12 +13,13 @@ use Rattle.piton_words.specs.declared.outcome.Outcome.{Outcome}
 use Rattle.piton_words.specs.declared.outcome.Outcome.TheVariants.{One, Two}
 use Rattle.piton_words.specs.declared.outcome.WordError.{WordError}
 use Rattle.fm_words.specs.Word.{is_int, is_nat, wrapped}
+use Rattle.fm_words.proofs.WordLaws.{wrapped_below}
 use Rattle.stack_text.specs.Results.{◌>>=◌}
 use Rattle.piton_words.specs.Views.{int_of, nat_of, bitv_of, bool_of, addr_of, where_true}
-use Rattle.piton_words.specs.Rows.{int_word, nat_word, bitv_word, bool_word, int_carried, nat_carried, carry, addr_word, are_same, row_of}
+use Rattle.piton_words.specs.OperationRows.{int_word, nat_word, bitv_word, bool_word, int_carried, nat_carried, carry, addr_word, are_same, row_of}
 use Rattle.piton_check.specs.Instruction.{SystemView}
 use Rattle.piton_machine.specs.Views.{words_taken}
-use Rattle.piton_machine.specs.Rows.{results_on, does_grow}
+use Rattle.piton_machine.specs.InstructionRows.{results_on, does_grow}
 use Rattle.piton_machine.specs.Fits.{Each, IsWordOf}
 use Rattle.piton_machine.proofs.WordViewLaws.{same_Ok, went_on, nat_is, bitv_is, held, nat_fits, ints_are, nats_are, bitvs_are, bools_are}
 
@@ -46,11 +47,6 @@ gave_two : (s : SystemView) (below : List Word) (v w : Word) (out : Outcome) →
 gave_two s below v w out rest ok ok' h =
     subst (Gave s 2 below) (same_Ok h) (record { words = (ok', (ok, rest)); size = omega arith })
 
--- what 32 bits keep of a number has 32 bits
-wrapped_fits : (i : ℤ) → wrapped i < 2 ^ 32
-wrapped_fits (pos a) = omega arith
-wrapped_fits (negsuc a) = omega arith
-
 signed_fits : (n : ℕ) → n < 2 ^ 32 → is_int (cast_signed w32 n) ≡ true
 signed_fits n h = by_cases (cast_signed w32 n) refl
   where
@@ -75,10 +71,10 @@ module _ (s : SystemView) (below : List Word) (rest : Each (IsWordOf s) below) (
 
   int_carried_gave : (i : ℤ) → int_carried i ≡ Ok out → Gave s 2 below out
   int_carried_gave i h =
-      gave_two s below (Truth (not (is_int i))) (Int (cast_signed w32 (wrapped i))) out rest tt (signed_fits _ (wrapped_fits i)) h
+      gave_two s below (Truth (not (is_int i))) (Int (cast_signed w32 (wrapped i))) out rest tt (signed_fits _ (wrapped_below i)) h
 
   nat_carried_gave : (i : ℤ) → nat_carried i ≡ Ok out → Gave s 2 below out
-  nat_carried_gave i h = gave_two s below (Truth (not (is_nat i))) (Nat (wrapped i)) out rest tt (wrapped_fits i) h
+  nat_carried_gave i h = gave_two s below (Truth (not (is_nat i))) (Nat (wrapped i)) out rest tt (wrapped_below i) h
 
   addr_gave : (area : ℕ) (i : ℤ) → addr_word (map length s.areas) area i ≡ Ok out → Gave s 1 below out
   addr_gave area (pos offset) h =

@@ -6,7 +6,7 @@ use Rattle.piton_words.specs.declared.word.Word.{Word}
 use Rattle.piton_words.specs.declared.word.Word.TheVariants.{Nat}
 use Rattle.piton_words.specs.declared.op.WordOp.{WordOp}
 use Rattle.piton_words.specs.declared.outcome.Outcome.{Outcome}
-use Rattle.piton_words.specs.Rows as words
+use Rattle.piton_words.specs.OperationRows as words
 use Rattle.piton_syntax.specs.declared.test_kind.TestFamily.{TestFamily}
 use Rattle.piton_syntax.specs.declared.test_kind.TestKind.{TestKind}
 use Rattle.piton_machine.specs.declared.error_kind.ErrorKind.{ErrorKind}
@@ -14,7 +14,7 @@ use Rattle.piton_machine.specs.declared.error_kind.ErrorKind.TheVariants.{TempEm
 use Rattle.piton_check.specs.Instruction.{Instruction, ProgramView, SystemView}
 use Rattle.piton_machine.specs.State.{Frame, PitonState, instruction_at, ctrl_used, locals_of, with_local, word_at, with_word, element, with_element}
 use Rattle.piton_machine.specs.Views.{◌>>=◌, then_on, where_true, found, one_of, Operands, words_taken, operands_of, test_of, lifted}
-use Rattle.piton_machine.specs.Rows.{Row, to_place, to_next, with_room, pushed, push_local, pop_local, set_local_row, set_local, push_global, pop_global, set_word, push_temp_stk_index, fetch_temp_stk, deposit_temp_stk, pop_star, jump_where, jump_case, test_and_jump, entered, call, does_grow, results_on, apply, row_of}
+use Rattle.piton_machine.specs.InstructionRows.{Row, to_place, to_next, with_room, pushed, push_local, pop_local, set_local_row, set_local, push_global, pop_global, set_word, push_temp_stk_index, fetch_temp_stk, deposit_temp_stk, pop_star, jump_where, jump_case, test_and_jump, entered, call, does_grow, results_on, apply, row_of}
 use Rattle.piton_machine.specs.Step.{step_from, piton_step}
 
 -- The step of a state with a frame is the row of the instruction at its place, forward and back.

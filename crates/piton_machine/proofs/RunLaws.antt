@@ -8,7 +8,7 @@ use Rattle.piton_machine.specs.Views.{◌>>=◌, then_on}
 use Rattle.piton_machine.specs.Step.{piton_step, piton_run, step_cost, cost_after, run_cost}
 use Rattle.piton_machine.specs.Fits.{IsWellFormed, IsState}
 use Rattle.piton_machine.specs.Law.{Steps, none, more, advanced}
-use Rattle.piton_machine.specs.Seen.{Seen, run_of, saturated, seen_after, seen_from}
+use Rattle.piton_machine.specs.Seen.StateView.{Seen, state_run, saturated, seen_after, seen_from}
 use Rattle.piton_machine.proofs.ViewLaws.{went_on}
 use Rattle.piton_machine.proofs.WordViewLaws.{same_Ok}
 use Rattle.piton_machine.proofs.KeepLaws.{step_kept}
@@ -56,33 +56,33 @@ seen_next_by s v q f fs [] e h = cc
 seen_next_by s v q f fs (g ∷ gs) e h = ap (λ r. r >>= λ q. Ok (seen_after s v q)) h
 
 pub seen_next : (s : SystemView) (k : ℕ) (v : Seen) (q : PitonState) (f : Frame) (fs : List Frame) → v.state.frames ≡ f ∷ fs →
-    piton_step s v.state ≡ Ok q → run_of s (suc k) v ≡ run_of s k (seen_after s v q)
+    piton_step s v.state ≡ Ok q → state_run s (suc k) v ≡ state_run s k (seen_after s v q)
 seen_next s k v q f fs e h = first_step s k v (Ok (seen_after s v q)) (seen_next_by s v q f fs v.state.frames e h)
 
 -- a run goes on behind steps, and both counts tell them
 along_from : (s : SystemView) (j n k : ℕ) (p q : PitonState) → Steps s j n p q → (v : Seen) → v.state ≡ p → v.steps < 2 ^ 64 → v.counted < 2 ^ 64 →
-    run_of s (j + k) v ≡ run_of s k (advanced v j n q)
+    state_run s (j + k) v ≡ state_run s k (advanced v j n q)
 along_from s i n k x y (none {p = p}) v e a b =
     let steps : v.steps ≡ saturated (v.steps + 0) = omega arith in
     let counted : v.counted ≡ saturated (v.counted + 0) = omega arith in
-    ap (λ i. run_of s i v) (omega arith)
-    ∙ ap (λ (p : PitonState). run_of s k (record v { state = p })) e
-    ∙ ap (λ (i : ℕ). run_of s k (record v { state = p; steps = i })) steps
-    ∙ ap (λ (i : ℕ). run_of s k (record v { state = p; steps = saturated (v.steps + 0); counted = i })) counted
+    ap (λ i. state_run s i v) (omega arith)
+    ∙ ap (λ (p : PitonState). state_run s k (record v { state = p })) e
+    ∙ ap (λ (i : ℕ). state_run s k (record v { state = p; steps = i })) steps
+    ∙ ap (λ (i : ℕ). state_run s k (record v { state = p; steps = saturated (v.steps + 0); counted = i })) counted
 along_from s i n k x y (more {j = j} {n = m} {p = p} {q = p'} {r = q} f fs here step rest) v e a b =
     let step' : piton_step s v.state ≡ Ok p' = ap (piton_step s) e ∙ step in
     let v' = seen_after s v p' in
     let cost : step_cost s v.state ≡ step_cost s p = ap (step_cost s) e in
     let steps : saturated (saturated (v.steps + 1) + j) ≡ saturated (v.steps + suc j) = omega arith in
     let counted : saturated (saturated (v.counted + step_cost s v.state) + m) ≡ saturated (v.counted + (step_cost s p + m)) = omega arith in
-    ap (λ i. run_of s i v) (omega arith)
+    ap (λ i. state_run s i v) (omega arith)
     ∙ seen_next s (j + k) v p' f fs (ap (λ (p : PitonState). p.frames) e ∙ here) step'
     ∙ along_from s j m k p' q rest v' refl (omega arith) (omega arith)
-    ∙ ap (λ (i : ℕ). run_of s k (record v { state = q; steps = i; counted = saturated (saturated (v.counted + step_cost s v.state) + m) })) steps
-    ∙ ap (λ (i : ℕ). run_of s k (record v { state = q; steps = saturated (v.steps + suc j); counted = i })) counted
+    ∙ ap (λ (i : ℕ). state_run s k (record v { state = q; steps = i; counted = saturated (saturated (v.counted + step_cost s v.state) + m) })) steps
+    ∙ ap (λ (i : ℕ). state_run s k (record v { state = q; steps = saturated (v.steps + suc j); counted = i })) counted
 
 pub along : (s : SystemView) (j n k : ℕ) (v : Seen) (q : PitonState) → Steps s j n v.state q → v.steps < 2 ^ 64 → v.counted < 2 ^ 64 →
-    run_of s (j + k) v ≡ run_of s k (advanced v j n q)
+    state_run s (j + k) v ≡ state_run s k (advanced v j n q)
 along s j n k v q steps a b = along_from s j n k v.state q steps v refl a b
 
 -- steps are a run, and their cost is its cost
@@ -96,7 +96,7 @@ steps_cost s i n x y (more {j = j} {n = m} {p = p} {q = p'} {r = q} f fs here st
 
 -- how a limited run ends behind steps: it has halted, it is spent, or the next step is refused
 pub halts : (s : SystemView) (j n k : ℕ) (v : Seen) (q : PitonState) → Steps s j n v.state q → v.steps < 2 ^ 64 → v.counted < 2 ^ 64 →
-    q.frames ≡ [] → run_of s (j + k) v ≡ record { run = ran.Halted; seen = advanced v j n q }
+    q.frames ≡ [] → state_run s (j + k) v ≡ record { run = ran.Halted; seen = advanced v j n q }
 halts s j n k v q steps a b e = along s j n k v q steps a b ∙ stays s k (advanced v j n q) e
 
 refused_by : (s : SystemView) (v : Seen) (kind : ErrorKind) (f : Frame) (fs fs' : List Frame) → fs' ≡ f ∷ fs → piton_step s v.state ≡ Err kind →
@@ -107,7 +107,7 @@ refused_by s v kind f fs (g ∷ gs) e h = ap (λ r. r >>= λ q. Ok (seen_after s
 
 pub fails : (s : SystemView) (j n k : ℕ) (v : Seen) (q : PitonState) (kind : ErrorKind) (f : Frame) (fs : List Frame) → Steps s j n v.state q →
     v.steps < 2 ^ 64 → v.counted < 2 ^ 64 → q.frames ≡ f ∷ fs → piton_step s q ≡ Err kind →
-    run_of s (j + suc k) v ≡ record { run = ran.Error kind; seen = advanced v j n q }
+    state_run s (j + suc k) v ≡ record { run = ran.Error kind; seen = advanced v j n q }
 fails s j n k v q kind f fs steps a b e h =
     along s j n (suc k) v q steps a b
     ∙ first_step s k (advanced v j n q) (Err kind) (refused_by s (advanced v j n q) kind f fs q.frames e h)

@@ -6,8 +6,8 @@ use Rattle.std.proofs.lemmas.List.{length-map, length-set, map-append, take-appe
 use Rattle.fm_machine.specs.State.{Fm}
 use Rattle.fm_code.specs.Execution.{Parts, CodeAt, Arrives, View, view, Executes}
 use Rattle.fm_code.specs.Areas.{joined, words_before}
-use Rattle.fm_code.specs.Words.{push, literal, mov}
-use Rattle.fm_code.specs.Rows.{HasRoom, IsFrame, IsIn, framed}
+use Rattle.fm_code.specs.InstructionWords.{push, literal, mov}
+use Rattle.fm_code.specs.CodeRows.{HasRoom, IsFrame, IsIn, framed}
 use Rattle.fm_code.specs.Templates.{prelude_code, pop_star_code, popn_code, call_code, pop_call_code, ret_code, test_and_jump_code}
 use Rattle.fm_code.proofs.RowLaws.{move_rows, jump_rows, length-framed}
 use Rattle.fm_code.proofs.ListLaws.{get_front, set_front, get_map, set_map, reverse_map, joined_get, joined_set, joined_below}
@@ -17,8 +17,8 @@ use Rattle.piton_words.specs.declared.op.WordOp.{WordOp}
 use Rattle.piton_words.specs.declared.op.WordOp.TheVariants as op
 use Rattle.piton_words.specs.declared.outcome.Outcome.{Outcome}
 use Rattle.piton_words.specs.declared.outcome.Outcome.TheVariants.{One, Two}
-use Rattle.piton_words.specs.Rows as words
-use Rattle.std.specs.Prelude.{zero, suc, None, slice_index_or}
+use Rattle.piton_words.specs.OperationRows as words
+use Rattle.std.specs.Prelude.{None, slice_index_or}
 use Rattle.std.proofs.lemmas.Option.{get_or_from_slice_get}
 use Rattle.std.proofs.lemmas.Bool.{ltb-true}
 use Rattle.piton_machine.specs.declared.error_kind.ErrorKind.TheVariants.{TempEmpty, Range, TempFull, CtrlFull}
@@ -28,8 +28,8 @@ use Rattle.piton_check.specs.Instruction as i
 use Rattle.piton_check.specs.Instruction.{Instruction, ProgramView, SystemView}
 use Rattle.piton_machine.specs.State.{Frame, PitonState, ctrl_used, variables_of, word_at, element}
 use Rattle.piton_machine.specs.Views.{◌>>=◌, then_on, Operands, operands_of, words_taken, lifted}
-use Rattle.piton_machine.specs.Rows as row
-use Rattle.piton_machine.specs.Rows.{Row, row_of, does_grow}
+use Rattle.piton_machine.specs.InstructionRows as row
+use Rattle.piton_machine.specs.InstructionRows.{Row, row_of, does_grow}
 use Rattle.piton_machine.specs.Step.{cost_of, variables_on_top}
 use Rattle.piton_machine.specs.Step.{operation_cost}
 use Rattle.piton_machine.specs.Addresses.{Addresses, parts_with, word_number, numbers}

@@ -4,7 +4,7 @@ use Rattle.std.specs.Prelude.{◌*◌, replicate}
 use Rattle.std.proofs.lemmas.List.{length-map, length-replicate, length-reverse}
 use Rattle.fm_code.specs.Areas.{joined}
 use Rattle.fm_code.specs.Execution.{final_pc}
-use Rattle.fm_code.specs.Words.{reg, push, pop, literal, mov, halt_word}
+use Rattle.fm_code.specs.InstructionWords.{reg, push, pop, literal, mov, halt_word}
 use Rattle.piton_check.specs.declared.piece.Piece.{Piece}
 use Rattle.piton_check.specs.declared.piece.Piece.TheVariants.{Code, Place}
 use Rattle.piton_words.specs.declared.word.Word.{Word}

@@ -10,7 +10,7 @@ use Rattle.piton_check.specs.Instruction.{Instruction, ProgramView, SystemView}
 use Rattle.piton_check.specs.Sound.{IsSound, IsProgram}
 use Rattle.piton_machine.specs.declared.error_kind.ErrorKind.TheVariants.{Range}
 use Rattle.piton_machine.specs.State.{no_program, Frame, PitonState, program_of, instruction_at, variables_of}
-use Rattle.piton_machine.specs.Rows.{row_of}
+use Rattle.piton_machine.specs.InstructionRows.{row_of}
 use Rattle.piton_machine.specs.Step.{piton_step, step_cost, cost_at}
 use Rattle.piton_machine.specs.Fits.{IsPlace, IsState, IsInstructionOf, AreFrames}
 use Rattle.piton_machine.specs.Addresses.{Addresses, parts_with}

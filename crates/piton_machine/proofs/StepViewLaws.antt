@@ -17,7 +17,7 @@ use Rattle.piton_syntax.specs.declared.test_kind.TestKind.TheVariants as test
 use Rattle.piton_syntax.specs.declared.test_kind.TestKind.{TestKind}
 use Rattle.piton_machine.specs.State.{PitonState}
 use Rattle.piton_machine.specs.Views.{◌>>=◌, then_on, where_true, found, One, Two, one_of, two_of, nat_of, addr_of, pc_of, subr_of, lifted, error_of, test_of, does_nat_hold, does_int_hold, does_bool_hold, does_bitv_hold, is_zero, is_negative, is_positive}
-use Rattle.piton_machine.specs.Rows.{Row}
+use Rattle.piton_machine.specs.InstructionRows.{Row}
 use Rattle.piton_machine.specs.Addresses.{Addresses, word_number}
 use Rattle.piton_machine.specs.Templates.{condition_of}
 use Rattle.piton_machine.proofs.OperationForms.{IsWordBy}

@@ -1,10 +1,10 @@
 -- What a row that is no error found: one inversion for each view.
-use Rattle.std.proofs.Common.{◌≡◌, ℕ, ℤ, Result, Ok, Err, Option, Some, None, Bool, true, false, List, [], ◌∷◌, refl, ap}
+use Rattle.std.proofs.Common.{◌≡◌, ℕ, Result, Ok, Err, Option, Some, None, Bool, true, false, List, [], ◌∷◌, refl, ap}
 use Rattle.piton_words.specs.declared.word.Word.{Word}
 use Rattle.piton_words.specs.declared.word.Word.TheVariants.{Int, Nat, Bitv, Bool as Truth, Addr, Pc, Subr}
 use Rattle.piton_words.specs.declared.outcome.WordError.{WordError}
 use Rattle.piton_machine.specs.declared.error_kind.ErrorKind.{ErrorKind}
-use Rattle.piton_machine.specs.Views.{◌>>=◌, then_on, where_true, found, One, Two, one_of, two_of, int_of, nat_of, bitv_of, bool_of, addr_of, pc_of, subr_of, lifted}
+use Rattle.piton_machine.specs.Views.{◌>>=◌, then_on, where_true, found, One, Two, one_of, two_of, pc_of, lifted}
 use Rattle.piton_machine.proofs.WordViewLaws.{same_Ok}
 
 -- what went on had a value

@@ -9,8 +9,8 @@ use Rattle.piton_words.specs.declared.outcome.WordError.{WordError}
 use Rattle.fm_words.specs.Word.{is_nat}
 use Rattle.stack_text.specs.Results.{◌>>=◌}
 use Rattle.stack_text.proofs.ResultLaws.{bind_ok}
-use Rattle.piton_words.specs.Views.{int_of, nat_of, bitv_of, bool_of, addr_of, where_true}
-use Rattle.piton_words.specs.Rows.{ints, nats, bitvs, bools}
+use Rattle.piton_words.specs.Views.{int_of, nat_of, bitv_of, bool_of, where_true}
+use Rattle.piton_words.specs.OperationRows.{ints, nats, bitvs, bools}
 
 -- the values in two equal answers
 pub same_Ok : {A E : Type 0} {x y : A} → ◌≡◌ {A = Result A E} (Ok x) (Ok y) → x ≡ y

@@ -1,10 +1,12 @@
 -- What a checked system keeps, and what each state of its runs keeps.
 use Rattle.std.specs.Prelude.{◌≡◌, ℕ, ◌+◌, ◌^◌, ◌<◌, ◌≤◌, List, [], ◌∷◌, length, map, get_or, slice_index_or, Some, All, IsTrue}
+use Rattle.piton_syntax.specs.Limits.{most_instructions, most_program_variables}
+use Rattle.stack_text.specs.SharedLimits.{most_stack}
 use Rattle.piton_words.specs.declared.word.Word.{Word}
 use Rattle.piton_words.specs.declared.word.Word.TheVariants.{Int, Nat, Bitv, Bool as Truth, Addr, Pc, Subr}
 use Rattle.fm_words.specs.Word.{is_int}
 use Rattle.piton_check.specs.Instruction as i
-use Rattle.piton_check.specs.Answers.{CheckedOf}
+use Rattle.piton_check.specs.PitonChecking.{CheckedOf}
 use Rattle.piton_check.specs.Instruction.{Instruction, SystemView, system_view}
 use Rattle.piton_check.specs.Sound.{Exists}
 use Rattle.piton_machine.specs.State.{Frame, PitonState, program_of, instruction_at, variables_of, ctrl_used}
@@ -60,15 +62,15 @@ pub record IsWellFormed (s : SystemView) : Type 0 where
   pub main : s.main < length s.programs
   pub main_formals : (program_of s s.main).formals ≡ 0
   pub main_fits : 2 + length (program_of s s.main).temporaries ≤ s.ctrl
-  pub ctrl : s.ctrl ≤ 2 ^ 16
-  pub temp : s.temp ≤ 2 ^ 16
+  pub ctrl : s.ctrl ≤ most_stack
+  pub temp : s.temp ≤ most_stack
   pub stack_fits : length s.stack ≤ s.temp
   pub stack : Each (IsWordOf s) s.stack
   pub areas : Each (Each (IsWordOf s)) s.areas
   pub temporaries : (program : ℕ) → Each (IsWordOf s) (program_of s program).temporaries
   -- sizes that 32 bits can count
-  pub variables : (program : ℕ) → variables_of s program ≤ 400
-  pub lengths : (program : ℕ) → length (program_of s program).instructions ≤ 2 ^ 20
+  pub variables : (program : ℕ) → variables_of s program ≤ most_program_variables
+  pub lengths : (program : ℕ) → length (program_of s program).instructions ≤ most_instructions
   pub sizes : (area : ℕ) → length (slice_index_or s.areas area []) < 2 ^ 32
   pub begins : (program : ℕ) → program < length s.programs → IsPlace s program 0
   pub instructions : (program place : ℕ) (instruction : Instruction) →

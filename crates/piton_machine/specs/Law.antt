@@ -7,7 +7,7 @@ use Rattle.piton_machine.specs.State.{Frame, PitonState}
 use Rattle.piton_machine.specs.Step.{piton_step, piton_run, step_cost, run_cost}
 use Rattle.piton_check.specs.Sound.{IsSound}
 use Rattle.piton_machine.specs.Fits.{IsState}
-use Rattle.piton_machine.specs.Seen.{Seen, saturated, run_of}
+use Rattle.piton_machine.specs.Seen.StateView.{Seen, saturated, state_run}
 
 -- each step of a sound system leads from a state to a state
 abbrev pub EachStepKeeps : Type 0
@@ -30,15 +30,15 @@ StepsAreRuns = (s : SystemView) (j n : ℕ) (p q : PitonState) → Steps s j n p
 -- a limited run goes on behind so many steps, and both counts tell them
 abbrev pub StepsAreCounted : Type 0
 StepsAreCounted = (s : SystemView) (j n k : ℕ) (v : Seen) (q : PitonState) → Steps s j n v.state q → v.steps < 2 ^ 64 → v.counted < 2 ^ 64 →
-    run_of s (j + k) v ≡ run_of s k (advanced v j n q)
+    state_run s (j + k) v ≡ state_run s k (advanced v j n q)
 
 -- behind steps that lead to a halted state a run has halted, however many more it may make
 abbrev pub StepsHalt : Type 0
 StepsHalt = (s : SystemView) (j n k : ℕ) (v : Seen) (q : PitonState) → Steps s j n v.state q → v.steps < 2 ^ 64 → v.counted < 2 ^ 64 →
-    q.frames ≡ [] → run_of s (j + k) v ≡ record { run = Halted; seen = advanced v j n q }
+    q.frames ≡ [] → state_run s (j + k) v ≡ record { run = Halted; seen = advanced v j n q }
 
 -- behind steps to a state whose step is refused a run is refused
 abbrev pub StepsFail : Type 0
 StepsFail = (s : SystemView) (j n k : ℕ) (v : Seen) (q : PitonState) (kind : ErrorKind) (f : Frame) (fs : List Frame) →
     Steps s j n v.state q → v.steps < 2 ^ 64 → v.counted < 2 ^ 64 → q.frames ≡ f ∷ fs → piton_step s q ≡ Err kind →
-    run_of s (j + suc k) v ≡ record { run = Error kind; seen = advanced v j n q }
+    state_run s (j + suc k) v ≡ record { run = Error kind; seen = advanced v j n q }

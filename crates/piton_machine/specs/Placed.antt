@@ -4,7 +4,7 @@ use Rattle.fm_machine.specs.State.{Fm}
 use Rattle.fm_code.specs.Areas.{joined}
 use Rattle.fm_code.specs.Execution.{Parts}
 use Rattle.fm_words.specs.Code.{no_flags}
-use Rattle.fm_code.specs.Words.{halt_word}
+use Rattle.fm_code.specs.InstructionWords.{halt_word}
 use Rattle.piton_words.specs.declared.word.Word.{Word}
 use Rattle.piton_check.specs.Instruction as i
 use Rattle.piton_check.specs.Instruction.{Instruction, ProgramView, SystemView}

@@ -1,12 +1,13 @@
 -- What holds of the placed words.
-use Rattle.std.specs.Prelude.{◌≡◌, ℕ, ◌^◌, ◌≤◌, List, length, Bool, Ok}
+use Rattle.std.specs.Prelude.{◌≡◌, ℕ, ◌≤◌, List, length, Bool, Ok}
+use Rattle.fm_words.specs.WindowLimit.{most_window}
 use Rattle.fm_code.specs.Execution as execution
 use Rattle.piton_words.specs.declared.word.Word.{Word}
-use Rattle.piton_words.specs.Rows.{are_same}
+use Rattle.piton_words.specs.OperationRows.{are_same}
 use Rattle.piton_check.specs.Instruction.{Instruction, SystemView}
 use Rattle.piton_check.specs.Sound.{IsSound}
 use Rattle.piton_machine.specs.Fits.{IsWordOf}
-use Rattle.piton_machine.specs.Seen.{started}
+use Rattle.piton_machine.specs.Seen.StateView.{started}
 use Rattle.piton_machine.specs.Addresses.{Addresses, word_number}
 use Rattle.piton_machine.specs.Templates.{template}
 use Rattle.piton_machine.specs.Placed.{instruction_size, final_pc_of, addresses_of, parts_of, placed, loaded}
@@ -37,4 +38,4 @@ OpeningStands = (s : SystemView) (stack : List Word) → IsSound s → length st
 
 -- in a sound system whose placed size is at most 2^20, the code at each place does its steps
 abbrev pub EachPlaceDoesSteps : Type 0
-EachPlaceDoesSteps = (s : SystemView) (program place : ℕ) → IsSound s → (placed s).size ≤ 2 ^ 20 → DoesStepsAt s program place
+EachPlaceDoesSteps = (s : SystemView) (program place : ℕ) → IsSound s → (placed s).size ≤ most_window → DoesStepsAt s program place

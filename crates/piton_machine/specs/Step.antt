@@ -9,7 +9,7 @@ use Rattle.piton_check.specs.Instruction as i
 use Rattle.piton_check.specs.Instruction.{Instruction, SystemView}
 use Rattle.piton_machine.specs.State.{Frame, PitonState, instruction_at, variables_of}
 use Rattle.piton_machine.specs.Views.{◌>>=◌, found}
-use Rattle.piton_machine.specs.Rows.{Row, row_of}
+use Rattle.piton_machine.specs.InstructionRows.{Row, row_of}
 
 -- one step; a halted state has no frame, and answers itself
 abbrev pub step_from : SystemView → PitonState → List Frame → Row

@@ -3,7 +3,7 @@
 ghost use Rattle.std.specs.Prelude.{◌≡◌, ◌==◌, ◌+◌, ◌^◌, ◌<◌, ◌≤◌, ℕ, IfErr, OnOk, OnErr, length};
 ghost use Rattle.piton_check.specs.Instruction.{system_view, instruction_view};
 ghost use Rattle.piton_machine.specs.State.{variables_of};
-ghost use Rattle.piton_machine.specs.Rows.{row_of};
+ghost use Rattle.piton_machine.specs.InstructionRows.{row_of};
 ghost use Rattle.piton_machine.specs.Step.{operation_cost, variables_on_top, cost_of};
 
 use crate::error_kind::ErrorKind;

@@ -4,7 +4,7 @@ ghost use Rattle.std.specs.Prelude.{◌≡◌, ◌≤◌, [], IfOk, length, reve
 ghost use Rattle.piton_machine.specs.Fits.{Each, IsWellFormed, IsWordOf};
 ghost use Rattle.piton_check.specs.Instruction.{system_view, instruction_view};
 ghost use Rattle.piton_machine.specs.Fits.{system_in, IsInitialStack};
-ghost use Rattle.piton_machine.specs.Seen.{IsSeen, seen_step, answer_of, left_of, run_of, opening};
+ghost use Rattle.piton_machine.specs.Seen.StateView.{IsSeen, seen_step, answer_of, left_of, state_run, opening};
 ghost use Rattle.piton_machine.specs.Groups.{resolved_at};
 ghost use Rattle.piton_machine.specs.State.{instruction_at, locals_of};
 ghost use Rattle.piton_machine.specs.Step.{step_cost};
@@ -35,7 +35,7 @@ pub struct State {
 }
 
 impl Model for State {
-    ghost use Rattle.piton_machine.specs.Seen.{Seen};
+    ghost use Rattle.piton_machine.specs.Seen.StateView.{Seen};
 
     ghost Value = { Seen };
 
@@ -79,7 +79,7 @@ impl State {
     #[tactic(auto, using(crate::proofs::SoundLaws::checked_known))]
     pub fn run(&mut self, checked: &Checked, limit: u64) -> PitonRun
         requires { IsSeen (system_in checked.now) self.old }
-        ensures ran { run_of (system_in checked.now) limit self.old ≡ record { run = result; seen = self.new } }
+        ensures ran { state_run (system_in checked.now) limit self.old ≡ record { run = result; seen = self.new } }
         ensures fits { IsSeen (system_in checked.now) self.new }
     {
         self.ran(checked.resolved(), limit)
@@ -164,7 +164,7 @@ impl State {
     fn ran(&mut self, checked: &Resolved, limit: u64) -> PitonRun
         requires sound { IsWellFormed (system_view checked.now) }
         requires fits { IsSeen (system_view checked.now) self.old }
-        ensures ran { run_of (system_view checked.now) limit self.old ≡ record { run = result; seen = self.new } }
+        ensures ran { state_run (system_view checked.now) limit self.old ≡ record { run = result; seen = self.new } }
         ensures fits { IsSeen (system_view checked.now) self.new }
     {
         for _made in 0..limit {

@@ -26,7 +26,7 @@ use Rattle.piton_syntax.specs.declared.test_kind.TestKind.{TestKind}
 use Rattle.piton_syntax.specs.declared.word_text.WordText.{WordText}
 use Rattle.piton_syntax.specs.declared.word_text.WordItem.{WordItem}
 use Rattle.piton_syntax.specs.declared.word_text.WordItem.TheVariants as item
-use Rattle.piton_syntax.specs.Answers.{KeepsForm}
+use Rattle.piton_syntax.specs.PitonReading.{KeepsForm}
 use Rattle.stack_text.specs.Grammar.Judged.{Judged, ◌⊛◌, front, each_of}
 use Rattle.stack_text.specs.Grammar.Parts.{IsNamed, count_of, list_length}
 use Rattle.piton_syntax.specs.Limits.{is_small_program, is_small_system}

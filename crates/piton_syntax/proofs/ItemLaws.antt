@@ -4,7 +4,7 @@ use Rattle.std.specs.Prelude.{◌==◌, if◌then◌else◌}
 use Rattle.std.proofs.lemmas.Bool.{ne_eqb}
 use Rattle.stack_text.specs.Trees.{Node, more}
 use Rattle.stack_text.specs.TreeText.{spaced_text, tree_text}
-use Rattle.stack_text.specs.TreeView.{node_of, nodes, nodes_of}
+use Rattle.stack_text.specs.Seen.TreeView.{node_of, nodes, nodes_of}
 use Rattle.stack_text.specs.Grammar.Printed.{items_after}
 use Rattle.stack_text.proofs.Loops.{drop-item}
 use Rattle.stack_text.proofs.PrintLaws.{apart_by}

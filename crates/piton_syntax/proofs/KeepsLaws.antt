@@ -9,7 +9,7 @@ use Rattle.stack_text.specs.declared.name.Named.{Named}
 use Rattle.stack_text.specs.Names.{is_name}
 use Rattle.stack_text.specs.Numerals.{is_digits, is_numeral, numeral_value, fits_128_bits}
 use Rattle.stack_text.specs.Trees.{Node, Nodes, atom, list, none, more, place_of, IsWellFormed}
-use Rattle.stack_text.specs.TreeView.{nodes}
+use Rattle.stack_text.specs.Seen.TreeView.{nodes}
 use Rattle.std.proofs.lemmas.Bool.{and_parts}
 use Rattle.stack_text.proofs.AtomLaws.{name_is_run, numeral_is_run}
 use Rattle.stack_text.specs.Grammar.Printed.{name_tree, unplaced_name}
@@ -30,7 +30,7 @@ use Rattle.piton_syntax.specs.declared.word_text.Number.{Number}
 use Rattle.piton_syntax.specs.declared.word_text.WordText.{WordText}
 use Rattle.piton_syntax.specs.declared.word_text.WordItem.{WordItem}
 use Rattle.piton_syntax.specs.declared.word_text.WordItem.TheVariants as item
-use Rattle.piton_syntax.specs.Answers.{KeepsForm}
+use Rattle.piton_syntax.specs.PitonReading.{KeepsForm}
 use Rattle.stack_text.specs.Grammar.Judged.{Judged, judged, ◌⊛◌, front, each_of}
 use Rattle.piton_syntax.specs.Limits.{is_small_program, is_small_system}
 use Rattle.piton_syntax.specs.Operations.{row_of, op_name, op_arguments, operations, operation_named, tag_named, test_name, tests_of, test_named}

@@ -4,7 +4,7 @@ use Rattle.std.specs.Prelude.{codes}
 use Rattle.stack_text.specs.Trees.{Node, atom}
 use Rattle.stack_text.specs.Trees.{ReadsAs as TreeReadsAs, without_places as unplaced_tree}
 use Rattle.stack_text.specs.TreeText.{tree_text}
-use Rattle.stack_text.specs.Spellings.{Spells}
+use Rattle.stack_text.specs.Scaffold.Spellings.{Spells}
 use Rattle.stack_text.proofs.SpellingLaws.{spelled_is_read}
 use Rattle.stack_text.proofs.TreeInLaws.{tree_in-TreeOf}
 use Rattle.stack_text.specs.Grammar.Printed.{lines_text, name_tree, tree_of_all}
@@ -14,7 +14,7 @@ use Rattle.piton_syntax.specs.declared.word_text.WordItem.{WordItem}
 use Rattle.piton_syntax.specs.declared.word_text.WordItem.TheVariants as item
 use Rattle.piton_syntax.specs.declared.word_text.WordText.{WordText}
 use Rattle.stack_text.specs.declared.name.Named.{Named}
-use Rattle.piton_syntax.specs.Answers.{KeepsForm, ReadsAs, judgement, piton_by}
+use Rattle.piton_syntax.specs.PitonReading.{KeepsForm, ReadsAs, judgement, piton_by}
 use Rattle.piton_syntax.specs.Grammar.{system_of}
 use Rattle.piton_syntax.specs.Systems.{InstrOf, ProgramOf, AreaOf, SystemOf, without_places}
 use Rattle.piton_syntax.specs.Printed.{item_tree, word_tree, argument_tree, labelled_tree, instruction_tree, temporary_tree, program_tree, area_tree, system_head, tree_of, program_text, piton_text}

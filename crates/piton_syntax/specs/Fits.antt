@@ -1,6 +1,7 @@
 -- The form of a system in plain words: names are names, arguments are those of the operation's row, what must not be empty
 -- isn't, numbers have a sign only where they may, and all counts are within the limits.
 use Rattle.std.specs.Prelude.{◌+◌, ◌<◌, ◌≤◌, List, [], ◌∷◌, length, Option, Some, None, All, Contains}
+use Rattle.piton_syntax.specs.Limits.{most_instructions, most_areas, most_programs, most_program_variables}
 use Rattle.stack_text.specs.Grammar.Parts.{IsNamed}
 use Rattle.stack_text.specs.Numerals.{IsNatural, IsNumber}
 use Rattle.stack_text.specs.declared.name.Named.{Named}
@@ -71,9 +72,9 @@ pub record FitsProgram (p : ProgramOf) : Type 0 where
   pub formals : All IsNamed p.formals
   pub temporaries : All FitsTemporary p.temporaries
   pub instrs : All FitsInstruction p.instrs
-  pub few_locals : length p.formals + length p.temporaries ≤ 400
+  pub few_locals : length p.formals + length p.temporaries ≤ most_program_variables
   pub some_instrs : 0 < length p.instrs
-  pub few_instrs : length p.instrs ≤ 1048576
+  pub few_instrs : length p.instrs ≤ most_instructions
 
 pub record FitsArea (a : AreaOf) : Type 0 where
   pub name : IsNamed a.name
@@ -88,6 +89,6 @@ pub record FitsForm (s : SystemOf) : Type 0 where
   pub areas : All FitsArea s.areas
   pub stack : All FitsWord s.stack
   pub programs : All FitsProgram s.programs
-  pub few_areas : length s.areas ≤ 1000
+  pub few_areas : length s.areas ≤ most_areas
   pub some_programs : 0 < length s.programs
-  pub few_programs : length s.programs ≤ 1100
+  pub few_programs : length s.programs ≤ most_programs

@@ -4,6 +4,6 @@ pub mod Operations
 pub mod Limits
 pub mod Grammar
 pub mod Printed
-pub mod Answers
+pub mod PitonReading
 pub mod Fits
 pub mod Sizes

@@ -1,7 +1,7 @@
 //! Systems that run on Piton's machine and, linked, on the processor, side by side.
 
 ghost use Rattle.piton_machine.specs.Fits.{system_in};
-ghost use Rattle.piton_machine.specs.Seen.{IsSeen};
+ghost use Rattle.piton_machine.specs.Seen.StateView.{IsSeen};
 
 mod bodies;
 

@@ -1,7 +1,7 @@
 //! Texts, and the systems that they are.
 
 ghost use Rattle.std.specs.Prelude.{IfOk};
-ghost use Rattle.piton_syntax.specs.Answers.{KeepsForm};
+ghost use Rattle.piton_syntax.specs.PitonReading.{KeepsForm};
 
 use piton_check::{Checked, check};
 use piton_syntax::{System, read_piton};

@@ -1,6 +1,6 @@
 //! Numbers and addresses: exact results, and where they are in range.
 ghost use Rattle.std.specs.Prelude.{◌≡◌, ◌+ℤ◌, ◌-ℤ◌, ◌/◌, ◌%◌, pos, get_or, Ok};
-ghost use Rattle.piton_words.specs.Rows.{int_word, nat_word, int_carried, nat_carried, carry, addr_word};
+ghost use Rattle.piton_words.specs.OperationRows.{int_word, nat_word, int_carried, nat_carried, carry, addr_word};
 
 use crate::outcome::{Outcome, WordError};
 use crate::word::Word;

@@ -1,6 +1,6 @@
 //! The word operations.
 ghost use Rattle.std.specs.Prelude.{◌≡◌};
-ghost use Rattle.piton_words.specs.Rows.{row_of};
+ghost use Rattle.piton_words.specs.OperationRows.{row_of};
 
 use crate::arithmetic::{
     addr_down, addr_up, div2, int_carried, int_difference, int_difference_with_carry, int_sum,

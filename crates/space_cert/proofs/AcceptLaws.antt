@@ -5,85 +5,86 @@ use Rattle.std.proofs.lemmas.List.{length-map, get_or_past}
 use Rattle.std.proofs.lemmas.List.Elements.{All-nil, All-cons, All-head, All-tail}
 use Rattle.std.specs.List.{All}
 use Rattle.stack_text.specs.Values.{ValueOf}
+use Rattle.stack_text.proofs.KeepsLaws.{and_true}
 use Rattle.gypsy_syntax.specs.declared.literal.Decl.{Decl}
 use Rattle.gypsy_syntax.specs.declared.proc.Proc.{Proc as TextProc}
-use Rattle.gypsy_syntax.specs.SourceView.{proc_of}
+use Rattle.gypsy_syntax.specs.Seen.SourceView.{proc_of}
 use Rattle.std.specs.Option.{IsSome, IsSomeAnd, option_map, unwrap_or}
 use Rattle.gypsy_syntax.specs.Programs.{Proc, Program, no_proc, proc_at, words_of}
 use Rattle.gypsy_syntax.specs.ProgramFits.{ProgramFits}
 use Rattle.gypsy_syntax.specs.Resolved.{procedure_of, program_of, shape_of, statement_of, statement_of_all}
 use Rattle.gypsy_syntax.specs.Sources.{SourceOf, ProcOf, StmtOf, StmtsOf, no_op, signal, seq, loop, branch, begin, call, predef, no_parts, part}
-use Rattle.gypsy_space.specs.Needs.{Words, stack_words, frame_of, main_used}
+use Rattle.gypsy_space.specs.Needs.{StackSizes, stack_sizes, frame_of, main_used}
 use Rattle.gypsy_space.specs.Events.{AreNeeds, need_at, need_of}
 use Rattle.gypsy_space.specs.declared.need.Need.{Need}
 use Rattle.space_cert.specs.Covers.{Bounds, as_words, bound_at, words_sum, callees, IsAtMost, own_need, call_bound, CoversCall, CoversRun, Covers}
 use Rattle.space_cert.specs.Reaches.{calls_of}
 use Rattle.space_cert.specs.Order.{call_bound_by}
 use Rattle.space_cert.specs.Accepting.{is_at_most, is_some_and, covers_call, covers_calls, covers_run, covers_from, covers_main, covers, source_callees, parts_callees, source_calls, needs_from, is_covered}
-use Rattle.space_cert.proofs.CoversLaws.{both_true, main_within}
+use Rattle.space_cert.proofs.CoversLaws.{main_within}
 use Rattle.space_cert.proofs.CertifyLaws.{body_calls, calls_below, calls_same, words_append}
 
-at_most_true : (u v : Words) → is_at_most u v ≡ true → IsAtMost u v
+at_most_true : (u v : StackSizes) → is_at_most u v ≡ true → IsAtMost u v
 at_most_true u v e =
     let k = and_parts (nat_le u.temp v.temp) (nat_le u.ctrl v.ctrl) e in
     record { temp = leb-true u.temp v.temp k.0; ctrl = leb-true u.ctrl v.ctrl k.1 }
 
-at_most_is : (u v : Words) → IsAtMost u v → is_at_most u v ≡ true
-at_most_is u v h = both_true (nat_le u.temp v.temp) (nat_le u.ctrl v.ctrl) (le-leb u.temp v.temp h.temp) (le-leb u.ctrl v.ctrl h.ctrl)
+at_most_is : (u v : StackSizes) → IsAtMost u v → is_at_most u v ≡ true
+at_most_is u v h = and_true (nat_le u.temp v.temp) (nat_le u.ctrl v.ctrl) (le-leb u.temp v.temp h.temp) (le-leb u.ctrl v.ctrl h.ctrl)
 
-some_true : (o : Option Words) (f : Words → Bool) (P : Words → Type 0) → ((w : Words) → f w ≡ true → P w) → is_some_and o f ≡ true → IsSomeAnd o P
+some_true : (o : Option StackSizes) (f : StackSizes → Bool) (P : StackSizes → Type 0) → ((w : StackSizes) → f w ≡ true → P w) → is_some_and o f ≡ true → IsSomeAnd o P
 some_true None f P h e = cc
 some_true (Some w) f P h e = h w e
 
-some_is_true : (o : Option Words) (f : Words → Bool) (P : Words → Type 0) → ((w : Words) → P w → f w ≡ true) → IsSomeAnd o P → is_some_and o f ≡ true
+some_is_true : (o : Option StackSizes) (f : StackSizes → Bool) (P : StackSizes → Type 0) → ((w : StackSizes) → P w → f w ≡ true) → IsSomeAnd o P → is_some_and o f ≡ true
 some_is_true None f P h k = absurd k
 some_is_true (Some w) f P h k = h w k
 
-some_there : (o : Option Words) (P : Words → Type 0) → IsSomeAnd o P → IsSome o
+some_there : (o : Option StackSizes) (P : StackSizes → Type 0) → IsSomeAnd o P → IsSome o
 some_there None P h = absurd h
 some_there (Some w) P h = refl
 
-past_none : (bs : Bounds) (p : ℕ) (b : Words) → bound_at bs p ≡ Some b → p < length bs
+past_none : (bs : Bounds) (p : ℕ) (b : StackSizes) → bound_at bs p ≡ Some b → p < length bs
 past_none bs p b e = elim (cases_lt p (length bs)) [ inl h ↦ h | inr h ↦ absurd (none_some (sym (ap (option_map as_words) (get_or_past bs p None h)) ∙ e)) ]
   where
     none_some : None ≡ Some b → ⊥
     none_some e = cc
 
 module _ (q : Program) (ns : List Need) (needs : AreNeeds q ns) (fits : ProgramFits q) (bs : Bounds) where
-  call_true : (b : Words) (r : ℕ) → r < length q.procs → covers_call ns bs b r ≡ true → CoversCall q bs b r
+  call_true : (b : StackSizes) (r : ℕ) → r < length q.procs → covers_call ns bs b r ≡ true → CoversCall q bs b r
   call_true b r lt e =
       some_true (bound_at bs r) (λ d. is_at_most (call_bound_by (need_at ns r) d) b) (λ d. IsAtMost (call_bound q r d) b)
       (λ d i. at_most_true (call_bound q r d) b (subst (λ n. is_at_most (call_bound_by n d) b ≡ true) (needs.each r lt) i)) e
 
-  call_is : (b : Words) (r : ℕ) → r < length q.procs → CoversCall q bs b r → covers_call ns bs b r ≡ true
+  call_is : (b : StackSizes) (r : ℕ) → r < length q.procs → CoversCall q bs b r → covers_call ns bs b r ≡ true
   call_is b r lt h =
       some_is_true (bound_at bs r) (λ d. is_at_most (call_bound_by (need_at ns r) d) b) (λ d. IsAtMost (call_bound q r d) b)
       (λ d i. subst (λ n. is_at_most (call_bound_by n d) b ≡ true) (sym (needs.each r lt)) (at_most_is (call_bound q r d) b i)) h
 
-  calls_true : (b : Words) (ps : List ℕ) → All (λ r. r < length q.procs) ps → covers_calls ns bs b ps ≡ true → All (CoversCall q bs b) ps
+  calls_true : (b : StackSizes) (ps : List ℕ) → All (λ r. r < length q.procs) ps → covers_calls ns bs b ps ≡ true → All (CoversCall q bs b) ps
   calls_true b [] lt e = All-nil (CoversCall q bs b)
   calls_true b (r ∷ ps) lt e =
       let k = and_parts (covers_call ns bs b r) (covers_calls ns bs b ps) e in
       All-cons (CoversCall q bs b) r ps (call_true b r (All-head (λ x. x < length q.procs) r ps lt) k.0) (calls_true b ps (All-tail (λ x. x < length q.procs) r ps lt) k.1)
 
-  calls_is : (b : Words) (ps : List ℕ) → All (λ r. r < length q.procs) ps → All (CoversCall q bs b) ps → covers_calls ns bs b ps ≡ true
+  calls_is : (b : StackSizes) (ps : List ℕ) → All (λ r. r < length q.procs) ps → All (CoversCall q bs b) ps → covers_calls ns bs b ps ≡ true
   calls_is b [] lt h = refl
   calls_is b (r ∷ ps) lt h =
-      both_true (covers_call ns bs b r) (covers_calls ns bs b ps) (call_is b r (All-head (λ x. x < length q.procs) r ps lt) (All-head (CoversCall q bs b) r ps h)) (calls_is b ps (All-tail (λ x. x < length q.procs) r ps lt) (All-tail (CoversCall q bs b) r ps h))
+      and_true (covers_call ns bs b r) (covers_calls ns bs b ps) (call_is b r (All-head (λ x. x < length q.procs) r ps lt) (All-head (CoversCall q bs b) r ps h)) (calls_is b ps (All-tail (λ x. x < length q.procs) r ps lt) (All-tail (CoversCall q bs b) r ps h))
 
-  run_true : (p : ℕ) (b : Words) → p < length q.procs → covers_run ns bs (need_at ns p) (calls_of q p) (Some b) ≡ true → CoversRun q bs p b
+  run_true : (p : ℕ) (b : StackSizes) → p < length q.procs → covers_run ns bs (need_at ns p) (calls_of q p) (Some b) ≡ true → CoversRun q bs p b
   run_true p b lt e =
-      let k = and_parts (is_at_most (stack_words (need_at ns p).temp (need_at ns p).ctrl) b) (covers_calls ns bs b (calls_of q p)) e in
+      let k = and_parts (is_at_most (stack_sizes (need_at ns p).ctrl (need_at ns p).temp) b) (covers_calls ns bs b (calls_of q p)) e in
       record {
-        own = at_most_true (own_need (proc_at q p)) b (subst (λ (n : Need). is_at_most (stack_words n.temp n.ctrl) b ≡ true) (needs.each p lt) k.0);
+        own = at_most_true (own_need (proc_at q p)) b (subst (λ (n : Need). is_at_most (stack_sizes n.ctrl n.temp) b ≡ true) (needs.each p lt) k.0);
         calls = calls_true b (calls_of q p) (calls_below q fits p) k.1;
       }
 
-  run_is : (p : ℕ) (o : Option Words) → p < length q.procs → ((b : Words) → o ≡ Some b → CoversRun q bs p b) → covers_run ns bs (need_at ns p) (calls_of q p) o ≡ true
+  run_is : (p : ℕ) (o : Option StackSizes) → p < length q.procs → ((b : StackSizes) → o ≡ Some b → CoversRun q bs p b) → covers_run ns bs (need_at ns p) (calls_of q p) o ≡ true
   run_is p None lt h = refl
   run_is p (Some b) lt h =
-      both_true (is_at_most (stack_words (need_at ns p).temp (need_at ns p).ctrl) b) (covers_calls ns bs b (calls_of q p))
-      (subst (λ (n : Need). is_at_most (stack_words n.temp n.ctrl) b ≡ true) (sym (needs.each p lt)) (at_most_is (own_need (proc_at q p)) b (h b refl).own))
+      and_true (is_at_most (stack_sizes (need_at ns p).ctrl (need_at ns p).temp) b) (covers_calls ns bs b (calls_of q p))
+      (subst (λ (n : Need). is_at_most (stack_sizes n.ctrl n.temp) b ≡ true) (sym (needs.each p lt)) (at_most_is (own_need (proc_at q p)) b (h b refl).own))
       (calls_is b (calls_of q p) (calls_below q fits p) (h b refl).calls)
 
   from_true : (calls : List (List ℕ)) (k i : ℕ) → covers_from ns bs k calls ≡ true → i < length calls → covers_run ns bs (need_at ns (k + i)) (get_or calls i []) (bound_at bs (k + i)) ≡ true
@@ -99,7 +100,7 @@ module _ (q : Program) (ns : List Need) (needs : AreNeeds q ns) (fits : ProgramF
   from_is [] k h = refl
   from_is (ps ∷ calls) k h =
       let first : k + 0 ≡ k = omega arith in
-      both_true (covers_run ns bs (need_at ns k) ps (bound_at bs k)) (covers_from ns bs (k + 1) calls)
+      and_true (covers_run ns bs (need_at ns k) ps (bound_at bs k)) (covers_from ns bs (k + 1) calls)
       (subst (λ j. covers_run ns bs (need_at ns j) ps (bound_at bs j) ≡ true) first (h 0 (omega arith)))
       (from_is calls (k + 1) (λ i lt. subst (λ j. covers_run ns bs (need_at ns j) (get_or calls i []) (bound_at bs j) ≡ true) (shift k i) (h (suc i) (omega (arith, lt)))))
     where
@@ -109,7 +110,7 @@ module _ (q : Program) (ns : List Need) (needs : AreNeeds q ns) (fits : ProgramF
   many : length (body_calls q) ≡ length q.procs
   many = length-map q.procs (λ (p : Proc). callees p.body)
 
-  pub covers_true : (sizes : Words) → covers ns bs (main_used q) sizes q.main (body_calls q) ≡ true → Covers q bs sizes
+  pub covers_true : (sizes : StackSizes) → covers ns bs (main_used q) sizes q.main (body_calls q) ≡ true → Covers q bs sizes
   covers_true sizes e =
       let k = and_parts (length bs == length (body_calls q)) (covers_main (main_used q) sizes (bound_at bs q.main) && covers_from ns bs 0 (body_calls q)) e in
       let j = and_parts (covers_main (main_used q) sizes (bound_at bs q.main)) (covers_from ns bs 0 (body_calls q)) k.1 in
@@ -128,22 +129,22 @@ module _ (q : Program) (ns : List Need) (needs : AreNeeds q ns) (fits : ProgramF
         within = main_enough (bound_at bs q.main) main;
       }
     where
-      main_enough : (o : Option Words) → IsSomeAnd o (λ d. IsAtMost (words_sum (main_used q) d) sizes) → IsAtMost (words_sum (main_used q) (unwrap_or o (stack_words 0 0))) sizes
+      main_enough : (o : Option StackSizes) → IsSomeAnd o (λ d. IsAtMost (words_sum (main_used q) d) sizes) → IsAtMost (words_sum (main_used q) (unwrap_or o (stack_sizes 0 0))) sizes
       main_enough None h = absurd h
       main_enough (Some d) h = h
 
-  pub covers_is : (sizes : Words) → Covers q bs sizes → covers ns bs (main_used q) sizes q.main (body_calls q) ≡ true
+  pub covers_is : (sizes : StackSizes) → Covers q bs sizes → covers ns bs (main_used q) sizes q.main (body_calls q) ≡ true
   covers_is sizes h =
-      both_true (length bs == length (body_calls q)) (covers_main (main_used q) sizes (bound_at bs q.main) && covers_from ns bs 0 (body_calls q))
+      and_true (length bs == length (body_calls q)) (covers_main (main_used q) sizes (bound_at bs q.main) && covers_from ns bs 0 (body_calls q))
       (eq-eqb (length bs) (length (body_calls q)) (h.certificate.number ∙ sym many))
-      (both_true (covers_main (main_used q) sizes (bound_at bs q.main)) (covers_from ns bs 0 (body_calls q))
+      (and_true (covers_main (main_used q) sizes (bound_at bs q.main)) (covers_from ns bs 0 (body_calls q))
       (main (bound_at bs q.main) refl h.certificate.main)
       (from_is (body_calls q) 0 (λ i lt.
       let zero_add : i ≡ 0 + i = omega arith in
       subst (λ x. covers_run ns bs (need_at ns x) (get_or (body_calls q) i []) (bound_at bs x) ≡ true) zero_add
       (subst (λ x. covers_run ns bs (need_at ns i) x (bound_at bs i) ≡ true) (sym (calls_same q.procs i)) (run_is i (bound_at bs i) (omega (arith, lt, many)) (h.certificate.each i))))))
     where
-      main : (o : Option Words) → bound_at bs q.main ≡ o → IsSome o → covers_main (main_used q) sizes o ≡ true
+      main : (o : Option StackSizes) → bound_at bs q.main ≡ o → IsSome o → covers_main (main_used q) sizes o ≡ true
       main None e k = cc
       main (Some b) e k = at_most_is (words_sum (main_used q) b) sizes (main_within q bs sizes h b e)
 
@@ -168,7 +169,7 @@ are_needs q = record {
     zero_plus p = omega arith
 
 -- what is judged by the program is whether it is covered
-pub covered_is : (q : Program) → ProgramFits q → (bs : Bounds) (sizes : Words) → (is_covered q bs sizes ≡ true → Covers q bs sizes) × (Covers q bs sizes → is_covered q bs sizes ≡ true)
+pub covered_is : (q : Program) → ProgramFits q → (bs : Bounds) (sizes : StackSizes) → (is_covered q bs sizes ≡ true → Covers q bs sizes) × (Covers q bs sizes → is_covered q bs sizes ≡ true)
 unfolding is_covered
 covered_is q fits bs sizes = (
   λ t. covers_true q (needs_from q (length q.procs) 0) (are_needs q) fits bs sizes t,
@@ -176,7 +177,7 @@ covered_is q fits bs sizes = (
 )
 
 -- what is judged so is judged as the program has it
-pub is_covered_by : (q : Program) → ProgramFits q → (bs : Bounds) (sizes : Words) (b : Bool) → (b ≡ true → Covers q bs sizes) → (Covers q bs sizes → b ≡ true) → b ≡ is_covered q bs sizes
+pub is_covered_by : (q : Program) → ProgramFits q → (bs : Bounds) (sizes : StackSizes) (b : Bool) → (b ≡ true → Covers q bs sizes) → (Covers q bs sizes → b ≡ true) → b ≡ is_covered q bs sizes
 unfolding is_covered
 is_covered_by q fits bs sizes true to from = sym (covers_is q (needs_from q (length q.procs) 0) (are_needs q) fits bs sizes (to refl))
 is_covered_by q fits bs sizes false to from =
@@ -213,12 +214,12 @@ module _ (s : SourceOf) (ns : List Need) (needs : AreNeeds (program_of s) ns) (f
   main_need_is = ap (need_at ns) is ∙ needs.each (program_of s).main fits.main
 
   -- the words of its formals, and those of its locals
-  pub used_is : (f : ℕ) → f ≡ words_of (proc_at (program_of s) (program_of s).main).formals → stack_words (f + (need_at ns main).locals_words) (2 + (need_at ns main).vars) ≡ main_used (program_of s)
+  pub used_is : (f : ℕ) → f ≡ words_of (proc_at (program_of s) (program_of s).main).formals → stack_sizes (2 + (need_at ns main).vars) (f + (need_at ns main).locals_words) ≡ main_used (program_of s)
   unfolding main_used
   used_is f e =
       let p = proc_at (program_of s) (program_of s).main in
-      (λ i. stack_words (e i + (main_need_is i).locals_words) (2 + (main_need_is i).vars))
-      ∙ ap (λ n. stack_words n (frame_of p)) (sym (words_append (program_of s) p.formals (map (λ (v : ValueOf). v.shape) p.locals)))
+      (λ i. stack_sizes (2 + (main_need_is i).vars) (e i + (main_need_is i).locals_words))
+      ∙ ap (λ n. stack_sizes (frame_of p) n) (sym (words_append (program_of s) p.formals (map (λ (v : ValueOf). v.shape) p.locals)))
 
 pub formals_small : (s : SourceOf) → ProgramFits (program_of s) → words_of (proc_at (program_of s) (program_of s).main).formals ≤ 65536
 formals_small s fits =

@@ -7,7 +7,7 @@ use Rattle.std.specs.Option.{IsSome, IsSomeAnd, option_map, unwrap_or}
 use Rattle.std.specs.Result.{MatchResult}
 use Rattle.gypsy_syntax.specs.Programs.{Program, proc_at}
 use Rattle.gypsy_syntax.specs.ProgramFits.{ProgramFits}
-use Rattle.gypsy_space.specs.Needs.{Words, stack_words}
+use Rattle.gypsy_space.specs.Needs.{StackSizes, stack_sizes}
 use Rattle.space_cert.specs.declared.certificate.Certificate.{Certificate}
 use Rattle.space_cert.specs.declared.certifying.CertFault.{CertFault}
 use Rattle.space_cert.specs.declared.certifying.CertFault.TheVariants.{Recursive, Memory}
@@ -97,28 +97,28 @@ count_grows test other h r fails holds (suc n) lt =
 module _ (q : Program) where
   -- 3. The greatest of what calls take.
 
-  greatest_equal : (f g : ℕ → Words) (ps : List ℕ) (w : Words) → ((r : ℕ) → Contains ps r → f r ≡ g r) → greatest_taken q f ps w ≡ greatest_taken q g ps w
+  greatest_equal : (f g : ℕ → StackSizes) (ps : List ℕ) (w : StackSizes) → ((r : ℕ) → Contains ps r → f r ≡ g r) → greatest_taken q f ps w ≡ greatest_taken q g ps w
   unfolding greatest_taken
   greatest_equal f g [] w h = refl
   greatest_equal f g (p ∷ ps) w h =
       ap (λ v. greatest_taken q f ps (greater w (call_bound q p v))) (h p (contains_first p ps))
       ∙ greatest_equal f g ps (greater w (call_bound q p (g p))) (λ r k. h r (contains_later p ps r k))
 
-  greatest_same : (taken : ℕ → Words) (bs : Bounds) (ps : List ℕ) (w : Words) → ((r : ℕ) → Contains ps r → taken r ≡ unwrap_or (bound_at bs r) (stack_words 0 0)) → greatest_taken q taken ps w ≡ greatest_call q bs ps w
+  greatest_same : (taken : ℕ → StackSizes) (bs : Bounds) (ps : List ℕ) (w : StackSizes) → ((r : ℕ) → Contains ps r → taken r ≡ unwrap_or (bound_at bs r) (stack_sizes 0 0)) → greatest_taken q taken ps w ≡ greatest_call q bs ps w
   unfolding greatest_taken
   greatest_same taken bs [] w h = refl
   greatest_same taken bs (p ∷ ps) w h =
       ap (λ v. greatest_taken q taken ps (greater w (call_bound q p v))) (h p (contains_first p ps))
       ∙ greatest_same taken bs ps (greater w (call_words q bs p)) (λ r k. h r (contains_later p ps r k))
 
-  greatest_least : (taken : ℕ → Words) (ps : List ℕ) (w v : Words) → IsAtMost w v → ((r : ℕ) → Contains ps r → IsAtMost (call_bound q r (taken r)) v) → IsAtMost (greatest_taken q taken ps w) v
+  greatest_least : (taken : ℕ → StackSizes) (ps : List ℕ) (w v : StackSizes) → IsAtMost w v → ((r : ℕ) → Contains ps r → IsAtMost (call_bound q r (taken r)) v) → IsAtMost (greatest_taken q taken ps w) v
   unfolding greatest_taken
   greatest_least taken [] w v h each = h
   greatest_least taken (p ∷ ps) w v h each =
       greatest_least taken ps (greater w (call_bound q p (taken p))) v (greater_least h (each p (contains_first p ps))) (λ r k. each r (contains_later p ps r k))
 
   -- no certificate has less, however deep calls are followed
-  run_least : (ds : Bounds) → IsCertificate q ds → (depth p : ℕ) (d : Words) → bound_at ds p ≡ Some d → IsAtMost (run_within q depth p) d
+  run_least : (ds : Bounds) → IsCertificate q ds → (depth p : ℕ) (d : StackSizes) → bound_at ds p ≡ Some d → IsAtMost (run_within q depth p) d
   unfolding run_within
   run_least ds cert zero p d is = record { temp = omega arith; ctrl = omega arith }
   run_least ds cert (suc depth) p d is =
@@ -126,7 +126,7 @@ module _ (q : Program) where
       greatest_least (run_within q depth) (calls_of q p) (own_need (proc_at q p)) d run.own
       (λ r k. callee r (bound_at ds r) refl (All-contains (CoversCall q ds d) (calls_of q p) r run.calls k) (run_least ds cert depth r))
     where
-      callee : (r : ℕ) (o : Option Words) → bound_at ds r ≡ o → IsSomeAnd o (λ e. IsAtMost (call_bound q r e) d) → ((e : Words) → bound_at ds r ≡ Some e → IsAtMost (run_within q depth r) e) → IsAtMost (call_bound q r (run_within q depth r)) d
+      callee : (r : ℕ) (o : Option StackSizes) → bound_at ds r ≡ o → IsSomeAnd o (λ e. IsAtMost (call_bound q r e) d) → ((e : StackSizes) → bound_at ds r ≡ Some e → IsAtMost (run_within q depth r) e) → IsAtMost (call_bound q r (run_within q depth r)) d
       callee r None i h least = absurd h
       callee r (Some e) i h least = let less = more_taken q r (least e i) in record { temp = omega (arith, less.temp, h.temp); ctrl = omega (arith, less.ctrl, h.ctrl) }
 
@@ -215,10 +215,10 @@ module _ (q : Program) where
       bounds_past (suc n) k zero le = absurd (omega arith)
       bounds_past (suc n) k (suc i) le = bounds_past n (k + 1) i (omega (arith, le))
 
-      abbrev run_of : ℕ → Words
+      abbrev run_of : ℕ → StackSizes
       run_of p = run_within q (length q.procs) p
 
-      abbrev bound_by : Bool → Words → Option (ℕ × ℕ)
+      abbrev bound_by : Bool → StackSizes → Option (ℕ × ℕ)
       bound_by t run = if t then Some (run.temp, run.ctrl) else None
 
       known : (p : ℕ) → IsReached q p → bound_at computed p ≡ Some (run_of p)
@@ -226,7 +226,7 @@ module _ (q : Program) where
           let zero_plus : 0 + p ≡ p = omega arith in
           ap (option_map as_words) (bounds_at (length q.procs) 0 p (reached_there p h) ∙ ap (least_bound q) zero_plus ∙ ap (λ t. bound_by t (run_within q (length q.procs) p)) (reached_true p h))
 
-      is_known : (p : ℕ) (b : Words) → bound_at computed p ≡ Some b → IsReached q p
+      is_known : (p : ℕ) (b : StackSizes) → bound_at computed p ≡ Some b → IsReached q p
       is_known p b e =
           elim (cases_lt p (length q.procs)) [
             | inr le ↦ absurd (none_some (sym (ap (option_map as_words) (bounds_past (length q.procs) 0 p le)) ∙ e))
@@ -252,7 +252,7 @@ module _ (q : Program) where
           (λ r c.
           let falls = rank_falls p r h c in
           let there = reached_callee p r h c in
-          deep_enough depth (length q.procs) r there (omega (arith, lt, falls)) (rank_few r there) ∙ ap (λ o. unwrap_or o (stack_words 0 0)) (sym (known r there)))
+          deep_enough depth (length q.procs) r there (omega (arith, lt, falls)) (rank_few r there) ∙ ap (λ o. unwrap_or o (stack_sizes 0 0)) (sym (known r there)))
 
       all_known : (ps : List ℕ) → ((r : ℕ) → Contains ps r → IsReached q r) → All (λ r. IsSome (bound_at computed r)) ps
       all_known [] h = All-nil (λ r. IsSome (bound_at computed r))
@@ -284,11 +284,11 @@ module _ (q : Program) where
             by_other ds cert p (bound_at ds p) refl (reached_known q ds cert p h) b is;
       }
         where
-          by_bound : (p : ℕ) → ¬ IsReached q p → (o : Option Words) → bound_at computed p ≡ o → o ≡ None
+          by_bound : (p : ℕ) → ¬ IsReached q p → (o : Option StackSizes) → bound_at computed p ≡ o → o ≡ None
           by_bound p n None e = refl
           by_bound p n (Some b) e = absurd (n (is_known p b e))
 
-          by_other : (ds : Bounds) → IsCertificate q ds → (p : ℕ) (o : Option Words) → bound_at ds p ≡ o → IsSome o → (b : Words) → run_of p ≡ b → IsSomeAnd o (IsAtMost b)
+          by_other : (ds : Bounds) → IsCertificate q ds → (p : ℕ) (o : Option StackSizes) → bound_at ds p ≡ o → IsSome o → (b : StackSizes) → run_of p ≡ b → IsSomeAnd o (IsAtMost b)
           by_other ds cert p None e k b is = cc
           by_other ds cert p (Some d) e k b is = subst (λ w. IsAtMost w d) is (run_least ds cert (length q.procs) p d e)
 

@@ -1,28 +1,28 @@
 -- What is found along the calls of an accepted program is its least certificate, or its first recursive procedure.
-use Rattle.std.proofs.Common.{◌≡◌, ℕ, zero, suc, ◌+◌, ◌*◌, ◌<◌, ◌≤◌, ◌^◌, max, if◌then◌else◌, ◌==◌, List, [], ◌∷◌, ◌++◌, map, length, get_or, take, reverse, Bool, true, false, Option, Some, None, inl, inr, refl, ap, sym, ◌∙◌, subst, arith, eq-eqb}
+use Rattle.std.proofs.Common.{◌≡◌, ℕ, zero, suc, ◌+◌, ◌*◌, ◌<◌, ◌≤◌, max, if◌then◌else◌, ◌==◌, List, [], ◌∷◌, ◌++◌, map, length, get_or, take, reverse, Bool, true, false, Option, Some, None, inl, inr, refl, ap, sym, ◌∙◌, subst, arith, eq-eqb}
 use Rattle.std.proofs.lemmas.Bool.{cases_eq}
 use Rattle.std.proofs.lemmas.List.{length-map, length-reverse, length-take, reverse-append, reverse-reverse, take_all}
 use Rattle.std.proofs.lemmas.List.Elements.{All-nil, All-cons, All-head, All-tail, All-append, All-take, All-contains, Contains-push, Contains-append_left}
 use Rattle.std.specs.List.{All, Contains}
-use Rattle.std.specs.Option.{option_map, unwrap_or}
+use Rattle.std.specs.Option.{unwrap_or}
 use Rattle.stack_text.specs.declared.shape.Shape.{Shape}
 use Rattle.stack_text.specs.Values.{ValueOf, item_count}
 use Rattle.gypsy_syntax.specs.declared.predef.Predef.{Predef}
 use Rattle.gypsy_syntax.specs.declared.predef.Predef.TheVariants as row
-use Rattle.gypsy_syntax.specs.PredefinedCosts.{predef_temp, predef_ctrl}
+use Rattle.gypsy_syntax.specs.Predefined.{predef_temp, predef_ctrl}
 use Rattle.gypsy_syntax.specs.Programs.{Proc, Program, no_proc, proc_at, body_of, shapes_of, conds_of, words_of}
 use Rattle.gypsy_syntax.specs.Programs.{Stmt, Skip, NoOp, Signal, Seq, Loop, If, Begin, Call, Apply}
 use Rattle.gypsy_syntax.specs.ProgramFits.{StmtFits, ProcFits, ProgramFits}
-use Rattle.gypsy_space.specs.Needs.{Words, stack_words, greatest, local_words, vars_of}
+use Rattle.gypsy_space.specs.Needs.{StackSizes, stack_sizes, greatest, local_words, vars_of}
 use Rattle.gypsy_space.specs.Events.{AreNeeds, need_at}
 use Rattle.gypsy_space.specs.declared.need.Need.{Need}
-use Rattle.space_cert.specs.Covers.{Bounds, no_bounds, as_words, bound_at, IsAtMost, callees, own_need, call_bound}
+use Rattle.space_cert.specs.Covers.{Bounds, no_bounds, bound_at, IsAtMost, callees, own_need, call_bound}
 use Rattle.space_cert.specs.Reaches.{Reaches, Directly, Further, Leads, calls_of, IsReached}
 use Rattle.space_cert.specs.Least.{IsLeast, IsFirstRecursive}
 use Rattle.space_cert.specs.Order.{greater, call_words, greatest_call, run_bound, with_bound, bounds_of_order, call_bound_by, greatest_call_by, run_bound_by, bounds_by_needs, AreBounds}
-use Rattle.space_cert.specs.Search.{AreDone}
-use Rattle.space_cert.specs.Searching.{call_of, IsFound}
-use Rattle.space_cert.specs.SearchView.{AreCalls, seen_calls}
+use Rattle.space_cert.specs.Scaffold.Search.{AreDone}
+use Rattle.space_cert.specs.Scaffold.SearchState.{call_of, IsFound}
+use Rattle.space_cert.specs.Scaffold.SearchView.{AreCalls, seen_calls}
 use Rattle.std.specs.Global.{Vec}
 use Rattle.space_cert.proofs.AllLaws.{all_left}
 use Rattle.space_cert.proofs.ContainsLaws.{contains_none, contains_first, contains_later, contains_cases}
@@ -65,10 +65,10 @@ module _ (q : Program) where
 
   -- By the needs.
 
-  greatest_same : (ns : List Need) → AreNeeds q ns → (bs : Bounds) (ps : List ℕ) (w : Words) → All (λ r. r < length q.procs) ps → greatest_call_by ns bs ps w ≡ greatest_call q bs ps w
+  greatest_same : (ns : List Need) → AreNeeds q ns → (bs : Bounds) (ps : List ℕ) (w : StackSizes) → All (λ r. r < length q.procs) ps → greatest_call_by ns bs ps w ≡ greatest_call q bs ps w
   greatest_same ns h bs [] w lt = refl
   greatest_same ns h bs (p ∷ ps) w lt =
-      ap (λ n. greatest_call_by ns bs ps (greater w (call_bound_by n (unwrap_or (bound_at bs p) (stack_words 0 0))))) (h.each p (All-head (λ r. r < length q.procs) p ps lt))
+      ap (λ n. greatest_call_by ns bs ps (greater w (call_bound_by n (unwrap_or (bound_at bs p) (stack_sizes 0 0))))) (h.each p (All-head (λ r. r < length q.procs) p ps lt))
       ∙ greatest_same ns h bs ps (greater w (call_words q bs p)) (All-tail (λ r. r < length q.procs) p ps lt)
 
   pub along_same : (ns : List Need) → AreNeeds q ns → ProgramFits q → (order : List ℕ) → All (λ r. r < length q.procs) order → bounds_by_needs ns (body_calls q) order ≡ bounds_of_order q order
@@ -78,7 +78,7 @@ module _ (q : Program) where
       none_same = ap no_bounds (length-map q.procs (λ (p : Proc). callees p.body))
   along_same ns h fits (p ∷ before) lt =
       let old = along_same ns h fits before (All-tail (λ r. r < length q.procs) p before lt) in
-      let own : stack_words (need_at ns p).temp (need_at ns p).ctrl ≡ own_need (proc_at q p) = ap (λ (n : Need). stack_words n.temp n.ctrl) (h.each p (All-head (λ r. r < length q.procs) p before lt)) in
+      let own : stack_sizes (need_at ns p).ctrl (need_at ns p).temp ≡ own_need (proc_at q p) = ap (λ (n : Need). stack_sizes n.ctrl n.temp) (h.each p (All-head (λ r. r < length q.procs) p before lt)) in
       let run : run_bound_by ns (bounds_of_order q before) (call_of (body_calls q) p) p ≡ run_bound q (bounds_of_order q before) p =
       (λ i. greatest_call_by ns (bounds_of_order q before) (calls_same q.procs p i) (own i)) ∙ greatest_same ns h (bounds_of_order q before) (calls_of q p) (own_need (proc_at q p)) (calls_below fits p) in
       ap (λ bs. with_bound bs p (run_bound_by ns bs (call_of (body_calls q) p) p)) old ∙ ap (with_bound (bounds_of_order q before) p) run
@@ -128,14 +128,14 @@ module _ (q : Program) where
   ctrl_small _ = omega arith
 
   -- twice so many words a procedure
-  abbrev limit : ℕ → Words
-  limit k = stack_words (k * 262144) (k * 262144)
+  abbrev limit : ℕ → StackSizes
+  limit k = stack_sizes (k * 262144) (k * 262144)
 
-  calls_small : (fits : ProgramFits q) (bs : Bounds) (k : ℕ) → ((r : ℕ) (b : Words) → bound_at bs r ≡ Some b → IsAtMost b (limit k)) → (ps : List ℕ) → All (λ r. IsAtMost (call_words q bs r) (limit (k + 1))) ps
+  calls_small : (fits : ProgramFits q) (bs : Bounds) (k : ℕ) → ((r : ℕ) (b : StackSizes) → bound_at bs r ≡ Some b → IsAtMost b (limit k)) → (ps : List ℕ) → All (λ r. IsAtMost (call_words q bs r) (limit (k + 1))) ps
   calls_small fits bs k f [] = All-nil (λ r. IsAtMost (call_words q bs r) (limit (k + 1)))
   calls_small fits bs k f (r ∷ ps) = All-cons (λ x. IsAtMost (call_words q bs x) (limit (k + 1))) r ps (pick (bound_at bs r) refl) (calls_small fits bs k f ps)
     where
-      bounded : (d : Words) → IsAtMost d (limit k) → IsAtMost (call_bound q r d) (limit (k + 1))
+      bounded : (d : StackSizes) → IsAtMost d (limit k) → IsAtMost (call_bound q r d) (limit (k + 1))
       bounded d h =
           let words = small_words (proc_at q r) (fits.procs r) in
           record { temp = more (local_words (proc_at q r)) (vars_of (proc_at q r)) d.temp k words h.temp; ctrl = under (local_words (proc_at q r)) (vars_of (proc_at q r)) d.ctrl k words h.ctrl }
@@ -146,11 +146,11 @@ module _ (q : Program) where
           under : (l v d k : ℕ) → l + v ≤ 131072 → d ≤ k * 262144 → 2 + v + d ≤ (k + 1) * 262144
           under l v d k h g = omega (arith, h, g)
 
-      pick : (o : Option Words) → bound_at bs r ≡ o → IsAtMost (call_bound q r (unwrap_or o (stack_words 0 0))) (limit (k + 1))
-      pick None e = bounded (stack_words 0 0) record { temp = omega arith; ctrl = omega arith }
+      pick : (o : Option StackSizes) → bound_at bs r ≡ o → IsAtMost (call_bound q r (unwrap_or o (stack_sizes 0 0))) (limit (k + 1))
+      pick None e = bounded (stack_sizes 0 0) record { temp = omega arith; ctrl = omega arith }
       pick (Some d) e = bounded d (f r d e)
 
-  pub small_by : ProgramFits q → (order : List ℕ) → All (λ r. r < length q.procs) order → (r : ℕ) (b : Words) → bound_at (bounds_of_order q order) r ≡ Some b → IsAtMost b (limit (length order))
+  pub small_by : ProgramFits q → (order : List ℕ) → All (λ r. r < length q.procs) order → (r : ℕ) (b : StackSizes) → bound_at (bounds_of_order q order) r ≡ Some b → IsAtMost b (limit (length order))
   small_by fits [] lt r b e = absurd (none_some (sym (none_at (length q.procs) r) ∙ e))
     where
       none_some : None ≡ Some b → ⊥

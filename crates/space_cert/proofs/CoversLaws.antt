@@ -1,31 +1,28 @@
 -- A covered call has room, and leaves its callee covered.
-use Rattle.std.proofs.Common.{◌≡◌, ◌&&◌, not, if◌then◌else◌, false, ℕ, ◌+◌, ◌≤◌, max, length, Bool, true, Option, Some, None, subst, arith}
+use Rattle.std.proofs.Common.{◌≡◌, not, if◌then◌else◌, ℕ, ◌+◌, ◌≤◌, max, length, true, Option, Some, None, subst, arith}
 use Rattle.std.proofs.lemmas.Bool.{le-leb}
 use Rattle.std.specs.Option.{IsSomeAnd, unwrap_or}
+use Rattle.stack_text.proofs.KeepsLaws.{and_true}
 use Rattle.gypsy_syntax.specs.Programs.{Program, proc_at}
-use Rattle.gypsy_space.specs.Needs.{Words, stack_words, main_used, temp_need, ctrl_need, local_words, vars_of, frame_of, with_call, call_need, has_temp_room, has_ctrl_room, has_room, lack_of}
+use Rattle.gypsy_space.specs.Needs.{StackSizes, stack_sizes, main_used, temp_need, ctrl_need, local_words, vars_of, frame_of, with_call, call_need, has_temp_room, has_ctrl_room, has_room, lack_of}
 use Rattle.gypsy_space.specs.declared.need.Lack.TheVariants.{Nothing, Temporary, Control}
 use Rattle.space_cert.specs.Covers.{Bounds, bound_at, words_sum, IsAtMost, own_need, call_bound, Covers}
 
-pub both_true : (a b : Bool) → a ≡ true → b ≡ true → (a && b) ≡ true
-both_true true b e f = f
-both_true false b e f = e
-
 -- main's words with its bounds
-pub main_within : (q : Program) (bs : Bounds) (sizes : Words) → Covers q bs sizes → (b : Words) → bound_at bs q.main ≡ Some b → IsAtMost (words_sum (main_used q) b) sizes
-main_within q bs sizes covers b e = subst (λ o. IsAtMost (words_sum (main_used q) (unwrap_or o (stack_words 0 0))) sizes) e covers.within
+pub main_within : (q : Program) (bs : Bounds) (sizes : StackSizes) → Covers q bs sizes → (b : StackSizes) → bound_at bs q.main ≡ Some b → IsAtMost (words_sum (main_used q) b) sizes
+main_within q bs sizes covers b e = subst (λ o. IsAtMost (words_sum (main_used q) (unwrap_or o (stack_sizes 0 0))) sizes) e covers.within
 
 -- the bound that the callee has
-pub record HasBound (q : Program) (bs : Bounds) (b : Words) (p : ℕ) : Type 0 where
-  pub bound : Words
+pub record HasBound (q : Program) (bs : Bounds) (b : StackSizes) (p : ℕ) : Type 0 where
+  pub bound : StackSizes
   pub known : bound_at bs p ≡ Some bound
   pub within : IsAtMost (call_bound q p bound) b
 
-pub bound_there : (q : Program) (bs : Bounds) (b : Words) (p : ℕ) (o : Option Words) → bound_at bs p ≡ o → IsSomeAnd o (λ d. IsAtMost (call_bound q p d) b) → HasBound q bs b p
+pub bound_there : (q : Program) (bs : Bounds) (b : StackSizes) (p : ℕ) (o : Option StackSizes) → bound_at bs p ≡ o → IsSomeAnd o (λ d. IsAtMost (call_bound q p d) b) → HasBound q bs b p
 bound_there q bs b p None e h = absurd h
 bound_there q bs b p (Some d) e h = record { bound = d; known = e; within = h }
 
-module _ (q : Program) (sizes : Words) (p : ℕ) (u b d : Words) (own : IsAtMost (own_need (proc_at q p)) d) (call : IsAtMost (call_bound q p d) b) (within : IsAtMost (words_sum u b) sizes) where
+module _ (q : Program) (sizes : StackSizes) (p : ℕ) (u b d : StackSizes) (own : IsAtMost (own_need (proc_at q p)) d) (call : IsAtMost (call_bound q p d) b) (within : IsAtMost (words_sum u b) sizes) where
   temp_room : has_temp_room q sizes p u ≡ true
   unfolding call_need
   temp_room =
@@ -44,7 +41,7 @@ module _ (q : Program) (sizes : Words) (p : ℕ) (u b d : Words) (own : IsAtMost
 
   pub room : has_room q sizes p u ≡ true
   unfolding has_room
-  room = both_true (has_temp_room q sizes p u) (has_ctrl_room q sizes p u) temp_room ctrl_room
+  room = and_true (has_temp_room q sizes p u) (has_ctrl_room q sizes p u) temp_room ctrl_room
 
   pub lacks_nothing : lack_of q sizes p u ≡ Nothing
   unfolding lack_of

@@ -6,7 +6,7 @@ use Rattle.std.proofs.lemmas.List.Elements.{All-nil, All-cons, All-head, All-tai
 use Rattle.std.specs.List.{All, Contains}
 use Rattle.std.specs.Option.{IsSome, IsSomeAnd, option_map, unwrap_or}
 use Rattle.gypsy_syntax.specs.Programs.{Program, proc_at}
-use Rattle.gypsy_space.specs.Needs.{Words, stack_words, local_words, vars_of, main_used}
+use Rattle.gypsy_space.specs.Needs.{StackSizes, stack_sizes, local_words, vars_of, main_used}
 use Rattle.space_cert.specs.Covers.{Bounds, no_bounds, as_words, bound_at, words_sum, IsAtMost, own_need, call_bound, CoversCall, CoversRun, IsCertificate, sizes_for, Covers}
 use Rattle.space_cert.specs.Reaches.{Reaches, Directly, Further, calls_of, IsReached, IsRecursive}
 use Rattle.space_cert.specs.Least.{IsLeast}
@@ -16,22 +16,22 @@ use Rattle.space_cert.proofs.ContainsLaws.{contains_none, contains_first, contai
 
 -- Words.
 
-refl_at_most : (u : Words) → IsAtMost u u
+refl_at_most : (u : StackSizes) → IsAtMost u u
 refl_at_most u = record { temp = omega arith; ctrl = omega arith }
 
-trans_at_most : {u v w : Words} → IsAtMost u v → IsAtMost v w → IsAtMost u w
+trans_at_most : {u v w : StackSizes} → IsAtMost u v → IsAtMost v w → IsAtMost u w
 trans_at_most h g = record { temp = omega (arith, h.temp, g.temp); ctrl = omega (arith, h.ctrl, g.ctrl) }
 
-greater_left : (u v : Words) → IsAtMost u (greater u v)
+greater_left : (u v : StackSizes) → IsAtMost u (greater u v)
 greater_left u v = record { temp = omega arith; ctrl = omega arith }
 
-greater_right : (u v : Words) → IsAtMost v (greater u v)
+greater_right : (u v : StackSizes) → IsAtMost v (greater u v)
 greater_right u v = record { temp = omega arith; ctrl = omega arith }
 
-pub greater_least : {u v w : Words} → IsAtMost u w → IsAtMost v w → IsAtMost (greater u v) w
+pub greater_least : {u v w : StackSizes} → IsAtMost u w → IsAtMost v w → IsAtMost (greater u v) w
 greater_least h g = record { temp = omega (arith, h.temp, g.temp); ctrl = omega (arith, h.ctrl, g.ctrl) }
 
-pub more_taken : (q : Program) (p : ℕ) {b d : Words} → IsAtMost b d → IsAtMost (call_bound q p b) (call_bound q p d)
+pub more_taken : (q : Program) (p : ℕ) {b d : StackSizes} → IsAtMost b d → IsAtMost (call_bound q p b) (call_bound q p d)
 more_taken q p {b} {d} h =
     let c = proc_at q p in
     record { temp = more (local_words c) (vars_of c) b.temp d.temp h.temp; ctrl = omega (arith, h.ctrl) }
@@ -46,21 +46,21 @@ none_at zero p = refl
 none_at (suc n) zero = refl
 none_at (suc n) (suc p) = none_at n p
 
-bound_same : (bs : Bounds) (p : ℕ) (w : Words) → p < length bs → bound_at (with_bound bs p w) p ≡ Some w
+bound_same : (bs : Bounds) (p : ℕ) (w : StackSizes) → p < length bs → bound_at (with_bound bs p w) p ≡ Some w
 bound_same bs p w h = ap (option_map as_words) (get_or-set_same bs p (Some (w.temp, w.ctrl)) None h)
 
-pub bound_other : (bs : Bounds) (p r : ℕ) (w : Words) → (r ≡ p → ⊥) → bound_at (with_bound bs p w) r ≡ bound_at bs r
+pub bound_other : (bs : Bounds) (p r : ℕ) (w : StackSizes) → (r ≡ p → ⊥) → bound_at (with_bound bs p w) r ≡ bound_at bs r
 bound_other bs p r w h = ap (option_map as_words) (get_or-set_other bs p r (Some (w.temp, w.ctrl)) None h)
 
-pub some_same : {u v : Words} → Some u ≡ Some v → u ≡ v
+pub some_same : {u v : StackSizes} → Some u ≡ Some v → u ≡ v
 some_same {u} {v} e = ap (λ o. unwrap_or o u) e
 
 module _ (q : Program) (bs : Bounds) where
-  pub calls_rise : (ps : List ℕ) (w : Words) → IsAtMost w (greatest_call q bs ps w)
+  pub calls_rise : (ps : List ℕ) (w : StackSizes) → IsAtMost w (greatest_call q bs ps w)
   calls_rise [] w = refl_at_most w
   calls_rise (p ∷ ps) w = trans_at_most (greater_left w (call_words q bs p)) (calls_rise ps (greater w (call_words q bs p)))
 
-  pub calls_within : (ps : List ℕ) (w : Words) → All (λ p. IsAtMost (call_words q bs p) (greatest_call q bs ps w)) ps
+  pub calls_within : (ps : List ℕ) (w : StackSizes) → All (λ p. IsAtMost (call_words q bs p) (greatest_call q bs ps w)) ps
   calls_within [] w = All-nil (λ p. IsAtMost (call_words q bs p) w)
   calls_within (p ∷ ps) w =
       let v = greater w (call_words q bs p) in
@@ -68,7 +68,7 @@ module _ (q : Program) (bs : Bounds) where
       (trans_at_most (greater_right w (call_words q bs p)) (calls_rise ps v))
       (calls_within ps v)
 
-  pub calls_least : (ps : List ℕ) (w v : Words) → IsAtMost w v → All (λ p. IsAtMost (call_words q bs p) v) ps → IsAtMost (greatest_call q bs ps w) v
+  pub calls_least : (ps : List ℕ) (w v : StackSizes) → IsAtMost w v → All (λ p. IsAtMost (call_words q bs p) v) ps → IsAtMost (greatest_call q bs ps w) v
   calls_least [] w v h f = h
   calls_least (p ∷ ps) w v h f =
       let P : ℕ → Type 0 = λ r. IsAtMost (call_words q bs r) v in
@@ -109,19 +109,19 @@ module _ (q : Program) where
       ]
 
   -- the callees' bounds are those of calls
-  pub covered_by : (bs : Bounds) (ps : List ℕ) (w : Words) → All (λ r. IsSome (bound_at bs r)) ps → All (λ r. IsAtMost (call_words q bs r) w) ps → All (CoversCall q bs w) ps
+  pub covered_by : (bs : Bounds) (ps : List ℕ) (w : StackSizes) → All (λ r. IsSome (bound_at bs r)) ps → All (λ r. IsAtMost (call_words q bs r) w) ps → All (CoversCall q bs w) ps
   covered_by bs [] w k h = All-nil (CoversCall q bs w)
   covered_by bs (p ∷ ps) w k h =
       All-cons (CoversCall q bs w) p ps
       (pick (bound_at bs p) (All-head (λ r. IsSome (bound_at bs r)) p ps k) (All-head (λ r. IsAtMost (call_words q bs r) w) p ps h))
       (covered_by bs ps w (All-tail (λ r. IsSome (bound_at bs r)) p ps k) (All-tail (λ r. IsAtMost (call_words q bs r) w) p ps h))
     where
-      pick : (o : Option Words) → IsSome o → IsAtMost (call_bound q p (unwrap_or o (stack_words 0 0))) w → IsSomeAnd o (λ d. IsAtMost (call_bound q p d) w)
+      pick : (o : Option StackSizes) → IsSome o → IsAtMost (call_bound q p (unwrap_or o (stack_sizes 0 0))) w → IsSomeAnd o (λ d. IsAtMost (call_bound q p d) w)
       pick None e g = cc
       pick (Some d) e g = g
 
   -- what covers a call goes on covering it
-  covers_later : (p : ℕ) (before : List ℕ) (b : Words) → (Contains before p → ⊥) → (ps : List ℕ) → All (CoversCall q (bounds_of_order q before) b) ps → All (CoversCall q (bounds_of_order q (p ∷ before)) b) ps
+  covers_later : (p : ℕ) (before : List ℕ) (b : StackSizes) → (Contains before p → ⊥) → (ps : List ℕ) → All (CoversCall q (bounds_of_order q before) b) ps → All (CoversCall q (bounds_of_order q (p ∷ before)) b) ps
   covers_later p before b n [] h = All-nil (CoversCall q (bounds_of_order q (p ∷ before)) b)
   covers_later p before b n (r ∷ ps) h =
       All-cons (CoversCall q (bounds_of_order q (p ∷ before)) b) r ps
@@ -136,7 +136,7 @@ module _ (q : Program) where
   each_known order o lt (p ∷ ps) h =
       All-cons (λ r. IsSome (bound_at (bounds_of_order q order) r)) p ps (known order o lt p (All-head (Contains order) p ps h)) (each_known order o lt ps (All-tail (Contains order) p ps h))
 
-  pub covers : (order : List ℕ) → IsOrder (calls_of q) order → All (λ p. p < length q.procs) order → (r : ℕ) (b : Words) → bound_at (bounds_of_order q order) r ≡ Some b → CoversRun q (bounds_of_order q order) r b
+  pub covers : (order : List ℕ) → IsOrder (calls_of q) order → All (λ p. p < length q.procs) order → (r : ℕ) (b : StackSizes) → bound_at (bounds_of_order q order) r ≡ Some b → CoversRun q (bounds_of_order q order) r b
   covers [] o lt r b e = absurd (none_some (sym (none_at (length q.procs) r) ∙ e))
     where
       none_some : None ≡ Some b → ⊥
@@ -161,19 +161,19 @@ module _ (q : Program) where
           record { own = calls_rise q bs (calls_of q p) (own_need (proc_at q p)); calls = covers_later p before w o.0 (calls_of q p) within }
 
   -- one call: by no greater bounds it takes no more
-  call_least : (r : ℕ) (d : Words) (o i : Option Words) → IsSome o → ((b : Words) → o ≡ Some b → IsSomeAnd i (IsAtMost b)) → IsSomeAnd i (λ e. IsAtMost (call_bound q r e) d) → IsAtMost (call_bound q r (unwrap_or o (stack_words 0 0))) d
+  call_least : (r : ℕ) (d : StackSizes) (o i : Option StackSizes) → IsSome o → ((b : StackSizes) → o ≡ Some b → IsSomeAnd i (IsAtMost b)) → IsSomeAnd i (λ e. IsAtMost (call_bound q r e) d) → IsAtMost (call_bound q r (unwrap_or o (stack_sizes 0 0))) d
   call_least r d None i k lower h = cc
   call_least r d (Some b) None k lower h = absurd h
   call_least r d (Some b) (Some e) k lower h = trans_at_most (more_taken q r (lower b refl)) h
 
-  all_least : (bs ds : Bounds) (d : Words) → ((r : ℕ) (b : Words) → bound_at bs r ≡ Some b → IsSomeAnd (bound_at ds r) (IsAtMost b)) → (ps : List ℕ) → All (λ r. IsSome (bound_at bs r)) ps → All (CoversCall q ds d) ps → All (λ r. IsAtMost (call_words q bs r) d) ps
+  all_least : (bs ds : Bounds) (d : StackSizes) → ((r : ℕ) (b : StackSizes) → bound_at bs r ≡ Some b → IsSomeAnd (bound_at ds r) (IsAtMost b)) → (ps : List ℕ) → All (λ r. IsSome (bound_at bs r)) ps → All (CoversCall q ds d) ps → All (λ r. IsAtMost (call_words q bs r) d) ps
   all_least bs ds d lower [] k h = All-nil (λ r. IsAtMost (call_words q bs r) d)
   all_least bs ds d lower (r ∷ ps) k h =
       All-cons (λ x. IsAtMost (call_words q bs x) d) r ps
       (call_least r d (bound_at bs r) (bound_at ds r) (All-head (λ x. IsSome (bound_at bs x)) r ps k) (lower r) (All-head (CoversCall q ds d) r ps h))
       (all_least bs ds d lower ps (All-tail (λ x. IsSome (bound_at bs x)) r ps k) (All-tail (CoversCall q ds d) r ps h))
 
-  last_least : (ds : Bounds) → IsCertificate q ds → (p : ℕ) (before : List ℕ) → IsOrder (calls_of q) (p ∷ before) → All (λ x. x < length q.procs) before → ((r : ℕ) (b : Words) → bound_at (bounds_of_order q before) r ≡ Some b → IsSomeAnd (bound_at ds r) (IsAtMost b)) → (o : Option Words) → bound_at ds p ≡ o → IsSome o → IsSomeAnd o (IsAtMost (run_bound q (bounds_of_order q before) p))
+  last_least : (ds : Bounds) → IsCertificate q ds → (p : ℕ) (before : List ℕ) → IsOrder (calls_of q) (p ∷ before) → All (λ x. x < length q.procs) before → ((r : ℕ) (b : StackSizes) → bound_at (bounds_of_order q before) r ≡ Some b → IsSomeAnd (bound_at ds r) (IsAtMost b)) → (o : Option StackSizes) → bound_at ds p ≡ o → IsSome o → IsSomeAnd o (IsAtMost (run_bound q (bounds_of_order q before) p))
   last_least ds cert p before o lt lower None e k = cc
   last_least ds cert p before o lt lower (Some d) e k =
       let bs = bounds_of_order q before in
@@ -181,7 +181,7 @@ module _ (q : Program) where
       calls_least q bs (calls_of q p) (own_need (proc_at q p)) d run.own (all_least bs ds d lower (calls_of q p) (each_known before o.2 lt (calls_of q p) o.1) run.calls)
 
   -- no certificate has less
-  pub least : (ds : Bounds) → IsCertificate q ds → (order : List ℕ) → IsOrder (calls_of q) order → All (λ p. p < length q.procs) order → All (λ p. IsSome (bound_at ds p)) order → (r : ℕ) (b : Words) → bound_at (bounds_of_order q order) r ≡ Some b → IsSomeAnd (bound_at ds r) (IsAtMost b)
+  pub least : (ds : Bounds) → IsCertificate q ds → (order : List ℕ) → IsOrder (calls_of q) order → All (λ p. p < length q.procs) order → All (λ p. IsSome (bound_at ds p)) order → (r : ℕ) (b : StackSizes) → bound_at (bounds_of_order q order) r ≡ Some b → IsSomeAnd (bound_at ds r) (IsAtMost b)
   least ds cert [] o lt k r b e = absurd (none_some (sym (none_at (length q.procs) r) ∙ e))
     where
       none_some : None ≡ Some b → ⊥
@@ -202,11 +202,11 @@ module _ (q : Program) where
   callee_known : (bs : Bounds) → IsCertificate q bs → (p r : ℕ) → IsSome (bound_at bs p) → Contains (calls_of q p) r → IsSome (bound_at bs r)
   callee_known bs cert p r k h = pick (bound_at bs p) refl k
     where
-      some : (o : Option Words) (P : Words → Type 0) → IsSomeAnd o P → IsSome o
+      some : (o : Option StackSizes) (P : StackSizes → Type 0) → IsSomeAnd o P → IsSome o
       some None P h = absurd h
       some (Some x) P h = refl
 
-      pick : (o : Option Words) → bound_at bs p ≡ o → IsSome o → IsSome (bound_at bs r)
+      pick : (o : Option StackSizes) → bound_at bs p ≡ o → IsSome o → IsSome (bound_at bs r)
       pick None e k = cc
       pick (Some b) e k = some (bound_at bs r) (λ d. IsAtMost (call_bound q r d) b) (All-contains (CoversCall q bs b) (calls_of q p) r (cert.each p b e).calls h)
 
@@ -240,44 +240,44 @@ module _ (q : Program) where
   pub covers_main : (bs : Bounds) → IsLeast q bs → Covers q bs (sizes_for q bs)
   covers_main bs h = record { certificate = h.certificate; within = refl_at_most (sizes_for q bs) }
 
-  pub least_main : (bs ds : Bounds) (sizes : Words) → IsLeast q bs → Covers q ds sizes → IsAtMost (sizes_for q bs) sizes
+  pub least_main : (bs ds : Bounds) (sizes : StackSizes) → IsLeast q bs → Covers q ds sizes → IsAtMost (sizes_for q bs) sizes
   least_main bs ds sizes h covers = main (bound_at bs q.main) refl h.certificate.main
     where
-      least_words : (b : Words) (o : Option Words) → bound_at ds q.main ≡ o → IsSomeAnd o (IsAtMost b) → IsAtMost (words_sum (main_used q) b) sizes
+      least_words : (b : StackSizes) (o : Option StackSizes) → bound_at ds q.main ≡ o → IsSomeAnd o (IsAtMost b) → IsAtMost (words_sum (main_used q) b) sizes
       least_words b None i k = absurd k
       least_words b (Some d) i k =
           let within = main_within q ds sizes covers d i in
           record { temp = omega (arith, k.temp, within.temp); ctrl = omega (arith, k.ctrl, within.ctrl) }
 
-      main : (o : Option Words) → bound_at bs q.main ≡ o → IsSome o → IsAtMost (sizes_for q bs) sizes
+      main : (o : Option StackSizes) → bound_at bs q.main ≡ o → IsSome o → IsAtMost (sizes_for q bs) sizes
       main None e k = cc
       main (Some b) e k =
-          subst (λ o. IsAtMost (words_sum (main_used q) (unwrap_or o (stack_words 0 0))) sizes) (sym e) (least_words b (bound_at ds q.main) refl (h.least ds covers.certificate q.main b e))
+          subst (λ o. IsAtMost (words_sum (main_used q) (unwrap_or o (stack_sizes 0 0))) sizes) (sym e) (least_words b (bound_at ds q.main) refl (h.least ds covers.certificate q.main b e))
 
   -- a call's bounds on the control stack are less
-  falls : (bs : Bounds) → IsCertificate q bs → (p r : ℕ) (b : Words) → bound_at bs p ≡ Some b → Contains (calls_of q p) r → (d : Words) × (bound_at bs r ≡ Some d) × (d.ctrl < b.ctrl)
+  falls : (bs : Bounds) → IsCertificate q bs → (p r : ℕ) (b : StackSizes) → bound_at bs p ≡ Some b → Contains (calls_of q p) r → (d : StackSizes) × (bound_at bs r ≡ Some d) × (d.ctrl < b.ctrl)
   falls bs cert p r b e h = pick (bound_at bs r) refl (All-contains (CoversCall q bs b) (calls_of q p) r (cert.each p b e).calls h)
     where
-      pick : (o : Option Words) → bound_at bs r ≡ o → IsSomeAnd o (λ d. IsAtMost (call_bound q r d) b) → (d : Words) × (bound_at bs r ≡ Some d) × (d.ctrl < b.ctrl)
+      pick : (o : Option StackSizes) → bound_at bs r ≡ o → IsSomeAnd o (λ d. IsAtMost (call_bound q r d) b) → (d : StackSizes) × (bound_at bs r ≡ Some d) × (d.ctrl < b.ctrl)
       pick None i k = absurd k
       pick (Some d) i k = (d, i, omega (arith, k.ctrl))
 
-  all_fall : (bs : Bounds) → IsCertificate q bs → (p r : ℕ) (b : Words) → bound_at bs p ≡ Some b → Reaches (calls_of q) p r → (d : Words) × (bound_at bs r ≡ Some d) × (d.ctrl < b.ctrl)
+  all_fall : (bs : Bounds) → IsCertificate q bs → (p r : ℕ) (b : StackSizes) → bound_at bs p ≡ Some b → Reaches (calls_of q) p r → (d : StackSizes) × (bound_at bs r ≡ Some d) × (d.ctrl < b.ctrl)
   all_fall bs cert p r b e (Directly h) = falls bs cert p r b e h
   all_fall bs cert p r b e (Further {r = s} h g) = on (all_fall bs cert p s b e h)
     where
-      on : (d : Words) × (bound_at bs s ≡ Some d) × (d.ctrl < b.ctrl) → (d : Words) × (bound_at bs r ≡ Some d) × (d.ctrl < b.ctrl)
+      on : (d : StackSizes) × (bound_at bs s ≡ Some d) × (d.ctrl < b.ctrl) → (d : StackSizes) × (bound_at bs r ≡ Some d) × (d.ctrl < b.ctrl)
       on (d, i, lt) = down (falls bs cert s r d i g)
         where
-          down : (c : Words) × (bound_at bs r ≡ Some c) × (c.ctrl < d.ctrl) → (d : Words) × (bound_at bs r ≡ Some d) × (d.ctrl < b.ctrl)
+          down : (c : StackSizes) × (bound_at bs r ≡ Some c) × (c.ctrl < d.ctrl) → (d : StackSizes) × (bound_at bs r ≡ Some d) × (d.ctrl < b.ctrl)
           down (c, j, le) = (c, j, omega (arith, le, lt))
 
   pub never_recursive : (p : ℕ) (bs : Bounds) → IsRecursive q p → IsCertificate q bs → ⊥
   never_recursive p bs h cert = pick (bound_at bs p) refl (reached_known bs cert p h.reached)
     where
-      pick : (o : Option Words) → bound_at bs p ≡ o → IsSome o → ⊥
+      pick : (o : Option StackSizes) → bound_at bs p ≡ o → IsSome o → ⊥
       pick None e k = cc
       pick (Some b) e k = no (all_fall bs cert p p b e h.again)
         where
-          no : (d : Words) × (bound_at bs p ≡ Some d) × (d.ctrl < b.ctrl) → ⊥
+          no : (d : StackSizes) × (bound_at bs p ≡ Some d) × (d.ctrl < b.ctrl) → ⊥
           no (d, i, lt) = omega (arith, lt, ap (λ w. w.ctrl) (some_same (sym e ∙ i)))

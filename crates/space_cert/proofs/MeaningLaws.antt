@@ -2,39 +2,40 @@
 use Rattle.std.proofs.Common.{◌≡◌, ℕ, zero, suc, List, [], Bool, true, false, Some, None, refl, subst, sym}
 use Rattle.std.proofs.lemmas.List.Elements.{All-head}
 use Rattle.stack_text.specs.Values.{ValueOf}
-use Rattle.gypsy_syntax.specs.Programs.{Cond, Space, Arg, Program, body_of}
+use Rattle.gypsy_syntax.specs.Programs.{ConditionOf, Space, Arg, Program, body_of}
 use Rattle.gypsy_syntax.specs.Programs.{Stmt, Skip, NoOp, Signal, Seq, Loop, If, Begin, Call, Apply}
-use Rattle.gypsy_syntax.specs.Effects.{Effect, Normal, Fault, Beyond, predef_effect, value_at, is_true_value}
-use Rattle.gypsy_space.specs.Needs.{Words, main_used, with_call}
+use Rattle.gypsy_syntax.specs.Predefined.{predef_effect}
+use Rattle.gypsy_syntax.specs.Effects.{Effect, Normal, Fault, Beyond, value_at, is_true_value}
+use Rattle.gypsy_space.specs.Needs.{StackSizes, main_used, with_call}
 use Rattle.gypsy_syntax.specs.ProgramFits.{Each, ProgramFits}
 use Rattle.gypsy_meaning.specs.Calls.{has_cond, is_leave, values_of, copied_in, main_start}
-use Rattle.gypsy_meaning.specs.Meaning.{Outcome, Done, Unfinished, then_do, either_way, caught, round_end, applied, returned, if_room, evaluate, main_end, meaning}
+use Rattle.gypsy_meaning.specs.Meaning.{MeaningOutcome, Done, Unfinished, then_do, either_way, caught, round_end, applied, returned, if_room, evaluate, main_end, meaning}
 use Rattle.space_cert.specs.Covers.{Bounds, bound_at, words_sum, callees, IsAtMost, CoversCall, CoversCalls, IsCertificate, Covers}
-use Rattle.space_cert.specs.Omits.{IsOther, OmitsSpace, WayIsOther}
+use Rattle.space_cert.specs.Scaffold.Omits.{IsOther, OmitsSpace, WayIsOther}
 use Rattle.space_cert.proofs.AllLaws.{all_left, all_right}
 use Rattle.space_cert.proofs.CoversLaws.{bound_there, room, left, main_within}
 use Rattle.space_cert.proofs.StepLaws.{main_bound}
 use Rattle.space_cert.proofs.OmitLaws.{body_omits, matching_omits, main_omits}
 
-abbrev EndsOther : Outcome → Type 0
+abbrev EndsOther : MeaningOutcome → Type 0
 EndsOther (Done x c) = WayIsOther c
 EndsOther Unfinished = Unit {0}
 
-then_other : (o : Outcome) (next : List ValueOf → Outcome) → EndsOther o → ((x : List ValueOf) → EndsOther (next x)) → EndsOther (then_do o next)
+then_other : (o : MeaningOutcome) (next : List ValueOf → MeaningOutcome) → EndsOther o → ((x : List ValueOf) → EndsOther (next x)) → EndsOther (then_do o next)
 then_other (Done x None) next h f = f x
 then_other (Done x (Some c)) next h f = h
 then_other Unfinished next h f = tt
 
-either_other : (b : Bool) (o r : Outcome) → EndsOther o → EndsOther r → EndsOther (either_way b o r)
+either_other : (b : Bool) (o r : MeaningOutcome) → EndsOther o → EndsOther r → EndsOther (either_way b o r)
 either_other true o r h g = h
 either_other false o r h g = g
 
-caught_other : (o : Outcome) (cs : List Cond) (arm : List ValueOf → Outcome) → EndsOther o → ((x : List ValueOf) → EndsOther (arm x)) → EndsOther (caught o cs arm)
+caught_other : (o : MeaningOutcome) (cs : List ConditionOf) (arm : List ValueOf → MeaningOutcome) → EndsOther o → ((x : List ValueOf) → EndsOther (arm x)) → EndsOther (caught o cs arm)
 caught_other (Done x None) cs arm h f = tt
 caught_other (Done x (Some c)) cs arm h f = either_other (has_cond c cs) (arm x) (Done x (Some c)) (f x) h
 caught_other Unfinished cs arm h f = tt
 
-round_other : (o : Outcome) (again : List ValueOf → Outcome) → EndsOther o → ((x : List ValueOf) → EndsOther (again x)) → EndsOther (round_end o again)
+round_other : (o : MeaningOutcome) (again : List ValueOf → MeaningOutcome) → EndsOther o → ((x : List ValueOf) → EndsOther (again x)) → EndsOther (round_end o again)
 round_other (Done x None) again h f = f x
 round_other (Done x (Some c)) again h f = either_other (is_leave c) (Done x None) (Done x (Some c)) tt h
 round_other Unfinished again h f = tt
@@ -44,18 +45,18 @@ applied_other args (Normal v) x = tt
 applied_other args Fault x = tt
 applied_other args Beyond x = tt
 
-returned_other : (q : Program) (p : ℕ) (xs : List ℕ) (cs : List Cond) (x : List ValueOf) (o : Outcome) → Each IsOther cs → EndsOther o → EndsOther (returned q p xs cs x o)
+returned_other : (q : Program) (p : ℕ) (xs : List ℕ) (cs : List ConditionOf) (x : List ValueOf) (o : MeaningOutcome) → Each IsOther cs → EndsOther o → EndsOther (returned q p xs cs x o)
 returned_other q p xs cs x (Done y None) f h = tt
 returned_other q p xs cs x (Done y (Some c)) f h = matching_omits q p cs c f h
 returned_other q p xs cs x Unfinished f h = tt
 
-main_other : (q : Program) (o : Outcome) → EndsOther o → EndsOther (main_end q o)
+main_other : (q : Program) (o : MeaningOutcome) → EndsOther o → EndsOther (main_end q o)
 main_other q (Done x None) h = tt
 main_other q (Done x (Some c)) h = main_omits q c h
 main_other q Unfinished h = tt
 
-module _ (q : Program) (bs : Bounds) (sizes : Words) (cert : IsCertificate q bs) (bodies : (p : ℕ) → OmitsSpace (body_of q p)) where
-  others : (n : ℕ) (s : Stmt) (u b : Words) (x : List ValueOf) → OmitsSpace s → CoversCalls q bs b s → IsAtMost (words_sum u b) sizes → EndsOther (evaluate q sizes n s u x)
+module _ (q : Program) (bs : Bounds) (sizes : StackSizes) (cert : IsCertificate q bs) (bodies : (p : ℕ) → OmitsSpace (body_of q p)) where
+  others : (n : ℕ) (s : Stmt) (u b : StackSizes) (x : List ValueOf) → OmitsSpace s → CoversCalls q bs b s → IsAtMost (words_sum u b) sizes → EndsOther (evaluate q sizes n s u x)
   others zero s u b x o f h = tt
   others (suc n) Skip u b x o f h = tt
   others (suc n) (NoOp place) u b x o f h = tt
@@ -79,7 +80,7 @@ module _ (q : Program) (bs : Bounds) (sizes : Words) (cert : IsCertificate q bs)
       (returned_other q p xs cs x r o (others n (body_of q p) (with_call q p u) there.bound (copied_in q p xs x) (bodies p) each.calls (left q sizes p u b there.bound each.own there.within h)))
   others (suc n) (Apply place r args) u b x o f h = applied_other args (predef_effect r (values_of x args)) x
 
-pub never_meant : (q : Program) (bs : Bounds) (sizes : Words) → Covers q bs sizes → ProgramFits q → (v : List ValueOf) (n : ℕ) (x : List ValueOf) → meaning q sizes v n ≡ Done x (Some Space) → ⊥
+pub never_meant : (q : Program) (bs : Bounds) (sizes : StackSizes) → Covers q bs sizes → ProgramFits q → (v : List ValueOf) (n : ℕ) (x : List ValueOf) → meaning q sizes v n ≡ Done x (Some Space) → ⊥
 never_meant q bs sizes covers fits v n x e =
     let cert = covers.certificate in
     let bodies = body_omits q fits in

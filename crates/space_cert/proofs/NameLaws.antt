@@ -1,5 +1,5 @@
 -- Names of procedures: they differ, and each stands where it is found.
-use Rattle.std.proofs.Common.{◌≡◌, Bor, ℕ, zero, suc, ◌+◌, ◌<◌, ◌≤◌, List, [], ◌∷◌, ◌++◌, map, length, get_or, take, Bool, true, false, not, cond, ◌||◌, Some, None, option_map, nat_lt, refl, sym, ap, ap₂, subst, ◌∙◌, arith}
+use Rattle.std.proofs.Common.{◌≡◌, Bor, ℕ, zero, suc, ◌+◌, ◌<◌, ◌≤◌, List, [], ◌∷◌, ◌++◌, map, length, get_or, take, Bool, true, false, not, cond, Some, option_map, refl, sym, ap, subst, ◌∙◌, arith, nat_lt, ap₂, None}
 use Rattle.std.specs.List.{All, AllByRecursion, IsDistinct, list_any, position, position_or_len}
 use Rattle.std.specs.Str.{bytes_eq}
 use Rattle.std.proofs.lemmas.List.{length-map, map_push, take_more, take-map}
@@ -7,18 +7,20 @@ use Rattle.std.proofs.lemmas.List.Elements.{All-nil, All-cons, All-head, All-tai
 use Rattle.std.proofs.lemmas.Map.Keys.{IsDistinct-cons, IsDistinct-tail, apart_from_distinct}
 use Rattle.std.proofs.lemmas.Simd.{map-map}
 use Rattle.std.proofs.lemmas.Slice.Eq.{bytes_eq-Decides}
+use Rattle.std.proofs.lemmas.Bool.{or_parts}
 use Rattle.stack_text.specs.Names.{is_name}
 use Rattle.stack_text.specs.declared.name.Named.{Named}
+use Rattle.stack_text.proofs.SharedLaws.{rule_fails, append_none, bytes_apart, any_now}
 use Rattle.gypsy_syntax.specs.declared.proc.Proc.{Proc}
 use Rattle.gypsy_syntax.proofs.FitsLaws.{keeps_fits}
-use Rattle.gypsy_syntax.specs.Answers.{KeepsForm}
+use Rattle.gypsy_syntax.specs.GypsyReading.{KeepsForm}
 use Rattle.gypsy_syntax.specs.Fits.{FitsProcedure}
 use Rattle.gypsy_syntax.specs.Resolved.{place_among, procedure_names}
-use Rattle.gypsy_syntax.specs.SourceView.{proc_of}
+use Rattle.gypsy_syntax.specs.Seen.SourceView.{proc_of}
 use Rattle.gypsy_syntax.specs.Sources.{ProcOf, SourceOf}
 use Rattle.gypsy_check.specs.Declarations.{is_among, repeats}
 use Rattle.gypsy_check.specs.Rules.{violations, main_breaches}
-use Rattle.gypsy_check.proofs.CleanLaws.{two, four, fails}
+use Rattle.gypsy_check.proofs.CleanLaws.{four}
 use Rattle.gypsy_check.proofs.LookupLaws.{place_cons}
 use Rattle.gypsy_space.specs.Callees.{names_of}
 
@@ -41,30 +43,19 @@ place_same name procs = position-map name (λ (p : Proc). p.name.name) procs ∙
 
 -- They differ.
 
-or_false : (a b : Bool) → (a || b) ≡ false → (a ≡ false) × (b ≡ false)
-or_false true b e = cc
-or_false false b e = (refl, e)
-
-not_equal : (xs ys : List ℕ) → bytes_eq xs ys ≡ false → bytes_eq ys xs ≡ false
-not_equal xs ys ne = by_test (bytes_eq ys xs) refl
-  where
-    by_test : (b : Bool) → bytes_eq ys xs ≡ b → b ≡ false
-    by_test false e = refl
-    by_test true e = absurd (let f = (bytes_eq-Decides xs ys).1 (sym ((bytes_eq-Decides ys xs).0 e)) in cc)
-
 -- none of these is m, where m is among the earlier ones
 all_apart : (rule : ℕ) (earlier : List (List ℕ)) (m : List ℕ) (ns : List Named) → ((n : List ℕ) → is_among n earlier ≡ false → bytes_eq n m ≡ false) → repeats rule earlier ns ≡ [] → AllByRecursion (λ y. bytes_eq m y ≡ false) (map (λ (n : Named). n.name) ns)
 all_apart rule earlier m [] f e = tt
 all_apart rule earlier m (n ∷ ns) f e =
-    let k = two _ (repeats rule (n.name ∷ earlier) ns) e in
-    (not_equal n.name m (f n.name (fails (is_among n.name earlier) n.place rule k.0)), all_apart rule (n.name ∷ earlier) m ns (λ x h. f x (or_false (bytes_eq x n.name) (is_among x earlier) h).1) k.1)
+    let k = append_none _ (repeats rule (n.name ∷ earlier) ns) e in
+    (bytes_apart n.name m (f n.name (rule_fails (is_among n.name earlier) n.place rule k.0)), all_apart rule (n.name ∷ earlier) m ns (λ x h. f x (or_parts (bytes_eq x n.name) (is_among x earlier) h).1) k.1)
 
 distinct_names : (rule : ℕ) (earlier : List (List ℕ)) (ns : List Named) → repeats rule earlier ns ≡ [] → IsDistinct bytes_eq (map (λ (n : Named). n.name) ns)
 unfolding IsDistinct
 distinct_names rule earlier [] e = tt
 distinct_names rule earlier (n ∷ ns) e =
-    let k = two _ (repeats rule (n.name ∷ earlier) ns) e in
-    IsDistinct-cons bytes_eq n.name (map (λ (n : Named). n.name) ns) (all_apart rule (n.name ∷ earlier) n.name ns (λ x h. (or_false (bytes_eq x n.name) (is_among x earlier) h).0) k.1) (distinct_names rule (n.name ∷ earlier) ns k.1)
+    let k = append_none _ (repeats rule (n.name ∷ earlier) ns) e in
+    IsDistinct-cons bytes_eq n.name (map (λ (n : Named). n.name) ns) (all_apart rule (n.name ∷ earlier) n.name ns (λ x h. (or_parts (bytes_eq x n.name) (is_among x earlier) h).0) k.1) (distinct_names rule (n.name ∷ earlier) ns k.1)
 
 pub own_names : (s : SourceOf) → violations s ≡ [] → IsDistinct bytes_eq (procedure_names s)
 unfolding violations
@@ -94,7 +85,7 @@ place_own (x ∷ xs) zero name own lt is =
     place_cons name x xs ∙ ap (λ (b : Bool). cond b (Some 0) (option_map suc (place_among name xs))) same
 place_own (x ∷ xs) (suc i) name own lt is =
     let apart = apart_from_distinct bytes_eq (x ∷ xs) 0 (suc i) name own (omega arith) lt in
-    let other : bytes_eq name x ≡ false = not_equal x name (ap (bytes_eq x) is ∙ apart) in
+    let other : bytes_eq name x ≡ false = bytes_apart x name (ap (bytes_eq x) is ∙ apart) in
     place_cons name x xs ∙ (ap (λ (b : Bool). cond b (Some 0) (option_map suc (place_among name xs))) other ∙ ap (option_map suc) (place_own xs i name (IsDistinct-tail bytes_eq x xs own) (omega (arith, lt)) is))
 
 -- The set of the names, one procedure after another.
@@ -105,11 +96,7 @@ no_earlier (x ∷ xs) zero name lt is own = refl
 no_earlier (x ∷ xs) (suc i) name lt is own =
     let apart = apart_from_distinct bytes_eq (x ∷ xs) 0 (suc i) name own (omega arith) lt in
     let other : bytes_eq x name ≡ false = ap (bytes_eq x) is ∙ apart in
-    rw (not_equal x name other) (no_earlier xs i name (omega (arith, lt)) is (IsDistinct-tail bytes_eq x xs own))
-
-any_now : (name : List ℕ) (keys : List (Bor (List ℕ))) → list_any (λ key. bytes_eq name key.now) keys ≡ list_any (bytes_eq name) (map (λ key. key.now) keys)
-any_now name [] = refl
-any_now name (key ∷ keys) = ap (λ (b : Bool). bytes_eq name key.now || b) (any_now name keys)
+    rw (bytes_apart x name other) (no_earlier xs i name (omega (arith, lt)) is (IsDistinct-tail bytes_eq x xs own))
 
 name_at : (procs : List Proc) (i : ℕ) (p : Proc) → i < length procs → p ≡ get_or procs i p → p.name.name ≡ get_or (names_of procs) i p.name.name
 name_at [] i p lt is = absurd (omega (arith, lt))

@@ -3,12 +3,12 @@ use Rattle.std.proofs.Common.{◌≡◌, ℕ, zero, suc, List, [], refl, subst, 
 use Rattle.stack_text.specs.Values.{ValueOf}
 use Rattle.gypsy_syntax.specs.Programs.{Program, body_of}
 use Rattle.gypsy_syntax.specs.ProgramFits.{ProgramFits}
-use Rattle.gypsy_space.specs.Needs.{Words}
+use Rattle.gypsy_space.specs.Needs.{StackSizes}
 use Rattle.gypsy_meaning.specs.Machine.{State, Move, Next, Ended, Ending, Over, Going, gypsy_step, go_on, run, start}
 use Rattle.space_cert.specs.Covers.{Bounds, Covers}
-use Rattle.space_cert.specs.Covered.{StateCovered}
+use Rattle.space_cert.specs.CoveredStates.{StateCovered}
 use Rattle.space_cert.specs.Never.{Visits, First, Later, NeverSpaceError}
-use Rattle.space_cert.specs.Omits.{StateOmitsSpace, WayIsOther, MoveOmitsSpace}
+use Rattle.space_cert.specs.Scaffold.Omits.{StateOmitsSpace, WayIsOther, MoveOmitsSpace}
 use Rattle.space_cert.proofs.StepLaws.{MoveCovered, start_covered, step_covered, call_on_top}
 use Rattle.space_cert.proofs.OmitLaws.{body_omits, open_omits, step_omits, raises_other}
 use Rattle.space_cert.proofs.MeaningLaws.{never_meant}
@@ -17,7 +17,7 @@ abbrev EndIsOther : Ending → Type 0
 EndIsOther (Over x c t) = WayIsOther c
 EndIsOther Going = Unit {0}
 
-module _ (q : Program) (bs : Bounds) (sizes : Words) (covers : Covers q bs sizes) (fits : ProgramFits q) where
+module _ (q : Program) (bs : Bounds) (sizes : StackSizes) (covers : Covers q bs sizes) (fits : ProgramFits q) where
   -- a state with both
   record IsSafe (g : State) : Type 0 where
     covered : StateCovered q bs sizes g

@@ -3,26 +3,27 @@ use Rattle.std.proofs.Common.{◌≡◌, ℕ, zero, suc, List, [], ◌∷◌, Bo
 use Rattle.stack_text.specs.declared.shape.Shape.{Shape}
 use Rattle.stack_text.specs.Values.{ValueOf}
 use Rattle.gypsy_syntax.specs.declared.predef.Predef.{Predef}
-use Rattle.gypsy_syntax.specs.Programs.{Cond, Leave, Routine, Space, Declared, Arg, Program, proc_at, body_of, shapes_of, conds_of}
+use Rattle.gypsy_syntax.specs.Programs.{ConditionOf, Leave, Routine, Space, Declared, Arg, Program, proc_at, body_of, shapes_of, conds_of}
 use Rattle.gypsy_syntax.specs.Programs.{Stmt, Skip, NoOp, Signal, Seq, Loop, If, Begin, Call, Apply}
 use Rattle.gypsy_syntax.specs.ProgramFits.{Each, CondFits, StmtFits, ProgramFits}
-use Rattle.gypsy_syntax.specs.Effects.{Effect, Normal, Fault, Beyond, predef_effect, value_at, is_true_value}
+use Rattle.gypsy_syntax.specs.Predefined.{predef_effect}
+use Rattle.gypsy_syntax.specs.Effects.{Effect, Normal, Fault, Beyond, value_at, is_true_value}
 use Rattle.gypsy_space.specs.Costs.{Tally, spend, predef_spend, out_spend}
-use Rattle.gypsy_space.specs.Needs.{Words}
+use Rattle.gypsy_space.specs.Needs.{StackSizes}
 use Rattle.gypsy_meaning.specs.Calls.{has_cond, is_leave, is_passed_on, main_way, matching, values_of, copied_out}
 use Rattle.gypsy_meaning.specs.Machine.{Item, Do, Back, JoinThen, JoinOne, Guard, Out, Frame, Held, State, At, Next, opens, open_on, settle, stop_if, raise, either_move, apply_step, call_step, do_step, end_step, out_step, gypsy_step}
 use Rattle.space_cert.specs.Never.{HasCallRoom, raised, raised_for, raised_after}
-use Rattle.space_cert.specs.Omits.{IsOther, OmitsSpace, WorkOmitsSpace, WaitingOmitsSpace, StateOmitsSpace, MoveOmitsSpace}
+use Rattle.space_cert.specs.Scaffold.Omits.{IsOther, OmitsSpace, WorkOmitsSpace, WaitingOmitsSpace, StateOmitsSpace, MoveOmitsSpace}
 
 -- In a program that fits.
 
-cond_omits : (b : Bool) (n : ℕ) (c : Cond) → CondFits b n c → IsOther c
+cond_omits : (b : Bool) (n : ℕ) (c : ConditionOf) → CondFits b n c → IsOther c
 cond_omits b n Leave h = tt
 cond_omits b n Routine h = tt
 cond_omits b n Space h = h
 cond_omits b n (Declared i) h = tt
 
-conds_omit : (b : Bool) (n : ℕ) (cs : List Cond) → Each (CondFits b n) cs → Each IsOther cs
+conds_omit : (b : Bool) (n : ℕ) (cs : List ConditionOf) → Each (CondFits b n) cs → Each IsOther cs
 conds_omit b n [] h = tt
 conds_omit b n (c ∷ cs) h = (cond_omits b n c h.0, conds_omit b n cs h.1)
 
@@ -67,7 +68,7 @@ open_omits s w f h = opens_omits s w (settle w) f h (settle_omits w h)
 
 -- What is raised.
 
-raise_omits : (c : Cond) (p : ℕ) (x : List ValueOf) (w : List Item) (fs : List Frame) (t : Tally) → IsOther c → WorkOmitsSpace w → WaitingOmitsSpace fs → StateOmitsSpace (raise c p x w fs t)
+raise_omits : (c : ConditionOf) (p : ℕ) (x : List ValueOf) (w : List Item) (fs : List Frame) (t : Tally) → IsOther c → WorkOmitsSpace w → WaitingOmitsSpace fs → StateOmitsSpace (raise c p x w fs t)
 raise_omits c p x [] fs t o h g = ((o, tt), g)
 raise_omits c p x (Do s ∷ w) fs t o h g = raise_omits c p x w fs t o h.1 g
 raise_omits c p x (Back place s ∷ w) fs t o h g = pick (is_leave c) (raise_omits c p x w fs t o h.1 g)
@@ -84,12 +85,12 @@ raise_omits c p x (Guard place cs v ∷ w) fs t o h g = pick (has_cond c cs) (ra
     pick false r = r
 raise_omits c p x (Out d ∷ w) fs t o h g = raise_omits c p x w fs t o h.1 g
 
-actual_omits : (cs : List Cond) (i : ℕ) → Each IsOther cs → IsOther (get_or cs i Routine)
+actual_omits : (cs : List ConditionOf) (i : ℕ) → Each IsOther cs → IsOther (get_or cs i Routine)
 actual_omits [] i h = tt
 actual_omits (c ∷ cs) zero h = h.0
 actual_omits (c ∷ cs) (suc i) h = actual_omits cs i h.1
 
-pub matching_omits : (q : Program) (p : ℕ) (cs : List Cond) (d : Cond) → Each IsOther cs → IsOther d → IsOther (matching q p cs d)
+pub matching_omits : (q : Program) (p : ℕ) (cs : List ConditionOf) (d : ConditionOf) → Each IsOther cs → IsOther d → IsOther (matching q p cs d)
 unfolding matching
 matching_omits q p cs Leave h o = tt
 matching_omits q p cs Routine h o = tt
@@ -100,7 +101,7 @@ matching_omits q p cs (Declared i) h o = pick (nat_lt i (proc_at q p).conds)
     pick true = actual_omits cs i h
     pick false = tt
 
-pub main_omits : (q : Program) (c : Cond) → IsOther c → IsOther (main_way q c)
+pub main_omits : (q : Program) (c : ConditionOf) → IsOther c → IsOther (main_way q c)
 unfolding main_way
 main_omits q c o = pick (is_passed_on q q.main c)
   where
@@ -119,12 +120,12 @@ end_omits : (q : Program) (p : ℕ) (y : List ValueOf) (fs : List Frame) (t : Ta
 end_omits q p y [] t g = tt
 end_omits q p y (Held c x w xs cs ∷ fs) t g = (settle_omits w g.0, g.2)
 
-out_omits : (q : Program) (d : Cond) (p : ℕ) (y : List ValueOf) (fs : List Frame) (t : Tally) → IsOther d → WaitingOmitsSpace fs → MoveOmitsSpace (out_step q d p y fs t)
+out_omits : (q : Program) (d : ConditionOf) (p : ℕ) (y : List ValueOf) (fs : List Frame) (t : Tally) → IsOther d → WaitingOmitsSpace fs → MoveOmitsSpace (out_step q d p y fs t)
 out_omits q d p y [] t o g = main_omits q d o
 out_omits q d p y (Held c x w xs cs ∷ fs) t o g =
     raise_omits (matching q p cs d) c (copied_out xs y x) w fs (out_spend (is_passed_on q p d) t) (matching_omits q p cs d g.1 o) g.0 g.2
 
-module _ (q : Program) (sizes : Words) (bodies : (p : ℕ) → OmitsSpace (body_of q p)) where
+module _ (q : Program) (sizes : StackSizes) (bodies : (p : ℕ) → OmitsSpace (body_of q p)) where
   do_omits : (s : Stmt) (p : ℕ) (x : List ValueOf) (w : List Item) (fs : List Frame) (t : Tally) → HasCallRoom q sizes (At p x (Do s ∷ w) fs t) → OmitsSpace s → WorkOmitsSpace w → WaitingOmitsSpace fs → MoveOmitsSpace (do_step q sizes s p x w fs t)
   do_omits Skip p x w fs t r f h g = (settle_omits w h, g)
   do_omits (NoOp place) p x w fs t r f h g = (settle_omits w h, g)
@@ -155,7 +156,7 @@ module _ (q : Program) (sizes : Words) (bodies : (p : ℕ) → OmitsSpace (body_
 none_apart : None ≡ Some Space → ⊥
 none_apart e = cc
 
-other_apart : (c : Cond) → IsOther c → Some c ≡ Some Space → ⊥
+other_apart : (c : ConditionOf) → IsOther c → Some c ≡ Some Space → ⊥
 other_apart Leave o e = cc
 other_apart Routine o e = cc
 other_apart Space o e = o
@@ -166,7 +167,7 @@ after_apart (Normal v) i = none_apart i
 after_apart Fault i = other_apart Routine tt i
 after_apart Beyond i = other_apart Routine tt i
 
-pub raises_other : (q : Program) (sizes : Words) (g : State) → HasCallRoom q sizes g → StateOmitsSpace g → raised q sizes g ≡ Some Space → ⊥
+pub raises_other : (q : Program) (sizes : StackSizes) (g : State) → HasCallRoom q sizes g → StateOmitsSpace g → raised q sizes g ≡ Some Space → ⊥
 raises_other q sizes (At p x (Do (Signal place c) ∷ w) fs t) r h e = other_apart c h.0.0 e
 raises_other q sizes (At p x (Do (Call place c xs cs) ∷ w) fs t) r h e = none_apart (sym (ap raised_for r) ∙ e)
 raises_other q sizes (At p x (Do (Apply place row args) ∷ w) fs t) r h e = after_apart (predef_effect row (values_of x args)) e

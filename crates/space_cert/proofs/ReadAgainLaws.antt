@@ -1,5 +1,5 @@
 -- The text that is printed for a certificate is read as that certificate, and is short.
-use Rattle.std.proofs.Common.{◌≡◌, ℕ, zero, suc, ◌+◌, ◌*◌, ◌<◌, ◌≤◌, ◌^◌, nat_le, List, [], ◌∷◌, ◌++◌, length, get_or, set, drop, true, ◌&&◌, if◌then◌else◌, Option, Some, None, Result, Ok, Err, refl, ap, sym, ◌∙◌, arith}
+use Rattle.std.proofs.Common.{◌≡◌, ℕ, zero, suc, ◌+◌, ◌*◌, ◌<◌, ◌≤◌, ◌^◌, nat_le, List, [], ◌∷◌, ◌++◌, length, get_or, set, drop, true, if◌then◌else◌, Option, Some, None, Result, Ok, Err, refl, ap, sym, ◌∙◌, arith}
 use Rattle.std.specs.Prelude.{pos}
 use Rattle.std.specs.List.{All, IsDistinct}
 use Rattle.std.specs.Option.{is_some}
@@ -14,11 +14,12 @@ use Rattle.stack_text.specs.Numerals.{fits_128_bits}
 use Rattle.stack_text.specs.Results.{◌>>=◌}
 use Rattle.stack_text.specs.Trees.{Node, Nodes, atom, list, none, more, node_counts, depths, AtomsAreRuns, AllAtomsAreRuns, IsWellFormed, without_places, all_without_places}
 use Rattle.stack_text.specs.TreeText.{tree_text, items_text, spaced_text}
-use Rattle.stack_text.specs.TreeView.{nodes}
+use Rattle.stack_text.specs.Seen.TreeView.{nodes}
 use Rattle.stack_text.proofs.AtomLaws.{name_is_run, numeral_is_run}
 use Rattle.stack_text.proofs.NumeralTextLaws.{digits-pos, numeral-signed_decimal, value-signed_decimal}
 use Rattle.stack_text.proofs.PrintLaws.{tree_text_reads}
 use Rattle.stack_text.proofs.TreeInLaws.{tree_in-TreeOf}
+use Rattle.stack_text.proofs.SharedLaws.{name_few}
 use Rattle.gypsy_syntax.specs.Resolved.{place_among}
 use Rattle.space_cert.specs.Bounded.{is_bound, are_bounds}
 use Rattle.space_cert.specs.Covers.{Bounds, no_bounds}
@@ -188,9 +189,6 @@ entries_plain (name ∷ names) [] = refl
 entries_plain (name ∷ names) (None ∷ bs) = entries_plain names bs
 entries_plain (name ∷ names) (Some b ∷ bs) = ap (more (entry_tree name b)) (entries_plain names bs)
 
-short_name : (name : List ℕ) → is_name name ≡ true → length name ≤ 64
-short_name name h = leb-true (length name) 64 (and_parts _ (nat_le (length name) 64) (and_parts (_ && nat_le (length name) 64) _ h).0).1
-
 entry_length : (n t c : List ℕ) → length (40 ∷ ((n ++ (32 ∷ (t ++ (32 ∷ (c ++ []))))) ++ 41 ∷ [])) ≡ length n + length t + length c + 4
 entry_length n t c =
     omega (arith, length-append (n ++ (32 ∷ (t ++ (32 ∷ (c ++ []))))) (41 ∷ []), length-append n (32 ∷ (t ++ (32 ∷ (c ++ [])))), length-append t (32 ∷ (c ++ [])), length-append c [])
@@ -206,7 +204,7 @@ entries_short (name ∷ names) (Some b ∷ bs) named small =
     let s = both_small b k.0 in
     let others = entries_short names bs (All-tail (λ n. is_name n ≡ true) name names named) k.1 in
     let one = entry_length name (decimal b.0) (decimal b.1) in
-    let word = short_name name (All-head (λ n. is_name n ≡ true) name names named) in
+    let word = name_few name (All-head (λ n. is_name n ≡ true) name names named) in
     let first : length (decimal b.0) ≤ 13 = length-decimal-le 13 b.0 (omega arith) (omega (arith, s.0)) (omega (arith, s.0)) in
     let second : length (decimal b.1) ≤ 13 = length-decimal-le 13 b.1 (omega arith) (omega (arith, s.1)) (omega (arith, s.1)) in
     omega (arith, others, one, word, first, second, length-append (tree_text (entry_tree name b)) (spaced_text (nodes (entry_trees names bs))))

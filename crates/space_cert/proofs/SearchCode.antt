@@ -1,11 +1,12 @@
 -- The search as the code keeps it.
 use Rattle.std.proofs.Common.{◌≡◌, ℕ, zero, suc, ◌<◌, ◌≤◌, List, [], ◌∷◌, ◌++◌, length, get_or, set, take, drop, reverse, Bool, true, false, Option, refl, ap, sym, ◌∙◌, subst, arith}
-use Rattle.std.proofs.lemmas.List.{append_assoc, reverse-append, drop-append-le, take-append-le, length_push, length-set}
+use Rattle.std.proofs.lemmas.List.{append_assoc, drop-append-le, take-append-le, length_push, length-set}
 use Rattle.std.specs.List.{All}
 use Rattle.std.specs.Global.{Vec}
-use Rattle.space_cert.specs.Search.{earlier, earliest, first_with}
-use Rattle.space_cert.specs.Searching.{SearchOf, call_of, done_marks}
-use Rattle.space_cert.specs.SearchView.{seen_calls, IsClosing}
+use Rattle.stack_text.proofs.SharedLaws.{reverse_snoc}
+use Rattle.space_cert.specs.Scaffold.Search.{earlier, earliest, first_with}
+use Rattle.space_cert.specs.Scaffold.SearchState.{SearchOf, call_of, done_marks}
+use Rattle.space_cert.specs.Scaffold.SearchView.{seen_calls, IsClosing}
 use Rattle.space_cert.specs.declared.search.Search.{Search}
 use Rattle.space_cert.specs.declared.search.Mark.TheVariants.{Done}
 use Rattle.space_cert.proofs.AllLaws.{all_left}
@@ -19,9 +20,6 @@ pub calls_at : (calls : List (Vec ℕ)) (p : ℕ) (x : Vec ℕ) → p < length c
 calls_at [] p x lt e = absurd (omega (arith, lt))
 calls_at (v ∷ calls) zero x lt e = ap (λ v. v.items) (sym e)
 calls_at (v ∷ calls) (suc p) x lt e = calls_at calls p x (omega (arith, lt)) e
-
-pub reverse_push : {X : Type 0} (xs : List X) (x : X) → reverse (xs ++ x ∷ []) ≡ x ∷ reverse xs
-reverse_push xs x = reverse-append xs (x ∷ [])
 
 pub earliest_push : (ps : List ℕ) (p : ℕ) (first : Option ℕ) → earliest (ps ++ p ∷ []) first ≡ earliest ps (earlier p first)
 earliest_push [] p first = refl
@@ -37,7 +35,7 @@ closes_on s t u es p h lt is ee em eo ef et ep eb ea = record {
   there = omega (arith, le, ap length ee);
   taken = ap (take f) ee ∙ (sym (take-append-le f es (p ∷ []) le) ∙ (ap (take f) (sym is) ∙ h.taken));
   marks_are = (λ i. done_marks (drop f (ee i)) (em i)) ∙ (sym (done_marks-push (drop f es) p t.marks.items) ∙ (ap (λ x. done_marks x t.marks.items) dropped ∙ h.marks_are));
-  order_is = (λ i. drop f (ee i) ++ reverse (eo i)) ∙ (ap (λ x. drop f es ++ x) (reverse_push t.order.items p) ∙ (sym (append_assoc (drop f es) (p ∷ []) (reverse t.order.items)) ∙ (ap (λ x. x ++ reverse t.order.items) dropped ∙ h.order_is)));
+  order_is = (λ i. drop f (ee i) ++ reverse (eo i)) ∙ (ap (λ x. drop f es ++ x) (reverse_snoc t.order.items p) ∙ (sym (append_assoc (drop f es) (p ∷ []) (reverse t.order.items)) ∙ (ap (λ x. x ++ reverse t.order.items) dropped ∙ h.order_is)));
   first_is = (λ i. first_with s.top.again (drop f (ee i)) (ef i)) ∙ (ap (λ b. first_with s.top.again (drop f es) (first_with b (p ∷ []) t.first)) (ap (λ k. k.again) h.top_is) ∙ (sym (first_push s.top.again (drop f es) p t.first) ∙ (ap (λ x. first_with s.top.again x t.first) dropped ∙ h.first_is)));
   within = subst (λ n. All (λ x. x < n) u.entered.items) (sym (ap length em ∙ length-set t.marks.items p Done)) (subst (All (λ x. x < length t.marks.items)) (sym ee) (all_left (λ x. x < length t.marks.items) es (p ∷ []) (subst (All (λ x. x < length t.marks.items)) is h.within)));
   todo_is = et ∙ h.todo_is;

@@ -4,25 +4,26 @@ use Rattle.std.specs.Option.{IsSome}
 use Rattle.std.proofs.lemmas.List.Elements.{All-head}
 use Rattle.stack_text.specs.Values.{ValueOf}
 use Rattle.gypsy_syntax.specs.declared.predef.Predef.{Predef}
-use Rattle.gypsy_syntax.specs.Programs.{Cond, Routine, Arg, Program, body_of}
+use Rattle.gypsy_syntax.specs.Programs.{ConditionOf, Routine, Arg, Program, body_of}
 use Rattle.gypsy_syntax.specs.Programs.{Stmt, Skip, NoOp, Signal, Seq, Loop, If, Begin, Call, Apply}
-use Rattle.gypsy_syntax.specs.Effects.{Effect, Normal, Fault, Beyond, predef_effect, value_at, is_true_value}
+use Rattle.gypsy_syntax.specs.Predefined.{predef_effect}
+use Rattle.gypsy_syntax.specs.Effects.{Effect, Normal, Fault, Beyond, value_at, is_true_value}
 use Rattle.gypsy_space.specs.Costs.{Tally, spend, predef_spend, out_spend}
-use Rattle.gypsy_space.specs.Needs.{Words, lack_of, with_call}
+use Rattle.gypsy_space.specs.Needs.{StackSizes, lack_of, with_call}
 use Rattle.gypsy_space.specs.declared.need.Lack.TheVariants.{Nothing}
 use Rattle.gypsy_meaning.specs.Calls.{has_cond, is_leave, is_passed_on, matching, values_of, copied_out}
 use Rattle.gypsy_meaning.specs.Machine.{Item, Do, Back, JoinThen, JoinOne, Guard, Out, Frame, Held, State, At, Move, Next, Ended, opens, open_on, settle, stop_if, raise, either_move, apply_step, used, call_step, do_step, end_step, out_step, gypsy_step, start}
 use Rattle.space_cert.specs.Covers.{Bounds, bound_at, callees, CoversCall, CoversCalls, IsCertificate, Covers}
-use Rattle.space_cert.specs.Covered.{WorkCovered, ActivationCovered, WaitingCovered, StateCovered}
+use Rattle.space_cert.specs.CoveredStates.{WorkCovered, ActivationCovered, WaitingCovered, StateCovered}
 use Rattle.space_cert.specs.Never.{HasCallRoom}
 use Rattle.space_cert.proofs.AllLaws.{all_left, all_right}
 use Rattle.space_cert.proofs.CoversLaws.{bound_there, lacks_nothing, left, main_within}
 
-abbrev pub MoveCovered : Program → Bounds → Words → Move → Type 0
+abbrev pub MoveCovered : Program → Bounds → StackSizes → Move → Type 0
 MoveCovered q bs sizes (Next g) = StateCovered q bs sizes g
 MoveCovered q bs sizes (Ended x c t) = Unit {0}
 
-module _ (q : Program) (bs : Bounds) (b : Words) where
+module _ (q : Program) (bs : Bounds) (b : StackSizes) where
   opens_covered : (s : Stmt) (w ws : List Item) → CoversCalls q bs b s → WorkCovered q bs b w → WorkCovered q bs b ws → WorkCovered q bs b (opens s w ws)
   opens_covered Skip w ws f h g = g
   opens_covered (NoOp place) w ws f h g = (f, h)
@@ -52,12 +53,12 @@ module _ (q : Program) (bs : Bounds) (b : Words) where
   pub open_covered : (s : Stmt) (w : List Item) → CoversCalls q bs b s → WorkCovered q bs b w → WorkCovered q bs b (open_on s w)
   open_covered s w f h = opens_covered s w (settle w) f h (settle_covered w h)
 
-module _ (q : Program) (bs : Bounds) (sizes : Words) where
+module _ (q : Program) (bs : Bounds) (sizes : StackSizes) where
   -- the same activation with other work
-  with_work : {p : ℕ} {w : List Item} {u : Words} (k : ActivationCovered q bs sizes p w u) (v : List Item) → WorkCovered q bs k.bound v → ActivationCovered q bs sizes p v u
+  with_work : {p : ℕ} {w : List Item} {u : StackSizes} (k : ActivationCovered q bs sizes p w u) (v : List Item) → WorkCovered q bs k.bound v → ActivationCovered q bs sizes p v u
   with_work k v h = record { bound = k.bound; known = k.known; work = h; within = k.within }
 
-  raise_covered : (c : Cond) (p : ℕ) (x : List ValueOf) (w : List Item) (fs : List Frame) (t : Tally) → ActivationCovered q bs sizes p w (used q p fs) → WaitingCovered q bs sizes fs → StateCovered q bs sizes (raise c p x w fs t)
+  raise_covered : (c : ConditionOf) (p : ℕ) (x : List ValueOf) (w : List Item) (fs : List Frame) (t : Tally) → ActivationCovered q bs sizes p w (used q p fs) → WaitingCovered q bs sizes fs → StateCovered q bs sizes (raise c p x w fs t)
   raise_covered c p x [] fs t k g = (with_work k (Out c ∷ []) tt, g)
   raise_covered c p x (Do s ∷ w) fs t k g = raise_covered c p x w fs t (with_work k w k.work.1) g
   raise_covered c p x (Back place s ∷ w) fs t k g = pick (is_leave c) (raise_covered c p x w fs t (with_work k w k.work.1) g)
@@ -83,19 +84,19 @@ module _ (q : Program) (bs : Bounds) (sizes : Words) where
   end_covered p y [] t g = tt
   end_covered p y (Held c x w xs cs ∷ fs) t g = (with_work g.0 (settle w) (settle_covered q bs g.0.bound w g.0.work), g.1)
 
-  out_covered : (d : Cond) (p : ℕ) (y : List ValueOf) (fs : List Frame) (t : Tally) → WaitingCovered q bs sizes fs → MoveCovered q bs sizes (out_step q d p y fs t)
+  out_covered : (d : ConditionOf) (p : ℕ) (y : List ValueOf) (fs : List Frame) (t : Tally) → WaitingCovered q bs sizes fs → MoveCovered q bs sizes (out_step q d p y fs t)
   out_covered d p y [] t g = tt
   out_covered d p y (Held c x w xs cs ∷ fs) t g =
       raise_covered (matching q p cs d) c (copied_out xs y x) w fs (out_spend (is_passed_on q p d) t) g.0 g.1
 
-module _ (q : Program) (bs : Bounds) (sizes : Words) (cert : IsCertificate q bs) where
+module _ (q : Program) (bs : Bounds) (sizes : StackSizes) (cert : IsCertificate q bs) where
   -- a call in the work of an activation
-  call_room : (place c : ℕ) (xs : List ℕ) (cs : List Cond) (p : ℕ) (w : List Item) (u : Words) → ActivationCovered q bs sizes p (Do (Call place c xs cs) ∷ w) u → lack_of q sizes c u ≡ Nothing
+  call_room : (place c : ℕ) (xs : List ℕ) (cs : List ConditionOf) (p : ℕ) (w : List Item) (u : StackSizes) → ActivationCovered q bs sizes p (Do (Call place c xs cs) ∷ w) u → lack_of q sizes c u ≡ Nothing
   call_room place c xs cs p w u k =
       let there = bound_there q bs k.bound c (bound_at bs c) refl (All-head (CoversCall q bs k.bound) c [] k.work.0) in
       lacks_nothing q sizes c u k.bound there.bound (cert.each c there.bound there.known).own there.within k.within
 
-  callee_covered : (place c : ℕ) (xs : List ℕ) (cs : List Cond) (p : ℕ) (w : List Item) (u : Words) → ActivationCovered q bs sizes p (Do (Call place c xs cs) ∷ w) u → ActivationCovered q bs sizes c (open_on (body_of q c) []) (with_call q c u)
+  callee_covered : (place c : ℕ) (xs : List ℕ) (cs : List ConditionOf) (p : ℕ) (w : List Item) (u : StackSizes) → ActivationCovered q bs sizes p (Do (Call place c xs cs) ∷ w) u → ActivationCovered q bs sizes c (open_on (body_of q c) []) (with_call q c u)
   callee_covered place c xs cs p w u k =
       let there = bound_there q bs k.bound c (bound_at bs c) refl (All-head (CoversCall q bs k.bound) c [] k.work.0) in
       let each = cert.each c there.bound there.known in
@@ -141,14 +142,14 @@ module _ (q : Program) (bs : Bounds) (sizes : Words) (cert : IsCertificate q bs)
 
 -- main's bounds, as they are known
 pub record MainBound (q : Program) (bs : Bounds) : Type 0 where
-  pub bound : Words
+  pub bound : StackSizes
   pub known : bound_at bs q.main ≡ Some bound
 
-pub main_bound : (q : Program) (bs : Bounds) (o : Option Words) → bound_at bs q.main ≡ o → IsSome o → MainBound q bs
+pub main_bound : (q : Program) (bs : Bounds) (o : Option StackSizes) → bound_at bs q.main ≡ o → IsSome o → MainBound q bs
 main_bound q bs None e h = cc
 main_bound q bs (Some b) e h = record { bound = b; known = e }
 
-module _ (q : Program) (bs : Bounds) (sizes : Words) (covers : Covers q bs sizes) where
+module _ (q : Program) (bs : Bounds) (sizes : StackSizes) (covers : Covers q bs sizes) where
   pub start_covered : (v : List ValueOf) → StateCovered q bs sizes (start q v)
   start_covered v =
       let main = main_bound q bs (bound_at bs q.main) refl covers.certificate.main in

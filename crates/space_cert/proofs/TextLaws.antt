@@ -6,11 +6,11 @@ use Rattle.stack_text.specs.Gives.{Fails}
 use Rattle.stack_text.specs.Results.{◌>>=◌}
 use Rattle.stack_text.specs.Trees.{more}
 use Rattle.stack_text.specs.declared.tree.Tree.{Tree}
-use Rattle.stack_text.specs.TreeView.{node_of, nodes_of}
+use Rattle.stack_text.specs.Seen.TreeView.{node_of, nodes_of}
+use Rattle.stack_text.proofs.KeepsLaws.{and_true}
 use Rattle.space_cert.specs.CertText.{Fault, three_of, entry_at, with_entries}
 use Rattle.space_cert.specs.Covers.{Bounds}
 use Rattle.space_cert.specs.Bounded.{is_bound, are_bounds}
-use Rattle.space_cert.proofs.CoversLaws.{both_true}
 
 pub not_three : (trees : List Tree) → length trees ≢ 3 → None ≡ three_of (nodes_of trees)
 not_three [] ne = refl
@@ -51,6 +51,6 @@ none_within (suc n) = none_within n
 pub set_within : (bs : Bounds) (p : ℕ) (b : ℕ × ℕ) → are_bounds bs ≡ true → b.0 ≤ 2 ^ 40 → b.1 ≤ 2 ^ 40 → are_bounds (set bs p (Some b)) ≡ true
 set_within [] p b h t c = refl
 set_within (o ∷ bs) zero b h t c =
-    both_true (is_bound (Some b)) (are_bounds bs) (both_true (nat_le b.0 (2 ^ 40)) (nat_le b.1 (2 ^ 40)) (le-leb b.0 (2 ^ 40) t) (le-leb b.1 (2 ^ 40) c)) (and_parts (is_bound o) (are_bounds bs) h).1
+    and_true (is_bound (Some b)) (are_bounds bs) (and_true (nat_le b.0 (2 ^ 40)) (nat_le b.1 (2 ^ 40)) (le-leb b.0 (2 ^ 40) t) (le-leb b.1 (2 ^ 40) c)) (and_parts (is_bound o) (are_bounds bs) h).1
 set_within (o ∷ bs) (suc p) b h t c =
-    both_true (is_bound o) (are_bounds (set bs p (Some b))) (and_parts (is_bound o) (are_bounds bs) h).0 (set_within bs p b (and_parts (is_bound o) (are_bounds bs) h).1 t c)
+    and_true (is_bound o) (are_bounds (set bs p (Some b))) (and_parts (is_bound o) (are_bounds bs) h).0 (set_within bs p b (and_parts (is_bound o) (are_bounds bs) h).1 t c)

@@ -5,40 +5,40 @@ use Rattle.std.specs.List.{list_all}
 use Rattle.gypsy_syntax.specs.Resolved.{position_of, procedure_names}
 use Rattle.gypsy_syntax.specs.Sources.{SourceOf, StmtOf, StmtsOf, no_op, signal, seq, loop, branch, begin, call, predef, no_parts, part}
 use Rattle.gypsy_syntax.specs.Programs.{Proc, Program}
-use Rattle.gypsy_space.specs.Needs.{Words, stack_words, main_used}
+use Rattle.gypsy_space.specs.Needs.{StackSizes, stack_sizes, main_used}
 use Rattle.gypsy_space.specs.Events.{need_at, need_of}
 use Rattle.gypsy_space.specs.declared.need.Need.{Need}
 use Rattle.space_cert.specs.Covers.{Bounds, bound_at, words_sum, callees}
 use Rattle.space_cert.specs.Order.{call_bound_by}
 
-abbrev pub is_at_most : Words → Words → Bool
+abbrev pub is_at_most : StackSizes → StackSizes → Bool
 is_at_most u v = nat_le u.temp v.temp && nat_le u.ctrl v.ctrl
 
 -- there is one, and it passes
-abbrev pub is_some_and : Option Words → (Words → Bool) → Bool
+abbrev pub is_some_and : Option StackSizes → (StackSizes → Bool) → Bool
 is_some_and None f = false
 is_some_and (Some w) f = f w
 
-abbrev pub covers_call : List Need → Bounds → Words → ℕ → Bool
+abbrev pub covers_call : List Need → Bounds → StackSizes → ℕ → Bool
 covers_call ns bs b p = is_some_and (bound_at bs p) (λ d. is_at_most (call_bound_by (need_at ns p) d) b)
 
-abbrev pub covers_calls : List Need → Bounds → Words → List ℕ → Bool
+abbrev pub covers_calls : List Need → Bounds → StackSizes → List ℕ → Bool
 covers_calls ns bs b ps = list_all (covers_call ns bs b) ps
 
 -- of a procedure with these needs and these callees
-abbrev pub covers_run : List Need → Bounds → Need → List ℕ → Option Words → Bool
+abbrev pub covers_run : List Need → Bounds → Need → List ℕ → Option StackSizes → Bool
 covers_run ns bs n ps None = true
-covers_run ns bs n ps (Some b) = is_at_most (stack_words n.temp n.ctrl) b && covers_calls ns bs b ps
+covers_run ns bs n ps (Some b) = is_at_most (stack_sizes n.ctrl n.temp) b && covers_calls ns bs b ps
 
 -- the procedures from p on
 abbrev pub covers_from : List Need → Bounds → ℕ → List (List ℕ) → Bool
 covers_from ns bs p [] = true
 covers_from ns bs p (ps ∷ calls) = covers_run ns bs (need_at ns p) ps (bound_at bs p) && covers_from ns bs (p + 1) calls
 
-abbrev pub covers_main : Words → Words → Option Words → Bool
+abbrev pub covers_main : StackSizes → StackSizes → Option StackSizes → Bool
 covers_main used sizes bound = is_some_and bound (λ b. is_at_most (words_sum used b) sizes)
 
-abbrev pub covers : List Need → Bounds → Words → Words → ℕ → List (List ℕ) → Bool
+abbrev pub covers : List Need → Bounds → StackSizes → StackSizes → ℕ → List (List ℕ) → Bool
 covers ns bs used sizes main calls =
     length bs == length calls && (covers_main used sizes (bound_at bs main) && covers_from ns bs 0 calls)
 
@@ -70,6 +70,6 @@ needs_from q zero p = []
 needs_from q (suc n) p = need_of q p ∷ needs_from q n (p + 1)
 
 -- whether the certificate covers the program at these sizes
-unfoldable pub is_covered : Program → Bounds → Words → Bool
+unfoldable pub is_covered : Program → Bounds → StackSizes → Bool
 is_covered q bs sizes =
     covers (needs_from q (length q.procs) 0) bs (main_used q) sizes q.main (map (λ (p : Proc). callees p.body) q.procs)

@@ -1,9 +1,10 @@
 -- The text of a certificate, `((NAME TEMP CTRL)*)`: the bounds that it gives the procedures of a source, the rules Z1 to Z3 that
 -- it may break, and how a certificate is written.
-use Rattle.std.specs.Prelude.{ℕ, ℤ, pos, negsuc, ◌^◌, nat_le, List, [], ◌∷◌, length, get_or, slice_set}
+use Rattle.std.specs.Prelude.{ℕ, ℤ, pos, negsuc, nat_le, List, [], ◌∷◌, length, get_or, slice_set}
 use Rattle.std.specs.Prelude.{Result, Ok, Err, Option, Some, None, if◌then◌else◌}
 use Rattle.std.specs.Option.{is_some}
 use Rattle.std.specs.Fmt.{decimal}
+use Rattle.space_cert.specs.Bounded.{most_bound}
 use Rattle.stack_text.specs.declared.text_fault.TextRule.{TextRule}
 use Rattle.stack_text.specs.Results.{◌>>=◌}
 use Rattle.stack_text.specs.Names.{name_of}
@@ -48,7 +49,7 @@ place_for bs (Some p) = free_place bs p
 -- Z3. A bound is a word of digits alone, whose number is at most 2^40.
 
 abbrev pub up_to_limit : ℤ → Option ℕ
-up_to_limit (pos n) = if nat_le n (2 ^ 40) then Some n else None
+up_to_limit (pos n) = if nat_le n most_bound then Some n else None
 up_to_limit (negsuc n) = None
 
 abbrev pub number_of : List ℕ → Option ℕ
@@ -115,5 +116,5 @@ fault_of (Refused rule place) = Some (rule, place)
 fault_of Memory = None
 
 -- the call returned exactly what the definition gives, seen through the view; out of memory alone is free
-abbrev pub Gives : {X Y : Type 0} → (X → Y) → Result X CertTextFault → Result Y Fault → Type 0
-Gives view result value = common.Gives fault_of view result value
+abbrev pub GivesCertificateText : {X Y : Type 0} → (X → Y) → Result X CertTextFault → Result Y Fault → Type 0
+GivesCertificateText view result value = common.Gives fault_of view result value

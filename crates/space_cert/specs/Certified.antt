@@ -4,7 +4,7 @@ use Rattle.std.specs.Prelude.{Option, Some, None, Result, Ok, Err, if◌then◌e
 use Rattle.std.specs.List.{list_any}
 use Rattle.stack_text.specs.Gives as common
 use Rattle.gypsy_syntax.specs.Programs.{Program, proc_at}
-use Rattle.gypsy_space.specs.Needs.{Words, stack_words}
+use Rattle.gypsy_space.specs.Needs.{StackSizes, stack_sizes}
 use Rattle.space_cert.specs.declared.certifying.CertFault.{CertFault}
 use Rattle.space_cert.specs.declared.certifying.CertFault.TheVariants.{Recursive, Memory}
 use Rattle.space_cert.specs.Covers.{Bounds, own_need, call_bound}
@@ -34,13 +34,13 @@ first_from test zero k = None
 first_from test (suc n) k = if test k then Some k else first_from test n (k + 1)
 
 -- the greatest of w and what calls of these take, by what runs of them take
-unfoldable pub greatest_taken : Program → (ℕ → Words) → List ℕ → Words → Words
+unfoldable pub greatest_taken : Program → (ℕ → StackSizes) → List ℕ → StackSizes → StackSizes
 greatest_taken q taken [] w = w
 greatest_taken q taken (p ∷ ps) w = greatest_taken q taken ps (greater w (call_bound q p (taken p)))
 
 -- what a run of p takes beside its own words, where calls are followed to this depth
-unfoldable pub run_within : Program → ℕ → ℕ → Words
-run_within q zero p = stack_words 0 0
+unfoldable pub run_within : Program → ℕ → ℕ → StackSizes
+run_within q zero p = stack_sizes 0 0
 run_within q (suc depth) p = greatest_taken q (run_within q depth) (calls_of q p) (own_need (proc_at q p))
 
 -- a chain of calls without a recursion is no longer than there are procedures

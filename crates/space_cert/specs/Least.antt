@@ -2,7 +2,7 @@
 use Rattle.std.specs.Prelude.{◌≡◌, ℕ, ◌<◌, length, Some, None}
 use Rattle.std.specs.Option.{IsSome, IsSomeAnd}
 use Rattle.gypsy_syntax.specs.Programs.{Program}
-use Rattle.gypsy_space.specs.Needs.{Words}
+use Rattle.gypsy_space.specs.Needs.{StackSizes}
 use Rattle.space_cert.specs.declared.certifying.CertFault.{CertFault}
 use Rattle.space_cert.specs.declared.certifying.CertFault.TheVariants.{Recursive, Memory}
 use Rattle.space_cert.specs.Covers.{Bounds, bound_at, IsAtMost, IsCertificate}
@@ -13,7 +13,7 @@ pub record IsLeast (q : Program) (bs : Bounds) : Type 0 where
   pub certificate : IsCertificate q bs
   pub reached : (p : ℕ) → IsReached q p → IsSome (bound_at bs p)
   pub others : (p : ℕ) → ¬ IsReached q p → bound_at bs p ≡ None
-  pub least : (ds : Bounds) → IsCertificate q ds → (p : ℕ) (b : Words) → bound_at bs p ≡ Some b →
+  pub least : (ds : Bounds) → IsCertificate q ds → (p : ℕ) (b : StackSizes) → bound_at bs p ≡ Some b →
       IsSomeAnd (bound_at ds p) (IsAtMost b)
 
 -- the first recursive procedure that main reaches

@@ -1,17 +1,14 @@
--- What a certificate promises: what it is, that no run that it covers ever sets spaceerror, and which one is the least.
+-- What a certificate promises: what it is, that no run that it covers ever sets spaceerror, which one is the least,
+-- and how it is found.
 pub mod Covers
 pub mod Never
-pub mod Covered
+pub mod CoveredStates
 pub mod Reaches
 pub mod Least
 pub mod Bounded
 pub mod CertText
 pub mod Certified
--- Scaffold: what only private functions and lemmas say.
-pub mod Omits
 pub mod Order
-pub mod Search
-pub mod Searching
-pub mod SearchView
 pub mod Accepting
-pub mod Names
+-- In folders: scaffold.
+pub mod Scaffold

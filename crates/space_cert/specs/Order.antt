@@ -1,9 +1,10 @@
 -- How the least certificate is found: procedure after procedure, each one after those that it calls.
-use Rattle.std.specs.Prelude.{◌≡◌, ℕ, ◌+◌, ◌≤◌, ◌^◌, max, List, [], ◌∷◌, length, get_or, slice_set, Some}
+use Rattle.std.specs.Prelude.{◌≡◌, ℕ, ◌+◌, ◌≤◌, max, List, [], ◌∷◌, length, get_or, slice_set, Some}
 use Rattle.std.specs.Option.{unwrap_or}
 use Rattle.std.specs.List.{All, Contains}
+use Rattle.space_cert.specs.Bounded.{most_bound}
 use Rattle.gypsy_syntax.specs.Programs.{Program, proc_at}
-use Rattle.gypsy_space.specs.Needs.{Words, stack_words}
+use Rattle.gypsy_space.specs.Needs.{StackSizes, stack_sizes}
 use Rattle.gypsy_space.specs.Events.{need_at}
 use Rattle.gypsy_space.specs.declared.need.Need.{Need}
 use Rattle.space_cert.specs.Covers.{Bounds, bound_at, no_bounds, own_need, call_bound}
@@ -15,23 +16,23 @@ IsOrder calls [] = Unit {0}
 IsOrder calls (p ∷ before) = ¬ Contains before p × All (Contains before) (calls p) × IsOrder calls before
 
 -- the greater of each stack
-abbrev pub greater : Words → Words → Words
-greater u v = stack_words (max u.temp v.temp) (max u.ctrl v.ctrl)
+abbrev pub greater : StackSizes → StackSizes → StackSizes
+greater u v = stack_sizes (max u.ctrl v.ctrl) (max u.temp v.temp)
 
 -- what a call of p takes by its bounds
-abbrev pub call_words : Program → Bounds → ℕ → Words
-call_words q bs p = call_bound q p (unwrap_or (bound_at bs p) (stack_words 0 0))
+abbrev pub call_words : Program → Bounds → ℕ → StackSizes
+call_words q bs p = call_bound q p (unwrap_or (bound_at bs p) (stack_sizes 0 0))
 
 -- the greatest of w and what calls of these take
-abbrev pub greatest_call : Program → Bounds → List ℕ → Words → Words
+abbrev pub greatest_call : Program → Bounds → List ℕ → StackSizes → StackSizes
 greatest_call q bs [] w = w
 greatest_call q bs (p ∷ ps) w = greatest_call q bs ps (greater w (call_words q bs p))
 
 -- what a run of p takes beside its own words, by its callees' bounds
-abbrev pub run_bound : Program → Bounds → ℕ → Words
+abbrev pub run_bound : Program → Bounds → ℕ → StackSizes
 run_bound q bs p = greatest_call q bs (calls_of q p) (own_need (proc_at q p))
 
-abbrev pub with_bound : Bounds → ℕ → Words → Bounds
+abbrev pub with_bound : Bounds → ℕ → StackSizes → Bounds
 with_bound bs p w = slice_set bs p (Some (w.temp, w.ctrl))
 
 -- with bounds for the procedures of an order
@@ -42,18 +43,18 @@ bounds_of_order q (p ∷ before) = with_bound (bounds_of_order q before) p (run_
 -- The same by a list of needs and the callees of each procedure.
 
 -- what a call takes by its callee's needs, and by what a run of it takes
-abbrev pub call_bound_by : Need → Words → Words
-call_bound_by n b = stack_words (max (n.locals_words + n.vars) (n.locals_words + b.temp)) (2 + n.vars + b.ctrl)
+abbrev pub call_bound_by : Need → StackSizes → StackSizes
+call_bound_by n b = stack_sizes (2 + n.vars + b.ctrl) (max (n.locals_words + n.vars) (n.locals_words + b.temp))
 
-abbrev pub call_words_by : List Need → Bounds → ℕ → Words
-call_words_by ns bs p = call_bound_by (need_at ns p) (unwrap_or (bound_at bs p) (stack_words 0 0))
+abbrev pub call_words_by : List Need → Bounds → ℕ → StackSizes
+call_words_by ns bs p = call_bound_by (need_at ns p) (unwrap_or (bound_at bs p) (stack_sizes 0 0))
 
-abbrev pub greatest_call_by : List Need → Bounds → List ℕ → Words → Words
+abbrev pub greatest_call_by : List Need → Bounds → List ℕ → StackSizes → StackSizes
 greatest_call_by ns bs [] w = w
 greatest_call_by ns bs (p ∷ ps) w = greatest_call_by ns bs ps (greater w (call_words_by ns bs p))
 
-abbrev pub run_bound_by : List Need → Bounds → List ℕ → ℕ → Words
-run_bound_by ns bs calls p = greatest_call_by ns bs calls (stack_words (need_at ns p).temp (need_at ns p).ctrl)
+abbrev pub run_bound_by : List Need → Bounds → List ℕ → ℕ → StackSizes
+run_bound_by ns bs calls p = greatest_call_by ns bs calls (stack_sizes (need_at ns p).ctrl (need_at ns p).temp)
 
 abbrev pub bounds_by_needs : List Need → List (List ℕ) → List ℕ → Bounds
 bounds_by_needs ns cs [] = no_bounds (length cs)
@@ -62,4 +63,4 @@ bounds_by_needs ns cs (p ∷ before) =
 
 -- no bound is above 2^40
 abbrev pub AreBounds : Bounds → Type 0
-AreBounds bs = (p : ℕ) (b : Words) → bound_at bs p ≡ Some b → (b.temp ≤ 2 ^ 40) × (b.ctrl ≤ 2 ^ 40)
+AreBounds bs = (p : ℕ) (b : StackSizes) → bound_at bs p ≡ Some b → (b.temp ≤ most_bound) × (b.ctrl ≤ most_bound)

@@ -6,9 +6,9 @@ ghost use Rattle.std.specs.Option.{option_map};
 ghost use Rattle.std.specs.Str.{bytes_eq};
 ghost use Rattle.gypsy_syntax.specs.Programs.{proc_at, words_of};
 ghost use Rattle.gypsy_syntax.specs.Resolved.{position_of, procedure_names, program_of, shape_of};
-ghost use Rattle.gypsy_syntax.specs.SourceView.{parts_of_list, proc_of, source_of, stmt_of};
+ghost use Rattle.gypsy_syntax.specs.Seen.SourceView.{parts_of_list, proc_of, source_of, stmt_of};
 ghost use Rattle.gypsy_space.specs.Events.{AreNeeds, AreSmall, IsSmall, need_at};
-ghost use Rattle.gypsy_space.specs.Needs.{main_used, stack_words};
+ghost use Rattle.gypsy_space.specs.Needs.{main_used, stack_sizes};
 ghost use Rattle.stack_text.specs.Values.{ValueOf, item_count};
 ghost use Rattle.gypsy_check.specs.Accepted.{IsAccepted};
 ghost use Rattle.space_cert.specs.Covers.{Covers, as_words, bound_at, sizes_for};
@@ -226,11 +226,11 @@ pub fn accepts(accepted: &Accepted, needs: &Needs, cert: &Certificate, ctrl: u32
     requires needs { AreNeeds (program_of (source_of accepted.now)) needs.now.procedures.items }
     requires small { AreSmall needs.now.procedures.items }
     ensures covers { IsTrue result ↔
-        Covers (program_of (source_of accepted.now)) cert.now.bounds.items (stack_words temp ctrl) }
+        Covers (program_of (source_of accepted.now)) cert.now.bounds.items (stack_sizes ctrl temp) }
     ensures exact { result ≡
-        is_covered (program_of (source_of accepted.now)) cert.now.bounds.items (stack_words temp ctrl) }
+        is_covered (program_of (source_of accepted.now)) cert.now.bounds.items (stack_sizes ctrl temp) }
     ensures never { IsTrue result → (v : List ValueOf) →
-        NeverSpaceError (program_of (source_of accepted.now)) (stack_words temp ctrl) v }
+        NeverSpaceError (program_of (source_of accepted.now)) (stack_sizes ctrl temp) v }
 {
     let source = accepted.source();
     covers(source, needs, cert, (temp as u64, ctrl as u64))

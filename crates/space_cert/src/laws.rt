@@ -5,10 +5,10 @@ ghost use Rattle.std.specs.Result.{MatchResult};
 ghost use Rattle.stack_text.specs.Values.{ValueOf};
 ghost use Rattle.gypsy_syntax.specs.ProgramFits.{ProgramFits};
 ghost use Rattle.gypsy_syntax.specs.Programs.{Program};
-ghost use Rattle.gypsy_space.specs.Needs.{Words};
+ghost use Rattle.gypsy_space.specs.Needs.{StackSizes};
 ghost use Rattle.gypsy_meaning.specs.Machine.{State, Next, gypsy_step, start};
 ghost use Rattle.space_cert.specs.Covers.{Bounds, Covers, IsAtMost, IsCertificate, sizes_for};
-ghost use Rattle.space_cert.specs.Covered.{StateCovered};
+ghost use Rattle.space_cert.specs.CoveredStates.{StateCovered};
 ghost use Rattle.space_cert.specs.Accepting.{is_covered};
 ghost use Rattle.space_cert.specs.Certified.{certified};
 ghost use Rattle.space_cert.specs.Least.{IsFirstRecursive, IsLeast};
@@ -19,13 +19,13 @@ ghost use Rattle.space_cert.specs.Reaches.{IsRecursive};
 /// leads from a covered state to a covered state, and in a covered state a call on top has room. So `spaceerror` is never
 /// raised in a run of a program that fits.
 pub fn certificates_hold()
-    ensures start { (q : Program) (bs : Bounds) (sizes : Words) (v : List ValueOf) → Covers q bs sizes →
+    ensures start { (q : Program) (bs : Bounds) (sizes : StackSizes) (v : List ValueOf) → Covers q bs sizes →
         StateCovered q bs sizes (start q v) }
-    ensures step { (q : Program) (bs : Bounds) (sizes : Words) (g h : State) → Covers q bs sizes →
+    ensures step { (q : Program) (bs : Bounds) (sizes : StackSizes) (g h : State) → Covers q bs sizes →
         StateCovered q bs sizes g → gypsy_step q sizes g ≡ Next h → StateCovered q bs sizes h }
-    ensures room { (q : Program) (bs : Bounds) (sizes : Words) (g : State) → Covers q bs sizes →
+    ensures room { (q : Program) (bs : Bounds) (sizes : StackSizes) (g : State) → Covers q bs sizes →
         StateCovered q bs sizes g → HasCallRoom q sizes g }
-    ensures never { (q : Program) (bs : Bounds) (sizes : Words) (v : List ValueOf) → ProgramFits q →
+    ensures never { (q : Program) (bs : Bounds) (sizes : StackSizes) (v : List ValueOf) → ProgramFits q →
         Covers q bs sizes → NeverSpaceError q sizes v }
 {}
 
@@ -33,7 +33,7 @@ pub fn certificates_hold()
 /// either stack.
 pub fn least_at_main()
     ensures covers { (q : Program) (bs : Bounds) → IsLeast q bs → Covers q bs (sizes_for q bs) }
-    ensures least { (q : Program) (bs ds : Bounds) (sizes : Words) → IsLeast q bs → Covers q ds sizes →
+    ensures least { (q : Program) (bs ds : Bounds) (sizes : StackSizes) → IsLeast q bs → Covers q ds sizes →
         IsAtMost (sizes_for q bs) sizes }
 {}
 
@@ -46,6 +46,6 @@ pub fn recursion_has_none()
 /// one. A certificate that is judged to cover a program does.
 pub fn computed_as_defined()
     ensures certified { (q : Program) → ProgramFits q → MatchResult (certified q) (IsLeast q) (IsFirstRecursive q) }
-    ensures covered { (q : Program) (bs : Bounds) (sizes : Words) → ProgramFits q →
+    ensures covered { (q : Program) (bs : Bounds) (sizes : StackSizes) → ProgramFits q →
         IsTrue (is_covered q bs sizes) ↔ Covers q bs sizes }
 {}

@@ -1,7 +1,7 @@
 //! Certificates that the calls of a source have room: what they are, what they are good for, and the least one.
 //!
 //! `specs/` has what a certificate is (`Covers`), that `spaceerror` is never raised in the runs that it covers (`Never`),
-//! what each state of such a run keeps (`Covered`), which procedures reach which (`Reaches`), which certificate is the least
+//! what each state of such a run keeps (`CoveredStates`), which procedures reach which (`Reaches`), which certificate is the least
 //! (`Least`), and its text (`CertText`).
 #![tactic(auto)]
 

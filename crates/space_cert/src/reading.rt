@@ -4,15 +4,15 @@ ghost use Rattle.std.specs.Prelude.{◌≡◌, ◌<◌, ◌≤◌, ◌^◌, IfOk
 ghost use Rattle.std.specs.List.{IsDistinct};
 ghost use Rattle.std.specs.Str.{bytes_eq};
 ghost use Rattle.stack_text.specs.Gives as memory;
-ghost use Rattle.stack_text.specs.TreeView.{node_of, nodes_of};
+ghost use Rattle.stack_text.specs.Seen.TreeView.{node_of, nodes_of};
 ghost use Rattle.gypsy_syntax.specs.Resolved.{place_among, procedure_names};
-ghost use Rattle.gypsy_syntax.specs.SourceView.{source_of};
+ghost use Rattle.gypsy_syntax.specs.Seen.SourceView.{source_of};
 ghost use Rattle.gypsy_space.specs.Callees.{names_of};
 ghost use Rattle.space_cert.specs.Bounded.{are_bounds};
 ghost use Rattle.space_cert.specs.Covers.{no_bounds};
-ghost use Rattle.space_cert.specs.CertText.{Gives, bounds_at, bounds_in, entry_at, fault_of, free_place, name_at};
+ghost use Rattle.space_cert.specs.CertText.{GivesCertificateText, bounds_at, bounds_in, entry_at, fault_of, free_place, name_at};
 ghost use Rattle.space_cert.specs.CertText.{number_at, number_of, parts_entry, three_of, with_entries};
-ghost use Rattle.space_cert.specs.Names.{names_in};
+ghost use Rattle.space_cert.specs.Scaffold.Names.{names_in};
 
 use crate::certificate::Certificate;
 use crate::certifying::bound_of;
@@ -22,6 +22,9 @@ use indexmap::IndexSet;
 use stack_text::{Memory, Name, TextFault, Tree, is_digits, read_name, read_numeral, read_tree};
 use std::alloc::{AllocError, Global};
 use thiserror::Error;
+
+/// The greatest bound.
+const MOST_BOUND: i128 = 1 << 40;
 
 /// Why a text is no certificate of a source.
 ///
@@ -76,7 +79,7 @@ fn number_of(word: &[u8]) -> Option<u64>
     }
     match read_numeral(word) {
         Some(number) => {
-            if 0 <= number && number <= 1 << 40 {
+            if 0 <= number && number <= MOST_BOUND {
                 Some(number as u64)
             } else {
                 None
@@ -168,7 +171,7 @@ fn parts_entry(
     temp: &Tree,
     ctrl: &Tree,
 ) -> Result<(usize, (u64, u64)), CertTextFault>
-    ensures exact { Gives (λ e. e) result
+    ensures exact { GivesCertificateText (λ e. e) result
         (parts_entry (names_in names.now) bounds.now place (node_of name.now, node_of temp.now, node_of ctrl.now)) }
     ensures there { IfOk result (λ e. e.0 < length (names_in names.now)) }
     ensures small { IfOk result (λ e. (e.1.0 ≤ 2 ^ 40) × (e.1.1 ≤ 2 ^ 40)) }
@@ -199,7 +202,7 @@ fn entry_at(
     bounds: &[Option<(u64, u64)>],
     tree: &Tree,
 ) -> Result<(usize, (u64, u64)), CertTextFault>
-    ensures exact { Gives (λ e. e) result (entry_at (names_in names.now) bounds.now (node_of tree.now)) }
+    ensures exact { GivesCertificateText (λ e. e) result (entry_at (names_in names.now) bounds.now (node_of tree.now)) }
     ensures there { IfOk result (λ e. e.0 < length (names_in names.now)) }
     ensures small { IfOk result (λ e. (e.1.0 ≤ 2 ^ 40) × (e.1.1 ≤ 2 ^ 40)) }
 {
@@ -221,7 +224,8 @@ fn entries(
     trees: &[Tree],
 ) -> Result<Vec<Option<(u64, u64)>>, CertTextFault>
     ensures exact { let names = names_in names.now in
-        Gives (λ bs. bs.items) result (with_entries names (no_bounds (length names)) (nodes_of trees.now)) }
+        GivesCertificateText (λ bs. bs.items) result
+        (with_entries names (no_bounds (length names)) (nodes_of trees.now)) }
     ensures number { IfOk result (λ bs. length bs.items ≡ length (names_in names.now)) }
     ensures within { IfOk result (λ bs. IsTrue (are_bounds bs.items)) }
 {
@@ -239,7 +243,8 @@ fn certificate_at(
     names: &IndexSet<&[u8]>,
     tree: &Tree,
 ) -> Result<Certificate, CertTextFault>
-    ensures exact { Gives (λ c. c.bounds.items) result (bounds_at (names_in names.now) (node_of tree.now)) }
+    ensures exact { GivesCertificateText (λ c. c.bounds.items) result
+        (bounds_at (names_in names.now) (node_of tree.now)) }
     ensures number { IfOk result (λ c. length c.bounds.items ≡ length (names_in names.now)) }
 {
     match tree {
@@ -259,7 +264,7 @@ fn certificate_in(
     text: &[u8],
 ) -> Result<Certificate, CertTextFault>
     requires { length text.now ≤ 2 ^ 31 }
-    ensures exact { Gives (λ c. c.bounds.items) result (bounds_in (names_in names.now) text.now) }
+    ensures exact { GivesCertificateText (λ c. c.bounds.items) result (bounds_in (names_in names.now) text.now) }
     ensures number { IfOk result (λ c. length c.bounds.items ≡ length (names_in names.now)) }
 {
     match read_tree(alloc, text) {
@@ -282,7 +287,8 @@ pub fn read_certificate(
     accepted: &Accepted,
 ) -> Result<Certificate, CertTextFault>
     requires { length text.now ≤ 2 ^ 31 }
-    ensures exact { Gives (λ c. c.bounds.items) result (bounds_in (procedure_names (source_of accepted.now)) text.now) }
+    ensures exact { GivesCertificateText (λ c. c.bounds.items) result
+        (bounds_in (procedure_names (source_of accepted.now)) text.now) }
     ensures number { IfOk result (λ c. length c.bounds.items ≡ length (source_of accepted.now).procs) }
 {
     let names = names(alloc, accepted.source().procs.as_slice())?;

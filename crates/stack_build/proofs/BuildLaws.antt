@@ -9,7 +9,7 @@ use Rattle.stack_text.specs.Results.{◌>>=◌}
 use Rattle.fm_image.specs.Image.{ImageOf}
 use Rattle.fm_image.specs.Spelling.{spelling}
 use Rattle.piton_syntax.specs.Systems.{SystemOf}
-use Rattle.piton_check.specs.Answers.{CheckedOf, IsChecked}
+use Rattle.piton_check.specs.PitonChecking.{CheckedOf, IsChecked}
 use Rattle.piton_check.specs.Instruction.{SystemView}
 use Rattle.piton_machine.specs.Fits.{system_in}
 use Rattle.piton_machine.specs.Placed.{placed}
@@ -18,18 +18,18 @@ use Rattle.piton_linker.specs.declared.fault.LinkFault.TheVariants as link
 use Rattle.piton_linker.specs.Layouts.{IsFault}
 use Rattle.gypsy_syntax.specs.declared.fault.GypsyFault.{GypsyFault}
 use Rattle.gypsy_syntax.specs.declared.fault.GypsyFault.TheVariants as gypsy
-use Rattle.gypsy_syntax.specs.Answers as syntax
-use Rattle.gypsy_syntax.specs.Answers.{gypsy_in}
+use Rattle.gypsy_syntax.specs.GypsyReading as syntax
+use Rattle.gypsy_syntax.specs.GypsyReading.{gypsy_in}
 use Rattle.gypsy_syntax.specs.Sources.{SourceOf}
 use Rattle.gypsy_syntax.specs.Resolved.{program_of}
 use Rattle.gypsy_check.specs.declared.fault.CheckFault.{CheckFault}
 use Rattle.gypsy_check.specs.declared.fault.CheckFault.TheVariants as check
-use Rattle.gypsy_check.specs.Answers.{IsLeast}
+use Rattle.gypsy_check.specs.GypsyChecking.{IsLeast}
 use Rattle.gypsy_check.specs.Rules.{violations}
-use Rattle.gypsy_space.specs.Needs.{Words, stack_words}
+use Rattle.gypsy_space.specs.Needs.{StackSizes, stack_sizes}
 use Rattle.gypsy_codegen.specs.Generated.{generated_view}
-use Rattle.gypsy_codegen.specs.Answers as generating
-use Rattle.gypsy_codegen.specs.Answers.{generation}
+use Rattle.gypsy_codegen.specs.Generation as generating
+use Rattle.gypsy_codegen.specs.Generation.{generation}
 use Rattle.gypsy_codegen.specs.declared.fault.GenFault.{GenFault}
 use Rattle.gypsy_codegen.specs.declared.fault.GenFault.TheVariants as gen
 use Rattle.stack_build.specs.declared.fault.BuildFault.{BuildFault}
@@ -56,7 +56,7 @@ accepted_found text source h e = ap accepted_by h ∙ ap (λ (breaches : List Br
 
 -- ---- generating and linking
 
-pub generating_fails : (e : GenFault) (s : SourceOf) (sizes : Words) (base : ℕ) → Fails (generating.fault_of e) (generation s sizes base) → Fails (fault_of (generating_fault e)) (source_built s sizes base)
+pub generating_fails : (e : GenFault) (s : SourceOf) (sizes : StackSizes) (base : ℕ) → Fails (generating.fault_of e) (generation s sizes base) → Fails (fault_of (generating_fault e)) (source_built s sizes base)
 unfolding source_built
 generating_fails gen.Size s sizes base h = ap (λ (r : Result SystemOf GenFault). generated_by r >>= linked_of s sizes base) h
 generating_fails (gen.Control need) s sizes base h = ap (λ (r : Result SystemOf GenFault). generated_by r >>= linked_of s sizes base) h
@@ -64,7 +64,7 @@ generating_fails (gen.Temporary need) s sizes base h = ap (λ (r : Result System
 generating_fails (gen.Words count) s sizes base h = ap (λ (r : Result SystemOf GenFault). generated_by r >>= linked_of s sizes base) h
 generating_fails gen.Memory s sizes base h = tt
 
-module _ (s : SourceOf) (sizes : Words) (base : ℕ) (out : SystemOf) (made : generation s sizes base ≡ Ok out) where
+module _ (s : SourceOf) (sizes : StackSizes) (base : ℕ) (out : SystemOf) (made : generation s sizes base ≡ Ok out) where
   built_large : 2 ^ 20 < placed_size s sizes base → source_built s sizes base ≡ Err (fault.Words (placed_size s sizes base))
   unfolding source_built linked_of
   built_large large =
@@ -85,7 +85,7 @@ module _ (s : SourceOf) (sizes : Words) (base : ℕ) (out : SystemOf) (made : ge
   linking_fails link.Memory system is h = tt
 
 -- what was made is what is to be built
-pub built_is : (s : SourceOf) (sizes : Words) (base : ℕ) (piton : CheckedOf) (image : ImageOf) (bytes : List ℕ) → generation s sizes base ≡ Ok piton.system → IsChecked piton →
+pub built_is : (s : SourceOf) (sizes : StackSizes) (base : ℕ) (piton : CheckedOf) (image : ImageOf) (bytes : List ℕ) → generation s sizes base ≡ Ok piton.system → IsChecked piton →
     system_in piton ≡ generated_view (program_of s) sizes base → (placed (system_in piton)).size ≤ 2 ^ 20 → image ≡ image_on s (system_in piton) → bytes ≡ spelling image →
     source_built s sizes base ≡ Ok record { piton = piton; image = image; bytes = bytes }
 unfolding image_of
@@ -105,8 +105,8 @@ stays (Some f) r go h = ap (λ (z : Result _ BuildFault). z >>= go) h
 
 pub text_fails : (e : BuildFault) (text : List ℕ) (ctrl temp base : ℕ) → Fails (fault_of e) (source_in text) → Fails (fault_of e) (built text ctrl temp base)
 unfolding built
-text_fails e text ctrl temp base h = stays (fault_of e) (source_in text) (λ source. source_built source (stack_words temp ctrl) base) h
+text_fails e text ctrl temp base h = stays (fault_of e) (source_in text) (λ source. source_built source (stack_sizes ctrl temp) base) h
 
-pub text_builds : (text : List ℕ) (ctrl temp base : ℕ) (source : SourceOf) → source_in text ≡ Ok source → built text ctrl temp base ≡ source_built source (stack_words temp ctrl) base
+pub text_builds : (text : List ℕ) (ctrl temp base : ℕ) (source : SourceOf) → source_in text ≡ Ok source → built text ctrl temp base ≡ source_built source (stack_sizes ctrl temp) base
 unfolding built
-text_builds text ctrl temp base source h = ap (λ (r : Result SourceOf BuildFault). r >>= λ source. source_built source (stack_words temp ctrl) base) h
+text_builds text ctrl temp base source h = ap (λ (r : Result SourceOf BuildFault). r >>= λ source. source_built source (stack_sizes ctrl temp) base) h

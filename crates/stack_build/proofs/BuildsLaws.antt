@@ -6,7 +6,7 @@ use Rattle.fm_image.specs.Image.{ImageOf, is_image}
 use Rattle.fm_loader.specs.Values.{values_in}
 use Rattle.fm_image.specs.Spelling.{spelling}
 use Rattle.piton_syntax.specs.Systems.{SystemOf}
-use Rattle.piton_check.specs.Answers.{CheckedOf, IsChecked}
+use Rattle.piton_check.specs.PitonChecking.{CheckedOf, IsChecked}
 use Rattle.piton_check.specs.Instruction.{SystemView}
 use Rattle.piton_check.specs.Resolved.{resolved}
 use Rattle.piton_check.specs.Sound.{IsSound}
@@ -17,13 +17,13 @@ use Rattle.piton_linker.specs.Theorem.{RunsOnProcessor, PitonRunsOnProcessor}
 use Rattle.gypsy_syntax.specs.Sources.{SourceOf}
 use Rattle.gypsy_syntax.specs.Resolved.{program_of}
 use Rattle.gypsy_check.specs.Accepted.{IsAccepted}
-use Rattle.gypsy_space.specs.Needs.{Words, stack_words}
+use Rattle.gypsy_space.specs.Needs.{StackSizes, stack_sizes}
 use Rattle.gypsy_codegen.specs.Generated.{generated_view}
 use Rattle.gypsy_codegen.specs.Whole.{MeaningRuns}
 use Rattle.gypsy_codegen.specs.Moments.{EachMomentIsReached}
 use Rattle.gypsy_codegen.specs.Acceptable.{LimitsFit, GeneratedIsAcceptable}
 use Rattle.gypsy_codegen.specs.Text.{generated}
-use Rattle.gypsy_codegen.specs.Answers as generating
+use Rattle.gypsy_codegen.specs.Generation as generating
 use Rattle.gypsy_codegen.proofs.AnswerLaws.{limits_fit}
 use Rattle.stack_build.specs.Formals.{shown_formals, shown_conditions}
 use Rattle.stack_build.specs.Image.{source_tables, image_on, image_of}
@@ -34,7 +34,7 @@ use Rattle.stack_build.specs.Build.{BuiltOf, source_in, generated_by, built_with
 use Rattle.stack_build.specs.Joined.{BuiltImplements, BuiltTakesValues}
 use Rattle.stack_build.proofs.TakesLaws.{takes_values}
 use Rattle.stack_build.proofs.KnownLaws.{source_is_accepted}
-use Rattle.stack_text.specs.Results.{◌>>=◌}
+use Rattle.stack_text.specs.Results.{◌>>=◌, unless_fault}
 use Rattle.stack_build.proofs.ImageLimits.{generated_shows}
 use Rattle.stack_build.proofs.ImageBytes.{file_spells}
 use Rattle.stack_build.proofs.TableLaws.{tables_fit}
@@ -42,7 +42,7 @@ use Rattle.stack_build.proofs.ShortLaws.{text_builds_if}
 use Rattle.stack_build.proofs.Implementing.{RunsAsMeant, image_implements}
 use Rattle.stack_build.proofs.MomentLaws.{MomentsAsMeant, keeps_moments, stays_unfinished}
 
-module _ (s : SourceOf) (sizes : Words) (base : ℕ) (accepted : IsAccepted s) (sound : IsSound (generated_view (program_of s) sizes base))
+module _ (s : SourceOf) (sizes : StackSizes) (base : ℕ) (accepted : IsAccepted s) (sound : IsSound (generated_view (program_of s) sizes base))
     (theorem : RunsOnProcessor (generated_view (program_of s) sizes base)) (runs : RunsAsMeant (program_of s) sizes (generated_view (program_of s) sizes base))
     (moments : MomentsAsMeant (program_of s) sizes (generated_view (program_of s) sizes base))
     (small : (placed (generated_view (program_of s) sizes base)).size ≤ 2 ^ 20) where
@@ -64,7 +64,7 @@ module _ (s : SourceOf) (sizes : Words) (base : ℕ) (accepted : IsAccepted s) (
       }
 
 -- what was made by generating and linking
-pub made_builds : (s : SourceOf) (sizes : Words) (base : ℕ) (piton : CheckedOf) (image : ImageOf) (bytes : List ℕ) → IsAccepted s → IsChecked piton → generating.SystemImplements s sizes base piton →
+pub made_builds : (s : SourceOf) (sizes : StackSizes) (base : ℕ) (piton : CheckedOf) (image : ImageOf) (bytes : List ℕ) → IsAccepted s → IsChecked piton → generating.SystemImplements s sizes base piton →
     RunsOnProcessor (system_in piton) → (placed (system_in piton)).size ≤ 2 ^ 20 → image ≡ image_on s (system_in piton) → bytes ≡ spelling image →
     Builds s sizes record { piton = piton; image = image; bytes = bytes }
 unfolding image_of
@@ -78,7 +78,7 @@ made_builds s sizes base piton image bytes accepted is meant theorem small image
 -- ---- what is built of a source, and of a text
 
 module _ (meaning_runs : MeaningRuns) (each_moment : EachMomentIsReached) (acceptable : GeneratedIsAcceptable) (piton_runs : PitonRunsOnProcessor) where
-  source_builds : (s : SourceOf) (sizes : Words) (base : ℕ) → IsAccepted s → base ≤ 2 ^ 31 → IfOk (source_built s sizes base) (Builds s sizes)
+  source_builds : (s : SourceOf) (sizes : StackSizes) (base : ℕ) → IsAccepted s → base ≤ 2 ^ 31 → IfOk (source_built s sizes base) (Builds s sizes)
   unfolding source_built linked_of
   source_builds s sizes base accepted low = by_fault (generating.size_fault (program_of s) sizes) refl
     where
@@ -97,7 +97,7 @@ module _ (meaning_runs : MeaningRuns) (each_moment : EachMomentIsReached) (accep
           (record { system = generated s sizes base; resolved = resolved (generated s sizes base) })
 
       by_fault : (f : Option GenFault) → generating.size_fault (program_of s) sizes ≡ f →
-          IfOk (generated_by (generating.unless_fault f (generated s sizes base)) >>= linked_of s sizes base) (Builds s sizes)
+          IfOk (generated_by (unless_fault f (generated s sizes base)) >>= linked_of s sizes base) (Builds s sizes)
       by_fault None e = by_size (limits_fit (program_of s) sizes base low e) (nat_lt (2 ^ 20) (placed_size s sizes base)) refl
       by_fault (Some f) e = tt
 
@@ -105,12 +105,12 @@ module _ (meaning_runs : MeaningRuns) (each_moment : EachMomentIsReached) (accep
   unfolding built
   built_implements text ctrl temp base short low = by_source (source_in text) refl
     where
-      by_source : (r : Result SourceOf BuildFault) → source_in text ≡ r → IfOk (r >>= λ source. source_built source (stack_words temp ctrl) base) (BuildsText text ctrl temp)
-      by_source (Ok s) read = text_builds_if text ctrl temp s (source_built s (stack_words temp ctrl) base) read (source_builds s (stack_words temp ctrl) base (source_is_accepted text short s read) low)
+      by_source : (r : Result SourceOf BuildFault) → source_in text ≡ r → IfOk (r >>= λ source. source_built source (stack_sizes ctrl temp) base) (BuildsText text ctrl temp)
+      by_source (Ok s) read = text_builds_if text ctrl temp s (source_built s (stack_sizes ctrl temp) base) read (source_builds s (stack_sizes ctrl temp) base (source_is_accepted text short s read) low)
       by_source (Err f) read = tt
 
   -- what was built has the image of the source
-  built_image : (s : SourceOf) (sizes : Words) (base : ℕ) (b : BuiltOf) → source_built s sizes base ≡ Ok b → image_of s sizes base ≡ b.image
+  built_image : (s : SourceOf) (sizes : StackSizes) (base : ℕ) (b : BuiltOf) → source_built s sizes base ≡ Ok b → image_of s sizes base ≡ b.image
   unfolding source_built linked_of
   built_image s sizes base b = by_fault (generating.size_fault (program_of s) sizes)
     where
@@ -118,14 +118,14 @@ module _ (meaning_runs : MeaningRuns) (each_moment : EachMomentIsReached) (accep
       by_size true h = cc
       by_size false h = let same : built_with s sizes base (generated s sizes base) ≡ b = cc in ap (λ (made : BuiltOf). made.image) same
 
-      by_fault : (f : Option GenFault) → (generated_by (generating.unless_fault f (generated s sizes base)) >>= linked_of s sizes base) ≡ Ok b → image_of s sizes base ≡ b.image
+      by_fault : (f : Option GenFault) → (generated_by (unless_fault f (generated s sizes base)) >>= linked_of s sizes base) ≡ Ok b → image_of s sizes base ≡ b.image
       by_fault None h = by_size (nat_lt (2 ^ 20) (placed_size s sizes base)) h
       by_fault (Some f) h = cc
 
   pub built_takes_values : BuiltTakesValues
   unfolding built
   built_takes_values text ctrl temp base s b values_text values short low read made h =
-      let sizes = stack_words temp ctrl in
+      let sizes = stack_sizes ctrl temp in
       let accepted = source_is_accepted text short s read in
       let from : source_built s sizes base ≡ Ok b = sym (ap (λ (r : Result SourceOf BuildFault). r >>= λ source. source_built source sizes base) read) ∙ made in
       let same = built_image s sizes base b from in

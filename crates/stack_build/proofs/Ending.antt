@@ -9,8 +9,8 @@ use Rattle.display_maps.specs.Reading.{named_or_odd, condition_of, space_name}
 use Rattle.gypsy_syntax.specs.Programs.{Leave, Routine, Space, Declared, Program, proc_at}
 use Rattle.gypsy_syntax.specs.ProgramFits.{ProgramFits}
 use Rattle.gypsy_space.specs.Costs.{Tally}
-use Rattle.gypsy_space.specs.Needs.{Words}
-use Rattle.gypsy_meaning.specs.Calls.{Way}
+use Rattle.gypsy_space.specs.Needs.{StackSizes}
+use Rattle.gypsy_meaning.specs.Calls.{CurrentCondition}
 use Rattle.gypsy_meaning.specs.Counted.{CountedDone, counted_meaning}
 use Rattle.gypsy_meaning.specs.Machine.{State, Move, Next, Ended, gypsy_step, Ending, Over, go_on, run, start}
 use Rattle.gypsy_meaning.specs.Kept.{VarsFit, StateFits, EndFits, MoveFits}
@@ -20,11 +20,11 @@ use Rattle.gypsy_codegen.specs.WordsOf.{number_of_way}
 use Rattle.stack_build.specs.Implements.{way_shown}
 
 -- values that fit main's formals, and a condition that main may end with
-pub record EndsWell (q : Program) (x : List ValueOf) (c : Way) : Type 0 where
+pub record EndsWell (q : Program) (x : List ValueOf) (c : CurrentCondition) : Type 0 where
   pub values : VarsFit (proc_at q q.main).formals x
   pub way : EndFits q c
 
-module _ (q : Program) (sizes : Words) (fits : ProgramFits q) (x : List ValueOf) (c : Way) (t : Tally) where
+module _ (q : Program) (sizes : StackSizes) (fits : ProgramFits q) (x : List ValueOf) (c : CurrentCondition) (t : Tally) where
   move_ends : (m : Move) (rest : State → Ending) → MoveFits q m → ((g : State) → StateFits q g → rest g ≡ Over x c t → EndsWell q x c) → go_on m rest ≡ Over x c t → EndsWell q x c
   move_ends (Next g) rest f later e = later g f e
   move_ends (Ended y d u) rest f later e =
@@ -62,7 +62,7 @@ own_read names i lt =
     ∙ ap (λ o. named_or_odd o (suc (suc (suc (suc i))))) (slice_get-get_or names i [] lt)
 
 -- the number of what a program ends with is read as that
-pub way_read : (q : Program) (names : List (List ℕ)) (c : Way) → EndFits q c → length names ≡ (proc_at q q.main).conds → condition_of (space_name ∷ names) (number_of_way c) ≡ way_shown names c
+pub way_read : (q : Program) (names : List (List ℕ)) (c : CurrentCondition) → EndFits q c → length names ≡ (proc_at q q.main).conds → condition_of (space_name ∷ names) (number_of_way c) ≡ way_shown names c
 unfolding condition_of
 way_read q names None f e = refl
 way_read q names (Some Leave) f e = refl

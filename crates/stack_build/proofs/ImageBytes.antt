@@ -1,9 +1,10 @@
 -- How many bytes the file of a system's image has, and that it spells the image.
 use Rattle.std.proofs.Common.{◌≡◌, ◌≤◌, ◌+◌, ◌-◌, ◌*◌, ◌&&◌, ℕ, List, [], ◌∷◌, ◌++◌, length, map, leb, true, refl, arith, length-append}
-use Rattle.std.specs.Prelude.{◌^◌, IsTrue, nat_le, not}
-use Rattle.std.specs.List.{list_all, flat_map}
-use Rattle.std.proofs.lemmas.Bool.{and_parts, leb-true}
-use Rattle.stack_text.specs.Names.{is_name, begins_with_letter, is_name_byte, is_truth_word}
+use Rattle.std.specs.Prelude.{◌^◌, IsTrue}
+use Rattle.std.specs.List.{flat_map}
+use Rattle.std.proofs.lemmas.Bool.{and_parts}
+use Rattle.stack_text.specs.Names.{is_name}
+use Rattle.stack_text.proofs.SharedLaws.{name_few}
 use Rattle.fm_image.specs.declared.slot.Slot.{Slot}
 use Rattle.fm_image.specs.declared.window.Window.{Window}
 use Rattle.fm_image.specs.Image.{ImageOf, Tables, tables_of, window_of, is_new, is_condition, is_slot, is_slot_address, are_tables, all_after, is_image}
@@ -14,20 +15,13 @@ use Rattle.piton_check.specs.Sound.{IsSound}
 use Rattle.piton_machine.specs.Placed.{placed}
 use Rattle.gypsy_syntax.specs.declared.literal.Decl.{Decl}
 use Rattle.stack_build.specs.Image.{image_with}
-use Rattle.stack_build.specs.Showing.{Shows}
+use Rattle.stack_build.specs.Scaffold.Showing.{Shows}
 use Rattle.stack_build.proofs.WordsLaws.{words-trimmed, placed_are_words, registers_are_words}
 use Rattle.stack_build.proofs.ImageLimits.{placed_window, system_fits}
 
 length-numbers_bytes : (numbers : List ℕ) → length (numbers_bytes numbers) ≡ 4 * length numbers
 length-numbers_bytes [] = refl
 length-numbers_bytes (number ∷ numbers) = let rest = length-numbers_bytes numbers in omega arith
-
--- a name has at most 64 bytes
-name_few : (name : List ℕ) → is_name name ≡ true → length name ≤ 64
-name_few name h =
-    let a = and_parts (begins_with_letter name && list_all is_name_byte name && nat_le (length name) 64) (not (is_truth_word name)) h in
-    let b = and_parts (begins_with_letter name && list_all is_name_byte name) (nat_le (length name) 64) a.0 in
-    leb-true (length name) 64 b.1
 
 names_few : (earlier names : List (List ℕ)) → all_after is_condition earlier names ≡ true → length (flat_map name_bytes names) ≤ 68 * length names
 unfolding all_after

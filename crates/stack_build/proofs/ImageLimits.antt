@@ -13,7 +13,7 @@ use Rattle.stack_text.specs.declared.shape.Shape.{Shape}
 use Rattle.stack_text.specs.Values.{ValueOf, item_count}
 use Rattle.fm_image.specs.declared.slot.Slot.{Slot}
 use Rattle.fm_image.specs.declared.window.Window.{Window}
-use Rattle.fm_image.specs.Image.{ImageOf, Tables, window_of, are_tables, is_slot_address, all_after, is_image}
+use Rattle.fm_image.specs.Image.{ImageOf, Tables, window_of, is_size, is_inside, are_tables, is_slot_address, all_after, is_image}
 use Rattle.fm_image.proofs.LimitLaws.{from_limits}
 use Rattle.fm_image.proofs.NameLaws.{fits_window, slots_fit, conditions_fit}
 use Rattle.display_maps.specs.Reading.{space_name}
@@ -31,19 +31,20 @@ use Rattle.gypsy_check.specs.Accepted.{IsAccepted}
 use Rattle.gypsy_check.specs.Declarations.{variables_of, conditions_of, repeats}
 use Rattle.gypsy_check.specs.Rules.{type_breaches, local_breaches, is_reserved, condition_breaches, variable_breaches, condition_name_breaches, size_breaches, statement_breaches, procedure_breaches}
 use Rattle.gypsy_syntax.specs.Resolved.{variable_types}
-use Rattle.gypsy_check.proofs.CleanLaws.{two, three, four, fails}
-use Rattle.gypsy_space.specs.Needs.{Words}
+use Rattle.gypsy_check.proofs.CleanLaws.{three, four}
+use Rattle.gypsy_space.specs.Needs.{StackSizes}
 use Rattle.gypsy_codegen.specs.WordsOf.{words_of_values, zero_value}
 use Rattle.gypsy_codegen.specs.Generated.{generated_view}
-use Rattle.gypsy_codegen.proofs.DeclareLaws.{Unlike, Differ, differ_source, like_sym}
+use Rattle.gypsy_codegen.proofs.DeclareLaws.{Unlike, Differ, differ_source}
 use Rattle.gypsy_meaning.proofs.Keeping.{vars_join, locals_fit}
 use Rattle.stack_text.specs.Grammar.Parts.{IsNamed}
+use Rattle.stack_text.proofs.SharedLaws.{rule_fails, append_none, bytes_apart}
 use Rattle.gypsy_syntax.specs.Fits.{FitsDecl}
 use Rattle.piton_linker.specs.Layouts.{trimmed}
 use Rattle.gypsy_codegen.proofs.StackLaws.{values_words}
 use Rattle.stack_build.specs.Formals.{formals_in, conditions_in, shown_formals, shown_conditions}
 use Rattle.stack_build.specs.Image.{slots_from, image_with}
-use Rattle.stack_build.specs.Showing.{AreShort, shapes_in, Shows}
+use Rattle.stack_build.specs.Scaffold.Showing.{AreShort, shapes_in, Shows}
 use Rattle.stack_build.proofs.Windows.{shorter}
 use Rattle.stack_build.proofs.MainLaws.{IsMain, main_is, zero_values}
 
@@ -56,7 +57,7 @@ distinct_names (name ∷ names) h = (others names h.0, distinct_names names h.1)
   where
     others : (names : List (List ℕ)) → Unlike name names → AllByRecursion (λ other. bytes_eq name other ≡ false) names
     others [] u = tt
-    others (other ∷ names) u = (like_sym other name u.0, others names u.1)
+    others (other ∷ names) u = (bytes_apart other name u.0, others names u.1)
 
 unlike_front : (name : List ℕ) (xs ys : List (List ℕ)) → Unlike name (xs ++ ys) → Unlike name xs
 unlike_front name [] ys u = tt
@@ -86,19 +87,19 @@ not_space c e = false_from_ne_true (bytes_eq space_name c.name) is_not
     is_not : bytes_eq space_name c.name ≡ true → ⊥
     is_not k =
         let same : space_name ≡ c.name = (bytes_eq-Decides space_name c.name).0 k in
-        true≢false (ap is_reserved same ∙ fails (is_reserved c.name) c.place 6 e)
+        true≢false (ap is_reserved same ∙ rule_fails (is_reserved c.name) c.place 6 e)
 
 pub others_than_space : (cs ds : List Named) → flat_map condition_breaches (cs ++ ds) ≡ [] → AllByRecursion (λ other. bytes_eq space_name other ≡ false) (map (λ (n : Named). n.name) cs)
 others_than_space [] ds e = tt
 others_than_space (c ∷ cs) ds e =
-    let h = two (condition_breaches c) (flat_map condition_breaches (cs ++ ds)) e in
+    let h = append_none (condition_breaches c) (flat_map condition_breaches (cs ++ ds)) e in
     (not_space c h.0, others_than_space cs ds h.1)
 
 conditions_differ : (s : SourceOf) (p : ProcOf) → procedure_breaches s p ≡ [] → IsDistinct bytes_eq (conditions_in (Some p))
 unfolding IsDistinct
 conditions_differ s p e =
     let h = four (variable_breaches p) (condition_name_breaches p) (size_breaches p) (statement_breaches s p false p.body) e in
-    let k = two (repeats 5 [] (conditions_of p)) (flat_map condition_breaches (conditions_of p)) h.1 in
+    let k = append_none (repeats 5 [] (conditions_of p)) (flat_map condition_breaches (conditions_of p)) h.1 in
     let all = subst Differ (map-append (λ (n : Named). n.name) p.conds p.local_conds) (differ_source 5 [] (conditions_of p) k.0) in
     (others_than_space p.conds p.local_conds k.1, distinct_names (map (λ (n : Named). n.name) p.conds) (differ_front (map (λ (n : Named). n.name) p.conds) (map (λ (n : Named). n.name) p.local_conds) all))
 
@@ -133,11 +134,30 @@ each_fits window a (d ∷ ds) named few low high =
 abbrev pub placed_window : SystemView → Window
 placed_window s = record { base = s.base; size = (placed s).size; final_pc = (placed s).final_pc }
 
+-- its window is one that images may have, and has room for its words
+pub record PlacedFits (s : SystemView) : Type 0 where
+  pub sized : is_size s.base (placed s).size ≡ true
+  pub inside : is_inside s.base (placed s).size (placed s).final_pc ≡ true
+  pub few : length (trimmed (placed s).words) ≤ (placed s).size
+
+pub placed_fits : (s : SystemView) → IsSound s → (placed s).size ≤ 2 ^ 20 → PlacedFits s
+placed_fits s sound small =
+    let long = length-placed s (known s sound) in
+    let size : ℕ = (placed s).size in
+    let low = sound.low_base in
+    let some = sound.some_temp in
+    record {
+      sized = and_from _ _ (and_from _ _ (le-leb 1 size (omega arith)) (le-leb size 1048576 (omega arith))) (le-leb (s.base + size) 4294967295 (omega arith));
+      inside = and_from _ _ (le-leb s.base (final_pc_of s) (omega arith)) (lt-ltb (final_pc_of s) (s.base + size) (omega arith));
+      few = omega (arith, shorter (placed s).words);
+    }
+
 pub system_fits : (s : SystemView) (ds : List Decl) (conditions : List (List ℕ)) (tables : Tables) → IsSound s → (placed s).size ≤ 2 ^ 20 → Shows s ds conditions →
     are_tables (placed_window s) tables ≡ true → IsTrue (is_image (image_with ds conditions tables s))
 unfolding all_after
 system_fits s ds conditions tables sound small shows fit_tables =
     let image : ImageOf = image_with ds conditions tables s in
+    let fits = placed_fits s sound small in
     let long = length-placed s (known s sound) in
     let size : ℕ = (placed s).size in
     let low = sound.low_base in
@@ -148,7 +168,7 @@ system_fits s ds conditions tables sound small shows fit_tables =
     from_limits image record {
       version = refl;
       tables = fit_tables;
-      window = and_from _ _ (and_from _ _ (and_from _ _ (le-leb 1 size (omega arith)) (le-leb size 1048576 (omega arith))) (le-leb (s.base + size) 4294967295 (omega arith))) (and_from _ _ (le-leb s.base (final_pc_of s) (omega arith)) (lt-ltb (final_pc_of s) (s.base + size) (omega arith)));
+      window = and_from _ _ fits.sized fits.inside;
       registers = refl;
       condition_address = and_from _ _ (le-leb s.base (areas_start s) (omega arith)) (lt-ltb (areas_start s) (s.base + size) (omega arith));
       condition_count = le-leb _ 201 shows.conditions_few;
@@ -156,7 +176,7 @@ system_fits s ds conditions tables sound small shows fit_tables =
       slot_count = le-leb _ 200 (let few = shows.formals_few in let count = length-slots_from (end_of s - 1) ds in omega arith);
       slots = slots_fit (window_of image) image.slots (each_fits (window_of image) (end_of s - 1) ds shows.formals_named shows.formals_short (omega arith) (omega arith))
           (subst (IsDistinct bytes_eq) (sym (names-slots_from (end_of s - 1) ds)) shows.formals_differ);
-      words = le-leb (length (trimmed (placed s).words)) size (omega (arith, shorter (placed s).words));
+      words = le-leb (length (trimmed (placed s).words)) size fits.few;
     }
 
 -- ---- the image of a source
@@ -169,7 +189,7 @@ words_front : (a b : List Shape) → words_of a ≤ words_of (a ++ b)
 words_front [] b = omega arith
 words_front (s ∷ a) b = omega (arith, words_front a b)
 
-main_shows : (s : SourceOf) (sizes : Words) (base : ℕ) (p : ProcOf) → IsAccepted s → IsMain s p → Shows (generated_view (program_of s) sizes base) p.formals (conditions_in (Some p))
+main_shows : (s : SourceOf) (sizes : StackSizes) (base : ℕ) (p : ProcOf) → IsAccepted s → IsMain s p → Shows (generated_view (program_of s) sizes base) p.formals (conditions_in (Some p))
 main_shows s sizes base p accepted main =
     let q : Program = program_of s in
     let c : Proc = proc_at q q.main in
@@ -193,7 +213,7 @@ main_shows s sizes base p accepted main =
     }
 
 -- what is asked of the image holds of each accepted source
-pub generated_shows : (s : SourceOf) (sizes : Words) (base : ℕ) (system : SystemView) → IsAccepted s → system ≡ generated_view (program_of s) sizes base →
+pub generated_shows : (s : SourceOf) (sizes : StackSizes) (base : ℕ) (system : SystemView) → IsAccepted s → system ≡ generated_view (program_of s) sizes base →
     Shows system (shown_formals s) (shown_conditions s)
 generated_shows s sizes base system accepted is =
     let main = main_is s accepted in

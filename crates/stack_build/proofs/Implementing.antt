@@ -9,7 +9,7 @@ use Rattle.stack_text.specs.Values.{ValueOf}
 use Rattle.fm_image.specs.Image.{Tables}
 use Rattle.piton_check.specs.Instruction.{SystemView}
 use Rattle.piton_check.specs.Sound.{IsSound}
-use Rattle.piton_machine.specs.Seen.{started}
+use Rattle.piton_machine.specs.Seen.StateView.{started}
 use Rattle.piton_linker.specs.Theorem.{RunsOnProcessor, PitonRunsOnProcessor}
 use Rattle.gypsy_syntax.specs.declared.literal.Decl.{Decl}
 use Rattle.gypsy_syntax.specs.Sources.{ProcOf, SourceOf}
@@ -17,8 +17,8 @@ use Rattle.gypsy_syntax.specs.Programs.{Proc, Program, proc_at}
 use Rattle.gypsy_syntax.specs.Resolved.{program_of}
 use Rattle.gypsy_check.specs.Accepted.{IsAccepted}
 use Rattle.gypsy_space.specs.Costs.{Tally}
-use Rattle.gypsy_space.specs.Needs.{Words}
-use Rattle.gypsy_meaning.specs.Calls.{Way, main_start}
+use Rattle.gypsy_space.specs.Needs.{StackSizes}
+use Rattle.gypsy_meaning.specs.Calls.{CurrentCondition, main_start}
 use Rattle.gypsy_meaning.specs.Meaning.{Done, meaning}
 use Rattle.gypsy_meaning.specs.Counted.{CountedOutcome, CountedDone, counted_meaning, tally_of}
 use Rattle.gypsy_meaning.specs.Kept.{VarsFit}
@@ -30,26 +30,26 @@ use Rattle.stack_build.specs.Formals.{formals_in, formal_conditions_in, conditio
 use Rattle.stack_build.specs.Image.{image_with, source_tables, image_of}
 use Rattle.stack_build.specs.Implements.{variable_shown, way_shown, ComesTo, Implements}
 use Rattle.stack_build.specs.Joined.{GeneratedImageImplements}
-use Rattle.stack_build.specs.Showing.{shapes_in}
+use Rattle.stack_build.specs.Scaffold.Showing.{shapes_in}
 use Rattle.stack_build.proofs.Ending.{ends_well, way_read}
 use Rattle.stack_build.proofs.Joining.{image_comes}
 use Rattle.stack_build.proofs.MainLaws.{IsMain, main_is, zero_values}
 
 -- where the meaning is done, this system halts with the same
-abbrev pub RunsAsMeant : Program → Words → SystemView → Type 0
+abbrev pub RunsAsMeant : Program → StackSizes → SystemView → Type 0
 RunsAsMeant q sizes system =
-    (v : List ValueOf) (n : ℕ) (x : List ValueOf) (c : Way) → VarsFit (proc_at q q.main).formals v → meaning q sizes v n ≡ Done x c →
+    (v : List ValueOf) (n : ℕ) (x : List ValueOf) (c : CurrentCondition) → VarsFit (proc_at q q.main).formals v → meaning q sizes v n ≡ Done x c →
     (t : Tally) × (counted_meaning q sizes v n ≡ CountedDone x c t) × RunsTo system (started system (words_of_values (main_start q v))) x c t
 
 -- what the image of a source shows, by its main procedure
-abbrev ComesAs : Option ProcOf → Tables → SystemView → List ValueOf → List ValueOf → Way → ℕ → Type 0
+abbrev ComesAs : Option ProcOf → Tables → SystemView → List ValueOf → List ValueOf → CurrentCondition → ℕ → Type 0
 ComesAs main tables system v x c count =
     ComesTo (image_with (formals_in main) (conditions_in main) tables system) v count
     record { condition = Some (way_shown (formal_conditions_in main) c); items = map variable_shown (zip (map (λ (d : Decl). d.name.name) (formals_in main)) x) }
 
-module _ (s : SourceOf) (sizes : Words) (base : ℕ) (accepted : IsAccepted s) (sound : IsSound (generated_view (program_of s) sizes base))
+module _ (s : SourceOf) (sizes : StackSizes) (base : ℕ) (accepted : IsAccepted s) (sound : IsSound (generated_view (program_of s) sizes base))
     (theorem : RunsOnProcessor (generated_view (program_of s) sizes base)) (runs : RunsAsMeant (program_of s) sizes (generated_view (program_of s) sizes base)) where
-  comes : (p : ProcOf) → IsMain s p → (v x : List ValueOf) (c : Way) (n : ℕ) → VarsFit (proc_at (program_of s) (program_of s).main).formals v → meaning (program_of s) sizes v n ≡ Done x c →
+  comes : (p : ProcOf) → IsMain s p → (v x : List ValueOf) (c : CurrentCondition) (n : ℕ) → VarsFit (proc_at (program_of s) (program_of s).main).formals v → meaning (program_of s) sizes v n ≡ Done x c →
       (t : Tally) × (counted_meaning (program_of s) sizes v n ≡ CountedDone x c t) × ComesAs (Some p) (source_tables s (generated_view (program_of s) sizes base)) (generated_view (program_of s) sizes base) v x c t.count
   unfolding main_start
   comes p main v x c n fits done =

@@ -1,5 +1,5 @@
 -- A run of an image that keeps to its source at every moment stays inside the window.
-use Rattle.std.proofs.Common.{◌≡◌, ◌≤◌, ◌+◌, ℕ, List, Bool, true, false, cond, Result, Ok, Err, refl, sym, ap, subst, ◌∙◌, ⊎_elim}
+use Rattle.std.proofs.Common.{◌≡◌, ◌+◌, List, Bool, true, false, cond, Result, Ok, Err, refl, sym, ap, subst, ◌∙◌, ⊎_elim}
 use Rattle.std.specs.Prelude.{◌^◌, IsOk, nat_lt}
 use Rattle.std.proofs.lemmas.Bool.{cases_lt}
 use Rattle.stack_text.specs.Results.{◌>>=◌}
@@ -13,9 +13,9 @@ use Rattle.fm_loader.specs.Loaded.{loaded}
 use Rattle.piton_syntax.specs.Systems.{SystemOf}
 use Rattle.gypsy_syntax.specs.Resolved.{program_of}
 use Rattle.gypsy_syntax.specs.Sources.{SourceOf}
-use Rattle.gypsy_space.specs.Needs.{Words, stack_words}
+use Rattle.gypsy_space.specs.Needs.{StackSizes, stack_sizes}
 use Rattle.gypsy_meaning.specs.Machine.{At, Move, Next, Ended}
-use Rattle.gypsy_codegen.specs.Answers.{generation}
+use Rattle.gypsy_codegen.specs.Generation.{generation}
 use Rattle.gypsy_codegen.specs.declared.fault.GenFault.{GenFault}
 use Rattle.gypsy_codegen.specs.Moments.{moment_from}
 use Rattle.gypsy_codegen.proofs.MomentLaws.{counts_grow}
@@ -34,7 +34,7 @@ not_refused (Ok t) e is ok = absurd cc
 not_refused (Err x) e is ok = absurd cc
 
 -- Each step costs an instruction at least, so after enough of them the machine has come past the count, or to the end.
-pub keeps_inside : (s : SourceOf) (sizes : Words) (image : ImageOf) → KeepsMoments image s sizes → (values : List ValueOf) → FitsFormals s values → RunsInside image values
+pub keeps_inside : (s : SourceOf) (sizes : StackSizes) (image : ImageOf) → KeepsMoments image s sizes → (values : List ValueOf) → FitsFormals s values → RunsInside image values
 keeps_inside s sizes image keeps values fits k m e runs avoids out =
     by_moment (moment_from (program_of s) sizes values (k + 1)) refl (keeps values (k + 1) fits)
   where
@@ -54,18 +54,18 @@ unfolding built source_built linked_of image_of
 built_at_base text ctrl temp base b = by_source (source_in text)
   where
     by_size : (s : SourceOf) (system : SystemOf) (large : Bool)
-        → cond large (Err (TooManyWords (placed_size s (stack_words temp ctrl) base))) (Ok (built_with s (stack_words temp ctrl) base system)) ≡ Ok b → b.image.base ≡ base
+        → cond large (Err (TooManyWords (placed_size s (stack_sizes ctrl temp) base))) (Ok (built_with s (stack_sizes ctrl temp) base system)) ≡ Ok b → b.image.base ≡ base
     by_size s system true h = absurd cc
     by_size s system false h =
-        let same : built_with s (stack_words temp ctrl) base system ≡ b = cc in
+        let same : built_with s (stack_sizes ctrl temp) base system ≡ b = cc in
         sym (ap (λ (made : BuiltOf). made.image.base) same)
 
-    by_system : (s : SourceOf) (r : Result SystemOf GenFault) → (generated_by r >>= linked_of s (stack_words temp ctrl) base) ≡ Ok b → b.image.base ≡ base
-    by_system s (Ok system) h = by_size s system (nat_lt (2 ^ 20) (placed_size s (stack_words temp ctrl) base)) h
+    by_system : (s : SourceOf) (r : Result SystemOf GenFault) → (generated_by r >>= linked_of s (stack_sizes ctrl temp) base) ≡ Ok b → b.image.base ≡ base
+    by_system s (Ok system) h = by_size s system (nat_lt (2 ^ 20) (placed_size s (stack_sizes ctrl temp) base)) h
     by_system s (Err fault) h = absurd cc
 
-    by_source : (r : Result SourceOf BuildFault) → (r >>= λ source. source_built source (stack_words temp ctrl) base) ≡ Ok b → b.image.base ≡ base
-    by_source (Ok s) h = by_system s (generation s (stack_words temp ctrl) base) h
+    by_source : (r : Result SourceOf BuildFault) → (r >>= λ source. source_built source (stack_sizes ctrl temp) base) ≡ Ok b → b.image.base ≡ base
+    by_source (Ok s) h = by_system s (generation s (stack_sizes ctrl temp) base) h
     by_source (Err fault) h = absurd cc
 
 -- runs of it stay inside
@@ -74,7 +74,7 @@ built_runs_inside implements text ctrl temp base source b values short low read 
     let builds : BuildsText text ctrl temp b = rw made at (implements text ctrl temp base short low) in
     let both : Ok builds.source ≡ Ok source = sym builds.read ∙ read in
     let same : builds.source ≡ source = same_source builds.source source both in
-    keeps_inside source (stack_words temp ctrl) b.image (subst (λ (s : SourceOf). KeepsMoments b.image s (stack_words temp ctrl)) same builds.builds.moments) values fits
+    keeps_inside source (stack_sizes ctrl temp) b.image (subst (λ (s : SourceOf). KeepsMoments b.image s (stack_sizes ctrl temp)) same builds.builds.moments) values fits
   where
     same_source : (x y : SourceOf) → let r : Result SourceOf BuildFault = Ok x in r ≡ Ok y → x ≡ y
     same_source x y h = cc

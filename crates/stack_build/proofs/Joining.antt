@@ -17,14 +17,14 @@ use Rattle.piton_check.specs.Instruction.{SystemView}
 use Rattle.piton_check.specs.Sound.{IsSound}
 use Rattle.piton_machine.specs.Addresses.{word_number, numbers}
 use Rattle.piton_machine.specs.Placed.{areas_start, end_of, addresses_of, final_pc_of, loaded}
-use Rattle.piton_machine.specs.Seen.{started}
+use Rattle.piton_machine.specs.Seen.StateView.{started}
 use Rattle.piton_machine.proofs.RunLaws.{steps_run, steps_cost}
 use Rattle.piton_machine.proofs.SoundLaws.{known}
 use Rattle.piton_linker.specs.Theorem.{ComesToStand, RunsOnProcessor}
 use Rattle.gypsy_syntax.specs.declared.literal.Decl.{Decl}
 use Rattle.gypsy_syntax.specs.ProgramFits.{Each, ValueFits}
 use Rattle.gypsy_space.specs.Costs.{Tally}
-use Rattle.gypsy_meaning.specs.Calls.{Way}
+use Rattle.gypsy_meaning.specs.Calls.{CurrentCondition}
 use Rattle.gypsy_meaning.specs.Kept.{VarsFit}
 use Rattle.gypsy_codegen.specs.WordsOf.{words_of_values, number_of_way}
 use Rattle.gypsy_codegen.specs.Whole.{RunsTo}
@@ -32,14 +32,14 @@ use Rattle.stack_build.specs.Image.{slots_from, image_with}
 use Rattle.stack_build.specs.Implements.{variable_shown, way_shown, ComesTo}
 use Rattle.stack_build.proofs.Laying.{map-reversed, reversed_append, Holds-reversed}
 use Rattle.stack_build.proofs.Storing.{items_words}
-use Rattle.stack_build.specs.Showing.{shapes_in}
+use Rattle.stack_build.specs.Scaffold.Showing.{shapes_in}
 use Rattle.stack_build.proofs.Numbers.{values_numbers, each_fits}
 use Rattle.stack_build.proofs.Loading.{image_loaded}
 use Rattle.stack_build.proofs.Initial.{is_initial}
 use Rattle.stack_build.proofs.ReadBack.{word_read, values_read}
 
 -- a sound system whose stack begins with words of values of main's formals
-module _ (s : SystemView) (sound : IsSound s) (theorem : RunsOnProcessor s) (ds : List Decl) (conditions : List (List ℕ)) (tables : Tables) (names : List (List ℕ)) (old new finals locals : List ValueOf) (c : Way) (t : Tally)
+module _ (s : SystemView) (sound : IsSound s) (theorem : RunsOnProcessor s) (ds : List Decl) (conditions : List (List ℕ)) (tables : Tables) (names : List (List ℕ)) (old new finals locals : List ValueOf) (c : CurrentCondition) (t : Tally)
     (f : VarsFit (shapes_in ds) old) (g : VarsFit (shapes_in ds) new) (h : VarsFit (shapes_in ds) finals) (l : Each ValueFits locals)
     (is : s.stack ≡ words_of_values (old ++ locals)) (run : RunsTo s (started s (words_of_values (new ++ locals))) finals c t) where
   begin : List Word

@@ -5,7 +5,8 @@ use Rattle.stack_text.specs.declared.breach.Breach.{Breach}
 use Rattle.stack_text.specs.declared.text_fault.TextRule.{TextRule}
 use Rattle.stack_text.specs.Breaches.{least}
 use Rattle.stack_text.specs.TextFaults.{text_fault}
-use Rattle.stack_text.specs.TreeIn.{unless_fault, first_item, items_of, tree_in}
+use Rattle.stack_text.specs.TreeIn.{first_item, items_of, tree_in}
+use Rattle.stack_text.specs.Results.{unless_fault}
 use Rattle.stack_text.specs.Tokens.{between, tokens}
 use Rattle.stack_text.specs.Trees.{Node, IsWellFormed}
 use Rattle.stack_text.specs.Grammar.Judged.{Judged}
@@ -14,7 +15,7 @@ use Rattle.stack_text.proofs.TreeInLaws.{tree_in-TreeOf}
 use Rattle.stack_text.proofs.ReadLaws.{text_is_well_formed}
 use Rattle.stack_text.proofs.BreachLaws.{none_least}
 use Rattle.gypsy_syntax.specs.declared.fault.GypsyFault.{GypsyFault}
-use Rattle.gypsy_syntax.specs.Answers.{KeepsForm, judgement, gypsy_by, gypsy_in}
+use Rattle.gypsy_syntax.specs.GypsyReading.{KeepsForm, judgement, gypsy_by, gypsy_in}
 use Rattle.gypsy_syntax.specs.Grammar as grammar
 use Rattle.gypsy_syntax.specs.Sources.{SourceOf}
 use Rattle.gypsy_syntax.proofs.KeepsLaws.{read_keeps}

@@ -31,7 +31,7 @@ use Rattle.gypsy_check.specs.Accepted.{IsAccepted}
 use Rattle.gypsy_check.proofs.CleanLaws.{get_or_map}
 use Rattle.gypsy_space.specs.declared.program.Program as nodes
 use Rattle.gypsy_space.specs.declared.program.Procedure.{Procedure}
-use Rattle.gypsy_space.specs.Needs.{Words}
+use Rattle.gypsy_space.specs.Needs.{StackSizes}
 use Rattle.gypsy_space.specs.Nodes.{ProcNames, declared_names, seen_proc, seen_proc_names, seen_program}
 use Rattle.gypsy_codegen.specs.declared.marking.MarkAt.{MarkAt}
 use Rattle.gypsy_codegen.specs.Generated.{offset, generated_view}
@@ -39,7 +39,7 @@ use Rattle.gypsy_codegen.specs.Marks.{IsMarkPlace, marks_of}
 use Rattle.gypsy_codegen.proofs.MarkOrderLaws.{marks_are_places}
 use Rattle.stack_build.specs.declared.tables.FrameOrder.{FrameOrder}
 use Rattle.stack_build.specs.Image.{variable_infos, procedure_info, procedure_infos, mark_info, source_tables}
-use Rattle.stack_build.specs.Listing.{Declares, IsGenerated, offset_in, order_of, formal_infos, local_infos, frame_infos, listed_procedure, address_among, mark_among}
+use Rattle.stack_build.specs.Scaffold.Listing.{Declares, IsGenerated, offset_in, order_of, formal_infos, local_infos, frame_infos, listed_procedure, address_among, mark_among}
 
 -- ---- variables
 
@@ -212,7 +212,7 @@ address_is s m there =
     ap (λ (o : Option (List ℕ)). unwrap_or (o >>= λ row. slice_get row m.at) 0) row
     ∙ ap (λ (o : Option ℕ). unwrap_or o 0) place ∙ ap (address_of_place s m.program) at_zero
 
-pub marks_are : (q : Program) (sizes : Words) (base : ℕ) (ms : List MarkAt) → Each (IsMarkPlace q sizes base) ms →
+pub marks_are : (q : Program) (sizes : StackSizes) (base : ℕ) (ms : List MarkAt) → Each (IsMarkPlace q sizes base) ms →
     map (mark_among (places_of (generated_view q sizes base) 0 (generated_view q sizes base).programs)) ms ≡ map (mark_info (generated_view q sizes base)) ms
 marks_are q sizes base [] places = refl
 marks_are q sizes base (m ∷ ms) places =

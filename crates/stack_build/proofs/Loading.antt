@@ -6,7 +6,7 @@ use mathlib.Core.List.{reverse_aux}
 use Rattle.stack_text.specs.Values.{ValueOf}
 use Rattle.fm_words.specs.Code.{no_flags}
 use Rattle.fm_code.specs.Areas.{joined}
-use Rattle.fm_code.specs.Words.{halt_word}
+use Rattle.fm_code.specs.InstructionWords.{halt_word}
 use Rattle.fm_loader.specs.Loaded.{with_values}
 use Rattle.fm_loader.specs.Loaded as loader
 use Rattle.piton_words.specs.declared.word.Word.{Word}
@@ -24,7 +24,7 @@ use Rattle.gypsy_codegen.proofs.CopyLaws.{each_both}
 use Rattle.stack_build.specs.Image.{slots_from, image_with}
 use Rattle.stack_build.proofs.Laying.{reversed_append, map-reversed}
 use Rattle.stack_build.proofs.Storing.{items_words, split, values_stored}
-use Rattle.stack_build.specs.Showing.{shapes_in}
+use Rattle.stack_build.specs.Scaffold.Showing.{shapes_in}
 use Rattle.stack_build.proofs.Numbers.{values_numbers, each_fits, words_both}
 use Rattle.stack_build.proofs.Windows.{all_stand}
 

@@ -6,6 +6,7 @@ use Rattle.std.proofs.lemmas.List.{length-map, length-replicate}
 use Rattle.std.proofs.lemmas.List.Elements.{All-head, All-tail}
 use Rattle.stack_text.specs.declared.shape.Shape.{Shape}
 use Rattle.stack_text.specs.Values.{item_count}
+use Rattle.stack_text.proofs.SharedLaws.{append_none}
 use Rattle.gypsy_syntax.specs.Sources.{ProcOf, SourceOf}
 use Rattle.gypsy_syntax.specs.Programs.{no_proc, proc_at}
 use Rattle.gypsy_syntax.specs.Resolved.{place_among, procedure_names, procedure_of, program_of}
@@ -15,7 +16,6 @@ use Rattle.gypsy_syntax.proofs.FitsLaws.{keeps_fits}
 use Rattle.gypsy_check.specs.Accepted.{IsAccepted}
 use Rattle.gypsy_check.specs.Declarations.{procedure_at}
 use Rattle.gypsy_check.specs.Rules.{procedure_breaches}
-use Rattle.gypsy_check.proofs.CleanLaws.{two}
 use Rattle.gypsy_meaning.specs.Kept.{VarsFit}
 use Rattle.gypsy_codegen.specs.WordsOf.{zero_value}
 use Rattle.gypsy_codegen.proofs.SourceLaws.{kept}
@@ -43,8 +43,8 @@ rules_are : (s : SourceOf) (procs : List ProcOf) (i : ℕ) (p : ProcOf) → flat
 rules_are s [] i p h e = absurd cc
 rules_are s (q ∷ procs) zero p h e =
     let same : q ≡ p = cc in
-    subst (λ (r : ProcOf). procedure_breaches s r ≡ []) same (two (procedure_breaches s q) (flat_map (procedure_breaches s) procs) h).0
-rules_are s (q ∷ procs) (suc i) p h e = rules_are s procs i p (two (procedure_breaches s q) (flat_map (procedure_breaches s) procs) h).1 e
+    subst (λ (r : ProcOf). procedure_breaches s r ≡ []) same (append_none (procedure_breaches s q) (flat_map (procedure_breaches s) procs) h).0
+rules_are s (q ∷ procs) (suc i) p h e = rules_are s procs i p (append_none (procedure_breaches s q) (flat_map (procedure_breaches s) procs) h).1 e
 
 pub main_is : (s : SourceOf) → IsAccepted s → (p : ProcOf) × IsMain s p
 unfolding main_of

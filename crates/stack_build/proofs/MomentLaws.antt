@@ -7,9 +7,10 @@ use Rattle.std.proofs.lemmas.List.{length-map}
 use Rattle.stack_text.specs.declared.shape.Kind.{Kind}
 use Rattle.stack_text.specs.declared.shape.Shape.{Shape}
 use Rattle.stack_text.specs.Values.{ValueOf}
+use Rattle.stack_text.proofs.SharedLaws.{get_front, get_after, get_map}
 use Rattle.fm_words.specs.Word.{word_of_int}
 use Rattle.fm_machine.specs.State.{Fm, word_at}
-use Rattle.fm_machine.specs.Run.{fm_run, pc_of, Avoids, IsOutcome, outcome, Outcome}
+use Rattle.fm_machine.specs.Run.{fm_run, pc_of, Avoids, IsOutcome, outcome, RunOutcome}
 use Rattle.fm_machine.specs.Step as machine_step
 use Rattle.fm_machine.specs.declared.fault.Outside.{Outside}
 use Rattle.fm_machine.specs.declared.processor.Run.TheVariants as run
@@ -30,7 +31,7 @@ use Rattle.piton_machine.specs.State.{PitonState, locals_of, element}
 use Rattle.piton_machine.specs.Addresses.{Addresses, word_number, numbers}
 use Rattle.piton_machine.specs.Law.{Steps}
 use Rattle.piton_machine.specs.Placed.{areas_start, end_of, addresses_of, final_pc_of, address_of_place, loaded}
-use Rattle.piton_machine.specs.Seen.{started}
+use Rattle.piton_machine.specs.Seen.StateView.{started}
 use Rattle.piton_machine.specs.Stands.{Stands, frame_words, pointer_to, address_from, return_address}
 use Rattle.piton_machine.proofs.RunLaws.{steps_run, steps_cost}
 use Rattle.piton_machine.proofs.SoundLaws.{known}
@@ -41,29 +42,28 @@ use Rattle.gypsy_syntax.specs.Effects.{value_at}
 use Rattle.gypsy_syntax.specs.Resolved.{program_of}
 use Rattle.gypsy_syntax.specs.Sources.{ProcOf, SourceOf}
 use Rattle.gypsy_check.specs.Accepted.{IsAccepted}
-use Rattle.gypsy_check.proofs.CleanLaws.{get_map}
 use Rattle.gypsy_space.specs.Costs.{Tally}
-use Rattle.gypsy_space.specs.Needs.{Words, vars_of}
-use Rattle.gypsy_meaning.specs.Calls.{Way, main_start}
+use Rattle.gypsy_space.specs.Needs.{StackSizes, vars_of}
+use Rattle.gypsy_meaning.specs.Calls.{CurrentCondition, main_start}
 use Rattle.gypsy_meaning.specs.Counted.{CountedOutcome, CountedDone, counted_meaning, uncounted, tally_of}
 use Rattle.gypsy_meaning.specs.Kept.{VarsFit}
 use Rattle.gypsy_meaning.specs.Machine.{Item, Frame, Held, State, At, Move, Next, Ended, start}
-use Rattle.gypsy_meaning.specs.Seen.{top_way}
+use Rattle.gypsy_meaning.specs.Seen.RunView.{top_way}
 use Rattle.gypsy_meaning.proofs.CountLaws.{meaning-uncounted}
 use Rattle.gypsy_meaning.proofs.EffectLaws.{value_fits}
 use Rattle.gypsy_meaning.proofs.Runs.{agree}
 use Rattle.gypsy_predef.specs.Runs as stack
 use Rattle.gypsy_predef.specs.Runs.{word_of_item}
+use Rattle.gypsy_predef.proofs.StackLaws.{element_there}
 use Rattle.gypsy_codegen.specs.WordsOf.{words_of_values, zero_value, number_of_way}
 use Rattle.gypsy_codegen.specs.Generated.{offset, generated_view}
 use Rattle.gypsy_codegen.specs.Moments.{moment_from, AreActivations, VariableStands, ReadsAs, ComesToMark, HasMoment}
 use Rattle.gypsy_codegen.proofs.MomentLaws.{moment_over, moment_fits, counts_grow}
-use Rattle.gypsy_codegen.proofs.StackLaws.{get_front, get_after}
 use Rattle.stack_build.specs.Formals.{formals_in, conditions_in}
 use Rattle.stack_build.specs.Image.{image_with, source_tables, image_of}
 use Rattle.stack_build.specs.Implements.{Implements, meaning_shown, ComesTo}
 use Rattle.stack_build.specs.Moments.{HoldsVariable, HoldsFrames, MemoryReads, ArrivesAtMark, ArrivesAtEnd, ArrivesAt, KeepsMoments, StaysUnfinished}
-use Rattle.stack_build.specs.Showing.{shapes_in}
+use Rattle.stack_build.specs.Scaffold.Showing.{shapes_in}
 use Rattle.stack_build.proofs.Initial.{is_initial}
 use Rattle.stack_build.proofs.Loading.{image_loaded}
 use Rattle.stack_build.proofs.MainLaws.{IsMain, main_is, zero_values}
@@ -116,13 +116,6 @@ element_held A b m t k stack w h long e = by_side (nat_lt k (length stack)) refl
         let at : t + (length stack - 1 - k) ≡ A.end - 1 - k = omega (arith, lt, count, long) in
         subst (λ (a : ℕ). word_at b m a ≡ Some (word_number A w)) at
         (Holds-get b m t (length stack - 1 - k) (word_number A w) (numbers A stack) (get_map (word_number A) stack (length stack - 1 - k) w f) h)
-    by_side false is f = absurd cc
-
-element_there : (stack : List Word) (k : ℕ) (w : Word) → element stack k ≡ Some w → k < length stack
-element_there stack k w e = by_side (nat_lt k (length stack)) refl e
-  where
-    by_side : (c : Bool) → nat_lt k (length stack) ≡ c → (if c then slice_get stack (length stack - 1 - k) else None) ≡ Some w → k < length stack
-    by_side true is f = ltb-true k (length stack) is
     by_side false is f = absurd cc
 
 -- the local at an offset of the newest frame
@@ -247,11 +240,11 @@ module _ (q : Program) (s : SystemView) (m : Fm) (a : PitonState) (stands : Stan
 -- ---- the image of an accepted source
 
 -- every moment of the step machine is one of this system
-abbrev pub MomentsAsMeant : Program → Words → SystemView → Type 0
+abbrev pub MomentsAsMeant : Program → StackSizes → SystemView → Type 0
 MomentsAsMeant q sizes system =
     (v : List ValueOf) (j : ℕ) → VarsFit (proc_at q q.main).formals v → HasMoment q system (started system (words_of_values (main_start q v))) (moment_from q sizes v j)
 
-module _ (s : SourceOf) (sizes : Words) (base : ℕ) (accepted : IsAccepted s) (sound : IsSound (generated_view (program_of s) sizes base))
+module _ (s : SourceOf) (sizes : StackSizes) (base : ℕ) (accepted : IsAccepted s) (sound : IsSound (generated_view (program_of s) sizes base))
     (theorem : RunsOnProcessor (generated_view (program_of s) sizes base)) (below_32 : end_of (generated_view (program_of s) sizes base) < 2 ^ 32) where
   -- the machine that is loaded is the placed one with these words on its stack
   loaded_is : (v : List ValueOf) → VarsFit (proc_at (program_of s) (program_of s).main).formals v →
@@ -330,7 +323,7 @@ module _ (s : SourceOf) (sizes : Words) (base : ℕ) (accepted : IsAccepted s) (
       no_frames : (f : piton.Frame) (rest : List piton.Frame) → f ∷ rest ≡ [] → ⊥
       no_frames f rest e = cc
 
-  ends_at : Implements (image_of s sizes base) s sizes → (v : List ValueOf) → VarsFit (proc_at (program_of s) (program_of s).main).formals v → (j : ℕ) (x : List ValueOf) (c : Way) (t : Tally) →
+  ends_at : Implements (image_of s sizes base) s sizes → (v : List ValueOf) → VarsFit (proc_at (program_of s) (program_of s).main).formals v → (j : ℕ) (x : List ValueOf) (c : CurrentCondition) (t : Tally) →
       moment_from (program_of s) sizes v j ≡ Ended x c t → ArrivesAtEnd s (image_of s sizes base) v x c t.count
   ends_at implements v fits j x c t e =
       let q : Program = program_of s in
@@ -355,7 +348,7 @@ module _ (s : SourceOf) (sizes : Words) (base : ℕ) (accepted : IsAccepted s) (
       by_moment (Ended x c t) e h = ends_at implements v fits j x c t e
 
 -- an image that keeps to the source at every moment is unfinished at every budget where the source never ends
-pub stays_unfinished : (s : SourceOf) (sizes : Words) (image : ImageOf) → KeepsMoments image s sizes → StaysUnfinished image s sizes
+pub stays_unfinished : (s : SourceOf) (sizes : StackSizes) (image : ImageOf) → KeepsMoments image s sizes → StaysUnfinished image s sizes
 stays_unfinished s sizes image keeps v budget fits never =
     let g = never budget in
     by_state g.0 g.1 (subst (ArrivesAt s sizes image v) g.1 (keeps v budget fits))
@@ -366,4 +359,4 @@ stays_unfinished s sizes image keeps v budget fits never =
         let enough : budget ≤ t.count = counts_grow (program_of s) sizes v budget (At p x w fs t) e in
         let r = run_up_to budget t.count m a.state enough a.reached in
         let spent : IsOutcome m image.final_pc budget run.Spent r.0 = (r.1, λ i u lt there. a.goes_on i u (omega (arith, lt, enough)) there) in
-        ap (λ (o : Outcome). o.run) (outcome_only m image.final_pc budget run.Spent r.0 spent)
+        ap (λ (o : RunOutcome). o.run) (outcome_only m image.final_pc budget run.Spent r.0 spent)

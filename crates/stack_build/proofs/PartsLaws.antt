@@ -1,18 +1,17 @@
 -- An image that is made of the parts of a linked system.
 use Rattle.std.proofs.Common.{◌≡◌, ◌<◌, ◌≤◌, ◌-◌, ℕ, List, Some, true, sym, ap, subst, ◌∙◌, arith}
 use Rattle.std.specs.Prelude.{◌^◌, IsTrue}
-use Rattle.fm_words.specs.Code.{no_flags}
 use Rattle.fm_image.specs.declared.slot.Slot.{Slot}
 use Rattle.fm_image.specs.Image.{ImageOf, Tables, are_tables, is_image}
-use Rattle.piton_check.specs.Answers.{CheckedOf, IsChecked}
+use Rattle.piton_check.specs.PitonChecking.{CheckedOf, IsChecked}
 use Rattle.piton_machine.specs.Fits.{system_in}
 use Rattle.piton_machine.specs.Placed.{placed, areas_start, end_of}
 use Rattle.piton_linker.specs.declared.placement.Layout.{Layout}
-use Rattle.piton_linker.specs.Layouts.{layout_of, trimmed}
+use Rattle.piton_linker.specs.Layouts.{layout_of}
 use Rattle.piton_linker.proofs.ProcessorLaws.{checked_end}
 use Rattle.gypsy_syntax.specs.declared.literal.Decl.{Decl}
-use Rattle.stack_build.specs.Image.{slots_from, image_with}
-use Rattle.stack_build.specs.Showing.{Shows}
+use Rattle.stack_build.specs.Image.{slots_from, linked_image, image_with}
+use Rattle.stack_build.specs.Scaffold.Showing.{Shows}
 use Rattle.stack_build.proofs.ImageLimits.{placed_window, system_fits}
 
 -- its addresses are numbers of 32 bits
@@ -30,14 +29,13 @@ end_below c layout is small e =
     omega (arith, at, fits)
 
 -- it is the image of the system
-pub parts_are : (c : CheckedOf) (ds : List Decl) (conditions : List (List ℕ)) (tables : Tables) (layout : Layout) (base size final_pc : ℕ) (registers words : List ℕ) (names : List (List ℕ)) (slots : List Slot) (made : Tables) →
-    layout ≡ layout_of (system_in c) → base ≡ (system_in c).base → size ≡ (placed (system_in c)).size → final_pc ≡ (placed (system_in c)).final_pc → registers ≡ (placed (system_in c)).registers →
-    words ≡ trimmed (placed (system_in c)).words → names ≡ conditions → slots ≡ slots_from (layout.end - 1) ds → made ≡ tables →
-    (let image : ImageOf = record { version = 2; base = base; size = size; final_pc = final_pc; registers = registers; flags = no_flags; condition_address = Some layout.areas_start; conditions = names; slots = slots; words = words; procedures = made.procedures; marks = made.marks } in image)
+pub parts_are : (c : CheckedOf) (ds : List Decl) (conditions : List (List ℕ)) (tables : Tables) (layout : Layout) (linked : ImageOf) (names : List (List ℕ)) (slots : List Slot) (made : Tables) →
+    layout ≡ layout_of (system_in c) → linked ≡ linked_image (system_in c) → names ≡ conditions → slots ≡ slots_from (layout.end - 1) ds → made ≡ tables →
+    (let image : ImageOf = record linked { condition_address = Some layout.areas_start; conditions = names; slots = slots; procedures = made.procedures; marks = made.marks } in image)
     ≡ image_with ds conditions tables (system_in c)
-parts_are c ds conditions tables layout base size final_pc registers words names slots made l b n f r w m s t =
+parts_are c ds conditions tables layout linked names slots made l b m s t =
     let s' : slots ≡ slots_from (end_of (system_in c) - 1) ds = s ∙ ap (λ (p : Layout). slots_from (p.end - 1) ds) l in
-    λ i. record { version = 2; base = b i; size = n i; final_pc = f i; registers = r i; flags = no_flags; condition_address = Some (l i).areas_start; conditions = m i; slots = s' i; words = w i; procedures = (t i).procedures; marks = (t i).marks }
+    λ i. record (b i) { condition_address = Some (l i).areas_start; conditions = m i; slots = s' i; procedures = (t i).procedures; marks = (t i).marks }
 
 -- it keeps the limits
 pub parts_fit : (c : CheckedOf) (ds : List Decl) (conditions : List (List ℕ)) (tables : Tables) → IsChecked c → (placed (system_in c)).size ≤ 2 ^ 20 → Shows (system_in c) ds conditions → are_tables (placed_window (system_in c)) tables ≡ true →

@@ -1,5 +1,5 @@
 -- At each moment what is read is the state of the step machine.
-use Rattle.std.proofs.Common.{◌≡◌, ◌≢◌, ◌+◌, ◌-◌, ◌<◌, ℕ, zero, suc, ℤ, List, [], ◌∷◌, ◌++◌, length, map, Bool, Option, Some, option_map, cond, refl, sym, ap, subst, ◌∙◌, inl, inr, arith, length-append}
+use Rattle.std.proofs.Common.{◌≡◌, ◌≢◌, ◌+◌, ◌-◌, ℕ, zero, suc, ℤ, List, [], ◌∷◌, ◌++◌, length, map, Bool, Option, Some, option_map, cond, refl, sym, ap, subst, ◌∙◌, inl, inr, arith, length-append}
 use Rattle.std.specs.Prelude.{IsTrue, slice_get, get_or, if◌then◌else◌}
 use Rattle.std.specs.List.{Contains}
 use Rattle.std.proofs.lemmas.Bool.{eq-eqb, ne_eqb}
@@ -8,6 +8,7 @@ use Rattle.stack_text.specs.declared.name.Named.{Named}
 use Rattle.stack_text.specs.declared.shape.Shape.{Shape}
 use Rattle.stack_text.specs.Options.{◌>>=◌}
 use Rattle.stack_text.specs.Values.{ValueOf, item_count}
+use Rattle.stack_text.proofs.SharedLaws.{get_some}
 use Rattle.fm_words.specs.Word.{word_of_int}
 use Rattle.fm_machine.specs.State.{Fm}
 use Rattle.fm_image.specs.declared.procedure.Mark.{Mark}
@@ -30,11 +31,11 @@ use Rattle.gypsy_syntax.specs.Sources.{LocalOf, ProcOf, SourceOf}
 use Rattle.gypsy_syntax.specs.declared.literal.Decl.{Decl}
 use Rattle.gypsy_check.specs.Accepted.{IsAccepted}
 use Rattle.gypsy_check.proofs.CleanLaws.{get_or_map}
-use Rattle.gypsy_space.specs.Needs.{Words}
+use Rattle.gypsy_space.specs.Needs.{StackSizes}
 use Rattle.gypsy_meaning.specs.Kept.{VarsFit, WorkFits, StateFits}
 use Rattle.gypsy_meaning.specs.Machine.{Item, Do, Back, JoinThen, JoinOne, Guard, Out, State, At, Next, place_of}
-use Rattle.gypsy_meaning.specs.Seen.{top_way}
-use Rattle.gypsy_meaning.specs.Shown.{conditions_at, variables_at}
+use Rattle.gypsy_meaning.specs.Seen.RunView.{top_way}
+use Rattle.gypsy_meaning.specs.Seen.Shown.{conditions_at, variables_at}
 use Rattle.gypsy_codegen.specs.declared.marking.MarkAt.{MarkAt}
 use Rattle.gypsy_codegen.specs.WordsOf.{number_of_way}
 use Rattle.gypsy_codegen.specs.Generated.{offset, generated_view}
@@ -72,7 +73,7 @@ each_of P [] x h c = absurd (omega (arith, c.1))
 each_of P (m ∷ ms) x h (zero, lt, is) = subst P is h.0
 each_of P (m ∷ ms) x h (suc k, lt, is) = each_of P ms x h.1 (k, omega (arith, lt), is)
 
-module _ (q : Program) (sizes : Words) (base : ℕ) where
+module _ (q : Program) (sizes : StackSizes) (base : ℕ) where
   find_mark : (ms : List MarkAt) (x : MarkAt) → Ascend ms → Each (IsMarkPlace q sizes base) ms → Contains ms x →
       mark_there (address_of_place (generated_view q sizes base) x.program x.at) (map (mark_info (generated_view q sizes base)) ms) ≡ Some (mark_info (generated_view q sizes base) x)
   find_mark [] x up places c = absurd (omega (arith, c.1))
@@ -96,11 +97,6 @@ module _ (q : Program) (sizes : Words) (base : ℕ) where
       apart m x e (inr b) = omega (arith, e.1, b.1)
 
 -- ---- the procedure is found
-
-item_there : {A : Type 0} (xs : List A) (i : ℕ) → i < length xs → (x : A) × (slice_get xs i ≡ Some x)
-item_there [] i lt = absurd (omega (arith, lt))
-item_there (x ∷ xs) zero lt = (x, refl)
-item_there (x ∷ xs) (suc i) lt = item_there xs i (omega (arith, lt))
 
 info_at : (q : Program) (k : ℕ) (procs : List ProcOf) (i : ℕ) (proc : ProcOf) → slice_get procs i ≡ Some proc → slice_get (procedure_infos q k procs) i ≡ Some (procedure_info q (k + i) proc)
 info_at q k [] i proc e = absurd cc
@@ -174,7 +170,7 @@ module _ (run : StandingOf) (offset : ℕ → ℕ) where
 
 -- ---- all together
 
-module _ (s : SourceOf) (sizes : Words) (base : ℕ) (accepted : IsAccepted s) where
+module _ (s : SourceOf) (sizes : StackSizes) (base : ℕ) (accepted : IsAccepted s) where
   names_number : (p : ℕ) (proc : ProcOf) → proc_at (program_of s) p ≡ procedure_of s proc → length (variable_names proc) ≡ length (shapes_of (proc_at (program_of s) p))
   names_number p proc here =
       let formals = map (λ (d : Decl). shape_of d.shape) proc.formals in
@@ -205,7 +201,7 @@ module _ (s : SourceOf) (sizes : Words) (base : ℕ) (accepted : IsAccepted s) w
       let q : Program = program_of s in
       let S : SystemView = generated_view q sizes base in
       let there = proc_there q accepted.fits p fs sf.2 in
-      let found = item_there s.procs p (omega (arith, there, length-map s.procs (procedure_of s))) in
+      let found = get_some s.procs p (omega (arith, there, length-map s.procs (procedure_of s))) in
       let proc : ProcOf = found.0 in
       let here : proc_at q p ≡ procedure_of s proc = get_or_map (procedure_of s) s.procs p proc no_proc found.1 in
       let place : ℕ = place_of q (At p x w fs t) in
@@ -238,7 +234,7 @@ pub shown_moments_are_read : ShownMomentsAreRead
 shown_moments_are_read s sizes base j v run g accepted short fits e at = state_is_read s sizes base accepted short v j run g fits e (moment_fits (program_of s) sizes accepted.fits v j g fits e) at
 
 -- the machine of the image shows the state that its memory has
-memory_shows : (s : SourceOf) (sizes : Words) (base : ℕ) (m : Fm) (g : State) → IsAtMoment s sizes base m g → ShowsState s sizes (image_of s sizes base) (machine_at (image_of s sizes base) m) g
+memory_shows : (s : SourceOf) (sizes : StackSizes) (base : ℕ) (m : Fm) (g : State) → IsAtMoment s sizes base m g → ShowsState s sizes (image_of s sizes base) (machine_at (image_of s sizes base) m) g
 unfolding image_of
 memory_shows s sizes base m (At p x w fs t) at = record {
   mark = at.mark;

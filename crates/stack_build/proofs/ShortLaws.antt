@@ -11,7 +11,8 @@ use Rattle.stack_text.specs.declared.text_fault.TextRule.{TextRule}
 use Rattle.stack_text.specs.Breaches.{least}
 use Rattle.stack_text.specs.TextFaults.{text_fault}
 use Rattle.stack_text.specs.Tokens.{between, tokens}
-use Rattle.stack_text.specs.TreeIn.{unless_fault, first_item, items_of, tree_in}
+use Rattle.stack_text.specs.TreeIn.{first_item, items_of, tree_in}
+use Rattle.stack_text.specs.Results.{unless_fault}
 use Rattle.stack_text.specs.Trees.{Node, TreeOf}
 use Rattle.stack_text.specs.Grammar.Judged.{Judged}
 use Rattle.stack_text.proofs.FaultLaws.{no_fault_has_tree}
@@ -23,14 +24,14 @@ use Rattle.display_maps.specs.Reading.{space_name}
 use Rattle.piton_check.specs.Instruction.{SystemView}
 use Rattle.gypsy_syntax.specs.declared.literal.Decl.{Decl}
 use Rattle.gypsy_syntax.specs.declared.fault.GypsyFault.{GypsyFault}
-use Rattle.gypsy_syntax.specs.Answers.{judgement, gypsy_by, gypsy_in}
+use Rattle.gypsy_syntax.specs.GypsyReading.{judgement, gypsy_by, gypsy_in}
 use Rattle.gypsy_syntax.specs.Grammar as grammar
 use Rattle.gypsy_syntax.specs.Programs.{Proc, Program, Stmt, body_of, no_proc, proc_at, shapes_of}
 use Rattle.gypsy_syntax.specs.Resolved.{condition_names, procedure_of, program_of, statement_of, statement_of_all, variable_names}
 use Rattle.gypsy_syntax.specs.Sources.{StmtOf, StmtsOf, no_op, signal, seq, loop, branch, begin, call, predef, no_parts, part, LocalOf, ProcOf, SourceOf}
 use Rattle.gypsy_check.specs.Rules.{violations}
 use Rattle.gypsy_check.proofs.CleanLaws.{get_or_map}
-use Rattle.gypsy_space.specs.Needs.{Words, stack_words}
+use Rattle.gypsy_space.specs.Needs.{StackSizes, stack_sizes}
 use Rattle.gypsy_codegen.specs.declared.marking.MarkAt.{MarkAt}
 use Rattle.gypsy_codegen.specs.Generated.{size, count_from, offset, generated_view}
 use Rattle.gypsy_codegen.specs.Marks.{mark_at, statement_marks, tail_marks, procedure_marks, marks_of}
@@ -300,27 +301,27 @@ text_places_fit text s read few =
     ap (λ (n : ℕ). list_all short_place (flat_map (procedure_marks (program_of s)) (count_from 0 n))) (same_number s)
     ∙ procedures_short s (program_of s) (length text) (omega (arith, few)) 0 s.procs (stand_all s) light.each
 
-tables_of_image : (s : SourceOf) (sizes : Words) (base : ℕ) → length (tables_bytes (image_of s sizes base).version (tables_of (image_of s sizes base))) ≤ 8 + procedures_cost s.procs
+tables_of_image : (s : SourceOf) (sizes : StackSizes) (base : ℕ) → length (tables_bytes (image_of s sizes base).version (tables_of (image_of s sizes base))) ≤ 8 + procedures_cost s.procs
 unfolding image_of
 tables_of_image s sizes base = tables_few s (generated_view (program_of s) sizes base)
 
-text_builds_whole : (text : List ℕ) (ctrl temp : ℕ) (s : SourceOf) (b : BuiltOf) → source_in text ≡ Ok s → Builds s (stack_words temp ctrl) b → BuildsText text ctrl temp b
+text_builds_whole : (text : List ℕ) (ctrl temp : ℕ) (s : SourceOf) (b : BuiltOf) → source_in text ≡ Ok s → Builds s (stack_sizes ctrl temp) b → BuildsText text ctrl temp b
 text_builds_whole text ctrl temp s b read builds = record {
   source = s;
   read = read;
   marked = text_places_fit text s read;
   short = λ few.
       let light = text_is_light text s read in
-      let image : ImageOf = image_of s (stack_words temp ctrl) builds.base in
+      let image : ImageOf = image_of s (stack_sizes ctrl temp) builds.base in
       let file : length b.bytes ≡ length (spelling b.image) = ap length builds.spells.fields in
       let before = file_few b.image builds.spells.limits in
       let same : length (tables_bytes b.image.version (tables_of b.image)) ≡ length (tables_bytes image.version (tables_of image)) = ap (λ (i : ImageOf). length (tables_bytes i.version (tables_of i))) builds.is in
-      let tables = tables_of_image s (stack_words temp ctrl) builds.base in
+      let tables = tables_of_image s (stack_sizes ctrl temp) builds.base in
       let cost = light.few in
       omega (arith, file, before, same, tables, cost, few);
   builds = builds;
 }
 
-pub text_builds_if : (text : List ℕ) (ctrl temp : ℕ) (s : SourceOf) (r : Result BuiltOf BuildFault) → source_in text ≡ Ok s → IfOk r (Builds s (stack_words temp ctrl)) → IfOk r (BuildsText text ctrl temp)
+pub text_builds_if : (text : List ℕ) (ctrl temp : ℕ) (s : SourceOf) (r : Result BuiltOf BuildFault) → source_in text ≡ Ok s → IfOk r (Builds s (stack_sizes ctrl temp)) → IfOk r (BuildsText text ctrl temp)
 text_builds_if text ctrl temp s (Ok b) read builds = text_builds_whole text ctrl temp s b read builds
 text_builds_if text ctrl temp s (Err fault) read builds = tt

@@ -5,19 +5,15 @@ use Rattle.std.specs.List.{find}
 use Rattle.gypsy_syntax.specs.declared.proc.Proc.{Proc}
 use Rattle.gypsy_syntax.specs.declared.proc.Source.{Source}
 use Rattle.gypsy_syntax.specs.Sources.{ProcOf}
-use Rattle.gypsy_syntax.specs.SourceView.{proc_of, source_of}
+use Rattle.gypsy_syntax.specs.Seen.SourceView.{proc_of, source_of}
 use Rattle.gypsy_syntax.specs.Resolved.{place_among}
 use Rattle.gypsy_check.specs.Declarations.{procedure_at}
-use Rattle.gypsy_check.proofs.LookupLaws.{place_cons}
+use Rattle.gypsy_check.proofs.LookupLaws.{place_cons, procedure_past}
 use Rattle.stack_build.specs.Formals.{main_of}
 
 none_there : (o : Option ℕ) → procedure_at [] o ≡ None
 none_there None = refl
 none_there (Some i) = refl
-
-past : (p : ProcOf) (procs : List ProcOf) (o : Option ℕ) → procedure_at (p ∷ procs) (option_map suc o) ≡ procedure_at procs o
-past p procs None = refl
-past p procs (Some i) = refl
 
 -- the first procedure of a name is the one that is found
 named_is : (name : List ℕ) (procs : List ProcOf) → procedure_at procs (place_among name (map (λ (p : ProcOf). p.name.name) procs)) ≡ find (λ (p : ProcOf). bytes_eq name p.name.name) procs
@@ -28,7 +24,7 @@ named_is name (p ∷ procs) =
     pick : (b : Bool) → procedure_at procs (place_among name (map (λ (r : ProcOf). r.name.name) procs)) ≡ find (λ (r : ProcOf). bytes_eq name r.name.name) procs →
         procedure_at (p ∷ procs) (cond b (Some 0) (option_map suc (place_among name (map (λ (r : ProcOf). r.name.name) procs)))) ≡ cond b (Some p) (find (λ (r : ProcOf). bytes_eq name r.name.name) procs)
     pick true e = refl
-    pick false e = past p procs (place_among name (map (λ (r : ProcOf). r.name.name) procs)) ∙ e
+    pick false e = procedure_past p procs (place_among name (map (λ (r : ProcOf). r.name.name) procs)) ∙ e
 
 find_viewed : (name : List ℕ) (procs : List Proc) → option_map proc_of (find (λ (p : Proc). bytes_eq name p.name.name) procs) ≡ find (λ (p : ProcOf). bytes_eq name p.name.name) (map proc_of procs)
 find_viewed name [] = refl

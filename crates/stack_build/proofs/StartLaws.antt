@@ -3,7 +3,7 @@ use Rattle.std.proofs.Common.{◌≡◌, ◌≤◌, ℕ, Bool, true, false, cond
 use Rattle.std.specs.Prelude.{◌^◌, IsTrue, nat_lt}
 use Rattle.std.proofs.Math.Seq.{drop-append_seam}
 use Rattle.std.proofs.lemmas.Bool.{ltb-false}
-use Rattle.stack_text.specs.Results.{◌>>=◌}
+use Rattle.stack_text.specs.Results.{◌>>=◌, unless_fault}
 use Rattle.stack_text.specs.declared.shape.Shape.{Shape}
 use Rattle.stack_text.specs.Values.{ValueOf}
 use Rattle.fm_image.specs.Image.{ImageOf, is_image}
@@ -20,12 +20,12 @@ use Rattle.gypsy_syntax.specs.Sources.{SourceOf}
 use Rattle.gypsy_syntax.specs.Programs.{proc_at}
 use Rattle.gypsy_syntax.specs.Resolved.{program_of}
 use Rattle.gypsy_check.specs.Accepted.{IsAccepted}
-use Rattle.gypsy_space.specs.Needs.{Words}
+use Rattle.gypsy_space.specs.Needs.{StackSizes}
 use Rattle.gypsy_meaning.specs.Calls.{main_start}
 use Rattle.gypsy_meaning.specs.Kept.{VarsFit}
 use Rattle.gypsy_codegen.specs.declared.fault.GenFault.{GenFault}
 use Rattle.gypsy_codegen.specs.Acceptable.{GeneratedIsAcceptable}
-use Rattle.gypsy_codegen.specs.Answers.{size_fault, unless_fault}
+use Rattle.gypsy_codegen.specs.Generation.{size_fault}
 use Rattle.gypsy_codegen.specs.Generated.{generated_view}
 use Rattle.gypsy_codegen.specs.Text.{generated}
 use Rattle.gypsy_codegen.specs.Whole.{SizesFit}
@@ -46,13 +46,13 @@ use Rattle.stack_build.specs.Starts.{values_fault, start_fault_of, or_build, or_
 -- 1. What is built.
 
 -- the sizes suffice, it has a place in memory, and its parts are those of the source
-pub record IsMade (s : SourceOf) (sizes : Words) (b : BuiltOf) : Type 0 where
+pub record IsMade (s : SourceOf) (sizes : StackSizes) (b : BuiltOf) : Type 0 where
   pub sizes_fit : SizesFit (program_of s) sizes
   pub small : (placed (system_in b.piton)).size ≤ 2 ^ 20
   pub view : system_in b.piton ≡ generated_view (program_of s) sizes 0
   pub image : image_of s sizes 0 ≡ b.image
 
-module _ (acceptable : GeneratedIsAcceptable) (s : SourceOf) (sizes : Words) (accepted : IsAccepted s) (b : BuiltOf) where
+module _ (acceptable : GeneratedIsAcceptable) (s : SourceOf) (sizes : StackSizes) (accepted : IsAccepted s) (b : BuiltOf) where
   pub made : source_built s sizes 0 ≡ Ok b → IsMade s sizes b
   unfolding source_built linked_of
   made = by_fault (size_fault (program_of s) sizes) refl
@@ -82,7 +82,7 @@ module _ (acceptable : GeneratedIsAcceptable) (s : SourceOf) (sizes : Words) (ac
 drop_front : {A : Type 0} (a b : List A) (n : ℕ) → n ≡ length a → drop n (a ++ b) ≡ b
 drop_front a b n e = ap (λ (k : ℕ). drop k (a ++ b)) e ∙ drop-append_seam a b
 
-module _ (s : SourceOf) (sizes : Words) (accepted : IsAccepted s) (values : List ValueOf) (fits : FitsFormals s values) where
+module _ (s : SourceOf) (sizes : StackSizes) (accepted : IsAccepted s) (values : List ValueOf) (fits : FitsFormals s values) where
   -- main's own formals and locals
   abbrev shapes : List Shape
   shapes = (proc_at (program_of s) (program_of s).main).formals
@@ -107,7 +107,7 @@ module _ (s : SourceOf) (sizes : Words) (accepted : IsAccepted s) (values : List
 
 -- 3. Together.
 
-pub can_run : GeneratedIsAcceptable → (s : SourceOf) (sizes : Words) (b : BuiltOf) (text : List ℕ) (values : List ValueOf) → IsAccepted s → source_built s sizes 0 ≡ Ok b → IsTrue (is_image b.image) →
+pub can_run : GeneratedIsAcceptable → (s : SourceOf) (sizes : StackSizes) (b : BuiltOf) (text : List ℕ) (values : List ValueOf) → IsAccepted s → source_built s sizes 0 ≡ Ok b → IsTrue (is_image b.image) →
     values_in b.image.slots text ≡ Ok values → CanRun s (record { checked = b.piton; image = b.image; values = values })
 can_run acceptable s sizes b text values accepted is image read =
     let m = made acceptable s sizes accepted b is in
@@ -120,7 +120,7 @@ can_run acceptable s sizes b text values accepted is image read =
     }
 
 -- values that break a rule
-pub values_failed : (s : SourceOf) (sizes : Words) (b : BuiltOf) (text : List ℕ) (error : ValuesFault) → source_built s sizes 0 ≡ Ok b → common.Fails (values_rule error) (values_in b.image.slots text)
+pub values_failed : (s : SourceOf) (sizes : StackSizes) (b : BuiltOf) (text : List ℕ) (error : ValuesFault) → source_built s sizes 0 ≡ Ok b → common.Fails (values_rule error) (values_in b.image.slots text)
     → common.Fails (start_fault_of (values_fault error)) (built_start s sizes text)
 unfolding built_start
 values_failed s sizes b text (Refused rule place) is fails =

@@ -11,6 +11,7 @@ use Rattle.stack_text.specs.Grammar.Parts.{IsNamed}
 use Rattle.stack_text.specs.declared.name.Named.{Named}
 use Rattle.stack_text.specs.declared.shape.Shape.{Shape}
 use Rattle.stack_text.specs.Values.{ValueOf}
+use Rattle.stack_text.proofs.SharedLaws.{append_none}
 use Rattle.fm_image.specs.declared.procedure.Mark.{Mark}
 use Rattle.fm_image.specs.declared.procedure.VarInfo.{VarInfo}
 use Rattle.fm_image.specs.declared.window.Window.{Window}
@@ -36,8 +37,8 @@ use Rattle.gypsy_check.specs.Accepted.{IsAccepted}
 use Rattle.gypsy_check.specs.Declarations.{variables_of, conditions_of, repeats}
 use Rattle.gypsy_check.specs.Rules.{type_breaches, local_breaches, main_breaches, name_breaches, condition_breaches, variable_breaches, condition_name_breaches, size_breaches, statement_breaches, procedure_breaches, violations}
 use Rattle.gypsy_syntax.specs.Resolved.{variable_types}
-use Rattle.gypsy_check.proofs.CleanLaws.{two, three, four, get_or_map}
-use Rattle.gypsy_space.specs.Needs.{Words}
+use Rattle.gypsy_check.proofs.CleanLaws.{three, four, get_or_map}
+use Rattle.gypsy_space.specs.Needs.{StackSizes}
 use Rattle.gypsy_codegen.specs.declared.marking.MarkAt.{MarkAt}
 use Rattle.gypsy_codegen.specs.Generated.{offset, generated_view}
 use Rattle.gypsy_codegen.specs.Marks.{marks_of, IsBefore, Ascend, IsMarkPlace}
@@ -95,7 +96,7 @@ module _ (s : SystemView) where
       sym (ap programs_size (take_all s.programs)) ∙ programs_offset s.programs (length s.programs) ∙ ap (offset_of (map program_size s.programs)) (sym count) in
       omega (arith, within a l p, end, all)
 
-module _ (q : Program) (sizes : Words) (base : ℕ) where
+module _ (q : Program) (sizes : StackSizes) (base : ℕ) where
   marks_climb : (low : ℕ) (ms : List MarkAt) → Ascend ms → Each (IsMarkPlace q sizes base) ms → ((m : MarkAt) (rest : List MarkAt) → ms ≡ m ∷ rest → low ≤ address_of_place (generated_view q sizes base) m.program m.at) →
       Climbing low (map (mark_info (generated_view q sizes base)) ms)
   marks_climb low [] up places first = tt
@@ -186,7 +187,7 @@ module _ (s : SourceOf) (accepted : IsAccepted s) where
     unfolding IsDistinct
     declared_conditions =
         let h = four (variable_breaches proc) (condition_name_breaches proc) (size_breaches proc) (statement_breaches s proc false proc.body) rules in
-        let k = two (repeats 5 [] (conditions_of proc)) (flat_map condition_breaches (conditions_of proc)) h.1 in
+        let k = append_none (repeats 5 [] (conditions_of proc)) (flat_map condition_breaches (conditions_of proc)) h.1 in
         let joined = map-append (λ (n : Named). n.name) proc.conds proc.local_conds in
         let none = others_than_space (proc.conds ++ proc.local_conds) [] (subst (λ (cs : List Named). flat_map condition_breaches cs ≡ []) (sym (append_nil (proc.conds ++ proc.local_conds))) k.1) in
         (subst (AllByRecursion (λ other. bytes_eq space_name other ≡ false)) joined none, distinct_names (condition_names proc) (subst Differ joined (differ_source 5 [] (conditions_of proc) k.0)))
@@ -238,7 +239,7 @@ module _ (s : SourceOf) (accepted : IsAccepted s) where
       list_all fits_lists (procedure_infos (program_of s) p procs) ≡ true
   all_fit p [] forms rules at = refl
   all_fit p (proc ∷ procs) forms rules at =
-      let k = two (procedure_breaches s proc) (flat_map (procedure_breaches s) procs) rules in
+      let k = append_none (procedure_breaches s proc) (flat_map (procedure_breaches s) procs) rules in
       let here : p + 0 ≡ p = omega arith in
       and_from _ _ (proc_fits p proc (All-head FitsProcedure proc procs forms) k.0 (subst (λ (i : ℕ). proc_at (program_of s) i ≡ procedure_of s proc) here (at 0 proc refl)))
       (all_fit (suc p) procs (All-tail FitsProcedure proc procs forms) k.1 (λ i c e.
@@ -255,7 +256,7 @@ procedures_number q p (proc ∷ procs) = ap suc (procedures_number q (suc p) pro
 
 -- ---- together
 
-pub tables_fit : (s : SourceOf) (sizes : Words) (base : ℕ) → IsAccepted s → IsSound (generated_view (program_of s) sizes base) → (placed (generated_view (program_of s) sizes base)).size ≤ 2 ^ 20 →
+pub tables_fit : (s : SourceOf) (sizes : StackSizes) (base : ℕ) → IsAccepted s → IsSound (generated_view (program_of s) sizes base) → (placed (generated_view (program_of s) sizes base)).size ≤ 2 ^ 20 →
     are_tables (placed_window (generated_view (program_of s) sizes base)) (source_tables s (generated_view (program_of s) sizes base)) ≡ true
 unfolding all_after violations
 tables_fit s sizes base accepted sound small = by_places (places_fit (program_of s)) refl

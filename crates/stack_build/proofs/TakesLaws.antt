@@ -12,7 +12,7 @@ use Rattle.fm_words.specs.Word.{is_int}
 use Rattle.fm_image.specs.declared.slot.Slot.{Slot}
 use Rattle.fm_image.specs.Image.{is_image}
 use Rattle.fm_loader.specs.declared.fault.ValuesFault.{ValuesFault}
-use Rattle.fm_loader.specs.Rules.{Gives}
+use Rattle.fm_loader.specs.Rules.{GivesValues}
 use Rattle.fm_loader.specs.Values.{values_in, HaveOwnNames}
 use Rattle.fm_loader.proofs.ImageLaws.{own_names}
 use Rattle.fm_loader.proofs.ValuesLaws.{values_fit, values_are, values_have_32_bits}
@@ -22,12 +22,12 @@ use Rattle.gypsy_syntax.specs.Programs.{Proc, proc_at}
 use Rattle.gypsy_syntax.specs.ProgramFits.{Each, ValueFits, is_in_range}
 use Rattle.gypsy_syntax.specs.Resolved.{shape_of, program_of}
 use Rattle.gypsy_check.specs.Accepted.{IsAccepted}
-use Rattle.gypsy_space.specs.Needs.{Words, stack_words}
+use Rattle.gypsy_space.specs.Needs.{StackSizes, stack_sizes}
 use Rattle.gypsy_meaning.specs.Kept.{VarsFit}
 use Rattle.gypsy_codegen.specs.Generated.{generated_view}
 use Rattle.stack_build.specs.Formals.{formals_in, shown_formals, shown_conditions}
 use Rattle.stack_build.specs.Image.{slots_from, formal_slots, image_of}
-use Rattle.stack_build.specs.Showing.{AreShort, shapes_in, Shows}
+use Rattle.stack_build.specs.Scaffold.Showing.{AreShort, shapes_in, Shows}
 use Rattle.stack_build.specs.Implements.{FitsFormals}
 use Rattle.stack_build.proofs.ImageLimits.{names-slots_from, generated_shows}
 use Rattle.stack_build.proofs.MainLaws.{main_is}
@@ -85,14 +85,14 @@ takes s a text values accepted own read =
     let shapes : map (λ value. value.shape) values ≡ (proc_at q q.main).formals = values_fit slots text values read ∙ shapes-slots_from a (shown_formals s) ∙ sym formals in
     vars_fit (proc_at q q.main).formals values here.formals shapes (values_are slots text values own read) (values_have_32_bits slots text values read)
 
-pub takes_values : (s : SourceOf) (sizes : Words) (base : ℕ) (text : List ℕ) (values : List ValueOf) → IsAccepted s → IsTrue (is_image (image_of s sizes base)) →
+pub takes_values : (s : SourceOf) (sizes : StackSizes) (base : ℕ) (text : List ℕ) (values : List ValueOf) → IsAccepted s → IsTrue (is_image (image_of s sizes base)) →
     values_in (image_of s sizes base).slots text ≡ Ok values → FitsFormals s values
 unfolding image_of
 takes_values s sizes base text values accepted image read = takes s _ text values accepted (own_names (image_of s sizes base) image) read
 
 -- what is known of main's formals, whatever the sizes
-shown_as : (s : SourceOf) → IsAccepted s → Shows (generated_view (program_of s) (stack_words 1 1) 0) (shown_formals s) (shown_conditions s)
-shown_as s accepted = generated_shows s (stack_words 1 1) 0 (generated_view (program_of s) (stack_words 1 1) 0) accepted refl
+shown_as : (s : SourceOf) → IsAccepted s → Shows (generated_view (program_of s) (stack_sizes 1 1) 0) (shown_formals s) (shown_conditions s)
+shown_as s accepted = generated_shows s (stack_sizes 1 1) 0 (generated_view (program_of s) (stack_sizes 1 1) 0) accepted refl
 
 pub formals_short : (s : SourceOf) → IsAccepted s → AreShort (shown_formals s)
 formals_short s accepted = (shown_as s accepted).formals_short
@@ -104,6 +104,6 @@ pub formals_take : (s : SourceOf) (text : List ℕ) (values : List ValueOf) → 
 formals_take s text values accepted read = takes s 0 text values accepted (formals_own_names s accepted) read
 
 pub fits_from : {X : Type 0} (s : SourceOf) (slots : List Slot) (text : List ℕ) (view : X → List ValueOf) (result : Result X ValuesFault) → IsAccepted s → slots ≡ formal_slots s →
-    Gives view result (values_in slots text) → IfOk result (λ x. FitsFormals s (view x))
+    GivesValues view result (values_in slots text) → IfOk result (λ x. FitsFormals s (view x))
 fits_from s slots text view (Ok x) accepted is gives = formals_take s text (view x) accepted (ap (λ (z : List Slot). values_in z text) (sym is) ∙ gives)
 fits_from s slots text view (Err fault) accepted is gives = tt

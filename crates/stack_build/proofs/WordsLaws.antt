@@ -9,7 +9,7 @@ use Rattle.stack_build.proofs.Laying.{map-reversed}
 use Rattle.fm_words.specs.Word.{word_of_int}
 use Rattle.fm_words.proofs.WordLaws.{word_of_int_below}
 use Rattle.fm_code.specs.Areas.{joined}
-use Rattle.fm_code.specs.Words.{reg, push, pop, literal, mov, halt_word}
+use Rattle.fm_code.specs.InstructionWords.{reg, push, pop, literal, mov, halt_word}
 use Rattle.fm_code.specs.Templates.{below_end, temporaries_code}
 use Rattle.fm_image.specs.Spelling.{are_words}
 use Rattle.piton_words.specs.declared.word.Word.{Word}

@@ -1,5 +1,7 @@
 -- What is built from the text of a source.
-use Rattle.std.specs.Prelude.{◌≡◌, ◌≤◌, ℕ, ◌^◌, List, length, Option, Some, None, Result, Ok, Err, IsTrue, nat_lt, if◌then◌else◌}
+use Rattle.std.specs.Prelude.{◌≡◌, ◌≤◌, ℕ, List, length, Option, Some, None, Result, Ok, Err, IsTrue, nat_lt, if◌then◌else◌}
+use Rattle.fm_words.specs.WindowLimit.{most_window}
+use Rattle.stack_text.specs.SharedLimits.{most_text, most_image_file}
 use Rattle.stack_text.specs.declared.breach.Breach.{Breach}
 use Rattle.stack_text.specs.Breaches.{least}
 use Rattle.stack_text.specs.Gives as common
@@ -7,22 +9,22 @@ use Rattle.stack_text.specs.Results.{◌>>=◌}
 use Rattle.fm_image.specs.Image.{ImageOf}
 use Rattle.fm_image.specs.Spelling.{Spelled, spelling}
 use Rattle.piton_syntax.specs.Systems.{SystemOf}
-use Rattle.piton_check.specs.Answers.{CheckedOf}
+use Rattle.piton_check.specs.PitonChecking.{CheckedOf}
 use Rattle.piton_check.specs.Resolved.{resolved}
 use Rattle.piton_machine.specs.Placed.{placed}
 use Rattle.piton_linker.specs.declared.fault.LinkFault.{LinkFault}
 use Rattle.piton_linker.specs.declared.fault.LinkFault.TheVariants as link
 use Rattle.gypsy_syntax.specs.declared.fault.GypsyFault.{GypsyFault}
 use Rattle.gypsy_syntax.specs.declared.fault.GypsyFault.TheVariants as gypsy
-use Rattle.gypsy_syntax.specs.Answers.{gypsy_in}
+use Rattle.gypsy_syntax.specs.GypsyReading.{gypsy_in}
 use Rattle.gypsy_syntax.specs.Sources.{SourceOf}
 use Rattle.gypsy_syntax.specs.Resolved.{program_of}
 use Rattle.gypsy_check.specs.declared.fault.CheckFault.{CheckFault}
 use Rattle.gypsy_check.specs.declared.fault.CheckFault.TheVariants as check
 use Rattle.gypsy_check.specs.Rules.{violations}
-use Rattle.gypsy_space.specs.Needs.{Words, stack_words}
+use Rattle.gypsy_space.specs.Needs.{StackSizes, stack_sizes}
 use Rattle.gypsy_codegen.specs.Generated.{generated_view}
-use Rattle.gypsy_codegen.specs.Answers.{generation}
+use Rattle.gypsy_codegen.specs.Generation.{generation}
 use Rattle.gypsy_codegen.specs.declared.fault.GenFault.{GenFault}
 use Rattle.gypsy_codegen.specs.declared.fault.GenFault.TheVariants as gen
 use Rattle.stack_build.specs.declared.fault.BuildFault.{BuildFault}
@@ -66,8 +68,8 @@ fault_of Memory = None
 fault_of fault = Some fault
 
 -- the call returned exactly what the definition gives, seen through the view; out of memory alone is free
-abbrev pub Gives : {X Y : Type 0} → (X → Y) → Result X BuildFault → Result Y BuildFault → Type 0
-Gives view result value = common.Gives fault_of view result value
+abbrev pub GivesBuilt : {X Y : Type 0} → (X → Y) → Result X BuildFault → Result Y BuildFault → Type 0
+GivesBuilt view result value = common.Gives fault_of view result value
 
 -- ---- the source in a text
 
@@ -90,35 +92,35 @@ generated_by (Ok system) = Ok system
 generated_by (Err fault) = Err (generating_fault fault)
 
 -- what is built of a source whose system is this
-abbrev pub built_with : SourceOf → Words → ℕ → SystemOf → BuiltOf
+abbrev pub built_with : SourceOf → StackSizes → ℕ → SystemOf → BuiltOf
 built_with source sizes base system =
     let image = image_of source sizes base in
     record { piton = record { system = system; resolved = resolved system }; image = image; bytes = spelling image }
 
 -- the placed size, which is judged where the sum of the code's words is within the limit
-abbrev pub placed_size : SourceOf → Words → ℕ → ℕ
+abbrev pub placed_size : SourceOf → StackSizes → ℕ → ℕ
 placed_size source sizes base = (placed (generated_view (program_of source) sizes base)).size
 
-unfoldable pub linked_of : SourceOf → Words → ℕ → SystemOf → Result BuiltOf BuildFault
+unfoldable pub linked_of : SourceOf → StackSizes → ℕ → SystemOf → Result BuiltOf BuildFault
 linked_of source sizes base system =
-    if nat_lt (2 ^ 20) (placed_size source sizes base) then Err (TooManyWords (placed_size source sizes base))
+    if nat_lt most_window (placed_size source sizes base) then Err (TooManyWords (placed_size source sizes base))
     else Ok (built_with source sizes base system)
 
 -- what is built of a source, for stacks of these sizes and from this address on
-unfoldable pub source_built : SourceOf → Words → ℕ → Result BuiltOf BuildFault
+unfoldable pub source_built : SourceOf → StackSizes → ℕ → Result BuiltOf BuildFault
 source_built source sizes base = generated_by (generation source sizes base) >>= linked_of source sizes base
 
 -- the Piton system of a text
 unfoldable pub compiled : List ℕ → ℕ → ℕ → ℕ → Result SystemOf BuildFault
-compiled text ctrl temp base = source_in text >>= λ source. generated_by (generation source (stack_words temp ctrl) base)
+compiled text ctrl temp base = source_in text >>= λ source. generated_by (generation source (stack_sizes ctrl temp) base)
 
 -- what is built of a text
 unfoldable pub built : List ℕ → ℕ → ℕ → ℕ → Result BuiltOf BuildFault
-built text ctrl temp base = source_in text >>= λ source. source_built source (stack_words temp ctrl) base
+built text ctrl temp base = source_in text >>= λ source. source_built source (stack_sizes ctrl temp) base
 
 -- What was built of a source, for stacks of these sizes: its image does what the source means, and keeps to it at every moment, so
 -- that it is unfinished at every budget where the source never ends; and the file spells the image.
-pub record Builds (source : SourceOf) (sizes : Words) (built : BuiltOf) : Type 0 where
+pub record Builds (source : SourceOf) (sizes : StackSizes) (built : BuiltOf) : Type 0 where
   pub base : ℕ
   pub is : built.image ≡ image_of source sizes base
   pub spells : Spelled built.bytes built.image
@@ -130,6 +132,6 @@ pub record Builds (source : SourceOf) (sizes : Words) (built : BuiltOf) : Type 0
 pub record BuildsText (text : List ℕ) (ctrl temp : ℕ) (built : BuiltOf) : Type 0 where
   pub source : SourceOf
   pub read : source_in text ≡ Ok source
-  pub marked : length text ≤ 2 ^ 20 → IsTrue (places_fit (program_of source))
-  pub short : length text ≤ 2 ^ 20 → length built.bytes ≤ 33554432
-  pub builds : Builds source (stack_words temp ctrl) built
+  pub marked : length text ≤ most_text → IsTrue (places_fit (program_of source))
+  pub short : length text ≤ most_text → length built.bytes ≤ most_image_file
+  pub builds : Builds source (stack_sizes ctrl temp) built

@@ -3,11 +3,11 @@ use Rattle.std.specs.Prelude.{ℕ, suc, ◌+◌, ◌-◌, List, [], ◌∷◌, m
 use Rattle.std.specs.List.{list_all}
 use Rattle.stack_text.specs.declared.shape.Shape.{Shape}
 use Rattle.stack_text.specs.Values.{item_count}
-use Rattle.fm_words.specs.Code.{no_flags}
 use Rattle.fm_image.specs.declared.procedure.Mark.{Mark}
 use Rattle.fm_image.specs.declared.procedure.VarInfo.{VarInfo}
 use Rattle.fm_image.specs.declared.slot.Slot.{Slot}
 use Rattle.fm_image.specs.Image.{ImageOf, Tables, no_tables, is_place}
+use Rattle.fm_image.specs.Bare.{bare_image}
 use Rattle.fm_image.specs.Procedure.{ProcedureOf}
 use Rattle.display_maps.specs.Reading.{space_name}
 use Rattle.piton_check.specs.Instruction.{SystemView}
@@ -17,7 +17,7 @@ use Rattle.gypsy_syntax.specs.declared.literal.Decl.{Decl}
 use Rattle.gypsy_syntax.specs.Programs.{Program, proc_at, shapes_of}
 use Rattle.gypsy_syntax.specs.Resolved.{condition_names, shape_of, program_of, variable_names}
 use Rattle.gypsy_syntax.specs.Sources.{ProcOf, SourceOf}
-use Rattle.gypsy_space.specs.Needs.{Words}
+use Rattle.gypsy_space.specs.Needs.{StackSizes}
 use Rattle.gypsy_codegen.specs.declared.marking.MarkAt.{MarkAt}
 use Rattle.gypsy_codegen.specs.Generated.{generated_view, offset}
 use Rattle.gypsy_codegen.specs.Marks.{marks_of}
@@ -71,19 +71,17 @@ slots_from address (d ∷ ds) =
 abbrev pub formal_slots : SourceOf → List Slot
 formal_slots s = slots_from 0 (shown_formals s)
 
+-- the image of a placed system, which tells of no source: it has no condition word, no slot, no procedure and no mark
+abbrev pub linked_image : SystemView → ImageOf
+linked_image system =
+    bare_image system.base (placed system).size (placed system).final_pc (placed system).registers (trimmed (placed system).words)
+
 -- the image of a placed system whose stack has these formals at its bottom, and whose first area has the number of its condition
 abbrev pub image_with : List Decl → List (List ℕ) → Tables → SystemView → ImageOf
-image_with formals conditions tables system = record {
-  version = 2;
-  base = system.base;
-  size = (placed system).size;
-  final_pc = (placed system).final_pc;
-  registers = (placed system).registers;
-  flags = no_flags;
+image_with formals conditions tables system = record (linked_image system) {
   condition_address = Some (areas_start system);
   conditions = conditions;
   slots = slots_from (end_of system - 1) formals;
-  words = trimmed (placed system).words;
   procedures = tables.procedures;
   marks = tables.marks;
 }
@@ -93,5 +91,5 @@ abbrev pub image_on : SourceOf → SystemView → ImageOf
 image_on source system = image_with (shown_formals source) (shown_conditions source) (source_tables source system) system
 
 -- the image of a source, one for all values of main's formals
-unfoldable pub image_of : SourceOf → Words → ℕ → ImageOf
+unfoldable pub image_of : SourceOf → StackSizes → ℕ → ImageOf
 image_of source sizes base = image_on source (generated_view (program_of source) sizes base)

@@ -13,15 +13,15 @@ use Rattle.display_maps.specs.ValueReading.{value_shown}
 use Rattle.gypsy_syntax.specs.Sources.{SourceOf}
 use Rattle.gypsy_syntax.specs.Programs.{Leave, Routine, Space, Declared, proc_at}
 use Rattle.gypsy_syntax.specs.Resolved.{program_of}
-use Rattle.gypsy_space.specs.Needs.{Words}
-use Rattle.gypsy_meaning.specs.Calls.{Way}
+use Rattle.gypsy_space.specs.Needs.{StackSizes}
+use Rattle.gypsy_meaning.specs.Calls.{CurrentCondition}
 use Rattle.gypsy_meaning.specs.Meaning.{Done, meaning}
 use Rattle.gypsy_meaning.specs.Counted.{instruction_count}
 use Rattle.gypsy_meaning.specs.Kept.{VarsFit}
 use Rattle.stack_build.specs.Formals.{shown_names, formal_conditions}
 
 -- what a run ends with, as the word of its number is read: spaceerror has its name, and each declared condition its own among these
-abbrev pub way_shown : List (List ℕ) → Way → Shown
+abbrev pub way_shown : List (List ℕ) → CurrentCondition → Shown
 way_shown names None = shown.Normal
 way_shown names (Some Leave) = shown.Leave
 way_shown names (Some Routine) = shown.Routine
@@ -33,7 +33,7 @@ abbrev pub variable_shown : List ℕ × ValueOf → List ℕ × List Shown
 variable_shown variable = (variable.0, value_shown variable.1)
 
 -- main's formals with these values, and what the run ended with, as memory is read
-abbrev pub meaning_shown : SourceOf → List ValueOf → Way → ReadingOf
+abbrev pub meaning_shown : SourceOf → List ValueOf → CurrentCondition → ReadingOf
 meaning_shown source values way =
     record { condition = Some (way_shown (formal_conditions source) way); items = map variable_shown (zip (shown_names source) values) }
 
@@ -43,7 +43,8 @@ FitsFormals source values = let q = program_of source in VarsFit (proc_at q q.ma
 
 -- The meaning of the source on these values, with stacks of these sizes, is done within some bound, with these values of main's
 -- formals, with this condition, and after so many counted instructions.
-pub record Finishes (source : SourceOf) (sizes : Words) (values finals : List ValueOf) (way : Way) (count : ℕ) : Type 0 where
+pub record Finishes (source : SourceOf) (sizes : StackSizes) (values finals : List ValueOf) (way : CurrentCondition)
+    (count : ℕ) : Type 0 where
   pub bound : ℕ
   pub done : meaning (program_of source) sizes values bound ≡ Done finals way
   pub counted : instruction_count (program_of source) sizes values bound ≡ Some count
@@ -57,7 +58,7 @@ pub record ComesTo (image : ImageOf) (values : List ValueOf) (count : ℕ) (read
 
 -- The image implements the source, for stacks of these sizes: on all values that fit main's formals, where the meaning is done, the
 -- loaded machine comes to the end after exactly the counted instructions, and memory shows the meaning there.
-abbrev pub Implements : ImageOf → SourceOf → Words → Type 0
+abbrev pub Implements : ImageOf → SourceOf → StackSizes → Type 0
 Implements image source sizes =
-    (values finals : List ValueOf) (way : Way) (count : ℕ) → FitsFormals source values →
+    (values finals : List ValueOf) (way : CurrentCondition) (count : ℕ) → FitsFormals source values →
     Finishes source sizes values finals way count → ComesTo image values count (meaning_shown source finals way)

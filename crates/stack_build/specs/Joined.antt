@@ -1,12 +1,13 @@
 -- The image of each accepted source does what the source means; and so does what is built of a text.
 use Rattle.std.specs.Prelude.{◌≡◌, ℕ, ◌≤◌, ◌^◌, List, length, Ok, IfOk}
+use Rattle.fm_words.specs.WindowLimit.{most_window}
 use Rattle.stack_text.specs.Values.{ValueOf}
 use Rattle.fm_loader.specs.Values.{values_in}
 use Rattle.piton_machine.specs.Placed.{placed}
 use Rattle.gypsy_syntax.specs.Sources.{SourceOf}
 use Rattle.gypsy_syntax.specs.Resolved.{program_of}
 use Rattle.gypsy_check.specs.Accepted.{IsAccepted}
-use Rattle.gypsy_space.specs.Needs.{Words}
+use Rattle.gypsy_space.specs.Needs.{StackSizes}
 use Rattle.gypsy_codegen.specs.Generated.{generated_view}
 use Rattle.gypsy_codegen.specs.Acceptable.{LimitsFit}
 use Rattle.stack_build.specs.Image.{image_of}
@@ -15,8 +16,9 @@ use Rattle.stack_build.specs.Build.{BuiltOf, source_in, built, BuildsText}
 
 -- within the limits, and where the placed size is at most 2^20
 abbrev pub GeneratedImageImplements : Type 0
-GeneratedImageImplements = (source : SourceOf) (sizes : Words) (base : ℕ) → IsAccepted source → LimitsFit (program_of source) sizes base →
-    (placed (generated_view (program_of source) sizes base)).size ≤ 2 ^ 20 → Implements (image_of source sizes base) source sizes
+GeneratedImageImplements = (source : SourceOf) (sizes : StackSizes) (base : ℕ) → IsAccepted source →
+    LimitsFit (program_of source) sizes base →
+    (placed (generated_view (program_of source) sizes base)).size ≤ most_window → Implements (image_of source sizes base) source sizes
 
 -- what is built of a text
 abbrev pub BuiltImplements : Type 0

@@ -9,6 +9,5 @@ pub mod Build
 pub mod Joined
 pub mod Inside
 pub mod Starts
--- what private functions say
-pub mod Showing
-pub mod Listing
+-- In folders: scaffold.
+pub mod Scaffold

@@ -16,10 +16,10 @@ use Rattle.gypsy_syntax.specs.Programs.{Program, proc_at, shapes_of}
 use Rattle.gypsy_syntax.specs.Effects.{value_at}
 use Rattle.gypsy_syntax.specs.Resolved.{program_of}
 use Rattle.gypsy_syntax.specs.Sources.{SourceOf}
-use Rattle.gypsy_space.specs.Needs.{Words, vars_of}
+use Rattle.gypsy_space.specs.Needs.{StackSizes, vars_of}
 use Rattle.gypsy_meaning.specs.Machine.{Item, Frame, Held, At, Move, Next, Ended}
-use Rattle.gypsy_meaning.specs.Calls.{Way}
-use Rattle.gypsy_meaning.specs.Seen.{top_way}
+use Rattle.gypsy_meaning.specs.Calls.{CurrentCondition}
+use Rattle.gypsy_meaning.specs.Seen.RunView.{top_way}
 use Rattle.gypsy_codegen.specs.WordsOf.{number_of_way}
 use Rattle.gypsy_codegen.specs.Generated.{offset, generated_view}
 use Rattle.gypsy_codegen.specs.Showing.{mark_of}
@@ -41,7 +41,7 @@ HoldsFrames q m frame p (Held c x w xs cs ∷ fs) =
 
 -- The program counter is at the mark of the top item, and memory reads as the activation on top: procedure p with these variables.
 -- The word at the condition's address is the number of the condition that is on its way out, and else that of the normal one.
-pub record MemoryReads (q : Program) (sizes : Words) (image : ImageOf) (m : Fm) (p : ℕ) (x : List ValueOf) (w : List Item)
+pub record MemoryReads (q : Program) (sizes : StackSizes) (image : ImageOf) (m : Fm) (p : ℕ) (x : List ValueOf) (w : List Item)
     (fs : List Frame) : Type 0 where
   pub mark : pc_of m ≡ address_of_place (generated_view q sizes image.base) p (mark_of q p w)
   pub condition : option_map (word_in m) image.condition_address ≡ Some (Some (number_of_way (top_way w)))
@@ -50,7 +50,7 @@ pub record MemoryReads (q : Program) (sizes : Words) (image : ImageOf) (m : Fm) 
 
 -- After exactly the counted instructions, each of them inside the window, the machine is at a mark and reads so. At no count up to
 -- this one was it at the final program counter.
-pub record ArrivesAtMark (source : SourceOf) (sizes : Words) (image : ImageOf) (values : List ValueOf) (p : ℕ) (x : List ValueOf)
+pub record ArrivesAtMark (source : SourceOf) (sizes : StackSizes) (image : ImageOf) (values : List ValueOf) (p : ℕ) (x : List ValueOf)
     (w : List Item) (fs : List Frame) (count : ℕ) : Type 0 where
   pub state : Fm
   pub reached : fm_run count (loaded image values) ≡ Ok state
@@ -60,23 +60,24 @@ pub record ArrivesAtMark (source : SourceOf) (sizes : Words) (image : ImageOf) (
 
 -- after exactly the counted instructions, each of them inside the window, the machine first comes to the final program counter, where
 -- memory is read as main's formals and the condition
-pub record ArrivesAtEnd (source : SourceOf) (image : ImageOf) (values finals : List ValueOf) (way : Way) (count : ℕ) : Type 0 where
+pub record ArrivesAtEnd (source : SourceOf) (image : ImageOf) (values finals : List ValueOf) (way : CurrentCondition)
+    (count : ℕ) : Type 0 where
   pub inside : (i : ℕ) → i ≤ count → IsOk (fm_run i (loaded image values))
   pub comes : ComesTo image values count (meaning_shown source finals way)
 
 -- what the machine that is loaded with the values comes to, where the step machine stands so
-abbrev pub ArrivesAt : SourceOf → Words → ImageOf → List ValueOf → Move → Type 0
+abbrev pub ArrivesAt : SourceOf → StackSizes → ImageOf → List ValueOf → Move → Type 0
 ArrivesAt source sizes image values (Next (At p x w fs t)) = ArrivesAtMark source sizes image values p x w fs t.count
 ArrivesAt source sizes image values (Ended x c t) = ArrivesAtEnd source image values x c t.count
 
 -- The image keeps to the source at every moment: on all values that fit main's formals, and after each number of steps.
-abbrev pub KeepsMoments : ImageOf → SourceOf → Words → Type 0
+abbrev pub KeepsMoments : ImageOf → SourceOf → StackSizes → Type 0
 KeepsMoments image source sizes =
     (values : List ValueOf) (j : ℕ) → FitsFormals source values →
     ArrivesAt source sizes image values (moment_from (program_of source) sizes values j)
 
 -- Where the source never ends on some values, a run of the image is unfinished at every budget.
-abbrev pub StaysUnfinished : ImageOf → SourceOf → Words → Type 0
+abbrev pub StaysUnfinished : ImageOf → SourceOf → StackSizes → Type 0
 StaysUnfinished image source sizes =
     (values : List ValueOf) (budget : ℕ) → FitsFormals source values → NeverEnds (program_of source) sizes values →
     (outcome budget image.final_pc (loaded image values)).run ≡ run.Spent

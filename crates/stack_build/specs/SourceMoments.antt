@@ -13,10 +13,10 @@ use Rattle.gypsy_syntax.specs.Effects.{value_at}
 use Rattle.gypsy_syntax.specs.Resolved.{procedure_names, program_of}
 use Rattle.gypsy_syntax.specs.Sources.{SourceOf}
 use Rattle.gypsy_check.specs.Accepted.{IsAccepted}
-use Rattle.gypsy_space.specs.Needs.{Words}
+use Rattle.gypsy_space.specs.Needs.{StackSizes}
 use Rattle.gypsy_meaning.specs.Machine.{Item, State, At, Next, place_of}
-use Rattle.gypsy_meaning.specs.Seen.{top_way}
-use Rattle.gypsy_meaning.specs.Shown.{conditions_at, variables_at}
+use Rattle.gypsy_meaning.specs.Seen.RunView.{top_way}
+use Rattle.gypsy_meaning.specs.Seen.Shown.{conditions_at, variables_at}
 use Rattle.gypsy_codegen.specs.WordsOf.{number_of_way}
 use Rattle.gypsy_codegen.specs.Generated.{offset, generated_view}
 use Rattle.gypsy_codegen.specs.Showing.{mark_of}
@@ -35,14 +35,14 @@ pub record ShowsVariable (run : StandingOf) (offset : ℕ) (v : ValueOf) : Type 
 
 -- It stands at the mark of the top item, the condition word is the number of the condition that is on its way out, and else that of
 -- the normal one, and the variables are those of the activation on top.
-pub record ShowsMoment (q : Program) (sizes : Words) (image : ImageOf) (run : StandingOf) (p : ℕ) (x : List ValueOf) (w : List Item) :
+pub record ShowsMoment (q : Program) (sizes : StackSizes) (image : ImageOf) (run : StandingOf) (p : ℕ) (x : List ValueOf) (w : List Item) :
     Type 0 where
   pub mark : run.address ≡ address_of_place (generated_view q sizes image.base) p (mark_of q p w)
   pub condition : condition_word run image.condition_address ≡ Some (number_of_way (top_way w))
   pub variables : (b : ℕ) (shape : Shape) → slice_get (shapes_of (proc_at q p)) b ≡ Some shape →
       ShowsVariable run (offset q p b) (value_at x b)
 
-abbrev pub ShowsState : SourceOf → Words → ImageOf → StandingOf → State → Type 0
+abbrev pub ShowsState : SourceOf → StackSizes → ImageOf → StandingOf → State → Type 0
 ShowsState source sizes image run (At p x w fs t) = ShowsMoment (program_of source) sizes image run p x w
 
 -- 2. What it says there.
@@ -65,19 +65,19 @@ moment_shown source (At p x w fs t) = record {
 -- Where a run of the image shows a state to which the step machine comes, what is read is that state.
 abbrev pub ShownMomentsAreRead : Type 0
 ShownMomentsAreRead =
-    (source : SourceOf) (sizes : Words) (base j : ℕ) (values : List ValueOf) (run : StandingOf) (g : State) → IsAccepted source →
+    (source : SourceOf) (sizes : StackSizes) (base j : ℕ) (values : List ValueOf) (run : StandingOf) (g : State) → IsAccepted source →
     IsTrue (places_fit (program_of source)) → FitsFormals source values → moment_from (program_of source) sizes values j ≡ Next g →
     ShowsState source sizes (image_of source sizes base) run g →
     read_from (image_of source sizes base) run ≡ Some (moment_shown source g)
 
 -- the machine's counter and memory read as this state
-abbrev pub IsAtMoment : SourceOf → Words → ℕ → Fm → State → Type 0
+abbrev pub IsAtMoment : SourceOf → StackSizes → ℕ → Fm → State → Type 0
 IsAtMoment source sizes base m (At p x w fs t) = MemoryReads (program_of source) sizes (image_of source sizes base) m p x w fs
 
 -- At each mark to which the machine comes with a state of the step machine, memory is read as that state.
 abbrev pub MomentsAreRead : Type 0
 MomentsAreRead =
-    (source : SourceOf) (sizes : Words) (base j : ℕ) (values : List ValueOf) (m : Fm) (g : State) → IsAccepted source →
+    (source : SourceOf) (sizes : StackSizes) (base j : ℕ) (values : List ValueOf) (m : Fm) (g : State) → IsAccepted source →
     IsTrue (places_fit (program_of source)) → FitsFormals source values →
     moment_from (program_of source) sizes values j ≡ Next g → IsAtMoment source sizes base m g →
     reading_at (image_of source sizes base) m ≡ Some (moment_shown source g)

@@ -1,5 +1,6 @@
 -- Where runs of a source on values begin, at each level.
-use Rattle.std.specs.Prelude.{◌≡◌, ◌≤◌, ◌^◌, ℕ, List, length, drop, ◌++◌, Option, Some, None, Result, Ok, Err, nat_lt, if◌then◌else◌}
+use Rattle.std.specs.Prelude.{◌≡◌, ◌≤◌, ℕ, List, length, drop, ◌++◌, Option, Some, None, Result, Ok, Err, nat_lt, if◌then◌else◌}
+use Rattle.fm_words.specs.WindowLimit.{most_window}
 use Rattle.stack_text.specs.Gives as common
 use Rattle.stack_text.specs.Results.{◌>>=◌}
 use Rattle.stack_text.specs.Values.{ValueOf}
@@ -10,15 +11,15 @@ use Rattle.fm_loader.specs.declared.fault.ValuesFault.TheVariants as values
 use Rattle.fm_loader.specs.Loaded.{loaded}
 use Rattle.fm_loader.specs.Values.{values_in}
 use Rattle.piton_words.specs.declared.word.Word.{Word}
-use Rattle.piton_check.specs.Answers.{CheckedOf}
+use Rattle.piton_check.specs.PitonChecking.{CheckedOf}
 use Rattle.piton_machine.specs.Fits.{IsInitialStack, system_in}
 use Rattle.piton_machine.specs.Placed.{placed}
-use Rattle.piton_machine.specs.Seen.{opening as piton_opening}
+use Rattle.piton_machine.specs.Seen.StateView.{opening as piton_opening}
 use Rattle.gypsy_syntax.specs.Sources.{SourceOf}
 use Rattle.gypsy_syntax.specs.Resolved.{program_of}
-use Rattle.gypsy_space.specs.Needs.{Words, main_need}
+use Rattle.gypsy_space.specs.Needs.{StackSizes, main_need}
 use Rattle.gypsy_meaning.specs.Calls.{main_start}
-use Rattle.gypsy_meaning.specs.Seen.{Seen, opening}
+use Rattle.gypsy_meaning.specs.Seen.RunView.{Seen, opening}
 use Rattle.gypsy_codegen.specs.WordsOf.{words_of_values}
 use Rattle.stack_build.specs.declared.fault.BuildFault.{BuildFault}
 use Rattle.stack_build.specs.declared.fault.BuildFault.TheVariants as build
@@ -57,7 +58,7 @@ or_values (Err fault) = Err (Values fault.0 fault.1)
 -- 2. The source's own steps.
 
 -- which of the stacks is smaller than main itself needs, and what it needs
-abbrev pub shortage_of : Words → Words → Option BuildFault
+abbrev pub shortage_of : StackSizes → StackSizes → Option BuildFault
 shortage_of need sizes =
     if nat_lt sizes.ctrl need.ctrl then Some (build.Control need.ctrl)
     else (if nat_lt sizes.temp need.temp then Some (build.Temporary need.temp) else None)
@@ -67,7 +68,7 @@ unless_short None start = start
 unless_short (Some shortage) start = Err (Build shortage)
 
 -- the first state, on the values that a text gives main's formals
-unfoldable pub gypsy_start : SourceOf → Words → List ℕ → Result Seen StartFault
+unfoldable pub gypsy_start : SourceOf → StackSizes → List ℕ → Result Seen StartFault
 gypsy_start source sizes text =
     unless_short (shortage_of (main_need (program_of source)) sizes)
     (or_values (values_in (formal_slots source) text) >>= λ values. Ok (opening (program_of source) sizes values))
@@ -85,7 +86,7 @@ with_text text built =
     or_values (values_in built.image.slots text)
     >>= λ values. Ok record { checked = built.piton; image = built.image; values = values }
 
-unfoldable pub built_start : SourceOf → Words → List ℕ → Result Start StartFault
+unfoldable pub built_start : SourceOf → StackSizes → List ℕ → Result Start StartFault
 built_start source sizes text = or_build (source_built source sizes 0) >>= with_text text
 
 -- an initial stack with the words of values at its bottom, in place of its own
@@ -98,7 +99,7 @@ main_words source values = words_of_values (main_start (program_of source) value
 
 -- The system has a place in memory, and the words of main's variables are a stack with which a run of it may begin.
 pub record CanRun (source : SourceOf) (start : Start) : Type 0 where
-  pub small : (placed (system_in start.checked)).size ≤ 2 ^ 20
+  pub small : (placed (system_in start.checked)).size ≤ most_window
   pub words : with_values start.values (system_in start.checked).stack ≡ main_words source start.values
   pub initial : IsInitialStack (system_in start.checked) (main_words source start.values)
 
@@ -110,10 +111,10 @@ system_from source start = record {
   state = piton_opening (system_in start.checked) (main_words source start.values);
 }
 
-unfoldable pub system_start : SourceOf → Words → List ℕ → Result SystemStart StartFault
+unfoldable pub system_start : SourceOf → StackSizes → List ℕ → Result SystemStart StartFault
 system_start source sizes text = built_start source sizes text >>= λ start. Ok (system_from source start)
 
 -- the image, and the machine that is loaded with it and the values
-unfoldable pub image_start : SourceOf → Words → List ℕ → Result (ImageOf × Fm) StartFault
+unfoldable pub image_start : SourceOf → StackSizes → List ℕ → Result (ImageOf × Fm) StartFault
 image_start source sizes text =
     built_start source sizes text >>= λ start. Ok (start.image, loaded start.image start.values)

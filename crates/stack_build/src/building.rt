@@ -1,17 +1,17 @@
 //! Builds the image of a source.
 ghost use Rattle.std.specs.Prelude.{◌≤◌, ◌^◌, IfOk, length};
-ghost use Rattle.piton_syntax.specs.Answers.{KeepsForm};
+ghost use Rattle.piton_syntax.specs.PitonReading.{KeepsForm};
 ghost use Rattle.gypsy_check.specs.Accepted.{IsAccepted};
-ghost use Rattle.gypsy_space.specs.Needs.{stack_words};
-ghost use Rattle.gypsy_syntax.specs.SourceView.{source_of};
-ghost use Rattle.stack_build.specs.Build.{Gives, source_in, source_built, compiled, built, Builds, BuildsText};
+ghost use Rattle.gypsy_space.specs.Needs.{stack_sizes};
+ghost use Rattle.gypsy_syntax.specs.Seen.SourceView.{source_of};
+ghost use Rattle.stack_build.specs.Build.{GivesBuilt, source_in, source_built, compiled, built, Builds, BuildsText};
 
 use crate::fault::BuildFault;
 use crate::imaging::image;
 use fm_image::{Image, write_image};
 use gypsy_check::{Accepted, check};
-use gypsy_codegen::generate;
-use gypsy_space::needs;
+use gypsy_codegen::generate_with;
+use gypsy_space::{needs_with, resolve};
 use gypsy_syntax::read_gypsy;
 use piton_check::Checked;
 use std::alloc::Global;
@@ -45,7 +45,7 @@ impl Model for Built {
 /// `Text`, `Form` or `Rule`; or out of memory.
 pub fn accept(alloc: Global, text: &[u8]) -> Result<Accepted, BuildFault>
     requires { length text.now ≤ 2 ^ 31 }
-    ensures { Gives source_of result (source_in text.now) }
+    ensures { GivesBuilt source_of result (source_in text.now) }
 {
     let source = read_gypsy(alloc, text)?;
     Ok(check(alloc, source)?)
@@ -64,13 +64,15 @@ pub fn build_accepted(
     base: u32,
 ) -> Result<Built, BuildFault>
     requires { base ≤ 2 ^ 31 }
-    ensures value { Gives (λ built. built) result (source_built (source_of accepted.now) (stack_words temp ctrl) base) }
-    ensures implements { IfOk result (Builds (source_of accepted.now) (stack_words temp ctrl)) }
+    ensures value { GivesBuilt (λ built. built) result
+        (source_built (source_of accepted.now) (stack_sizes ctrl temp) base) }
+    ensures implements { IfOk result (Builds (source_of accepted.now) (stack_sizes ctrl temp)) }
     ensures accepted { IfOk result (λ _. IsAccepted (source_of accepted.now)) }
 {
-    let needs = needs(alloc, accepted)?;
-    let piton = generate(alloc, accepted, &needs, ctrl, temp, base)?;
-    let image = image(alloc, accepted, &needs, &piton)?;
+    let program = resolve(alloc, accepted)?;
+    let needs = needs_with(alloc, accepted, &program)?;
+    let piton = generate_with(alloc, accepted, &program, &needs, ctrl, temp, base)?;
+    let image = image(alloc, accepted, &program, &needs, &piton)?;
     let bytes = write_image(alloc, &image)?;
     Ok(Built {
         piton,
@@ -96,12 +98,13 @@ pub fn compile(
 ) -> Result<Checked, BuildFault>
     requires text { length text.now ≤ 2 ^ 31 }
     requires base { base ≤ 2 ^ 31 }
-    ensures system { Gives (λ checked. checked.system) result (compiled text.now ctrl temp base) }
+    ensures system { GivesBuilt (λ checked. checked.system) result (compiled text.now ctrl temp base) }
     ensures form { IfOk result (λ checked. KeepsForm checked.system) }
 {
     let accepted = accept(alloc, text)?;
-    let needs = needs(alloc, &accepted)?;
-    Ok(generate(alloc, &accepted, &needs, ctrl, temp, base)?)
+    let program = resolve(alloc, &accepted)?;
+    let needs = needs_with(alloc, &accepted, &program)?;
+    Ok(generate_with(alloc, &accepted, &program, &needs, ctrl, temp, base)?)
 }
 
 /// Builds the image of a source, for a control stack of `ctrl` words, a temporary stack of `temp` words, and a window
@@ -124,7 +127,7 @@ pub fn build(
     requires text { length text.now ≤ 2 ^ 31 }
     requires base { base ≤ 2 ^ 31 }
     // What is built, and each fault, are those of the text, the two sizes and the base. Out of memory alone is free.
-    ensures value { Gives (λ built. built) result (built text.now ctrl temp base) }
+    ensures value { GivesBuilt (λ built. built) result (built text.now ctrl temp base) }
     // The image does what the source means, and its file can be read again.
     ensures implements { IfOk result (BuildsText text.now ctrl temp) }
 {

@@ -1,12 +1,12 @@
 //! Where the runs of what is built of a source begin.
 
 ghost use Rattle.std.specs.Prelude.{◌≤◌, ◌^◌, IfOk, length};
-ghost use Rattle.gypsy_space.specs.Needs.{stack_words};
-ghost use Rattle.gypsy_syntax.specs.SourceView.{source_of};
+ghost use Rattle.gypsy_space.specs.Needs.{stack_sizes};
+ghost use Rattle.gypsy_syntax.specs.Seen.SourceView.{source_of};
 ghost use Rattle.fm_loader.specs.Loaded.{Fits};
 ghost use Rattle.piton_machine.specs.Fits.{system_in};
 ghost use Rattle.piton_machine.specs.Placed.{placed};
-ghost use Rattle.piton_machine.specs.Seen.{IsSeen};
+ghost use Rattle.piton_machine.specs.Seen.StateView.{IsSeen};
 ghost use Rattle.stack_build.specs.Starts.{GivesStart, CanRun, built_start, system_start, image_start};
 
 use crate::building::{Built, build_accepted};
@@ -33,7 +33,7 @@ fn built_start(
 ) -> Result<(Checked, Image, Vec<Value>), StartFault>
     requires { length text.now ≤ 2 ^ 31 }
     ensures start { GivesStart (λ start. record { checked = start.0; image = start.1; values = start.2.items }) result
-        (built_start (source_of accepted.now) (stack_words temporary control) text.now) }
+        (built_start (source_of accepted.now) (stack_sizes control temporary) text.now) }
     ensures runs { IfOk result (λ start.
         CanRun (source_of accepted.now) record { checked = start.0; image = start.1; values = start.2.items }) }
     ensures fits { IfOk result (λ start. Fits start.1.slots start.2.items) }
@@ -85,7 +85,7 @@ pub fn start_system(
 ) -> Result<SystemStart, StartFault>
     requires { length values.now ≤ 2 ^ 31 }
     ensures start { GivesStart (λ start. start) result
-        (system_start (source_of accepted.now) (stack_words temporary control) values.now) }
+        (system_start (source_of accepted.now) (stack_sizes control temporary) values.now) }
     ensures seen { IfOk result (λ start. IsSeen (system_in start.checked) start.state) }
     ensures small { IfOk result (λ start. (placed (system_in start.checked)).size ≤ 2 ^ 20) }
 {
@@ -115,7 +115,7 @@ pub fn start_image(
 ) -> Result<ImageStart, StartFault>
     requires { length values.now ≤ 2 ^ 31 }
     ensures start { GivesStart (λ start. (start.image, start.machine.state)) result
-        (image_start (source_of accepted.now) (stack_words temporary control) values.now) }
+        (image_start (source_of accepted.now) (stack_sizes control temporary) values.now) }
 {
     let (_, image, values) = built_start(alloc, accepted, control, temporary, values)?;
     let machine = load(alloc, &image, &values)?;

@@ -1,8 +1,8 @@
 //! Values of main's formals, without an image.
 ghost use Rattle.std.specs.Prelude.{◌≤◌, ◌^◌, IfOk, length};
-ghost use Rattle.fm_loader.specs.Rules.{Gives};
+ghost use Rattle.fm_loader.specs.Rules.{GivesValues};
 ghost use Rattle.fm_loader.specs.Values.{values_in};
-ghost use Rattle.gypsy_syntax.specs.SourceView.{source_of};
+ghost use Rattle.gypsy_syntax.specs.Seen.SourceView.{source_of};
 ghost use Rattle.stack_build.specs.Image.{formal_slots};
 ghost use Rattle.stack_build.specs.Implements.{FitsFormals};
 
@@ -24,7 +24,8 @@ pub fn read_formals(
     text: &[u8],
 ) -> Result<Vec<Value>, ValuesFault>
     requires { length text.now ≤ 2 ^ 31 }
-    ensures value { Gives (λ values. values.items) result (values_in (formal_slots (source_of accepted.now)) text.now) }
+    ensures value { GivesValues (λ values. values.items) result
+        (values_in (formal_slots (source_of accepted.now)) text.now) }
     ensures fits { IfOk result (λ values. FitsFormals (source_of accepted.now) values.items) }
 {
     let source = accepted.source();

@@ -1,34 +1,69 @@
-//! The image of a source whose system was generated.
+//! The image of a linked system, and that of a source whose system was generated.
 ghost use Rattle.std.specs.Prelude.{◌≡◌, ◌≤◌, ◌^◌, ◌∷◌, IfOk, IfErr, map};
 ghost use Rattle.display_maps.specs.Reading.{space_name};
-ghost use Rattle.piton_check.specs.Answers.{IsChecked};
+ghost use Rattle.piton_check.specs.PitonChecking.{IsChecked};
 ghost use Rattle.piton_machine.specs.Fits.{system_in};
 ghost use Rattle.piton_machine.specs.Placed.{placed};
-ghost use Rattle.piton_linker.specs.Layouts.{IsFault};
+ghost use Rattle.piton_linker.specs.Layouts.{places_of, IsFault};
 ghost use Rattle.piton_linker.specs.Theorem.{RunsOnProcessor};
 ghost use Rattle.gypsy_syntax.specs.Resolved.{program_of, shape_of};
-ghost use Rattle.gypsy_syntax.specs.SourceView.{source_of};
+ghost use Rattle.gypsy_syntax.specs.Seen.SourceView.{source_of};
 ghost use Rattle.gypsy_check.specs.Accepted.{IsAccepted};
 ghost use Rattle.gypsy_space.specs.Events.{AreNeeds};
-ghost use Rattle.stack_build.specs.Image.{slots_from, image_on};
-ghost use Rattle.stack_build.specs.Listing.{IsGenerated};
-ghost use Rattle.stack_build.specs.Showing.{AreShort};
+ghost use Rattle.gypsy_space.specs.Nodes.{declared_names, seen_proc_names, seen_program};
+ghost use Rattle.stack_build.specs.Image.{slots_from, linked_image, image_on};
+ghost use Rattle.stack_build.specs.Scaffold.Listing.{IsGenerated};
+ghost use Rattle.stack_build.specs.Scaffold.Showing.{AreShort};
 
 use crate::shown::{formal_conditions, shown_formals};
 use crate::tables::tables;
 use display_maps::space_name;
-use fm_image::{Image, Slot};
-use fm_words::Flags;
+use fm_image::{Image, Slot, bare_image};
 use gypsy_check::Accepted;
-use gypsy_space::Needs;
+use gypsy_space::{Needs, Program};
 use gypsy_syntax::{Decl, TypeText};
 use piton_check::Checked;
 use piton_linker::{LinkFault, Linked, layout, link};
-use stack_text::{Memory, Name, Named, Shape};
+use stack_text::{MOST_ARRAY, Memory, Name, Named, Shape};
 use std::alloc::Global;
 
-/// The version of image files that have procedures and marks.
-const MARKED: u32 = 2;
+/// The image of a linked system, and the address of each instruction of each program.
+fn placed_image(alloc: Global, piton: &Checked) -> Result<(Image, Vec<Vec<u32>>), LinkFault>
+    requires { IsChecked piton.now }
+    ensures image { IfOk result (λ linked. linked.0 ≡ linked_image (system_in piton.now)) }
+    ensures places { IfOk result
+        (λ linked. map (λ row. row.items) linked.1.items
+        ≡ places_of (system_in piton.now) 0 (system_in piton.now).programs) }
+    ensures small { IfOk result (λ linked. (placed (system_in piton.now)).size ≤ 2 ^ 20) }
+    ensures fault { IfErr result (IsFault (system_in piton.now)) }
+    ensures runs { IfOk result (λ linked. RunsOnProcessor (system_in piton.now)) }
+{
+    let Linked {
+        base,
+        size,
+        final_pc,
+        registers,
+        words,
+        places,
+    } = link(alloc, piton)?;
+    let image = bare_image(alloc, base, size, final_pc, registers, words);
+    Ok((image, places))
+}
+
+/// The image of a linked system, which tells of no source: it has no condition word, no slot, no procedure and no mark.
+///
+/// # Errors
+///
+/// The placed words of the system are over 1,048,576, or memory runs out.
+pub fn linked_image(alloc: Global, piton: &Checked) -> Result<Image, LinkFault>
+    requires { IsChecked piton.now }
+    ensures image { IfOk result (λ image. image ≡ linked_image (system_in piton.now)) }
+    ensures small { IfOk result (λ image. (placed (system_in piton.now)).size ≤ 2 ^ 20) }
+    ensures fault { IfErr result (IsFault (system_in piton.now)) }
+{
+    let (image, _places) = placed_image(alloc, piton)?;
+    Ok(image)
+}
 
 /// The shape of a type that keeps the rules.
 fn shape_of(text: TypeText) -> Shape
@@ -36,7 +71,7 @@ fn shape_of(text: TypeText) -> Shape
     ensures { result ≡ shape_of text }
 {
     let length = match text.length {
-        Some(length) if 0 <= length && length <= 4096 => length as u32,
+        Some(length) if 0 <= length && length <= i128::from(MOST_ARRAY) => length as u32,
         _ => 0,
     };
     Shape {
@@ -82,10 +117,14 @@ fn names(alloc: Global, conditions: &[Named]) -> Result<Vec<Name>, Memory>
 pub fn image(
     alloc: Global,
     accepted: &Accepted,
+    program: &Program,
     needs: &Needs,
     piton: &Checked,
 ) -> Result<Image, LinkFault>
     requires checked { IsChecked piton.now }
+    requires program { seen_program program.now ≡ program_of (source_of accepted.now) }
+    requires names { map seen_proc_names program.now.procedures.items
+        ≡ map declared_names (source_of accepted.now).procs }
     requires needs { AreNeeds (program_of (source_of accepted.now)) needs.now.procedures.items }
     requires generated { IsGenerated (source_of accepted.now) (system_in piton.now) }
     ensures image { IfOk result (λ image. image ≡ image_on (source_of accepted.now) (system_in piton.now)) }
@@ -94,30 +133,17 @@ pub fn image(
     ensures runs { IfOk result (λ image. RunsOnProcessor (system_in piton.now)) }
     ensures accepted { IfOk result (λ image. IsAccepted (source_of accepted.now)) }
 {
-    let Linked {
-        base,
-        size,
-        final_pc,
-        registers,
-        words,
-        places,
-    } = link(alloc, piton)?;
+    let (linked, places) = placed_image(alloc, piton)?;
     let source = accepted.source();
     let parts = layout(piton);
     let bottom = parts.end - 1;
-    let (procedures, marks) = tables(alloc, accepted, needs, &places)?;
+    let (procedures, marks) = tables(alloc, accepted, program, needs, &places)?;
     Ok(Image {
-        version: MARKED,
-        base,
-        size,
-        final_pc,
-        registers,
-        flags: Flags::NONE,
         condition_address: Some(parts.areas_start as u32),
         conditions: names(alloc, formal_conditions(source))?,
         slots: slots_from(alloc, bottom as u32, shown_formals(source))?,
-        words,
         procedures,
         marks,
+        ..linked
     })
 }

@@ -21,6 +21,7 @@ pub use building::{Built, accept, build, build_accepted, compile};
 pub use built_starts::{ImageStart, SystemStart, start_image, start_system};
 pub use fault::BuildFault;
 pub use formals::read_formals;
+pub use imaging::linked_image;
 pub use law::{
     builds_implement, builds_stay_inside, images_implement, moments_are_read, placed_are_words,
 };

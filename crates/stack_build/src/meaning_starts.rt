@@ -1,12 +1,12 @@
 //! Where the runs of a source's own steps begin.
 
 ghost use Rattle.std.specs.Prelude.{◌≡◌, ◌≤◌, ◌^◌, IfOk, length};
-ghost use Rattle.gypsy_meaning.specs.Belongs.{BelongsTo};
-ghost use Rattle.gypsy_meaning.specs.Running.{seen};
+ghost use Rattle.gypsy_meaning.specs.Seen.Belongs.{BelongsTo};
+ghost use Rattle.gypsy_meaning.specs.Seen.Running.{seen};
 ghost use Rattle.gypsy_space.specs.Events.{AreNeeds, AreSmall};
-ghost use Rattle.gypsy_space.specs.Needs.{stack_words, main_need};
+ghost use Rattle.gypsy_space.specs.Needs.{stack_sizes, main_need};
 ghost use Rattle.gypsy_syntax.specs.Resolved.{program_of};
-ghost use Rattle.gypsy_syntax.specs.SourceView.{source_of};
+ghost use Rattle.gypsy_syntax.specs.Seen.SourceView.{source_of};
 ghost use Rattle.stack_build.specs.Starts.{GivesStart, shortage_of, gypsy_start};
 
 use crate::fault::BuildFault;
@@ -29,7 +29,7 @@ fn shortage_of(
     requires needs { AreNeeds (program_of (source_of accepted.now)) needs.now.procedures.items }
     requires small { AreSmall needs.now.procedures.items }
     ensures { IfOk result (λ shortage. shortage
-        ≡ shortage_of (main_need (program_of (source_of accepted.now))) (stack_words temporary control)) }
+        ≡ shortage_of (main_need (program_of (source_of accepted.now))) (stack_sizes control temporary)) }
 {
     let program = resolve(alloc, accepted)?;
     let need = control_need(&program, needs);
@@ -62,7 +62,7 @@ pub fn start_meaning(
     requires small { AreSmall needs.now.procedures.items }
     requires values { length values.now ≤ 2 ^ 31 }
     ensures start { GivesStart seen result
-        (gypsy_start (source_of accepted.now) (stack_words temporary control) values.now) }
+        (gypsy_start (source_of accepted.now) (stack_sizes control temporary) values.now) }
     ensures belongs { IfOk result (BelongsTo (source_of accepted.now) needs.now.procedures.items) }
 {
     if let Some(shortage) = shortage_of(alloc, accepted, needs, control, temporary)? {

@@ -8,24 +8,21 @@ ghost use Rattle.display_maps.specs.Reading.{space_name};
 ghost use Rattle.piton_check.specs.Instruction.{SystemView};
 ghost use Rattle.piton_linker.specs.Layouts.{places_of};
 ghost use Rattle.gypsy_syntax.specs.Resolved.{program_of};
-ghost use Rattle.gypsy_syntax.specs.SourceView.{proc_of, source_of};
+ghost use Rattle.gypsy_syntax.specs.Seen.SourceView.{proc_of, source_of};
 ghost use Rattle.gypsy_space.specs.Events.{AreNeeds};
-ghost use Rattle.gypsy_space.specs.Nodes.{seen_proc_names, seen_program};
+ghost use Rattle.gypsy_space.specs.Nodes.{declared_names, seen_proc_names, seen_program};
 ghost use Rattle.gypsy_codegen.specs.Acceptable.{total_words};
 ghost use Rattle.stack_build.specs.Image.{procedure_infos, source_tables};
-ghost use Rattle.stack_build.specs.Listing.{Declares, IsGenerated, address_among, formal_infos, frame_infos, listed_procedure, local_infos, mark_among, offset_in};
+ghost use Rattle.stack_build.specs.Scaffold.Listing.{Declares, IsGenerated, address_among, formal_infos, frame_infos, listed_procedure, local_infos, mark_among, offset_in};
 
 use display_maps::space_name;
 use fm_image::{Mark, ProcInfo, VarInfo};
 use gypsy_check::Accepted;
-use gypsy_codegen::{MarkAt, marks};
-use gypsy_space::{Needs, Procedure, Program, resolve};
+use gypsy_codegen::{MarkAt, marks_with};
+use gypsy_space::{Needs, Procedure, Program};
 use gypsy_syntax::Proc;
-use stack_text::{Memory, Name, Shape, Value};
+use stack_text::{MOST_TEXT, Memory, Name, Shape, Value};
 use std::alloc::Global;
-
-/// How long a source can be, in bytes, for its places to stand in an image file.
-const MAX_PLACE: u32 = 1 << 20;
 
 /// How the variables of a procedure stand in its frame: main's as they are declared, and those of any other procedure
 /// with its locals first.
@@ -224,7 +221,7 @@ fn marks_among(alloc: Global, places: &[Vec<u32>], listed: &[MarkAt]) -> Result<
 fn places_fit(listed: &[MarkAt]) -> bool
     ensures { result ≡ list_all (λ m. is_place m.place) listed.now }
 {
-    listed.iter().all(|mark| mark.place < MAX_PLACE)
+    listed.iter().all(|mark| mark.place < MOST_TEXT)
 }
 
 /// The procedures and the marks of an accepted source, where these are the addresses of its system's instructions; none
@@ -232,9 +229,13 @@ fn places_fit(listed: &[MarkAt]) -> bool
 pub(crate) fn tables(
     alloc: Global,
     accepted: &Accepted,
+    program: &Program,
     needs: &Needs,
     places: &[Vec<u32>],
 ) -> Result<(Vec<ProcInfo>, Vec<Mark>), Memory>
+    requires program { seen_program program.now ≡ program_of (source_of accepted.now) }
+    requires names { map seen_proc_names program.now.procedures.items
+        ≡ map declared_names (source_of accepted.now).procs }
     requires needs { AreNeeds (program_of (source_of accepted.now)) needs.now.procedures.items }
     requires words { total_words (program_of (source_of accepted.now)) ≤ 2 ^ 20 }
     ensures { let source = source_of accepted.now in
@@ -243,12 +244,12 @@ pub(crate) fn tables(
         → IfOk result (λ made.
         record { procedures = made.0.items; marks = made.1.items } ≡ source_tables source system) }
 {
-    let listed = marks(alloc, accepted, needs)?;
+    let source = accepted.source();
+    let listed = marks_with(alloc, accepted, program, needs)?;
     if !places_fit(&listed) {
         return Ok((Vec::new(alloc), Vec::new(alloc)));
     }
-    let program = resolve(alloc, accepted)?;
-    let procedures = procedures(alloc, &program, accepted.source().procs.as_slice())?;
+    let procedures = procedures(alloc, program, source.procs.as_slice())?;
     let marks = marks_among(alloc, places, &listed)?;
     Ok((procedures, marks))
 }

@@ -4,6 +4,7 @@ use Rattle.std.proofs.lemmas.List.{take_all, length-drop, get_or-drop}
 use Rattle.stack_text.specs.declared.class.Class.TheVariants.{LineEnd, Space, Semicolon, Opening, Closing, AtomByte, Invalid}
 use Rattle.stack_text.specs.Tokens.{class_of, tokens, between, in_comment}
 use Rattle.stack_text.proofs.TokenLaws.{comment_goes_on, comment_ends, tokens_past}
+use Rattle.stack_text.proofs.SharedLaws.{never_true}
 
 others : (a b c d e : Bool) → cond a Space (cond b Semicolon (cond c Opening (cond d Closing (cond e AtomByte Invalid)))) ≢ LineEnd
 others true b c d e h = cc
@@ -36,10 +37,6 @@ pub nowhere : (text : List ℕ) (at n : ℕ) → at + n ≡ length text → ((k 
 nowhere text at n is h =
     passes n text at (omega arith) h ∙ tokens_past in_comment text (at + n) (omega arith) ∙ sym (tokens_past between text (length text) (omega arith))
 
-not_true : (b : Bool) → (b ≡ true → ⊥) → b ≡ false
-not_true true h = absurd (h refl)
-not_true false h = refl
-
 rest_is : (text : List ℕ) (from : ℕ) → take (length text - from) (drop from text) ≡ drop from text
 rest_is text from = take_all (length text - from) (drop from text) (omega (arith, length-drop from text))
 
@@ -49,7 +46,7 @@ pub found_in : (text : List ℕ) (from n : ℕ) → n < length (take (length tex
 found_in text from n lt h e =
     let at : (k : ℕ) → get_or (take (length text - from) (drop from text)) k 0 ≡ get_or text (from + k) 0 = λ k. ap (λ (xs : List ℕ). get_or xs k 0) (rest_is text from) ∙ get_or-drop from text k 0 in
     found text from n (omega (arith, lt, ap length (rest_is text from), length-drop from text))
-    (λ k l. not_true _ (λ t. h k l (ap (λ (b : ℕ). eqb b 10) (at k) ∙ t)))
+    (λ k l. never_true _ (λ t. h k l (ap (λ (b : ℕ). eqb b 10) (at k) ∙ t)))
     (ap (λ (b : ℕ). eqb b 10) (sym (at n)) ∙ e)
 
 pub nowhere_in : (text : List ℕ) (from : ℕ) → from ≤ length text → ((k : ℕ) → 0 ≤ k → k < length (take (length text - from) (drop from text)) → eqb (get_or (take (length text - from) (drop from text)) k 0) 10 ≡ true → ⊥) →
@@ -57,4 +54,4 @@ pub nowhere_in : (text : List ℕ) (from : ℕ) → from ≤ length text → ((k
 nowhere_in text from le h =
     let at : (k : ℕ) → get_or (take (length text - from) (drop from text)) k 0 ≡ get_or text (from + k) 0 = λ k. ap (λ (xs : List ℕ). get_or xs k 0) (rest_is text from) ∙ get_or-drop from text k 0 in
     nowhere text from (length text - from) (omega arith)
-    (λ k l. not_true _ (λ t. h k (omega arith) (omega (arith, ap length (rest_is text from), length-drop from text)) (ap (λ (b : ℕ). eqb b 10) (at k) ∙ t)))
+    (λ k l. never_true _ (λ t. h k (omega arith) (omega (arith, ap length (rest_is text from), length-drop from text)) (ap (λ (b : ℕ). eqb b 10) (at k) ∙ t)))

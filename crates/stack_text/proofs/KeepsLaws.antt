@@ -1,12 +1,12 @@
 -- What is read keeps the form: its tree has the form of the tree that was read, and is the same value but for places.
-use Rattle.std.proofs.Common.{◌≡◌, ℕ, suc, ◌+◌, ◌<◌, ◌≤◌, ◌^◌, max, Bool, true, false, cond, List, [], ◌∷◌, length, map, Option, Some, None, Ok, Err, refl, sym, ap, subst, ◌∙◌, arith}
+use Rattle.std.proofs.Common.{◌≡◌, ℕ, suc, ◌+◌, ◌<◌, ◌≤◌, ◌^◌, max, Bool, true, false, cond, List, [], ◌∷◌, length, map, Option, Some, Ok, Err, refl, sym, ap, subst, ◌∙◌, arith}
 use Rattle.std.specs.Prelude.{◌&&◌}
 use Rattle.std.specs.List.{find, list_all}
 use Rattle.stack_text.specs.declared.name.Named.{Named}
 use Rattle.stack_text.specs.Names.{is_name}
 use Rattle.stack_text.specs.Tokens.{atom_run}
 use Rattle.stack_text.specs.Trees.{Node, Nodes, atom, list, none, more, depth, depths, node_count, node_counts, AtomsAreRuns, AllAtomsAreRuns, IsWellFormed}
-use Rattle.stack_text.specs.TreeView.{nodes}
+use Rattle.stack_text.specs.Seen.TreeView.{nodes}
 use Rattle.std.proofs.lemmas.Bool.{and_parts}
 use Rattle.stack_text.proofs.AtomLaws.{name_is_run}
 use Rattle.stack_text.specs.Grammar.Judged.{Judged, judged, ◌⊛◌, front, each_of}

@@ -28,3 +28,4 @@ pub mod MadeLaws
 pub mod SizeLaws
 pub mod PlacesLaws
 pub mod PartTextLaws
+pub mod SharedLaws

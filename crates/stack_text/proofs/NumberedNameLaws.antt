@@ -17,7 +17,7 @@ digits_pass (d ∷ ds) h =
     let r = digit_from_value d h.0 in
     rw (le-leb 48 d r.0, le-leb d 57 r.1) (digits_pass ds h.1)
 
-letter_passes : (digit upper lower mark : Bool) → (upper || lower) ≡ true → (((digit || upper) || lower) || mark) ≡ true
+pub letter_passes : (digit upper lower mark : Bool) → (upper || lower) ≡ true → (((digit || upper) || lower) || mark) ≡ true
 letter_passes true upper lower mark e = refl
 letter_passes false true lower mark e = refl
 letter_passes false false true mark e = refl

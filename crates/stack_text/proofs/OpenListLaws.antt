@@ -1,12 +1,14 @@
 -- How the open lists change.
 use Rattle.std.proofs.Common.{◌≡◌, ◌≢◌, Vec, Global, ℕ, suc, ◌+◌, ◌<◌, ◌≤◌, List, [], ◌∷◌, ◌++◌, map, length, Option, Some, None, Result, Ok, Err, refl, sym, ap, ◌∙◌, append_assoc, arith}
-use Rattle.std.proofs.lemmas.List.{append-nil, map_push}
+use Rattle.std.proofs.lemmas.List.{append-nil, length-set, map_push, take_all, take_more_set}
+use Rattle.std.proofs.Math.Seq.{take-suc}
+use Rattle.std.specs.Prelude.{slice_index_or, slice_set, take}
 use Rattle.std.proofs.lemmas.Bool.{lt-ltb, le-ltb}
 use Rattle.stack_text.specs.Tokens.{Token, opens_at, closes_at, atom_at, between, tokens}
 use Rattle.stack_text.specs.Trees.{Node, tokens_of, tokens_of_all, as_kept}
-use Rattle.stack_text.specs.TreeView.{nodes, node_of, nodes_of}
+use Rattle.stack_text.specs.Seen.TreeView.{nodes, node_of, nodes_of}
 use Rattle.stack_text.specs.TextFaults.{Context, before, within, after, open_lists, after_tree, first_fault, text_fault}
-use Rattle.stack_text.specs.OpenLists.{opened, context_from, context, Puts, Steps, ReadsText, ReturnsAlone}
+use Rattle.stack_text.specs.Scaffold.OpenLists.{opened, context_from, context, Puts, Steps, ReadsText, ReturnsAlone}
 use Rattle.stack_text.specs.declared.reader.OpenList.{OpenList}
 use Rattle.stack_text.specs.declared.tree.Tree.{Tree}
 use Rattle.stack_text.specs.declared.tree.Tree.TheBlock.{Atom}
@@ -33,7 +35,7 @@ tokens_of_all-push (x ∷ ts) t = ap (λ (us : List Token). tokens_of x ++ us) (
 pub tokens_of_all-nodes_of-push : (ts : List Tree) (t : Tree) → tokens_of_all (nodes_of (ts ++ t ∷ [])) ≡ tokens_of_all (nodes_of ts) ++ tokens_of (node_of t)
 tokens_of_all-nodes_of-push ts t = ap (λ (us : List Node). tokens_of_all (nodes us)) (map_push node_of ts t) ∙ tokens_of_all-push (map node_of ts) (node_of t)
 
-pub puts : (old rest new : List OpenList) (o p : OpenList) (t : Tree) → old ≡ rest ++ o ∷ [] → new ≡ rest ++ p ∷ [] → p.place ≡ o.place → p.items.items ≡ o.items.items ++ t ∷ [] →
+puts : (old rest new : List OpenList) (o p : OpenList) (t : Tree) → old ≡ rest ++ o ∷ [] → new ≡ rest ++ p ∷ [] → p.place ≡ o.place → p.items.items ≡ o.items.items ++ t ∷ [] →
     (opened new ≡ opened old ++ tokens_of (node_of t)) × (context new ≡ after_tree (context old))
 puts old rest new o p t old_is new_is place_is items_is = (
   ap opened new_is ∙ opened-push rest p
@@ -45,6 +47,17 @@ puts old rest new o p t old_is new_is place_is items_is = (
   ap context new_is ∙ context_from-push before rest p ∙ ap (λ (q : ℕ). within q (context rest)) place_is
       ∙ sym (ap after_tree (ap context old_is ∙ context_from-push before rest o)),
 )
+
+-- the innermost list grows in its place
+pub puts_in_place : (old : List OpenList) (at : ℕ) (o p : OpenList) (t : Tree) → at + 1 ≡ length old → o ≡ slice_index_or old at o → p.place ≡ o.place → p.items.items ≡ o.items.items ++ t ∷ [] →
+    (opened (slice_set old at p) ≡ opened old ++ tokens_of (node_of t)) × (context (slice_set old at p) ≡ after_tree (context old))
+puts_in_place old at o p t end found place_is items_is = puts old (take at old) (slice_set old at p) o p t old_is new_is place_is items_is
+  where
+    old_is : old ≡ take at old ++ o ∷ []
+    old_is = sym (take_all (suc at) old (omega (arith, end))) ∙ take-suc old at o (omega (arith, end)) ∙ ap (λ (x : OpenList). take at old ++ x ∷ []) (sym found)
+
+    new_is : slice_set old at p ≡ take at old ++ p ∷ []
+    new_is = sym (take_all (at + 1) (slice_set old at p) (omega (arith, end, length-set old at p))) ∙ take_more_set old at p (omega (arith, end))
 
 -- ---- what a token makes of the context
 

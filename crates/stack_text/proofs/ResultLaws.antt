@@ -1,5 +1,5 @@
 -- Steps one after the other, each of which may fail.
-use Rattle.std.proofs.Common.{◌≡◌, Bool, true, false, cond, Result, Ok, Err, refl, ap}
+use Rattle.std.proofs.Common.{◌≡◌, Result, Ok, Err, refl, ap}
 use Rattle.stack_text.specs.Results.{◌>>=◌}
 
 -- where the whole came to a value, so did its first step, and the second from there

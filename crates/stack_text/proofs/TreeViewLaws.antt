@@ -1,7 +1,7 @@
 -- What a clause sees of a tree that is made, and that is matched.
 use Rattle.std.proofs.Common.{◌≡◌, Vec, Global, ℕ, sym, ap, ◌∙◌}
 use Rattle.stack_text.specs.Trees.{Node, atom, list}
-use Rattle.stack_text.specs.TreeView.{node_of_layer, node_of, nodes_of}
+use Rattle.stack_text.specs.Seen.TreeView.{node_of_layer, node_of, nodes_of}
 use Rattle.stack_text.specs.declared.tree.Tree.{Tree}
 use Rattle.stack_text.specs.declared.tree.Tree.TheBlock.{Atom}
 use Rattle.stack_text.specs.declared.tree.Tree.TheViews.{List as MadeList}

@@ -9,15 +9,14 @@ pub mod Names
 pub mod Numerals
 pub mod Values
 pub mod Lines
--- What is shared: what a call gives, steps that may fail, how clauses see a `Tree`, and the least breach of rules.
+-- What is shared: limits, what a call gives, steps that may fail, and the least breach of rules.
+pub mod SharedLimits
 pub mod Gives
 pub mod Results
 pub mod Options
-pub mod TreeView
 pub mod Breaches
 -- Grammars, which the crates above read and print their texts by.
 pub mod Grammar
--- Scaffold: what only private functions and lemmas say.
-pub mod Spellings
-pub mod TokenSpans
-pub mod OpenLists
+-- In folders: how clauses see the code, scaffold.
+pub mod Seen
+pub mod Scaffold

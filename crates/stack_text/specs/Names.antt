@@ -4,6 +4,7 @@ use Rattle.std.specs.Prelude.{not, ◌&&◌, ◌||◌, ◌==◌, nat_le, if◌th
 use Rattle.std.specs.List.{list_all}
 use Rattle.std.specs.Str.{bytes_eq}
 use Rattle.std.specs.Char.{is_ascii_alphabetic, is_ascii_alphanumeric}
+use Rattle.stack_text.specs.SharedLimits.{most_name_bytes}
 
 -- `-`, `_`, `*` or `$`
 abbrev pub is_mark : ℕ → Bool
@@ -23,7 +24,8 @@ is_truth_word bytes = bytes_eq bytes (codes "true") || bytes_eq bytes (codes "fa
 
 -- a letter and up to 63 more letters, digits and marks, other than a word for a truth value
 abbrev pub is_name : List ℕ → Bool
-is_name bytes = begins_with_letter bytes && list_all is_name_byte bytes && nat_le (length bytes) 64 && not (is_truth_word bytes)
+is_name bytes =
+    begins_with_letter bytes && list_all is_name_byte bytes && nat_le (length bytes) most_name_bytes && not (is_truth_word bytes)
 
 -- the name that the bytes are, if they are one
 abbrev pub name_of : List ℕ → Option (List ℕ)

@@ -1,5 +1,6 @@
 -- What is wrong with a text that is no tree's, the first thing from the left.
 use Rattle.std.specs.Prelude.{◌≡◌, ℕ, suc, List, [], ◌∷◌, length, Option, Some, None, Result, Ok, Err, nat_lt, if◌then◌else◌}
+use Rattle.stack_text.specs.SharedLimits.{most_nesting}
 use Rattle.stack_text.specs.declared.text_fault.TextRule.{TextRule}
 use Rattle.stack_text.specs.declared.text_fault.TextRule.TheVariants.{G1, G2, G3, G4, G5, G6}
 use Rattle.stack_text.specs.declared.text_fault.TextFault.{TextFault}
@@ -34,7 +35,7 @@ first_fault end before (closes_at q ∷ ts) = Some (G3, q)
 first_fault end before (atom_at q w ∷ ts) = first_fault end after ts
 first_fault end before (invalid_at q ∷ ts) = Some (G1, q)
 first_fault end (within p s) (opens_at q ∷ ts) =
-    if nat_lt (open_lists (within p s)) 200 then first_fault end (within q (within p s)) ts else Some (G4, q)
+    if nat_lt (open_lists (within p s)) most_nesting then first_fault end (within q (within p s)) ts else Some (G4, q)
 first_fault end (within p s) (closes_at q ∷ ts) = first_fault end (after_tree s) ts
 first_fault end (within p s) (atom_at q w ∷ ts) = first_fault end (within p s) ts
 first_fault end (within p s) (invalid_at q ∷ ts) = Some (G1, q)

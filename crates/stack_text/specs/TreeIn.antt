@@ -1,5 +1,6 @@
 -- The tree of a text as a function of the text: its tokens are put together from the last to the first.
-use Rattle.std.specs.Prelude.{ℕ, List, [], ◌∷◌, Option, Some, None, Result, Ok, Err}
+use Rattle.std.specs.Prelude.{ℕ, List, [], ◌∷◌, Option, Some, None, Result}
+use Rattle.stack_text.specs.Results.{unless_fault}
 use Rattle.stack_text.specs.declared.text_fault.TextRule.{TextRule}
 use Rattle.stack_text.specs.declared.text_fault.TextFault.{TextFault}
 use Rattle.stack_text.specs.declared.text_fault.TextFault.TheVariants.{Fault, Memory}
@@ -7,7 +8,7 @@ use Rattle.stack_text.specs.declared.tree.Tree.{Tree}
 use Rattle.stack_text.specs.Gives.{Gives}
 use Rattle.stack_text.specs.Tokens.{Token, opens_at, closes_at, atom_at, invalid_at, between, tokens}
 use Rattle.stack_text.specs.Trees.{Node, Nodes, atom, list, none, more}
-use Rattle.stack_text.specs.TreeView.{node_of}
+use Rattle.stack_text.specs.Seen.TreeView.{node_of}
 use Rattle.stack_text.specs.TextFaults.{text_fault}
 
 -- a tree put in front of the items of the innermost list
@@ -31,10 +32,6 @@ items_of (invalid_at place ∷ ts) = items_of ts
 abbrev pub first_item : List Nodes → Node
 first_item (more t ts ∷ outer) = t
 first_item items = list 0 none
-
-abbrev pub unless_fault : Option (TextRule × ℕ) → Node → Result Node (TextRule × ℕ)
-unless_fault None t = Ok t
-unless_fault (Some fault) t = Err fault
 
 -- the tree that a text is, or else its first fault
 unfoldable pub tree_in : List ℕ → Result Node (TextRule × ℕ)

@@ -1,5 +1,6 @@
 -- Trees, and the grammar of texts: a text is a tree where both have the same tokens.
 use Rattle.std.specs.Prelude.{◌≡◌, ℕ, suc, ◌+◌, ◌<◌, ◌≤◌, ◌^◌, max, List, [], ◌∷◌, ◌++◌, length, map}
+use Rattle.stack_text.specs.SharedLimits.{most_nesting}
 use Rattle.stack_text.specs.Tokens.{Token, opens_at, closes_at, atom_at, invalid_at, between, tokens, atom_run}
 
 -- a tree: an atom with its place and bytes, or a list with the place of its `(` and its items
@@ -46,7 +47,7 @@ abbrev mutual
 -- the text is one tree: its tokens are those of the whole tree, and no more than 200 lists nest
 pub record TreeOf (text : List ℕ) (t : Node) : Type 0 where
   pub tokens_are : map as_kept (tokens between 0 text) ≡ tokens_of t
-  pub shallow : depth t ≤ 200
+  pub shallow : depth t ≤ most_nesting
 
 abbrev mutual
   -- each atom is a non-empty run of atom bytes
@@ -71,7 +72,7 @@ abbrev mutual
 -- the form that a tree which was read has, whatever its places
 pub record IsWellFormed (t : Node) : Type 0 where
   pub atoms : AtomsAreRuns t
-  pub shallow : depth t ≤ 200
+  pub shallow : depth t ≤ most_nesting
   pub few : node_count t ≤ 2 ^ 31
 
 abbrev mutual

@@ -19,6 +19,13 @@ kind_name Integer = codes "integer"
 kind_name Boolean = codes "boolean"
 kind_name Character = codes "character"
 
+-- the two are one kind
+abbrev pub same_kind : Kind → Kind → Bool
+same_kind Integer Integer = true
+same_kind Boolean Boolean = true
+same_kind Character Character = true
+same_kind _ _ = false
+
 -- one for a simple type, and else the length of the array
 abbrev pub item_count : Shape → ℕ
 item_count shape = if shape.length == 0 then 1 else shape.length

@@ -23,6 +23,7 @@ pub enum Class {
 }
 
 /// The class of a byte.
+#[inline]
 pub fn class_of_byte(byte: u8) -> Class
     ensures { result ≡ class_of byte }
 {

@@ -8,6 +8,8 @@ mod class;
 pub mod grammar;
 mod law;
 mod lexer;
+mod limits;
+mod line;
 mod memory;
 mod name;
 mod numeral;
@@ -21,6 +23,11 @@ mod value;
 
 pub use breach::{Breach, note_if};
 pub use law::tree_or_fault;
+pub use limits::{
+    MOST_ARRAY, MOST_DECLARED, MOST_IMAGE_FILE, MOST_NAME_BYTES, MOST_PROCEDURES, MOST_STACK,
+    MOST_STEPS, MOST_TASKS, MOST_TEXT,
+};
+pub use line::is_plain_line;
 pub use memory::Memory;
 pub use name::{Name, Named, is_name, read_name};
 pub use numeral::{is_digits, is_numeral, read_numeral};

@@ -5,34 +5,49 @@ ghost use Rattle.std.specs.List.{list_all};
 ghost use Rattle.stack_text.specs.Gives.{Returns};
 ghost use Rattle.stack_text.specs.Grammar.Printed.{unplaced};
 ghost use Rattle.stack_text.specs.Names.{begins_with_letter, is_mark, is_name, is_name_byte, is_truth_word, name_of};
+ghost use Rattle.stack_text.specs.Seen.NameView.{kept_bytes, FitsInPlace};
 
 use crate::Memory;
+use crate::limits::MOST_NAME_BYTES;
 use std::alloc::{AllocError, Global};
 use std::hash::{Hash, Hasher};
 use std::marker::Model;
 
-/// The most bytes that a name has.
-const MAX_NAME_LENGTH: usize = 64;
+/// The most bytes that a name has in place: as many as a longer one takes for its vector.
+const MAX_IN_PLACE: usize = 30;
+
+/// Where a name has its bytes.
+#[derive(Debug, Drop)]
+pub(crate) enum NameBytes {
+    /// In place, where the first so many are the name's.
+    InPlace {
+        length: u8,
+        bytes: [u8; MAX_IN_PLACE],
+    },
+    /// In memory of their own, where they are too many.
+    InVector(Vec<u8>),
+}
 
 /// A name: a letter, followed by up to 63 letters, digits and marks, which are `-`, `_`, `*` and `$`. The words `true`
 /// and `false` are truth values and no names.
 ///
 /// Upper and lower case differ. Contracts see a name as its bytes, and it is compared and hashed by them, so that it
-/// can be a key of a map.
+/// can be a key of a map. One of up to 30 bytes takes no memory.
 #[derive(Debug, Drop)]
 pub struct Name {
-    bytes: Vec<u8>,
+    kept: NameBytes,
 }
 
 impl Model for Name {
     ghost use Rattle.std.specs.Prelude.{List, ℕ, IsTrue};
     ghost use Rattle.stack_text.specs.Names.{is_name};
+    ghost use Rattle.stack_text.specs.Seen.NameView.{kept_bytes, FitsInPlace};
 
     ghost Value = { List ℕ };
 
-    ghost view = { λ n. n.bytes.items };
+    ghost view = { λ n. kept_bytes n.kept };
 
-    ghost invariant = { λ n. IsTrue (is_name n.bytes.items) };
+    ghost invariant = { λ n. FitsInPlace n.kept × IsTrue (is_name (kept_bytes n.kept)) };
 }
 
 impl Name {
@@ -41,7 +56,10 @@ impl Name {
         ensures bytes { result.now ≡ self.now }
         ensures name { IsTrue (is_name self.now) }
     {
-        self.bytes.as_slice()
+        match &self.kept {
+            NameBytes::InPlace { length, bytes } => &bytes[..*length as usize],
+            NameBytes::InVector(bytes) => bytes.as_slice(),
+        }
     }
 
     /// The name, with 0 for its place.
@@ -59,8 +77,16 @@ impl Clone for Name {
     ghost is_clone = { λ old new. new ≡ old };
 
     fn clone(&self) -> Result<Name, AllocError> {
-        let bytes = Vec::from_slice(*self.bytes.allocator(), self.bytes.as_slice())?;
-        Ok(Name { bytes })
+        let kept = match &self.kept {
+            NameBytes::InPlace { length, bytes } => NameBytes::InPlace {
+                length: *length,
+                bytes: *bytes,
+            },
+            NameBytes::InVector(bytes) => {
+                NameBytes::InVector(Vec::from_slice(*bytes.allocator(), bytes.as_slice())?)
+            }
+        };
+        Ok(Name { kept })
     }
 }
 
@@ -74,7 +100,7 @@ impl PartialEq for Name {
     ghost laws = { Prim.search (comparing, rules) };
 
     fn eq(&self, other: &Self) -> bool {
-        self.bytes.as_slice() == other.bytes.as_slice()
+        self.bytes() == other.bytes()
     }
 }
 
@@ -95,7 +121,7 @@ impl Hash for Name {
     ghost respects_eq = { Prim.search (hashing, rules) };
 
     fn hash<H: Hasher>(&self, state: &mut H) {
-        self.bytes.as_slice().hash(state);
+        self.bytes().hash(state);
     }
 }
 
@@ -114,10 +140,29 @@ impl Named {
         requires { IsTrue (is_name bytes.now) }
         ensures { IfOk result (λ named. named ≡ unplaced bytes.now) }
     {
-        match read_name(alloc, bytes)? {
-            Some(name) => Ok(Named { place: 0, name }),
-            None => unreachable!(),
-        }
+        let kept = keep_bytes(alloc, bytes)?;
+        Ok(Named {
+            place: 0,
+            name: Name { kept },
+        })
+    }
+}
+
+/// The bytes, in place where there is room for them.
+fn keep_bytes(alloc: Global, bytes: &[u8]) -> Result<NameBytes, Memory>
+    ensures bytes { IfOk result (λ kept. kept_bytes kept ≡ bytes.now) }
+    ensures fits { IfOk result FitsInPlace }
+{
+    let length = bytes.len();
+    if length <= MAX_IN_PLACE {
+        let mut in_place = [0; MAX_IN_PLACE];
+        in_place[..length].copy_from_slice(bytes);
+        Ok(NameBytes::InPlace {
+            length: length as u8,
+            bytes: in_place,
+        })
+    } else {
+        Ok(NameBytes::InVector(Vec::from_slice(alloc, bytes)?))
     }
 }
 
@@ -165,7 +210,7 @@ pub fn is_name(bytes: &[u8]) -> bool
 {
     begins_with_letter(bytes)
         && are_name_bytes(bytes)
-        && bytes.len() <= MAX_NAME_LENGTH
+        && bytes.len() <= MOST_NAME_BYTES as usize
         && !is_truth_word(bytes)
 }
 
@@ -176,6 +221,6 @@ pub fn read_name(alloc: Global, bytes: &[u8]) -> Result<Option<Name>, Memory>
     if !is_name(bytes) {
         return Ok(None);
     }
-    let bytes = Vec::from_slice(alloc, bytes)?;
-    Ok(Some(Name { bytes }))
+    let kept = keep_bytes(alloc, bytes)?;
+    Ok(Some(Name { kept }))
 }

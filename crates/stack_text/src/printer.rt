@@ -3,7 +3,7 @@
 ghost use Rattle.std.specs.Prelude.{◌≡◌, ◌++◌, ◌==◌, ◌∷◌, [], if◌then◌else◌, OnOk, IfOk};
 ghost use Rattle.stack_text.specs.Trees.{IsWellFormed, ReadsAs};
 ghost use Rattle.stack_text.specs.TreeText.{tree_text};
-ghost use Rattle.stack_text.specs.TreeView.{node_of};
+ghost use Rattle.stack_text.specs.Seen.TreeView.{node_of};
 
 use crate::memory::Memory;
 use crate::tree::Tree;

@@ -3,12 +3,12 @@
 ghost use Rattle.std.specs.Prelude.{◌≡◌, ◌<◌, ◌≤◌, ◌^◌, length, drop, IfOk, MatchResult};
 ghost use Rattle.stack_text.specs.Tokens.{tokens, between};
 ghost use Rattle.stack_text.specs.Trees.{Node, TreeOf, IsWellFormed};
-ghost use Rattle.stack_text.specs.TreeView.{node_of};
+ghost use Rattle.stack_text.specs.Seen.TreeView.{node_of};
 ghost use Rattle.stack_text.specs.TextFaults.{ReportsFault};
 ghost use Rattle.stack_text.specs.TreeIn.{tree_in, GivesTree};
 ghost use Rattle.stack_text.specs.PlaceOrder.{IsInOrder};
-ghost use Rattle.stack_text.specs.TokenSpans.{token_in};
-ghost use Rattle.stack_text.specs.OpenLists.{Puts, Steps, ReturnsAlone, ReadsText};
+ghost use Rattle.stack_text.specs.Scaffold.TokenSpans.{token_in};
+ghost use Rattle.stack_text.specs.Scaffold.OpenLists.{Puts, Steps, ReturnsAlone, ReadsText};
 ghost use Rattle.stack_text.specs.declared.text_fault.TextFault.TheVariants.{Fault, Memory};
 
 use crate::lexer::{TokenKind, TokenSpan, next_token};
@@ -17,7 +17,7 @@ use crate::tree::Tree;
 use std::alloc::Global;
 
 /// How many lists may lie in one another.
-const MAX_DEPTH: usize = 200;
+const MOST_NESTING: usize = 200;
 
 /// A list that is not closed yet.
 #[derive(Drop)]
@@ -32,11 +32,10 @@ pub struct OpenList {
 fn put(stack: &mut Vec<OpenList>, tree: Tree) -> Result<Option<Tree>, TextFault>
     ensures { Puts stack.old.items tree result stack.new.items }
 {
-    match stack.pop() {
+    match stack.last_mut() {
         None => Ok(Some(tree)),
-        Some(mut innermost) => {
+        Some(innermost) => {
             innermost.items.push(tree)?;
-            stack.push(innermost)?;
             Ok(None)
         }
     }
@@ -69,7 +68,7 @@ fn step(
     match found.kind {
         TokenKind::Invalid => Err(fault_at(TextRule::G1, found.start)),
         TokenKind::Opening => {
-            if stack.len() >= MAX_DEPTH {
+            if stack.len() >= MOST_NESTING {
                 return Err(fault_at(TextRule::G4, found.start));
             }
             let items = Vec::new(alloc);

@@ -1,7 +1,7 @@
 //! Kinds and shapes of values.
 
 ghost use Rattle.std.specs.Prelude.{◌≡◌};
-ghost use Rattle.stack_text.specs.Values.{is_item, item_count, kind_name};
+ghost use Rattle.stack_text.specs.Values.{is_item, item_count, kind_name, same_kind};
 
 /// What an item of a value is.
 #[derive(Clone, Copy, Debug, PartialEq, Eq)]
@@ -33,6 +33,13 @@ impl Kind {
             Kind::Boolean => "boolean",
             Kind::Character => "character",
         }
+    }
+
+    /// Whether it is this kind.
+    pub fn is(self, other: Kind) -> bool
+        ensures { result ≡ same_kind self other }
+    {
+        self == other
     }
 
     /// Whether the kind has this item.

@@ -15,7 +15,7 @@ pub enum Tree {
 impl Tree {
     ghost use Rattle.std.specs.Prelude.{◌≡◌};
     ghost use Rattle.stack_text.specs.Trees.{place_of};
-    ghost use Rattle.stack_text.specs.TreeView.{node_of};
+    ghost use Rattle.stack_text.specs.Seen.TreeView.{node_of};
 
     /// The place of its first byte.
     pub fn place(&self) -> u32

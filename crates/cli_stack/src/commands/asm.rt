@@ -1,7 +1,7 @@
 //! The command `asm`.
 ghost use Rattle.std.specs.Prelude.{◌≡◌, ◌≤◌, ◌^◌, IfOk, length};
-ghost use Rattle.cli_stack.specs.Asm.{asm_stored, asm_reply};
-ghost use Rattle.cli_stack.specs.Plans.{pending_reply};
+ghost use Rattle.cli_stack.specs.Commands.Asm.{asm_stored, asm_reply};
+ghost use Rattle.cli_stack.specs.Scaffold.Plans.{pending_reply};
 
 use crate::commands::plan::Plan;
 use crate::reply::{RuleLetter, Verdict};

@@ -1,13 +1,14 @@
 //! The command `big`.
-ghost use Rattle.std.specs.Prelude.{◌≡◌, ◌^◌, [], None, IfOk, codes};
-ghost use Rattle.gypsy_syntax.specs.Answers.{KeepsForm};
-ghost use Rattle.gypsy_syntax.specs.SourceView.{source_of};
+ghost use Rattle.std.specs.Prelude.{◌≡◌, [], None, IfOk, codes};
+ghost use Rattle.stack_text.specs.SharedLimits.{most_steps};
+ghost use Rattle.gypsy_syntax.specs.GypsyReading.{KeepsForm};
+ghost use Rattle.gypsy_syntax.specs.Seen.SourceView.{source_of};
 ghost use Rattle.gypsy_check.specs.Rules.{violations};
 ghost use Rattle.gypsy_gen.specs.Large.{large_of};
 ghost use Rattle.fm_loader.specs.Values.{values_in};
-ghost use Rattle.cli_stack.specs.Run.{values_reply};
-ghost use Rattle.cli_stack.specs.Big.{after_text, source_line, go_on_source, big_reply};
-ghost use Rattle.cli_stack.specs.Plans.{pending_reply};
+ghost use Rattle.cli_stack.specs.Commands.Run.{values_reply};
+ghost use Rattle.cli_stack.specs.Commands.Big.{after_text, source_line, go_on_source, big_reply};
+ghost use Rattle.cli_stack.specs.Scaffold.Plans.{pending_reply};
 ghost use Rattle.cli_stack.specs.Replies.{reply_of};
 
 use crate::commands::finish;
@@ -21,7 +22,7 @@ use gypsy_check::{Accepted, CheckFault, check};
 use gypsy_gen::large;
 use gypsy_syntax::{Source, print_gypsy};
 use stack_build::build_accepted;
-use stack_text::{Memory, Seq};
+use stack_text::{MOST_STEPS, Memory, Seq};
 use std::alloc::Global;
 
 /// The value of the source's variable.
@@ -30,20 +31,17 @@ const VALUES: &[u8] = b"((x 0))";
 /// The words of each stack.
 const WORDS: u32 = 64;
 
-/// The most instructions.
-const BUDGET: u64 = 1 << 40;
-
 /// Runs an image of the source on the value 0.
 fn run_on_value(alloc: Global, image: Image) -> Result<Reply, Memory>
     ensures { IfOk result (λ reply. reply_of reply
-        ≡ values_reply image (2 ^ 40) (values_in image.slots (codes "((x 0))"))) }
+        ≡ values_reply image most_steps (values_in image.slots (codes "((x 0))"))) }
 {
-    let pending = begin(alloc, image, VALUES, BUDGET)?;
+    let pending = begin(alloc, image, VALUES, MOST_STEPS)?;
     finish(alloc, pending)
 }
 
 /// Builds a source, and runs it on the value 0.
-#[tactic(auto, unfolding(crate::specs::Big::go_on_source))]
+#[tactic(auto, unfolding(crate::specs::Commands::Big::go_on_source))]
 fn run_accepted(alloc: Global, accepted: &Accepted) -> Result<Reply, Memory>
     ensures { IfOk result (λ reply. reply_of reply ≡ go_on_source (source_of accepted.now)) }
 {
@@ -80,7 +78,7 @@ fn after_text(text: Vec<u8>, reply: Reply) -> Result<Reply, Memory>
 }
 
 /// The line of how many bytes the printed source has.
-#[tactic(auto, unfolding(crate::specs::Big::source_line))]
+#[tactic(auto, unfolding(crate::specs::Commands::Big::source_line))]
 fn source_line(
     alloc: Global,
     source: &Source,
@@ -96,7 +94,7 @@ fn source_line(
 }
 
 /// What is left of `big`: nothing is read and nothing stored.
-#[tactic(auto, unfolding(crate::specs::Big::big_reply))]
+#[tactic(auto, unfolding(crate::specs::Commands::Big::big_reply))]
 pub fn prepare(alloc: Global, number: u32, procedures: &ProcedureCount) -> Result<Plan, Memory>
     ensures stored { IfOk result (λ plan. plan.stored ≡ None) }
     ensures reply { IfOk result (λ plan. pending_reply plan.pending ≡ big_reply number procedures.now) }

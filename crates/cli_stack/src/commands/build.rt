@@ -1,8 +1,8 @@
 //! The command `build`.
 ghost use Rattle.std.specs.Prelude.{◌≡◌, ◌≤◌, ◌^◌, IfOk, length};
 ghost use Rattle.stack_build.specs.Build.{built};
-ghost use Rattle.cli_stack.specs.Build.{image_stored, build_reply};
-ghost use Rattle.cli_stack.specs.Plans.{pending_reply};
+ghost use Rattle.cli_stack.specs.Commands.Build.{image_stored, build_reply};
+ghost use Rattle.cli_stack.specs.Scaffold.Plans.{pending_reply};
 
 use crate::commands::plan::Plan;
 use crate::commands::source_text::refused;

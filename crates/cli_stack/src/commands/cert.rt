@@ -1,9 +1,9 @@
 //! The command `cert`.
 ghost use Rattle.std.specs.Prelude.{◌≡◌, ◌≤◌, ◌^◌, None, IfOk, length};
-ghost use Rattle.gypsy_syntax.specs.SourceView.{source_of};
-ghost use Rattle.gypsy_space.specs.Needs.{stack_words};
-ghost use Rattle.cli_stack.specs.Cert.{yes_or_no, certificate_reply, cert_reply};
-ghost use Rattle.cli_stack.specs.Plans.{pending_reply};
+ghost use Rattle.gypsy_syntax.specs.Seen.SourceView.{source_of};
+ghost use Rattle.gypsy_space.specs.Needs.{stack_sizes};
+ghost use Rattle.cli_stack.specs.Commands.Cert.{yes_or_no, certificate_reply, cert_reply};
+ghost use Rattle.cli_stack.specs.Scaffold.Plans.{pending_reply};
 ghost use Rattle.cli_stack.specs.Replies.{all_said};
 
 use crate::commands::plan::Plan;
@@ -43,7 +43,7 @@ pub fn prepare(
 }
 
 /// Whether a certificate covers an accepted source, in stacks of these sizes.
-#[tactic(auto, unfolding(crate::specs::Cert::certificate_reply))]
+#[tactic(auto, unfolding(crate::specs::Commands::Cert::certificate_reply))]
 fn judge(
     alloc: Global,
     accepted: &Accepted,
@@ -54,7 +54,7 @@ fn judge(
     requires { length certificate.now ≤ 2 ^ 31 }
     ensures stored { IfOk result (λ plan. plan.stored ≡ None) }
     ensures reply { IfOk result (λ plan. pending_reply plan.pending
-        ≡ certificate_reply (source_of accepted.now) (stack_words temporary control) certificate.now) }
+        ≡ certificate_reply (source_of accepted.now) (stack_sizes control temporary) certificate.now) }
 {
     let needs = needs(alloc, accepted)?;
     match read_certificate(alloc, certificate, accepted) {

@@ -1,7 +1,7 @@
 //! The command `check`.
 ghost use Rattle.std.specs.Prelude.{◌≡◌, ◌≤◌, ◌^◌, None, IfOk, length};
-ghost use Rattle.cli_stack.specs.Check.{check_reply};
-ghost use Rattle.cli_stack.specs.Plans.{pending_reply};
+ghost use Rattle.cli_stack.specs.Commands.Check.{check_reply};
+ghost use Rattle.cli_stack.specs.Scaffold.Plans.{pending_reply};
 
 use crate::commands::plan::Plan;
 use crate::commands::source_text::read_accepted;

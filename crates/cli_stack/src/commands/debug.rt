@@ -1,9 +1,9 @@
 //! The command `debug`.
 ghost use Rattle.std.specs.Prelude.{◌≡◌, ◌≤◌, ◌^◌, List, [], None, Some, IfOk, length, map};
-ghost use Rattle.gypsy_space.specs.Needs.{stack_words};
-ghost use Rattle.gypsy_syntax.specs.SourceView.{source_of};
+ghost use Rattle.gypsy_space.specs.Needs.{stack_sizes};
+ghost use Rattle.gypsy_syntax.specs.Seen.SourceView.{source_of};
 ghost use Rattle.level_debuggers.specs.Levels.{IsRunner, LevelOf, level_of};
-ghost use Rattle.level_debuggers.specs.Sessions.{IsSession, session_of};
+ghost use Rattle.level_debuggers.specs.Seen.Sessions.{IsSession, session_of};
 ghost use Rattle.level_debuggers.specs.Transcripts.{followed};
 ghost use Rattle.level_debuggers.specs.Tallies.{Watching, watching};
 ghost use Rattle.stack_build.specs.Starts.{GivesStart};
@@ -12,8 +12,8 @@ ghost use Rattle.command_line.specs.declared.role.Role.TheVariants as Role;
 ghost use Rattle.command_line.specs.declared.words.reader.Level.TheVariants as Level;
 ghost use Rattle.command_line.specs.Gathered.{text_of};
 ghost use Rattle.cli_stack.specs.Replies.{verdict_alone};
-ghost use Rattle.cli_stack.specs.Debug.{run_at, run_in, found_run, session_on, end_verdict, followed_reply, script_verdict, script_reply, debug_reply};
-ghost use Rattle.cli_stack.specs.Plans.{pending_reply};
+ghost use Rattle.cli_stack.specs.Commands.Debug.{run_at, run_in, found_run, session_on, end_verdict, followed_reply, script_verdict, script_reply, debug_reply};
+ghost use Rattle.cli_stack.specs.Scaffold.Plans.{pending_reply};
 
 use crate::commands::plan::{Pending, Plan};
 use crate::commands::source_text::{read_accepted, start_verdict};
@@ -65,7 +65,7 @@ fn gypsy_runner(
 ) -> Result<Runner, StartFault>
     requires { length values.now ≤ 2 ^ 31 }
     ensures run { GivesStart level_of result
-        (run_at Level.Gypsy (source_of accepted) (stack_words temporary control) values.now) }
+        (run_at Level.Gypsy (source_of accepted) (stack_sizes control temporary) values.now) }
     ensures is { IfOk result IsRunner }
 {
     let needs = needs(alloc, &accepted)?;
@@ -87,7 +87,7 @@ fn piton_runner(
 ) -> Result<Runner, StartFault>
     requires { length values.now ≤ 2 ^ 31 }
     ensures run { GivesStart level_of result
-        (run_at Level.Piton (source_of accepted.now) (stack_words temporary control) values.now) }
+        (run_at Level.Piton (source_of accepted.now) (stack_sizes control temporary) values.now) }
     ensures is { IfOk result IsRunner }
 {
     let start = start_system(alloc, accepted, control, temporary, values)?;
@@ -108,7 +108,7 @@ fn image_runner(
 ) -> Result<Runner, StartFault>
     requires { length values.now ≤ 2 ^ 31 }
     ensures run { GivesStart level_of result
-        (run_at Level.Fm9001 (source_of accepted.now) (stack_words temporary control) values.now) }
+        (run_at Level.Fm9001 (source_of accepted.now) (stack_sizes control temporary) values.now) }
     ensures is { IfOk result IsRunner }
 {
     let start = start_image(alloc, accepted, control, temporary, values)?;
@@ -129,7 +129,7 @@ fn run_at(
 ) -> Result<Runner, StartFault>
     requires { length values.now ≤ 2 ^ 31 }
     ensures run { GivesStart level_of result
-        (run_at level (source_of accepted) (stack_words temporary control) values.now) }
+        (run_at level (source_of accepted) (stack_sizes control temporary) values.now) }
     ensures is { IfOk result IsRunner }
 {
     match level {
@@ -140,7 +140,7 @@ fn run_at(
 }
 
 /// The runner of the source in a text, or the verdict where there is none.
-#[tactic(auto, unfolding(crate::specs::Debug::run_in))]
+#[tactic(auto, unfolding(crate::specs::Commands::Debug::run_in))]
 fn run_in(
     alloc: Global,
     level: Level,
@@ -152,7 +152,7 @@ fn run_in(
     requires source { length source.now ≤ 2 ^ 31 }
     requires values { length values.now ≤ 2 ^ 31 }
     ensures run { IfOk result (λ found.
-        found_run found ≡ run_in level source.now (stack_words temporary control) values.now) }
+        found_run found ≡ run_in level source.now (stack_sizes control temporary) values.now) }
     ensures is { IfOk result (λ found. IfOk found IsRunner) }
 {
     let accepted = match read_accepted(alloc, source)? {
@@ -211,7 +211,7 @@ fn end_verdict(session: &Session, end: ScriptEnd) -> Result<Verdict, Memory>
 }
 
 /// Follows the lines of a script in a session, and replies what it said.
-#[tactic(auto, unfolding(crate::specs::Debug::lines_reply))]
+#[tactic(auto, unfolding(crate::specs::Commands::Debug::lines_reply))]
 fn reply_of_session(alloc: Global, session: &mut Session, lines: &[Line]) -> Result<Plan, Memory>
     requires { IsSession session.old }
     ensures stored { IfOk result (λ plan. plan.stored ≡ None) }
@@ -233,7 +233,7 @@ fn reply_of_session(alloc: Global, session: &mut Session, lines: &[Line]) -> Res
 }
 
 /// Reads a script, and follows it in a session that has made no step.
-#[tactic(auto, unfolding(crate::specs::Debug::lines_reply))]
+#[tactic(auto, unfolding(crate::specs::Commands::Debug::lines_reply))]
 fn play(alloc: Global, session: &mut Session, script: &[u8]) -> Result<Plan, Memory>
     requires script { length script.now ≤ 2 ^ 31 }
     requires is { IsSession session.old }

@@ -2,10 +2,10 @@
 ghost use Rattle.std.specs.Prelude.{◌≡◌, ◌≤◌, ◌^◌, Some, IfOk, length};
 ghost use Rattle.fm_loader.specs.Values.{values_in};
 ghost use Rattle.stack_build.specs.Build.{built};
-ghost use Rattle.cli_stack.specs.Build.{image_stored};
-ghost use Rattle.cli_stack.specs.Go.{go_reply};
-ghost use Rattle.cli_stack.specs.Run.{values_reply};
-ghost use Rattle.cli_stack.specs.Plans.{pending_reply};
+ghost use Rattle.cli_stack.specs.Commands.Build.{image_stored};
+ghost use Rattle.cli_stack.specs.Commands.Go.{go_reply};
+ghost use Rattle.cli_stack.specs.Commands.Run.{values_reply};
+ghost use Rattle.cli_stack.specs.Scaffold.Plans.{pending_reply};
 
 use crate::commands::plan::Plan;
 use crate::commands::run::begin;

@@ -1,11 +1,11 @@
 //! The command `mean`.
 ghost use Rattle.std.specs.Prelude.{◌≡◌, ◌≤◌, ◌^◌, None, IfOk, length, map};
-ghost use Rattle.gypsy_syntax.specs.SourceView.{source_of};
-ghost use Rattle.gypsy_space.specs.Needs.{stack_words};
-ghost use Rattle.gypsy_meaning.specs.Belongs.{BelongsTo};
-ghost use Rattle.gypsy_meaning.specs.Running.{seen};
-ghost use Rattle.cli_stack.specs.Mean.{said_text, ended_text, mean_end_reply, mean_run_reply, mean_source_reply, mean_reply};
-ghost use Rattle.cli_stack.specs.Plans.{pending_reply};
+ghost use Rattle.gypsy_syntax.specs.Seen.SourceView.{source_of};
+ghost use Rattle.gypsy_space.specs.Needs.{stack_sizes};
+ghost use Rattle.gypsy_meaning.specs.Seen.Belongs.{BelongsTo};
+ghost use Rattle.gypsy_meaning.specs.Seen.Running.{seen};
+ghost use Rattle.cli_stack.specs.Commands.Mean.{said_text, ended_text, mean_end_reply, mean_run_reply, mean_source_reply, mean_reply};
+ghost use Rattle.cli_stack.specs.Scaffold.Plans.{pending_reply};
 
 use crate::commands::plan::Plan;
 use crate::commands::source_text::{read_accepted, start_verdict};
@@ -59,7 +59,7 @@ fn run_source(
     requires { length values.now ≤ 2 ^ 31 }
     ensures stored { IfOk result (λ plan. plan.stored ≡ None) }
     ensures reply { IfOk result (λ plan. pending_reply plan.pending
-        ≡ mean_source_reply (source_of accepted.now) (stack_words temporary control) values.now limit) }
+        ≡ mean_source_reply (source_of accepted.now) (stack_sizes control temporary) values.now limit) }
 {
     let needs = needs(alloc, accepted)?;
     match start_meaning(alloc, accepted, &needs, control, temporary, values) {
@@ -69,7 +69,7 @@ fn run_source(
 }
 
 /// The run of a source's steps from a state on.
-#[tactic(auto, unfolding(crate::specs::Mean::mean_run_reply))]
+#[tactic(auto, unfolding(crate::specs::Commands::Mean::mean_run_reply))]
 fn run_meaning(
     alloc: Global,
     accepted: &Accepted,

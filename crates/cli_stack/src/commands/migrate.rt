@@ -2,9 +2,9 @@
 ghost use Rattle.std.specs.Prelude.{◌≡◌, Some, IfOk};
 ghost use Rattle.fm_image.specs.Image.{in_version_2};
 ghost use Rattle.fm_image.specs.Spelling.{spelling};
-ghost use Rattle.cli_stack.specs.Migrate.{migrate_stored, migrate_reply};
-ghost use Rattle.cli_stack.specs.Pit.{written_reply};
-ghost use Rattle.cli_stack.specs.Plans.{pending_reply};
+ghost use Rattle.cli_stack.specs.Commands.Migrate.{migrate_stored, migrate_reply};
+ghost use Rattle.cli_stack.specs.Commands.Pit.{written_reply};
+ghost use Rattle.cli_stack.specs.Scaffold.Plans.{pending_reply};
 
 use crate::commands::plan::Plan;
 use crate::reply::Verdict;

@@ -1,10 +1,10 @@
 //! The command `mini`.
 ghost use Rattle.std.specs.Prelude.{◌≡◌, ◌≤◌, ◌^◌, Some, IfOk, length};
 ghost use Rattle.gypsy_syntax.specs.Printed.{gypsy_text};
-ghost use Rattle.gypsy_syntax.specs.SourceView.{source_of};
-ghost use Rattle.cli_stack.specs.Mini.{mini_stored, mini_reply};
-ghost use Rattle.cli_stack.specs.Pit.{written_reply};
-ghost use Rattle.cli_stack.specs.Plans.{pending_reply};
+ghost use Rattle.gypsy_syntax.specs.Seen.SourceView.{source_of};
+ghost use Rattle.cli_stack.specs.Commands.Mini.{mini_stored, mini_reply};
+ghost use Rattle.cli_stack.specs.Commands.Pit.{written_reply};
+ghost use Rattle.cli_stack.specs.Scaffold.Plans.{pending_reply};
 
 use crate::commands::plan::Plan;
 use crate::reply::{RuleLetter, Verdict};

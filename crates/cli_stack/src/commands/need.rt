@@ -1,12 +1,12 @@
 //! The command `need`.
 ghost use Rattle.std.specs.Prelude.{◌≡◌, ◌≤◌, ◌<◌, ◌^◌, [], Some, IfOk, get_or, length, map};
 ghost use Rattle.gypsy_syntax.specs.Resolved.{procedure_names, program_of};
-ghost use Rattle.gypsy_syntax.specs.SourceView.{proc_of, source_of};
+ghost use Rattle.gypsy_syntax.specs.Seen.SourceView.{proc_of, source_of};
 ghost use Rattle.gypsy_space.specs.Events.{AreNeeds, AreSmall};
 ghost use Rattle.space_cert.specs.CertText.{certificate_text};
 ghost use Rattle.space_cert.specs.Covers.{as_words, sizes_for};
-ghost use Rattle.cli_stack.specs.Need.{sizes_text, certified_stored, certified_reply, need_stored, need_reply};
-ghost use Rattle.cli_stack.specs.Plans.{pending_reply};
+ghost use Rattle.cli_stack.specs.Commands.Need.{sizes_text, certified_stored, certified_reply, need_stored, need_reply};
+ghost use Rattle.cli_stack.specs.Scaffold.Plans.{pending_reply};
 ghost use Rattle.cli_stack.specs.Replies.{all_said};
 
 use crate::commands::plan::{Pending, Plan};
@@ -32,7 +32,7 @@ pub fn prepare(alloc: Global, source: &[u8]) -> Result<Plan, Memory>
 }
 
 /// The certificate of an accepted source, or the procedure that reaches itself.
-#[tactic(auto, unfolding(crate::specs::Need::certified_stored, crate::specs::Need::certified_reply))]
+#[tactic(auto, unfolding(crate::specs::Commands::Need::certified_stored, crate::specs::Commands::Need::certified_reply))]
 fn certify_source(alloc: Global, accepted: &Accepted) -> Result<Plan, Memory>
     ensures stored { IfOk result (λ plan. plan.stored ≡ certified_stored (source_of accepted.now)) }
     ensures reply { IfOk result (λ plan. pending_reply plan.pending ≡ certified_reply (source_of accepted.now)) }

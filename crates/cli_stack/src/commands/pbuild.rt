@@ -1,19 +1,16 @@
 //! The command `pbuild`.
-ghost use Rattle.std.specs.Prelude.{◌≡◌, ◌≤◌, ◌^◌, IfOk, IfErr, length};
-ghost use Rattle.piton_check.specs.Answers.{IsChecked};
+ghost use Rattle.std.specs.Prelude.{◌≡◌, ◌≤◌, ◌^◌, IfOk, length};
+ghost use Rattle.piton_check.specs.PitonChecking.{IsChecked};
 ghost use Rattle.piton_machine.specs.Fits.{system_in};
-ghost use Rattle.piton_machine.specs.Placed.{placed};
-ghost use Rattle.piton_linker.specs.Layouts.{IsFault};
-ghost use Rattle.cli_stack.specs.Pbuild.{linked_image, linked_stored, linked_reply, pbuild_stored, pbuild_reply};
-ghost use Rattle.cli_stack.specs.Plans.{pending_reply};
+ghost use Rattle.cli_stack.specs.Commands.Pbuild.{linked_stored, linked_reply, pbuild_stored, pbuild_reply};
+ghost use Rattle.cli_stack.specs.Scaffold.Plans.{pending_reply};
 
 use crate::commands::piton_text::read_checked;
 use crate::commands::plan::Plan;
 use crate::reply::{SizeOf, Verdict};
-use fm_image::Image;
-use fm_words::Flags;
 use piton_check::Checked;
-use piton_linker::{LinkFault, Linked, link};
+use piton_linker::LinkFault;
+use stack_build::linked_image;
 use stack_text::Memory;
 use std::alloc::Global;
 
@@ -46,35 +43,4 @@ fn link_system(alloc: Global, checked: &Checked) -> Result<Plan, Memory>
         )),
         Err(LinkFault::Memory) => Err(Memory),
     }
-}
-
-/// The image of a checked system, or how many words it has where they are too many.
-fn linked_image(alloc: Global, checked: &Checked) -> Result<Image, LinkFault>
-    requires { IsChecked checked.now }
-    ensures image { IfOk result (λ image. image ≡ linked_image (system_in checked.now)) }
-    ensures small { IfOk result (λ image. (placed (system_in checked.now)).size ≤ 2 ^ 20) }
-    ensures fault { IfErr result (IsFault (system_in checked.now)) }
-{
-    let Linked {
-        base,
-        size,
-        final_pc,
-        registers,
-        words,
-        places: _,
-    } = link(alloc, checked)?;
-    Ok(Image {
-        version: 2,
-        base,
-        size,
-        final_pc,
-        registers,
-        flags: Flags::NONE,
-        condition_address: None,
-        conditions: Vec::new(alloc),
-        slots: Vec::new(alloc),
-        words,
-        procedures: Vec::new(alloc),
-        marks: Vec::new(alloc),
-    })
 }

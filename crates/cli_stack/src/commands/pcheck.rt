@@ -1,7 +1,7 @@
 //! The command `pcheck`.
 ghost use Rattle.std.specs.Prelude.{◌≡◌, ◌≤◌, ◌^◌, None, IfOk, length};
-ghost use Rattle.cli_stack.specs.Pcheck.{pcheck_reply};
-ghost use Rattle.cli_stack.specs.Plans.{pending_reply};
+ghost use Rattle.cli_stack.specs.Commands.Pcheck.{pcheck_reply};
+ghost use Rattle.cli_stack.specs.Scaffold.Plans.{pending_reply};
 
 use crate::commands::piton_text::read_checked;
 use crate::commands::plan::Plan;

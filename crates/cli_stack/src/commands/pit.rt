@@ -1,10 +1,10 @@
 //! The command `pit`.
 ghost use Rattle.std.specs.Prelude.{◌≡◌, ◌≤◌, ◌^◌, Some, IfOk, length};
-ghost use Rattle.piton_syntax.specs.Answers.{KeepsForm};
+ghost use Rattle.piton_syntax.specs.PitonReading.{KeepsForm};
 ghost use Rattle.piton_syntax.specs.Printed.{piton_text};
 ghost use Rattle.stack_build.specs.Build.{compiled};
-ghost use Rattle.cli_stack.specs.Pit.{written_reply, pit_stored, pit_reply};
-ghost use Rattle.cli_stack.specs.Plans.{pending_reply};
+ghost use Rattle.cli_stack.specs.Commands.Pit.{written_reply, pit_stored, pit_reply};
+ghost use Rattle.cli_stack.specs.Scaffold.Plans.{pending_reply};
 
 use crate::commands::plan::Plan;
 use crate::commands::source_text::refused;

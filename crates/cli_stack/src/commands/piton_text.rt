@@ -1,10 +1,10 @@
 //! Piton texts, read and judged.
 ghost use Rattle.std.specs.Prelude.{◌≡◌, ◌≤◌, ◌^◌, Some, IfOk, length};
 ghost use Rattle.stack_text.specs.Breaches.{least};
-ghost use Rattle.piton_syntax.specs.Answers.{KeepsForm, fault_of};
-ghost use Rattle.piton_check.specs.Answers.{IsChecked};
+ghost use Rattle.piton_syntax.specs.PitonReading.{KeepsForm, fault_of};
+ghost use Rattle.piton_check.specs.PitonChecking.{IsChecked};
 ghost use Rattle.piton_check.specs.Violations.{violations};
-ghost use Rattle.cli_stack.specs.PitonText.{piton_verdict, checked_unless, checked_in};
+ghost use Rattle.cli_stack.specs.Commands.PitonText.{piton_verdict, checked_unless, checked_in};
 
 use crate::reply::{RuleLetter, Verdict, text_rule_number};
 use piton_check::{CheckFault, Checked, check};
@@ -58,7 +58,7 @@ fn check_system(alloc: Global, system: System) -> Result<Result<Checked, Verdict
 }
 
 /// The checked system of a text, or the verdict by which the text is refused.
-#[tactic(auto, unfolding(crate::specs::PitonText::checked_in))]
+#[tactic(auto, unfolding(crate::specs::Commands::PitonText::checked_in))]
 pub fn read_checked(alloc: Global, text: &[u8]) -> Result<Result<Checked, Verdict>, Memory>
     requires { length text.now ≤ 2 ^ 31 }
     ensures found { IfOk result (λ found. found ≡ checked_in text.now) }

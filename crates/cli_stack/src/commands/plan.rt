@@ -29,10 +29,10 @@ impl Plan {
     ghost use Rattle.std.specs.Prelude.{◌≡◌, Some, None, IfOk, codes};
     ghost use Rattle.stack_text.specs.Lines.{line};
     ghost use Rattle.fm_image.specs.Spelling.{spelling};
-    ghost use Rattle.cli_stack.specs.Pbuild.{built_reply};
-    ghost use Rattle.cli_stack.specs.Pit.{written_reply};
+    ghost use Rattle.cli_stack.specs.Replies.{built_reply};
+    ghost use Rattle.cli_stack.specs.Commands.Pit.{written_reply};
     ghost use Rattle.cli_stack.specs.Replies.{verdict_alone, all_said};
-    ghost use Rattle.cli_stack.specs.Plans.{pending_reply};
+    ghost use Rattle.cli_stack.specs.Scaffold.Plans.{pending_reply};
 
     /// Stores nothing, and replies a verdict alone. It takes no memory.
     pub fn verdict_alone(alloc: Global, verdict: Verdict) -> Plan

@@ -1,8 +1,8 @@
 //! The command `prun`.
 ghost use Rattle.std.specs.Prelude.{◌≡◌, ◌≤◌, ◌^◌, ◌++◌, None, IfOk, OnOk, length};
 ghost use Rattle.std.specs.List.{flat_map, enumerate_from};
-ghost use Rattle.cli_stack.specs.Prun.{area_line, halted_text, run_end_reply, system_run_reply, prun_reply};
-ghost use Rattle.cli_stack.specs.Plans.{pending_reply};
+ghost use Rattle.cli_stack.specs.Commands.Prun.{area_line, halted_text, run_end_reply, system_run_reply, prun_reply};
+ghost use Rattle.cli_stack.specs.Scaffold.Plans.{pending_reply};
 
 use crate::commands::piton_text::read_checked;
 use crate::commands::plan::Plan;
@@ -27,7 +27,7 @@ pub fn prepare(alloc: Global, piton: &[u8], limit: u64) -> Result<Plan, Memory>
 }
 
 /// The run of a checked system.
-#[tactic(auto, unfolding(crate::specs::Prun::system_run_reply))]
+#[tactic(auto, unfolding(crate::specs::Commands::Prun::system_run_reply))]
 fn run_system(alloc: Global, checked: &Checked, limit: u64) -> Result<Plan, Memory>
     ensures stored { IfOk result (λ plan. plan.stored ≡ None) }
     ensures reply { IfOk result (λ plan. pending_reply plan.pending ≡ system_run_reply checked.now limit) }

@@ -2,8 +2,8 @@
 ghost use Rattle.std.specs.Prelude.{◌≡◌, ◌≤◌, ◌^◌, None, IfOk, length};
 ghost use Rattle.fm_loader.specs.Values.{values_in};
 ghost use Rattle.cli_stack.specs.Replies.{reply_of};
-ghost use Rattle.cli_stack.specs.Run.{end_reply, run_reply, values_reply, image_file_reply};
-ghost use Rattle.cli_stack.specs.Plans.{pending_reply};
+ghost use Rattle.cli_stack.specs.Commands.Run.{end_reply, run_reply, values_reply, image_file_reply};
+ghost use Rattle.cli_stack.specs.Scaffold.Plans.{pending_reply};
 
 use crate::commands::image_run::ImageRun;
 use crate::commands::plan::{Pending, Plan};
@@ -54,7 +54,7 @@ pub fn begin(alloc: Global, image: Image, values: &[u8], budget: u64) -> Result<
 }
 
 /// Runs an image on values of its variables.
-#[tactic(auto, unfolding(crate::specs::Run::run_reply))]
+#[tactic(auto, unfolding(crate::specs::Commands::Run::run_reply))]
 pub fn run_image(alloc: Global, run: &ImageRun) -> Result<Reply, Memory>
     ensures { IfOk result (λ reply. reply_of reply ≡ run_reply run.now.image run.now.values run.now.budget) }
 {

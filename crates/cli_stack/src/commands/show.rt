@@ -1,7 +1,7 @@
 //! The command `show`.
 ghost use Rattle.std.specs.Prelude.{◌≡◌, None, IfOk};
-ghost use Rattle.cli_stack.specs.Show.{show_reply};
-ghost use Rattle.cli_stack.specs.Plans.{pending_reply};
+ghost use Rattle.cli_stack.specs.Commands.Show.{show_reply};
+ghost use Rattle.cli_stack.specs.Scaffold.Plans.{pending_reply};
 
 use crate::commands::plan::Plan;
 use crate::reply::Verdict;

@@ -2,9 +2,9 @@
 ghost use Rattle.std.specs.Prelude.{◌≡◌, ◌≤◌, ◌^◌, Some, None, IfOk, length};
 ghost use Rattle.stack_build.specs.Build.{fault_of};
 ghost use Rattle.stack_build.specs.Starts.{start_fault_of};
-ghost use Rattle.cli_stack.specs.Plans.{pending_reply};
+ghost use Rattle.cli_stack.specs.Scaffold.Plans.{pending_reply};
 ghost use Rattle.cli_stack.specs.Replies.{verdict_alone};
-ghost use Rattle.cli_stack.specs.SourceText.{build_verdict, start_verdict, accepted_in, found_source};
+ghost use Rattle.cli_stack.specs.Commands.SourceText.{build_verdict, start_verdict, accepted_in, found_source};
 
 use crate::commands::plan::Plan;
 use crate::reply::{RuleLetter, SizeOf, Verdict, text_rule_number};
@@ -78,7 +78,7 @@ pub fn start_verdict(fault: StartFault) -> Result<Verdict, Memory>
 }
 
 /// The accepted source of a text, or the verdict by which the text is refused.
-#[tactic(auto, unfolding(crate::specs::SourceText::accepted_in))]
+#[tactic(auto, unfolding(crate::specs::Commands::SourceText::accepted_in))]
 pub fn read_accepted(alloc: Global, text: &[u8]) -> Result<Result<Accepted, Verdict>, Memory>
     requires { length text.now ≤ 2 ^ 31 }
     ensures { IfOk result (λ found. found_source found ≡ accepted_in text.now) }

@@ -1,12 +1,12 @@
 //! The command `turns`: builds sources side by side, and runs their images by turns in one memory.
 ghost use Rattle.std.specs.Prelude.{◌≡◌, ◌≤◌, ◌^◌, All, Some, None, IfOk, length, map};
-ghost use Rattle.gypsy_space.specs.Needs.{stack_words};
+ghost use Rattle.gypsy_space.specs.Needs.{stack_sizes};
 ghost use Rattle.command_line.specs.declared.role.Role.TheVariants.{TaskSource, TaskValues};
 ghost use Rattle.command_line.specs.Gathered.{texts_of};
-ghost use Rattle.cli_stack.specs.Plans.{pending_reply};
+ghost use Rattle.cli_stack.specs.Scaffold.Plans.{pending_reply};
 ghost use Rattle.cli_stack.specs.Replies.{reply_of};
-ghost use Rattle.cli_stack.specs.Turns.{turns_reply, fault_reply};
-ghost use Rattle.cli_stack.specs.Tasks.{fault_of};
+ghost use Rattle.cli_stack.specs.Commands.Turns.{turns_reply, fault_reply};
+ghost use Rattle.cli_stack.specs.Scaffold.Tasks.{fault_of};
 
 mod rounds;
 mod tasks;
@@ -57,7 +57,7 @@ fn reply_to(
 ) -> Result<Reply, Memory>
     requires sources { All (λ text. length text.now ≤ 2 ^ 31) sources.now }
     requires texts { All (λ text. length text.now ≤ 2 ^ 31) texts.now }
-    ensures { IfOk result (λ reply. reply_of reply ≡ turns_reply turn.now budget (stack_words temporary.now control.now)
+    ensures { IfOk result (λ reply. reply_of reply ≡ turns_reply turn.now budget (stack_sizes control.now temporary.now)
         (map (λ text. text.now) sources.now) (map (λ text. text.now) texts.now)) }
 {
     match new_tasks(alloc, sources, texts, control.words(), temporary.words()) {
@@ -77,7 +77,7 @@ pub fn prepare(
 ) -> Result<Plan, Memory>
     ensures stored { IfOk result (λ plan. plan.stored ≡ None) }
     ensures reply { IfOk result (λ plan. pending_reply plan.pending
-        ≡ turns_reply turn.now budget (stack_words temporary.now control.now)
+        ≡ turns_reply turn.now budget (stack_sizes control.now temporary.now)
         (texts_of TaskSource texts.now) (texts_of TaskValues texts.now)) }
 {
     let sources = texts.all_of(alloc, Role::TaskSource)?;

@@ -1,7 +1,7 @@
 //! The command `unasm`.
 ghost use Rattle.std.specs.Prelude.{◌≡◌, IfOk};
-ghost use Rattle.cli_stack.specs.Unasm.{plain_stored, plain_reply, unasm_stored, unasm_reply};
-ghost use Rattle.cli_stack.specs.Plans.{pending_reply};
+ghost use Rattle.cli_stack.specs.Commands.Unasm.{plain_stored, plain_reply, unasm_stored, unasm_reply};
+ghost use Rattle.cli_stack.specs.Scaffold.Plans.{pending_reply};
 
 use crate::commands::plan::Plan;
 use crate::reply::Verdict;

@@ -1,7 +1,7 @@
 //! Prints how a command ended, and keeps its machine.
 ghost use Rattle.std.specs.Prelude.{◌≡◌, IfOk, Some};
 ghost use Rattle.cli_stack.specs.World.{out_of};
-ghost use Rattle.cli_stack.specs.Driver.{machine_kept, conclusion_of, Concludes};
+ghost use Rattle.cli_stack.specs.Scaffold.Driver.{machine_kept, conclusion_of, Concludes};
 
 use crate::reply::Reply;
 use command_line::{EarlyEnd, Status, print};

@@ -2,10 +2,10 @@
 ghost use Rattle.std.specs.Prelude.{IfOk, IfErr, IfSome, Some, map};
 ghost use Rattle.level_debuggers.specs.Tallies.{watching};
 ghost use Rattle.stack_shelf.specs.Causes.{NoneFell};
-ghost use Rattle.command_line.specs.Words.{spelled};
-ghost use Rattle.command_line.specs.Rows.{command_of};
+ghost use Rattle.command_line.specs.CommandWords.{spelled};
+ghost use Rattle.command_line.specs.CommandRows.{command_of};
 ghost use Rattle.cli_stack.specs.World.{shelf_of};
-ghost use Rattle.cli_stack.specs.Driver.{Leaves, HasReason, IsReplyTo};
+ghost use Rattle.cli_stack.specs.Scaffold.Driver.{Leaves, HasReason, IsReplyTo};
 
 use crate::commands::{Plan, finish, prepare};
 use crate::reply::{Reply, Verdict};

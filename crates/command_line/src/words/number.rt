@@ -1,15 +1,15 @@
 //! Numbers of the command line.
 ghost use Rattle.std.specs.Prelude.{◌≡◌, ◌≤◌, IfSome};
-ghost use Rattle.command_line.specs.Words.{number_within};
+ghost use Rattle.command_line.specs.CommandWords.{number_within};
 
-use stack_text::{is_digits, read_numeral};
+use stack_text::{MOST_STACK, MOST_STEPS, is_digits, read_numeral};
 use std::marker::Model;
 
 /// The most digits of a number word.
 const MOST_DIGITS: usize = 20;
 
 /// The number that a word of at most twenty digits spells, where it is within these bounds.
-#[tactic(auto, unfolding(crate::specs::Words::number_within))]
+#[tactic(auto, unfolding(crate::specs::CommandWords::number_within))]
 pub fn number_within(low: u64, high: u64, word: &str) -> Option<u64>
     ensures value { result ≡ number_within low high word.now }
     ensures low { IfSome result (λ number. low ≤ number) }
@@ -34,23 +34,25 @@ pub struct StackSize {
 
 impl Model for StackSize {
     ghost use Rattle.std.specs.Prelude.{ℕ, ◌≤◌};
+    ghost use Rattle.stack_text.specs.SharedLimits.{most_stack};
 
     ghost Value = { ℕ };
 
     ghost view = { λ size. size.words };
 
-    ghost invariant = { λ size. (1 ≤ size.words) × (size.words ≤ 65536) };
+    ghost invariant = { λ size. (1 ≤ size.words) × (size.words ≤ most_stack) };
 }
 
 impl StackSize {
     ghost use Rattle.std.specs.Prelude.{◌≡◌, ◌≤◌};
-    ghost use Rattle.command_line.specs.Words.{size_of_stack};
+    ghost use Rattle.stack_text.specs.SharedLimits.{most_stack};
+    ghost use Rattle.command_line.specs.CommandWords.{size_of_stack};
 
     /// The size that a word spells.
     pub fn read(word: &str) -> Option<StackSize>
         ensures { result ≡ size_of_stack word.now }
     {
-        match number_within(1, 65_536, word) {
+        match number_within(1, u64::from(MOST_STACK), word) {
             Some(words) => Some(StackSize {
                 words: words as u32,
             }),
@@ -62,7 +64,7 @@ impl StackSize {
     pub fn words(&self) -> u32
         ensures value { result ≡ self.now }
         ensures low { 1 ≤ result }
-        ensures high { result ≤ 65536 }
+        ensures high { result ≤ most_stack }
     {
         self.words
     }
@@ -86,7 +88,7 @@ impl Model for ProcedureCount {
 
 impl ProcedureCount {
     ghost use Rattle.std.specs.Prelude.{◌≡◌, ◌≤◌};
-    ghost use Rattle.command_line.specs.Words.{count_of_procedures};
+    ghost use Rattle.command_line.specs.CommandWords.{count_of_procedures};
 
     /// The number that a word spells.
     pub fn read(word: &str) -> Option<ProcedureCount>
@@ -117,24 +119,26 @@ pub struct TurnLength {
 }
 
 impl Model for TurnLength {
-    ghost use Rattle.std.specs.Prelude.{ℕ, ◌≤◌, ◌^◌};
+    ghost use Rattle.std.specs.Prelude.{ℕ, ◌≤◌};
+    ghost use Rattle.stack_text.specs.SharedLimits.{most_steps};
 
     ghost Value = { ℕ };
 
     ghost view = { λ length. length.instructions };
 
-    ghost invariant = { λ length. (1 ≤ length.instructions) × (length.instructions ≤ 2 ^ 40) };
+    ghost invariant = { λ length. (1 ≤ length.instructions) × (length.instructions ≤ most_steps) };
 }
 
 impl TurnLength {
-    ghost use Rattle.std.specs.Prelude.{◌≡◌, ◌≤◌, ◌^◌};
-    ghost use Rattle.command_line.specs.Words.{length_of_turn};
+    ghost use Rattle.std.specs.Prelude.{◌≡◌, ◌≤◌};
+    ghost use Rattle.stack_text.specs.SharedLimits.{most_steps};
+    ghost use Rattle.command_line.specs.CommandWords.{length_of_turn};
 
     /// The length that a word spells.
     pub fn read(word: &str) -> Option<TurnLength>
         ensures { result ≡ length_of_turn word.now }
     {
-        match number_within(1, 1 << 40, word) {
+        match number_within(1, MOST_STEPS, word) {
             Some(instructions) => Some(TurnLength { instructions }),
             None => None,
         }
@@ -144,7 +148,7 @@ impl TurnLength {
     pub fn instructions(&self) -> u64
         ensures value { result ≡ self.now }
         ensures low { 1 ≤ result }
-        ensures high { result ≤ 2 ^ 40 }
+        ensures high { result ≤ most_steps }
     {
         self.instructions
     }

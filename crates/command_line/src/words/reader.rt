@@ -1,15 +1,12 @@
 //! Reads words one after the other.
 ghost use Rattle.std.specs.Prelude.{◌≡◌};
-ghost use Rattle.command_line.specs.Words.{Reads, ReadsExactly, spelled, first, file, size, limit, seed, procedures, debug_level, level_named, turn_length, task, tasks_within, tasks, end};
+ghost use Rattle.command_line.specs.CommandWords.{Reads, ReadsExactly, spelled, first, file, size, limit, seed, procedures, debug_level, level_named, turn_length, task, tasks_within, tasks, end};
 
 use crate::command::TaskFiles;
 use crate::words::name::FileName;
 use crate::words::number::{ProcedureCount, StackSize, TurnLength, number_within};
-use stack_text::{Memory, Seq};
+use stack_text::{MOST_STEPS, MOST_TASKS, Memory, Seq};
 use std::alloc::{AllocFailed, Global};
-
-/// The most tasks of a command.
-const MOST_TASKS: u32 = 8;
 
 /// Why words are no command.
 #[derive(Clone, Copy, PartialEq, Eq)]
@@ -54,7 +51,7 @@ pub enum Level {
 }
 
 /// The first word, and the words after it.
-#[tactic(auto, unfolding(crate::specs::Words::first))]
+#[tactic(auto, unfolding(crate::specs::CommandWords::first))]
 fn first(words: &[String]) -> Result<(&str, &[String]), WordsFault>
     ensures { ReadsExactly (λ found. (found.0.now, spelled found.1.now)) result (first (spelled words.now)) }
 {
@@ -65,7 +62,7 @@ fn first(words: &[String]) -> Result<(&str, &[String]), WordsFault>
 }
 
 /// The name of a file, which is any word.
-#[tactic(auto, unfolding(crate::specs::Words::file))]
+#[tactic(auto, unfolding(crate::specs::CommandWords::file))]
 pub fn file(alloc: Global, words: &[String]) -> Result<(FileName, &[String]), WordsFault>
     ensures { Reads (λ found. (found.0, spelled found.1.now)) result (file (spelled words.now)) }
 {
@@ -74,7 +71,7 @@ pub fn file(alloc: Global, words: &[String]) -> Result<(FileName, &[String]), Wo
 }
 
 /// The size of a stack.
-#[tactic(auto, unfolding(crate::specs::Words::size))]
+#[tactic(auto, unfolding(crate::specs::CommandWords::size))]
 pub fn size(words: &[String]) -> Result<(StackSize, &[String]), WordsFault>
     ensures { ReadsExactly (λ found. (found.0, spelled found.1.now)) result (size (spelled words.now)) }
 {
@@ -86,19 +83,19 @@ pub fn size(words: &[String]) -> Result<(StackSize, &[String]), WordsFault>
 }
 
 /// The most instructions or steps: at most 2^40.
-#[tactic(auto, unfolding(crate::specs::Words::limit))]
+#[tactic(auto, unfolding(crate::specs::CommandWords::limit))]
 pub fn limit(words: &[String]) -> Result<(u64, &[String]), WordsFault>
     ensures { ReadsExactly (λ found. (found.0, spelled found.1.now)) result (limit (spelled words.now)) }
 {
     let (word, rest) = first(words)?;
-    match number_within(0, 1 << 40, word) {
+    match number_within(0, MOST_STEPS, word) {
         Some(limit) => Ok((limit, rest)),
         None => Err(WordsFault::Usage),
     }
 }
 
 /// The number that a large source is made from: any of 32 bits.
-#[tactic(auto, unfolding(crate::specs::Words::seed))]
+#[tactic(auto, unfolding(crate::specs::CommandWords::seed))]
 pub fn seed(words: &[String]) -> Result<(u32, &[String]), WordsFault>
     ensures { ReadsExactly (λ found. (found.0, spelled found.1.now)) result (seed (spelled words.now)) }
 {
@@ -110,7 +107,7 @@ pub fn seed(words: &[String]) -> Result<(u32, &[String]), WordsFault>
 }
 
 /// How many procedures a large source calls: 1 to 900.
-#[tactic(auto, unfolding(crate::specs::Words::procedures))]
+#[tactic(auto, unfolding(crate::specs::CommandWords::procedures))]
 pub fn procedures(words: &[String]) -> Result<(ProcedureCount, &[String]), WordsFault>
     ensures { ReadsExactly (λ found. (found.0, spelled found.1.now)) result (procedures (spelled words.now)) }
 {
@@ -122,7 +119,7 @@ pub fn procedures(words: &[String]) -> Result<(ProcedureCount, &[String]), Words
 }
 
 /// The level that a word names.
-#[tactic(auto, unfolding(crate::specs::Words::level_named))]
+#[tactic(auto, unfolding(crate::specs::CommandWords::level_named))]
 fn level_named(word: &str) -> Option<Level>
     ensures { result ≡ level_named word.now }
 {
@@ -135,7 +132,7 @@ fn level_named(word: &str) -> Option<Level>
 }
 
 /// The level of a debug session.
-#[tactic(auto, unfolding(crate::specs::Words::debug_level))]
+#[tactic(auto, unfolding(crate::specs::CommandWords::debug_level))]
 pub fn debug_level(words: &[String]) -> Result<(Level, &[String]), WordsFault>
     ensures { ReadsExactly (λ found. (found.0, spelled found.1.now)) result (debug_level (spelled words.now)) }
 {
@@ -147,7 +144,7 @@ pub fn debug_level(words: &[String]) -> Result<(Level, &[String]), WordsFault>
 }
 
 /// How many instructions a turn has: 1 to 2^40.
-#[tactic(auto, unfolding(crate::specs::Words::turn_length))]
+#[tactic(auto, unfolding(crate::specs::CommandWords::turn_length))]
 pub fn turn_length(words: &[String]) -> Result<(TurnLength, &[String]), WordsFault>
     ensures { ReadsExactly (λ found. (found.0, spelled found.1.now)) result (turn_length (spelled words.now)) }
 {
@@ -159,7 +156,7 @@ pub fn turn_length(words: &[String]) -> Result<(TurnLength, &[String]), WordsFau
 }
 
 /// The names of a task's files.
-#[tactic(auto, unfolding(crate::specs::Words::task))]
+#[tactic(auto, unfolding(crate::specs::CommandWords::task))]
 fn task(alloc: Global, words: &[String]) -> Result<(TaskFiles, &[String]), WordsFault>
     ensures { Reads (λ found. (found.0, spelled found.1.now)) result (task (spelled words.now)) }
 {
@@ -186,7 +183,7 @@ fn tasks_within(alloc: Global, most: u32, words: &[String]) -> Result<Seq<TaskFi
 }
 
 /// One to eight tasks, which are all of the words.
-#[tactic(auto, unfolding(crate::specs::Words::tasks))]
+#[tactic(auto, unfolding(crate::specs::CommandWords::tasks))]
 pub fn tasks(alloc: Global, words: &[String]) -> Result<(Seq<TaskFiles>, &[String]), WordsFault>
     ensures { Reads (λ found. (found.0, spelled found.1.now)) result (tasks (spelled words.now)) }
 {
@@ -194,7 +191,7 @@ pub fn tasks(alloc: Global, words: &[String]) -> Result<(Seq<TaskFiles>, &[Strin
 }
 
 /// No further word.
-#[tactic(auto, unfolding(crate::specs::Words::end))]
+#[tactic(auto, unfolding(crate::specs::CommandWords::end))]
 pub fn end(words: &[String]) -> Result<(), WordsFault>
     ensures { ReadsExactly (λ found. found) result (end (spelled words.now)) }
 {

@@ -1,16 +1,15 @@
 //! The words of each command.
-ghost use Rattle.command_line.specs.Words.{Reads, ReadsExactly, spelled};
-ghost use Rattle.command_line.specs.Rows.{check_row, mean_row, pit_row, build_row, pcheck_row, prun_row, pbuild_row, run_row, go_row, show_row, migrate_row, asm_row, unasm_row, need_row, cert_row, mini_row, debug_row, big_row, turns_row, row_of, command_of};
+ghost use Rattle.command_line.specs.CommandWords.{Reads, ReadsExactly, spelled};
+ghost use Rattle.command_line.specs.CommandRows.{check_row, mean_row, pit_row, build_row, pcheck_row, prun_row, pbuild_row, run_row, go_row, show_row, migrate_row, asm_row, unasm_row, need_row, cert_row, debug_row, turns_row, big_row, mini_row, row_of, command_of};
 
 use crate::command::Command;
 use crate::words::reader::{
     WordsFault, debug_level, end, file, limit, procedures, seed, size, tasks, turn_length,
 };
-use crate::words::verb::{Verb, verb_of};
 use std::alloc::Global;
 
 /// `check SRC`
-#[tactic(auto, unfolding(crate::specs::Rows::check_row))]
+#[tactic(auto, unfolding(crate::specs::CommandRows::check_row))]
 fn check_row(alloc: Global, words: &[String]) -> Result<Command, WordsFault>
     ensures { Reads (λ command. command) result (check_row (spelled words.now)) }
 {
@@ -20,7 +19,7 @@ fn check_row(alloc: Global, words: &[String]) -> Result<Command, WordsFault>
 }
 
 /// `mean SRC VALS CTRL TEMP LIMIT`
-#[tactic(auto, unfolding(crate::specs::Rows::mean_row))]
+#[tactic(auto, unfolding(crate::specs::CommandRows::mean_row))]
 fn mean_row(alloc: Global, words: &[String]) -> Result<Command, WordsFault>
     ensures { Reads (λ command. command) result (mean_row (spelled words.now)) }
 {
@@ -40,7 +39,7 @@ fn mean_row(alloc: Global, words: &[String]) -> Result<Command, WordsFault>
 }
 
 /// `pit SRC CTRL TEMP OUT`
-#[tactic(auto, unfolding(crate::specs::Rows::pit_row))]
+#[tactic(auto, unfolding(crate::specs::CommandRows::pit_row))]
 fn pit_row(alloc: Global, words: &[String]) -> Result<Command, WordsFault>
     ensures { Reads (λ command. command) result (pit_row (spelled words.now)) }
 {
@@ -58,7 +57,7 @@ fn pit_row(alloc: Global, words: &[String]) -> Result<Command, WordsFault>
 }
 
 /// `build SRC CTRL TEMP IMG`
-#[tactic(auto, unfolding(crate::specs::Rows::build_row))]
+#[tactic(auto, unfolding(crate::specs::CommandRows::build_row))]
 fn build_row(alloc: Global, words: &[String]) -> Result<Command, WordsFault>
     ensures { Reads (λ command. command) result (build_row (spelled words.now)) }
 {
@@ -76,7 +75,7 @@ fn build_row(alloc: Global, words: &[String]) -> Result<Command, WordsFault>
 }
 
 /// `pcheck PIT`
-#[tactic(auto, unfolding(crate::specs::Rows::pcheck_row))]
+#[tactic(auto, unfolding(crate::specs::CommandRows::pcheck_row))]
 fn pcheck_row(alloc: Global, words: &[String]) -> Result<Command, WordsFault>
     ensures { Reads (λ command. command) result (pcheck_row (spelled words.now)) }
 {
@@ -86,7 +85,7 @@ fn pcheck_row(alloc: Global, words: &[String]) -> Result<Command, WordsFault>
 }
 
 /// `prun PIT LIMIT`
-#[tactic(auto, unfolding(crate::specs::Rows::prun_row))]
+#[tactic(auto, unfolding(crate::specs::CommandRows::prun_row))]
 fn prun_row(alloc: Global, words: &[String]) -> Result<Command, WordsFault>
     ensures { Reads (λ command. command) result (prun_row (spelled words.now)) }
 {
@@ -97,7 +96,7 @@ fn prun_row(alloc: Global, words: &[String]) -> Result<Command, WordsFault>
 }
 
 /// `pbuild PIT IMG`
-#[tactic(auto, unfolding(crate::specs::Rows::pbuild_row))]
+#[tactic(auto, unfolding(crate::specs::CommandRows::pbuild_row))]
 fn pbuild_row(alloc: Global, words: &[String]) -> Result<Command, WordsFault>
     ensures { Reads (λ command. command) result (pbuild_row (spelled words.now)) }
 {
@@ -108,7 +107,7 @@ fn pbuild_row(alloc: Global, words: &[String]) -> Result<Command, WordsFault>
 }
 
 /// `run IMG VALS BUDGET`
-#[tactic(auto, unfolding(crate::specs::Rows::run_row))]
+#[tactic(auto, unfolding(crate::specs::CommandRows::run_row))]
 fn run_row(alloc: Global, words: &[String]) -> Result<Command, WordsFault>
     ensures { Reads (λ command. command) result (run_row (spelled words.now)) }
 {
@@ -124,7 +123,7 @@ fn run_row(alloc: Global, words: &[String]) -> Result<Command, WordsFault>
 }
 
 /// `go SRC VALS CTRL TEMP BUDGET IMG`
-#[tactic(auto, unfolding(crate::specs::Rows::go_row))]
+#[tactic(auto, unfolding(crate::specs::CommandRows::go_row))]
 fn go_row(alloc: Global, words: &[String]) -> Result<Command, WordsFault>
     ensures { Reads (λ command. command) result (go_row (spelled words.now)) }
 {
@@ -146,7 +145,7 @@ fn go_row(alloc: Global, words: &[String]) -> Result<Command, WordsFault>
 }
 
 /// `show IMG`
-#[tactic(auto, unfolding(crate::specs::Rows::show_row))]
+#[tactic(auto, unfolding(crate::specs::CommandRows::show_row))]
 fn show_row(alloc: Global, words: &[String]) -> Result<Command, WordsFault>
     ensures { Reads (λ command. command) result (show_row (spelled words.now)) }
 {
@@ -156,7 +155,7 @@ fn show_row(alloc: Global, words: &[String]) -> Result<Command, WordsFault>
 }
 
 /// `migrate IMG OUT`
-#[tactic(auto, unfolding(crate::specs::Rows::migrate_row))]
+#[tactic(auto, unfolding(crate::specs::CommandRows::migrate_row))]
 fn migrate_row(alloc: Global, words: &[String]) -> Result<Command, WordsFault>
     ensures { Reads (λ command. command) result (migrate_row (spelled words.now)) }
 {
@@ -167,7 +166,7 @@ fn migrate_row(alloc: Global, words: &[String]) -> Result<Command, WordsFault>
 }
 
 /// `asm TEXT IMG`
-#[tactic(auto, unfolding(crate::specs::Rows::asm_row))]
+#[tactic(auto, unfolding(crate::specs::CommandRows::asm_row))]
 fn asm_row(alloc: Global, words: &[String]) -> Result<Command, WordsFault>
     ensures { Reads (λ command. command) result (asm_row (spelled words.now)) }
 {
@@ -178,7 +177,7 @@ fn asm_row(alloc: Global, words: &[String]) -> Result<Command, WordsFault>
 }
 
 /// `unasm IMG OUT`
-#[tactic(auto, unfolding(crate::specs::Rows::unasm_row))]
+#[tactic(auto, unfolding(crate::specs::CommandRows::unasm_row))]
 fn unasm_row(alloc: Global, words: &[String]) -> Result<Command, WordsFault>
     ensures { Reads (λ command. command) result (unasm_row (spelled words.now)) }
 {
@@ -189,7 +188,7 @@ fn unasm_row(alloc: Global, words: &[String]) -> Result<Command, WordsFault>
 }
 
 /// `need SRC CERT`
-#[tactic(auto, unfolding(crate::specs::Rows::need_row))]
+#[tactic(auto, unfolding(crate::specs::CommandRows::need_row))]
 fn need_row(alloc: Global, words: &[String]) -> Result<Command, WordsFault>
     ensures { Reads (λ command. command) result (need_row (spelled words.now)) }
 {
@@ -203,7 +202,7 @@ fn need_row(alloc: Global, words: &[String]) -> Result<Command, WordsFault>
 }
 
 /// `cert SRC CERT CTRL TEMP`
-#[tactic(auto, unfolding(crate::specs::Rows::cert_row))]
+#[tactic(auto, unfolding(crate::specs::CommandRows::cert_row))]
 fn cert_row(alloc: Global, words: &[String]) -> Result<Command, WordsFault>
     ensures { Reads (λ command. command) result (cert_row (spelled words.now)) }
 {
@@ -220,19 +219,8 @@ fn cert_row(alloc: Global, words: &[String]) -> Result<Command, WordsFault>
     })
 }
 
-/// `mini SRC OUT`
-#[tactic(auto, unfolding(crate::specs::Rows::mini_row))]
-fn mini_row(alloc: Global, words: &[String]) -> Result<Command, WordsFault>
-    ensures { Reads (λ command. command) result (mini_row (spelled words.now)) }
-{
-    let (program, words) = file(alloc, words)?;
-    let (source, words) = file(alloc, words)?;
-    end(words)?;
-    Ok(Command::Mini { program, source })
-}
-
 /// `debug LEVEL SRC VALS CTRL TEMP SCRIPT`
-#[tactic(auto, unfolding(crate::specs::Rows::debug_row))]
+#[tactic(auto, unfolding(crate::specs::CommandRows::debug_row))]
 fn debug_row(alloc: Global, words: &[String]) -> Result<Command, WordsFault>
     ensures { Reads (λ command. command) result (debug_row (spelled words.now)) }
 {
@@ -253,19 +241,8 @@ fn debug_row(alloc: Global, words: &[String]) -> Result<Command, WordsFault>
     })
 }
 
-/// `big NUMBER SIZE`
-#[tactic(auto, unfolding(crate::specs::Rows::big_row))]
-fn big_row(words: &[String]) -> Result<Command, WordsFault>
-    ensures { ReadsExactly (λ command. command) result (big_row (spelled words.now)) }
-{
-    let (number, words) = seed(words)?;
-    let (procedures, words) = procedures(words)?;
-    end(words)?;
-    Ok(Command::Big { number, procedures })
-}
-
 /// `turns Q BUDGET CTRL TEMP SRC VALS`, with up to seven further pairs `SRC VALS`
-#[tactic(auto, unfolding(crate::specs::Rows::turns_row))]
+#[tactic(auto, unfolding(crate::specs::CommandRows::turns_row))]
 fn turns_row(alloc: Global, words: &[String]) -> Result<Command, WordsFault>
     ensures { Reads (λ command. command) result (turns_row (spelled words.now)) }
 {
@@ -284,43 +261,64 @@ fn turns_row(alloc: Global, words: &[String]) -> Result<Command, WordsFault>
     })
 }
 
-/// The command of a verb and the words after it.
-fn row_of(alloc: Global, verb: Verb, words: &[String]) -> Result<Command, WordsFault>
-    ensures { Reads (λ command. command) result (row_of verb (spelled words.now)) }
+/// `big NUMBER SIZE`
+#[tactic(auto, unfolding(crate::specs::CommandRows::big_row))]
+fn big_row(words: &[String]) -> Result<Command, WordsFault>
+    ensures { ReadsExactly (λ command. command) result (big_row (spelled words.now)) }
 {
-    match verb {
-        Verb::Check => check_row(alloc, words),
-        Verb::Mean => mean_row(alloc, words),
-        Verb::Pit => pit_row(alloc, words),
-        Verb::Build => build_row(alloc, words),
-        Verb::Pcheck => pcheck_row(alloc, words),
-        Verb::Prun => prun_row(alloc, words),
-        Verb::Pbuild => pbuild_row(alloc, words),
-        Verb::Run => run_row(alloc, words),
-        Verb::Go => go_row(alloc, words),
-        Verb::Show => show_row(alloc, words),
-        Verb::Migrate => migrate_row(alloc, words),
-        Verb::Asm => asm_row(alloc, words),
-        Verb::Unasm => unasm_row(alloc, words),
-        Verb::Need => need_row(alloc, words),
-        Verb::Cert => cert_row(alloc, words),
-        Verb::Mini => mini_row(alloc, words),
-        Verb::Debug => debug_row(alloc, words),
-        Verb::Big => big_row(words),
-        Verb::Turns => turns_row(alloc, words),
+    let (number, words) = seed(words)?;
+    let (procedures, words) = procedures(words)?;
+    end(words)?;
+    Ok(Command::Big { number, procedures })
+}
+
+/// `mini SRC OUT`
+#[tactic(auto, unfolding(crate::specs::CommandRows::mini_row))]
+fn mini_row(alloc: Global, words: &[String]) -> Result<Command, WordsFault>
+    ensures { Reads (λ command. command) result (mini_row (spelled words.now)) }
+{
+    let (program, words) = file(alloc, words)?;
+    let (source, words) = file(alloc, words)?;
+    end(words)?;
+    Ok(Command::Mini { program, source })
+}
+
+/// The command whose name is the word, with the words after it.
+#[tactic(auto, unfolding(crate::specs::CommandRows::row_of))]
+fn row_of(alloc: Global, word: &str, words: &[String]) -> Result<Command, WordsFault>
+    ensures { Reads (λ command. command) result (row_of word.now (spelled words.now)) }
+{
+    match word {
+        "check" => check_row(alloc, words),
+        "mean" => mean_row(alloc, words),
+        "pit" => pit_row(alloc, words),
+        "build" => build_row(alloc, words),
+        "pcheck" => pcheck_row(alloc, words),
+        "prun" => prun_row(alloc, words),
+        "pbuild" => pbuild_row(alloc, words),
+        "run" => run_row(alloc, words),
+        "go" => go_row(alloc, words),
+        "show" => show_row(alloc, words),
+        "migrate" => migrate_row(alloc, words),
+        "asm" => asm_row(alloc, words),
+        "unasm" => unasm_row(alloc, words),
+        "need" => need_row(alloc, words),
+        "cert" => cert_row(alloc, words),
+        "debug" => debug_row(alloc, words),
+        "turns" => turns_row(alloc, words),
+        "big" => big_row(words),
+        "mini" => mini_row(alloc, words),
+        _ => Err(WordsFault::Usage),
     }
 }
 
 /// The command that the words ask for.
-#[tactic(auto, unfolding(crate::specs::Rows::command_of))]
+#[tactic(auto, unfolding(crate::specs::CommandRows::command_of))]
 pub fn command_of(alloc: Global, words: &[String]) -> Result<Command, WordsFault>
     ensures { Reads (λ command. command) result (command_of (spelled words.now)) }
 {
     match words {
         [] => Err(WordsFault::Usage),
-        [word, words @ ..] => match verb_of(word.as_str()) {
-            None => Err(WordsFault::Usage),
-            Some(verb) => row_of(alloc, verb, words),
-        },
+        [word, words @ ..] => row_of(alloc, word.as_str(), words),
     }
 }

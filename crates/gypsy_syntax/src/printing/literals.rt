@@ -4,7 +4,7 @@ ghost use Rattle.std.specs.Prelude.{◌≡◌, ◌++◌, OnOk};
 ghost use Rattle.std.specs.Fmt.{signed_decimal};
 ghost use Rattle.stack_text.specs.TreeText.{items_text, tree_text};
 ghost use Rattle.gypsy_syntax.specs.Printed.{literal_tree, literal_trees, truth_tree};
-ghost use Rattle.gypsy_syntax.specs.SourceView.{items_of_list, literal_of};
+ghost use Rattle.gypsy_syntax.specs.Seen.SourceView.{items_of_list, literal_of};
 
 use crate::literal::Literal;
 use crate::statement::Arg;
@@ -68,7 +68,7 @@ pub fn print_literal(out: &mut Vec<u8>, literal: &Literal) -> Result<(), Memory>
 
 impl Print for Arg {
     ghost use Rattle.gypsy_syntax.specs.Printed.{arg_tree};
-    ghost use Rattle.gypsy_syntax.specs.SourceView.{arg_of};
+    ghost use Rattle.gypsy_syntax.specs.Seen.SourceView.{arg_of};
 
     ghost tree = { λ arg. arg_tree (arg_of arg) };
 

@@ -2,27 +2,21 @@
 
 ghost use Rattle.std.specs.Prelude.{◌≡◌, Ok};
 ghost use Rattle.stack_text.specs.Trees.{list};
-ghost use Rattle.stack_text.specs.TreeView.{node_of, nodes_of};
+ghost use Rattle.stack_text.specs.Seen.TreeView.{node_of, nodes_of};
 ghost use Rattle.stack_text.specs.Grammar.Judged.{each_of, ◌⊛◌};
 ghost use Rattle.stack_text.specs.Grammar.Parts.{list_or};
 ghost use Rattle.stack_text.specs.Grammar.Reading.{Reads};
 ghost use Rattle.gypsy_syntax.specs.Grammar.{are_few, decl_in, local_in, named_in, names_in, procedure_in, source_in, statement_in};
 ghost use Rattle.gypsy_syntax.specs.Made.{new_proc, new_source};
-ghost use Rattle.gypsy_syntax.specs.SourceView.{proc_of, source_of};
+ghost use Rattle.gypsy_syntax.specs.Seen.SourceView.{proc_of, source_of};
 
 use crate::proc::{Proc, Source};
 use crate::reading::declaration::formals as read_formals;
 use crate::reading::statements::statement;
 use crate::reading::word::{is_proc_word, is_program_word, named, names};
 use stack_text::grammar::{FormFault, Part, each, each_in, list_length};
-use stack_text::{Breach, Tree};
+use stack_text::{Breach, MOST_DECLARED, MOST_PROCEDURES, Tree};
 use std::alloc::Global;
-
-/// The most procedures of a source.
-const MOST_PROCEDURES: usize = 1000;
-
-/// The most variables of a procedure, and the most conditions.
-const MOST_DECLARED: usize = 200;
 
 /// M2 at a procedure.
 fn no_procedure(place: u32) -> Breach
@@ -111,7 +105,7 @@ fn procedure_at(alloc: Global, place: u32, items: &[Tree]) -> Result<Proc, FormF
 impl Part for Proc {
     ghost use Rattle.gypsy_syntax.specs.Grammar.{procedure_in};
     ghost use Rattle.gypsy_syntax.specs.Sources.{ProcOf};
-    ghost use Rattle.gypsy_syntax.specs.SourceView.{proc_of};
+    ghost use Rattle.gypsy_syntax.specs.Seen.SourceView.{proc_of};
 
     ghost Seen = { ProcOf };
 

@@ -2,13 +2,13 @@
 
 ghost use Rattle.std.specs.Prelude.{◌≡◌, Ok, Some, map};
 ghost use Rattle.stack_text.specs.Trees.{place_of};
-ghost use Rattle.stack_text.specs.TreeView.{node_of, nodes_of};
+ghost use Rattle.stack_text.specs.Seen.TreeView.{node_of, nodes_of};
 ghost use Rattle.stack_text.specs.Grammar.Judged.{◌⊛◌};
 ghost use Rattle.stack_text.specs.Grammar.Reading.{Finds, Reads};
 ghost use Rattle.gypsy_syntax.specs.declared.keyword.Keyword.TheVariants as words;
 ghost use Rattle.gypsy_syntax.specs.Grammar.{form_in, is_empty_list, named_in, names_in, statement_in, statements_in};
 ghost use Rattle.gypsy_syntax.specs.Made.{new_call};
-ghost use Rattle.gypsy_syntax.specs.SourceView.{stmt_of};
+ghost use Rattle.gypsy_syntax.specs.Seen.SourceView.{stmt_of};
 
 use crate::keyword::{Keyword, keyword_named};
 use crate::predef::Predef;
@@ -207,8 +207,8 @@ fn form(alloc: Global, keyword: Keyword, place: u32, parts: &[Tree]) -> Result<S
     }
 }
 
-/// The statement that a tree is: M9 where it begins with none of the twenty-one words, M10 where it has a wrong number of
-/// items.
+/// The statement that a tree is: M9 where it begins with no word of a form and no predefined name, M10 where it has a wrong
+/// number of items.
 #[cycle(statements)]
 pub fn statement(alloc: Global, tree: &Tree) -> Result<Stmt, FormFault>
     ensures { Reads stmt_of result (statement_in (node_of tree.now)) }

@@ -6,7 +6,7 @@ ghost use Rattle.stack_text.specs.Numerals.{is_digits};
 ghost use Rattle.stack_text.specs.Grammar.Parts.{is_atom_of};
 ghost use Rattle.stack_text.specs.Grammar.Reading.{Finds, Reads};
 ghost use Rattle.stack_text.specs.Trees.{list};
-ghost use Rattle.stack_text.specs.TreeView.{node_of, nodes_of};
+ghost use Rattle.stack_text.specs.Seen.TreeView.{node_of, nodes_of};
 ghost use Rattle.piton_syntax.specs.Grammar.{is_true_word, is_false_word, item_of, word_of};
 ghost use Rattle.piton_syntax.specs.declared.tag.Tag.TheVariants as tags;
 

@@ -1,6 +1,6 @@
 //! Names.
 
-ghost use Rattle.stack_text.specs.TreeView.{node_of, nodes_of};
+ghost use Rattle.stack_text.specs.Seen.TreeView.{node_of, nodes_of};
 ghost use Rattle.stack_text.specs.Grammar.Judged.{each_of};
 ghost use Rattle.stack_text.specs.Grammar.Parts.{list_or, name_or};
 ghost use Rattle.stack_text.specs.Grammar.Reading.{Reads};
@@ -54,7 +54,7 @@ pub fn names(
 fn each_name(alloc: Global, rule: u8, trees: &[Tree]) -> Result<Vec<Named>, FormFault>
     ensures { Reads (λ names. names.items) result (each_of (name_or rule) (nodes_of trees.now)) }
 {
-    let mut names = Vec::new(alloc);
+    let mut names = Vec::with_capacity(alloc, trees.len())?;
     for tree in trees {
         let name = named(alloc, rule, tree)?;
         names.push(name)?;

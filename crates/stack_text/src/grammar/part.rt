@@ -2,7 +2,7 @@
 
 ghost use Rattle.std.specs.Prelude.{◌≡◌, map};
 ghost use Rattle.stack_text.specs.Trees.{Node};
-ghost use Rattle.stack_text.specs.TreeView.{node_of, nodes_of};
+ghost use Rattle.stack_text.specs.Seen.TreeView.{node_of, nodes_of};
 ghost use Rattle.stack_text.specs.Grammar.Judged.{Judged, each_of};
 ghost use Rattle.stack_text.specs.Grammar.Parts.{list_length, list_or};
 ghost use Rattle.stack_text.specs.Grammar.Reading.{Reads};
@@ -31,7 +31,7 @@ pub trait Part: Drop {
 pub fn each<T: Part>(alloc: Global, trees: &[Tree]) -> Result<Vec<T>, FormFault>
     ensures { Reads (λ parts. map T.view parts.items) result (each_of T.part_of (nodes_of trees.now)) }
 {
-    let mut parts = Vec::new(alloc);
+    let mut parts = Vec::with_capacity(alloc, trees.len())?;
     for tree in trees {
         let part = T::read(alloc, tree)?;
         parts.push(part)?;

@@ -3,7 +3,7 @@
 ghost use Rattle.std.specs.Prelude.{◌≡◌, ◌++◌, ◌∷◌, map, OnOk};
 ghost use Rattle.stack_text.specs.Trees.{Node};
 ghost use Rattle.stack_text.specs.TreeText.{items_text, spaced_text, tree_text};
-ghost use Rattle.stack_text.specs.TreeView.{nodes};
+ghost use Rattle.stack_text.specs.Seen.TreeView.{nodes};
 
 use crate::printer::separate;
 use crate::{Memory, Named};

@@ -1,7 +1,7 @@
 use Rattle.std.proofs.Common.{List, map}
 use Rattle.level_debuggers.specs.Tallies.{Watching, watching}
-use Rattle.command_line.specs.Words.{spelled}
-use Rattle.command_line.specs.Rows.{command_of}
+use Rattle.command_line.specs.CommandWords.{spelled}
+use Rattle.command_line.specs.CommandRows.{command_of}
 use Rattle.cli_stack.proofs.ByTurnsLaws.{each_task_is_told}
 use Rattle.cli_stack.proofs.AssemblesLaws.{assembles}
 use Rattle.cli_stack.proofs.EndlessLaws.{endless_stays_on}

@@ -8,9 +8,9 @@ ghost use Rattle.fm_turns.specs.OwnMachines.{own_machine};
 ghost use Rattle.fm_turns.specs.Starting.{new_tasks, AllFit, side_by_side};
 ghost use Rattle.fm_turns.specs.Turns.{AreWithin, images_of, states_of};
 ghost use Rattle.cli_stack.specs.Replies.{reply_of};
-ghost use Rattle.cli_stack.specs.Tasks.{AreReady};
-ghost use Rattle.cli_stack.specs.Told.{GoneRound, round_in, end_text, told_of, told_from, has_ended, told_reply};
-ghost use Rattle.cli_stack.specs.Turns.{round_line, tasks_reply};
+ghost use Rattle.cli_stack.specs.Scaffold.Tasks.{AreReady};
+ghost use Rattle.cli_stack.specs.Scaffold.Told.{GoneRound, round_in, end_text, told_of, told_from, has_ended, told_reply};
+ghost use Rattle.cli_stack.specs.Commands.Turns.{round_line, tasks_reply};
 
 use crate::reply::{Reply, Verdict};
 use display_maps::report;

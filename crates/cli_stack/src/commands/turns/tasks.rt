@@ -4,18 +4,22 @@ ghost use Rattle.stack_text.specs.Gives.{Gives};
 ghost use Rattle.fm_loader.specs.Loaded.{Fits};
 ghost use Rattle.fm_loader.specs.Values.{values_in};
 ghost use Rattle.fm_turns.specs.Starting.{new_tasks, AllFit};
-ghost use Rattle.gypsy_space.specs.Needs.{stack_words};
+ghost use Rattle.gypsy_space.specs.Needs.{stack_sizes};
 ghost use Rattle.stack_build.specs.Build.{built};
-ghost use Rattle.cli_stack.specs.Turns.{image_or_fault, images_from, word_count, small_enough, values_or_fault, tasks_from, tasks_of};
-ghost use Rattle.cli_stack.specs.Tasks.{fault_of, AreReady};
+ghost use Rattle.cli_stack.specs.Commands.Turns.{image_or_fault, images_from, word_count, small_enough, values_or_fault, tasks_from, tasks_of};
+ghost use Rattle.cli_stack.specs.Scaffold.Tasks.{fault_of, AreReady};
 
 use crate::commands::source_text::verdict_of;
 use crate::reply::Verdict;
 use fm_image::Image;
 use fm_loader::{ValuesFault, read_values};
+use fm_words::MOST_WINDOW;
 use stack_build::{build, builds_implement, builds_stay_inside};
-use stack_text::{Memory, Value};
+use stack_text::{MOST_TASKS, Memory, Value};
 use std::alloc::{AllocFailed, Global};
+
+/// The most tasks.
+const TASKS: usize = MOST_TASKS as usize;
 
 /// Why there are no tasks.
 #[derive(Drop)]
@@ -93,7 +97,7 @@ fn build_tasks(
     requires sources { All (λ text. length text.now ≤ 2 ^ 31) sources.now }
     requires few { length sources.now ≤ 8 }
     ensures images { Gives fault_of (λ images. images.items) result
-        (images_from (stack_words temporary control) 0 0 (map (λ text. text.now) sources.now)) }
+        (images_from (stack_sizes control temporary) 0 0 (map (λ text. text.now) sources.now)) }
     ensures count { IfOk result (λ images. length images.items ≡ length sources.now) }
 {
     let mut images = Vec::new(alloc);
@@ -125,7 +129,7 @@ fn small_enough(images: Vec<Image>) -> Result<Vec<Image>, TasksFault>
     ensures count { IfOk result (λ small. length small.items ≡ length images.items) }
 {
     let words = word_count(images.as_slice());
-    if words > 1 << 20 {
+    if words > u64::from(MOST_WINDOW) {
         return Err(TasksFault::Large { words });
     }
     Ok(images)
@@ -184,7 +188,7 @@ fn read_tasks(
 }
 
 /// The tasks of sources and texts of values, for stacks of these sizes.
-#[tactic(auto, unfolding(crate::specs::Turns::tasks_of))]
+#[tactic(auto, unfolding(crate::specs::Commands::Turns::tasks_of))]
 pub fn new_tasks(
     alloc: Global,
     sources: &[&[u8]],
@@ -195,14 +199,14 @@ pub fn new_tasks(
     requires sources { All (λ text. length text.now ≤ 2 ^ 31) sources.now }
     requires texts { All (λ text. length text.now ≤ 2 ^ 31) texts.now }
     ensures tasks { Gives fault_of (λ tasks. new_tasks tasks.items) result
-        (tasks_of (stack_words temporary control) (map (λ text. text.now) sources.now)
+        (tasks_of (stack_sizes control temporary) (map (λ text. text.now) sources.now)
         (map (λ text. text.now) texts.now)) }
     ensures fit { IfOk result (λ tasks. AllFit (new_tasks tasks.items)) }
     ensures ready { IfOk result (λ tasks. AreReady (new_tasks tasks.items)) }
 {
     builds_implement();
     builds_stay_inside();
-    if sources.is_empty() || sources.len() > 8 {
+    if sources.is_empty() || sources.len() > TASKS {
         return Err(TasksFault::Count);
     }
     let images = build_tasks(alloc, sources, control, temporary)?;

@@ -1,4 +1,4 @@
-use Rattle.level_debuggers.specs.Sessions.{IsSession}
+use Rattle.level_debuggers.specs.Seen.Sessions.{IsSession}
 use Rattle.debug_tests.proofs.transcript.say_each.Given as goal
 
 abbrev pub invariant-loop-line : goal.invariant-loop-line

@@ -1,23 +1,5 @@
-use Rattle.std.proofs.Common.{[], ap, refl, length, eqb, le-leb, List, ℕ}
-use Rattle.std.proofs.lemmas.Bool.{and_from}
-use Rattle.fm_image.specs.declared.slot.Slot.{Slot}
-use Rattle.fm_image.specs.Image.{is_count, is_condition, is_slot, all_after, are_tables}
-use Rattle.fm_image.proofs.LimitLaws.{from_limits}
+use Rattle.std.proofs.Common.{ap, length, List, ℕ}
 use Rattle.fm_asm.proofs.assembling.image.Goals as goal
 
-pub invariant_of-result : goal.invariant_of-result
-unfolding all_after
-invariant_of-result c =
-    let registers = c.in_ok-registers.ensures.items in
-    from_limits _ (record {
-      version = refl;
-      window = and_from _ _ c.requires.sized c.requires.inside;
-      registers = ap (λ (rs : List ℕ). eqb (length rs) 16) registers;
-      condition_address = refl;
-      condition_count = ap (λ (ns : List (List ℕ)). is_count 201 (length ns)) c.new.ensures.items;
-      conditions = ap (λ (ns : List (List ℕ)). all_after is_condition [] ns) c.new.ensures.items;
-      slot_count = ap (λ (ss : List Slot). is_count 200 (length ss)) c.new-2.ensures.items;
-      slots = ap (λ (ss : List Slot). all_after (is_slot (record { base = c.args.base; size = c.args.size; final_pc = c.args.final_pc })) [] ss) c.new-2.ensures.items;
-      words = le-leb _ _ c.requires.few;
-      tables = λ i. are_tables (record { base = c.args.base; size = c.args.size; final_pc = c.args.final_pc }) (record { procedures = c.new-3.ensures.items i; marks = c.new-4.ensures.items i });
-    })
+pub bare_image-requires-clause-sixteen : goal.bare_image-requires-clause-sixteen
+bare_image-requires-clause-sixteen c = ap (λ (rs : List ℕ). length rs) c.in_ok-registers.ensures.items

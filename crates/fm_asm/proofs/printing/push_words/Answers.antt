@@ -1,6 +1,4 @@
-use Rattle.std.proofs.Common.{ap, ◌∙◌, refl, List, ℕ}
-use Rattle.std.specs.List.{flat_map}
-use Rattle.fm_image.specs.Spelling.{are_words}
+use Rattle.std.proofs.Common.{refl}
 use Rattle.fm_asm.specs.Printing.{word_line}
 use Rattle.fm_asm.proofs.LoopLaws.{pieces_at, fit_next, all_pieces, all_fit}
 use Rattle.fm_asm.proofs.printing.push_words.Goals as goal

@@ -1,7 +1,8 @@
 use Rattle.std.proofs.Common.{◌∙◌, ap, sym, List, option_map, bytes_eq, ℕ, Bor}
 use Rattle.std.specs.Map.{lookup}
 use Rattle.gypsy_syntax.specs.declared.proc.Proc.{Proc}
-use Rattle.gypsy_check.specs.Tables.{first_or, look_up}
+use Rattle.gypsy_check.specs.Tables.{look_up}
+use Rattle.stack_text.specs.Options.{first_or}
 use Rattle.gypsy_check.proofs.CalleeLaws.{declared}
 use Rattle.gypsy_check.proofs.callees.declare.Goals as goal
 

@@ -1,9 +1,9 @@
 use Rattle.std.proofs.Common.{◌++◌}
 use Rattle.std.specs.List.{flat_map}
-use Rattle.gypsy_syntax.specs.SourceView.{proc_of, source_of}
+use Rattle.stack_text.proofs.BreachLaws.{notes_more}
+use Rattle.gypsy_syntax.specs.Seen.SourceView.{proc_of, source_of}
 use Rattle.gypsy_check.specs.Declarations.{procedure_named}
 use Rattle.gypsy_check.specs.Rules.{raised_breaches, callee_breaches, callee_name_breaches, actual_name_breaches}
-use Rattle.gypsy_check.proofs.NoteLaws.{noted_two}
 use Rattle.gypsy_check.proofs.calls.check_call.Goals as goal
 
 pub returns : goal.returns
@@ -15,6 +15,6 @@ returns c =
     let actuals = actual_name_breaches p call.actuals.now in
     let conds = flat_map (raised_breaches p c.args.in_loop) call.conds.now in
     let found = callee_breaches p (procedure_named s call.callee.now.name) call.actuals_place call.actuals.now call.conds_place call.conds.now in
-    let two = noted_two c.args.best.now c.check_callee_name.new.best c.check_actual_names.new.best names actuals c.check_callee_name.ensures c.in_ok-check_actual_names.ensures in
-    let three = noted_two c.args.best.now c.check_actual_names.new.best c.check_all_raised.new.best (names ++ actuals) conds two c.check_all_raised.ensures in
-    noted_two c.args.best.now c.check_all_raised.new.best c.check_callee_if_any.new.best (names ++ actuals ++ conds) found three c.check_callee_if_any.ensures
+    let two = notes_more c.args.best.now c.check_callee_name.new.best c.check_actual_names.new.best names actuals c.check_callee_name.ensures c.in_ok-check_actual_names.ensures in
+    let three = notes_more c.args.best.now c.check_actual_names.new.best c.check_all_raised.new.best (names ++ actuals) conds two c.check_all_raised.ensures in
+    notes_more c.args.best.now c.check_all_raised.new.best c.check_callee_if_any.new.best (names ++ actuals ++ conds) found three c.check_callee_if_any.ensures

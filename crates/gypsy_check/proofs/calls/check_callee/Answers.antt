@@ -1,9 +1,10 @@
 use Rattle.std.proofs.Common.{◌∙◌, ◌==◌, ap, length, List, not}
 use Rattle.stack_text.specs.declared.name.Named.{Named}
 use Rattle.stack_text.specs.Breaches.{when, Notes}
-use Rattle.gypsy_syntax.specs.SourceView.{proc_of}
+use Rattle.stack_text.proofs.BreachLaws.{notes_more}
+use Rattle.gypsy_syntax.specs.Seen.SourceView.{proc_of}
 use Rattle.gypsy_check.specs.Rules.{data_breaches}
-use Rattle.gypsy_check.proofs.NoteLaws.{noted, noted_two}
+use Rattle.gypsy_check.proofs.NoteLaws.{noted}
 use Rattle.gypsy_check.proofs.calls.check_callee.Goals as goal
 
 pub returns : goal.returns
@@ -14,5 +15,5 @@ returns c =
     let f1 = c.check_data.new.best in
     let number : Notes f1 (when (not (length call.conds.now == length callee.conds.items)) call.conds_place 19) c.note_if.new.best =
     c.note_if.ensures ∙ ap (λ (ns : List Named). noted f1 (when (not (length call.conds.now == length ns)) call.conds_place 19)) c.as_slice-formal.ensures.value in
-    noted_two c.args.best.now f1 c.note_if.new.best (data_breaches p (proc_of callee) call.actuals_place call.actuals.now) (when (not (length call.conds.now == length callee.conds.items)) call.conds_place 19)
+    notes_more c.args.best.now f1 c.note_if.new.best (data_breaches p (proc_of callee) call.actuals_place call.actuals.now) (when (not (length call.conds.now == length callee.conds.items)) call.conds_place 19)
     c.check_data.ensures number

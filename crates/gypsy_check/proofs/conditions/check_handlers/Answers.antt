@@ -1,12 +1,12 @@
 use Rattle.std.proofs.Common.{[]}
 use Rattle.std.specs.List.{flat_map}
-use Rattle.gypsy_syntax.specs.SourceView.{proc_of}
+use Rattle.stack_text.proofs.BreachLaws.{notes_more}
+use Rattle.gypsy_syntax.specs.Seen.SourceView.{proc_of}
 use Rattle.gypsy_check.specs.Declarations.{repeats}
 use Rattle.gypsy_check.specs.Rules.{handled_breaches}
-use Rattle.gypsy_check.proofs.NoteLaws.{noted_two}
 use Rattle.gypsy_check.proofs.conditions.check_handlers.Goals as goal
 
 pub returns : goal.returns
 returns c =
-    noted_two c.args.best.now c.check_all_handled.new.best c.check_repeats.new.best (flat_map (handled_breaches (proc_of c.args.scope.now)) c.args.conds.now) (repeats 13 [] c.args.conds.now)
+    notes_more c.args.best.now c.check_all_handled.new.best c.check_repeats.new.best (flat_map (handled_breaches (proc_of c.args.scope.now)) c.args.conds.now) (repeats 13 [] c.args.conds.now)
     c.check_all_handled.ensures c.in_ok-check_repeats.ensures

@@ -1,13 +1,14 @@
 use Rattle.std.proofs.Common.{◌∙◌, ◌++◌, [], map, ap, ap₂, sym}
 use Rattle.std.specs.List.{flat_map}
 use Rattle.stack_text.specs.Breaches.{Notes}
+use Rattle.stack_text.proofs.BreachLaws.{notes_more}
 use Rattle.gypsy_syntax.specs.declared.literal.Decl.{Decl}
 use Rattle.gypsy_syntax.specs.declared.literal.Local.{Local}
 use Rattle.gypsy_syntax.specs.Resolved.{variable_types}
-use Rattle.gypsy_syntax.specs.SourceView.{local_of, proc_of}
+use Rattle.gypsy_syntax.specs.Seen.SourceView.{local_of, proc_of}
 use Rattle.gypsy_check.specs.Declarations.{variables_of, repeats}
 use Rattle.gypsy_check.specs.Rules.{type_breaches, local_breaches}
-use Rattle.gypsy_check.proofs.NoteLaws.{noted, noted_two, flat_over, local_names_over}
+use Rattle.gypsy_check.proofs.NoteLaws.{noted, flat_over, local_names_over}
 use Rattle.gypsy_check.proofs.declarations.declared_variables.Goals as goal
 
 pub returns-clause-noted : goal.returns-clause-noted
@@ -22,5 +23,5 @@ returns-clause-noted c =
     ∙ ap (λ ns. noted f0 (repeats 4 [] (map (λ (d : Decl). d.name) raw.formals.items ++ ns))) (local_names_over raw.locals.items) in
     let locals : Notes f2 (flat_map local_breaches p.locals) c.check_locals.new.best =
     c.check_locals.ensures ∙ ap (λ ls. noted f2 (flat_map (λ (l : Local). local_breaches (local_of l)) ls)) c.as_slice-3.ensures.value ∙ ap (noted f2) (sym (flat_over local_of local_breaches raw.locals.items)) in
-    let two = noted_two f0 f1 f2 (repeats 4 [] (variables_of p)) (flat_map type_breaches (variable_types p)) names c.check_types.ensures in
-    noted_two f0 f2 c.check_locals.new.best (repeats 4 [] (variables_of p) ++ flat_map type_breaches (variable_types p)) (flat_map local_breaches p.locals) two locals
+    let two = notes_more f0 f1 f2 (repeats 4 [] (variables_of p)) (flat_map type_breaches (variable_types p)) names c.check_types.ensures in
+    notes_more f0 f2 c.check_locals.new.best (repeats 4 [] (variables_of p) ++ flat_map type_breaches (variable_types p)) (flat_map local_breaches p.locals) two locals

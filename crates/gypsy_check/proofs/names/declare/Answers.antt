@@ -1,7 +1,8 @@
 use Rattle.std.proofs.Common.{◌∙◌, ap, sym, refl, List, bytes_eq, ℕ, Bor}
 use Rattle.std.specs.Map.{lookup}
 use Rattle.gypsy_syntax.specs.declared.literal.TypeText.{TypeText}
-use Rattle.gypsy_check.specs.Tables.{first_or, type_in}
+use Rattle.gypsy_check.specs.Tables.{type_in}
+use Rattle.stack_text.specs.Options.{first_or}
 use Rattle.gypsy_check.proofs.CalleeLaws.{entered_last}
 use Rattle.gypsy_check.proofs.names.declare.Goals as goal
 

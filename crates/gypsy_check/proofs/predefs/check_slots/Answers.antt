@@ -1,5 +1,5 @@
 use Rattle.std.proofs.Common.{None, map, arith}
-use Rattle.gypsy_syntax.specs.SourceView.{arg_of, proc_of}
+use Rattle.gypsy_syntax.specs.Seen.SourceView.{arg_of, proc_of}
 use Rattle.gypsy_check.specs.Rules.{slots_breaches}
 use Rattle.gypsy_check.proofs.NoteLaws.{noted, slots_step, slots_done}
 use Rattle.gypsy_check.proofs.predefs.check_slots.Goals as goal

@@ -1,6 +1,6 @@
 use Rattle.std.proofs.Common.{◌∙◌, ap, sym}
 use Rattle.stack_text.proofs.BreachLaws.{notes_none}
-use Rattle.gypsy_syntax.specs.SourceView.{proc_of}
+use Rattle.gypsy_syntax.specs.Seen.SourceView.{proc_of}
 use Rattle.gypsy_check.proofs.NoteLaws.{noted, lacking, all_declared_here}
 use Rattle.gypsy_check.proofs.predefs.check_slots_if_declared.Goals as goal
 

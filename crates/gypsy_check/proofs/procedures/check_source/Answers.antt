@@ -1,13 +1,14 @@
 use Rattle.std.proofs.Common.{◌≡◌, ◌∙◌, ◌++◌, [], map, ap, ap₂, sym}
 use Rattle.std.specs.List.{flat_map}
 use Rattle.stack_text.specs.Breaches.{Notes}
+use Rattle.stack_text.proofs.BreachLaws.{notes_more}
 use Rattle.gypsy_syntax.specs.declared.proc.Proc.{Proc}
 use Rattle.gypsy_syntax.specs.declared.proc.Source.{Source}
 use Rattle.gypsy_syntax.specs.Sources.{ProcOf}
-use Rattle.gypsy_syntax.specs.SourceView.{proc_of, source_of}
+use Rattle.gypsy_syntax.specs.Seen.SourceView.{proc_of, source_of}
 use Rattle.gypsy_check.specs.Declarations.{repeats}
 use Rattle.gypsy_check.specs.Rules.{procedure_breaches, name_breaches, main_breaches, violations}
-use Rattle.gypsy_check.proofs.NoteLaws.{noted, noted_two, flat_over, names_over}
+use Rattle.gypsy_check.proofs.NoteLaws.{noted, flat_over, names_over}
 use Rattle.gypsy_check.proofs.procedures.check_source.Goals as goal
 
 pub returns : goal.returns
@@ -31,6 +32,6 @@ returns c =
     c.in_ok-check_procedures.ensures ∙ ap₂ (λ (r : Source) ps. noted f3 (flat_map (λ (p : Proc). procedure_breaches (source_of r) (proc_of p)) ps)) of c.as_slice-2.ensures.value
     ∙ ap (noted f3) (sym (flat_over proc_of (procedure_breaches s) procs)) in
     let v1 = repeats 1 [] (map (λ (p : ProcOf). p.name) s.procs) in
-    let two = noted_two f0 f1 f2 v1 (main_breaches s) names main in
-    let three = noted_two f0 f2 f3 (v1 ++ main_breaches s) (flat_map name_breaches s.procs) two own in
-    noted_two f0 f3 f4 (v1 ++ main_breaches s ++ flat_map name_breaches s.procs) (flat_map (procedure_breaches s) s.procs) three each
+    let two = notes_more f0 f1 f2 v1 (main_breaches s) names main in
+    let three = notes_more f0 f2 f3 (v1 ++ main_breaches s) (flat_map name_breaches s.procs) two own in
+    notes_more f0 f3 f4 (v1 ++ main_breaches s ++ flat_map name_breaches s.procs) (flat_map (procedure_breaches s) s.procs) three each

@@ -2,11 +2,11 @@ use Rattle.std.proofs.Common.{◌∙◌, ◌++◌, ap, sym, List}
 use Rattle.std.specs.List.{flat_map}
 use Rattle.stack_text.specs.declared.breach.Breach.{Breach}
 use Rattle.stack_text.specs.Breaches.{Notes}
-use Rattle.stack_text.proofs.BreachLaws.{notes_next}
+use Rattle.stack_text.proofs.BreachLaws.{notes_next, notes_more}
 use Rattle.gypsy_syntax.specs.declared.statement.Stmt.{Stmt}
-use Rattle.gypsy_syntax.specs.SourceView.{proc_of, source_of}
+use Rattle.gypsy_syntax.specs.Seen.SourceView.{proc_of, source_of}
 use Rattle.gypsy_check.specs.Rules.{handlers_breaches, test_breaches}
-use Rattle.gypsy_check.proofs.NoteLaws.{noted, noted_two, statement_breaks, seq_each}
+use Rattle.gypsy_check.proofs.NoteLaws.{noted, statement_breaks, seq_each}
 use Rattle.gypsy_check.proofs.statements.+statements.Goals as goal
 
 pub check_parts-loop-part-preserved : goal.check_parts-loop-part-preserved
@@ -34,8 +34,8 @@ check_statement-returns-in_ok-check_statement-in-If-2 t c =
     let test = test_breaches p c.in-If.test in
     let yes : Notes f1 (g c.in-If.yes.value) f2 = c.in_ok-check_statement-in-If.ensures ∙ ap (λ b. noted f1 (g b)) c.deref-in-If.ensures in
     let no : Notes f2 (g c.in-If.no.value) f3 = c.in_ok-check_statement-in-If-2.ensures ∙ ap (λ b. noted f2 (g b)) c.deref-in-If-2.ensures in
-    let two = noted_two f0 f1 f2 test (g c.in-If.yes.value) c.check_test.ensures yes in
-    noted_two f0 f2 f3 (test ++ g c.in-If.yes.value) (g c.in-If.no.value) two no
+    let two = notes_more f0 f1 f2 test (g c.in-If.yes.value) c.check_test.ensures yes in
+    notes_more f0 f2 f3 (test ++ g c.in-If.yes.value) (g c.in-If.no.value) two no
     ∙ ap (λ b. noted f0 (g b)) (sym c.in-If.is)
 
 pub check_statement-returns-in_ok-check_statement-in-Begin-2 : goal.check_statement-returns-in_ok-check_statement-in-Begin-2
@@ -50,6 +50,6 @@ check_statement-returns-in_ok-check_statement-in-Begin-2 t c =
     let body : Notes f0 (g c.in-Begin.body.value) f1 = c.in_ok-check_statement-in-Begin.ensures ∙ ap (λ b. noted f0 (g b)) c.deref-in-Begin.ensures in
     let handled : Notes f1 handlers f2 = c.in_ok-check_handlers-in-Begin.ensures ∙ ap (λ cs. noted f1 (handlers_breaches p cs)) c.as_slice.ensures.value in
     let arm : Notes f2 (g c.in-Begin.arm.value) f3 = c.in_ok-check_statement-in-Begin-2.ensures ∙ ap (λ b. noted f2 (g b)) c.deref-in-Begin-2.ensures in
-    let two = noted_two f0 f1 f2 (g c.in-Begin.body.value) handlers body handled in
-    noted_two f0 f2 f3 (g c.in-Begin.body.value ++ handlers) (g c.in-Begin.arm.value) two arm
+    let two = notes_more f0 f1 f2 (g c.in-Begin.body.value) handlers body handled in
+    notes_more f0 f2 f3 (g c.in-Begin.body.value ++ handlers) (g c.in-Begin.arm.value) two arm
     ∙ ap (λ b. noted f0 (g b)) (sym c.in-Begin.is)

@@ -1,11 +1,12 @@
 use Rattle.std.proofs.Common.{◌≡◌, ℕ, [], ◌∷◌, List, get_or, refl, subst}
 use Rattle.stack_text.proofs.Loops.{drop-item}
+use Rattle.stack_text.proofs.SharedLaws.{same_item}
 use Rattle.piton_check.specs.Instruction as i
 use Rattle.gypsy_syntax.specs.ProgramFits.{Each}
 use Rattle.gypsy_space.specs.Nodes.{seen_program}
 use Rattle.gypsy_codegen.specs.Generated.{offset, push_actuals}
-use Rattle.gypsy_codegen.specs.Views.{HasWord, code_in}
-use Rattle.gypsy_codegen.proofs.WriteLaws.{item_is, more_next}
+use Rattle.gypsy_codegen.specs.Scaffold.Views.{HasWord, code_in}
+use Rattle.gypsy_codegen.proofs.WriteLaws.{more_next}
 use Rattle.gypsy_codegen.proofs.calls.push_actuals.Goals as goal
 
 pub loop-actual-preserved : goal.loop-actual-preserved
@@ -17,7 +18,7 @@ loop-actual-preserved c =
     let k = c.loop-actual.actual-index in
     let lt = c.loop-actual-test.true in
     let x : ℕ = get_or xs k 0 in
-    let here : x ≡ get_or xs k x = item_is xs k 0 x lt in
+    let here : x ≡ get_or xs k x = same_item xs k 0 x lt in
     let P : List ℕ → Type 0 = Each (HasWord q p) in
     record {
       words = (subst P (drop-item xs k x lt here) c.loop-actual.invariant.words).1;

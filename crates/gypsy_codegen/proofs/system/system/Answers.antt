@@ -1,12 +1,12 @@
 use Rattle.std.proofs.Common.{◌≡◌, arith, subst, sym, ap, ◌∙◌, [], ◌∷◌}
 use Rattle.piton_syntax.specs.Systems.{AreaOf}
 use Rattle.gypsy_syntax.specs.Programs.{Program}
-use Rattle.gypsy_space.specs.Needs.{stack_words}
+use Rattle.gypsy_space.specs.Needs.{stack_sizes}
 use Rattle.gypsy_space.specs.Nodes.{seen_program, seen_proc}
-use Rattle.gypsy_syntax.specs.SourceView.{source_of}
+use Rattle.gypsy_syntax.specs.Seen.SourceView.{source_of}
 use Rattle.gypsy_syntax.proofs.FitsLaws.{keeps_fits}
 use Rattle.gypsy_codegen.specs.Text.{program_texts}
-use Rattle.gypsy_codegen.specs.Views.{AreWritable, area_text}
+use Rattle.gypsy_codegen.specs.Scaffold.Views.{AreWritable, area_text}
 use Rattle.gypsy_codegen.proofs.WritableLaws.{all_writable, system_is}
 use Rattle.gypsy_codegen.proofs.system.system.Goals as goal
 
@@ -25,7 +25,7 @@ returns c =
     let s = source_of c.args.source.now in
     let q = seen_program c.args.program.now in
     let areas : c.in_ok-vec.field-0.items ≡ area_text ∷ [] = c.in_ok-vec.ensures.items ∙ ap (λ (a : AreaOf). a ∷ []) c.in_ok-area.ensures in
-    system_is s (stack_words c.args.temp c.args.ctrl) c.args.base q c.in_ok-unplaced.field-0 (seen_proc c.procedure_at.result.now)
+    system_is s (stack_sizes c.args.ctrl c.args.temp) c.args.base q c.in_ok-unplaced.field-0 (seen_proc c.procedure_at.result.now)
     c.unplaced_size.result c.unplaced_size-2.result c.unplaced_size-3.result c.in_ok-vec.field-0.items c.in_ok-opening.field-0.items c.in_ok-programs.field-0.items
     c.requires.program c.procedure_at.ensures c.in_ok-unplaced.ensures c.unplaced_size.ensures c.unplaced_size-2.ensures c.unplaced_size-3.ensures areas
     c.in_ok-opening.ensures c.in_ok-programs.ensures

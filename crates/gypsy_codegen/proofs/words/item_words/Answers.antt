@@ -1,9 +1,10 @@
 use Rattle.std.proofs.Common.{◌≡◌, ◌++◌, [], ◌∷◌, List, get_or, map, refl, rules}
 use Rattle.std.specs.Prelude.{ℤ, pos}
+use Rattle.stack_text.proofs.SharedLaws.{same_item}
 use Rattle.gypsy_predef.specs.Runs.{word_of_item}
-use Rattle.gypsy_codegen.specs.Views.{nameless}
+use Rattle.gypsy_codegen.specs.Scaffold.Views.{nameless}
 use Rattle.gypsy_codegen.specs.Written.{written_word}
-use Rattle.gypsy_codegen.proofs.WriteLaws.{more_next, item_is}
+use Rattle.gypsy_codegen.proofs.WriteLaws.{more_next}
 use Rattle.gypsy_codegen.proofs.words.item_words.Goals as goal
 
 pub loop-item-preserved : goal.loop-item-preserved
@@ -14,4 +15,4 @@ loop-item-preserved c =
     let word = written_word nameless (word_of_item c.args.kind z) in
     let pushed : c.push.new.self.items ≡ c.loop-item.words.items ++ word ∷ [] = search rules in
     more_next (λ (zs : List ℤ). map (written_word nameless) (map (word_of_item c.args.kind) zs)) items k z (word ∷ [])
-    c.loop-item.words.items c.push.new.self.items _ c.loop-item-test.true (item_is items k (pos 0) z c.loop-item-test.true) refl pushed c.loop-item.invariant
+    c.loop-item.words.items c.push.new.self.items _ c.loop-item-test.true (same_item items k (pos 0) z c.loop-item-test.true) refl pushed c.loop-item.invariant

@@ -3,7 +3,7 @@ use Rattle.std.specs.Prelude.{codes}
 use Rattle.stack_text.specs.Grammar.Printed.{unplaced}
 use Rattle.stack_text.specs.Trees.{node_count}
 use Rattle.gypsy_check.specs.Rules.{violations}
-use Rattle.gypsy_syntax.specs.Answers.{KeepsForm}
+use Rattle.gypsy_syntax.specs.GypsyReading.{KeepsForm}
 use Rattle.gypsy_syntax.specs.Printed.{tree_of}
 use Rattle.gypsy_gen.specs.Large.{large_of}
 use Rattle.gypsy_gen.proofs.FormLaws.{large_fits, large_small}

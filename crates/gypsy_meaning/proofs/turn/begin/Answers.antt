@@ -1,10 +1,9 @@
 use Rattle.std.proofs.Common.{List, map, ap, sym, ◌∙◌}
 use Rattle.stack_text.specs.Values.{ValueOf}
 use Rattle.gypsy_syntax.specs.Programs as program
-use Rattle.gypsy_syntax.specs.Programs.{Stmt}
 use Rattle.gypsy_space.specs.Nodes.{seen_statement, seen_cond}
 use Rattle.gypsy_space.proofs.NodeLaws.{seen_statement-seq}
-use Rattle.gypsy_meaning.specs.Work.{work_of}
+use Rattle.gypsy_meaning.specs.Seen.Work.{work_of}
 use Rattle.gypsy_meaning.proofs.TurnLaws.{goes_at, seq_opens}
 use Rattle.gypsy_meaning.proofs.turn.begin.Goals as goal
 

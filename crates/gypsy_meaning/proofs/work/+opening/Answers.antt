@@ -4,7 +4,7 @@ use Rattle.std.specs.declared.alloc.Global.{Global}
 use Rattle.gypsy_space.specs.declared.program.Node.{Node}
 use Rattle.gypsy_meaning.specs.Machine.{Do, opens}
 use Rattle.gypsy_space.specs.Nodes.{seen_statement, seen_statements}
-use Rattle.gypsy_meaning.specs.Work.{work_of, work_or}
+use Rattle.gypsy_meaning.specs.Seen.Work.{work_of, work_or}
 use Rattle.gypsy_space.proofs.NodeLaws.{seen_statement-seq}
 use Rattle.gypsy_meaning.proofs.OpenLaws.{part_opens, none_left}
 use Rattle.gypsy_meaning.proofs.work.+opening.Goals as goal

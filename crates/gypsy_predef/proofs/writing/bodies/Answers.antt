@@ -6,8 +6,8 @@ use Rattle.gypsy_predef.proofs.writing.bodies.Goals as goal
 
 pub returns-clause-rows : goal.returns-clause-rows
 returns-clause-rows c =
-    IfOk-weaker c.programs.result _ _ (λ programs is. do_rows programs.items (is ∙ ap (map body_text) c.as_slice.ensures)) c.programs.ensures
+    IfOk-weaker c.programs.result _ _ (λ programs is. do_rows programs.items (is ∙ ap (map body_text) c.predefs.ensures)) c.programs.ensures
 
 pub returns-clause-calls : goal.returns-clause-calls
 returns-clause-calls c =
-    IfOk-weaker c.programs.result _ _ (λ programs is. do_calls programs.items (is ∙ ap (map body_text) c.as_slice.ensures)) c.programs.ensures
+    IfOk-weaker c.programs.result _ _ (λ programs is. do_calls programs.items (is ∙ ap (map body_text) c.predefs.ensures)) c.programs.ensures

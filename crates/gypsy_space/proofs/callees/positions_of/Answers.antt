@@ -1,16 +1,16 @@
 use Rattle.std.proofs.Common.{◌≡◌, ℕ, Bor, List, None, Option, bytes_eq, rules, refl, sym, ap, ◌∙◌}
 use Rattle.std.specs.Map.{lookup}
-use Rattle.gypsy_check.specs.Tables.{first_or}
+use Rattle.stack_text.specs.Options.{first_or}
 use Rattle.gypsy_check.proofs.CalleeLaws.{entered_last}
+use Rattle.gypsy_check.proofs.LookupLaws.{place_nil}
 use Rattle.gypsy_space.specs.Callees.{look_up}
 use Rattle.gypsy_space.proofs.CalleeLaws.{known_stays, place_next}
-use Rattle.gypsy_space.proofs.PositionLaws.{place_none}
 use Rattle.gypsy_space.proofs.callees.positions_of.Goals as goal
 use Rattle.gypsy_space.proofs.callees.positions_of.Goals.{then-not-contains_key+in_ok-insert, else-not-contains_key}
 
 pub loop-index-init : goal.loop-index-init
 loop-index-init c = λ name.
-    let none : look_up c.new-positions.result name ≡ None = search rules in none ∙ sym (place_none name)
+    let none : look_up c.new-positions.result name ≡ None = search rules in none ∙ sym (place_nil name)
 
 pub loop-index-preserved : goal.loop-index-preserved
 loop-index-preserved c = λ other.

@@ -1,6 +1,6 @@
 use Rattle.std.proofs.lemmas.Result.{err_from_is_err_and}
-use Rattle.stack_text.specs.TreeView.{node_of}
-use Rattle.gypsy_syntax.specs.SourceView.{source_of}
+use Rattle.stack_text.specs.Seen.TreeView.{node_of}
+use Rattle.gypsy_syntax.specs.Seen.SourceView.{source_of}
 use Rattle.gypsy_syntax.proofs.AnswerLaws.{text_at_fault, tree_at_fault}
 use Rattle.gypsy_syntax.proofs.KeepsLaws.{read_keeps}
 use Rattle.gypsy_syntax.proofs.reading.read_gypsy.Goals as goal

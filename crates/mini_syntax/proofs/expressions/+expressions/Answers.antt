@@ -1,14 +1,14 @@
 use Rattle.std.proofs.Common.{[], ◌∷◌, refl, ap, ◌∙◌, arith}
 use Rattle.std.proofs.lemmas.Result.{IfOk-weaker}
-use Rattle.mini_syntax.specs.Combined.{IsInfix, IsPrefix}
+use Rattle.mini_syntax.specs.Scaffold.Combined.{IsInfix, IsPrefix}
 use Rattle.mini_syntax.specs.declared.expected.Expected.TheVariants as wants
 use Rattle.mini_syntax.specs.declared.lexer.TokenKind.TheVariants as kind
 use Rattle.mini_syntax.specs.declared.mark.Mark.TheVariants as mark
 use Rattle.mini_syntax.specs.declared.word.Word.TheVariants as word
 use Rattle.mini_syntax.specs.Expected.{expression}
 use Rattle.mini_syntax.specs.Grammar as grammar
-use Rattle.mini_syntax.specs.Lexemes.{left_of, token_seen}
-use Rattle.mini_syntax.specs.Phrases.{Reads, factors, is_open, more_after, relations, conjunction_operator, disjunction_operator, relation_operator, sum_operator, term_operator}
+use Rattle.mini_syntax.specs.Scaffold.Lexemes.{left_of, token_seen}
+use Rattle.mini_syntax.specs.Scaffold.Phrases.{Reads, factors, is_open, more_after, relations, conjunction_operator, disjunction_operator, relation_operator, sum_operator, term_operator}
 use Rattle.mini_syntax.proofs.AwaitLaws.{no_conjunction, no_disjunction, no_sum, no_term, opens_bracket, opens_name, opens_number, opens_prefix, opens_truth, prefix_goes_on, prefix_kind}
 use Rattle.mini_syntax.proofs.LevelLaws.{as_conjunction, as_disjunction, as_relation, as_sum, as_term, conjunction_grown, disjunction_grown, done, first_conjunction, first_factor, first_relation, first_sum, first_term}
 use Rattle.mini_syntax.proofs.LevelLaws.{next_conjunction, next_factor, next_relation, next_sum, next_term, read_shrinks, relation_read, sum_grown, term_grown}

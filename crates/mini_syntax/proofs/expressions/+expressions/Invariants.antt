@@ -1,7 +1,7 @@
 use Rattle.std.proofs.Common.{◌+◌, ◌*◌, ◌∷◌, length}
 use Rattle.mini_syntax.specs.declared.expected.Expected.TheVariants as wants
-use Rattle.mini_syntax.specs.Lexemes.{left_of}
-use Rattle.mini_syntax.specs.Phrases.{conjunctions, disjunctions, sums, terms, is_open_at, is_open_in, more_after}
+use Rattle.mini_syntax.specs.Scaffold.Lexemes.{left_of}
+use Rattle.mini_syntax.specs.Scaffold.Phrases.{conjunctions, disjunctions, sums, terms, is_open_at, is_open_in, more_after}
 use Rattle.mini_syntax.proofs.LevelLaws.{Going}
 use Rattle.mini_syntax.proofs.expressions.+expressions.Given as goal
 

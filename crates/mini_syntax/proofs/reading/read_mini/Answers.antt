@@ -1,8 +1,8 @@
 use Rattle.std.proofs.Common.{Global, Vec, map, ap, ◌∙◌}
 use Rattle.std.proofs.lemmas.Result.{err_from_is_err_and}
 use Rattle.mini_syntax.specs.declared.lexeme.Lexeme.{Lexeme}
-use Rattle.mini_syntax.specs.declared.program.Program.{Program}
-use Rattle.mini_syntax.specs.Lexemes.{token_seen}
+use Rattle.mini_syntax.specs.declared.program.InfixProgram.{InfixProgram}
+use Rattle.mini_syntax.specs.Scaffold.Lexemes.{token_seen}
 use Rattle.mini_syntax.proofs.ProgramLaws.{lexemes_few, refuses_text, text_faulty, text_read, tokens_proper}
 use Rattle.mini_syntax.proofs.reading.read_mini.Goals as goal
 
@@ -18,7 +18,7 @@ read_program-requires c =
 pub returns-in_err-lexemes-clause-fault : goal.returns-in_err-lexemes-clause-fault
 returns-in_err-lexemes-clause-fault c =
     let p = err_from_is_err_and c.from_residual.result c.from_residual.ensures.1 in
-    rw (p.1, p.2) (refuses_text (Vec Lexeme Global) Program c.args.text.now c.in_err-lexemes.field-0.0 c.in_err-lexemes.ensures.fault)
+    rw (p.1, p.2) (refuses_text (Vec Lexeme Global) InfixProgram c.args.text.now c.in_err-lexemes.field-0.0 c.in_err-lexemes.ensures.fault)
 
 pub returns-in-None-clause-read : goal.returns-in-None-clause-read
 returns-in-None-clause-read c =

@@ -1,4 +1,4 @@
-use Rattle.std.proofs.Common.{◌≡◌, ◌≤◌, ap, arith}
+use Rattle.std.proofs.Common.{◌≤◌, ap, arith}
 use Rattle.piton_machine.specs.PitonInstr.{decoded_view}
 use Rattle.piton_code_move.proofs.emission.emitted.Goals as goal
 

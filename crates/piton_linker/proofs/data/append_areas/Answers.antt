@@ -1,7 +1,7 @@
-use Rattle.std.proofs.Common.{◌≡◌, ◌++◌, map, take, ap, sym, ◌∙◌, subst, arith, append_assoc}
+use Rattle.std.proofs.Common.{◌++◌, map, take, ap, sym, ◌∙◌, subst, append_assoc}
 use Rattle.piton_check.specs.Instruction.{system_view}
 use Rattle.piton_machine.specs.Fits.{Each, IsWordOf}
-use Rattle.piton_machine.specs.Stacked.{words_in}
+use Rattle.piton_machine.specs.Seen.Stacked.{words_in}
 use Rattle.piton_machine.proofs.EachLaws.{each_get}
 use Rattle.piton_machine.specs.Addresses.{numbers}
 use Rattle.piton_machine.specs.Placed.{addresses_of}

@@ -1,4 +1,4 @@
-use Rattle.std.proofs.Common.{◌≡◌, ◌++◌, ◌∷◌, [], take, reverse, ap, ◌∙◌, refl, arith, append_assoc}
+use Rattle.std.proofs.Common.{◌++◌, ◌∷◌, [], take, reverse, ap, ◌∙◌, refl, append_assoc}
 use Rattle.piton_check.specs.Instruction.{system_view}
 use Rattle.piton_machine.specs.Addresses.{numbers}
 use Rattle.piton_machine.specs.Placed.{addresses_of}

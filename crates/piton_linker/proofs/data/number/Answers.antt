@@ -1,4 +1,4 @@
-use Rattle.std.proofs.Common.{◌≡◌, ◌∙◌, ap, sym, subst}
+use Rattle.std.proofs.Common.{◌∙◌, ap, sym, subst}
 use Rattle.piton_machine.specs.Placed.{addresses_of}
 use Rattle.piton_check.specs.Instruction.{system_view}
 use Rattle.piton_machine.specs.Templates.{word_of}

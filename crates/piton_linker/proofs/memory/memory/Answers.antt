@@ -1,6 +1,6 @@
 use Rattle.std.proofs.Common.{◌≡◌, ◌-◌, ◌++◌, ◌∷◌, [], ℕ, reverse, ap, ◌∙◌, arith}
 use Rattle.std.specs.Prelude.{replicate}
-use Rattle.fm_code.specs.Words.{halt_word}
+use Rattle.fm_code.specs.InstructionWords.{halt_word}
 use Rattle.piton_machine.specs.Fits.{system_in}
 use Rattle.piton_machine.specs.Addresses.{numbers}
 use Rattle.piton_machine.specs.Placed.{first_frame, first_frame_at, first_top, ctrl_start, temp_start, addresses_of}

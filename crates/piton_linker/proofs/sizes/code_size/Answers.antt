@@ -1,6 +1,5 @@
-use Rattle.std.proofs.Common.{◌≡◌, ◌+◌, ◌≤◌, Some, map, take, arith}
+use Rattle.std.proofs.Common.{◌+◌, map, arith}
 use Rattle.piton_check.specs.Instruction.{program_view}
-use Rattle.piton_machine.specs.Placed.{programs_size}
 use Rattle.piton_linker.proofs.BoundLaws.{programs_next, programs_within, seen_at}
 use Rattle.piton_linker.proofs.sizes.code_size.Goals as goal
 

@@ -1,6 +1,5 @@
-use Rattle.std.proofs.Common.{◌≡◌, ◌+◌, ◌≤◌, Some, map, take, arith}
-use Rattle.piton_machine.specs.Stacked.{words_in}
-use Rattle.piton_machine.specs.Placed.{areas_size}
+use Rattle.std.proofs.Common.{◌+◌, map, arith}
+use Rattle.piton_machine.specs.Seen.Stacked.{words_in}
 use Rattle.piton_linker.proofs.BoundLaws.{areas_next, areas_within, seen_at}
 use Rattle.piton_linker.proofs.sizes.data_size.Goals as goal
 

@@ -1,5 +1,5 @@
 use Rattle.std.proofs.Common.{◌≡◌, map, take}
-use Rattle.piton_machine.specs.Stacked.{words_in}
+use Rattle.piton_machine.specs.Seen.Stacked.{words_in}
 use Rattle.piton_machine.specs.Placed.{areas_size}
 use Rattle.piton_linker.proofs.sizes.data_size.Given as goal
 

@@ -1,7 +1,7 @@
-use Rattle.std.proofs.Common.{◌≡◌, ◌+◌, ◌≤◌, ◌++◌, ◌∷◌, [], Some, length, map, take, ap, sym, ◌∙◌, arith}
+use Rattle.std.proofs.Common.{◌+◌, ◌≤◌, ◌++◌, ◌∷◌, [], length, map, take, ap, sym, ◌∙◌, arith}
 use Rattle.std.proofs.lemmas.List.{length-map}
 use Rattle.piton_check.specs.Instruction.{program_view}
-use Rattle.piton_machine.specs.Placed.{programs_size, program_size}
+use Rattle.piton_machine.specs.Placed.{program_size}
 use Rattle.piton_linker.specs.Tables.{starts}
 use Rattle.piton_linker.proofs.BoundLaws.{programs_next, programs_within, seen_at}
 use Rattle.piton_linker.proofs.LookupLaws.{programs_more, whole}

@@ -1,4 +1,4 @@
-use Rattle.std.proofs.Common.{◌≡◌, ◌+◌, length, map, take}
+use Rattle.std.proofs.Common.{◌≡◌, ◌+◌, map, take}
 use Rattle.piton_check.specs.Instruction.{program_view}
 use Rattle.piton_machine.specs.Placed.{programs_size, program_size}
 use Rattle.piton_linker.specs.Tables.{starts}

@@ -1,9 +1,10 @@
-use Rattle.std.proofs.Common.{◌≡◌, ◌+◌, ◌≤◌, ◌++◌, ◌∷◌, [], Some, length, map, take, ap, sym, ◌∙◌, arith}
+use Rattle.std.proofs.Common.{◌+◌, ◌≤◌, ◌++◌, ◌∷◌, [], length, map, take, ap, sym, ◌∙◌, arith}
 use Rattle.std.proofs.lemmas.List.{length-map}
 use Rattle.piton_check.specs.Instruction.{instruction_view}
-use Rattle.piton_machine.specs.Placed.{instructions_size, instruction_size}
+use Rattle.piton_machine.specs.Placed.{instruction_size}
+use Rattle.piton_machine.proofs.PlacingLaws.{size_next}
 use Rattle.piton_linker.specs.Tables.{starts}
-use Rattle.piton_linker.proofs.BoundLaws.{lengths_next, lengths_within, seen_at}
+use Rattle.piton_linker.proofs.BoundLaws.{lengths_within, seen_at}
 use Rattle.piton_linker.proofs.LookupLaws.{instructions_more, whole}
 use Rattle.piton_linker.proofs.table.row.Goals as goal
 
@@ -12,7 +13,7 @@ overflow_cast-at c =
     let all = map instruction_view c.args.instrs.now in
     let k = c.loop-instr.instr-index in
     let there = seen_at instruction_view c.args.instrs.now k c.instr-item.result c.loop-instr-test.true c.instr-item.is in
-    let next = lengths_next all k (instruction_view c.instr-item.result) there in
+    let next = size_next all k (instruction_view c.instr-item.result) there in
     let within = lengths_within all (k + 1) in
     omega (arith, next, within, c.requires, c.loop-instr.invariant.at)
 
@@ -21,7 +22,7 @@ instruction_size-at-requires c =
     let all = map instruction_view c.args.instrs.now in
     let k = c.loop-instr.instr-index in
     let there = seen_at instruction_view c.args.instrs.now k c.instr-item.result c.loop-instr-test.true c.instr-item.is in
-    let next = lengths_next all k (instruction_view c.instr-item.result) there in
+    let next = size_next all k (instruction_view c.instr-item.result) there in
     let within = lengths_within all (k + 1) in
     omega (arith, next, within, c.requires)
 
@@ -30,7 +31,7 @@ overflow_add-at c =
     let all = map instruction_view c.args.instrs.now in
     let k = c.loop-instr.instr-index in
     let there = seen_at instruction_view c.args.instrs.now k c.instr-item.result c.loop-instr-test.true c.instr-item.is in
-    let next = lengths_next all k (instruction_view c.instr-item.result) there in
+    let next = size_next all k (instruction_view c.instr-item.result) there in
     let within = lengths_within all (k + 1) in
     omega (arith, next, within, c.requires, c.loop-instr.invariant.at, c.instruction_size-at.ensures)
 
@@ -39,7 +40,7 @@ loop-instr-preserved c =
     let all = map instruction_view c.args.instrs.now in
     let k = c.loop-instr.instr-index in
     let there = seen_at instruction_view c.args.instrs.now k c.instr-item.result c.loop-instr-test.true c.instr-item.is in
-    let next = lengths_next all k (instruction_view c.instr-item.result) there in
+    let next = size_next all k (instruction_view c.instr-item.result) there in
     let within = lengths_within all (k + 1) in
     record {
       at = omega (arith, next, c.loop-instr.invariant.at, c.instruction_size-at.ensures);

@@ -1,4 +1,4 @@
-use Rattle.std.proofs.Common.{◌≡◌, ◌+◌, length, map, take}
+use Rattle.std.proofs.Common.{◌≡◌, ◌+◌, map, take}
 use Rattle.piton_check.specs.Instruction.{instruction_view}
 use Rattle.piton_machine.specs.Placed.{instructions_size, instruction_size}
 use Rattle.piton_linker.specs.Tables.{starts}

@@ -1,7 +1,6 @@
-use Rattle.std.proofs.Common.{◌≡◌, ◌+◌, ◌≤◌, ◌++◌, ◌∷◌, [], Some, length, map, take, ap, sym, ◌∙◌, arith}
+use Rattle.std.proofs.Common.{◌+◌, ◌≤◌, ◌++◌, ◌∷◌, [], length, map, take, ap, sym, ◌∙◌, arith}
 use Rattle.std.proofs.lemmas.List.{length-map}
-use Rattle.piton_machine.specs.Stacked.{words_in}
-use Rattle.piton_machine.specs.Placed.{areas_size}
+use Rattle.piton_machine.specs.Seen.Stacked.{words_in}
 use Rattle.piton_linker.specs.Tables.{starts}
 use Rattle.piton_linker.proofs.BoundLaws.{areas_next, areas_within, seen_at}
 use Rattle.piton_linker.proofs.LookupLaws.{areas_more, whole}

@@ -1,5 +1,5 @@
 use Rattle.std.proofs.Common.{◌≡◌, ◌+◌, length, map, take}
-use Rattle.piton_machine.specs.Stacked.{words_in}
+use Rattle.piton_machine.specs.Seen.Stacked.{words_in}
 use Rattle.piton_machine.specs.Placed.{areas_size}
 use Rattle.piton_linker.specs.Tables.{starts}
 use Rattle.piton_linker.proofs.table.starts.Given as goal

@@ -1,5 +1,5 @@
 use Rattle.piton_machine.specs.Fits.{system_in}
-use Rattle.piton_machine.specs.Seen.{IsSeen}
+use Rattle.piton_machine.specs.Seen.StateView.{IsSeen}
 use Rattle.piton_tests.proofs.linked.run_together.Given as goal
 
 -- the state is one of the system

@@ -1,7 +1,7 @@
 use Rattle.std.proofs.Common.{◌≡◌, ap, sym, ◌∙◌}
 use Rattle.gypsy_syntax.specs.Resolved.{program_of}
-use Rattle.gypsy_syntax.specs.SourceView.{source_of}
-use Rattle.gypsy_space.specs.Needs.{main_used, stack_words}
+use Rattle.gypsy_syntax.specs.Seen.SourceView.{source_of}
+use Rattle.gypsy_space.specs.Needs.{main_used, stack_sizes}
 use Rattle.space_cert.specs.Accepting.{covers, source_calls}
 use Rattle.space_cert.proofs.CertifyLaws.{body_calls}
 use Rattle.space_cert.proofs.AcceptLaws.{covers_true, covers_is, is_covered_by, source_calls_are}
@@ -14,7 +14,7 @@ returns-clause-covers c =
     let bs = c.args.cert.now.bounds.items in
     let s = source_of c.args.accepted.now in
     let q = program_of s in
-    let sizes = stack_words c.args.temp c.args.ctrl in
+    let sizes = stack_sizes c.args.ctrl c.args.temp in
     let fits = c.source-source.ensures.accepted.fits in
     let e : c.covers.result ≡ covers ns bs (main_used q) sizes q.main (body_calls q) =
     c.covers.ensures
@@ -25,11 +25,11 @@ returns-clause-covers c =
 pub returns-clause-never : goal.returns-clause-never
 returns-clause-never c = λ t v.
     let s = source_of c.args.accepted.now in
-    let sizes = stack_words c.args.temp c.args.ctrl in
+    let sizes = stack_sizes c.args.ctrl c.args.temp in
     never (program_of s) c.args.cert.now.bounds.items sizes ((returns-clause-covers c).0 t) c.source-source.ensures.accepted.fits v
 
 pub returns-clause-exact : goal.returns-clause-exact
 returns-clause-exact c =
     let s = source_of c.args.accepted.now in
-    let sizes = stack_words c.args.temp c.args.ctrl in
+    let sizes = stack_sizes c.args.ctrl c.args.temp in
     is_covered_by (program_of s) c.source-source.ensures.accepted.fits c.args.cert.now.bounds.items sizes c.covers.result (returns-clause-covers c).0 (returns-clause-covers c).1

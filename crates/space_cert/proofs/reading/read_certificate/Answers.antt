@@ -4,11 +4,11 @@ use Rattle.std.proofs.lemmas.Result.{IfOk-weaker}
 use Rattle.std.specs.List.{IsDistinct}
 use Rattle.std.specs.Str.{bytes_eq}
 use Rattle.gypsy_syntax.specs.Resolved.{procedure_names}
-use Rattle.gypsy_syntax.specs.SourceView.{source_of}
+use Rattle.gypsy_syntax.specs.Seen.SourceView.{source_of}
 use Rattle.gypsy_syntax.specs.Sources.{ProcOf}
 use Rattle.gypsy_space.specs.Callees.{names_of}
-use Rattle.space_cert.specs.CertText.{Gives, bounds_in}
-use Rattle.space_cert.specs.Names.{names_in}
+use Rattle.space_cert.specs.CertText.{GivesCertificateText, bounds_in}
+use Rattle.space_cert.specs.Scaffold.Names.{names_in}
 use Rattle.space_cert.proofs.NameLaws.{names_same, own_names}
 use Rattle.space_cert.proofs.reading.read_certificate.Goals as goal
 
@@ -20,7 +20,7 @@ pub returns-clause-exact : goal.returns-clause-exact
 returns-clause-exact c =
     let named : names_in c.in_ok-names.names ≡ procedure_names (source_of c.args.accepted.now) =
     c.in_ok-names.ensures ∙ (ap names_of (c.as_slice.ensures.value ∙ ap (λ s. s.procs.items) c.source.ensures.value) ∙ names_same c.args.accepted.now.procs.items) in
-    subst (λ names. Gives (λ c. c.bounds.items) c.certificate_in.result (bounds_in names c.args.text.now)) named c.certificate_in.ensures.exact
+    subst (λ names. GivesCertificateText (λ c. c.bounds.items) c.certificate_in.result (bounds_in names c.args.text.now)) named c.certificate_in.ensures.exact
 
 pub returns-clause-number : goal.returns-clause-number
 returns-clause-number c =

@@ -1,8 +1,8 @@
 use Rattle.std.proofs.Common.{subst, sym, Result}
 use Rattle.std.proofs.lemmas.Result.{err_from_is_err_and}
-use Rattle.gypsy_syntax.specs.SourceView.{source_of}
+use Rattle.gypsy_syntax.specs.Seen.SourceView.{source_of}
 use Rattle.stack_build.specs.declared.fault.BuildFault.{BuildFault}
-use Rattle.stack_build.specs.Build.{Gives, BuiltOf}
+use Rattle.stack_build.specs.Build.{GivesBuilt, BuiltOf}
 use Rattle.stack_build.proofs.BuildLaws.{text_fails, text_builds}
 use Rattle.stack_build.proofs.ShortLaws.{text_builds_if}
 use Rattle.stack_build.proofs.building.build.Goals as goal
@@ -14,7 +14,7 @@ returns-in_err-accepted-clause-value c =
 
 pub returns-clause-value : goal.returns-clause-value
 returns-clause-value c =
-    subst (λ (r : Result BuiltOf BuildFault). Gives (λ built. built) c.build_accepted.result r)
+    subst (λ (r : Result BuiltOf BuildFault). GivesBuilt (λ built. built) c.build_accepted.result r)
     (sym (text_builds c.args.text.now c.args.ctrl c.args.temp c.args.base (source_of c.in_ok-accepted.accepted) c.in_ok-accepted.ensures)) c.build_accepted.ensures.value
 
 pub returns-clause-implements : goal.returns-clause-implements

@@ -1,8 +1,8 @@
 use Rattle.std.proofs.Common.{rules, ◌≡◌, subst}
 use Rattle.std.proofs.lemmas.Result.{err_from_is_err_and}
 use Rattle.fm_loader.proofs.ImageLaws.{own_names}
-use Rattle.gypsy_space.specs.Needs.{stack_words}
-use Rattle.gypsy_syntax.specs.SourceView.{source_of}
+use Rattle.gypsy_space.specs.Needs.{stack_sizes}
+use Rattle.gypsy_syntax.specs.Seen.SourceView.{source_of}
 use Rattle.stack_build.specs.Starts.{CanRun}
 use Rattle.stack_build.proofs.StartLaws.{can_run, values_failed}
 use Rattle.stack_build.proofs.built_starts.built_start.Goals as goal
@@ -15,7 +15,7 @@ returns-in_err-values-clause-start c =
     let p = err_from_is_err_and c.from_residual-in_err-values.result c.from_residual-in_err-values.ensures.1 in
     let slots : c.deref.result.now ≡ c.in_ok-piton.field-0.image.slots = search rules in
     rw (p.1, p.2)
-    (values_failed (source_of c.args.accepted.now) (stack_words c.args.temporary c.args.control) c.in_ok-piton.field-0 c.args.text.now c.in_err-values.field-0.0 c.in_ok-piton.ensures.value (rw (← slots) c.in_err-values.ensures.value))
+    (values_failed (source_of c.args.accepted.now) (stack_sizes c.args.control c.args.temporary) c.in_ok-piton.field-0 c.args.text.now c.in_err-values.field-0.0 c.in_ok-piton.ensures.value (rw (← slots) c.in_err-values.ensures.value))
 
 pub returns-clause-runs : goal.returns-clause-runs
 returns-clause-runs c =
@@ -24,5 +24,5 @@ returns-clause-runs c =
     let piton : c.in_ok-piton.field-0.piton ≡ c.piton.inside.piton = search rules in
     let image : c.in_ok-piton.field-0.image ≡ c.piton.inside.image = search rules in
     subst (CanRun source) (λ i. record { checked = piton i; image = image i; values = c.in_ok-values.values.items })
-    (can_run c.generated_is_acceptable.ensures source (stack_words c.args.temporary c.args.control) c.in_ok-piton.field-0 c.args.text.now c.in_ok-values.values.items c.in_ok-piton.ensures.accepted c.in_ok-piton.ensures.value
+    (can_run c.generated_is_acceptable.ensures source (stack_sizes c.args.control c.args.temporary) c.in_ok-piton.field-0 c.args.text.now c.in_ok-values.values.items c.in_ok-piton.ensures.accepted c.in_ok-piton.ensures.value
     c.in_ok-piton.ensures.implements.spells.limits (rw (← slots) c.in_ok-values.ensures.value))

@@ -8,10 +8,10 @@ use Rattle.piton_machine.specs.Placed.{placed}
 use Rattle.gypsy_syntax.specs.declared.literal.Decl.{Decl}
 use Rattle.gypsy_syntax.specs.declared.proc.Source.{Source}
 use Rattle.gypsy_syntax.specs.Sources.{SourceOf}
-use Rattle.gypsy_syntax.specs.SourceView.{source_of}
+use Rattle.gypsy_syntax.specs.Seen.SourceView.{source_of}
 use Rattle.stack_build.specs.Formals.{shown_formals, shown_conditions}
 use Rattle.stack_build.specs.Image.{slots_from, source_tables}
-use Rattle.stack_build.specs.Showing.{AreShort}
+use Rattle.stack_build.specs.Scaffold.Showing.{AreShort}
 use Rattle.stack_build.proofs.ImageLimits.{placed_window, generated_shows}
 use Rattle.stack_build.proofs.PartsLaws.{areas_below, end_below, parts_are, parts_fit}
 use Rattle.stack_build.proofs.TableLaws.{tables_fit}
@@ -19,10 +19,10 @@ use Rattle.stack_build.proofs.TakesLaws.{formals_short}
 use Rattle.stack_build.proofs.imaging.image.Goals as goal
 
 pub overflow_cast-result : goal.overflow_cast-result
-overflow_cast-result c = omega (arith, areas_below c.args.piton.now c.layout-parts.result c.requires.checked c.in_ok-base.ensures.small c.layout-parts.ensures)
+overflow_cast-result c = omega (arith, areas_below c.args.piton.now c.layout-parts.result c.requires.checked c.in_ok-linked.ensures.small c.layout-parts.ensures)
 
 pub overflow_cast-bottom : goal.overflow_cast-bottom
-overflow_cast-bottom c = omega (arith, end_below c.args.piton.now c.layout-parts.result c.requires.checked c.in_ok-base.ensures.small c.layout-parts.ensures)
+overflow_cast-bottom c = omega (arith, end_below c.args.piton.now c.layout-parts.result c.requires.checked c.in_ok-linked.ensures.small c.layout-parts.ensures)
 
 pub slots_from-requires : goal.slots_from-requires
 slots_from-requires c =
@@ -33,7 +33,7 @@ slots_from-requires c =
 
 pub invariant_of-result : goal.invariant_of-result
 invariant_of-result c =
-    let linked = c.in_ok-base.ensures in
+    let linked = c.in_ok-linked.ensures in
     let s : SourceOf = source_of c.args.accepted.now in
     let system : SystemView = system_in c.args.piton.now in
     let generated = c.requires.generated in
@@ -48,11 +48,11 @@ invariant_of-result c =
     c.in_ok-slots_from.ensures ∙ ap (λ (ds : List Decl). slots_from (c.layout-parts.result.end - 1) ds) (c.shown_formals.ensures ∙ ap shown_formals same) in
     let made = c.in_ok-procedures.ensures system generated (rw c.deref.ensures.value linked.places) in
     parts_fit c.args.piton.now (shown_formals s) (shown_conditions s) (source_tables s system) c.requires.checked linked.small shows fit _
-    (parts_are c.args.piton.now (shown_formals s) (shown_conditions s) (source_tables s system) c.layout-parts.result _ _ _ _ _ _ _ _ c.layout-parts.ensures linked.base linked.size linked.final_pc linked.registers linked.words names slots made)
+    (parts_are c.args.piton.now (shown_formals s) (shown_conditions s) (source_tables s system) c.layout-parts.result _ _ _ _ c.layout-parts.ensures (c.linked.view_is ∙ linked.image) names slots made)
 
 pub returns-clause-image : goal.returns-clause-image
 returns-clause-image c =
-    let linked = c.in_ok-base.ensures in
+    let linked = c.in_ok-linked.ensures in
     let s : SourceOf = source_of c.args.accepted.now in
     let system : SystemView = system_in c.args.piton.now in
     let same : source_of c.source-source.result.now ≡ s = ap (λ (t : Source). source_of t) c.source-source.ensures.value in
@@ -60,4 +60,4 @@ returns-clause-image c =
     let slots : c.in_ok-slots_from.field-0.items ≡ slots_from (c.layout-parts.result.end - 1) (shown_formals s) =
     c.in_ok-slots_from.ensures ∙ ap (λ (ds : List Decl). slots_from (c.layout-parts.result.end - 1) ds) (c.shown_formals.ensures ∙ ap shown_formals same) in
     let made = c.in_ok-procedures.ensures system c.requires.generated (rw c.deref.ensures.value linked.places) in
-    parts_are c.args.piton.now (shown_formals s) (shown_conditions s) (source_tables s system) c.layout-parts.result _ _ _ _ _ _ _ _ c.layout-parts.ensures linked.base linked.size linked.final_pc linked.registers linked.words names slots made
+    parts_are c.args.piton.now (shown_formals s) (shown_conditions s) (source_tables s system) c.layout-parts.result _ _ _ _ c.layout-parts.ensures (c.linked.view_is ∙ linked.image) names slots made

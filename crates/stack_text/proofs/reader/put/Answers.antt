@@ -1,8 +1,10 @@
-use Rattle.std.proofs.Common.{refl}
-use Rattle.stack_text.proofs.OpenListLaws.{puts}
+use Rattle.std.proofs.Common.{rules, ◌<◌, ◌-◌, arith, refl}
+use Rattle.std.specs.Prelude.{vec_len}
+use Rattle.stack_text.proofs.OpenListLaws.{puts_in_place}
 use Rattle.stack_text.proofs.reader.put.Goals as goal
 
-pub returns-in_ok-push-in-Some-2 : goal.returns-in_ok-push-in-Some-2
-returns-in_ok-push-in-Some-2 c =
-    puts c.args.stack.now.items c.pop.new.self.items c.push-in-Some.new.self.items c.in-Some.innermost (record { place = c.in-Some.innermost.place; items = c.push.new.self }) c.args.tree
-    c.in-Some.ensures.items c.in_ok-push-in-Some-2.ensures.items refl c.in_ok-push-in-Some.ensures.items
+pub returns-in_ok-push-in-Some : goal.returns-in_ok-push-in-Some
+returns-in_ok-push-in-Some c =
+    let nonempty : 0 < vec_len c.args.stack.now = search rules in
+    puts_in_place c.args.stack.now.items (vec_len c.args.stack.now - 1) c.in-Some.innermost.now (record { place = c.in-Some.innermost.now.place; items = c.push.new.self }) c.args.tree
+    (omega (arith, nonempty)) c.in-Some.ensures.value refl c.in_ok-push-in-Some.ensures.items

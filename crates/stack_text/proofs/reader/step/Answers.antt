@@ -8,8 +8,8 @@ returns-in-Some c = rw c.in-Closing.is (steps_close c.args.stack.now.items c.pop
 pub returns-in_ok-text-in-Atom : goal.returns-in_ok-text-in-Atom
 returns-in_ok-text-in-Atom c = rw c.in-Atom.is (steps_atom c.args.stack.now.items c.put-in-Atom.new.stack.items c.args.found.start _ c.in_ok-text-in-Atom.text c.put-in-Atom.result c.in_ok-text-in-Atom.ensures.items c.put-in-Atom.ensures)
 
-pub returns-then-len-ge-MAX_DEPTH : goal.returns-then-len-ge-MAX_DEPTH
-returns-then-len-ge-MAX_DEPTH c = rw (c.fault_at-then-len-ge-MAX_DEPTH.ensures, c.in-Opening.is) (steps_deep c.args.stack.now.items c.args.stack.now.items c.args.found.start (omega arith))
+pub returns-then-len-ge-MOST_NESTING : goal.returns-then-len-ge-MOST_NESTING
+returns-then-len-ge-MOST_NESTING c = rw (c.fault_at-then-len-ge-MOST_NESTING.ensures, c.in-Opening.is) (steps_deep c.args.stack.now.items c.args.stack.now.items c.args.found.start (omega arith))
 
 pub returns-in_ok-push-in-Opening : goal.returns-in_ok-push-in-Opening
 returns-in_ok-push-in-Opening c =

@@ -1,6 +1,6 @@
 use Rattle.std.proofs.Common.{◌∙◌}
-use Rattle.gypsy_syntax.specs.SourceView.{source_of}
-use Rattle.gypsy_meaning.specs.Running.{seen}
+use Rattle.gypsy_syntax.specs.Seen.SourceView.{source_of}
+use Rattle.gypsy_meaning.specs.Seen.Running.{seen}
 use Rattle.cli_stack.proofs.MeanLaws.{said_is}
 use Rattle.cli_stack.proofs.commands.mean.ended_text.Goals as goal
 

@@ -1,5 +1,5 @@
 use Rattle.std.proofs.Common.{sym, ◌∙◌}
-use Rattle.gypsy_syntax.specs.SourceView.{source_of}
+use Rattle.gypsy_syntax.specs.Seen.SourceView.{source_of}
 use Rattle.cli_stack.proofs.LowersLaws.{lowered_file, lowered_said, fault_file, fault_said}
 use Rattle.cli_stack.proofs.commands.mini.prepare.Goals as goal
 

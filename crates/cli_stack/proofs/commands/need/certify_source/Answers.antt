@@ -1,7 +1,7 @@
 use Rattle.std.proofs.Common.{◌∙◌, subst}
 use Rattle.std.proofs.lemmas.List.{length-map}
 use Rattle.gypsy_syntax.specs.Resolved.{procedure_of, program_of}
-use Rattle.gypsy_syntax.specs.SourceView.{source_of}
+use Rattle.gypsy_syntax.specs.Seen.SourceView.{source_of}
 use Rattle.space_cert.specs.Least.{IsThere}
 use Rattle.cli_stack.proofs.commands.need.certify_source.Goals as goal
 

@@ -1,6 +1,6 @@
 use Rattle.std.proofs.Common.{◌≡◌, ◌++◌, drop}
 use Rattle.std.specs.List.{flat_map, enumerate_from}
-use Rattle.cli_stack.specs.Prun.{area_line}
+use Rattle.cli_stack.specs.Commands.Prun.{area_line}
 use Rattle.cli_stack.proofs.commands.prun.area_lines.Given as goal
 
 -- the text so far, and that of the areas that are left, are that of all

@@ -1,6 +1,6 @@
 use Rattle.std.proofs.Common.{sym, ◌∙◌}
 use Rattle.std.proofs.lemmas.Result.{err_from_is_err_and}
-use Rattle.command_line.specs.Words.{spelled, tasks_within}
+use Rattle.command_line.specs.CommandWords.{spelled, tasks_within}
 use Rattle.command_line.proofs.TaskWordLaws.{task_fails, last_task, next_task, none_left}
 use Rattle.command_line.proofs.words.reader.tasks_within.Goals as goal
 

@@ -1,4 +1,4 @@
-use Rattle.std.proofs.Common.{◌≡◌, ◌∙◌, List, map, ap}
+use Rattle.std.proofs.Common.{◌≡◌, ◌∙◌, List, ap}
 use Rattle.fm_machine.specs.State.{Fm, zeroed}
 use Rattle.fm_turns.specs.Starting.{NewTask, new_task, new_tasks, first_base}
 use Rattle.fm_turns.proofs.StartingLaws.{images_begin, starts_above, loaded_all, started_all, starts_as_parts, contexts_begin_within, size_known, base_known, window_known}

@@ -2,16 +2,16 @@ use Rattle.std.proofs.Common.{◌≡◌, ℕ, ◌+◌, ◌<◌, List, map, lengt
 use Rattle.std.proofs.lemmas.Bool.Decides.{nat_tests}
 use Rattle.std.specs.Prelude.{Bool, ◌==◌, if◌then◌else◌}
 use Rattle.stack_text.proofs.Loops.{drop-item}
-use Rattle.gypsy_syntax.specs.Programs.{Cond, Leave, Routine, Space, Declared}
+use Rattle.stack_text.proofs.SharedLaws.{same_item}
+use Rattle.gypsy_syntax.specs.Programs.{ConditionOf, Leave, Routine, Space, Declared}
 use Rattle.gypsy_space.specs.Nodes.{seen_cond}
 use Rattle.gypsy_space.specs.declared.program.Condition.{Condition}
 use Rattle.gypsy_space.specs.declared.program.Condition.TheVariants as condition
 use Rattle.gypsy_meaning.specs.Calls.{has_cond, same_cond}
 use Rattle.gypsy_codegen.specs.WordsOf.{number_of}
-use Rattle.gypsy_codegen.proofs.WriteLaws.{item_is}
 use Rattle.gypsy_codegen.proofs.handled.Handled.new.Goals as goal
 
-same_number : (c d : Cond) → same_cond c d ≡ (number_of c == number_of d)
+same_number : (c d : ConditionOf) → same_cond c d ≡ (number_of c == number_of d)
 same_number Leave Leave = refl
 same_number Leave Routine = refl
 same_number Leave Space = refl
@@ -37,7 +37,7 @@ turned false true rest = refl
 turned false false rest = refl
 
 -- one more condition is in the table, and one fewer is to come
-more : (c : Cond) (conds : List Condition) (k : ℕ) (d : Condition) (old new : Bool) → k < length conds → d ≡ get_or conds k d →
+more : (c : ConditionOf) (conds : List Condition) (k : ℕ) (d : Condition) (old new : Bool) → k < length conds → d ≡ get_or conds k d →
     new ≡ (if number_of c == number_of (seen_cond d) then true else old) →
     (if old then true else has_cond c (map seen_cond (drop k conds))) ≡ has_cond c (map seen_cond conds) →
     (if new then true else has_cond c (map seen_cond (drop (k + 1) conds))) ≡ has_cond c (map seen_cond conds)
@@ -56,4 +56,4 @@ loop-cond-preserved c =
     let lt = c.loop-cond-test.true in
     let d : Condition = get_or conds k condition.Leave in
     let marked = rw c.number_of.ensures.exact at c.in_ok-mark.ensures in
-    λ e. more e conds k d _ _ lt (item_is conds k condition.Leave d lt) (marked (number_of e)) (c.loop-cond.invariant e)
+    λ e. more e conds k d _ _ lt (same_item conds k condition.Leave d lt) (marked (number_of e)) (c.loop-cond.invariant e)

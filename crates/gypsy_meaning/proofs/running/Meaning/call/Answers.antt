@@ -1,4 +1,4 @@
-use Rattle.gypsy_meaning.specs.Work.{work_of}
+use Rattle.gypsy_meaning.specs.Seen.Work.{work_of}
 use Rattle.gypsy_meaning.proofs.ReadyLaws.{call_lent, call_sized}
 use Rattle.gypsy_meaning.proofs.running.Meaning.call.Goals as goal
 

@@ -1,9 +1,9 @@
 use Rattle.std.proofs.Common.{◌≡◌, ℕ, List, sym, subst}
-use Rattle.gypsy_meaning.specs.Held.{Moves}
+use Rattle.gypsy_meaning.specs.Seen.Held.{Moves}
 use Rattle.gypsy_meaning.specs.Machine.{settle}
-use Rattle.gypsy_meaning.specs.Returning.{IsLast}
-use Rattle.gypsy_meaning.specs.Running.{paid}
-use Rattle.gypsy_meaning.specs.Work.{work_of}
+use Rattle.gypsy_meaning.specs.Scaffold.Returning.{IsLast}
+use Rattle.gypsy_meaning.specs.Seen.Running.{paid}
+use Rattle.gypsy_meaning.specs.Seen.Work.{work_of}
 use Rattle.gypsy_meaning.specs.declared.running.Frame.{Frame}
 use Rattle.gypsy_meaning.specs.declared.running.Meaning.{Meaning}
 use Rattle.gypsy_meaning.proofs.ReturningLaws.{end_moves}

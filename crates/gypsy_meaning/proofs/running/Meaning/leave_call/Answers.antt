@@ -1,8 +1,8 @@
 use Rattle.std.proofs.Common.{ℕ, List, sym, subst, ap, ◌∙◌}
 use Rattle.gypsy_space.specs.Nodes.{seen_cond, seen_program}
-use Rattle.gypsy_meaning.specs.Held.{Moves}
-use Rattle.gypsy_meaning.specs.Returning.{IsLast, RaisesTo, out_price}
-use Rattle.gypsy_meaning.specs.Running.{paid}
+use Rattle.gypsy_meaning.specs.Seen.Held.{Moves}
+use Rattle.gypsy_meaning.specs.Scaffold.Returning.{IsLast, RaisesTo, out_price}
+use Rattle.gypsy_meaning.specs.Seen.Running.{paid}
 use Rattle.gypsy_meaning.specs.declared.running.Frame.{Frame}
 use Rattle.gypsy_meaning.specs.declared.running.Meaning.{Meaning}
 use Rattle.gypsy_meaning.proofs.ReturningLaws.{leave_moves}

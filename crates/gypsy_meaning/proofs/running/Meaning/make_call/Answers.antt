@@ -1,12 +1,12 @@
 use Rattle.std.proofs.Common.{◌≡◌, ℕ, ◌<◌, length, sym, ap, ◌∙◌, arith}
 use Rattle.std.proofs.lemmas.List.{length-map}
-use Rattle.gypsy_space.specs.Needs.{stack_words}
+use Rattle.gypsy_space.specs.Needs.{stack_sizes}
 use Rattle.gypsy_space.specs.Nodes.{seen_proc, seen_program}
 use Rattle.gypsy_space.specs.Events.{lack_by, need_at}
 use Rattle.gypsy_space.specs.declared.need.Lack.TheVariants.{Temporary, Control}
 use Rattle.gypsy_space.specs.declared.program.CallSite.{CallSite}
-use Rattle.gypsy_meaning.specs.Running.{sizes_of}
-use Rattle.gypsy_meaning.specs.Work.{work_of}
+use Rattle.gypsy_meaning.specs.Seen.Running.{sizes_of}
+use Rattle.gypsy_meaning.specs.Seen.Work.{work_of}
 use Rattle.gypsy_meaning.proofs.CallingLaws.{lacks_temporary, lacks_control}
 use Rattle.gypsy_meaning.proofs.running.Meaning.make_call.Goals as goal
 
@@ -17,8 +17,8 @@ raise_space-requires-clause-turn c =
     let site = c.args.site.value in
     let there : site.callee < length (seen_program m.program).procs = omega (arith, c.requires.callee, length-map m.program.procedures.items seen_proc) in
     let callee : c.deref.result.now.callee ≡ site.callee = ap (λ (s : CallSite). s.callee) c.deref.ensures in
-    let lack : lack_by (need_at ns site.callee) (sizes_of m) (stack_words m.used_temp m.used_ctrl) ≡ Temporary =
-    sym (c.lack.ensures ∙ ap (λ (k : ℕ). lack_by (need_at ns k) (sizes_of m) (stack_words m.used_temp m.used_ctrl)) callee) ∙ c.in-Temporary.is in
+    let lack : lack_by (need_at ns site.callee) (sizes_of m) (stack_sizes m.used_ctrl m.used_temp) ≡ Temporary =
+    sym (c.lack.ensures ∙ ap (λ (k : ℕ). lack_by (need_at ns k) (sizes_of m) (stack_sizes m.used_ctrl m.used_temp)) callee) ∙ c.in-Temporary.is in
     lacks_temporary m ns site (work_of c.args.below.value) c.requires.needs there c.requires.turn c.requires.held.top.used_words lack
 
 pub raise_space-requires-in-Control-clause-turn : goal.raise_space-requires-in-Control-clause-turn
@@ -28,6 +28,6 @@ raise_space-requires-in-Control-clause-turn c =
     let site = c.args.site.value in
     let there : site.callee < length (seen_program m.program).procs = omega (arith, c.requires.callee, length-map m.program.procedures.items seen_proc) in
     let callee : c.deref.result.now.callee ≡ site.callee = ap (λ (s : CallSite). s.callee) c.deref.ensures in
-    let lack : lack_by (need_at ns site.callee) (sizes_of m) (stack_words m.used_temp m.used_ctrl) ≡ Control =
-    sym (c.lack.ensures ∙ ap (λ (k : ℕ). lack_by (need_at ns k) (sizes_of m) (stack_words m.used_temp m.used_ctrl)) callee) ∙ c.in-Control.is in
+    let lack : lack_by (need_at ns site.callee) (sizes_of m) (stack_sizes m.used_ctrl m.used_temp) ≡ Control =
+    sym (c.lack.ensures ∙ ap (λ (k : ℕ). lack_by (need_at ns k) (sizes_of m) (stack_sizes m.used_ctrl m.used_temp)) callee) ∙ c.in-Control.is in
     lacks_control m ns site (work_of c.args.below.value) c.requires.needs there c.requires.turn c.requires.held.top.used_words lack

@@ -1,5 +1,5 @@
 use Rattle.std.proofs.Common.{sym, subst}
-use Rattle.gypsy_meaning.specs.Held.{Moves}
+use Rattle.gypsy_meaning.specs.Seen.Held.{Moves}
 use Rattle.gypsy_meaning.specs.declared.running.Meaning.{Meaning}
 use Rattle.gypsy_meaning.proofs.RunningLaws.{open_moves}
 use Rattle.gypsy_meaning.proofs.running.Meaning.open.Goals as goal

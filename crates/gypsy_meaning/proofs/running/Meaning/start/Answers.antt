@@ -4,13 +4,13 @@ use Rattle.stack_text.specs.declared.value.Value.{Value}
 use Rattle.stack_text.specs.Values.{ValueOf}
 use Rattle.gypsy_syntax.specs.Programs.{proc_at, words_of}
 use Rattle.gypsy_syntax.specs.Resolved.{program_of}
-use Rattle.gypsy_syntax.specs.SourceView.{source_of}
+use Rattle.gypsy_syntax.specs.Seen.SourceView.{source_of}
 use Rattle.gypsy_space.specs.Nodes.{seen_program}
-use Rattle.gypsy_space.specs.Needs.{stack_words}
+use Rattle.gypsy_space.specs.Needs.{stack_sizes}
 use Rattle.gypsy_meaning.specs.Calls.{main_start}
 use Rattle.gypsy_meaning.specs.Kept.{VarsFit}
-use Rattle.gypsy_meaning.specs.Named.{proc_names, seen_names, variables_of}
-use Rattle.gypsy_meaning.specs.Seen.{opening}
+use Rattle.gypsy_meaning.specs.Seen.Named.{proc_names, seen_names, variables_of}
+use Rattle.gypsy_meaning.specs.Seen.RunView.{opening}
 use Rattle.gypsy_meaning.specs.declared.names.Names.{Names}
 use Rattle.gypsy_meaning.specs.declared.running.Meaning.{Meaning}
 use Rattle.gypsy_meaning.proofs.StartLaws.{belongs, main_sized, main_there, main_words, opens}
@@ -70,7 +70,7 @@ returns-clause-opening c =
     let named : map (λ v. v.0) m.variables.items ≡ variables_of m.names.items m.program.main =
     c.in_ok-variables.ensures.names ∙ ap (λ (t : List Names). variables_of t m.program.main) c.as_slice.ensures.value in
     opens s m c.source.ensures.accepted c.in_ok-program.ensures.program names fit refl vars named c.in_ok-variables.ensures.work c.new-2.ensures.items refl refl refl refl
-    ∙ ap (opening q (stack_words c.args.temp c.args.ctrl)) c.in_ok-values.ensures
+    ∙ ap (opening q (stack_sizes c.args.ctrl c.args.temp)) c.in_ok-values.ensures
 
 pub returns-clause-belongs : goal.returns-clause-belongs
 returns-clause-belongs c =

@@ -1,5 +1,5 @@
 use Rattle.level_debuggers.specs.Tallies.{watching}
-use Rattle.level_debuggers.specs.Sessions.{IsSession, session_of}
+use Rattle.level_debuggers.specs.Seen.Sessions.{IsSession, session_of}
 use Rattle.level_debuggers.proofs.WalkLaws.{Made}
 use Rattle.level_debuggers.proofs.session.Session.step.Given as goal
 

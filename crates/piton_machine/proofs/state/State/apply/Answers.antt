@@ -1,5 +1,5 @@
 use Rattle.std.proofs.Common.{◌∙◌, ◌≡◌, ◌≤◌, ◌-◌, ◌+◌, length, drop, arith, sym, length-drop}
-use Rattle.piton_machine.specs.Rows.{results_on}
+use Rattle.piton_machine.specs.InstructionRows.{results_on}
 use Rattle.piton_machine.specs.Views.{words_taken}
 use Rattle.piton_machine.proofs.ViewLaws.{lifted_is}
 use Rattle.piton_machine.proofs.ResultLaws.{words_pushed, results_count, pushes_no_more, pushes_one_more}

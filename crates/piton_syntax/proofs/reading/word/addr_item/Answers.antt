@@ -1,6 +1,6 @@
 use Rattle.std.proofs.Common.{◌≡◌, [], Some, Err, refl, sym, ◌∙◌}
 use Rattle.std.proofs.lemmas.Result.{err_from_is_err_and}
-use Rattle.stack_text.specs.TreeView.{node_of}
+use Rattle.stack_text.specs.Seen.TreeView.{node_of}
 use Rattle.stack_text.specs.declared.grammar.fault.FormFault.TheVariants.{Form}
 use Rattle.stack_text.proofs.PartLaws.{first_of_2, first_of_value}
 use Rattle.stack_text.proofs.TreeListLaws.{not_two, two_parts}

@@ -1,6 +1,7 @@
 use Rattle.std.proofs.Common.{◌≡◌, ◌++◌, ap, sym, ◌∙◌, length, reverse, set, false, arith, rules}
+use Rattle.stack_text.proofs.SharedLaws.{reverse_snoc}
 use Rattle.space_cert.specs.declared.search.Mark.TheVariants.{Entered}
-use Rattle.space_cert.proofs.SearchCode.{search_same, calls_at, reverse_push}
+use Rattle.space_cert.proofs.SearchCode.{search_same, calls_at}
 use Rattle.space_cert.proofs.search.Search.enter.Goals as goal
 
 pub returns-clause-entered : goal.returns-clause-entered
@@ -14,6 +15,6 @@ returns-clause-entered c =
     c.in_ok-push-2.ensures.items
     (c.in_ok-extend_from_slice.ensures.items ∙ ap (λ x. c.args.self.now.todo.items ++ x) (c.as_slice.ensures.value ∙ sym calls))
     (λ i. record { first = entered i; from = todo i; again = false })
-    (ap reverse c.in_ok-push.ensures.items ∙ reverse_push c.args.self.now.below.items c.args.self.now.top)
+    (ap reverse c.in_ok-push.ensures.items ∙ reverse_snoc c.args.self.now.below.items c.args.self.now.top)
     (search rules)
     (search rules)

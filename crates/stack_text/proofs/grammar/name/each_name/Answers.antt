@@ -6,7 +6,7 @@ use Rattle.stack_text.proofs.grammar.name.each_name.Goals as goal
 
 pub returns-in_err-name : goal.returns-in_err-name
 returns-in_err-name c =
-    let p = err_from_is_err_and c.from_residual.result c.from_residual.ensures.1 in
+    let p = err_from_is_err_and c.from_residual-in_err-name.result c.from_residual-in_err-name.ensures.1 in
     rw (p.1, p.2)
     (part_fails (name_or c.args.rule) c.loop-tree.names.items c.loop-tree.tree-index c.args.trees.now c.loop-tree.invariant c.in_err-name.field-0.0 c.tree-item.result c.loop-tree-test.true c.tree-item.is c.in_err-name.ensures)
 

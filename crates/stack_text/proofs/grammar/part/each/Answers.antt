@@ -6,7 +6,7 @@ use Rattle.stack_text.proofs.grammar.part.each.Goals as goal
 
 pub returns-in_err-part : goal.returns-in_err-part
 returns-in_err-part g c =
-    let p = err_from_is_err_and c.from_residual.result c.from_residual.ensures.1 in
+    let p = err_from_is_err_and c.from_residual-in_err-part.result c.from_residual-in_err-part.ensures.1 in
     rw (p.1, p.2)
     (part_fails g.T.Part.part_of (map g.T.Part.view c.loop-tree.parts.items) c.loop-tree.tree-index c.args.trees.now c.loop-tree.invariant c.in_err-part.field-0.0 c.tree-item.result c.loop-tree-test.true c.tree-item.is c.in_err-part.ensures)
 

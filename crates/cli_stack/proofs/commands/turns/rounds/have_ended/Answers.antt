@@ -1,7 +1,7 @@
 use Rattle.std.proofs.Common.{◌<◌, length, sym, ◌∙◌, arith}
 use Rattle.std.proofs.lemmas.List.{length-map}
 use Rattle.fm_turns.specs.Turns.{states_of}
-use Rattle.cli_stack.specs.Told.{has_ended}
+use Rattle.cli_stack.specs.Scaffold.Told.{has_ended}
 use Rattle.cli_stack.proofs.TaskLoops.{test_more, test_fails}
 use Rattle.cli_stack.proofs.commands.turns.rounds.have_ended.Goals as goal
 

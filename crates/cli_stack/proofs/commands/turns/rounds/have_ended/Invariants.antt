@@ -1,7 +1,7 @@
 use Rattle.std.proofs.Common.{◌≡◌, drop}
 use Rattle.std.specs.List.{list_all}
 use Rattle.fm_turns.specs.Turns.{states_of}
-use Rattle.cli_stack.specs.Told.{has_ended}
+use Rattle.cli_stack.specs.Scaffold.Told.{has_ended}
 use Rattle.cli_stack.proofs.commands.turns.rounds.have_ended.Given as goal
 
 -- the tasks that are left settle it

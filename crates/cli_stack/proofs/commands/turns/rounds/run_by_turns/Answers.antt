@@ -3,7 +3,7 @@ use Rattle.fm_turns.specs.EqualTurns.{AreAll, EndAsAlone}
 use Rattle.fm_turns.specs.Starting.{NewTask, new_tasks, started}
 use Rattle.fm_turns.specs.Turns.{TurnsOf, images_of}
 use Rattle.cli_stack.specs.Replies.{ReplyOf, reply_of}
-use Rattle.cli_stack.specs.Told.{GoneRound}
+use Rattle.cli_stack.specs.Scaffold.Told.{GoneRound}
 use Rattle.cli_stack.proofs.TurnsLaws.{first_images, tells_alone}
 use Rattle.cli_stack.proofs.commands.turns.rounds.run_by_turns.Goals as goal
 

@@ -1,5 +1,5 @@
 use Rattle.std.proofs.Common.{◌≡◌, ◌++◌, drop}
-use Rattle.cli_stack.specs.Told.{told_from}
+use Rattle.cli_stack.specs.Scaffold.Told.{told_from}
 use Rattle.cli_stack.proofs.commands.turns.rounds.tasks_text.Given as goal
 
 -- the text so far, and that of the tasks that are left, are that of all

@@ -6,7 +6,7 @@ use Rattle.fm_loader.specs.Loaded.{Fits}
 use Rattle.fm_loader.specs.Values.{values_in}
 use Rattle.fm_image.specs.Image.{ImageOf}
 use Rattle.fm_turns.specs.Starting.{NewTask, new_task, new_tasks}
-use Rattle.cli_stack.specs.Turns.{values_or_fault}
+use Rattle.cli_stack.specs.Commands.Turns.{values_or_fault}
 use Rattle.cli_stack.proofs.TaskLoops.{next_read}
 use Rattle.cli_stack.proofs.commands.turns.tasks.read_tasks.Goals as goal
 

@@ -1,7 +1,7 @@
 use Rattle.std.proofs.Common.{◌≡◌, ◌+◌, length, map}
 use Rattle.stack_text.proofs.ResultLoops.{with_front}
 use Rattle.fm_turns.specs.Starting.{new_tasks, AllFit}
-use Rattle.cli_stack.specs.Turns.{tasks_from}
+use Rattle.cli_stack.specs.Commands.Turns.{tasks_from}
 use Rattle.cli_stack.proofs.commands.turns.tasks.read_tasks.Given as goal
 
 -- the tasks so far, and those of the images that are left, are those of all

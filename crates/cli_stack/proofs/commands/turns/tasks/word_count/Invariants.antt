@@ -1,5 +1,5 @@
 use Rattle.std.proofs.Common.{◌≡◌, ◌≤◌, ◌+◌, ◌*◌, ◌^◌, drop}
-use Rattle.cli_stack.specs.Turns.{word_count}
+use Rattle.cli_stack.specs.Commands.Turns.{word_count}
 use Rattle.cli_stack.proofs.commands.turns.tasks.word_count.Given as goal
 
 -- the words so far and those that are left are those of all

@@ -1,0 +1,39 @@
+-- That what a command stores does as its source means.
+use Rattle.std.specs.Prelude.{◌≡◌, ◌≤◌, ℕ, List, length, Option, Some, None, Ok, IsSomeAnd}
+use Rattle.fm_image.specs.Image.{ImageOf}
+use Rattle.fm_image.specs.Spelling.{Spelled}
+use Rattle.stack_shelf.specs.Files.{Files, file_at}
+use Rattle.gypsy_syntax.specs.Sources.{SourceOf}
+use Rattle.gypsy_space.specs.Needs.{StackSizes}
+use Rattle.stack_build.specs.Build.{source_in}
+use Rattle.stack_build.specs.Implements.{Implements}
+use Rattle.stack_build.specs.Moments.{KeepsMoments, StaysUnfinished}
+use Rattle.command_line.specs.declared.command.Command.{Command}
+use Rattle.command_line.specs.declared.role.Role.TheVariants.{Source, Image}
+use Rattle.command_line.specs.Roles.{limit_of}
+use Rattle.cli_stack.specs.FilesAndSizes.{ReadsFile, StoresFile, sizes_of}
+
+-- the bytes are an image file that can be read again, and its image implements the source in a file, for stacks of these sizes, and
+-- keeps to it at every moment
+pub record HoldsImplementation (files : Files) (name : List ℕ) (sizes : StackSizes) (bytes : List ℕ) : Type 0 where
+  pub text : List ℕ
+  pub there : file_at files name ≡ Some text
+  pub source : SourceOf
+  pub read : source_in text ≡ Ok source
+  pub image : ImageOf
+  pub short : length bytes ≤ limit_of Image
+  pub spells : Spelled bytes image
+  pub implements : Implements image source sizes
+  pub moments : KeepsMoments image source sizes
+  pub unfinished : StaysUnfinished image source sizes
+
+-- who reads a source and stores an image has sizes of stacks, and stores an implementation of the source for them
+abbrev pub StoresImplementation : Command → Files → Option (List ℕ × List ℕ) → Type 0
+StoresImplementation command files output =
+    (source image stored bytes : List ℕ) → ReadsFile command Source source → StoresFile command Image image
+    → output ≡ Some (stored, bytes)
+    → IsSomeAnd (sizes_of command) (λ sizes. HoldsImplementation files source sizes bytes)
+
+abbrev pub Compiles : Option Command → Files → Option (List ℕ × List ℕ) → Type 0
+Compiles None files output = Unit {0}
+Compiles (Some command) files output = StoresImplementation command files output

@@ -1,0 +1,89 @@
+-- What the functions of the driver say to one another.
+use Rattle.std.specs.Prelude.{◌≡◌, ◌⊎◌, ℕ, ◌++◌, List, Option, Some, None, Result, Ok, Err, IsSomeAnd}
+use Rattle.fm_machine.specs.State.{MachineOf}
+use Rattle.stack_shelf.specs.Files.{Files}
+use Rattle.level_debuggers.specs.Tallies.{Watching}
+use Rattle.stack_shelf.specs.Causes.{Counts, Rose}
+use Rattle.stack_shelf.specs.Shelf.{appended, PrefixAppended}
+use Rattle.command_line.specs.declared.command.Command.{Command}
+use Rattle.command_line.specs.declared.early_end.EarlyEnd.{EarlyEnd}
+use Rattle.command_line.specs.declared.early_end.EarlyEnd.TheVariants.{Missing, TooLong, ShelfFault, OutOfMemory}
+use Rattle.command_line.specs.declared.status.Status.{Status}
+use Rattle.command_line.specs.declared.status.Status.TheVariants as exit
+use Rattle.command_line.specs.Devices.{EndsAtOne}
+use Rattle.command_line.specs.Ends.{end_status, end_line}
+use Rattle.command_line.specs.Gathered.{Texts}
+use Rattle.command_line.specs.CommandFiles.{input_names, file_names}
+use Rattle.cli_stack.specs.declared.driver.conclude.Conclusion.{Conclusion}
+use Rattle.cli_stack.specs.declared.reply.Reply.{Reply}
+use Rattle.cli_stack.specs.declared.reply.Verdict.TheVariants.{Usage}
+use Rattle.cli_stack.specs.Replies.{status_of, verdict_line, reply_of, verdict_alone}
+use Rattle.cli_stack.specs.Answer.{Answer, reply_by, answer_with, early_answer, answer_by, files_after}
+use Rattle.cli_stack.specs.World.{ShelfOf, OutOf}
+use Rattle.cli_stack.specs.Remains.{HoldsPart, FaultRose}
+
+-- 1. Performing a command.
+
+-- why a command ended early: at a missing or long input, or by a failure at a file of its own
+abbrev pub HasReason : Counts → Counts → Option Command → EarlyEnd → Type 0
+HasReason before after command (Missing name) = EndsAtOne before after (input_names command) (Missing name)
+HasReason before after command (TooLong limit) = EndsAtOne before after (input_names command) (TooLong limit)
+HasReason before after command end = EndsAtOne before after (file_names command) end
+
+-- the reply is the command's to some texts
+abbrev pub IsReplyTo : Option Command → List Watching → Reply → Type 0
+IsReplyTo None watches reply = reply_of reply ≡ verdict_alone Usage
+IsReplyTo (Some command) watches reply = (texts : Texts) × (reply_of reply ≡ reply_by command watches texts)
+
+-- the files and the end of a command with these file names and this answer over known files
+abbrev pub LeavesAs : Answer → List (List ℕ) → Files → ShelfOf → ShelfOf → Result Reply EarlyEnd → Type 0
+LeavesAs answer names files before after (Ok reply) =
+    (answer ≡ answer_with answer.output (reply_of reply)) × (after.files ≡ Some (files_after answer.output files))
+LeavesAs answer names files before after (Err (Missing name)) =
+    (answer ≡ early_answer (Missing name)) × (after.files ≡ Some files)
+LeavesAs answer names files before after (Err (TooLong limit)) =
+    (answer ≡ early_answer (TooLong limit)) × (after.files ≡ Some files)
+LeavesAs answer names files before after (Err (ShelfFault name)) = HoldsPart (Some files) after.files answer.output
+LeavesAs answer names files before after (Err OutOfMemory) =
+    (after.files ≡ Some files) ⊎ ((after.files ≡ Some (files_after answer.output files))
+    ⊎ (HoldsPart (Some files) after.files answer.output × FaultRose names before.counts after.counts))
+
+abbrev pub Leaves : Option Command → List Watching → Files → ShelfOf → ShelfOf → Result Reply EarlyEnd → Type 0
+Leaves command watches files before after ran = LeavesAs (answer_by command watches files) (file_names command) files before after ran
+
+-- 2. Printing.
+
+-- the place for the machine afterwards: as before where none was run
+abbrev pub machine_kept : Option MachineOf → Option MachineOf → Option MachineOf
+machine_kept kept None = kept
+machine_kept kept (Some machine) = Some machine
+
+-- all that is printed at the end of a command, its status and its machine; nothing where memory ran out
+abbrev pub conclusion_of : Result Reply EarlyEnd → Option Conclusion
+conclusion_of (Ok reply) =
+    Some (record { text = reply.said ++ verdict_line reply.verdict; status = status_of reply.verdict; machine = reply.machine })
+conclusion_of (Err OutOfMemory) = None
+conclusion_of (Err end) = Some (record { text = end_line end; status = end_status end; machine = None })
+
+-- all was printed, and the machine is kept
+pub record Printed (conclusion : Conclusion) (status : Status) (before after : OutOf) : Type 0 where
+  pub ends : status ≡ conclusion.status
+  pub text : after.taken ≡ appended before.taken conclusion.text
+  pub machine : after.kept ≡ machine_kept before.kept conclusion.machine
+
+-- printing stopped before its end: the sink failed, or memory ran out
+pub record Stopped (conclusion : Conclusion) (status : Status) (before after : OutOf) : Type 0 where
+  pub text : PrefixAppended before.taken after.taken conclusion.text
+  pub machine : after.kept ≡ before.kept
+  pub cause : ((status ≡ exit.SinkFault) × Rose before.faults after.faults) ⊎ (status ≡ exit.OutOfMemory)
+
+-- memory ran out before anything was printed
+pub record NotBegun (status : Status) (before after : OutOf) : Type 0 where
+  pub ends : status ≡ exit.OutOfMemory
+  pub text : after.taken ≡ before.taken
+  pub machine : after.kept ≡ before.kept
+
+abbrev pub Concludes : Option Conclusion → Status → OutOf → OutOf → Type 0
+Concludes found status before after =
+    NotBegun status before after
+    ⊎ IsSomeAnd found (λ conclusion. Printed conclusion status before after ⊎ Stopped conclusion status before after)

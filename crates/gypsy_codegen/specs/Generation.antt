@@ -1,0 +1,89 @@
+-- What generating returns, and what is known of a generated system.
+use Rattle.std.specs.Prelude.{◌≡◌, ℕ, ◌<◌, List, length, Bool, not, ◌&&◌, nat_le, nat_lt, if◌then◌else◌}
+use Rattle.std.specs.Prelude.{Option, Some, None, Result}
+use Rattle.stack_text.specs.Results.{unless_fault}
+use Rattle.fm_words.specs.WindowLimit.{most_window}
+use Rattle.stack_text.specs.SharedLimits.{most_stack}
+use Rattle.stack_text.specs.Gives as common
+use Rattle.stack_text.specs.Values.{ValueOf}
+use Rattle.piton_syntax.specs.Systems.{SystemOf}
+use Rattle.piton_check.specs.PitonChecking.{CheckedOf}
+use Rattle.piton_machine.specs.State as state
+use Rattle.piton_machine.specs.Placed.{program_size}
+use Rattle.piton_machine.specs.Fits.{system_in}
+use Rattle.piton_machine.specs.Seen.StateView.{started}
+use Rattle.gypsy_syntax.specs.Sources.{SourceOf}
+use Rattle.gypsy_syntax.specs.Programs.{Program, proc_at}
+use Rattle.gypsy_syntax.specs.Resolved.{program_of}
+use Rattle.gypsy_space.specs.Costs.{Tally}
+use Rattle.gypsy_space.specs.Needs.{StackSizes, code_words, main_need}
+use Rattle.gypsy_meaning.specs.Calls.{CurrentCondition, main_start}
+use Rattle.gypsy_meaning.specs.Meaning.{Done, meaning}
+use Rattle.gypsy_meaning.specs.Counted.{CountedDone, counted_meaning}
+use Rattle.gypsy_meaning.specs.Kept.{VarsFit}
+use Rattle.gypsy_codegen.specs.declared.fault.GenFault.{GenFault}
+use Rattle.gypsy_codegen.specs.declared.fault.GenFault.TheVariants.{Control, Temporary, Size, Words as TooManyWords, Memory}
+use Rattle.gypsy_codegen.specs.WordsOf.{words_of_values}
+use Rattle.gypsy_codegen.specs.Generated.{generated_view}
+use Rattle.gypsy_codegen.specs.Text.{generated}
+use Rattle.gypsy_codegen.specs.Whole.{RunsTo}
+use Rattle.gypsy_codegen.specs.Moments.{moment_from, HasMoment}
+use Rattle.gypsy_codegen.specs.Acceptable.{total_words, LimitsFit}
+
+-- out of memory is no fault of a source
+abbrev pub fault_of : GenFault → Option GenFault
+fault_of Memory = None
+fault_of fault = Some fault
+
+-- the call returned exactly what the definition gives, seen through the view; out of memory alone is free
+abbrev pub GivesGenerated : {X Y : Type 0} → (X → Y) → Result X GenFault → Result Y GenFault → Type 0
+GivesGenerated view result value = common.Gives fault_of view result value
+
+-- each stack has 1 to 65,536 words
+abbrev pub are_sizes : StackSizes → Bool
+are_sizes sizes = nat_le 1 sizes.ctrl && nat_le sizes.ctrl most_stack && nat_le 1 sizes.temp && nat_le sizes.temp most_stack
+
+-- the first limit that sizes of the stacks or the words of the code are outside of
+unfoldable pub size_fault : Program → StackSizes → Option GenFault
+size_fault q sizes =
+    if not (are_sizes sizes) then Some Size else
+    if nat_lt sizes.ctrl (main_need q).ctrl then Some (Control (main_need q).ctrl) else
+    if nat_lt sizes.temp (main_need q).temp then Some (Temporary (main_need q).temp) else
+    if nat_lt most_window (total_words q) then Some (TooManyWords (total_words q)) else None
+
+-- the system of a source, with these sizes of the stacks and this base, or why there is none
+abbrev pub generation : SourceOf → StackSizes → ℕ → Result SystemOf GenFault
+generation s sizes base = unless_fault (size_fault (program_of s) sizes) (generated s sizes base)
+
+-- Micro-Gypsy runs on Piton: where the meaning of the source is done, the checked system, with the values' words at the bottom of
+-- its first stack, first halts with the same, in the counted steps and at the counted cost.
+abbrev pub RunsAs : SourceOf → StackSizes → CheckedOf → Type 0
+RunsAs s sizes checked =
+    (v : List ValueOf) (n : ℕ) (x : List ValueOf) (c : CurrentCondition) →
+    let q = program_of s in
+    VarsFit (proc_at q q.main).formals v → meaning q sizes v n ≡ Done x c →
+    (t : Tally) × (counted_meaning q sizes v n ≡ CountedDone x c t) ×
+    RunsTo (system_in checked) (started (system_in checked) (words_of_values (main_start q v))) x c t
+
+-- Every moment of a run of the source is one of the checked system: at the mark of the top item, after the counted steps and at the
+-- counted cost, or halted where the step machine has ended.
+abbrev pub KeepsMoments : SourceOf → StackSizes → CheckedOf → Type 0
+KeepsMoments s sizes checked =
+    (v : List ValueOf) (j : ℕ) →
+    let q = program_of s in
+    VarsFit (proc_at q q.main).formals v →
+    HasMoment q (system_in checked) (started (system_in checked) (words_of_values (main_start q v))) (moment_from q sizes v j)
+
+-- the program of each procedure takes as many words on the processor as are counted for it
+abbrev pub TakesCodeWords : SourceOf → CheckedOf → Type 0
+TakesCodeWords s checked =
+    let q = program_of s in
+    (p : ℕ) → p < length q.procs → program_size (state.program_of (system_in checked) p) ≡ code_words q p
+
+-- the checked system is the source's by places, it runs as the source means, at every moment too, and all sizes are within their
+-- limits
+pub record SystemImplements (s : SourceOf) (sizes : StackSizes) (base : ℕ) (checked : CheckedOf) : Type 0 where
+  pub view : system_in checked ≡ generated_view (program_of s) sizes base
+  pub runs : RunsAs s sizes checked
+  pub moments : KeepsMoments s sizes checked
+  pub limits : LimitsFit (program_of s) sizes base

@@ -1,0 +1,68 @@
+-- The call of a procedure, as the code has it.
+use Rattle.std.specs.Prelude.{◌≡◌, ℕ, ◌<◌, List, ◌∷◌, [], ◌++◌, map, length, drop}
+use Rattle.std.specs.declared.alloc.Global.{Global}
+use Rattle.std.specs.declared.rc.Rc.{Rc}
+use Rattle.std.specs.Global.{Vec}
+use Rattle.stack_text.specs.declared.name.Name.{Name}
+use Rattle.stack_text.specs.declared.value.Value.{Value}
+use Rattle.gypsy_syntax.specs.Effects.{value_at}
+use Rattle.gypsy_syntax.specs.ProgramFits.{Distinct, Each}
+use Rattle.gypsy_syntax.specs.Programs.{Call, Space}
+use Rattle.gypsy_space.specs.Costs.{start_tally}
+use Rattle.gypsy_space.specs.Events.{event_spend}
+use Rattle.gypsy_space.specs.Nodes.{seen_cond, seen_program}
+use Rattle.gypsy_space.specs.declared.event.CostEvent.{CostEvent}
+use Rattle.gypsy_space.specs.declared.need.Need.{Need}
+use Rattle.gypsy_space.specs.declared.program.CallSite.{CallSite}
+use Rattle.gypsy_meaning.specs.Calls.{copied_out}
+use Rattle.gypsy_meaning.specs.Machine.{Item, Do, Next, gypsy_step, raise}
+use Rattle.gypsy_meaning.specs.Seen.Running.{frames_in, sizes_of, state_of}
+use Rattle.gypsy_meaning.specs.Seen.RunView.{added}
+use Rattle.gypsy_meaning.specs.declared.running.Meaning.{Meaning}
+use Rattle.gypsy_meaning.specs.declared.work.Work.{Work}
+
+-- the item of a call
+abbrev pub call_top : CallSite → Item
+call_top site = Do (Call site.place site.callee site.actuals.items (map seen_cond site.conds.items))
+
+-- the step is a call without room, which raises spaceerror over this work, at the cost of this event
+abbrev pub RaisesSpace : Meaning → List Item → CostEvent → Type 0
+RaisesSpace m w e =
+    gypsy_step (seen_program m.program) (sizes_of m) (state_of m) ≡
+    Next (raise Space m.procedure (map (λ v. v.1) m.variables.items) w (frames_in m)
+    (event_spend (seen_program m.program) e start_tally))
+
+-- all that is seen is as it was
+pub record IsUnchanged (m n : Meaning) : Type 0 where
+  pub waiting : n.waiting.items ≡ m.waiting.items
+  pub others : n ≡ record m { waiting = n.waiting }
+
+-- so many variables have these actuals: no two are the same
+pub record AreLent (count : ℕ) (xs : List ℕ) : Type 0 where
+  pub there : Each (λ a. a < count) xs
+  pub distinct : Distinct xs
+
+-- the active procedure waits at this call, with this work behind it: its actuals are now the callee's first variables, and it
+-- has in their places what stood there
+pub record Waits (m : Meaning) (callee : Vec (Name × Value)) (below : Rc Work Global) (site : Rc CallSite Global) (n : Meaning) : Type 0
+  where
+    pub caller : Vec (Name × Value)
+    pub waiting : n.waiting.items ≡ m.waiting.items ++ record {
+      procedure = m.procedure;
+      variables = caller;
+      work = below;
+      call = site;
+      used_temp = m.used_temp;
+      used_ctrl = m.used_ctrl;
+    } ∷ []
+    pub left : map (λ v. v.1) caller.items
+        ≡ copied_out site.value.actuals.items (map (λ v. v.1) callee.items) (map (λ v. v.1) m.variables.items)
+    pub left_names : map (λ v. v.0) caller.items ≡ map (λ v. v.0) m.variables.items
+    pub lent : map (λ v. v.1) n.variables.items
+        ≡ map (value_at (map (λ v. v.1) m.variables.items)) site.value.actuals.items
+        ++ drop (length site.value.actuals.items) (map (λ v. v.1) callee.items)
+    pub lent_names : map (λ v. v.0) n.variables.items ≡ map (λ v. v.0) callee.items
+    pub others : n ≡ record m { variables = n.variables; waiting = n.waiting }
+
+abbrev pub with_words : Need → Meaning → Meaning
+with_words need m = record m { used_temp = added m.used_temp need.locals_words; used_ctrl = added m.used_ctrl (added need.vars 2) }

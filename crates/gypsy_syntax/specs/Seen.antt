@@ -1,0 +1,2 @@
+-- How clauses see a source.
+pub mod SourceView

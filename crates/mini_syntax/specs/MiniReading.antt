@@ -1,0 +1,45 @@
+-- What reading a text returns: its program, or what is wrong with it.
+use Rattle.std.specs.Prelude.{◌≡◌, ℕ, ◌≤◌, List, [], length, Some, Result, Ok, Err}
+use Rattle.stack_text.specs.Breaches.{least}
+use Rattle.mini_syntax.specs.declared.fault.MiniFault.{MiniFault}
+use Rattle.mini_syntax.specs.declared.fault.MiniFault.TheVariants.{Refused, Memory}
+use Rattle.mini_syntax.specs.declared.program.InfixProgram.{InfixProgram}
+use Rattle.mini_syntax.specs.Breaches.{body_of, breaches, declared_of}
+use Rattle.mini_syntax.specs.Faults.{AreFree, IsTextFault}
+use Rattle.mini_syntax.specs.Grammar.{IsProgram}
+use Rattle.mini_syntax.specs.Grammar as grammar
+use Rattle.mini_syntax.specs.Lawful.{IsLawful}
+use Rattle.mini_syntax.specs.Seen.ProgramView.{block_in}
+use Rattle.mini_syntax.specs.Spelled.{program_bytes}
+use Rattle.mini_syntax.specs.Tokens.{tokens_in}
+
+-- the text is the program, and none of its tokens breaks a rule
+pub record IsRead (text : List ℕ) (p : grammar.InfixProgram) : Type 0 where
+  pub program : IsProgram text p
+  pub free : AreFree (tokens_in text)
+
+-- and no name, operand or number
+pub record IsFaultless (text : List ℕ) (p : grammar.InfixProgram) : Type 0 where
+  pub read : IsRead text p
+  pub clean : breaches p ≡ []
+
+-- what is wrong with a text: the fault of its tokens, or the least breach of its program
+pub data IsFault (text : List ℕ) (rule place : ℕ) : Type 0 where
+  of_tokens : IsTextFault text rule place → IsFault text rule place
+  of_program : (p : grammar.InfixProgram) → IsRead text p → least (breaches p) ≡ Some record { place = place; rule = rule } →
+      IsFault text rule place
+
+-- the text has no fault, and is this program, which keeps the rules and is no longer than the text
+pub record ReadsText (text : List ℕ) (program : InfixProgram) : Type 0 where
+  pub tree : grammar.InfixProgram
+  pub faultless : IsFaultless text tree
+  pub declared : program.declared.items ≡ declared_of tree
+  pub body : block_in program.body.items ≡ body_of tree
+  pub lawful : IsLawful (declared_of tree) (body_of tree)
+  pub short : program_bytes (declared_of tree) (body_of tree) ≤ length text
+
+-- an error is the text's fault; out of memory alone is free
+abbrev pub RefusesText : {X : Type 0} → List ℕ → Result X MiniFault → Type 0
+RefusesText text (Ok x) = Unit {0}
+RefusesText text (Err Memory) = Unit {0}
+RefusesText text (Err (Refused rule place)) = IsFault text rule place

@@ -1,0 +1,2 @@
+-- How clauses see the code's programs.
+pub mod ProgramView

@@ -1,0 +1,27 @@
+-- What checking a system returns, and what is known of one that was checked.
+use Rattle.std.specs.Prelude.{◌≡◌, [], Some}
+use Rattle.piton_syntax.specs.PitonReading.{KeepsForm}
+use Rattle.piton_syntax.specs.Systems.{SystemOf}
+use Rattle.piton_check.specs.declared.fault.CheckFault.{CheckFault}
+use Rattle.piton_check.specs.declared.fault.CheckFault.TheVariants.{Violation, Memory}
+use Rattle.stack_text.specs.Breaches.{least}
+use Rattle.piton_check.specs.Instruction.{system_view}
+use Rattle.piton_check.specs.Resolved.{ResolvedOf, resolved}
+use Rattle.piton_check.specs.Sound.{IsSound}
+use Rattle.piton_check.specs.Violations.{violations}
+
+pub record CheckedOf : Type 0 where
+  pub system : SystemOf
+  pub resolved : ResolvedOf
+
+-- a system that keeps the form and breaks no rule, its names resolved, and all that it then names there
+pub record IsChecked (c : CheckedOf) : Type 0 where
+  pub form : KeepsForm c.system
+  pub rules : violations c.system ≡ []
+  pub names : c.resolved ≡ resolved c.system
+  pub sound : IsSound (system_view c.resolved)
+
+-- the least of all breaches; out of memory alone is free
+abbrev pub IsLeast : SystemOf → CheckFault → Type 0
+IsLeast s (Violation rule place) = least (violations s) ≡ Some (record { rule = rule; place = place })
+IsLeast s Memory = Unit {0}

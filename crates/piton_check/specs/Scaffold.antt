@@ -1,0 +1,2 @@
+-- Scaffold: what only private functions and lemmas say.
+pub mod Tables

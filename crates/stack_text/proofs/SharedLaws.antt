@@ -1,0 +1,134 @@
+-- Lemmas on truth values, options, lists, names and kinds that several crates need.
+use Rattle.std.proofs.Common.{◌≡◌, Bool, true, false, refl, ◌&&◌, not, ℕ, [], Option, Some, None, is_none, List, ◌∷◌, ◌++◌, ◌+◌, ap, ◌∙◌, zero, suc, ◌<◌, length, arith, slice_get, map, get_or, ◌-◌, reverse, ℤ, pos, append_assoc, sym, Bor, ◌||◌, ◌≤◌}
+use Rattle.std.specs.Prelude.{nat_le}
+use Rattle.std.proofs.lemmas.List.{reverse-append, map-append}
+use Rattle.std.specs.Str.{bytes_eq}
+use Rattle.std.proofs.lemmas.Slice.Eq.{bytes_eq-Decides}
+use Rattle.std.specs.List.{list_any, list_all}
+use Rattle.std.proofs.lemmas.Bool.{and_parts, leb-true}
+use Rattle.stack_text.specs.Breaches.{when}
+use Rattle.stack_text.specs.Names.{is_name, begins_with_letter, is_name_byte, is_truth_word}
+use Rattle.stack_text.specs.declared.shape.Kind.{Kind}
+use Rattle.stack_text.specs.declared.shape.Kind.TheVariants.{Integer, Boolean, Character}
+use Rattle.stack_text.specs.Values.{same_kind}
+
+pub and_false : (b : Bool) → (b && false) ≡ false
+and_false true = refl
+and_false false = refl
+
+pub and_left : (a b : Bool) → a && b ≡ true → a ≡ true
+and_left true b h = refl
+and_left false b h = cc
+
+pub and_right : (a b : Bool) → a && b ≡ true → b ≡ true
+and_right true b h = h
+and_right false b h = cc
+
+pub not_true : (b : Bool) → not b ≡ true → b ≡ false
+not_true true e = cc
+not_true false e = refl
+
+pub never_true : (t : Bool) → (t ≡ true → ⊥) → t ≡ false
+never_true true h = absurd (h refl)
+never_true false h = refl
+
+pub rule_holds : (b : Bool) (place rule : ℕ) → when (not b) place rule ≡ [] → b ≡ true
+rule_holds true place rule e = refl
+rule_holds false place rule e = cc
+
+pub rule_fails : (b : Bool) (place rule : ℕ) → when b place rule ≡ [] → b ≡ false
+rule_fails true place rule e = cc
+rule_fails false place rule e = refl
+
+pub some_of : {X : Type 0} (o : Option X) → is_none o ≡ false → (x : X) × (o ≡ Some x)
+some_of None e = cc
+some_of (Some x) e = (x, refl)
+
+pub some_is : {X : Type 0} (x y : X) → Some x ≡ Some y → x ≡ y
+some_is x y h = cc
+
+pub append_none : {X : Type 0} (a b : List X) → a ++ b ≡ [] → (a ≡ []) × (b ≡ [])
+append_none [] b e = (refl, e)
+append_none (x ∷ a) b e = cc
+
+pub both_none : {X : Type 0} (a b : List X) → a ≡ [] → b ≡ [] → a ++ b ≡ []
+both_none a b e f = ap (λ z. z ++ b) e ∙ f
+
+pub get_below : {A : Type 0} (xs : List A) (i : ℕ) (x : A) → slice_get xs i ≡ Some x → i < length xs
+get_below [] i x e = cc
+get_below (y ∷ xs) zero x e = omega arith
+get_below (y ∷ xs) (suc i) x e = let h = get_below xs i x e in omega (arith, h)
+
+pub get_some : {X : Type 0} (xs : List X) (k : ℕ) → k < length xs → (x : X) × (slice_get xs k ≡ Some x)
+get_some [] k lt = absurd (omega (arith, lt))
+get_some (x ∷ xs) zero lt = (x, refl)
+get_some (x ∷ xs) (suc k) lt = get_some xs k (omega (arith, lt))
+
+pub get_front : {A : Type 0} (a b : List A) (i : ℕ) (v : A) → slice_get a i ≡ Some v → slice_get (a ++ b) i ≡ Some v
+get_front [] b i v h = cc
+get_front (w ∷ a) b zero v h = h
+get_front (w ∷ a) b (suc i) v h = get_front a b i v h
+
+pub get_after : {A : Type 0} (a b : List A) (i : ℕ) → slice_get (a ++ b) (length a + i) ≡ slice_get b i
+get_after [] b i = let e : 0 + i ≡ i = omega arith in ap (slice_get b) e
+get_after (w ∷ a) b i =
+    let e : length (w ∷ a) + i ≡ suc (length a + i) = omega arith in
+    ap (slice_get (w ∷ (a ++ b))) e ∙ get_after a b i
+
+pub get_map : {X Y : Type 0} (g : X → Y) (xs : List X) (i : ℕ) (x : X) → slice_get xs i ≡ Some x → slice_get (map g xs) i ≡ Some (g x)
+get_map g [] i x h = cc
+get_map g (y ∷ xs) zero x h = let same : y ≡ x = cc in ap (λ z. Some (g z)) same
+get_map g (y ∷ xs) (suc i) x h = get_map g xs i x h
+
+pub same_item : {X : Type 0} (xs : List X) (n : ℕ) (d e : X) → n < length xs → get_or xs n d ≡ get_or xs n e
+same_item [] n d e lt = absurd (omega (arith, lt))
+same_item (x ∷ xs) zero d e lt = refl
+same_item (x ∷ xs) (suc n) d e lt = same_item xs n d e (omega (arith, lt))
+
+pub reverse_snoc : {A : Type 0} (xs : List A) (x : A) → reverse (xs ++ x ∷ []) ≡ x ∷ reverse xs
+reverse_snoc xs x = reverse-append xs (x ∷ [])
+
+pub one_item : (items : List ℤ) → length items ≡ 1 → items ≡ get_or items 0 (pos 0) ∷ []
+one_item [] h = absurd (omega (arith, h))
+one_item (z ∷ []) h = refl
+one_item (z ∷ y ∷ items) h = absurd (omega (arith, h))
+
+pub seen_more : {X Y : Type 0} (see : X → Y) (items new : List X) (x : X) (y : Y) (rest all : List Y) → new ≡ items ++ x ∷ [] → see x ≡ y
+    → map see items ++ y ∷ rest ≡ all → map see new ++ rest ≡ all
+seen_more {X} {Y} see items new x y rest all pushed is so_far =
+    ap (λ (xs : List X). map see xs ++ rest) pushed
+    ∙ ap (λ (ys : List Y). ys ++ rest) (map-append see items (x ∷ []))
+    ∙ append_assoc (map see items) (see x ∷ []) rest
+    ∙ ap (λ (z : Y). map see items ++ z ∷ rest) is
+    ∙ so_far
+
+pub bytes_same : (xs ys : List ℕ) → bytes_eq xs ys ≡ true → xs ≡ ys
+bytes_same xs ys h = (bytes_eq-Decides xs ys).0 h
+
+pub bytes_apart : (xs ys : List ℕ) → bytes_eq xs ys ≡ false → bytes_eq ys xs ≡ false
+bytes_apart xs ys ne = by_test (bytes_eq ys xs) refl
+  where
+    by_test : (b : Bool) → bytes_eq ys xs ≡ b → b ≡ false
+    by_test false e = refl
+    by_test true e = absurd (let f = (bytes_eq-Decides xs ys).1 (sym ((bytes_eq-Decides ys xs).0 e)) in cc)
+
+pub any_now : (name : List ℕ) (keys : List (Bor (List ℕ))) → list_any (λ key. bytes_eq name key.now) keys ≡ list_any (bytes_eq name) (map (λ key. key.now) keys)
+any_now name [] = refl
+any_now name (key ∷ keys) = ap (λ (b : Bool). bytes_eq name key.now || b) (any_now name keys)
+
+pub name_few : (name : List ℕ) → is_name name ≡ true → length name ≤ 64
+name_few name h =
+    let a = and_parts (begins_with_letter name && list_all is_name_byte name && nat_le (length name) 64) (not (is_truth_word name)) h in
+    let b = and_parts (begins_with_letter name && list_all is_name_byte name) (nat_le (length name) 64) a.0 in
+    leb-true (length name) 64 b.1
+
+pub kind_same : (j k : Kind) → same_kind j k ≡ true → j ≡ k
+kind_same Integer Integer e = refl
+kind_same Integer Boolean e = cc
+kind_same Integer Character e = cc
+kind_same Boolean Integer e = cc
+kind_same Boolean Boolean e = refl
+kind_same Boolean Character e = cc
+kind_same Character Integer e = cc
+kind_same Character Boolean e = cc
+kind_same Character Character e = refl

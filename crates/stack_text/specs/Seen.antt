@@ -1,0 +1,3 @@
+-- How clauses see a `Name` and a `Tree`.
+pub mod NameView
+pub mod TreeView
