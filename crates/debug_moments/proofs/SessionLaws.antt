@@ -19,14 +19,15 @@ use Rattle.piton_machine.specs.Seen.StateView.{Seen, opening, seen_step, started
 use Rattle.piton_machine.specs.State as piton
 use Rattle.gypsy_syntax.specs.Programs.{Program}
 use Rattle.gypsy_syntax.specs.Resolved.{program_of}
-use Rattle.gypsy_meaning.specs.Machine.{At, Frame, Held, Move}
+use Rattle.gypsy_meaning.specs.Machine.{At, Frame, Move}
 use Rattle.gypsy_meaning.specs.Seen.RunView.{spent_at}
 use Rattle.gypsy_codegen.specs.Acceptable.{GeneratedIsAcceptable}
 use Rattle.gypsy_codegen.specs.Generated.{generated_view}
-use Rattle.gypsy_codegen.specs.Moments.{AreActivations, ComesToMark, EachMomentIsReached, HasMoment}
+use Rattle.gypsy_codegen.specs.Moments.{ComesToMark, EachMomentIsReached, HasMoment}
 use Rattle.gypsy_codegen.specs.Whole.{opened}
 use Rattle.gypsy_codegen.proofs.MomentLaws.{moment_fits}
 use Rattle.stack_build.specs.Image.{image_of}
+use Rattle.stack_build.proofs.MomentLaws.{going}
 use Rattle.stack_build.specs.Moments.{ArrivesAt, ArrivesAtMark, KeepsMoments}
 use Rattle.stack_build.specs.SourceMoments.{MomentsAreRead, ShownMomentsAreRead, moment_shown}
 use Rattle.stack_build.specs.Starts.{main_words}
@@ -84,11 +85,6 @@ machine_says read walk source sizes base j values (At p x w fs t) accepted short
 -- ---- Piton's machine
 
 -- a frame is there for the activation on top
-has_frame : (q : Program) (p : ℕ) (fs : List Frame) (frames : List piton.Frame) → AreActivations q p fs frames → (f : piton.Frame) × (rest : List piton.Frame) × (frames ≡ f ∷ rest)
-has_frame q p [] [] a = absurd a
-has_frame q p (Held c x w xs cs ∷ fs) [] a = absurd a
-has_frame q p fs (f ∷ rest) a = (f, rest, refl)
-
 after_goes : (run : PitonLevelOf) (r : Result Seen ErrorKind) → is_over (lifted Piton (piton_after run r)) ≡ false
 after_goes run (Ok v) = refl
 after_goes run (Err kind) = refl
@@ -120,7 +116,7 @@ system_says reached shown walk source sizes base j checked values (At p x w fs t
     let run : PitonLevelOf = record { checked = checked; image = image; seen = first } in
     let there : PitonLevelOf = record { checked = checked; image = image; seen = advanced first t.steps t.count has.to } in
     let steps : Steps (system_in checked) t.steps t.count first.state has.to = subst (λ (s : SystemView). Steps s t.steps t.count (started s (main_words source values)) has.to) (sym same) has.runs in
-    let frame = has_frame q p fs has.to.frames has.reads.frames in
+    let frame = going q p fs has.to.frames has.reads.frames in
     let vars = (moment_fits q sizes accepted.fits values j (At p x w fs t) fits is).0 in
     let reads : read_from image (piton_at S has.to) ≡ Some (moment_shown source (At p x w fs t)) =
     shown source sizes base j values (piton_at S has.to) (At p x w fs t) accepted short fits is (state_shows source sizes base has.to p x w fs vars has.reads) in

@@ -1,26 +1,18 @@
 -- Names of slots that all differ.
 use Rattle.std.proofs.Common.{◌≡◌, Bor, Some, None, not, ℕ, zero, suc, ◌+◌, ◌<◌, ◌≤◌, List, [], ◌∷◌, ◌++◌, map, length, get_or, take, Bool, true, false, cond, refl, sym, ap, ◌∙◌, arith}
 use Rattle.std.specs.Prelude.{nat_lt}
-use Rattle.std.specs.List.{list_any, IsDistinct, position, position_or_len, prefix_len, slice_get}
+use Rattle.std.specs.List.{list_any, position, position_or_len, prefix_len, slice_get}
 use Rattle.std.proofs.lemmas.Bool.{ltb-true, ltb-false}
 use Rattle.std.proofs.lemmas.List.Folds.{find_at}
 use Rattle.std.specs.Str.{bytes_eq}
 use Rattle.std.proofs.lemmas.List.{map_push, take_more, take-map, length-map}
-use Rattle.std.proofs.lemmas.Map.Keys.{IsDistinct-tail, apart_from_distinct}
 use Rattle.std.proofs.lemmas.Slice.Eq.{bytes_eq-Decides}
 use Rattle.std.proofs.lemmas.Option.{slice_get_past}
-use Rattle.stack_text.proofs.SharedLaws.{bytes_apart, any_now}
+use Rattle.stack_text.proofs.SharedLaws.{any_now, no_earlier}
 use Rattle.fm_image.specs.declared.slot.Slot.{Slot}
 use Rattle.fm_loader.specs.Values.{HaveOwnNames, slot_named}
 
 -- a name is none of those before it
-pub no_earlier : (names : List (List ℕ)) (i : ℕ) (name : List ℕ) → i < length names → name ≡ get_or names i name → IsDistinct bytes_eq names → list_any (bytes_eq name) (take i names) ≡ false
-no_earlier [] i name lt is own = absurd (omega arith)
-no_earlier (x ∷ xs) zero name lt is own = refl
-no_earlier (x ∷ xs) (suc i) name lt is own =
-    let apart = apart_from_distinct bytes_eq (x ∷ xs) 0 (suc i) name own (omega arith) lt in
-    let other : bytes_eq x name ≡ false = ap (bytes_eq x) is ∙ apart in
-    rw (bytes_apart x name other) (no_earlier xs i name (omega arith) is (IsDistinct-tail bytes_eq x xs own))
 
 get_or-name : (slots : List Slot) (i : ℕ) (slot : Slot) → i < length slots → slot ≡ get_or slots i slot → slot.name ≡ get_or (map (λ s. s.name) slots) i slot.name
 get_or-name [] i slot lt is = absurd (omega arith)

@@ -10,7 +10,9 @@ ghost use Rattle.fm_loader.specs.Values.{entries_of, entry_at};
 
 use crate::fault::{Rule, ValuesFault, refused};
 use crate::parsed::{Entry, ParsedValue, Scalar};
-use stack_text::{Kind, Memory, Name, Seq, Tree, is_digits, is_numeral, read_name, read_numeral};
+use stack_text::{
+    Kind, Memory, Name, Seq, TextTree, is_digits, is_numeral, read_name, read_numeral,
+};
 use std::alloc::Global;
 
 /// The number of a numeral, where that has 32 signed bits.
@@ -69,17 +71,17 @@ fn scalar(word: &[u8]) -> Option<Scalar>
 }
 
 /// The single value that a tree is, if it is one.
-fn scalar_at(tree: &Tree) -> Option<Scalar>
+fn scalar_at(tree: &TextTree) -> Option<Scalar>
     ensures { result ≡ scalar_at (node_of tree.now) }
 {
     match tree {
-        Tree::Atom { place: _, text } => scalar(text),
-        Tree::List { place: _, items: _ } => None,
+        TextTree::Atom { place: _, text } => scalar(text),
+        TextTree::List { place: _, items: _ } => None,
     }
 }
 
 /// The single values that trees are, if each is one.
-fn scalars(alloc: Global, trees: &[Tree]) -> Result<Option<Seq<Scalar>>, Memory>
+fn scalars(alloc: Global, trees: &[TextTree]) -> Result<Option<Seq<Scalar>>, Memory>
     ensures { memory.Returns (λ scalars. scalars) result (scalars_of (nodes_of trees.now)) }
 {
     let mut scalars = Seq::new(alloc);
@@ -94,15 +96,15 @@ fn scalars(alloc: Global, trees: &[Tree]) -> Result<Option<Seq<Scalar>>, Memory>
 
 /// The value that a tree is, if it is one.
 #[tactic(auto, unfolding(crate::specs::Parsed::parsed_value))]
-fn parsed_value(alloc: Global, tree: &Tree) -> Result<Option<ParsedValue>, Memory>
+fn parsed_value(alloc: Global, tree: &TextTree) -> Result<Option<ParsedValue>, Memory>
     ensures { memory.Returns (λ value. value) result (parsed_value (node_of tree.now)) }
 {
     match tree {
-        Tree::Atom { place: _, text } => match scalar(text) {
+        TextTree::Atom { place: _, text } => match scalar(text) {
             Some(scalar) => Ok(Some(ParsedValue::Single(scalar))),
             None => Ok(None),
         },
-        Tree::List { place: _, items } => match scalars(alloc, items)? {
+        TextTree::List { place: _, items } => match scalars(alloc, items)? {
             Some(scalars) => Ok(Some(ParsedValue::Several(scalars))),
             None => Ok(None),
         },
@@ -110,17 +112,17 @@ fn parsed_value(alloc: Global, tree: &Tree) -> Result<Option<ParsedValue>, Memor
 }
 
 /// The name that a tree is, if it is one.
-fn name(alloc: Global, tree: &Tree) -> Result<Option<Name>, Memory>
+fn name(alloc: Global, tree: &TextTree) -> Result<Option<Name>, Memory>
     ensures { memory.Returns (λ name. name) result (name_at (node_of tree.now)) }
 {
     match tree {
-        Tree::Atom { place: _, text } => read_name(alloc, text),
-        Tree::List { place: _, items: _ } => Ok(None),
+        TextTree::Atom { place: _, text } => read_name(alloc, text),
+        TextTree::List { place: _, items: _ } => Ok(None),
     }
 }
 
 /// The trees of a list of two.
-fn pair(trees: &[Tree]) -> Option<(&Tree, &Tree)>
+fn pair<'a, 'b>(trees: &'a [TextTree<'b>]) -> Option<(&'a TextTree<'b>, &'a TextTree<'b>)>
     ensures { option_map (λ pair. (node_of pair.0.now, node_of pair.1.now)) result ≡ pair_of (nodes_of trees.now) }
 {
     if trees.len() != 2 {
@@ -131,10 +133,10 @@ fn pair(trees: &[Tree]) -> Option<(&Tree, &Tree)>
 
 /// The entry that a tree is, if it is one.
 #[tactic(auto, unfolding(crate::specs::Parsed::entry_of))]
-fn entry(alloc: Global, tree: &Tree) -> Result<Option<Entry>, Memory>
+fn entry(alloc: Global, tree: &TextTree) -> Result<Option<Entry>, Memory>
     ensures { memory.Returns (λ entry. entry) result (entry_of (node_of tree.now)) }
 {
-    let Tree::List { place, items } = tree else {
+    let TextTree::List { place, items } = tree else {
         return Ok(None);
     };
     let Some((first, second)) = pair(items) else {
@@ -154,7 +156,7 @@ fn entry(alloc: Global, tree: &Tree) -> Result<Option<Entry>, Memory>
 }
 
 /// The entry that a tree is.
-fn entry_or_fault(alloc: Global, tree: &Tree) -> Result<Entry, ValuesFault>
+fn entry_or_fault(alloc: Global, tree: &TextTree) -> Result<Entry, ValuesFault>
     ensures { GivesValues (λ entry. entry) result (entry_at (node_of tree.now)) }
 {
     match entry(alloc, tree)? {
@@ -164,7 +166,7 @@ fn entry_or_fault(alloc: Global, tree: &Tree) -> Result<Entry, ValuesFault>
 }
 
 /// The entries that trees are.
-pub(crate) fn entries(alloc: Global, trees: &[Tree]) -> Result<Vec<Entry>, ValuesFault>
+pub(crate) fn entries(alloc: Global, trees: &[TextTree]) -> Result<Vec<Entry>, ValuesFault>
     ensures { GivesValues (λ entries. entries.items) result (entries_of (nodes_of trees.now)) }
 {
     let mut entries = Vec::new(alloc);

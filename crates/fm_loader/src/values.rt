@@ -10,18 +10,18 @@ use crate::fault::{Rule, ValuesFault, refused};
 use crate::judging::{all_found, found};
 use crate::reading::entries;
 use fm_image::Slot;
-use stack_text::{TextFault, Tree, Value, read_tree};
+use stack_text::{TextFault, TextTree, Value, read_text_tree};
 use std::alloc::Global;
 
 /// The values that a tree gives the slots.
 #[tactic(auto, unfolding(crate::specs::Values::values_at))]
-fn values(alloc: Global, tree: &Tree, slots: &[Slot]) -> Result<Vec<Value>, ValuesFault>
+fn values(alloc: Global, tree: &TextTree, slots: &[Slot]) -> Result<Vec<Value>, ValuesFault>
     requires { HaveOwnNames slots.now }
     ensures { GivesValues (λ values. values.items) result (values_at slots.now (node_of tree.now)) }
 {
     match tree {
-        Tree::Atom { place, text: _ } => Err(refused(Rule::Form, *place)),
-        Tree::List { place, items } => {
+        TextTree::Atom { place, text: _ } => Err(refused(Rule::Form, *place)),
+        TextTree::List { place, items } => {
             let entries = entries(alloc, items)?;
             let found = found(alloc, slots, &entries)?;
             all_found(alloc, *place, found)
@@ -45,7 +45,7 @@ pub fn read_values(alloc: Global, text: &[u8], slots: &[Slot]) -> Result<Vec<Val
     // A value of its shape for each slot.
     ensures fits { IfOk result (λ values. Fits slots.now values.items) }
 {
-    match read_tree(alloc, text) {
+    match read_text_tree(alloc, text) {
         Ok(tree) => values(alloc, &tree, slots),
         Err(TextFault::Fault { rule: _, place }) => Err(refused(Rule::Form, place)),
         Err(TextFault::Memory) => Err(ValuesFault::Memory),

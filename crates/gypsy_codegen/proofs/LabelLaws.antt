@@ -1,7 +1,9 @@
 -- Labels: their names, how they differ, and where they stand.
-use Rattle.std.proofs.Common.{◌≡◌, ◌≢◌, ℕ, ◌+◌, ◌<◌, ◌≤◌, ◌^◌, List, [], ◌∷◌, map, bytes_eq}
+use Rattle.std.proofs.Common.{◌≡◌, ◌≢◌, ℕ, ◌+◌, ◌<◌, ◌≤◌, ◌^◌, List, [], ◌∷◌, ◌++◌, length, map, take, bytes_eq}
+use Rattle.std.proofs.Math.Seq.{take-append_seam}
 use Rattle.std.proofs.Common.{true, false, cond, Option, Some, refl, ap, ◌∙◌, arith}
 use Rattle.std.specs.Prelude.{IsTrue}
+use Rattle.std.specs.Fmt.{decimal}
 use Rattle.std.specs.List.{position_from}
 use Rattle.std.proofs.lemmas.Slice.Eq.{bytes_eq-Decides}
 use Rattle.std.proofs.lemmas.Iterator.Adapters.{position_from-zero}
@@ -13,6 +15,13 @@ use Rattle.gypsy_codegen.specs.Written.{Names, Line, Plain, Marked, label_text, 
 pub label_named : (l : ℕ) → l < 2 ^ 32 → IsTrue (is_name (label_text l))
 unfolding label_text
 label_named l lt = numbered_named 76 l refl (λ bytes. refl) lt
+
+-- what is cut from bytes that have the label in front
+pub label_front : (digits rest : List ℕ) (n l : ℕ) → l < 2 ^ 32 → digits ≡ decimal l → n ≡ length digits → IsTrue (is_name (take (1 + n) (76 ∷ (digits ++ rest))))
+label_front digits rest n l lt same long =
+    let more : 1 + n ≡ length (76 ∷ digits) = omega (arith, long) in
+    let front : take (1 + n) (76 ∷ (digits ++ rest)) ≡ 76 ∷ digits = ap (λ (k : ℕ). take k (76 ∷ (digits ++ rest))) more ∙ take-append_seam (76 ∷ digits) rest in
+    rw (front, same) (numbered_named 76 l refl (λ bytes. refl) lt)
 
 pub label_itself : (l : ℕ) → bytes_eq (label_text l) (label_text l) ≡ true
 label_itself l = (bytes_eq-Decides (label_text l) (label_text l)).1 refl

@@ -129,7 +129,7 @@ pub fn generate(
     generate_with(alloc, accepted, &program, needs, ctrl, temp, base)
 }
 
-/// The same where the program that the source is has been made.
+/// The same, for callers that have the program of the source.
 pub fn generate_with(
     alloc: Global,
     accepted: &Accepted,

@@ -11,17 +11,25 @@ ghost use Rattle.gypsy_codegen.specs.Written.{label_name, label_arg, name_in};
 
 use gypsy_predef::instruction_text;
 use gypsy_predef::instruction_text::{condition_area, number, of_name};
+use itoa::Buffer;
 use piton_syntax::{ArgText, InstrText, PitonOp, TestKind, WordItem, WordText};
 use stack_text::{Memory, Name, Named};
 use std::alloc::Global;
+
+/// The most bytes of a label: `L` and the digits of 32 bits.
+const MAX_LABEL_BYTES: usize = 11;
 
 /// The name of a label.
 #[tactic(auto, using(crate::proofs::LabelLaws::label_named), unfolding(crate::specs::Written::label_text))]
 pub(crate) fn label_named(alloc: Global, label: u32) -> Result<Named, Memory>
     ensures { IfOk result (λ name. name ≡ label_name label) }
 {
-    let text = format!(in alloc; "L{label}")?;
-    Named::unplaced(alloc, text.as_bytes())
+    let mut buffer = Buffer::new();
+    let digits = buffer.format(label).as_bytes();
+    let mut text = [b'L'; MAX_LABEL_BYTES];
+    let end = 1 + digits.len();
+    text[1..end].copy_from_slice(digits);
+    Named::unplaced(alloc, &text[..end])
 }
 
 /// Appends a label to the arguments of an instruction.

@@ -268,7 +268,7 @@ pub fn marks(alloc: Global, accepted: &Accepted, needs: &Needs) -> Result<Vec<Ma
     marks_with(alloc, accepted, &program, needs)
 }
 
-/// The same where the program that the source is has been made.
+/// The same, for callers that have the program of the source.
 pub fn marks_with(
     alloc: Global,
     _accepted: &Accepted,

@@ -7,10 +7,10 @@ use Rattle.std.proofs.lemmas.List.Sums.{sum_by-cons}
 use Rattle.std.proofs.lemmas.List.Elements.{All-nil, All-cons}
 use Rattle.stack_text.specs.Grammar.Printed.{unplaced}
 use Rattle.stack_text.specs.Grammar.Parts.{IsNamed}
-use Rattle.gypsy_syntax.specs.Fits.{FitsDecl, FitsLocal, FitsStatement, FitsStatements, FitsProcedure, FitsForm, FitsArgument}
+use Rattle.gypsy_syntax.specs.Fits.{FitsDecl, FitsLocal, FitsStatement, FitsStatements, FitsProcedure, FitsForm}
+use Rattle.gypsy_syntax.proofs.FitsLaws.{two_fit, three_fit}
 use Rattle.gypsy_syntax.specs.Made.{statements}
 use Rattle.gypsy_syntax.specs.Sizes.{nesting, deepest, statement_size, parts_size, procedure_size, text_size}
-use Rattle.gypsy_syntax.specs.Sources.{ArgOf}
 use Rattle.gypsy_gen.specs.declared.body.Body.{Body}
 use Rattle.gypsy_gen.specs.declared.body.Body.TheVariants.{Add, Subtract, Minus, Assign}
 use Rattle.gypsy_gen.specs.declared.parts.Variable.TheVariants.{X, C}
@@ -28,12 +28,6 @@ formals_fit = All-cons FitsDecl formal [] formal_fits (All-nil FitsDecl)
 
 local_fits : (n : ℕ) → n < 1000 → FitsLocal (local n)
 local_fits n lt = record { decl = record { name = refl; length = tt }; value = lt-ltb n (2 ^ 127) (omega arith) }
-
-two_fit : (a b : ArgOf) → FitsArgument a → FitsArgument b → All FitsArgument (a ∷ b ∷ [])
-two_fit a b p q = All-cons FitsArgument a (b ∷ []) p (All-cons FitsArgument b [] q (All-nil FitsArgument))
-
-three_fit : (a b c : ArgOf) → FitsArgument a → FitsArgument b → FitsArgument c → All FitsArgument (a ∷ b ∷ c ∷ [])
-three_fit a b c p q r = All-cons FitsArgument a (b ∷ c ∷ []) p (two_fit b c q r)
 
 body_fits : (b : Body) → FitsStatement (body b)
 body_fits Add = three_fit (argument X) (argument X) (argument C) refl refl refl

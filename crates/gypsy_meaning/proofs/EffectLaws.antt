@@ -6,7 +6,7 @@ use Rattle.std.proofs.lemmas.Bool.{and_parts, and_from}
 use Rattle.stack_text.specs.declared.shape.Kind.{Kind}
 use Rattle.stack_text.specs.declared.shape.Kind.TheVariants.{Integer}
 use Rattle.stack_text.specs.declared.shape.Shape.{Shape}
-use Rattle.stack_text.specs.Values.{ValueOf, item_count}
+use Rattle.stack_text.specs.Values.{ValueOf}
 use Rattle.gypsy_syntax.specs.declared.predef.Predef.{Predef}
 use Rattle.gypsy_syntax.specs.declared.predef.Predef.TheVariants as row
 use Rattle.gypsy_syntax.specs.declared.slot.Form.{Form}
@@ -16,6 +16,7 @@ use Rattle.gypsy_syntax.specs.Predefined.{slots_of, integer_slot, boolean_slot, 
 use Rattle.gypsy_syntax.specs.Programs.{simple, Arg, Var, Lit}
 use Rattle.gypsy_syntax.specs.ProgramFits.{is_in_range, ValueFits, ArgFits, ArgsFit, slot_kind}
 use Rattle.gypsy_syntax.specs.Effects.{Effect, Normal, Fault, Beyond, integer_value, truth_value, item_of_value, value_at, number_effect, indexed, stored}
+use Rattle.gypsy_syntax.proofs.RangeLaws.{get_holds, simple_item}
 use Rattle.gypsy_meaning.specs.Calls.{value_of, values_of, target_of}
 use Rattle.gypsy_meaning.specs.Kept.{VarsFit}
 
@@ -97,11 +98,6 @@ number_fits z = pick (is_in_range Integer z) refl
     pick true e = (refl, item_value Integer z e)
     pick false e = tt
 
-get_holds : (test : ℤ → Bool) (items : List ℤ) (i : ℕ) → list_all test items ≡ true → i < length items → test (get_or items i (pos 0)) ≡ true
-get_holds test [] i h l = absurd (omega (arith, l))
-get_holds test (z ∷ items) zero h l = (and_parts (test z) (list_all test items) h).0
-get_holds test (z ∷ items) (suc i) h l = get_holds test items i (and_parts (test z) (list_all test items) h).1 (omega (arith, l))
-
 pub set_holds : (test : ℤ → Bool) (items : List ℤ) (i : ℕ) (z : ℤ) → list_all test items ≡ true → test z ≡ true → list_all test (slice_set items i z) ≡ true
 set_holds test [] i z h e = refl
 set_holds test (y ∷ items) zero z h e = and_from (test z) (list_all test items) e (and_parts (test y) (list_all test items) h).1
@@ -110,12 +106,6 @@ set_holds test (y ∷ items) (suc i) z h e =
     and_from (test y) (list_all test (slice_set items i z)) p.0 (set_holds test items i z p.1 e)
 
 -- the item of a simple value
-pub simple_item : (k : Kind) (v : ValueOf) → v.shape ≡ simple k → ValueFits v → is_in_range k (item_of_value v) ≡ true
-simple_item k v e f =
-    let one : length v.items ≡ 1 = f.number ∙ ap item_count e in
-    let all : list_all (is_in_range k) v.items ≡ true = ap (λ (s : Shape). list_all (is_in_range s.kind) v.items) (sym e) ∙ f.items in
-    get_holds (is_in_range k) v.items 0 all (omega (arith, one))
-
 indexed_fits : (k : Kind) (n : ℕ) (a : ValueOf) (z : ℤ) → a.shape ≡ record { kind = k; length = n } → ValueFits a → EffectFits (simple k) (indexed a z)
 indexed_fits k n a (negsuc i) e f = tt
 indexed_fits k n a (pos i) e f = pick (nat_lt i (length a.items)) refl

@@ -27,7 +27,7 @@ use Rattle.gypsy_meaning.specs.declared.running.Meaning.{Meaning}
 use Rattle.gypsy_meaning.proofs.ApplyLaws.{value_listed}
 use Rattle.gypsy_meaning.proofs.EffectLaws.{stored_item}
 use Rattle.gypsy_meaning.proofs.LendingLaws.{actuals_there, as_many}
-use Rattle.gypsy_meaning.proofs.ValueLaws.{range_item}
+use Rattle.gypsy_syntax.proofs.RangeLaws.{range_item}
 
 -- as many actuals as formals
 pub actuals_length : (shapes formals : List Shape) (xs : List ℕ) → ActualsFit shapes formals xs → length xs ≡ length formals

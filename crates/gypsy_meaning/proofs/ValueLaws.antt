@@ -1,12 +1,9 @@
 -- Arrays that stay values.
-use Rattle.std.proofs.Common.{◌≡◌, ℕ, ℤ, pos, negsuc, List, ◌==◌, length, slice_set, true, refl, ap, ◌∙◌, length-set}
+use Rattle.std.proofs.Common.{◌≡◌, ℕ, ℤ, List, ◌==◌, length, slice_set, true, ap, ◌∙◌, length-set}
 use Rattle.std.specs.List.{list_all}
 use Rattle.std.proofs.lemmas.Bool.{and_parts, and_from}
-use Rattle.stack_text.specs.declared.shape.Kind.{Kind}
-use Rattle.stack_text.specs.declared.shape.Kind.TheVariants.{Integer, Boolean, Character}
 use Rattle.stack_text.specs.declared.shape.Shape.{Shape}
 use Rattle.stack_text.specs.Values.{is_item, is_value, item_count}
-use Rattle.gypsy_syntax.specs.ProgramFits.{is_in_range}
 use Rattle.gypsy_meaning.proofs.EffectLaws.{set_holds}
 
 -- with another item of the kind
@@ -16,11 +13,3 @@ set_is_value s items i z h e =
     and_from (length (slice_set items i z) == item_count s) (list_all (is_item s.kind) (slice_set items i z))
     (ap (λ n. n == item_count s) (length-set items i z) ∙ p.0)
     (set_holds (is_item s.kind) items i z p.1 e)
-
--- an item in range is an item of the kind
-pub range_item : (k : Kind) (z : ℤ) → is_in_range k z ≡ true → is_item k z ≡ true
-range_item Integer z e = refl
-range_item Boolean (pos n) e = e
-range_item Boolean (negsuc n) e = e
-range_item Character (pos n) e = e
-range_item Character (negsuc n) e = e

@@ -30,6 +30,7 @@ use Rattle.gypsy_syntax.specs.Effects.{Normal, Fault, Beyond, item_of_value, tru
 use Rattle.gypsy_syntax.specs.Effects as effects
 use Rattle.gypsy_syntax.specs.Effects.{number_effect, indexed}
 use Rattle.gypsy_syntax.specs.ProgramFits.{is_in_range}
+use Rattle.gypsy_syntax.proofs.RangeLaws.{simple_item}
 use Rattle.gypsy_predef.specs.Bodies.{body_of}
 use Rattle.gypsy_predef.specs.Runs.{word_of_item, words_of_value, with_elements, length_word, Argument, values_of, ArgumentFits, ArgumentsFit, with_arguments, Runs, PredefRuns, CountsAdd, WordsWritten}
 use Rattle.gypsy_predef.proofs.RunningLaws.{Called, program_is, calls, gets, puts, fails, pushes, pushes_local, pops_local, sets_local, fetches, deposits, jumps, applies_one, applies_two, applies_three, returns}
@@ -37,7 +38,7 @@ use Rattle.gypsy_predef.proofs.StackLaws.{element_over, element_under_two, eleme
 use Rattle.gypsy_predef.proofs.NumberLaws.{eq_row, not_less, same_range, minus_range, minus_row, add_row, subtract_row, truth_test, false_test, negative_test, to_nat_row, add_nat_row}
 use Rattle.gypsy_predef.proofs.ProductLaws.{kept_is}
 use Rattle.gypsy_predef.proofs.MultiplyLaws.{product_fits, product_overflows}
-use Rattle.gypsy_predef.proofs.ValueLaws.{simple_words, simple_range, simple_argument, literal_word, array_word, truth_words, for_two, for_three}
+use Rattle.gypsy_predef.proofs.ValueLaws.{simple_words, simple_argument, literal_word, array_word, truth_words, for_two, for_three}
 
 module _ (s : SystemView) (program caller place : ℕ) (f : Frame) (fs : List Frame) (stack : List Word) (areas : List (List Word)) (k : Kind)
     (small : s.temp ≤ 2 ^ 16) (at : instruction_at s caller place ≡ Some (Call program)) where
@@ -136,7 +137,7 @@ module _ (s : SystemView) (program caller place : ℕ) (f : Frame) (fs : List Fr
       let locals = Nat a.index ∷ Nat b.index ∷ t ∷ [] in
       let result : words.row_of op.Eq t u t (map length areas) ≡ Ok (One (Truth same)) =
       ap (λ w. words.row_of op.Eq t u w (map length areas)) (literal_word k c.value fc.0)
-      ∙ eq_row k (item_of_value b.value) (item_of_value c.value) t (map length areas) x.range (simple_range k c.value fc.0 fc.1) in
+      ∙ eq_row k (item_of_value b.value) (item_of_value c.value) t (map length areas) x.range (simple_item k c.value fc.0 fc.1) in
       written 8 30 a.index _ (Truth same) (truth_value same) (truth_words same)
       (calls here ready.found (word_of_item c.value.shape.kind (item_of_value c.value) ∷ Nat b.index ∷ Nat a.index ∷ stack) areas at (omega arith) ready.ctrl
       (gets here 0 locals stack areas 1 b.index u refl refl refl x.word (omega (arith, room))

@@ -1,8 +1,6 @@
 -- What the arguments of a call read as.
-use Rattle.std.proofs.Common.{◌≡◌, ℕ, ◌+◌, ◌<◌, pos, Some, Bool, true, false, List, [], ◌∷◌, length, map, get_or, refl, ap, sym, ◌∙◌, subst, arith}
+use Rattle.std.proofs.Common.{◌≡◌, ℕ, ◌+◌, ◌<◌, pos, Some, Bool, true, false, List, [], ◌∷◌, length, map, get_or, refl, ap, ◌∙◌, subst, arith}
 use Rattle.std.specs.Prelude.{slice_get}
-use Rattle.std.proofs.lemmas.Bool.{and_parts}
-use Rattle.std.specs.List.{list_all}
 use Rattle.std.specs.Option.{option_map}
 use Rattle.std.proofs.lemmas.Option.{slice_get-map, slice_get-get_or}
 use Rattle.stack_text.specs.declared.shape.Kind.{Kind}
@@ -17,17 +15,13 @@ use Rattle.gypsy_syntax.specs.declared.slot.Slot.{Slot}
 use Rattle.gypsy_syntax.specs.Programs.{simple}
 use Rattle.gypsy_syntax.specs.ProgramFits.{ValueFits, slot_kind, is_in_range}
 use Rattle.gypsy_syntax.specs.Effects.{item_of_value, truth_value}
+use Rattle.gypsy_syntax.proofs.RangeLaws.{simple_item}
 use Rattle.gypsy_predef.specs.Runs.{word_of_item, words_of_value, Argument, ArgumentFits, ArgumentsFit}
 use Rattle.gypsy_predef.proofs.StackLaws.{element_there}
 
 -- a simple value has one item, in range
 pub simple_items : (k : Kind) (v : ValueOf) → v.shape ≡ simple k → ValueFits v → v.items ≡ item_of_value v ∷ []
 simple_items k v e f = one_item v.items (f.number ∙ ap item_count e)
-
-pub simple_range : (k : Kind) (v : ValueOf) → v.shape ≡ simple k → ValueFits v → is_in_range k (item_of_value v) ≡ true
-simple_range k v e f =
-    let all : list_all (is_in_range k) (item_of_value v ∷ []) ≡ true = ap (λ (s : Shape). list_all (is_in_range s.kind) (item_of_value v ∷ [])) (sym e) ∙ ap (list_all (is_in_range v.shape.kind)) (sym (simple_items k v e f)) ∙ f.items in
-    (and_parts (is_in_range k (item_of_value v)) true all).0
 
 pub simple_words : (k : Kind) (v : ValueOf) → v.shape ≡ simple k → ValueFits v → words_of_value v ≡ word_of_item k (item_of_value v) ∷ []
 simple_words k v e f = ap (λ (s : Shape). map (word_of_item s.kind) v.items) e ∙ ap (map (word_of_item k)) (simple_items k v e f)
@@ -45,7 +39,7 @@ simple_argument stack k a f =
     let first : element stack (a.index + 0) ≡ Some (word_of_item k (item_of_value a.value)) = f.2 0 (word_of_item k (item_of_value a.value)) (ap (λ ws. slice_get ws 0) words) in
     let same : a.index + 0 ≡ a.index = omega arith in
     let word : element stack a.index ≡ Some (word_of_item k (item_of_value a.value)) = subst (λ i. element stack i ≡ Some (word_of_item k (item_of_value a.value))) same first in
-    record { word = word; low = element_there stack a.index (word_of_item k (item_of_value a.value)) word; range = simple_range k a.value f.0 f.1; words = words }
+    record { word = word; low = element_there stack a.index (word_of_item k (item_of_value a.value)) word; range = simple_item k a.value f.0 f.1; words = words }
 
 -- a literal's word
 pub literal_word : (k : Kind) (v : ValueOf) → v.shape ≡ simple k → word_of_item v.shape.kind (item_of_value v) ≡ word_of_item k (item_of_value v)

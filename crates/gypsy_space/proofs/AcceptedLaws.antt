@@ -27,6 +27,7 @@ use Rattle.gypsy_syntax.specs.Sources.{LiteralOf, integer, truth, character, arr
 use Rattle.gypsy_syntax.specs.Sources.{StmtOf, StmtsOf, no_op, signal, seq, loop, branch, begin, call, predef, no_parts, part}
 use Rattle.gypsy_syntax.specs.Seen.SourceView.{items_of_list, literal_of, parts_of_list, stmt_of}
 use Rattle.gypsy_syntax.proofs.FitsLaws.{keeps_fits}
+use Rattle.gypsy_syntax.proofs.RangeLaws.{range_item}
 use Rattle.gypsy_check.specs.Accepted.{IsAccepted}
 use Rattle.gypsy_check.specs.Declarations.{repeats, variables_of}
 use Rattle.gypsy_check.specs.Rules.{condition_name_breaches, local_breaches, main_breaches, name_breaches, procedure_breaches, size_breaches, statement_breaches, type_breaches, variable_breaches, violations}
@@ -84,18 +85,11 @@ all_wider k (z ∷ zs) e =
     let p = and_parts (is_in_range k z) (list_all (is_in_range k) zs) e in
     and_from (is_in_range Integer z) (list_all (is_in_range Integer) zs) (wider k z p.0) (all_wider k zs p.1)
 
-pub item_is : (k : Kind) (z : ℤ) → is_in_range k z ≡ true → is_item k z ≡ true
-item_is Integer z e = refl
-item_is Boolean (pos n) e = e
-item_is Boolean (negsuc n) e = e
-item_is Character (pos n) e = e
-item_is Character (negsuc n) e = e
-
 items_are : (k : Kind) (zs : List ℤ) → list_all (is_in_range k) zs ≡ true → list_all (λ z. is_item k z) zs ≡ true
 items_are k [] e = refl
 items_are k (z ∷ zs) e =
     let p = and_parts (is_in_range k z) (list_all (is_in_range k) zs) e in
-    and_from (is_item k z) (list_all (λ z. is_item k z) zs) (item_is k z p.0) (items_are k zs p.1)
+    and_from (is_item k z) (list_all (λ z. is_item k z) zs) (range_item k z p.0) (items_are k zs p.1)
 
 -- what fits is a value
 pub value_is : (v : ValueOf) → ValueFits v → is_value v.shape v.items ≡ true

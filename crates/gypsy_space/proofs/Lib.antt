@@ -2,7 +2,7 @@ mod FirstLaws
 mod CappedLaws
 pub mod EventLaws
 pub mod NodeLaws
-mod PositionLaws
+pub mod PositionLaws
 mod CalleeLaws
 mod ResolveLaws
 pub mod SmallLaws

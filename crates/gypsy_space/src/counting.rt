@@ -220,7 +220,7 @@ pub fn needs(alloc: Global, accepted: &Accepted) -> Result<Needs, Memory>
     Ok(needs)
 }
 
-/// The same where the program that the source is has been made.
+/// The same, for callers that have the program of the source.
 pub fn needs_with(alloc: Global, _accepted: &Accepted, program: &Program) -> Result<Needs, Memory>
     requires program { seen_program program.now ≡ program_of (source_of _accepted.now) }
     requires accepted { IsAccepted (source_of _accepted.now) }

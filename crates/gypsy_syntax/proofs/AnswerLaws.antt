@@ -3,6 +3,7 @@ use Rattle.std.proofs.Common.{◌≡◌, ℕ, List, Ok, Err, refl, ap}
 use Rattle.stack_text.specs.Gives.{Fails}
 use Rattle.stack_text.specs.PlaceOrder.{IsInOrder}
 use Rattle.stack_text.specs.Trees.{Node}
+use Rattle.stack_text.specs.Seen.TreeView.{node_of}
 use Rattle.stack_text.specs.TreeIn.{GivesTree, tree_in}
 use Rattle.stack_text.specs.declared.text_fault.TextFault.{TextFault}
 use Rattle.stack_text.specs.declared.text_fault.TextFault.TheVariants as text
@@ -14,7 +15,7 @@ use Rattle.stack_text.specs.Grammar.Reading.{IsFirstFault}
 use Rattle.stack_text.proofs.RiseLaws.{first_is_judged}
 use Rattle.gypsy_syntax.proofs.RiseLaws.{source_up}
 
-pub text_at_fault : (e : TextFault) (bytes : List ℕ) → GivesTree (Err e) (tree_in bytes) → Fails (fault_of (fault_of_text e)) (gypsy_in bytes)
+pub text_at_fault : (e : TextFault) (bytes : List ℕ) → GivesTree node_of (Err e) (tree_in bytes) → Fails (fault_of (fault_of_text e)) (gypsy_in bytes)
 text_at_fault (text.Fault rule place) bytes h = rw h refl
 text_at_fault text.Memory bytes h = tt
 

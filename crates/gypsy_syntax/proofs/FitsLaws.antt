@@ -5,7 +5,7 @@ use Rattle.std.specs.Prelude.{codes, drop, ◌&&◌, if◌then◌else◌}
 use Rattle.std.specs.Str.{bytes_eq}
 use Rattle.std.proofs.lemmas.Bool.{and_parts, leb-true}
 use Rattle.std.proofs.lemmas.List.{length-map}
-use Rattle.std.proofs.lemmas.List.Elements.{All-nil, All-head, All-tail}
+use Rattle.std.proofs.lemmas.List.Elements.{All-nil, All-cons, All-head, All-tail}
 use Rattle.stack_text.specs.declared.name.Named.{Named}
 use Rattle.stack_text.specs.declared.shape.Kind.{Kind}
 use Rattle.stack_text.specs.Names.{is_name, is_truth_word}
@@ -314,3 +314,14 @@ placed_source s h = record {
 -- what keeps the form fits it
 pub keeps_fits : (s : SourceOf) → KeepsForm s → FitsForm s
 keeps_fits s h = placed_source s (holds_at FitsForm (source_in (tree_of s)) (without_places s) (fits_source (tree_of s) h.well_formed.shallow) h.reads)
+
+-- ---- arguments that fit, one by one
+
+pub one_fits : (a : ArgOf) → FitsArgument a → All FitsArgument (a ∷ [])
+one_fits a p = All-cons FitsArgument a [] p (All-nil FitsArgument)
+
+pub two_fit : (a b : ArgOf) → FitsArgument a → FitsArgument b → All FitsArgument (a ∷ b ∷ [])
+two_fit a b p q = All-cons FitsArgument a (b ∷ []) p (one_fits b q)
+
+pub three_fit : (a b c : ArgOf) → FitsArgument a → FitsArgument b → FitsArgument c → All FitsArgument (a ∷ b ∷ c ∷ [])
+three_fit a b c p q r = All-cons FitsArgument a (b ∷ c ∷ []) p (two_fit b c q r)

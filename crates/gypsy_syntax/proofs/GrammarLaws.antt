@@ -1,11 +1,11 @@
 -- Trees by their items, as the grammar of sources takes them apart.
-use Rattle.std.proofs.Common.{Vec, Global, Option, ◌≡◌, ◌≢◌, ◌<◌, ◌≤◌, ℕ, List, [], ◌∷◌, length, map, get_or, Ok, Some, refl, sym, ap, ◌∙◌, arith}
+use Rattle.std.proofs.Common.{Bor, Vec, Global, Option, ◌≡◌, ◌≢◌, ◌<◌, ◌≤◌, ℕ, List, [], ◌∷◌, length, map, get_or, Ok, Some, refl, sym, ap, ◌∙◌, arith}
 use Rattle.std.proofs.Math.Dec.{eqb}
 use Rattle.std.proofs.lemmas.Bool.{ne_eqb, le-leb, lt-leb}
 use Rattle.std.specs.Prelude.{codes, false, nat_le, true}
 use Rattle.stack_text.specs.Trees.{Nodes, list, none, more}
 use Rattle.stack_text.specs.Seen.TreeView.{node_of, nodes_of}
-use Rattle.stack_text.specs.declared.tree.Tree.{Tree, Atom}
+use Rattle.stack_text.specs.declared.tree.TextTree.{TextTree, Atom}
 use Rattle.stack_text.proofs.TreeViewLaws.{node_of-atom}
 use Rattle.stack_text.specs.Grammar.Judged.{◌⊛◌, each_of, fault, front, judged}
 use Rattle.stack_text.specs.Grammar.Parts.{count_of}
@@ -25,11 +25,11 @@ use Rattle.gypsy_syntax.specs.Made.{new_seq, new_source}
 use Rattle.gypsy_syntax.specs.Seen.SourceView.{literal_of, stmt_of}
 use Rattle.gypsy_syntax.proofs.ViewLaws.{list_is_new, seq_is_new}
 
-pub no_items : (place n : ℕ) (ts : List Tree) → n ≡ length ts → eqb n 0 ≡ is_empty_list (list place (nodes_of ts))
+pub no_items : (place n : ℕ) (ts : List TextTree) → n ≡ length ts → eqb n 0 ≡ is_empty_list (list place (nodes_of ts))
 no_items place n [] e = rw e refl
 no_items place n (t ∷ ts) e = ne_eqb n 0 (λ k. omega (arith, k, e))
 
-pub list_value : (place : ℕ) (ts : List Tree) (ls : Vec Literal Global) → each_of simple_in (nodes_of ts) ≡ Ok (map literal_of ls.items)
+pub list_value : (place : ℕ) (ts : List TextTree) (ls : Vec Literal Global) → each_of simple_in (nodes_of ts) ≡ Ok (map literal_of ls.items)
     → literal_in (list place (nodes_of ts)) ≡ Ok (literal_of (MadeList place ls))
 list_value place ts ls e = rw e (ap Ok (sym (list_is_new place ls)))
 
@@ -38,17 +38,17 @@ pub statements_each : (ts : Nodes) → statements_in ts ≡ each_of statement_in
 statements_each none = refl
 statements_each (more t ts) = ap (λ r. Ok front ⊛ statement_in t ⊛ r) (statements_each ts)
 
-pub some_parts : (place : ℕ) (ts : List Tree) (ss : Vec Stmt Global) → length ts ≢ 0 → statements_in (nodes_of ts) ≡ Ok (map stmt_of ss.items)
+pub some_parts : (place : ℕ) (ts : List TextTree) (ss : Vec Stmt Global) → length ts ≢ 0 → statements_in (nodes_of ts) ≡ Ok (map stmt_of ss.items)
     → form_in (Some word.Seq) place (nodes_of ts) ≡ Ok (stmt_of (MadeSeq place ss))
 some_parts place [] ss ne e = absurd (ne refl)
 some_parts place (t ∷ ts) ss ne e = rw e (ap Ok (sym (seq_is_new place ss)))
 
-pub fault_in_parts : (e : FormFault) (place : ℕ) (ts : List Tree) → length ts ≢ 0 → IsFirstFault e (statements_in (nodes_of ts)) → IsFirstFault e (form_in (Some word.Seq) place (nodes_of ts))
+pub fault_in_parts : (e : FormFault) (place : ℕ) (ts : List TextTree) → length ts ≢ 0 → IsFirstFault e (statements_in (nodes_of ts)) → IsFirstFault e (form_in (Some word.Seq) place (nodes_of ts))
 fault_in_parts e place [] ne h = absurd (ne refl)
 fault_in_parts e place (t ∷ ts) ne h = first_of_value e (new_seq place) (Ok front ⊛ statement_in (node_of t) ⊛ statements_in (nodes_of ts)) h
 
 -- a source by the word that it begins with, its main procedure's name, and what follows
-pub source_by_parts : (place : ℕ) (ts : List Tree) (w main : Tree) → 3 ≤ length ts → w ≡ get_or ts 0 w → main ≡ get_or ts 1 main
+pub source_by_parts : (place : ℕ) (ts : List TextTree) (w main : TextTree) → 3 ≤ length ts → w ≡ get_or ts 0 w → main ≡ get_or ts 1 main
     → source_in (list place (nodes_of ts)) ≡ judged place 1 (is_word (codes "program") (node_of w))
     (judged place 12 (nat_le (count_of (nodes_of (rest 2 ts))) 1000) (Ok (new_source place) ⊛ named_in (node_of main) ⊛ each_of procedure_in (nodes_of (rest 2 ts))))
 source_by_parts place [] w main le w_is main_is = absurd (omega arith)
@@ -56,19 +56,19 @@ source_by_parts place (t ∷ []) w main le w_is main_is = absurd (omega arith)
 source_by_parts place (t ∷ u ∷ []) w main le w_is main_is = absurd (omega arith)
 source_by_parts place (t ∷ u ∷ v ∷ ts) w main le w_is main_is = rw (w_is, main_is, rest_is_drop 2 (t ∷ u ∷ v ∷ ts)) refl
 
-pub short_source : (place : ℕ) (ts : List Tree) → length ts < 3 → source_in (list place (nodes_of ts)) ≡ fault place 1
+pub short_source : (place : ℕ) (ts : List TextTree) → length ts < 3 → source_in (list place (nodes_of ts)) ≡ fault place 1
 short_source place [] lt = refl
 short_source place (t ∷ []) lt = refl
 short_source place (t ∷ u ∷ []) lt = refl
 short_source place (t ∷ u ∷ v ∷ ts) lt = absurd (omega arith)
 
-pub statement_by_parts : (place : ℕ) (ts : List Tree) (first : Tree) (q : ℕ) (text : Vec ℕ Global) (o : Option Keyword) → 1 ≤ length ts → first ≡ get_or ts 0 first → first ≡ Atom q text
-    → keyword_named text.items ≡ o → statement_in (list place (nodes_of ts)) ≡ form_in o place (nodes_of (rest 1 ts))
+pub statement_by_parts : (place : ℕ) (ts : List TextTree) (first : TextTree) (q : ℕ) (text : Bor (List ℕ)) (o : Option Keyword) → 1 ≤ length ts → first ≡ get_or ts 0 first → first ≡ Atom q text
+    → keyword_named text.now ≡ o → statement_in (list place (nodes_of ts)) ≡ form_in o place (nodes_of (rest 1 ts))
 statement_by_parts place [] first q text o le first_is is_atom e = absurd (omega arith)
 statement_by_parts place (t ∷ ts) first q text o le first_is is_atom e = rw (sym first_is ∙ is_atom, node_of-atom q text, sym e, rest_is_drop 1 (Atom q text ∷ ts)) refl
 
 -- a procedure's seven items
-pub seven_parts : (ts : List Tree) (a b c d e f g : Tree) → length ts ≡ 7 → a ≡ get_or ts 0 a → b ≡ get_or ts 1 b → c ≡ get_or ts 2 c → d ≡ get_or ts 3 d → e ≡ get_or ts 4 e → f ≡ get_or ts 5 f
+pub seven_parts : (ts : List TextTree) (a b c d e f g : TextTree) → length ts ≡ 7 → a ≡ get_or ts 0 a → b ≡ get_or ts 1 b → c ≡ get_or ts 2 c → d ≡ get_or ts 3 d → e ≡ get_or ts 4 e → f ≡ get_or ts 5 f
     → g ≡ get_or ts 6 g
     → nodes_of ts ≡ more (node_of a) (more (node_of b) (more (node_of c) (more (node_of d) (more (node_of e) (more (node_of f) (more (node_of g) none))))))
 seven_parts [] a b c d e f g n a_is b_is c_is d_is e_is f_is g_is = absurd (omega (arith, n))
@@ -81,7 +81,7 @@ seven_parts (t0 ∷ t1 ∷ t2 ∷ t3 ∷ t4 ∷ t5 ∷ []) a b c d e f g n a_is 
 seven_parts (t0 ∷ t1 ∷ t2 ∷ t3 ∷ t4 ∷ t5 ∷ t6 ∷ []) a b c d e f g n a_is b_is c_is d_is e_is f_is g_is = rw (a_is, b_is, c_is, d_is, e_is, f_is, g_is) refl
 seven_parts (t0 ∷ t1 ∷ t2 ∷ t3 ∷ t4 ∷ t5 ∷ t6 ∷ t7 ∷ ts) a b c d e f g n a_is b_is c_is d_is e_is f_is g_is = absurd (omega (arith, n))
 
-pub not_seven : (place : ℕ) (ts : List Tree) → length ts ≢ 7 → procedure_in (list place (nodes_of ts)) ≡ fault place 2
+pub not_seven : (place : ℕ) (ts : List TextTree) → length ts ≢ 7 → procedure_in (list place (nodes_of ts)) ≡ fault place 2
 not_seven place [] ne = refl
 not_seven place (t0 ∷ []) ne = refl
 not_seven place (t0 ∷ t1 ∷ []) ne = refl
@@ -92,8 +92,8 @@ not_seven place (t0 ∷ t1 ∷ t2 ∷ t3 ∷ t4 ∷ t5 ∷ []) ne = refl
 not_seven place (t0 ∷ t1 ∷ t2 ∷ t3 ∷ t4 ∷ t5 ∷ t6 ∷ []) ne = absurd (ne refl)
 not_seven place (t0 ∷ t1 ∷ t2 ∷ t3 ∷ t4 ∷ t5 ∷ t6 ∷ t7 ∷ ts) ne = refl
 
-pub few_procedures : (ts : List Tree) → length ts ≤ 1000 → nat_le (count_of (nodes_of ts)) 1000 ≡ true
+pub few_procedures : (ts : List TextTree) → length ts ≤ 1000 → nat_le (count_of (nodes_of ts)) 1000 ≡ true
 few_procedures ts le = rw (count_of_all ts) (le-leb (length ts) 1000 le)
 
-pub many_procedures : (ts : List Tree) → 1000 < length ts → nat_le (count_of (nodes_of ts)) 1000 ≡ false
+pub many_procedures : (ts : List TextTree) → 1000 < length ts → nat_le (count_of (nodes_of ts)) 1000 ≡ false
 many_procedures ts lt = rw (count_of_all ts) (lt-leb (length ts) 1000 lt)

@@ -7,11 +7,12 @@ use Rattle.std.proofs.lemmas.List.Sums.{sum_by-cons}
 use Rattle.std.proofs.lemmas.List.Elements.{All-nil, All-cons}
 use Rattle.stack_text.specs.Grammar.Parts.{IsNamed}
 use Rattle.stack_text.specs.Names.{is_name}
-use Rattle.gypsy_syntax.specs.Fits.{FitsDecl, FitsLocal, FitsStatement, FitsStatements, FitsProcedure, FitsForm, FitsArgument}
+use Rattle.gypsy_syntax.specs.Fits.{FitsDecl, FitsLocal, FitsStatement, FitsStatements, FitsProcedure, FitsForm}
+use Rattle.gypsy_syntax.proofs.FitsLaws.{two_fit, three_fit}
 use Rattle.gypsy_syntax.specs.Made.{statements, new_seq, new_predef}
 use Rattle.gypsy_syntax.specs.ProgramFits.{Each}
 use Rattle.gypsy_syntax.specs.Sizes.{deepest, parts_size, local_size, procedure_size, text_size}
-use Rattle.gypsy_syntax.specs.Sources.{integer, truth, constant, ArgOf, LocalOf, StmtOf}
+use Rattle.gypsy_syntax.specs.Sources.{integer, truth, constant, LocalOf, StmtOf}
 use Rattle.mini_syntax.specs.declared.program.Declared.{Declared}
 use Rattle.mini_syntax.specs.declared.sort.Sort.{Sort}
 use Rattle.mini_syntax.specs.declared.sort.Sort.TheVariants.{Int, Bool}
@@ -36,15 +37,6 @@ named_at (d ∷ ds) zero s good e = variable_is_name d.name good.0
 named_at (d ∷ ds) (suc i) s good e = named_at ds i s good.1 e
 
 -- ---- statements
-
-one_fits : (a : ArgOf) → FitsArgument a → All FitsArgument (a ∷ [])
-one_fits a p = All-cons FitsArgument a [] p (All-nil FitsArgument)
-
-two_fit : (a b : ArgOf) → FitsArgument a → FitsArgument b → All FitsArgument (a ∷ b ∷ [])
-two_fit a b p r = All-cons FitsArgument a (b ∷ []) p (one_fits b r)
-
-three_fit : (a b c : ArgOf) → FitsArgument a → FitsArgument b → FitsArgument c → All FitsArgument (a ∷ b ∷ c ∷ [])
-three_fit a b c p r s = All-cons FitsArgument a (b ∷ c ∷ []) p (two_fit b c r s)
 
 parts_fit : (xs ys : List StmtOf) → FitsStatements (statements xs) → FitsStatements (statements ys) → FitsStatements (statements (xs ++ ys))
 parts_fit [] ys e f = f

@@ -3,4 +3,4 @@
 
 mod emission;
 
-pub use emission::emit;
+pub use emission::{append, emit};

@@ -5,5 +5,5 @@ mod emission;
 mod entry;
 mod row;
 
-pub use emission::emit;
+pub use emission::{append, emit};
 pub use entry::prelude;

@@ -4,4 +4,4 @@
 mod emission;
 mod row;
 
-pub use emission::emit;
+pub use emission::{append, emit};

@@ -19,4 +19,4 @@ pub use fault::LinkFault;
 pub use linking::{Linked, link};
 pub use numbering::word_numbers;
 pub use placement::Layout;
-pub use sizes::layout;
+pub use sizes::{layout, layout_behind};

@@ -4,7 +4,7 @@ ghost use Rattle.std.specs.Prelude.{◌≡◌, ◌<◌, ◌^◌, map};
 ghost use Rattle.piton_check.specs.Instruction.{instruction_view, program_view};
 ghost use Rattle.piton_machine.specs.Fits.{system_in};
 ghost use Rattle.piton_machine.specs.Seen.Stacked.{words_in};
-ghost use Rattle.piton_machine.specs.Placed.{instruction_size, instructions_size, prelude_size, program_size, programs_size, areas_size};
+ghost use Rattle.piton_machine.specs.Placed.{final_pc_of, instruction_size, instructions_size, prelude_size, program_size, programs_size, areas_size};
 ghost use Rattle.piton_machine.specs.Step.{operation_cost};
 ghost use Rattle.piton_linker.specs.Layouts.{layout_of};
 
@@ -20,9 +20,18 @@ pub fn layout(checked: &Checked) -> Layout
 {
     let resolved = checked.resolved();
     let code = code_size(resolved.programs.as_slice());
+    layout_behind(checked, u64::from(resolved.base) + code)
+}
+
+/// The same, where it is known at which address the code has ended.
+#[tactic(auto, using(crate::proofs::BoundLaws::checked_programs, crate::proofs::BoundLaws::checked_areas))]
+pub fn layout_behind(checked: &Checked, final_pc: u64) -> Layout
+    requires { final_pc ≡ final_pc_of (system_in checked.now) }
+    ensures { result ≡ layout_of (system_in checked.now) }
+{
+    let resolved = checked.resolved();
     let words = data_size(resolved.areas.as_slice());
     let base = u64::from(resolved.base);
-    let final_pc = base + code;
     let areas_start = final_pc + 1;
     let ctrl_start = areas_start + words;
     let temp_start = ctrl_start + u64::from(resolved.ctrl);

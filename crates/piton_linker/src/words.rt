@@ -44,23 +44,25 @@ fn append_prelude(
     Ok(())
 }
 
-/// The pieces of the instruction at a place.
-fn emit(alloc: Global, checked: &Checked, program: u32, place: u32) -> Result<Vec<Piece>, Memory>
-    ensures { IfOk result (λ pieces. pieces.items ≡ pieces_at (system_in checked.now) program place) }
+/// Appends the pieces of the instruction at a place.
+fn emit(pieces: &mut Vec<Piece>, checked: &Checked, program: u32, place: u32) -> Result<(), Memory>
+    ensures { OnOk result
+        (pieces.new.items ≡ pieces.old.items ++ pieces_at (system_in checked.now) program place) }
 {
     match instruction(checked.resolved(), program, place) {
         Some(instr) => match group_of(instr.op) {
-            Group::Move => piton_code_move::emit(alloc, checked, program, place),
-            Group::Jump => piton_code_jump::emit(alloc, checked, program, place),
-            Group::Word => piton_code_arith::emit(alloc, checked, program, place),
+            Group::Move => piton_code_move::append(pieces, checked, program, place),
+            Group::Jump => piton_code_jump::append(pieces, checked, program, place),
+            Group::Word => piton_code_arith::append(pieces, checked, program, place),
         },
-        None => Ok(Vec::new(alloc)),
+        None => Ok(()),
     }
 }
 
-/// Appends the words of the instruction at a place of a program, whose first places have these addresses.
+/// Appends the words of the instruction at a place of a program, whose first places have these addresses. What `pieces` has
+/// doesn't matter: it lends its memory to the pieces of each instruction.
 fn append_place(
-    alloc: Global,
+    pieces: &mut Vec<Piece>,
     draft: &mut Draft,
     checked: &Checked,
     program: u32,
@@ -77,7 +79,8 @@ fn append_place(
     ensures words { OnOk result (drafted (system_in checked.now) draft.new
         ≡ drafted (system_in checked.now) draft.old ++ words_at (system_in checked.now) program place) }
 {
-    let pieces = emit(alloc, checked, program, place)?;
+    pieces.clear();
+    emit(pieces, checked, program, place)?;
     draft.append(checked.resolved(), program, row, pieces.as_slice())?;
     Ok(())
 }
@@ -119,11 +122,12 @@ fn append_program(
         ≡ row_at (entry_of (system_in checked.now) program) (program_of (system_in checked.now) program)) }
 {
     append_prelude(alloc, draft, checked, program)?;
-    let mut row = Vec::new(alloc);
     let count = place_count(checked, program);
+    let mut row = Vec::with_capacity(alloc, count as usize)?;
+    let mut pieces = Vec::new(alloc);
     for place in 0..count {
         row.push(draft.next(checked.resolved()))?;
-        append_place(alloc, draft, checked, program, place, row.as_slice())?;
+        append_place(&mut pieces, draft, checked, program, place, row.as_slice())?;
     }
     Ok(row)
 }

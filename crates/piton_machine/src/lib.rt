@@ -27,7 +27,7 @@ pub use argument::place_of;
 pub use error_kind::ErrorKind;
 pub use group::{Group, group_of};
 pub use law::{placed_laws, step_laws};
-pub use piece::{code_pieces, literal_pieces, piece_vec, word_piece};
+pub use piece::{literal_pieces, push_code, word_piece};
 pub use piton_instr::PitonInstr;
 pub use state::{State, instruction};
 pub use stepped::{PitonRun, Stepped};

@@ -1,11 +1,11 @@
 //! Pieces that the rows of several tables have.
 
-ghost use Rattle.std.specs.Prelude.{◌≡◌, IfOk};
+ghost use Rattle.std.specs.Prelude.{◌≡◌, ◌++◌, OnOk};
 ghost use Rattle.piton_machine.specs.Templates.{word_piece, literal_pieces, code_pieces};
 
 use piton_check::Piece;
 use piton_words::Word;
-use std::alloc::{AllocError, Global};
+use std::alloc::AllocError;
 
 /// The piece of a word.
 pub fn word_piece(word: Word) -> Piece
@@ -29,22 +29,13 @@ pub fn literal_pieces(word: u32, literal: Piece) -> [Piece; 2]
     [Piece::Code(word), literal]
 }
 
-/// Instruction words alone.
-pub fn code_pieces(alloc: Global, words: &[u32]) -> Result<Vec<Piece>, AllocError>
-    ensures { IfOk result (λ pieces. pieces.items ≡ code_pieces words.now) }
+/// Appends instruction words alone.
+pub fn push_code(pieces: &mut Vec<Piece>, words: &[u32]) -> Result<(), AllocError>
+    ensures { OnOk result (pieces.new.items ≡ pieces.old.items ++ code_pieces words.now) }
 {
-    let mut pieces = Vec::with_capacity(alloc, words.len())?;
+    pieces.reserve(words.len())?;
     for word in words {
         pieces.push(Piece::Code(*word))?;
     }
-    Ok(pieces)
-}
-
-/// These pieces, in a vector.
-pub fn piece_vec(alloc: Global, pieces: &[Piece]) -> Result<Vec<Piece>, AllocError>
-    ensures { IfOk result (λ made. made.items ≡ pieces.now) }
-{
-    let mut made = Vec::with_capacity(alloc, pieces.len())?;
-    made.extend_from_slice(pieces)?;
-    Ok(made)
+    Ok(())
 }

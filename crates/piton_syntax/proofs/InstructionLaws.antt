@@ -1,9 +1,9 @@
 -- What follows `dl`, by its shape.
-use Rattle.std.proofs.Common.{◌≡◌, ◌≢◌, ℕ, List, [], ◌∷◌, length, get_or, Ok, Some, Vec, Global, refl, sym, ◌∙◌, arith}
+use Rattle.std.proofs.Common.{◌≡◌, ◌≢◌, ℕ, List, [], ◌∷◌, length, get_or, Ok, Some, Bor, Vec, Global, refl, sym, ◌∙◌, arith}
 use Rattle.stack_text.specs.Trees.{Node, Nodes, atom, list, none, more}
 use Rattle.stack_text.specs.Seen.TreeView.{node_of, nodes_of}
-use Rattle.stack_text.specs.declared.tree.Tree.{Tree}
-use Rattle.stack_text.specs.declared.tree.Tree.{Atom, List as ListOf}
+use Rattle.stack_text.specs.declared.tree.TextTree.{TextTree}
+use Rattle.stack_text.specs.declared.tree.TextTree.{Atom, List as ListOf}
 use Rattle.stack_text.proofs.TreeViewLaws.{node_of-atom, node_of-list}
 use Rattle.stack_text.specs.declared.grammar.fault.FormFault.{FormFault}
 use Rattle.piton_syntax.specs.declared.op.PitonOp.{PitonOp}
@@ -27,7 +27,7 @@ four_behind p t (list q none) (list r none) w ts = refl
 four_behind p t (list q none) (list r (more (atom s bytes) vs)) w ts = refl
 four_behind p t (list q none) (list r (more (list s us) vs)) w ts = refl
 
-pub not_three_behind : (p : ℕ) (ts : List Tree) → length ts ≢ 3 → labelled_of p (nodes_of ts) ≡ fault p 6
+pub not_three_behind : (p : ℕ) (ts : List TextTree) → length ts ≢ 3 → labelled_of p (nodes_of ts) ≡ fault p 6
 not_three_behind p [] ne = refl
 not_three_behind p (t ∷ []) ne = refl
 not_three_behind p (t ∷ u ∷ []) ne = two_behind p (node_of t) (node_of u)
@@ -35,16 +35,16 @@ not_three_behind p (t ∷ u ∷ v ∷ []) ne = absurd (ne refl)
 not_three_behind p (t ∷ u ∷ v ∷ w ∷ ts) ne = four_behind p (node_of t) (node_of u) (node_of v) (node_of w) (nodes_of ts)
 
 -- the middle tree is no empty list
-pub no_gap : (p : ℕ) (t : Node) (q : ℕ) (items : List Tree) (us : Nodes) → length items ≢ 0 → labelled_of p (more t (more (list q (nodes_of items)) us)) ≡ fault p 6
+pub no_gap : (p : ℕ) (t : Node) (q : ℕ) (items : List TextTree) (us : Nodes) → length items ≢ 0 → labelled_of p (more t (more (list q (nodes_of items)) us)) ≡ fault p 6
 no_gap p t q [] us ne = absurd (ne refl)
 no_gap p t q (u ∷ items) us ne = refl
 
-pub behind_atom : (p : ℕ) (ts : List Tree) (gap : Tree) → length ts ≡ 3 → gap ≡ get_or ts 1 gap → (q : ℕ) (text : Vec ℕ Global) → gap ≡ Atom q text → labelled_of p (nodes_of ts) ≡ fault p 6
+pub behind_atom : (p : ℕ) (ts : List TextTree) (gap : TextTree) → length ts ≡ 3 → gap ≡ get_or ts 1 gap → (q : ℕ) (text : Bor (List ℕ)) → gap ≡ Atom q text → labelled_of p (nodes_of ts) ≡ fault p 6
 behind_atom p [] gap e is q text gap_is = absurd (omega (arith, e))
 behind_atom p (t ∷ []) gap e is q text gap_is = absurd (omega (arith, e))
 behind_atom p (t ∷ u ∷ ts) gap e is q text gap_is = rw (sym is ∙ gap_is, node_of-atom q text) refl
 
-pub behind_items : (p : ℕ) (ts : List Tree) (gap : Tree) → length ts ≡ 3 → gap ≡ get_or ts 1 gap → (q : ℕ) (items : Vec Tree Global) → gap ≡ ListOf q items → length items.items ≢ 0
+pub behind_items : (p : ℕ) (ts : List TextTree) (gap : TextTree) → length ts ≡ 3 → gap ≡ get_or ts 1 gap → (q : ℕ) (items : Vec TextTree Global) → gap ≡ ListOf q items → length items.items ≢ 0
     → labelled_of p (nodes_of ts) ≡ fault p 6
 behind_items p [] gap e is q items gap_is ne = absurd (omega (arith, e))
 behind_items p (t ∷ []) gap e is q items gap_is ne = absurd (omega (arith, e))

@@ -8,10 +8,10 @@ use Rattle.stack_text.specs.Seen.TreeView.{node_of, nodes, nodes_of}
 use Rattle.stack_text.specs.Grammar.Printed.{items_after}
 use Rattle.stack_text.proofs.Loops.{drop-item}
 use Rattle.stack_text.proofs.PrintLaws.{apart_by}
-use Rattle.stack_text.specs.declared.tree.Tree.{Tree}
+use Rattle.stack_text.specs.declared.tree.TextTree.{TextTree}
 use Rattle.stack_text.proofs.TreeListLaws.{rest, rest_is_drop}
 
-pub first_and_rest : (ts : List Tree) (first : Tree) → length ts ≢ 0 → first ≡ get_or ts 0 first → nodes_of ts ≡ more (node_of first) (nodes_of (rest 1 ts))
+pub first_and_rest : (ts : List TextTree) (first : TextTree) → length ts ≢ 0 → first ≡ get_or ts 0 first → nodes_of ts ≡ more (node_of first) (nodes_of (rest 1 ts))
 first_and_rest [] first ne is = absurd (ne refl)
 first_and_rest (t ∷ ts) first ne is = rw (is, rest_is_drop 1 (t ∷ ts)) refl
 

@@ -17,12 +17,13 @@ use Rattle.gypsy_syntax.specs.Sources.{SourceOf, ProcOf, StmtOf, StmtsOf, no_op,
 use Rattle.gypsy_space.specs.Needs.{StackSizes, stack_sizes, frame_of, main_used}
 use Rattle.gypsy_space.specs.Events.{AreNeeds, need_at, need_of}
 use Rattle.gypsy_space.specs.declared.need.Need.{Need}
+use Rattle.gypsy_space.proofs.SmallLaws.{words_of-append}
 use Rattle.space_cert.specs.Covers.{Bounds, as_words, bound_at, words_sum, callees, IsAtMost, own_need, call_bound, CoversCall, CoversRun, Covers}
 use Rattle.space_cert.specs.Reaches.{calls_of}
 use Rattle.space_cert.specs.Order.{call_bound_by}
 use Rattle.space_cert.specs.Accepting.{is_at_most, is_some_and, covers_call, covers_calls, covers_run, covers_from, covers_main, covers, source_callees, parts_callees, source_calls, needs_from, is_covered}
 use Rattle.space_cert.proofs.CoversLaws.{main_within}
-use Rattle.space_cert.proofs.CertifyLaws.{body_calls, calls_below, calls_same, words_append}
+use Rattle.space_cert.proofs.CertifyLaws.{body_calls, calls_below, calls_same}
 
 at_most_true : (u v : StackSizes) → is_at_most u v ≡ true → IsAtMost u v
 at_most_true u v e =
@@ -219,12 +220,12 @@ module _ (s : SourceOf) (ns : List Need) (needs : AreNeeds (program_of s) ns) (f
   used_is f e =
       let p = proc_at (program_of s) (program_of s).main in
       (λ i. stack_sizes (2 + (main_need_is i).vars) (e i + (main_need_is i).locals_words))
-      ∙ ap (λ n. stack_sizes (frame_of p) n) (sym (words_append (program_of s) p.formals (map (λ (v : ValueOf). v.shape) p.locals)))
+      ∙ ap (λ n. stack_sizes (frame_of p) n) (sym (words_of-append p.formals (map (λ (v : ValueOf). v.shape) p.locals)))
 
 pub formals_small : (s : SourceOf) → ProgramFits (program_of s) → words_of (proc_at (program_of s) (program_of s).main).formals ≤ 65536
 formals_small s fits =
     let p = proc_at (program_of s) (program_of s).main in
-    omega (arith, (fits.procs (program_of s).main).words, words_append (program_of s) p.formals (map (λ (v : ValueOf). v.shape) p.locals))
+    omega (arith, (fits.procs (program_of s).main).words, words_of-append p.formals (map (λ (v : ValueOf). v.shape) p.locals))
 
 -- a procedure of the source, as it is looked up
 pub formals_at : (s : SourceOf) (procs : List TextProc) (i : ℕ) (p : TextProc) → slice_get procs i ≡ Some p → (get_or (map (procedure_of s) (map proc_of procs)) i no_proc).formals ≡ map (λ (d : Decl). shape_of d.shape) p.formals.items

@@ -16,6 +16,7 @@ use Rattle.gypsy_syntax.specs.ProgramFits.{StmtFits, ProcFits, ProgramFits}
 use Rattle.gypsy_space.specs.Needs.{StackSizes, stack_sizes, greatest, local_words, vars_of}
 use Rattle.gypsy_space.specs.Events.{AreNeeds, need_at}
 use Rattle.gypsy_space.specs.declared.need.Need.{Need}
+use Rattle.gypsy_space.proofs.SmallLaws.{words_of-append}
 use Rattle.space_cert.specs.Covers.{Bounds, no_bounds, bound_at, IsAtMost, callees, own_need, call_bound}
 use Rattle.space_cert.specs.Reaches.{Reaches, Directly, Further, Leads, calls_of, IsReached}
 use Rattle.space_cert.specs.Least.{IsLeast, IsFirstRecursive}
@@ -99,14 +100,10 @@ module _ (q : Program) where
   many_words [] = omega arith
   many_words (s ∷ shapes) = omega (arith, one_item s, many_words shapes)
 
-  pub words_append : (xs ys : List Shape) → words_of (xs ++ ys) ≡ words_of xs + words_of ys
-  words_append [] ys = omega arith
-  words_append (s ∷ xs) ys = omega (arith, words_append xs ys)
-
   small_words : (p : Proc) → ProcFits q p → local_words p + vars_of p ≤ 131072
   small_words p h =
       let shapes = map (λ (v : ValueOf). v.shape) p.locals in
-      omega (arith, h.words, words_append p.formals shapes, many_words p.formals, many_words shapes, length-map p.locals (λ (v : ValueOf). v.shape))
+      omega (arith, h.words, words_of-append p.formals shapes, many_words p.formals, many_words shapes, length-map p.locals (λ (v : ValueOf). v.shape))
 
   greatest_within : (each : ℕ) (f : Predef → ℕ) (n : ℕ) → each ≤ n → ((r : Predef) → f r ≤ n) → (s : Stmt) → greatest each f s ≤ n
   greatest_within each f n k h Skip = omega arith

@@ -1,6 +1,6 @@
 -- Names of procedures: they differ, and each stands where it is found.
-use Rattle.std.proofs.Common.{◌≡◌, Bor, ℕ, zero, suc, ◌+◌, ◌<◌, ◌≤◌, List, [], ◌∷◌, ◌++◌, map, length, get_or, take, Bool, true, false, not, cond, Some, option_map, refl, sym, ap, subst, ◌∙◌, arith, nat_lt, ap₂, None}
-use Rattle.std.specs.List.{All, AllByRecursion, IsDistinct, list_any, position, position_or_len}
+use Rattle.std.proofs.Common.{◌≡◌, Bor, ℕ, zero, suc, ◌+◌, ◌<◌, ◌≤◌, List, [], ◌∷◌, ◌++◌, map, length, get_or, take, Bool, true, false, cond, Some, option_map, sym, ap, subst, ◌∙◌, arith}
+use Rattle.std.specs.List.{All, AllByRecursion, IsDistinct, list_any, position}
 use Rattle.std.specs.Str.{bytes_eq}
 use Rattle.std.proofs.lemmas.List.{length-map, map_push, take_more, take-map}
 use Rattle.std.proofs.lemmas.List.Elements.{All-nil, All-cons, All-head, All-tail}
@@ -10,7 +10,7 @@ use Rattle.std.proofs.lemmas.Slice.Eq.{bytes_eq-Decides}
 use Rattle.std.proofs.lemmas.Bool.{or_parts}
 use Rattle.stack_text.specs.Names.{is_name}
 use Rattle.stack_text.specs.declared.name.Named.{Named}
-use Rattle.stack_text.proofs.SharedLaws.{rule_fails, append_none, bytes_apart, any_now}
+use Rattle.stack_text.proofs.SharedLaws.{rule_fails, append_none, bytes_apart, any_now, no_earlier}
 use Rattle.gypsy_syntax.specs.declared.proc.Proc.{Proc}
 use Rattle.gypsy_syntax.proofs.FitsLaws.{keeps_fits}
 use Rattle.gypsy_syntax.specs.GypsyReading.{KeepsForm}
@@ -22,18 +22,10 @@ use Rattle.gypsy_check.specs.Declarations.{is_among, repeats}
 use Rattle.gypsy_check.specs.Rules.{violations, main_breaches}
 use Rattle.gypsy_check.proofs.CleanLaws.{four}
 use Rattle.gypsy_check.proofs.LookupLaws.{place_cons}
+use Rattle.gypsy_space.proofs.PositionLaws.{position-map}
 use Rattle.gypsy_space.specs.Callees.{names_of}
 
 -- Where a name stands.
-
-position_or_len-map : {X Y : Type 0} (p : Y → Bool) (f : X → Y) (xs : List X) → position_or_len (λ x. p (f x)) xs ≡ position_or_len p (map f xs)
-position_or_len-map p f [] = refl
-position_or_len-map p f (x ∷ xs) = ap (λ (n : ℕ). cond (not (p (f x))) (1 + n) 0) (position_or_len-map p f xs)
-
--- by the names of the items
-pub position-map : {X : Type 0} (name : List ℕ) (key : X → List ℕ) (xs : List X) → position (λ x. bytes_eq name (key x)) xs ≡ place_among name (map key xs)
-unfolding place_among
-position-map name key xs = ap₂ (λ (n l : ℕ). cond (nat_lt n l) (Some n) None) (position_or_len-map (bytes_eq name) key xs) (sym (length-map xs key))
 
 pub names_same : (procs : List Proc) → names_of procs ≡ map (λ (p : ProcOf). p.name.name) (map proc_of procs)
 names_same procs = sym (map-map (λ (p : ProcOf). p.name.name) proc_of procs)
@@ -89,14 +81,6 @@ place_own (x ∷ xs) (suc i) name own lt is =
     place_cons name x xs ∙ (ap (λ (b : Bool). cond b (Some 0) (option_map suc (place_among name xs))) other ∙ ap (option_map suc) (place_own xs i name (IsDistinct-tail bytes_eq x xs own) (omega (arith, lt)) is))
 
 -- The set of the names, one procedure after another.
-
-no_earlier : (names : List (List ℕ)) (i : ℕ) (name : List ℕ) → i < length names → name ≡ get_or names i name → IsDistinct bytes_eq names → list_any (bytes_eq name) (take i names) ≡ false
-no_earlier [] i name lt is own = absurd (omega (arith, lt))
-no_earlier (x ∷ xs) zero name lt is own = refl
-no_earlier (x ∷ xs) (suc i) name lt is own =
-    let apart = apart_from_distinct bytes_eq (x ∷ xs) 0 (suc i) name own (omega arith) lt in
-    let other : bytes_eq x name ≡ false = ap (bytes_eq x) is ∙ apart in
-    rw (bytes_apart x name other) (no_earlier xs i name (omega (arith, lt)) is (IsDistinct-tail bytes_eq x xs own))
 
 name_at : (procs : List Proc) (i : ℕ) (p : Proc) → i < length procs → p ≡ get_or procs i p → p.name.name ≡ get_or (names_of procs) i p.name.name
 name_at [] i p lt is = absurd (omega (arith, lt))

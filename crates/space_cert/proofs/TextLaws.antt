@@ -5,14 +5,14 @@ use Rattle.std.proofs.lemmas.List.{drop_all}
 use Rattle.stack_text.specs.Gives.{Fails}
 use Rattle.stack_text.specs.Results.{◌>>=◌}
 use Rattle.stack_text.specs.Trees.{more}
-use Rattle.stack_text.specs.declared.tree.Tree.{Tree}
+use Rattle.stack_text.specs.declared.tree.TextTree.{TextTree}
 use Rattle.stack_text.specs.Seen.TreeView.{node_of, nodes_of}
 use Rattle.stack_text.proofs.KeepsLaws.{and_true}
 use Rattle.space_cert.specs.CertText.{Fault, three_of, entry_at, with_entries}
 use Rattle.space_cert.specs.Covers.{Bounds}
 use Rattle.space_cert.specs.Bounded.{is_bound, are_bounds}
 
-pub not_three : (trees : List Tree) → length trees ≢ 3 → None ≡ three_of (nodes_of trees)
+pub not_three : (trees : List TextTree) → length trees ≢ 3 → None ≡ three_of (nodes_of trees)
 not_three [] ne = refl
 not_three (a ∷ []) ne = refl
 not_three (a ∷ b ∷ []) ne = refl
@@ -21,14 +21,14 @@ not_three (a ∷ b ∷ c ∷ d ∷ trees) ne = refl
 
 -- Entries one after another.
 
-nodes_at : (trees : List Tree) (i : ℕ) (tree : Tree) → i < length trees → tree ≡ get_or trees i tree → nodes_of (drop i trees) ≡ more (node_of tree) (nodes_of (drop (i + 1) trees))
+nodes_at : (trees : List TextTree) (i : ℕ) (tree : TextTree) → i < length trees → tree ≡ get_or trees i tree → nodes_of (drop i trees) ≡ more (node_of tree) (nodes_of (drop (i + 1) trees))
 nodes_at [] i tree lt e = absurd (omega (arith, lt))
-nodes_at (t ∷ trees) zero tree lt e = ap (λ (x : Tree). more (node_of x) (nodes_of trees)) (sym e)
+nodes_at (t ∷ trees) zero tree lt e = ap (λ (x : TextTree). more (node_of x) (nodes_of trees)) (sym e)
 nodes_at (t ∷ trees) (suc i) tree lt e =
     let count : suc (i + 1) ≡ suc i + 1 = omega arith in
     nodes_at trees i tree (omega (arith, lt)) e ∙ ap (λ j. more (node_of tree) (nodes_of (drop j (t ∷ trees)))) count
 
-module _ (names : List (List ℕ)) (trees : List Tree) (i : ℕ) (tree : Tree) (lt : i < length trees) (is : tree ≡ get_or trees i tree) (bs : Bounds) (all : Result Bounds Fault) (so_far : with_entries names bs (nodes_of (drop i trees)) ≡ all) where
+module _ (names : List (List ℕ)) (trees : List TextTree) (i : ℕ) (tree : TextTree) (lt : i < length trees) (is : tree ≡ get_or trees i tree) (bs : Bounds) (all : Result Bounds Fault) (so_far : with_entries names bs (nodes_of (drop i trees)) ≡ all) where
   pub entry_next : (e : ℕ × (ℕ × ℕ)) → entry_at names bs (node_of tree) ≡ Ok e → with_entries names (set bs e.0 (Some e.1)) (nodes_of (drop (i + 1) trees)) ≡ all
   unfolding with_entries
   entry_next e read =
@@ -40,9 +40,9 @@ module _ (names : List (List ℕ)) (trees : List Tree) (i : ℕ) (tree : Tree) (
   entry_stops (Some fault) h =
       sym so_far ∙ (ap (with_entries names bs) (nodes_at trees i tree lt is) ∙ ap (λ r. r >>= λ e. with_entries names (set bs e.0 (Some e.1)) (nodes_of (drop (i + 1) trees))) h)
 
-pub entries_end : (names : List (List ℕ)) (trees : List Tree) (i : ℕ) (bs : Bounds) (all : Result Bounds Fault) → length trees ≤ i → with_entries names bs (nodes_of (drop i trees)) ≡ all → all ≡ Ok bs
+pub entries_end : (names : List (List ℕ)) (trees : List TextTree) (i : ℕ) (bs : Bounds) (all : Result Bounds Fault) → length trees ≤ i → with_entries names bs (nodes_of (drop i trees)) ≡ all → all ≡ Ok bs
 unfolding with_entries
-entries_end names trees i bs all le so_far = sym so_far ∙ ap (λ (ts : List Tree). with_entries names bs (nodes_of ts)) (drop_all i trees le)
+entries_end names trees i bs all le so_far = sym so_far ∙ ap (λ (ts : List TextTree). with_entries names bs (nodes_of ts)) (drop_all i trees le)
 
 pub none_within : (n : ℕ) → are_bounds (replicate n None) ≡ true
 none_within zero = refl

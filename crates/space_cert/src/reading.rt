@@ -19,7 +19,9 @@ use crate::certifying::bound_of;
 use gypsy_check::Accepted;
 use gypsy_syntax::Proc;
 use indexmap::IndexSet;
-use stack_text::{Memory, Name, TextFault, Tree, is_digits, read_name, read_numeral, read_tree};
+use stack_text::{
+    Memory, Name, TextFault, TextTree, is_digits, read_name, read_numeral, read_text_tree,
+};
 use std::alloc::{AllocError, Global};
 use thiserror::Error;
 
@@ -90,28 +92,30 @@ fn number_of(word: &[u8]) -> Option<u64>
 }
 
 /// The bound that a tree is.
-fn number_at(tree: &Tree) -> Option<u64>
+fn number_at(tree: &TextTree) -> Option<u64>
     ensures exact { result ≡ number_at (node_of tree.now) }
     ensures small { IfSome result (λ n. n ≤ 2 ^ 40) }
 {
     match tree {
-        Tree::Atom { place: _, text } => number_of(text),
-        Tree::List { place: _, items: _ } => None,
+        TextTree::Atom { place: _, text } => number_of(text),
+        TextTree::List { place: _, items: _ } => None,
     }
 }
 
 /// The name that a tree is, if it is one.
-fn name_at(alloc: Global, tree: &Tree) -> Result<Option<Name>, Memory>
+fn name_at(alloc: Global, tree: &TextTree) -> Result<Option<Name>, Memory>
     ensures { memory.Returns (λ name. name) result (name_at (node_of tree.now)) }
 {
     match tree {
-        Tree::Atom { place: _, text } => read_name(alloc, text),
-        Tree::List { place: _, items: _ } => Ok(None),
+        TextTree::Atom { place: _, text } => read_name(alloc, text),
+        TextTree::List { place: _, items: _ } => Ok(None),
     }
 }
 
 /// The trees of a list of three.
-fn three(trees: &[Tree]) -> Option<(&Tree, &Tree, &Tree)>
+fn three<'a, 'b>(
+    trees: &'a [TextTree<'b>],
+) -> Option<(&'a TextTree<'b>, &'a TextTree<'b>, &'a TextTree<'b>)>
     ensures { option_map (λ t. (node_of t.0.now, node_of t.1.now, node_of t.2.now)) result
         ≡ three_of (nodes_of trees.now) }
 {
@@ -167,9 +171,9 @@ fn parts_entry(
     names: &IndexSet<&[u8]>,
     bounds: &[Option<(u64, u64)>],
     place: u32,
-    name: &Tree,
-    temp: &Tree,
-    ctrl: &Tree,
+    name: &TextTree,
+    temp: &TextTree,
+    ctrl: &TextTree,
 ) -> Result<(usize, (u64, u64)), CertTextFault>
     ensures exact { GivesCertificateText (λ e. e) result
         (parts_entry (names_in names.now) bounds.now place (node_of name.now, node_of temp.now, node_of ctrl.now)) }
@@ -200,15 +204,15 @@ fn entry_at(
     alloc: Global,
     names: &IndexSet<&[u8]>,
     bounds: &[Option<(u64, u64)>],
-    tree: &Tree,
+    tree: &TextTree,
 ) -> Result<(usize, (u64, u64)), CertTextFault>
     ensures exact { GivesCertificateText (λ e. e) result (entry_at (names_in names.now) bounds.now (node_of tree.now)) }
     ensures there { IfOk result (λ e. e.0 < length (names_in names.now)) }
     ensures small { IfOk result (λ e. (e.1.0 ≤ 2 ^ 40) × (e.1.1 ≤ 2 ^ 40)) }
 {
     match tree {
-        Tree::Atom { place, text: _ } => Err(refused(1, *place)),
-        Tree::List { place, items } => match three(items) {
+        TextTree::Atom { place, text: _ } => Err(refused(1, *place)),
+        TextTree::List { place, items } => match three(items) {
             None => Err(refused(1, *place)),
             Some((name, temp, ctrl)) => {
                 parts_entry(alloc, names, bounds, *place, name, temp, ctrl)
@@ -221,7 +225,7 @@ fn entry_at(
 fn entries(
     alloc: Global,
     names: &IndexSet<&[u8]>,
-    trees: &[Tree],
+    trees: &[TextTree],
 ) -> Result<Vec<Option<(u64, u64)>>, CertTextFault>
     ensures exact { let names = names_in names.now in
         GivesCertificateText (λ bs. bs.items) result
@@ -241,15 +245,15 @@ fn entries(
 fn certificate_at(
     alloc: Global,
     names: &IndexSet<&[u8]>,
-    tree: &Tree,
+    tree: &TextTree,
 ) -> Result<Certificate, CertTextFault>
     ensures exact { GivesCertificateText (λ c. c.bounds.items) result
         (bounds_at (names_in names.now) (node_of tree.now)) }
     ensures number { IfOk result (λ c. length c.bounds.items ≡ length (names_in names.now)) }
 {
     match tree {
-        Tree::Atom { place, text: _ } => Err(refused(1, *place)),
-        Tree::List { place: _, items } => {
+        TextTree::Atom { place, text: _ } => Err(refused(1, *place)),
+        TextTree::List { place: _, items } => {
             let bounds = entries(alloc, names, items)?;
             Ok(Certificate { bounds })
         }
@@ -267,7 +271,7 @@ fn certificate_in(
     ensures exact { GivesCertificateText (λ c. c.bounds.items) result (bounds_in (names_in names.now) text.now) }
     ensures number { IfOk result (λ c. length c.bounds.items ≡ length (names_in names.now)) }
 {
-    match read_tree(alloc, text) {
+    match read_text_tree(alloc, text) {
         Ok(tree) => certificate_at(alloc, names, &tree),
         Err(TextFault::Fault { rule: _, place }) => Err(refused(1, place)),
         Err(TextFault::Memory) => Err(CertTextFault::Memory),

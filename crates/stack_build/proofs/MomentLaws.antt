@@ -168,7 +168,7 @@ module _ (q : Program) (A : Addresses) (m : Fm) where
       not_none n k e z = omega (arith, e, z)
 
 -- a frame is there
-going : (q : Program) (p : ℕ) (fs : List Frame) (frames : List piton.Frame) → AreActivations q p fs frames → (f : piton.Frame) × (rest : List piton.Frame) × (frames ≡ f ∷ rest)
+pub going : (q : Program) (p : ℕ) (fs : List Frame) (frames : List piton.Frame) → AreActivations q p fs frames → (f : piton.Frame) × (rest : List piton.Frame) × (frames ≡ f ∷ rest)
 going q p fs [] a = absurd (none_active q p fs a)
 going q p fs (f ∷ rest) a = (f, rest, refl)
 

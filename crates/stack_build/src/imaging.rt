@@ -23,7 +23,7 @@ use gypsy_check::Accepted;
 use gypsy_space::{Needs, Program};
 use gypsy_syntax::{Decl, TypeText};
 use piton_check::Checked;
-use piton_linker::{LinkFault, Linked, layout, link};
+use piton_linker::{LinkFault, Linked, layout_behind, link};
 use stack_text::{MOST_ARRAY, Memory, Name, Named, Shape};
 use std::alloc::Global;
 
@@ -135,7 +135,7 @@ pub fn image(
 {
     let (linked, places) = placed_image(alloc, piton)?;
     let source = accepted.source();
-    let parts = layout(piton);
+    let parts = layout_behind(piton, u64::from(linked.final_pc));
     let bottom = parts.end - 1;
     let (procedures, marks) = tables(alloc, accepted, program, needs, &places)?;
     Ok(Image {

@@ -1,5 +1,5 @@
 -- How the open lists change.
-use Rattle.std.proofs.Common.{◌≡◌, ◌≢◌, Vec, Global, ℕ, suc, ◌+◌, ◌<◌, ◌≤◌, List, [], ◌∷◌, ◌++◌, map, length, Option, Some, None, Result, Ok, Err, refl, sym, ap, ◌∙◌, append_assoc, arith}
+use Rattle.std.proofs.Common.{◌≡◌, ◌≢◌, Bor, Vec, Global, ℕ, suc, ◌+◌, ◌<◌, ◌≤◌, List, [], ◌∷◌, ◌++◌, map, length, Option, Some, None, Result, Ok, Err, refl, sym, ap, ◌∙◌, append_assoc, arith}
 use Rattle.std.proofs.lemmas.List.{append-nil, length-set, map_push, take_all, take_more_set}
 use Rattle.std.proofs.Math.Seq.{take-suc}
 use Rattle.std.specs.Prelude.{slice_index_or, slice_set, take}
@@ -10,9 +10,9 @@ use Rattle.stack_text.specs.Seen.TreeView.{nodes, node_of, nodes_of}
 use Rattle.stack_text.specs.TextFaults.{Context, before, within, after, open_lists, after_tree, first_fault, text_fault}
 use Rattle.stack_text.specs.Scaffold.OpenLists.{opened, context_from, context, Puts, Steps, ReadsText, ReturnsAlone}
 use Rattle.stack_text.specs.declared.reader.OpenList.{OpenList}
-use Rattle.stack_text.specs.declared.tree.Tree.{Tree}
-use Rattle.stack_text.specs.declared.tree.Tree.TheBlock.{Atom}
-use Rattle.stack_text.specs.declared.tree.Tree.TheViews.{List as MadeList}
+use Rattle.stack_text.specs.declared.tree.TextTree.{TextTree}
+use Rattle.stack_text.specs.declared.tree.TextTree.TheBlock.{Atom}
+use Rattle.stack_text.specs.declared.tree.TextTree.TheViews.{List as MadeList}
 use Rattle.stack_text.specs.declared.text_fault.TextFault.{TextFault}
 use Rattle.stack_text.specs.declared.text_fault.TextFault.TheVariants.{Fault, Memory}
 use Rattle.stack_text.specs.declared.text_fault.TextRule.TheVariants.{G2, G4}
@@ -32,15 +32,15 @@ pub tokens_of_all-push : (ts : List Node) (t : Node) → tokens_of_all (nodes (t
 tokens_of_all-push [] t = append-nil (tokens_of t)
 tokens_of_all-push (x ∷ ts) t = ap (λ (us : List Token). tokens_of x ++ us) (tokens_of_all-push ts t) ∙ sym (append_assoc (tokens_of x) (tokens_of_all (nodes ts)) (tokens_of t))
 
-pub tokens_of_all-nodes_of-push : (ts : List Tree) (t : Tree) → tokens_of_all (nodes_of (ts ++ t ∷ [])) ≡ tokens_of_all (nodes_of ts) ++ tokens_of (node_of t)
+pub tokens_of_all-nodes_of-push : (ts : List TextTree) (t : TextTree) → tokens_of_all (nodes_of (ts ++ t ∷ [])) ≡ tokens_of_all (nodes_of ts) ++ tokens_of (node_of t)
 tokens_of_all-nodes_of-push ts t = ap (λ (us : List Node). tokens_of_all (nodes us)) (map_push node_of ts t) ∙ tokens_of_all-push (map node_of ts) (node_of t)
 
-puts : (old rest new : List OpenList) (o p : OpenList) (t : Tree) → old ≡ rest ++ o ∷ [] → new ≡ rest ++ p ∷ [] → p.place ≡ o.place → p.items.items ≡ o.items.items ++ t ∷ [] →
+puts : (old rest new : List OpenList) (o p : OpenList) (t : TextTree) → old ≡ rest ++ o ∷ [] → new ≡ rest ++ p ∷ [] → p.place ≡ o.place → p.items.items ≡ o.items.items ++ t ∷ [] →
     (opened new ≡ opened old ++ tokens_of (node_of t)) × (context new ≡ after_tree (context old))
 puts old rest new o p t old_is new_is place_is items_is = (
   ap opened new_is ∙ opened-push rest p
       ∙ ap (λ (q : ℕ). opened rest ++ (opens_at q ∷ tokens_of_all (nodes_of p.items.items))) place_is
-      ∙ ap (λ (ts : List Tree). opened rest ++ (opens_at o.place ∷ tokens_of_all (nodes_of ts))) items_is
+      ∙ ap (λ (ts : List TextTree). opened rest ++ (opens_at o.place ∷ tokens_of_all (nodes_of ts))) items_is
       ∙ ap (λ (ts : List Token). opened rest ++ (opens_at o.place ∷ ts)) (tokens_of_all-nodes_of-push o.items.items t)
       ∙ sym (append_assoc (opened rest) (opens_at o.place ∷ tokens_of_all (nodes_of o.items.items)) (tokens_of (node_of t)))
       ∙ ap (λ (ts : List Token). ts ++ tokens_of (node_of t)) (sym (opened-push rest o) ∙ sym (ap opened old_is)),
@@ -49,7 +49,7 @@ puts old rest new o p t old_is new_is place_is items_is = (
 )
 
 -- the innermost list grows in its place
-pub puts_in_place : (old : List OpenList) (at : ℕ) (o p : OpenList) (t : Tree) → at + 1 ≡ length old → o ≡ slice_index_or old at o → p.place ≡ o.place → p.items.items ≡ o.items.items ++ t ∷ [] →
+pub puts_in_place : (old : List OpenList) (at : ℕ) (o p : OpenList) (t : TextTree) → at + 1 ≡ length old → o ≡ slice_index_or old at o → p.place ≡ o.place → p.items.items ≡ o.items.items ++ t ∷ [] →
     (opened (slice_set old at p) ≡ opened old ++ tokens_of (node_of t)) × (context (slice_set old at p) ≡ after_tree (context old))
 puts_in_place old at o p t end found place_is items_is = puts old (take at old) (slice_set old at p) o p t old_is new_is place_is items_is
   where
@@ -86,19 +86,19 @@ fault-deep after p end ts le = absurd (omega arith)
 
 -- ---- the steps
 
-steps_put : (old rest new : List OpenList) (tok : Token) (t : Tree) (r : Result (Option Tree) TextFault) → Puts rest t r new → opened old ++ as_kept tok ∷ [] ≡ opened rest ++ tokens_of (node_of t) →
+steps_put : (old rest new : List OpenList) (tok : Token) (t : TextTree) (r : Result (Option TextTree) TextFault) → Puts rest t r new → opened old ++ as_kept tok ∷ [] ≡ opened rest ++ tokens_of (node_of t) →
     ((end : ℕ) (ts : List Token) → first_fault end (context old) (tok ∷ ts) ≡ first_fault end (after_tree (context rest)) ts) → Steps old tok r new
 steps_put old rest new tok t (Ok None) h e f = (e ∙ sym h.0, λ end ts. f end ts ∙ ap (λ (s : Context). first_fault end s ts) (sym h.1))
 steps_put old rest new tok t (Ok (Some u)) h e f =
-    (e ∙ ap (λ (os : List OpenList). opened os ++ tokens_of (node_of t)) h.0 ∙ ap (λ (x : Tree). tokens_of (node_of x)) (sym h.1), λ end ts. f end ts ∙ ap (λ (os : List OpenList). first_fault end (after_tree (context os)) ts) h.0)
+    (e ∙ ap (λ (os : List OpenList). opened os ++ tokens_of (node_of t)) h.0 ∙ ap (λ (x : TextTree). tokens_of (node_of x)) (sym h.1), λ end ts. f end ts ∙ ap (λ (os : List OpenList). first_fault end (after_tree (context os)) ts) h.0)
 steps_put old rest new tok t (Err (Fault r p)) h e f = absurd h
 steps_put old rest new tok t (Err Memory) h e f = tt
 
-pub steps_atom : (old new : List OpenList) (p : ℕ) (w : List ℕ) (v : Vec ℕ Global) (r : Result (Option Tree) TextFault) → v.items ≡ w → Puts old (Atom p v) r new → Steps old (atom_at p w) r new
+pub steps_atom : (old new : List OpenList) (p : ℕ) (w : List ℕ) (v : Bor (List ℕ)) (r : Result (Option TextTree) TextFault) → v.now ≡ w → Puts old (Atom p v) r new → Steps old (atom_at p w) r new
 steps_atom old new p w v r is h =
     steps_put old old new (atom_at p w) (Atom p v) r h (ap (λ (x : List ℕ). opened old ++ atom_at p x ∷ []) (sym is) ∙ ap (λ (n : Node). opened old ++ tokens_of n) (sym (node_of-atom p v))) (λ end ts. fault-atom_at (context old) p w end ts (never_after before old (λ e. cc)))
 
-pub steps_close : (old rest new : List OpenList) (o : OpenList) (q : ℕ) (r : Result (Option Tree) TextFault) → old ≡ rest ++ o ∷ [] → Puts rest (MadeList o.place o.items) r new → Steps old (closes_at q) r new
+pub steps_close : (old rest new : List OpenList) (o : OpenList) (q : ℕ) (r : Result (Option TextTree) TextFault) → old ≡ rest ++ o ∷ [] → Puts rest (MadeList o.place o.items) r new → Steps old (closes_at q) r new
 steps_close old rest new o q r is h =
     steps_put old rest new (closes_at q) (MadeList o.place o.items) r h
     (ap (λ (os : List OpenList). opened os ++ closes_at 0 ∷ []) is ∙ ap (λ (ts : List Token). ts ++ closes_at 0 ∷ []) (opened-push rest o)
@@ -106,9 +106,9 @@ steps_close old rest new o q r is h =
     ∙ ap (λ (n : Node). opened rest ++ tokens_of n) (sym (node_of-list o.place o.items)))
     (λ end ts. ap (λ (s : Context). first_fault end s (closes_at q ∷ ts)) (ap context is ∙ context_from-push before rest o))
 
-pub steps_open : (old new : List OpenList) (p : ℕ) (v : Vec Tree Global) → v.items ≡ [] → length old < 200 → new ≡ old ++ record { place = p; items = v } ∷ [] → Steps old (opens_at p) (Ok None) new
+pub steps_open : (old new : List OpenList) (p : ℕ) (v : Vec TextTree Global) → v.items ≡ [] → length old < 200 → new ≡ old ++ record { place = p; items = v } ∷ [] → Steps old (opens_at p) (Ok None) new
 steps_open old new p v none_yet lt is = (
-  sym (ap opened is ∙ opened-push old (record { place = p; items = v }) ∙ ap (λ (ts : List Tree). opened old ++ (opens_at p ∷ tokens_of_all (nodes_of ts))) none_yet),
+  sym (ap opened is ∙ opened-push old (record { place = p; items = v }) ∙ ap (λ (ts : List TextTree). opened old ++ (opens_at p ∷ tokens_of_all (nodes_of ts))) none_yet),
   λ end ts. fault-open (context old) p end ts (never_after before old (λ e. cc)) (omega (arith, open_lists-context_from before old))
       ∙ ap (λ (s : Context). first_fault end s ts) (sym (ap context is ∙ context_from-push before old (record { place = p; items = v }))),
 )
@@ -118,15 +118,15 @@ steps_deep old new p le = λ end ts. fault-deep (context old) p end ts (omega (a
 
 -- ---- what a step says of the whole text
 
-pub text_ends : (text : List ℕ) (old new : List OpenList) (tok : Token) (e : TextFault) (ts : List Token) → Steps old tok (Err e) new → text_fault text ≡ first_fault (length text) (context old) (tok ∷ ts) → ReadsText text (Err e)
+pub text_ends : (text : List ℕ) (old new : List OpenList) (tok : Token) (e : TextFault) (ts : List Token) → Steps old tok (Err e) new → text_fault text ≡ first_fault (length text) (context old) (tok ∷ ts) → ReadsText node_of text (Err e)
 text_ends text old new tok (Fault r p) ts h is = is ∙ h (length text) ts
 text_ends text old new tok Memory ts h is = tt
 
-pub text_finishes : (text : List ℕ) (old new : List OpenList) (tok : Token) (t : Tree) (ts : List Token) (r : Result Tree TextFault) → Steps old tok (Ok (Some t)) new → ReturnsAlone (length text) t ts r →
-    map as_kept (tokens between 0 text) ≡ opened old ++ map as_kept (tok ∷ ts) → text_fault text ≡ first_fault (length text) (context old) (tok ∷ ts) → ReadsText text r
+pub text_finishes : (text : List ℕ) (old new : List OpenList) (tok : Token) (t : TextTree) (ts : List Token) (r : Result TextTree TextFault) → Steps old tok (Ok (Some t)) new → ReturnsAlone (length text) t ts r →
+    map as_kept (tokens between 0 text) ≡ opened old ++ map as_kept (tok ∷ ts) → text_fault text ≡ first_fault (length text) (context old) (tok ∷ ts) → ReadsText node_of text r
 text_finishes text old new tok t ts (Ok u) h f kept_is fault_is = (
   fault_is ∙ h.1 (length text) ts ∙ ap (λ (us : List Token). first_fault (length text) after us) f.0,
-  kept_is ∙ ap (λ (us : List Token). opened old ++ map as_kept (tok ∷ us)) f.0 ∙ h.0 ∙ ap (λ (x : Tree). tokens_of (node_of x)) (sym f.1),
+  kept_is ∙ ap (λ (us : List Token). opened old ++ map as_kept (tok ∷ us)) f.0 ∙ h.0 ∙ ap (λ (x : TextTree). tokens_of (node_of x)) (sym f.1),
 )
 text_finishes text old new tok t ts (Err (Fault r p)) h f kept_is fault_is = fault_is ∙ h.1 (length text) ts ∙ f
 text_finishes text old new tok t ts (Err Memory) h f kept_is fault_is = absurd f

@@ -3,7 +3,7 @@ use Rattle.std.proofs.Common.{◌≡◌, ℕ, ◌+◌, ◌<◌, ◌≤◌, List,
 use Rattle.std.proofs.lemmas.List.{drop_all}
 use Rattle.stack_text.specs.Trees.{Node, Nodes, more}
 use Rattle.stack_text.specs.Seen.TreeView.{node_of, nodes_of}
-use Rattle.stack_text.specs.declared.tree.Tree.{Tree}
+use Rattle.stack_text.specs.declared.tree.TextTree.{TextTree}
 use Rattle.stack_text.specs.declared.grammar.fault.FormFault.{FormFault}
 use Rattle.stack_text.specs.declared.grammar.fault.FormFault.TheVariants.{Form, Memory}
 use Rattle.stack_text.proofs.Loops.{drop-item}
@@ -56,15 +56,15 @@ fault_with_front : {X : Type 0} → (e : FormFault) (xs : List X) (r : Judged (L
 fault_with_front (Form rule place) xs r h = (h.0, rw h.1 refl)
 fault_with_front Memory xs r h = tt
 
-module _ {X : Type 0} (judge : Node → Judged X) (xs : List X) (i : ℕ) (trees : List Tree) (so_far : with_front xs (each_of judge (nodes_of (drop i trees))) ≡ each_of judge (nodes_of trees)) where
-  pub part_read : (t : Tree) (x : X) → i < length trees → t ≡ get_or trees i t → judge (node_of t) ≡ Ok x
+module _ {X : Type 0} (judge : Node → Judged X) (xs : List X) (i : ℕ) (trees : List TextTree) (so_far : with_front xs (each_of judge (nodes_of (drop i trees))) ≡ each_of judge (nodes_of trees)) where
+  pub part_read : (t : TextTree) (x : X) → i < length trees → t ≡ get_or trees i t → judge (node_of t) ≡ Ok x
       → with_front (xs ++ x ∷ []) (each_of judge (nodes_of (drop (i + 1) trees))) ≡ each_of judge (nodes_of trees)
   part_read t x lt is e =
       sym (with_front-with_front xs (x ∷ []) (each_of judge (nodes_of (drop (i + 1) trees))))
       ∙ ap (with_front xs) (sym (one_more judge (node_of t) (nodes_of (drop (i + 1) trees)) x e))
       ∙ ap (λ ts. with_front xs (each_of judge (nodes_of ts))) (sym (drop-item trees i t lt is)) ∙ so_far
 
-  pub part_fails : (e : FormFault) (t : Tree) → i < length trees → t ≡ get_or trees i t → IsFirstFault e (judge (node_of t)) → IsFirstFault e (each_of judge (nodes_of trees))
+  pub part_fails : (e : FormFault) (t : TextTree) → i < length trees → t ≡ get_or trees i t → IsFirstFault e (judge (node_of t)) → IsFirstFault e (each_of judge (nodes_of trees))
   part_fails e t lt is h =
       subst (IsFirstFault e) so_far
       (fault_with_front e xs (each_of judge (nodes_of (drop i trees)))

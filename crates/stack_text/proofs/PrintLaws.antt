@@ -4,12 +4,12 @@ use Rattle.std.specs.Prelude.{Bool, true, false, if◌then◌else◌}
 use Rattle.std.proofs.lemmas.List.{append-nil, map_push, take_more, length-take, length-map, take_all}
 use Rattle.std.proofs.lemmas.Bool.{ne_eqb}
 use Rattle.stack_text.specs.Trees.{Node, Nodes, atom, list, none, more, IsWellFormed, ReadsAs}
-use Rattle.stack_text.specs.Seen.TreeView.{nodes, node_of, nodes_of}
+use Rattle.stack_text.specs.Seen.TreeView.{nodes, owned_node, owned_nodes}
 use Rattle.stack_text.specs.TreeText.{tree_text, items_text, spaced_text}
 use Rattle.stack_text.specs.Scaffold.Spellings.{Spells, SpellsAll, SpellsRest}
 use Rattle.stack_text.specs.declared.tree.Tree.{Tree}
 use Rattle.stack_text.specs.declared.tree.Tree.TheViews.{List as MadeList}
-use Rattle.stack_text.proofs.TreeViewLaws.{node_of-list}
+use Rattle.stack_text.proofs.TreeViewLaws.{owned_node-list}
 use Rattle.stack_text.proofs.SpellingLaws.{spelled_is_read}
 
 -- ---- printing in a loop
@@ -22,28 +22,28 @@ items_text-push : (ts : List Node) (t : Node) → items_text (nodes (ts ++ t ∷
 items_text-push [] t = append-nil (tree_text t)
 items_text-push (x ∷ ts) t = rw (ne_eqb (suc (length ts)) 0 (λ e. omega arith)) (ap (λ (w : List ℕ). tree_text x ++ w) (spaced_text-push ts t) ∙ sym (append_assoc (tree_text x) (spaced_text (nodes ts)) (32 ∷ tree_text t)) ∙ sym (append_assoc (tree_text x ++ spaced_text (nodes ts)) (32 ∷ []) (tree_text t)))
 
-pub items_text-nodes_of-more : (ts : List Tree) (i : ℕ) (t : Tree) → i < length ts → t ≡ get_or ts i t → items_text (nodes_of (take (i + 1) ts)) ≡ (items_text (nodes_of (take i ts)) ++ cond (eqb i 0) [] (32 ∷ [])) ++ tree_text (node_of t)
-items_text-nodes_of-more ts i t lt is =
-    let long : length (map node_of (take i ts)) ≡ i = omega (arith, length-map (take i ts) node_of, length-take i ts) in
-    ap (λ (us : List Tree). items_text (nodes_of us)) (take_more ts i t lt ∙ ap (λ (u : Tree). take i ts ++ u ∷ []) (sym is))
-    ∙ ap (λ (us : List Node). items_text (nodes us)) (map_push node_of (take i ts) t)
-    ∙ items_text-push (map node_of (take i ts)) (node_of t)
-    ∙ ap (λ (n : ℕ). (items_text (nodes_of (take i ts)) ++ cond (eqb n 0) [] (32 ∷ [])) ++ tree_text (node_of t)) long
+pub items_text-owned_nodes-more : (ts : List Tree) (i : ℕ) (t : Tree) → i < length ts → t ≡ get_or ts i t → items_text (owned_nodes (take (i + 1) ts)) ≡ (items_text (owned_nodes (take i ts)) ++ cond (eqb i 0) [] (32 ∷ [])) ++ tree_text (owned_node t)
+items_text-owned_nodes-more ts i t lt is =
+    let long : length (map owned_node (take i ts)) ≡ i = omega (arith, length-map (take i ts) owned_node, length-take i ts) in
+    ap (λ (us : List Tree). items_text (owned_nodes us)) (take_more ts i t lt ∙ ap (λ (u : Tree). take i ts ++ u ∷ []) (sym is))
+    ∙ ap (λ (us : List Node). items_text (nodes us)) (map_push owned_node (take i ts) t)
+    ∙ items_text-push (map owned_node (take i ts)) (owned_node t)
+    ∙ ap (λ (n : ℕ). (items_text (owned_nodes (take i ts)) ++ cond (eqb n 0) [] (32 ∷ [])) ++ tree_text (owned_node t)) long
 
 pub printed_more : (old out apart new : List ℕ) (ts : List Tree) (i : ℕ) (t : Tree) → i < length ts → t ≡ get_or ts i t →
-    out ≡ old ++ 40 ∷ items_text (nodes_of (take i ts)) → apart ≡ out ++ cond (eqb i 0) [] (32 ∷ []) → new ≡ apart ++ tree_text (node_of t) → new ≡ old ++ 40 ∷ items_text (nodes_of (take (i + 1) ts))
+    out ≡ old ++ 40 ∷ items_text (owned_nodes (take i ts)) → apart ≡ out ++ cond (eqb i 0) [] (32 ∷ []) → new ≡ apart ++ tree_text (owned_node t) → new ≡ old ++ 40 ∷ items_text (owned_nodes (take (i + 1) ts))
 printed_more old out apart new ts i t lt is out_is apart_is new_is =
-    new_is ∙ ap (λ (w : List ℕ). w ++ tree_text (node_of t)) (apart_is ∙ ap (λ (w : List ℕ). w ++ cond (eqb i 0) [] (32 ∷ [])) out_is)
-    ∙ ap (λ (w : List ℕ). w ++ tree_text (node_of t)) (append_assoc old (40 ∷ items_text (nodes_of (take i ts))) (cond (eqb i 0) [] (32 ∷ [])))
-    ∙ append_assoc old (40 ∷ (items_text (nodes_of (take i ts)) ++ cond (eqb i 0) [] (32 ∷ []))) (tree_text (node_of t))
-    ∙ ap (λ (w : List ℕ). old ++ 40 ∷ w) (sym (items_text-nodes_of-more ts i t lt is))
+    new_is ∙ ap (λ (w : List ℕ). w ++ tree_text (owned_node t)) (apart_is ∙ ap (λ (w : List ℕ). w ++ cond (eqb i 0) [] (32 ∷ [])) out_is)
+    ∙ ap (λ (w : List ℕ). w ++ tree_text (owned_node t)) (append_assoc old (40 ∷ items_text (owned_nodes (take i ts))) (cond (eqb i 0) [] (32 ∷ [])))
+    ∙ append_assoc old (40 ∷ (items_text (owned_nodes (take i ts)) ++ cond (eqb i 0) [] (32 ∷ []))) (tree_text (owned_node t))
+    ∙ ap (λ (w : List ℕ). old ++ 40 ∷ w) (sym (items_text-owned_nodes-more ts i t lt is))
 
 pub printed_all : (old out new : List ℕ) (p : ℕ) (v : Vec Tree Global) (t : Tree) (i : ℕ) → length v.items ≤ i → t ≡ MadeList p v →
-    out ≡ old ++ 40 ∷ items_text (nodes_of (take i v.items)) → new ≡ out ++ 41 ∷ [] → new ≡ old ++ tree_text (node_of t)
+    out ≡ old ++ 40 ∷ items_text (owned_nodes (take i v.items)) → new ≡ out ++ 41 ∷ [] → new ≡ old ++ tree_text (owned_node t)
 printed_all old out new p v t i le is out_is new_is =
-    new_is ∙ ap (λ (w : List ℕ). w ++ 41 ∷ []) (out_is ∙ ap (λ (us : List Tree). old ++ 40 ∷ items_text (nodes_of us)) (take_all i v.items le))
-    ∙ append_assoc old (40 ∷ items_text (nodes_of v.items)) (41 ∷ [])
-    ∙ ap (λ (n : Node). old ++ tree_text n) (sym (ap node_of is ∙ node_of-list p v))
+    new_is ∙ ap (λ (w : List ℕ). w ++ 41 ∷ []) (out_is ∙ ap (λ (us : List Tree). old ++ 40 ∷ items_text (owned_nodes us)) (take_all i v.items le))
+    ∙ append_assoc old (40 ∷ items_text (owned_nodes v.items)) (41 ∷ [])
+    ∙ ap (λ (n : Node). old ++ tree_text n) (sym (ap owned_node is ∙ owned_node-list p v))
 
 -- ---- reading what was printed
 

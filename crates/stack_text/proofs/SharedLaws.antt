@@ -1,10 +1,11 @@
 -- Lemmas on truth values, options, lists, names and kinds that several crates need.
-use Rattle.std.proofs.Common.{◌≡◌, Bool, true, false, refl, ◌&&◌, not, ℕ, [], Option, Some, None, is_none, List, ◌∷◌, ◌++◌, ◌+◌, ap, ◌∙◌, zero, suc, ◌<◌, length, arith, slice_get, map, get_or, ◌-◌, reverse, ℤ, pos, append_assoc, sym, Bor, ◌||◌, ◌≤◌}
+use Rattle.std.proofs.Common.{◌≡◌, Bool, true, false, refl, ◌&&◌, not, ℕ, [], Option, Some, None, is_none, List, ◌∷◌, ◌++◌, ◌+◌, ap, ◌∙◌, zero, suc, ◌<◌, length, arith, slice_get, map, get_or, take, ◌-◌, reverse, ℤ, pos, append_assoc, sym, Bor, ◌||◌, ◌≤◌}
 use Rattle.std.specs.Prelude.{nat_le}
 use Rattle.std.proofs.lemmas.List.{reverse-append, map-append}
 use Rattle.std.specs.Str.{bytes_eq}
 use Rattle.std.proofs.lemmas.Slice.Eq.{bytes_eq-Decides}
-use Rattle.std.specs.List.{list_any, list_all}
+use Rattle.std.specs.List.{list_any, list_all, IsDistinct}
+use Rattle.std.proofs.lemmas.Map.Keys.{IsDistinct-tail, apart_from_distinct}
 use Rattle.std.proofs.lemmas.Bool.{and_parts, leb-true}
 use Rattle.stack_text.specs.Breaches.{when}
 use Rattle.stack_text.specs.Names.{is_name, begins_with_letter, is_name_byte, is_truth_word}
@@ -115,6 +116,15 @@ bytes_apart xs ys ne = by_test (bytes_eq ys xs) refl
 pub any_now : (name : List ℕ) (keys : List (Bor (List ℕ))) → list_any (λ key. bytes_eq name key.now) keys ≡ list_any (bytes_eq name) (map (λ key. key.now) keys)
 any_now name [] = refl
 any_now name (key ∷ keys) = ap (λ (b : Bool). bytes_eq name key.now || b) (any_now name keys)
+
+-- a name among names that differ stands for the first time
+pub no_earlier : (names : List (List ℕ)) (i : ℕ) (name : List ℕ) → i < length names → name ≡ get_or names i name → IsDistinct bytes_eq names → list_any (bytes_eq name) (take i names) ≡ false
+no_earlier [] i name lt is own = absurd (omega arith)
+no_earlier (x ∷ xs) zero name lt is own = refl
+no_earlier (x ∷ xs) (suc i) name lt is own =
+    let apart = apart_from_distinct bytes_eq (x ∷ xs) 0 (suc i) name own (omega arith) lt in
+    let other : bytes_eq x name ≡ false = ap (bytes_eq x) is ∙ apart in
+    rw (bytes_apart x name other) (no_earlier xs i name (omega arith) is (IsDistinct-tail bytes_eq x xs own))
 
 pub name_few : (name : List ℕ) → is_name name ≡ true → length name ≤ 64
 name_few name h =

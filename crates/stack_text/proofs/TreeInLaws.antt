@@ -3,10 +3,8 @@ use Rattle.std.proofs.Common.{◌≡◌, ℕ, List, [], ◌∷◌, ◌++◌, map
 use Rattle.std.proofs.lemmas.List.{append-nil}
 use Rattle.stack_text.specs.declared.text_fault.TextFault.{TextFault}
 use Rattle.stack_text.specs.declared.text_fault.TextFault.TheVariants.{Fault, Memory}
-use Rattle.stack_text.specs.declared.tree.Tree.{Tree}
 use Rattle.stack_text.specs.Tokens.{Token, opens_at, closes_at, atom_at, invalid_at, between, tokens}
 use Rattle.stack_text.specs.Trees.{Node, Nodes, atom, list, none, more, tokens_of, tokens_of_all, as_kept, TreeOf}
-use Rattle.stack_text.specs.Seen.TreeView.{node_of}
 use Rattle.stack_text.specs.Scaffold.OpenLists.{ReadsText}
 use Rattle.stack_text.proofs.TreeLaws.{tree_has_no_fault}
 use Rattle.stack_text.specs.TreeIn.{in_front, as_item, items_of, first_item, tree_in, GivesTree}
@@ -53,8 +51,8 @@ pub tree_in-TreeOf : (text : List ℕ) (t : Node) → TreeOf text t → tree_in 
 unfolding tree_in
 tree_in-TreeOf text t h = rw (tree_has_no_fault text t h) (ap (λ (u : Node). Ok u) (tree_in-tokens text t h.tokens_are))
 
-pub gives_tree : (text : List ℕ) (result : Result Tree TextFault) → ReadsText text result → GivesTree result (tree_in text)
+pub gives_tree : {T : Type 0} (seen : T → Node) (text : List ℕ) (result : Result T TextFault) → ReadsText seen text result → GivesTree seen result (tree_in text)
 unfolding tree_in
-gives_tree text (Ok t) h = rw h.0 (ap (λ (u : Node). Ok u) (tree_in-tokens text (node_of t) h.1))
-gives_tree text (Err (Fault rule place)) h = rw h refl
-gives_tree text (Err Memory) h = tt
+gives_tree seen text (Ok t) h = rw h.0 (ap (λ (u : Node). Ok u) (tree_in-tokens text (seen t) h.1))
+gives_tree seen text (Err (Fault rule place)) h = rw h refl
+gives_tree seen text (Err Memory) h = tt

@@ -7,8 +7,6 @@ use Rattle.stack_text.specs.Tokens.{Token, opens_at, closes_at, atom_at, invalid
 use Rattle.stack_text.specs.Trees.{Node, Nodes, atom, list, none, more, tokens_of, tokens_of_all, depth, depths, as_kept, TreeOf}
 use Rattle.stack_text.specs.TextFaults.{Context, before, within, after, open_lists, after_tree, first_fault, text_fault, ReportsFault}
 use Rattle.stack_text.specs.Scaffold.OpenLists.{ReadsText}
-use Rattle.stack_text.specs.Seen.TreeView.{node_of}
-use Rattle.stack_text.specs.declared.tree.Tree.{Tree}
 use Rattle.stack_text.specs.declared.text_fault.TextRule.{TextRule}
 use Rattle.stack_text.specs.declared.text_fault.TextRule.TheVariants.{G4}
 use Rattle.stack_text.specs.declared.text_fault.TextFault.{TextFault}
@@ -128,23 +126,24 @@ tree_from_no_fault text t none_is tokens_is =
 pub one_tree : (text : List ℕ) (t u : Node) → TreeOf text t → TreeOf text u → t ≡ u
 one_tree text t u h k = (tokens_of-determines t u [] [] (append-nil (tokens_of t) ∙ sym h.tokens_are ∙ k.tokens_are ∙ sym (append-nil (tokens_of u)))).0
 
--- ---- the clauses of `read_tree`
+-- ---- the clauses of `read_tree`, by what clauses see of a tree
 
-pub is_found : (text : List ℕ) (r : Result Tree TextFault) → ReadsText text r → IfOk r (λ t. TreeOf text (node_of t))
-is_found text (Ok t) h = tree_from_no_fault text (node_of t) h.0 h.1
-is_found text (Err e) h = tt
+module _ {T : Type 0} (seen : T → Node) (text : List ℕ) where
+  pub is_found : (r : Result T TextFault) → ReadsText seen text r → IfOk r (λ t. TreeOf text (seen t))
+  is_found (Ok t) h = tree_from_no_fault text (seen t) h.0 h.1
+  is_found (Err e) h = tt
 
-pub is_only : (text : List ℕ) (r : Result Tree TextFault) → ReadsText text r → (t : Node) → TreeOf text t → MatchResult r (λ u. node_of u ≡ t) (λ e. e ≡ Memory)
-is_only text (Ok u) h t of = one_tree text (node_of u) t (tree_from_no_fault text (node_of u) h.0 h.1) of
-is_only text (Err (Fault r p)) h t of = let e = tree_has_no_fault text t of in absurd cc
-is_only text (Err Memory) h t of = refl
+  pub is_only : (r : Result T TextFault) → ReadsText seen text r → (t : Node) → TreeOf text t → MatchResult r (λ u. seen u ≡ t) (λ e. e ≡ Memory)
+  is_only (Ok u) h t of = one_tree text (seen u) t (tree_from_no_fault text (seen u) h.0 h.1) of
+  is_only (Err (Fault r p)) h t of = let e = tree_has_no_fault text t of in absurd cc
+  is_only (Err Memory) h t of = refl
 
--- what holds of each tree of a text holds of what is read
-pub is_kept : (P : Node → Type 0) (text : List ℕ) (r : Result Tree TextFault) → ReadsText text r → ((t : Node) → TreeOf text t → P t) → IfOk r (λ t. P (node_of t))
-is_kept P text (Ok t) h k = k (node_of t) (tree_from_no_fault text (node_of t) h.0 h.1)
-is_kept P text (Err e) h k = tt
+  -- what holds of each tree of a text holds of what is read
+  pub is_kept : (P : Node → Type 0) (r : Result T TextFault) → ReadsText seen text r → ((t : Node) → TreeOf text t → P t) → IfOk r (λ t. P (seen t))
+  is_kept P (Ok t) h k = k (seen t) (tree_from_no_fault text (seen t) h.0 h.1)
+  is_kept P (Err e) h k = tt
 
-pub reports_fault : (text : List ℕ) (r : Result Tree TextFault) → ReadsText text r → ReportsFault text r
-reports_fault text (Ok t) h = h.0
-reports_fault text (Err (Fault r p)) h = h
-reports_fault text (Err Memory) h = tt
+  pub reports_fault : (r : Result T TextFault) → ReadsText seen text r → ReportsFault text r
+  reports_fault (Ok t) h = h.0
+  reports_fault (Err (Fault r p)) h = h
+  reports_fault (Err Memory) h = tt

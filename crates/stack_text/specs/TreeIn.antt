@@ -4,11 +4,9 @@ use Rattle.stack_text.specs.Results.{unless_fault}
 use Rattle.stack_text.specs.declared.text_fault.TextRule.{TextRule}
 use Rattle.stack_text.specs.declared.text_fault.TextFault.{TextFault}
 use Rattle.stack_text.specs.declared.text_fault.TextFault.TheVariants.{Fault, Memory}
-use Rattle.stack_text.specs.declared.tree.Tree.{Tree}
 use Rattle.stack_text.specs.Gives.{Gives}
 use Rattle.stack_text.specs.Tokens.{Token, opens_at, closes_at, atom_at, invalid_at, between, tokens}
 use Rattle.stack_text.specs.Trees.{Node, Nodes, atom, list, none, more}
-use Rattle.stack_text.specs.Seen.TreeView.{node_of}
 use Rattle.stack_text.specs.TextFaults.{text_fault}
 
 -- a tree put in front of the items of the innermost list
@@ -42,6 +40,6 @@ abbrev pub fault_of : TextFault → Option (TextRule × ℕ)
 fault_of (Fault rule place) = Some (rule, place)
 fault_of Memory = None
 
--- what reading a text gives, by that function; out of memory alone is free
-abbrev pub GivesTree : Result Tree TextFault → Result Node (TextRule × ℕ) → Type 0
-GivesTree result value = Gives fault_of node_of result value
+-- what reading a text gives, by that function, where `seen` is what clauses see of a tree; out of memory alone is free
+abbrev pub GivesTree : {T : Type 0} → (T → Node) → Result T TextFault → Result Node (TextRule × ℕ) → Type 0
+GivesTree seen result value = Gives fault_of seen result value

@@ -3,7 +3,7 @@
 ghost use Rattle.std.specs.Prelude.{◌≡◌, ◌++◌, ◌==◌, ◌∷◌, [], if◌then◌else◌, OnOk, IfOk};
 ghost use Rattle.stack_text.specs.Trees.{IsWellFormed, ReadsAs};
 ghost use Rattle.stack_text.specs.TreeText.{tree_text};
-ghost use Rattle.stack_text.specs.Seen.TreeView.{node_of};
+ghost use Rattle.stack_text.specs.Seen.TreeView.{owned_node};
 
 use crate::memory::Memory;
 use crate::tree::Tree;
@@ -21,7 +21,7 @@ pub fn separate(out: &mut Vec<u8>, index: usize) -> Result<(), Memory>
 
 /// Appends the tree's text.
 fn print_into(out: &mut Vec<u8>, tree: &Tree) -> Result<(), Memory>
-    ensures { OnOk result (out.new.items ≡ out.old.items ++ tree_text (node_of tree.now)) }
+    ensures { OnOk result (out.new.items ≡ out.old.items ++ tree_text (owned_node tree.now)) }
 {
     match tree {
         Tree::Atom { place: _, text } => {
@@ -47,9 +47,9 @@ fn print_into(out: &mut Vec<u8>, tree: &Tree) -> Result<(), Memory>
 /// in place of some spaces rest on the law `spelled_is_read` of `proofs/SpellingLaws.antt`, which holds for any
 /// separators.
 pub fn print_tree(alloc: Global, tree: &Tree) -> Result<Vec<u8>, Memory>
-    requires { IsWellFormed (node_of tree.now) }
-    ensures exact { IfOk result (λ text. text.items ≡ tree_text (node_of tree.now)) }
-    ensures again { IfOk result (λ text. ReadsAs text.items (node_of tree.now)) }
+    requires { IsWellFormed (owned_node tree.now) }
+    ensures exact { IfOk result (λ text. text.items ≡ tree_text (owned_node tree.now)) }
+    ensures again { IfOk result (λ text. ReadsAs text.items (owned_node tree.now)) }
 {
     let mut out = Vec::new(alloc);
     print_into(&mut out, tree)?;

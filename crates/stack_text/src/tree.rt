@@ -1,6 +1,12 @@
 //! Trees.
 
-/// What a text is: an atom, or a list of trees. Contracts see it through `node_of`, which puts lists in place of the
+ghost use Rattle.std.specs.Prelude.{◌≡◌, IfOk};
+ghost use Rattle.stack_text.specs.Trees.{place_of};
+ghost use Rattle.stack_text.specs.Seen.TreeView.{node_of, owned_node};
+
+use std::alloc::{AllocError, Global};
+
+/// What a text is: an atom, or a list of trees. Contracts see it through `owned_node`, which puts lists in place of the
 /// vectors at every level.
 ///
 /// Each tree has the place of its first byte in the text that it was read from, counted in bytes from 0.
@@ -12,18 +18,67 @@ pub enum Tree {
     List { place: u32, items: Vec<Tree> },
 }
 
-impl Tree {
-    ghost use Rattle.std.specs.Prelude.{◌≡◌};
-    ghost use Rattle.stack_text.specs.Trees.{place_of};
-    ghost use Rattle.stack_text.specs.Seen.TreeView.{node_of};
+/// A tree whose atoms are bytes of the text that it was read from. Grammars read these, so that no atom is copied but
+/// where it is kept. Contracts see it through `node_of`, as they see a `Tree` through `owned_node`.
+#[derive(Debug, Drop)]
+pub enum TextTree<'a> {
+    /// A word of visible ASCII without `(`, `)` and `;`.
+    Atom {
+        place: u32,
+        text: &'a [u8],
+    },
+    /// The trees between a `(`, whose place this is, and its `)`.
+    List {
+        place: u32,
+        items: Vec<TextTree<'a>>,
+    },
+}
 
+impl Tree {
+    /// The place of its first byte.
+    pub fn place(&self) -> u32
+        ensures { result ≡ place_of (owned_node self.now) }
+    {
+        match self {
+            Tree::Atom { place, text: _ } => *place,
+            Tree::List { place, items: _ } => *place,
+        }
+    }
+}
+
+impl<'a> TextTree<'a> {
     /// The place of its first byte.
     pub fn place(&self) -> u32
         ensures { result ≡ place_of (node_of self.now) }
     {
         match self {
-            Tree::Atom { place, text: _ } => *place,
-            Tree::List { place, items: _ } => *place,
+            TextTree::Atom { place, text: _ } => *place,
+            TextTree::List { place, items: _ } => *place,
+        }
+    }
+
+    /// The same tree, with bytes of its own.
+    pub fn to_owned(&self, alloc: Global) -> Result<Tree, AllocError>
+        ensures { IfOk result (λ tree. owned_node tree ≡ node_of self.now) }
+    {
+        match self {
+            TextTree::Atom { place, text } => {
+                let text = Vec::from_slice(alloc, text)?;
+                Ok(Tree::Atom {
+                    place: *place,
+                    text,
+                })
+            }
+            TextTree::List { place, items } => {
+                let mut owned = Vec::with_capacity(alloc, items.len())?;
+                for item in items.iter() {
+                    owned.push(item.to_owned(alloc)?)?;
+                }
+                Ok(Tree::List {
+                    place: *place,
+                    items: owned,
+                })
+            }
         }
     }
 }

@@ -10,6 +10,7 @@ use command_line::StackSize;
 use stack_build::{Built, build};
 use stack_text::{Memory, Seq};
 use std::alloc::Global;
+use std::mem::forget;
 
 /// What `build` stores, and what is left to do.
 pub fn prepare(
@@ -29,9 +30,13 @@ pub fn prepare(
             Built {
                 image,
                 bytes,
-                piton: _,
+                piton,
             },
-        ) => { Plan::stores_image(alloc, image.size, Seq::from_vec(bytes)) }
+        ) => {
+            // The process ends next, and its memory with it.
+            forget(piton);
+            Plan::stores_image(alloc, image.size, Seq::from_vec(bytes))
+        }
         Err(fault) => refused(alloc, fault),
     }
 }

@@ -15,7 +15,7 @@ use crate::literal::{Decl, Local, TypeText};
 use crate::reading::literals::literal;
 use crate::reading::word::{is_array_word, kind_in, named, number};
 use stack_text::grammar::{FormFault, Part, each_in, is_numeral_atom};
-use stack_text::{Breach, Kind, Tree};
+use stack_text::{Breach, Kind, TextTree};
 use std::alloc::Global;
 
 /// M7 at a type.
@@ -26,7 +26,7 @@ fn no_type(place: u32) -> Breach
 }
 
 /// An array's type, of which the kind and the length are given.
-fn array_type(place: u32, kind: Kind, length: &Tree) -> Result<TypeText, Breach>
+fn array_type(place: u32, kind: Kind, length: &TextTree) -> Result<TypeText, Breach>
     ensures { Finds (λ shape. shape) result (array_type place (Some kind) (node_of length.now)) }
 {
     if !is_numeral_atom(length) {
@@ -41,7 +41,7 @@ fn array_type(place: u32, kind: Kind, length: &Tree) -> Result<TypeText, Breach>
 }
 
 /// The type that the items of a list are.
-fn array_at(place: u32, items: &[Tree]) -> Result<TypeText, Breach>
+fn array_at(place: u32, items: &[TextTree]) -> Result<TypeText, Breach>
     ensures { Finds (λ shape. shape) result (type_in (list place (nodes_of items.now))) }
 {
     if items.len() != 3 {
@@ -58,12 +58,12 @@ fn array_at(place: u32, items: &[Tree]) -> Result<TypeText, Breach>
 }
 
 /// The type that a tree is: M7 where it is none, M11 where its length is out of the 128-bit range.
-fn type_in(tree: &Tree) -> Result<TypeText, Breach>
+fn type_in(tree: &TextTree) -> Result<TypeText, Breach>
     ensures { Finds (λ shape. shape) result (type_in (node_of tree.now)) }
 {
     match tree {
-        Tree::List { place, items } => array_at(*place, items),
-        Tree::Atom { place, text } => match kind_named(text) {
+        TextTree::List { place, items } => array_at(*place, items),
+        TextTree::Atom { place, text } => match kind_named(text) {
             None => Err(no_type(*place)),
             Some(kind) => Ok(TypeText {
                 place: *place,
@@ -82,7 +82,7 @@ fn no_formal(place: u32) -> Breach
 }
 
 /// A declaration, of which the parts are given.
-fn decl_parts(alloc: Global, name: &Tree, shape: &Tree) -> Result<Decl, FormFault>
+fn decl_parts(alloc: Global, name: &TextTree, shape: &TextTree) -> Result<Decl, FormFault>
     ensures { Reads (λ decl. decl) result
         (Ok new_decl ⊛ named_in (node_of name.now) ⊛ type_in (node_of shape.now)) }
 {
@@ -92,7 +92,7 @@ fn decl_parts(alloc: Global, name: &Tree, shape: &Tree) -> Result<Decl, FormFaul
 }
 
 /// The declaration that the items of a list are.
-fn decl_at(alloc: Global, place: u32, items: &[Tree]) -> Result<Decl, FormFault>
+fn decl_at(alloc: Global, place: u32, items: &[TextTree]) -> Result<Decl, FormFault>
     ensures { Reads (λ decl. decl) result (decl_in (list place (nodes_of items.now))) }
 {
     if items.len() != 2 {
@@ -111,16 +111,16 @@ impl Part for Decl {
 
     ghost part_of = { decl_in };
 
-    fn read(alloc: Global, tree: &Tree) -> Result<Decl, FormFault> {
+    fn read(alloc: Global, tree: &TextTree) -> Result<Decl, FormFault> {
         match tree {
-            Tree::Atom { place, text: _ } => Err(no_formal(*place).into()),
-            Tree::List { place, items } => decl_at(alloc, *place, items),
+            TextTree::Atom { place, text: _ } => Err(no_formal(*place).into()),
+            TextTree::List { place, items } => decl_at(alloc, *place, items),
         }
     }
 }
 
 /// The declarations that the items of a list are, or M4 where the tree is no list.
-pub fn formals(alloc: Global, tree: &Tree) -> Result<Vec<Decl>, FormFault>
+pub fn formals(alloc: Global, tree: &TextTree) -> Result<Vec<Decl>, FormFault>
     ensures { Reads (λ decls. decls.items) result (list_or 4 decl_in (node_of tree.now)) }
 {
     each_in(alloc, 4, tree)
@@ -134,7 +134,12 @@ fn no_local(place: u32) -> Breach
 }
 
 /// A local variable, of which the parts are given.
-fn local_parts(alloc: Global, name: &Tree, shape: &Tree, value: &Tree) -> Result<Local, FormFault>
+fn local_parts(
+    alloc: Global,
+    name: &TextTree,
+    shape: &TextTree,
+    value: &TextTree,
+) -> Result<Local, FormFault>
     ensures { Reads local_of result
         (Ok new_local ⊛ named_in (node_of name.now) ⊛ type_in (node_of shape.now) ⊛ literal_in (node_of value.now)) }
 {
@@ -148,7 +153,7 @@ fn local_parts(alloc: Global, name: &Tree, shape: &Tree, value: &Tree) -> Result
 }
 
 /// The local variable that the items of a list are.
-fn local_at(alloc: Global, place: u32, items: &[Tree]) -> Result<Local, FormFault>
+fn local_at(alloc: Global, place: u32, items: &[TextTree]) -> Result<Local, FormFault>
     ensures { Reads local_of result (local_in (list place (nodes_of items.now))) }
 {
     if items.len() != 3 {
@@ -168,10 +173,10 @@ impl Part for Local {
 
     ghost part_of = { local_in };
 
-    fn read(alloc: Global, tree: &Tree) -> Result<Local, FormFault> {
+    fn read(alloc: Global, tree: &TextTree) -> Result<Local, FormFault> {
         match tree {
-            Tree::Atom { place, text: _ } => Err(no_local(*place).into()),
-            Tree::List { place, items } => local_at(alloc, *place, items),
+            TextTree::Atom { place, text: _ } => Err(no_local(*place).into()),
+            TextTree::List { place, items } => local_at(alloc, *place, items),
         }
     }
 }

@@ -10,7 +10,7 @@ use crate::literal::Literal;
 use crate::reading::word::number_at;
 use crate::statement::Arg;
 use stack_text::grammar::{FormFault, Part, each};
-use stack_text::{Breach, Named, Tree, is_digits, is_numeral, read_name};
+use stack_text::{Breach, Named, TextTree, is_digits, is_numeral, read_name};
 use std::alloc::Global;
 
 /// M8 at a tree.
@@ -72,21 +72,21 @@ impl Part for Literal {
 
     ghost part_of = { simple_in };
 
-    fn read(_alloc: Global, tree: &Tree) -> Result<Literal, FormFault> {
+    fn read(_alloc: Global, tree: &TextTree) -> Result<Literal, FormFault> {
         match tree {
-            Tree::Atom { place, text } => Ok(simple_at(*place, text)?),
-            Tree::List { place, items: _ } => Err(no_value(*place).into()),
+            TextTree::Atom { place, text } => Ok(simple_at(*place, text)?),
+            TextTree::List { place, items: _ } => Err(no_value(*place).into()),
         }
     }
 }
 
 /// The value that a tree is.
-pub fn literal(alloc: Global, tree: &Tree) -> Result<Literal, FormFault>
+pub fn literal(alloc: Global, tree: &TextTree) -> Result<Literal, FormFault>
     ensures { Reads literal_of result (literal_in (node_of tree.now)) }
 {
     match tree {
-        Tree::Atom { place, text } => Ok(simple_at(*place, text)?),
-        Tree::List { place, items } => {
+        TextTree::Atom { place, text } => Ok(simple_at(*place, text)?),
+        TextTree::List { place, items } => {
             let items = each(alloc, items)?;
             Ok(Literal::List {
                 place: *place,
@@ -117,10 +117,10 @@ impl Part for Arg {
 
     ghost part_of = { arg_in };
 
-    fn read(alloc: Global, tree: &Tree) -> Result<Arg, FormFault> {
+    fn read(alloc: Global, tree: &TextTree) -> Result<Arg, FormFault> {
         match tree {
-            Tree::Atom { place, text } => arg_at(alloc, *place, text),
-            Tree::List { place, items: _ } => Err(no_value(*place).into()),
+            TextTree::Atom { place, text } => arg_at(alloc, *place, text),
+            TextTree::List { place, items: _ } => Err(no_value(*place).into()),
         }
     }
 }

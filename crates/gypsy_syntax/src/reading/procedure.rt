@@ -15,7 +15,7 @@ use crate::reading::declaration::formals as read_formals;
 use crate::reading::statements::statement;
 use crate::reading::word::{is_proc_word, is_program_word, named, names};
 use stack_text::grammar::{FormFault, Part, each, each_in, list_length};
-use stack_text::{Breach, MOST_DECLARED, MOST_PROCEDURES, Tree};
+use stack_text::{Breach, MOST_DECLARED, MOST_PROCEDURES, TextTree};
 use std::alloc::Global;
 
 /// M2 at a procedure.
@@ -33,7 +33,7 @@ fn too_large(place: u32) -> Breach
 }
 
 /// Whether two lists have no more items together than a procedure may declare.
-fn are_few(first: &Tree, second: &Tree) -> bool
+fn are_few(first: &TextTree, second: &TextTree) -> bool
     ensures { result ≡ are_few (node_of first.now) (node_of second.now) }
 {
     list_length(first).saturating_add(list_length(second)) <= MOST_DECLARED
@@ -41,13 +41,13 @@ fn are_few(first: &Tree, second: &Tree) -> bool
 
 /// The trees of a procedure after the word that begins it.
 #[derive(Clone, Copy)]
-struct ProcTrees<'a> {
-    name: &'a Tree,
-    formals: &'a Tree,
-    conds: &'a Tree,
-    locals: &'a Tree,
-    local_conds: &'a Tree,
-    body: &'a Tree,
+struct ProcTrees<'a, 'b> {
+    name: &'a TextTree<'b>,
+    formals: &'a TextTree<'b>,
+    conds: &'a TextTree<'b>,
+    locals: &'a TextTree<'b>,
+    local_conds: &'a TextTree<'b>,
+    body: &'a TextTree<'b>,
 }
 
 /// A procedure, of which the parts are given.
@@ -76,7 +76,7 @@ fn procedure_parts(alloc: Global, place: u32, trees: ProcTrees) -> Result<Proc, 
 }
 
 /// The procedure that the items of a list are.
-fn procedure_at(alloc: Global, place: u32, items: &[Tree]) -> Result<Proc, FormFault>
+fn procedure_at(alloc: Global, place: u32, items: &[TextTree]) -> Result<Proc, FormFault>
     ensures { Reads proc_of result (procedure_in (list place (nodes_of items.now))) }
 {
     if items.len() != 7 {
@@ -113,10 +113,10 @@ impl Part for Proc {
 
     ghost part_of = { procedure_in };
 
-    fn read(alloc: Global, tree: &Tree) -> Result<Proc, FormFault> {
+    fn read(alloc: Global, tree: &TextTree) -> Result<Proc, FormFault> {
         match tree {
-            Tree::Atom { place, text: _ } => Err(no_procedure(*place).into()),
-            Tree::List { place, items } => procedure_at(alloc, *place, items),
+            TextTree::Atom { place, text: _ } => Err(no_procedure(*place).into()),
+            TextTree::List { place, items } => procedure_at(alloc, *place, items),
         }
     }
 }
@@ -129,7 +129,12 @@ fn no_source(place: u32) -> Breach
 }
 
 /// A source, of which the parts are given.
-fn source_parts(alloc: Global, place: u32, main: &Tree, procs: &[Tree]) -> Result<Source, FormFault>
+fn source_parts(
+    alloc: Global,
+    place: u32,
+    main: &TextTree,
+    procs: &[TextTree],
+) -> Result<Source, FormFault>
     ensures { Reads source_of result
         (Ok (new_source place) ⊛ named_in (node_of main.now) ⊛ each_of procedure_in (nodes_of procs.now)) }
 {
@@ -139,7 +144,7 @@ fn source_parts(alloc: Global, place: u32, main: &Tree, procs: &[Tree]) -> Resul
 }
 
 /// The source that the items of a list are.
-fn source_at(alloc: Global, place: u32, items: &[Tree]) -> Result<Source, FormFault>
+fn source_at(alloc: Global, place: u32, items: &[TextTree]) -> Result<Source, FormFault>
     ensures { Reads source_of result (source_in (list place (nodes_of items.now))) }
 {
     if items.len() < 3 {
@@ -156,11 +161,11 @@ fn source_at(alloc: Global, place: u32, items: &[Tree]) -> Result<Source, FormFa
 }
 
 /// The source that a tree is: M1 where it is none, M12 where it is too large, and else the first fault in reading order.
-pub fn source(alloc: Global, tree: &Tree) -> Result<Source, FormFault>
+pub fn source(alloc: Global, tree: &TextTree) -> Result<Source, FormFault>
     ensures { Reads source_of result (source_in (node_of tree.now)) }
 {
     match tree {
-        Tree::Atom { place, text: _ } => Err(no_source(*place).into()),
-        Tree::List { place, items } => source_at(alloc, *place, items),
+        TextTree::Atom { place, text: _ } => Err(no_source(*place).into()),
+        TextTree::List { place, items } => source_at(alloc, *place, items),
     }
 }

@@ -15,7 +15,7 @@ use crate::predef::Predef;
 use crate::reading::word::{named, names};
 use crate::statement::Stmt;
 use stack_text::grammar::{FormFault, each};
-use stack_text::{Breach, Tree};
+use stack_text::{Breach, TextTree};
 use std::alloc::Global;
 
 /// M9 at a tree.
@@ -32,7 +32,7 @@ fn wrong_items(place: u32) -> Breach
     Breach { rule: 10, place }
 }
 
-fn no_op(place: u32, parts: &[Tree]) -> Result<Stmt, Breach>
+fn no_op(place: u32, parts: &[TextTree]) -> Result<Stmt, Breach>
     ensures { Finds stmt_of result (form_in (Some words.NoOp) place (nodes_of parts.now)) }
 {
     if parts.is_empty() {
@@ -42,7 +42,7 @@ fn no_op(place: u32, parts: &[Tree]) -> Result<Stmt, Breach>
     }
 }
 
-fn signal(alloc: Global, place: u32, parts: &[Tree]) -> Result<Stmt, FormFault>
+fn signal(alloc: Global, place: u32, parts: &[TextTree]) -> Result<Stmt, FormFault>
     ensures { Reads stmt_of result (form_in (Some words.Signal) place (nodes_of parts.now)) }
 {
     if parts.len() != 1 {
@@ -56,9 +56,9 @@ fn signal(alloc: Global, place: u32, parts: &[Tree]) -> Result<Stmt, FormFault>
 fn call_parts(
     alloc: Global,
     place: u32,
-    callee: &Tree,
-    actuals: &Tree,
-    conds: &Tree,
+    callee: &TextTree,
+    actuals: &TextTree,
+    conds: &TextTree,
 ) -> Result<Stmt, FormFault>
     ensures { let made = new_call place (place_of (node_of actuals.now)) (place_of (node_of conds.now)) in
         Reads stmt_of result
@@ -79,7 +79,7 @@ fn call_parts(
     })
 }
 
-fn call(alloc: Global, place: u32, parts: &[Tree]) -> Result<Stmt, FormFault>
+fn call(alloc: Global, place: u32, parts: &[TextTree]) -> Result<Stmt, FormFault>
     ensures { Reads stmt_of result (form_in (Some words.Call) place (nodes_of parts.now)) }
 {
     if parts.len() != 3 {
@@ -88,7 +88,12 @@ fn call(alloc: Global, place: u32, parts: &[Tree]) -> Result<Stmt, FormFault>
     call_parts(alloc, place, &parts[0], &parts[1], &parts[2])
 }
 
-fn predef_call(alloc: Global, which: Predef, place: u32, parts: &[Tree]) -> Result<Stmt, FormFault>
+fn predef_call(
+    alloc: Global,
+    which: Predef,
+    place: u32,
+    parts: &[TextTree],
+) -> Result<Stmt, FormFault>
     ensures { Reads stmt_of result (form_in (Some (words.Predef which)) place (nodes_of parts.now)) }
 {
     let args = each(alloc, parts)?;
@@ -96,18 +101,18 @@ fn predef_call(alloc: Global, which: Predef, place: u32, parts: &[Tree]) -> Resu
 }
 
 /// Whether the tree is a list without items.
-fn is_empty_list(tree: &Tree) -> bool
+fn is_empty_list(tree: &TextTree) -> bool
     ensures { result ≡ is_empty_list (node_of tree.now) }
 {
     match tree {
-        Tree::Atom { place: _, text: _ } => false,
-        Tree::List { place: _, items } => items.is_empty(),
+        TextTree::Atom { place: _, text: _ } => false,
+        TextTree::List { place: _, items } => items.is_empty(),
     }
 }
 
 /// The statement that a tree is, in a box.
 #[cycle(statements)]
-fn boxed(alloc: Global, tree: &Tree) -> Result<Box<Stmt>, FormFault>
+fn boxed(alloc: Global, tree: &TextTree) -> Result<Box<Stmt>, FormFault>
     ensures { Reads (λ stmt. stmt_of stmt.value) result (statement_in (node_of tree.now)) }
 {
     let stmt = statement(alloc, tree)?;
@@ -116,7 +121,7 @@ fn boxed(alloc: Global, tree: &Tree) -> Result<Box<Stmt>, FormFault>
 
 /// The statement that each tree is.
 #[cycle(statements)]
-fn statements(alloc: Global, trees: &[Tree]) -> Result<Vec<Stmt>, FormFault>
+fn statements(alloc: Global, trees: &[TextTree]) -> Result<Vec<Stmt>, FormFault>
     ensures { Reads (λ parts. map stmt_of parts.items) result (statements_in (nodes_of trees.now)) }
 {
     let mut parts = Vec::new(alloc);
@@ -128,7 +133,7 @@ fn statements(alloc: Global, trees: &[Tree]) -> Result<Vec<Stmt>, FormFault>
 }
 
 #[cycle(statements)]
-fn sequence(alloc: Global, place: u32, parts: &[Tree]) -> Result<Stmt, FormFault>
+fn sequence(alloc: Global, place: u32, parts: &[TextTree]) -> Result<Stmt, FormFault>
     ensures { Reads stmt_of result (form_in (Some words.Seq) place (nodes_of parts.now)) }
 {
     if parts.is_empty() {
@@ -139,7 +144,7 @@ fn sequence(alloc: Global, place: u32, parts: &[Tree]) -> Result<Stmt, FormFault
 }
 
 #[cycle(statements)]
-fn repetition(alloc: Global, place: u32, parts: &[Tree]) -> Result<Stmt, FormFault>
+fn repetition(alloc: Global, place: u32, parts: &[TextTree]) -> Result<Stmt, FormFault>
     ensures { Reads stmt_of result (form_in (Some words.Loop) place (nodes_of parts.now)) }
 {
     if parts.len() != 1 {
@@ -150,7 +155,7 @@ fn repetition(alloc: Global, place: u32, parts: &[Tree]) -> Result<Stmt, FormFau
 }
 
 #[cycle(statements)]
-fn branch(alloc: Global, place: u32, parts: &[Tree]) -> Result<Stmt, FormFault>
+fn branch(alloc: Global, place: u32, parts: &[TextTree]) -> Result<Stmt, FormFault>
     ensures { Reads stmt_of result (form_in (Some words.If) place (nodes_of parts.now)) }
 {
     if parts.len() != 3 {
@@ -169,7 +174,7 @@ fn branch(alloc: Global, place: u32, parts: &[Tree]) -> Result<Stmt, FormFault>
 }
 
 #[cycle(statements)]
-fn guarded(alloc: Global, place: u32, parts: &[Tree]) -> Result<Stmt, FormFault>
+fn guarded(alloc: Global, place: u32, parts: &[TextTree]) -> Result<Stmt, FormFault>
     ensures { Reads stmt_of result (form_in (Some words.Begin) place (nodes_of parts.now)) }
 {
     if parts.len() != 3 {
@@ -192,7 +197,7 @@ fn guarded(alloc: Global, place: u32, parts: &[Tree]) -> Result<Stmt, FormFault>
 
 /// The statement that begins with the word, of which the other items are given.
 #[cycle(statements)]
-fn form(alloc: Global, keyword: Keyword, place: u32, parts: &[Tree]) -> Result<Stmt, FormFault>
+fn form(alloc: Global, keyword: Keyword, place: u32, parts: &[TextTree]) -> Result<Stmt, FormFault>
     ensures { Reads stmt_of result (form_in (Some keyword) place (nodes_of parts.now)) }
 {
     match keyword {
@@ -210,16 +215,16 @@ fn form(alloc: Global, keyword: Keyword, place: u32, parts: &[Tree]) -> Result<S
 /// The statement that a tree is: M9 where it begins with no word of a form and no predefined name, M10 where it has a wrong
 /// number of items.
 #[cycle(statements)]
-pub fn statement(alloc: Global, tree: &Tree) -> Result<Stmt, FormFault>
+pub fn statement(alloc: Global, tree: &TextTree) -> Result<Stmt, FormFault>
     ensures { Reads stmt_of result (statement_in (node_of tree.now)) }
 {
     match tree {
-        Tree::Atom { place, text: _ } => Err(no_statement(*place).into()),
-        Tree::List { place, items } => match items.as_slice() {
+        TextTree::Atom { place, text: _ } => Err(no_statement(*place).into()),
+        TextTree::List { place, items } => match items.as_slice() {
             [] => Err(no_statement(*place).into()),
             [first, parts @ ..] => match first {
-                Tree::List { place: _, items: _ } => Err(no_statement(*place).into()),
-                Tree::Atom { place: _, text } => match keyword_named(text) {
+                TextTree::List { place: _, items: _ } => Err(no_statement(*place).into()),
+                TextTree::Atom { place: _, text } => match keyword_named(text) {
                     None => Err(no_statement(*place).into()),
                     Some(keyword) => form(alloc, keyword, *place, parts),
                 },

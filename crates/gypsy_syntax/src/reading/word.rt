@@ -9,46 +9,46 @@ ghost use Rattle.gypsy_syntax.specs.Grammar.{is_word, kind_in, named_in, names_i
 
 use crate::keyword::kind_named;
 use stack_text::grammar::{self, FormFault};
-use stack_text::{Breach, Kind, Named, Tree, read_numeral};
+use stack_text::{Breach, Kind, Named, TextTree, read_numeral};
 use std::alloc::Global;
 
 /// Whether the tree is the word `array`.
-pub fn is_array_word(tree: &Tree) -> bool
+pub fn is_array_word(tree: &TextTree) -> bool
     ensures { result ≡ is_word (codes "array") (node_of tree.now) }
 {
     match tree {
-        Tree::Atom { place: _, text } => text.as_slice() == b"array".as_slice(),
-        Tree::List { place: _, items: _ } => false,
+        TextTree::Atom { place: _, text } => *text == b"array".as_slice(),
+        TextTree::List { place: _, items: _ } => false,
     }
 }
 
 /// Whether the tree is the word `proc`.
-pub fn is_proc_word(tree: &Tree) -> bool
+pub fn is_proc_word(tree: &TextTree) -> bool
     ensures { result ≡ is_word (codes "proc") (node_of tree.now) }
 {
     match tree {
-        Tree::Atom { place: _, text } => text.as_slice() == b"proc".as_slice(),
-        Tree::List { place: _, items: _ } => false,
+        TextTree::Atom { place: _, text } => *text == b"proc".as_slice(),
+        TextTree::List { place: _, items: _ } => false,
     }
 }
 
 /// Whether the tree is the word `program`.
-pub fn is_program_word(tree: &Tree) -> bool
+pub fn is_program_word(tree: &TextTree) -> bool
     ensures { result ≡ is_word (codes "program") (node_of tree.now) }
 {
     match tree {
-        Tree::Atom { place: _, text } => text.as_slice() == b"program".as_slice(),
-        Tree::List { place: _, items: _ } => false,
+        TextTree::Atom { place: _, text } => *text == b"program".as_slice(),
+        TextTree::List { place: _, items: _ } => false,
     }
 }
 
 /// The simple type whose word the tree is.
-pub fn kind_in(tree: &Tree) -> Option<Kind>
+pub fn kind_in(tree: &TextTree) -> Option<Kind>
     ensures { result ≡ kind_in (node_of tree.now) }
 {
     match tree {
-        Tree::Atom { place: _, text } => kind_named(text),
-        Tree::List { place: _, items: _ } => None,
+        TextTree::Atom { place: _, text } => kind_named(text),
+        TextTree::List { place: _, items: _ } => None,
     }
 }
 
@@ -64,28 +64,28 @@ pub fn number_at(place: u32, numeral: &[u8]) -> Result<i128, Breach>
 }
 
 /// The number of a numeral's atom, or M11 where it is out of the 128-bit range.
-pub fn number(tree: &Tree) -> Result<i128, Breach>
+pub fn number(tree: &TextTree) -> Result<i128, Breach>
     requires { IsTrue (is_atom_of is_numeral (node_of tree.now)) }
     ensures { Finds (λ number. number) result (number_in (node_of tree.now)) }
 {
     match tree {
-        Tree::List { place, items: _ } => Err(Breach {
+        TextTree::List { place, items: _ } => Err(Breach {
             rule: 11,
             place: *place,
         }),
-        Tree::Atom { place, text } => number_at(*place, text),
+        TextTree::Atom { place, text } => number_at(*place, text),
     }
 }
 
 /// The name that a tree is, or M3 where it is none.
-pub fn named(alloc: Global, tree: &Tree) -> Result<Named, FormFault>
+pub fn named(alloc: Global, tree: &TextTree) -> Result<Named, FormFault>
     ensures { Reads (λ name. name) result (named_in (node_of tree.now)) }
 {
     grammar::named(alloc, 3, tree)
 }
 
 /// The names that the items of a list are, or M5 where the tree is no list.
-pub fn names(alloc: Global, tree: &Tree) -> Result<Vec<Named>, FormFault>
+pub fn names(alloc: Global, tree: &TextTree) -> Result<Vec<Named>, FormFault>
     ensures { Reads (λ names. names.items) result (names_in (node_of tree.now)) }
 {
     grammar::names(alloc, 5, 3, tree)

@@ -13,7 +13,7 @@ use crate::reading::atom::{is_digits_atom, is_name_atom, name, number};
 use crate::reading::word::word;
 use crate::test_kind::{TestFamily, TestKind, test_named};
 use stack_text::grammar::FormFault;
-use stack_text::{Breach, Tree};
+use stack_text::{Breach, TextTree};
 use std::alloc::Global;
 
 /// P7 at an operation's list.
@@ -24,7 +24,7 @@ fn wrong_arguments(place: u32) -> Breach
 }
 
 /// Whether the tree is of the kind, where the kind is not that of words.
-fn is_of_kind(kind: ArgKind, tree: &Tree) -> bool
+fn is_of_kind(kind: ArgKind, tree: &TextTree) -> bool
     ensures { result ≡ is_of_kind kind (node_of tree.now) }
 {
     match kind {
@@ -35,14 +35,14 @@ fn is_of_kind(kind: ArgKind, tree: &Tree) -> bool
 }
 
 /// Whether each tree is of the kind.
-fn are_of_kind(kind: ArgKind, trees: &[Tree]) -> bool
+fn are_of_kind(kind: ArgKind, trees: &[TextTree]) -> bool
     ensures { result ≡ list_all (λ tree. is_of_kind kind (node_of tree)) trees.now }
 {
     trees.iter().all(|tree| is_of_kind(kind, tree))
 }
 
 /// The argument of a kind that a tree is.
-fn argument(alloc: Global, kind: ArgKind, tree: &Tree) -> Result<ArgText, FormFault>
+fn argument(alloc: Global, kind: ArgKind, tree: &TextTree) -> Result<ArgText, FormFault>
     requires { IsTrue (is_of_kind kind (node_of tree.now)) }
     ensures { Reads (λ argument. argument) result (argument_of kind (node_of tree.now)) }
 {
@@ -56,7 +56,7 @@ fn argument(alloc: Global, kind: ArgKind, tree: &Tree) -> Result<ArgText, FormFa
 }
 
 /// The arguments of an operation that has none.
-fn no_arguments(alloc: Global, place: u32, trees: &[Tree]) -> Result<Vec<ArgText>, Breach>
+fn no_arguments(alloc: Global, place: u32, trees: &[TextTree]) -> Result<Vec<ArgText>, Breach>
     ensures { Finds (λ args. args.items) result (arguments_of row.Zero place (nodes_of trees.now)) }
 {
     if trees.is_empty() {
@@ -71,7 +71,7 @@ fn one_argument(
     alloc: Global,
     kind: ArgKind,
     place: u32,
-    trees: &[Tree],
+    trees: &[TextTree],
 ) -> Result<Vec<ArgText>, FormFault>
     ensures { Reads (λ args. args.items) result (arguments_of (row.One kind) place (nodes_of trees.now)) }
 {
@@ -89,12 +89,12 @@ fn one_argument(
 }
 
 /// The test of the family that a tree is, if it is the word of one.
-fn test_at(family: TestFamily, tree: &Tree) -> Option<TestKind>
+fn test_at(family: TestFamily, tree: &TextTree) -> Option<TestKind>
     ensures { result ≡ test_at family (node_of tree.now) }
 {
     match tree {
-        Tree::Atom { place: _, text } => test_named(family, text),
-        Tree::List { place: _, items: _ } => None,
+        TextTree::Atom { place: _, text } => test_named(family, text),
+        TextTree::List { place: _, items: _ } => None,
     }
 }
 
@@ -103,7 +103,7 @@ fn test_and_label(
     alloc: Global,
     family: TestFamily,
     place: u32,
-    trees: &[Tree],
+    trees: &[TextTree],
 ) -> Result<Vec<ArgText>, FormFault>
     ensures { Reads (λ args. args.items) result (arguments_of (row.TestAndLabel family) place (nodes_of trees.now)) }
 {
@@ -125,7 +125,11 @@ fn test_and_label(
 }
 
 /// The argument of a kind that each tree is.
-fn each_argument(alloc: Global, kind: ArgKind, trees: &[Tree]) -> Result<Vec<ArgText>, FormFault>
+fn each_argument(
+    alloc: Global,
+    kind: ArgKind,
+    trees: &[TextTree],
+) -> Result<Vec<ArgText>, FormFault>
     requires { IsTrue (are_of_kind kind (nodes_of trees.now)) }
     ensures { Reads (λ args. args.items) result (each_of (argument_of kind) (nodes_of trees.now)) }
 {
@@ -142,7 +146,7 @@ fn some_arguments(
     alloc: Global,
     kind: ArgKind,
     place: u32,
-    trees: &[Tree],
+    trees: &[TextTree],
 ) -> Result<Vec<ArgText>, FormFault>
     ensures { Reads (λ args. args.items) result (arguments_of (row.OneOrMore kind) place (nodes_of trees.now)) }
 {
@@ -160,7 +164,7 @@ pub fn arguments(
     alloc: Global,
     row: Arguments,
     place: u32,
-    trees: &[Tree],
+    trees: &[TextTree],
 ) -> Result<Vec<ArgText>, FormFault>
     ensures { Reads (λ args. args.items) result (arguments_of row place (nodes_of trees.now)) }
 {

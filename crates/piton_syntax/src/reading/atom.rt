@@ -10,44 +10,44 @@ ghost use Rattle.piton_syntax.specs.Grammar.{named_of, number_of};
 
 use crate::word_text::Number;
 use stack_text::grammar::{FormFault, named};
-use stack_text::{Breach, Named, Tree, is_digits, is_name, read_numeral};
+use stack_text::{Breach, Named, TextTree, is_digits, is_name, read_numeral};
 use std::alloc::Global;
 
 /// Whether the tree is an atom of digits alone.
-pub fn is_digits_atom(tree: &Tree) -> bool
+pub fn is_digits_atom(tree: &TextTree) -> bool
     ensures { result ≡ is_atom_of is_digits (node_of tree.now) }
 {
     match tree {
-        Tree::Atom { place: _, text } => is_digits(text),
-        Tree::List { place: _, items: _ } => false,
+        TextTree::Atom { place: _, text } => is_digits(text),
+        TextTree::List { place: _, items: _ } => false,
     }
 }
 
 /// Whether the tree is a name's atom.
-pub fn is_name_atom(tree: &Tree) -> bool
+pub fn is_name_atom(tree: &TextTree) -> bool
     ensures { result ≡ is_atom_of is_name (node_of tree.now) }
 {
     match tree {
-        Tree::Atom { place: _, text } => is_name(text),
-        Tree::List { place: _, items: _ } => false,
+        TextTree::Atom { place: _, text } => is_name(text),
+        TextTree::List { place: _, items: _ } => false,
     }
 }
 
 /// The name that a tree is, or P4 where it is none.
-pub fn name(alloc: Global, tree: &Tree) -> Result<Named, FormFault>
+pub fn name(alloc: Global, tree: &TextTree) -> Result<Named, FormFault>
     ensures { Reads (λ name. name) result (named_of (node_of tree.now)) }
 {
     named(alloc, 4, tree)
 }
 
 /// The number of a numeral's atom, or P8 where it is out of the 128-bit range.
-pub fn number(tree: &Tree) -> Result<Number, Breach>
+pub fn number(tree: &TextTree) -> Result<Number, Breach>
     requires { IsTrue (is_atom_of is_numeral (node_of tree.now)) }
     ensures { Finds (λ number. number) result (number_of (node_of tree.now)) }
 {
     let (place, number) = match tree {
-        Tree::Atom { place, text } => (*place, read_numeral(text)),
-        Tree::List { place, items: _ } => (*place, None),
+        TextTree::Atom { place, text } => (*place, read_numeral(text)),
+        TextTree::List { place, items: _ } => (*place, None),
     };
     match number {
         Some(number) => Ok(Number { place, number }),

@@ -14,7 +14,7 @@ use crate::reading::argument::arguments;
 use crate::reading::atom::name;
 use crate::system::InstrText;
 use stack_text::grammar::{FormFault, Part};
-use stack_text::{Breach, Tree};
+use stack_text::{Breach, TextTree};
 use std::alloc::Global;
 
 /// P6 at an instruction.
@@ -29,7 +29,7 @@ fn unlabelled(
     alloc: Global,
     place: u32,
     operation: &[u8],
-    trees: &[Tree],
+    trees: &[TextTree],
 ) -> Result<InstrText, FormFault>
     ensures { Reads (λ instruction. instruction) result
         (called_of place (Ok None) (operation_named operation.now) place (nodes_of trees.now)) }
@@ -52,10 +52,10 @@ fn unlabelled(
 fn called_at(
     alloc: Global,
     place: u32,
-    label: &Tree,
+    label: &TextTree,
     list_place: u32,
     operation: &[u8],
-    trees: &[Tree],
+    trees: &[TextTree],
 ) -> Result<InstrText, FormFault>
     ensures { let label = Ok Some ⊛ named_of (node_of label.now) in
         Reads (λ instruction. instruction) result
@@ -80,9 +80,9 @@ fn called_at(
 fn called_items(
     alloc: Global,
     place: u32,
-    label: &Tree,
+    label: &TextTree,
     list_place: u32,
-    items: &[Tree],
+    items: &[TextTree],
 ) -> Result<InstrText, FormFault>
     ensures { let call = list list_place (nodes_of items.now) in
         Reads (λ instruction. instruction) result
@@ -92,34 +92,39 @@ fn called_items(
         return Err(no_instruction(place).into());
     }
     match &items[0] {
-        Tree::List { place: _, items: _ } => Err(no_instruction(place).into()),
-        Tree::Atom { place: _, text } => {
+        TextTree::List { place: _, items: _ } => Err(no_instruction(place).into()),
+        TextTree::Atom { place: _, text } => {
             called_at(alloc, place, label, list_place, text, &items[1..])
         }
     }
 }
 
 /// An operation's list after a label and an empty list.
-fn called(alloc: Global, place: u32, label: &Tree, call: &Tree) -> Result<InstrText, FormFault>
+fn called(
+    alloc: Global,
+    place: u32,
+    label: &TextTree,
+    call: &TextTree,
+) -> Result<InstrText, FormFault>
     ensures { Reads (λ instruction. instruction) result
         (labelled_of place (more (node_of label.now) (more (list 0 none) (more (node_of call.now) none)))) }
 {
     match call {
-        Tree::Atom { place: _, text: _ } => Err(no_instruction(place).into()),
-        Tree::List { place: at, items } => called_items(alloc, place, label, *at, items),
+        TextTree::Atom { place: _, text: _ } => Err(no_instruction(place).into()),
+        TextTree::List { place: at, items } => called_items(alloc, place, label, *at, items),
     }
 }
 
 /// What follows `dl`.
-fn labelled(alloc: Global, place: u32, parts: &[Tree]) -> Result<InstrText, FormFault>
+fn labelled(alloc: Global, place: u32, parts: &[TextTree]) -> Result<InstrText, FormFault>
     ensures { Reads (λ instruction. instruction) result (labelled_of place (nodes_of parts.now)) }
 {
     if parts.len() != 3 {
         return Err(no_instruction(place).into());
     }
     match &parts[1] {
-        Tree::Atom { place: _, text: _ } => Err(no_instruction(place).into()),
-        Tree::List { place: _, items } => {
+        TextTree::Atom { place: _, text: _ } => Err(no_instruction(place).into()),
+        TextTree::List { place: _, items } => {
             if items.is_empty() {
                 called(alloc, place, &parts[0], &parts[2])
             } else {
@@ -137,16 +142,16 @@ fn is_label_word(bytes: &[u8]) -> bool
 }
 
 /// The instruction that the items of a list are.
-fn instruction_at(alloc: Global, place: u32, items: &[Tree]) -> Result<InstrText, FormFault>
+fn instruction_at(alloc: Global, place: u32, items: &[TextTree]) -> Result<InstrText, FormFault>
     ensures { Reads (λ instruction. instruction) result (instruction_of (list place (nodes_of items.now))) }
 {
     if items.is_empty() {
         return Err(no_instruction(place).into());
     }
     match &items[0] {
-        Tree::List { place: _, items: _ } => Err(no_instruction(place).into()),
-        Tree::Atom { place: _, text } => {
-            let word = text.as_slice();
+        TextTree::List { place: _, items: _ } => Err(no_instruction(place).into()),
+        TextTree::Atom { place: _, text } => {
+            let word = *text;
             if is_label_word(word) {
                 labelled(alloc, place, &items[1..])
             } else {
@@ -157,12 +162,12 @@ fn instruction_at(alloc: Global, place: u32, items: &[Tree]) -> Result<InstrText
 }
 
 /// The instruction that a tree is: P6 where it is none, P4 where its label is no name.
-fn instruction(alloc: Global, tree: &Tree) -> Result<InstrText, FormFault>
+fn instruction(alloc: Global, tree: &TextTree) -> Result<InstrText, FormFault>
     ensures { Reads (λ instruction. instruction) result (instruction_of (node_of tree.now)) }
 {
     match tree {
-        Tree::Atom { place, text: _ } => Err(no_instruction(*place).into()),
-        Tree::List { place, items } => instruction_at(alloc, *place, items),
+        TextTree::Atom { place, text: _ } => Err(no_instruction(*place).into()),
+        TextTree::List { place, items } => instruction_at(alloc, *place, items),
     }
 }
 
@@ -176,7 +181,7 @@ impl Part for InstrText {
 
     ghost part_of = { instruction_of };
 
-    fn read(alloc: Global, tree: &Tree) -> Result<InstrText, FormFault> {
+    fn read(alloc: Global, tree: &TextTree) -> Result<InstrText, FormFault> {
         instruction(alloc, tree)
     }
 }

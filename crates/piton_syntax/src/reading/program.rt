@@ -14,7 +14,7 @@ use crate::reading::word::word as read_word;
 use crate::system::Program;
 use crate::word_text::WordText;
 use stack_text::grammar::{FormFault, Part, each, list_length, names};
-use stack_text::{Breach, Named, Tree};
+use stack_text::{Breach, Named, TextTree};
 use std::alloc::Global;
 
 /// The most formals and temporaries of a program.
@@ -31,7 +31,11 @@ fn no_program(place: u32) -> Breach
 }
 
 /// A temporary with its word at the start, which are the items of a list.
-fn temporary_at(alloc: Global, place: u32, items: &[Tree]) -> Result<(Named, WordText), FormFault>
+fn temporary_at(
+    alloc: Global,
+    place: u32,
+    items: &[TextTree],
+) -> Result<(Named, WordText), FormFault>
     ensures { Reads (λ temporary. temporary) result (temporary_of (list place (nodes_of items.now))) }
 {
     if items.len() != 2 {
@@ -44,17 +48,17 @@ fn temporary_at(alloc: Global, place: u32, items: &[Tree]) -> Result<(Named, Wor
 }
 
 /// The temporary that a tree is, or P3 where it is no list of two.
-fn temporary(alloc: Global, tree: &Tree) -> Result<(Named, WordText), FormFault>
+fn temporary(alloc: Global, tree: &TextTree) -> Result<(Named, WordText), FormFault>
     ensures { Reads (λ temporary. temporary) result (temporary_of (node_of tree.now)) }
 {
     match tree {
-        Tree::Atom { place, text: _ } => Err(no_program(*place).into()),
-        Tree::List { place, items } => temporary_at(alloc, *place, items),
+        TextTree::Atom { place, text: _ } => Err(no_program(*place).into()),
+        TextTree::List { place, items } => temporary_at(alloc, *place, items),
     }
 }
 
 /// The temporary that each tree is.
-fn each_temporary(alloc: Global, trees: &[Tree]) -> Result<Vec<(Named, WordText)>, FormFault>
+fn each_temporary(alloc: Global, trees: &[TextTree]) -> Result<Vec<(Named, WordText)>, FormFault>
     ensures { Reads (λ temporaries. temporaries.items) result (each_of temporary_of (nodes_of trees.now)) }
 {
     let mut temporaries = Vec::new(alloc);
@@ -66,17 +70,17 @@ fn each_temporary(alloc: Global, trees: &[Tree]) -> Result<Vec<(Named, WordText)
 }
 
 /// The temporaries of a program, or P3 where the tree is no list.
-fn read_temporaries(alloc: Global, tree: &Tree) -> Result<Vec<(Named, WordText)>, FormFault>
+fn read_temporaries(alloc: Global, tree: &TextTree) -> Result<Vec<(Named, WordText)>, FormFault>
     ensures { Reads (λ temporaries. temporaries.items) result (list_of temporary_of (node_of tree.now)) }
 {
     match tree {
-        Tree::Atom { place, text: _ } => Err(no_program(*place).into()),
-        Tree::List { place: _, items } => each_temporary(alloc, items),
+        TextTree::Atom { place, text: _ } => Err(no_program(*place).into()),
+        TextTree::List { place: _, items } => each_temporary(alloc, items),
     }
 }
 
 /// Whether a program has no more parts than it may.
-fn is_small(formals: &Tree, temporaries: &Tree, instructions: &[Tree]) -> bool
+fn is_small(formals: &TextTree, temporaries: &TextTree, instructions: &[TextTree]) -> bool
     ensures { result ≡ is_small_program (node_of formals.now) (node_of temporaries.now) (nodes_of instructions.now) }
 {
     let variables = list_length(formals).saturating_add(list_length(temporaries));
@@ -87,10 +91,10 @@ fn is_small(formals: &Tree, temporaries: &Tree, instructions: &[Tree]) -> bool
 fn program_parts(
     alloc: Global,
     place: u32,
-    name: &Tree,
-    formals: &Tree,
-    temporaries: &Tree,
-    instructions: &[Tree],
+    name: &TextTree,
+    formals: &TextTree,
+    temporaries: &TextTree,
+    instructions: &[TextTree],
 ) -> Result<Program, FormFault>
     ensures { Reads (λ program. program) result
         (Ok (new_program place (place_of (node_of formals.now)))
@@ -113,7 +117,7 @@ fn program_parts(
 }
 
 /// The program that the items of a list are.
-fn program_at(alloc: Global, place: u32, items: &[Tree]) -> Result<Program, FormFault>
+fn program_at(alloc: Global, place: u32, items: &[TextTree]) -> Result<Program, FormFault>
     ensures { Reads (λ program. program) result (program_of (list place (nodes_of items.now))) }
 {
     if items.len() < 4 {
@@ -137,10 +141,10 @@ impl Part for Program {
 
     ghost part_of = { program_of };
 
-    fn read(alloc: Global, tree: &Tree) -> Result<Program, FormFault> {
+    fn read(alloc: Global, tree: &TextTree) -> Result<Program, FormFault> {
         match tree {
-            Tree::Atom { place, text: _ } => Err(no_program(*place).into()),
-            Tree::List { place, items } => program_at(alloc, *place, items),
+            TextTree::Atom { place, text: _ } => Err(no_program(*place).into()),
+            TextTree::List { place, items } => program_at(alloc, *place, items),
         }
     }
 }

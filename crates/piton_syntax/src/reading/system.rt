@@ -15,7 +15,7 @@ ghost use Rattle.piton_syntax.specs.Systems.{new_area, new_system};
 use crate::reading::atom::{is_digits_atom, name as read_name, number};
 use crate::system::{Area, System};
 use stack_text::grammar::{FormFault, Part, each};
-use stack_text::{Breach, Tree};
+use stack_text::{Breach, TextTree};
 use std::alloc::Global;
 
 /// The most areas of a system.
@@ -32,7 +32,12 @@ fn no_area(place: u32) -> Breach
 }
 
 /// An area, of which the name and the words are given.
-fn area_parts(alloc: Global, place: u32, name: &Tree, words: &[Tree]) -> Result<Area, FormFault>
+fn area_parts(
+    alloc: Global,
+    place: u32,
+    name: &TextTree,
+    words: &[TextTree],
+) -> Result<Area, FormFault>
     ensures { Reads (λ area. area) result
         (Ok (new_area place) ⊛ named_of (node_of name.now) ⊛ each_of word_of (nodes_of words.now)) }
 {
@@ -42,7 +47,7 @@ fn area_parts(alloc: Global, place: u32, name: &Tree, words: &[Tree]) -> Result<
 }
 
 /// The area that the items of a list are.
-fn area_at(alloc: Global, place: u32, items: &[Tree]) -> Result<Area, FormFault>
+fn area_at(alloc: Global, place: u32, items: &[TextTree]) -> Result<Area, FormFault>
     ensures { Reads (λ area. area) result (area_of (list place (nodes_of items.now))) }
 {
     if items.len() < 2 {
@@ -61,10 +66,10 @@ impl Part for Area {
 
     ghost part_of = { area_of };
 
-    fn read(alloc: Global, tree: &Tree) -> Result<Area, FormFault> {
+    fn read(alloc: Global, tree: &TextTree) -> Result<Area, FormFault> {
         match tree {
-            Tree::Atom { place, text: _ } => Err(no_area(*place).into()),
-            Tree::List { place, items } => area_at(alloc, *place, items),
+            TextTree::Atom { place, text: _ } => Err(no_area(*place).into()),
+            TextTree::List { place, items } => area_at(alloc, *place, items),
         }
     }
 }
@@ -77,17 +82,17 @@ fn no_system(place: u32) -> Breach
 }
 
 /// Whether the tree is the word that begins a system.
-fn is_keyword(tree: &Tree) -> bool
+fn is_keyword(tree: &TextTree) -> bool
     ensures { result ≡ is_atom_of (λ bytes. bytes_eq bytes (codes "piton")) (node_of tree.now) }
 {
     match tree {
-        Tree::Atom { place: _, text } => text.as_slice() == b"piton".as_slice(),
-        Tree::List { place: _, items: _ } => false,
+        TextTree::Atom { place: _, text } => *text == b"piton".as_slice(),
+        TextTree::List { place: _, items: _ } => false,
     }
 }
 
 /// Whether the trees are the word that begins a system, and three numbers.
-fn is_head(keyword: &Tree, ctrl: &Tree, temp: &Tree, base: &Tree) -> bool
+fn is_head(keyword: &TextTree, ctrl: &TextTree, temp: &TextTree, base: &TextTree) -> bool
     ensures { result
         ≡ (is_atom_of (λ bytes. bytes_eq bytes (codes "piton")) (node_of keyword.now)
         && is_atom_of is_digits (node_of ctrl.now) && is_atom_of is_digits (node_of temp.now)
@@ -97,19 +102,19 @@ fn is_head(keyword: &Tree, ctrl: &Tree, temp: &Tree, base: &Tree) -> bool
 }
 
 /// The items of a list.
-fn items_of(tree: &Tree) -> Option<&[Tree]>
+fn items_of<'a, 'b>(tree: &'a TextTree<'b>) -> Option<&'a [TextTree<'b>]>
     ensures { MatchOption result
         ((p : ℕ) × (bytes : List ℕ) × (node_of tree.now ≡ atom p bytes))
         (λ items. (p : ℕ) × (node_of tree.now ≡ list p (nodes_of items.now))) }
 {
     match tree {
-        Tree::Atom { place: _, text: _ } => None,
-        Tree::List { place: _, items } => Some(items),
+        TextTree::Atom { place: _, text: _ } => None,
+        TextTree::List { place: _, items } => Some(items),
     }
 }
 
 /// Whether a system has no more parts than it may.
-fn is_small(areas: &[Tree], programs: &[Tree]) -> bool
+fn is_small(areas: &[TextTree], programs: &[TextTree]) -> bool
     ensures { result ≡ is_small_system (nodes_of areas.now) (nodes_of programs.now) }
 {
     areas.len() <= MOST_AREAS && programs.len() <= MOST_PROGRAMS
@@ -117,14 +122,14 @@ fn is_small(areas: &[Tree], programs: &[Tree]) -> bool
 
 /// The trees of a system after the word that begins it.
 #[derive(Clone, Copy)]
-struct SystemTrees<'a> {
-    main: &'a Tree,
-    ctrl: &'a Tree,
-    temp: &'a Tree,
-    base: &'a Tree,
-    areas: &'a [Tree],
-    stack: &'a [Tree],
-    programs: &'a [Tree],
+struct SystemTrees<'a, 'b> {
+    main: &'a TextTree<'b>,
+    ctrl: &'a TextTree<'b>,
+    temp: &'a TextTree<'b>,
+    base: &'a TextTree<'b>,
+    areas: &'a [TextTree<'b>],
+    stack: &'a [TextTree<'b>],
+    programs: &'a [TextTree<'b>],
 }
 
 /// A system, of which the parts are given.
@@ -159,7 +164,7 @@ fn system_parts(alloc: Global, place: u32, trees: SystemTrees) -> Result<System,
 }
 
 /// The system that the items of a list are.
-fn system_at(alloc: Global, place: u32, items: &[Tree]) -> Result<System, FormFault>
+fn system_at(alloc: Global, place: u32, items: &[TextTree]) -> Result<System, FormFault>
     ensures { Reads (λ system. system) result (system_of (list place (nodes_of items.now))) }
 {
     if items.len() < 8 {
@@ -193,11 +198,11 @@ fn system_at(alloc: Global, place: u32, items: &[Tree]) -> Result<System, FormFa
 }
 
 /// The system that a tree is: P1 where it is none, P9 where it is too large, and else the first fault in reading order.
-pub fn system(alloc: Global, tree: &Tree) -> Result<System, FormFault>
+pub fn system(alloc: Global, tree: &TextTree) -> Result<System, FormFault>
     ensures { Reads (λ system. system) result (system_of (node_of tree.now)) }
 {
     match tree {
-        Tree::Atom { place, text: _ } => Err(no_system(*place).into()),
-        Tree::List { place, items } => system_at(alloc, *place, items),
+        TextTree::Atom { place, text: _ } => Err(no_system(*place).into()),
+        TextTree::List { place, items } => system_at(alloc, *place, items),
     }
 }

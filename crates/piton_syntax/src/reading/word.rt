@@ -14,7 +14,7 @@ use crate::reading::atom::{is_digits_atom, is_name_atom, name, number};
 use crate::tag::{Tag, tag_named};
 use crate::word_text::{WordItem, WordText};
 use stack_text::grammar::{FormFault, Part, is_numeral_atom};
-use stack_text::{Breach, Tree};
+use stack_text::{Breach, TextTree};
 use std::alloc::Global;
 
 /// P5 at a word.
@@ -25,27 +25,27 @@ fn no_word(place: u32) -> Breach
 }
 
 /// Whether the tree is the word for true.
-fn is_true_atom(tree: &Tree) -> bool
+fn is_true_atom(tree: &TextTree) -> bool
     ensures { result ≡ is_atom_of is_true_word (node_of tree.now) }
 {
     match tree {
-        Tree::Atom { place: _, text } => text.as_slice() == b"t".as_slice(),
-        Tree::List { place: _, items: _ } => false,
+        TextTree::Atom { place: _, text } => *text == b"t".as_slice(),
+        TextTree::List { place: _, items: _ } => false,
     }
 }
 
 /// Whether the tree is the word for false.
-fn is_false_atom(tree: &Tree) -> bool
+fn is_false_atom(tree: &TextTree) -> bool
     ensures { result ≡ is_atom_of is_false_word (node_of tree.now) }
 {
     match tree {
-        Tree::Atom { place: _, text } => text.as_slice() == b"f".as_slice(),
-        Tree::List { place: _, items: _ } => false,
+        TextTree::Atom { place: _, text } => *text == b"f".as_slice(),
+        TextTree::List { place: _, items: _ } => false,
     }
 }
 
 /// An integer: one numeral.
-fn int_item(place: u32, parts: &[Tree]) -> Result<WordItem, Breach>
+fn int_item(place: u32, parts: &[TextTree]) -> Result<WordItem, Breach>
     ensures { Finds (λ item. item) result (item_of (Some tags.Int) place (nodes_of parts.now)) }
 {
     if parts.len() != 1 {
@@ -59,7 +59,7 @@ fn int_item(place: u32, parts: &[Tree]) -> Result<WordItem, Breach>
 }
 
 /// A natural number: digits alone.
-fn nat_item(place: u32, parts: &[Tree]) -> Result<WordItem, Breach>
+fn nat_item(place: u32, parts: &[TextTree]) -> Result<WordItem, Breach>
     ensures { Finds (λ item. item) result (item_of (Some tags.Nat) place (nodes_of parts.now)) }
 {
     if parts.len() != 1 {
@@ -73,7 +73,7 @@ fn nat_item(place: u32, parts: &[Tree]) -> Result<WordItem, Breach>
 }
 
 /// A bit vector: digits alone.
-fn bitv_item(place: u32, parts: &[Tree]) -> Result<WordItem, Breach>
+fn bitv_item(place: u32, parts: &[TextTree]) -> Result<WordItem, Breach>
     ensures { Finds (λ item. item) result (item_of (Some tags.Bitv) place (nodes_of parts.now)) }
 {
     if parts.len() != 1 {
@@ -87,7 +87,7 @@ fn bitv_item(place: u32, parts: &[Tree]) -> Result<WordItem, Breach>
 }
 
 /// A truth value: one of its two words.
-fn bool_item(place: u32, parts: &[Tree]) -> Result<WordItem, Breach>
+fn bool_item(place: u32, parts: &[TextTree]) -> Result<WordItem, Breach>
     ensures { Finds (λ item. item) result (item_of (Some tags.Bool) place (nodes_of parts.now)) }
 {
     if parts.len() != 1 {
@@ -101,14 +101,14 @@ fn bool_item(place: u32, parts: &[Tree]) -> Result<WordItem, Breach>
 }
 
 /// Whether the trees are a name, and a number in digits alone.
-fn is_named_number(name: &Tree, number: &Tree) -> bool
+fn is_named_number(name: &TextTree, number: &TextTree) -> bool
     ensures { result ≡ (is_atom_of is_name (node_of name.now) && is_atom_of is_digits (node_of number.now)) }
 {
     is_name_atom(name) && is_digits_atom(number)
 }
 
 /// An address: the name of an area, and an offset in digits alone.
-fn addr_item(alloc: Global, place: u32, parts: &[Tree]) -> Result<WordItem, FormFault>
+fn addr_item(alloc: Global, place: u32, parts: &[TextTree]) -> Result<WordItem, FormFault>
     ensures { Reads (λ item. item) result (item_of (Some tags.Addr) place (nodes_of parts.now)) }
 {
     if parts.len() != 2 {
@@ -124,7 +124,7 @@ fn addr_item(alloc: Global, place: u32, parts: &[Tree]) -> Result<WordItem, Form
 }
 
 /// A place: the name of a program, and the number of an instruction in digits alone.
-fn pc_item(alloc: Global, place: u32, parts: &[Tree]) -> Result<WordItem, FormFault>
+fn pc_item(alloc: Global, place: u32, parts: &[TextTree]) -> Result<WordItem, FormFault>
     ensures { Reads (λ item. item) result (item_of (Some tags.Pc) place (nodes_of parts.now)) }
 {
     if parts.len() != 2 {
@@ -140,7 +140,7 @@ fn pc_item(alloc: Global, place: u32, parts: &[Tree]) -> Result<WordItem, FormFa
 }
 
 /// A program: its name.
-fn subr_item(alloc: Global, place: u32, parts: &[Tree]) -> Result<WordItem, FormFault>
+fn subr_item(alloc: Global, place: u32, parts: &[TextTree]) -> Result<WordItem, FormFault>
     ensures { Reads (λ item. item) result (item_of (Some tags.Subr) place (nodes_of parts.now)) }
 {
     if parts.len() != 1 {
@@ -154,7 +154,12 @@ fn subr_item(alloc: Global, place: u32, parts: &[Tree]) -> Result<WordItem, Form
 }
 
 /// What follows a tag, which is `None` where its word is none.
-fn item(alloc: Global, tag: Option<Tag>, place: u32, parts: &[Tree]) -> Result<WordItem, FormFault>
+fn item(
+    alloc: Global,
+    tag: Option<Tag>,
+    place: u32,
+    parts: &[TextTree],
+) -> Result<WordItem, FormFault>
     ensures { Reads (λ item. item) result (item_of tag place (nodes_of parts.now)) }
 {
     match tag {
@@ -170,15 +175,15 @@ fn item(alloc: Global, tag: Option<Tag>, place: u32, parts: &[Tree]) -> Result<W
 }
 
 /// The word that the items of a list are.
-fn word_at(alloc: Global, place: u32, items: &[Tree]) -> Result<WordText, FormFault>
+fn word_at(alloc: Global, place: u32, items: &[TextTree]) -> Result<WordText, FormFault>
     ensures { Reads (λ word. word) result (word_of (list place (nodes_of items.now))) }
 {
     if items.is_empty() {
         return Err(no_word(place).into());
     }
     match &items[0] {
-        Tree::List { place: _, items: _ } => Err(no_word(place).into()),
-        Tree::Atom { place: _, text } => {
+        TextTree::List { place: _, items: _ } => Err(no_word(place).into()),
+        TextTree::Atom { place: _, text } => {
             let item = item(alloc, tag_named(text), place, &items[1..])?;
             Ok(WordText { place, item })
         }
@@ -186,12 +191,12 @@ fn word_at(alloc: Global, place: u32, items: &[Tree]) -> Result<WordText, FormFa
 }
 
 /// The word that a tree is: P5 where it is none, P8 where its numeral is out of range.
-pub fn word(alloc: Global, tree: &Tree) -> Result<WordText, FormFault>
+pub fn word(alloc: Global, tree: &TextTree) -> Result<WordText, FormFault>
     ensures { Reads (λ word. word) result (word_of (node_of tree.now)) }
 {
     match tree {
-        Tree::Atom { place, text: _ } => Err(no_word(*place).into()),
-        Tree::List { place, items } => word_at(alloc, *place, items),
+        TextTree::Atom { place, text: _ } => Err(no_word(*place).into()),
+        TextTree::List { place, items } => word_at(alloc, *place, items),
     }
 }
 
@@ -205,7 +210,7 @@ impl Part for WordText {
 
     ghost part_of = { word_of };
 
-    fn read(alloc: Global, tree: &Tree) -> Result<WordText, FormFault> {
+    fn read(alloc: Global, tree: &TextTree) -> Result<WordText, FormFault> {
         word(alloc, tree)
     }
 }

@@ -5,14 +5,14 @@ ghost use Rattle.stack_text.specs.Grammar.Parts.{is_atom_of};
 ghost use Rattle.stack_text.specs.Numerals.{is_numeral};
 ghost use Rattle.stack_text.specs.Seen.TreeView.{node_of};
 
-use crate::{Tree, is_numeral};
+use crate::{TextTree, is_numeral};
 
 /// Whether the tree is a numeral's atom.
-pub fn is_numeral_atom(tree: &Tree) -> bool
+pub fn is_numeral_atom(tree: &TextTree) -> bool
     ensures { result ≡ is_atom_of is_numeral (node_of tree.now) }
 {
     match tree {
-        Tree::Atom { place: _, text } => is_numeral(text),
-        Tree::List { place: _, items: _ } => false,
+        TextTree::Atom { place: _, text } => is_numeral(text),
+        TextTree::List { place: _, items: _ } => false,
     }
 }

@@ -6,19 +6,19 @@ ghost use Rattle.stack_text.specs.Grammar.Parts.{list_or, name_or};
 ghost use Rattle.stack_text.specs.Grammar.Reading.{Reads};
 
 use crate::grammar::fault::FormFault;
-use crate::{Named, Tree, read_name};
+use crate::{Named, TextTree, read_name};
 use std::alloc::Global;
 
 /// The name that a tree is; where it is none, it breaks the rule.
-pub fn named(alloc: Global, rule: u8, tree: &Tree) -> Result<Named, FormFault>
+pub fn named(alloc: Global, rule: u8, tree: &TextTree) -> Result<Named, FormFault>
     ensures { Reads (λ name. name) result (name_or rule (node_of tree.now)) }
 {
     match tree {
-        Tree::List { place, items: _ } => Err(FormFault::Form {
+        TextTree::List { place, items: _ } => Err(FormFault::Form {
             rule,
             place: *place,
         }),
-        Tree::Atom { place, text } => match read_name(alloc, text)? {
+        TextTree::Atom { place, text } => match read_name(alloc, text)? {
             Some(name) => Ok(Named {
                 place: *place,
                 name,
@@ -37,21 +37,21 @@ pub fn names(
     alloc: Global,
     list_rule: u8,
     name_rule: u8,
-    tree: &Tree,
+    tree: &TextTree,
 ) -> Result<Vec<Named>, FormFault>
     ensures { Reads (λ names. names.items) result (list_or list_rule (name_or name_rule) (node_of tree.now)) }
 {
     match tree {
-        Tree::Atom { place, text: _ } => Err(FormFault::Form {
+        TextTree::Atom { place, text: _ } => Err(FormFault::Form {
             rule: list_rule,
             place: *place,
         }),
-        Tree::List { place: _, items } => each_name(alloc, name_rule, items),
+        TextTree::List { place: _, items } => each_name(alloc, name_rule, items),
     }
 }
 
 /// The name that each tree is.
-fn each_name(alloc: Global, rule: u8, trees: &[Tree]) -> Result<Vec<Named>, FormFault>
+fn each_name(alloc: Global, rule: u8, trees: &[TextTree]) -> Result<Vec<Named>, FormFault>
     ensures { Reads (λ names. names.items) result (each_of (name_or rule) (nodes_of trees.now)) }
 {
     let mut names = Vec::with_capacity(alloc, trees.len())?;

@@ -7,7 +7,7 @@ ghost use Rattle.stack_text.specs.Grammar.Judged.{Judged, each_of};
 ghost use Rattle.stack_text.specs.Grammar.Parts.{list_length, list_or};
 ghost use Rattle.stack_text.specs.Grammar.Reading.{Reads};
 
-use crate::Tree;
+use crate::TextTree;
 use crate::grammar::fault::FormFault;
 use std::alloc::Global;
 
@@ -23,12 +23,12 @@ pub trait Part: Drop {
     ghost part_of: { Node → Judged Seen };
 
     /// The part that the tree is, or the first of its faults.
-    fn read(alloc: Global, tree: &Tree) -> Result<Self, FormFault>
+    fn read(alloc: Global, tree: &TextTree) -> Result<Self, FormFault>
         ensures { Reads view result (part_of (node_of tree.now)) };
 }
 
 /// The part that each tree is.
-pub fn each<T: Part>(alloc: Global, trees: &[Tree]) -> Result<Vec<T>, FormFault>
+pub fn each<T: Part>(alloc: Global, trees: &[TextTree]) -> Result<Vec<T>, FormFault>
     ensures { Reads (λ parts. map T.view parts.items) result (each_of T.part_of (nodes_of trees.now)) }
 {
     let mut parts = Vec::with_capacity(alloc, trees.len())?;
@@ -40,24 +40,24 @@ pub fn each<T: Part>(alloc: Global, trees: &[Tree]) -> Result<Vec<T>, FormFault>
 }
 
 /// The part that each item of a list is; where the tree is no list, it breaks the rule.
-pub fn each_in<T: Part>(alloc: Global, rule: u8, tree: &Tree) -> Result<Vec<T>, FormFault>
+pub fn each_in<T: Part>(alloc: Global, rule: u8, tree: &TextTree) -> Result<Vec<T>, FormFault>
     ensures { Reads (λ parts. map T.view parts.items) result (list_or rule T.part_of (node_of tree.now)) }
 {
     match tree {
-        Tree::Atom { place, text: _ } => Err(FormFault::Form {
+        TextTree::Atom { place, text: _ } => Err(FormFault::Form {
             rule,
             place: *place,
         }),
-        Tree::List { place: _, items } => each(alloc, items),
+        TextTree::List { place: _, items } => each(alloc, items),
     }
 }
 
 /// How many items a list has, and none where the tree is no list.
-pub fn list_length(tree: &Tree) -> usize
+pub fn list_length(tree: &TextTree) -> usize
     ensures { result ≡ list_length (node_of tree.now) }
 {
     match tree {
-        Tree::Atom { place: _, text: _ } => 0,
-        Tree::List { place: _, items } => items.len(),
+        TextTree::Atom { place: _, text: _ } => 0,
+        TextTree::List { place: _, items } => items.len(),
     }
 }

@@ -1,7 +1,7 @@
 use Rattle.std.proofs.Common.{Bor, ℕ, List, ap, ◌∙◌}
 use Rattle.std.specs.List.{position}
 use Rattle.std.specs.Str.{bytes_eq}
-use Rattle.space_cert.proofs.NameLaws.{position-map}
+use Rattle.gypsy_space.proofs.PositionLaws.{position-map}
 use Rattle.space_cert.proofs.reading.named_place.Goals as goal
 
 pub returns-clause-exact : goal.returns-clause-exact

@@ -1,4 +1,4 @@
-use Rattle.std.proofs.Common.{◌≡◌, [], Err, Some, None, length, map, refl, sym, ap, ◌∙◌, arith}
+use Rattle.std.proofs.Common.{◌≡◌, [], Err, Some, None, length, map, refl, sym, ◌∙◌, arith}
 use Rattle.std.proofs.lemmas.Bool.{eqb-false, eqb-true}
 use Rattle.std.proofs.lemmas.List.{map_push}
 use Rattle.std.proofs.lemmas.Result.{err_from_is_err_and}
@@ -134,7 +134,7 @@ statement-returns-in-None t c =
       node_of-list c.in-List.place c.in-List.items,
       sym c.as_slice.ensures.value,
       statement_by_parts c.in-List.place c.as_slice.result.now c.first-item.result c.in-Atom-first.place c.in-Atom-first.text None c.in-len1-up.len_at_least c.first-item.is c.in-Atom-first.is
-          (sym (ap keyword_named c.deref.ensures.value) ∙ sym c.keyword_named.ensures ∙ c.in-None.is),
+          (sym c.keyword_named.ensures ∙ c.in-None.is),
       c.no_statement-in-None.ensures,
     )
     ([], refl)
@@ -146,6 +146,6 @@ statement-returns-in-Some t c =
       node_of-list c.in-List.place c.in-List.items,
       sym c.as_slice.ensures.value,
       statement_by_parts c.in-List.place c.as_slice.result.now c.first-item.result c.in-Atom-first.place c.in-Atom-first.text (Some c.in-Some.keyword) c.in-len1-up.len_at_least c.first-item.is c.in-Atom-first.is
-          (sym (ap keyword_named c.deref.ensures.value) ∙ sym c.keyword_named.ensures ∙ c.in-Some.is),
+          (sym c.keyword_named.ensures ∙ c.in-Some.is),
     )
     c.form.ensures

@@ -16,5 +16,5 @@ returns-in-List c =
 
 pub returns-in-Atom : goal.returns-in-Atom
 returns-in-Atom c =
-    rw (first_and_rest c.args.items.now c.index-items-0.result (eqb-false (length c.args.items.now) 0 (sym c.is_empty.ensures ∙ c.if-is_empty.false)) c.index-items-0.is, c.in-Atom.is, node_of-atom c.in-Atom.place c.in-Atom.text, sym c.deref.ensures.value)
+    rw (first_and_rest c.args.items.now c.index-items-0.result (eqb-false (length c.args.items.now) 0 (sym c.is_empty.ensures ∙ c.if-is_empty.false)) c.index-items-0.is, c.in-Atom.is, node_of-atom c.in-Atom.place c.in-Atom.text)
     c.called_at.ensures

@@ -20,7 +20,6 @@ returns-then-is_label_word c =
       first_and_rest c.args.items.now c.index-items-0.result (eqb-false (length c.args.items.now) 0 (sym c.is_empty.ensures ∙ c.if-is_empty.false)) c.index-items-0.is,
       c.in-Atom.is,
       node_of-atom c.in-Atom.place c.in-Atom.text,
-      sym c.as_slice-word.ensures.value,
       sym c.is_label_word.ensures ∙ c.if-is_label_word.true,
     )
     c.labelled.ensures
@@ -31,7 +30,6 @@ returns-else-is_label_word c =
       first_and_rest c.args.items.now c.index-items-0.result (eqb-false (length c.args.items.now) 0 (sym c.is_empty.ensures ∙ c.if-is_empty.false)) c.index-items-0.is,
       c.in-Atom.is,
       node_of-atom c.in-Atom.place c.in-Atom.text,
-      sym c.as_slice-word.ensures.value,
       sym c.is_label_word.ensures ∙ c.if-is_label_word.false,
     )
     c.unlabelled.ensures

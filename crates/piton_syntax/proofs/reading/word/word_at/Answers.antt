@@ -1,4 +1,4 @@
-use Rattle.std.proofs.Common.{[], length, refl, sym, ap, ◌∙◌}
+use Rattle.std.proofs.Common.{[], length, refl, sym, ◌∙◌}
 use Rattle.std.proofs.lemmas.Bool.{eqb-false, eqb-true}
 use Rattle.std.proofs.lemmas.Result.{err_from_is_err_and}
 use Rattle.stack_text.specs.Seen.TreeView.{nodes_of}
@@ -29,7 +29,7 @@ returns-in_err-item-in-Atom c =
       first_and_rest c.args.items.now c.index-items-0.result (eqb-false (length c.args.items.now) 0 (sym c.is_empty.ensures ∙ c.if-is_empty.false)) c.index-items-0.is,
       c.in-Atom.is,
       node_of-atom c.in-Atom.place c.in-Atom.text,
-      sym (ap tag_named c.deref.ensures.value) ∙ sym c.tag_named.ensures,
+      sym c.tag_named.ensures,
     )
     (first_of_value c.in_err-item-in-Atom.field-0.0 (new_word c.args.place) (item_of c.tag_named.result c.args.place (nodes_of (rest 1 c.args.items.now))) c.in_err-item-in-Atom.ensures)
 
@@ -39,7 +39,7 @@ returns-in_ok-item-in-Atom c =
       first_and_rest c.args.items.now c.index-items-0.result (eqb-false (length c.args.items.now) 0 (sym c.is_empty.ensures ∙ c.if-is_empty.false)) c.index-items-0.is,
       c.in-Atom.is,
       node_of-atom c.in-Atom.place c.in-Atom.text,
-      sym (ap tag_named c.deref.ensures.value) ∙ sym c.tag_named.ensures,
+      sym c.tag_named.ensures,
       c.in_ok-item-in-Atom.ensures,
     )
     refl

@@ -1,9 +1,9 @@
 use Rattle.std.proofs.Common.{refl}
-use Rattle.stack_text.proofs.TreeViewLaws.{node_of-atom, node_of-list}
+use Rattle.stack_text.proofs.TreeViewLaws.{owned_node-atom, owned_node-list}
 use Rattle.stack_text.proofs.tree.Tree.place.Goals as goal
 
 pub returns-in-Atom : goal.returns-in-Atom
-returns-in-Atom c = rw (c.in-Atom.is, node_of-atom) refl
+returns-in-Atom c = rw (c.in-Atom.is, owned_node-atom) refl
 
 pub returns-in-List : goal.returns-in-List
-returns-in-List c = rw (c.in-List.is, node_of-list) refl
+returns-in-List c = rw (c.in-List.is, owned_node-list) refl

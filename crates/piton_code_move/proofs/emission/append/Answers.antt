@@ -1,4 +1,4 @@
-use Rattle.std.proofs.Common.{◌≡◌, ◌∙◌, Some, ap, sym}
+use Rattle.std.proofs.Common.{◌≡◌, ◌++◌, ◌∙◌, Some, ap, sym}
 use Rattle.std.specs.Prelude.{option_map}
 use Rattle.piton_check.specs.Sound.{local_count}
 use Rattle.piton_machine.specs.declared.group.Group.TheVariants.{Move}
@@ -9,10 +9,10 @@ use Rattle.piton_machine.specs.State.{program_of}
 use Rattle.piton_machine.proofs.GroupLaws.{instruction_here, pieces_here}
 use Rattle.piton_machine.proofs.StepLaws.{each_step_simulated}
 use Rattle.piton_code_move.proofs.CountLaws.{few_at}
-use Rattle.piton_code_move.proofs.emission.emit.Goals as goal
+use Rattle.piton_code_move.proofs.emission.append.Goals as goal
 
-pub emitted-requires : goal.emitted-requires
-emitted-requires c =
+pub push_move-requires : goal.push_move-requires
+push_move-requires c =
     let checked = c.args.checked.now in
     let r = c.resolved.result.now in
     let instr = c.in-Some.instr.now in
@@ -20,17 +20,17 @@ emitted-requires c =
     let here = instruction_here checked r c.args.program c.args.place instr c.resolved.ensures.value there in
     record { counts = few_at (system_in checked) c.resolved.ensures.checked.sound c.args.program c.args.place (decoded_view c.decode.result) (here ∙ ap Some (sym c.decode.ensures)) }
 
-pub returns-in_ok-emitted-in-Some-clause-pieces : goal.returns-in_ok-emitted-in-Some-clause-pieces
-returns-in_ok-emitted-in-Some-clause-pieces c =
+pub returns-in_ok-push_move-in-Some-clause-pieces : goal.returns-in_ok-push_move-in-Some-clause-pieces
+returns-in_ok-push_move-in-Some-clause-pieces c =
     let checked = c.args.checked.now in
     let r = c.resolved.result.now in
     let instr = c.in-Some.instr.now in
     let there : resolved_at r c.args.program c.args.place ≡ Some instr = sym c.instruction.ensures.resolved ∙ ap (option_map (λ i. i.now)) c.in-Some.is in
-    c.in_ok-emitted-in-Some.ensures c.args.program c.args.place (local_count (program_of (system_in checked) c.args.program))
-    ∙ pieces_here checked r c.args.program c.args.place instr c.resolved.ensures.value there Move (decoded_view c.decode.result) c.decode.ensures c.requires
+    c.in_ok-push_move-in-Some.ensures c.args.program c.args.place (local_count (program_of (system_in checked) c.args.program))
+    ∙ ap (λ ps. c.args.pieces.now.items ++ ps) (pieces_here checked r c.args.program c.args.place instr c.resolved.ensures.value there Move (decoded_view c.decode.result) c.decode.ensures c.requires)
 
-pub returns-in_ok-emitted-in-Some-clause-steps : goal.returns-in_ok-emitted-in-Some-clause-steps
-returns-in_ok-emitted-in-Some-clause-steps c = λ small m p q at here. each_step_simulated (system_in c.args.checked.now) c.resolved.ensures.checked.sound small m p q
+pub returns-in_ok-push_move-in-Some-clause-steps : goal.returns-in_ok-push_move-in-Some-clause-steps
+returns-in_ok-push_move-in-Some-clause-steps c = λ small m p q at here. each_step_simulated (system_in c.args.checked.now) c.resolved.ensures.checked.sound small m p q
 
 pub returns-in-None-clause-steps : goal.returns-in-None-clause-steps
 returns-in-None-clause-steps c = λ small m p q at here. each_step_simulated (system_in c.args.checked.now) c.resolved.ensures.checked.sound small m p q

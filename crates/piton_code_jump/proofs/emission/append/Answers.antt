@@ -1,4 +1,4 @@
-use Rattle.std.proofs.Common.{◌≡◌, ◌∙◌, Some, ap, sym}
+use Rattle.std.proofs.Common.{◌≡◌, ◌++◌, ◌∙◌, Some, ap, sym}
 use Rattle.std.specs.Prelude.{option_map}
 use Rattle.piton_check.specs.Instruction.{instruction_view, system_view}
 use Rattle.piton_check.specs.Resolved.{ResolvedOf}
@@ -11,10 +11,10 @@ use Rattle.piton_machine.specs.Templates.{pieces_of}
 use Rattle.piton_machine.proofs.GroupLaws.{instruction_here, pieces_here}
 use Rattle.piton_machine.proofs.StepLaws.{each_step_simulated}
 use Rattle.piton_code_jump.proofs.CountLaws.{next_fits}
-use Rattle.piton_code_jump.proofs.emission.emit.Goals as goal
+use Rattle.piton_code_jump.proofs.emission.append.Goals as goal
 
-pub emitted-requires : goal.emitted-requires
-emitted-requires c =
+pub push_jump-requires : goal.push_jump-requires
+push_jump-requires c =
     let checked = c.args.checked.now in
     let r = c.resolved-resolved.result.now in
     let instr = c.in-Some.instr.now in
@@ -22,20 +22,22 @@ emitted-requires c =
     let here = instruction_here checked r c.args.program c.args.place instr c.resolved-resolved.ensures.value there in
     record { next = next_fits (system_in checked) c.resolved-resolved.ensures.checked.sound c.args.program c.args.place (instruction_view instr) here }
 
-pub returns-in_ok-emitted-in-Some-clause-pieces : goal.returns-in_ok-emitted-in-Some-clause-pieces
-returns-in_ok-emitted-in-Some-clause-pieces c =
+pub returns-in_ok-push_jump-in-Some-clause-pieces : goal.returns-in_ok-push_jump-in-Some-clause-pieces
+returns-in_ok-push_jump-in-Some-clause-pieces c =
     let checked = c.args.checked.now in
     let r = c.resolved-resolved.result.now in
     let instr = c.in-Some.instr.now in
     let decoded = decoded_view c.decode-decoded.result in
     let there : resolved_at r c.args.program c.args.place ≡ Some instr = sym c.instruction.ensures.resolved ∙ ap (option_map (λ i. i.now)) c.in-Some.is in
     let locals : c.variables-locals.result ≡ variables_of (system_in checked) c.args.program = c.variables-locals.ensures.value ∙ ap (λ (u : ResolvedOf). variables_of (system_view u) c.args.program) c.resolved-resolved.ensures.value in
-    c.in_ok-emitted-in-Some.ensures
-    ∙ ap (λ n. only_of Jump decoded (pieces_of c.args.program c.args.place n decoded)) locals
+    c.in_ok-push_jump-in-Some.ensures
+    ∙ ap (λ ps. c.args.pieces.now.items ++ ps) (
+    ap (λ n. only_of Jump decoded (pieces_of c.args.program c.args.place n decoded)) locals
     ∙ pieces_here checked r c.args.program c.args.place instr c.resolved-resolved.ensures.value there Jump decoded c.decode-decoded.ensures c.requires
+    )
 
-pub returns-in_ok-emitted-in-Some-clause-steps : goal.returns-in_ok-emitted-in-Some-clause-steps
-returns-in_ok-emitted-in-Some-clause-steps c = λ small m p q at here. each_step_simulated (system_in c.args.checked.now) c.resolved-resolved.ensures.checked.sound small m p q
+pub returns-in_ok-push_jump-in-Some-clause-steps : goal.returns-in_ok-push_jump-in-Some-clause-steps
+returns-in_ok-push_jump-in-Some-clause-steps c = λ small m p q at here. each_step_simulated (system_in c.args.checked.now) c.resolved-resolved.ensures.checked.sound small m p q
 
 pub returns-in-None-clause-steps : goal.returns-in-None-clause-steps
 returns-in-None-clause-steps c = λ small m p q at here. each_step_simulated (system_in c.args.checked.now) c.resolved-resolved.ensures.checked.sound small m p q

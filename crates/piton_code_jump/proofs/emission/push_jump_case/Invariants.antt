@@ -2,8 +2,8 @@ use Rattle.std.proofs.Common.{◌≡◌, ◌++◌, map, take}
 use Rattle.piton_check.specs.Instruction.{place_of}
 use Rattle.piton_check.specs.declared.piece.Piece.TheVariants.{Place}
 use Rattle.piton_machine.specs.Templates.{jump_case_pieces}
-use Rattle.piton_code_jump.proofs.emission.jump_case.Given as goal
+use Rattle.piton_code_jump.proofs.emission.push_jump_case.Given as goal
 
 -- the places so far
 abbrev pub invariant-loop-arg : goal.invariant-loop-arg
-invariant-loop-arg l = l.pieces.items ≡ jump_case_pieces ++ map (λ to. Place l.program to) (map place_of (take l.arg-index l.args))
+invariant-loop-arg l = l.pieces.items ≡ l.fn.pieces.items ++ (jump_case_pieces ++ map (λ to. Place l.program to) (map place_of (take l.arg-index l.args)))

@@ -1,0 +1,16 @@
+use Rattle.stack_text.proofs.TreeLaws.{is_kept}
+use Rattle.stack_text.proofs.TreeInLaws.{gives_tree}
+use Rattle.stack_text.proofs.ReadLaws.{text_is_well_formed, text_is_in_order}
+use Rattle.stack_text.specs.Trees.{IsWellFormed}
+use Rattle.stack_text.specs.PlaceOrder.{IsInOrder}
+use Rattle.stack_text.specs.Seen.TreeView.{node_of}
+use Rattle.stack_text.proofs.reader.read_text_tree.Goals as goal
+
+pub returns-clause-value : goal.returns-clause-value
+returns-clause-value c = gives_tree node_of c.args.text.now c.read.result c.read.ensures
+
+pub returns-clause-well_formed : goal.returns-clause-well_formed
+returns-clause-well_formed c = is_kept node_of c.args.text.now IsWellFormed c.read.result c.read.ensures (text_is_well_formed c.args.text.now c.requires)
+
+pub returns-clause-order : goal.returns-clause-order
+returns-clause-order c = is_kept node_of c.args.text.now IsInOrder c.read.result c.read.ensures (text_is_in_order c.args.text.now)
