@@ -4,8 +4,9 @@
     python3 .ci/tools/edits.py [NAME ..]
 
 Without names it tries those of all crates. It works on a copy of the repository, in which a crate's folder must-fail has these edits alone,
-and lets the kit try them (`rt must-fail`). What the kit kept of a crate here is copied with it, so that only what isn't proved yet is proved
-first. It prints the kit's line for each edit, and then the edits that weren't refused; its status is 0 where there are none.
+and lets the kit try them by `rt ci` with the crates' names. So what the gate proved on this machine isn't proved again, the edits of several
+crates are tried at a time, and those of a crate that were tried once are kept: a run that is stopped goes on there (`rattle-kit-13b` has no
+`rt ci` with names). It prints the kit's line for each edit, and then the edits that weren't refused; its status is 0 where there are none.
 """
 import shutil
 import subprocess
@@ -16,6 +17,8 @@ from pathlib import Path
 TOP = Path(__file__).resolve().parents[2]
 EDITS = TOP / ".ci" / "edits"
 PASSED = "refused, as it must be"
+START = "rt: must-fail "
+AUTHOR = ["-c", "user.name=edits", "-c", "user.email=edits@localhost"]
 
 
 def crates_with_edits():
@@ -23,10 +26,10 @@ def crates_with_edits():
 
 
 def copy_repository(to):
-    """Copies what a check reads, and what earlier checks kept; no crate of the copy has an edit."""
+    """Copies what a check reads; no crate of the copy has an edit."""
     for name in ("crates.txt", "HANDLES"):
         shutil.copy2(TOP / name, to / name)
-    shutil.copytree(TOP / "crates", to / "crates", symlinks=True, ignore=shutil.ignore_patterns("must-fail"))
+    shutil.copytree(TOP / "crates", to / "crates", symlinks=True, ignore=shutil.ignore_patterns("must-fail", "out"))
 
 
 def try_edits(names):
@@ -36,13 +39,14 @@ def try_edits(names):
         copy_repository(copy)
         for name in names:
             shutil.copytree(EDITS / name, copy / "crates" / name / "must-fail")
-        subprocess.run(["git", "init", "-q", "."], cwd=copy, check=True)
-        ran = subprocess.Popen(["rt", "must-fail", *names], cwd=copy, stdout=subprocess.PIPE, text=True, errors="replace")
+        for words in (["init", "-q"], ["add", "-A"], [*AUTHOR, "commit", "-q", "-m", "edits"]):
+            subprocess.run(["git", *words], cwd=copy, check=True)
+        ran = subprocess.Popen(["rt", "ci", *names], cwd=copy, stdout=subprocess.PIPE, text=True, errors="replace")
         lines = []
         for line in ran.stdout:
-            print(line, end="", flush=True)
-            if line.startswith("must-fail "):
-                lines.append(line.rstrip("\n"))
+            if line.startswith(START):
+                print(line, end="", flush=True)
+                lines.append(line.rstrip("\n").removeprefix("rt: "))
         ran.wait()
         return lines
 
