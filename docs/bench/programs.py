@@ -95,4 +95,5 @@ def main():
     print(f"stack big 7 900: {taken('stack big 7 900'.split())}")
 
 
-main()
+if __name__ == "__main__":
+    main()
