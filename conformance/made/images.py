@@ -1,5 +1,5 @@
-"""Images by their fields: those that are refused, those cut short, the largest, and those of docs/image-file.md and of `build`. Places and
-texts were worked out by hand from the format of image files.
+"""Images by their fields: those that are refused, those cut short, the largest, words as instructions, readings, and those of docs/image-file.md
+and of `build`. Places and texts were worked out by hand from the format of image files.
 """
 import re
 import struct
@@ -128,6 +128,37 @@ TABLES = [
     (ONE + numbers(2, 3, 0, 0, 4, 0, 1048575), None),
 ]
 
+# An image of version 2 with a window of 20 words from 100 on, no slots and no words, the procedure `main` with a variable, and two marks.
+AT_100 = (
+    b"FM91"
+    + numbers(2, 100, 20, 102, *range(1, 17), 9, NO_CONDITION, 0, 0, 0, 1)
+    + name("main")
+    + numbers(0, 1)
+    + slot("x", 0, 0, 5)
+    + numbers(2, 100, 0, 48, 103, 0, 14)
+)
+
+# Another number at a place of it.
+NUMBERS_AT_100 = [
+    (4, 3, (2, 4)),
+    (4, 1, (4, 104)),
+    (104, 1001, (5, 104)),
+    (108, 0, (6, 108)),
+    (116, 202, (5, 116)),
+    (120, 201, (5, 120)),
+    (137, 200, (5, 137)),
+    (141, 1048577, (5, 141)),
+    (141, 3, (3, 169)),
+    (145, 99, (7, 145)),
+    (149, 1, (5, 149)),
+    (153, 1048576, (5, 153)),
+    (157, 100, (9, 157)),
+    (157, 99, (7, 157)),
+    (157, 120, (7, 157)),
+    (165, 1048576, (5, 165)),
+    (165, 1048575, None),
+]
+
 # 2. The largest image: a window of 2^20 words that ends at the last address, all of its words, 200 conditions and 200 slots under the
 # longest names, and an array of 4,096 items. It has ended where it begins, and its condition word, the first, says the last condition.
 
@@ -160,7 +191,79 @@ def largest_listing(printed):
     return len(lines) == 3 + 16 + 1 + 1 + 200 + 200 + SIZE and lines[-1] == b"fffffffe 000fffff MOVE[cc]{cvnz} (r15)+,#-1"
 
 
-# 3. The image of an assignment, for CTRL 7 and TEMP 3.
+# 3. Words as instructions: those that docs/fm9001.md explains, each operation, each store condition, each set of flags, and modes, registers
+# and immediates. In the last, bits 28 to 31, and without an immediate bits 6 to 8, are passed over.
+
+
+def letters(flags):
+    return "".join(letter for bit, letter in zip((8, 4, 2, 1), "cvnz") if flags & bit)
+
+
+OPERATIONS = "MOVE INC ADDC ADD NEG DEC SUBB SUB ROR ASR LSR XOR OR AND NOT M15".split()
+CONDITIONS = "cc cs vc vs nc ns zc zs hi ls ge lt gt le".split()
+LISTED = [
+    (0x00E00E05, "MOVE r3,#5"),
+    (0x00E08400, "MOVE -(r1),r0"),
+    (0x05E03C0F, "DEC r15,r15"),
+    (0x07E00C33, "SUB r3,(r3)+"),
+    (0x0379883F, "ADD[zs]{cz} -(r2),(r15)+"),
+    (0x0FFF7F00, "M15[nv]{cvnz} (r15),#-256"),
+    *((0x00E00402 | number << 24, f"{operation} r1,r2") for number, operation in enumerate(OPERATIONS)),
+    *((0x00000402 | number << 20, f"MOVE[{condition}] r1,r2") for number, condition in enumerate(CONDITIONS)),
+    (0x00F00402, "MOVE[nv] r1,r2"),
+    *((0x00E00402 | number << 16, f"MOVE{{{letters(number)}}} r1,r2") for number in range(1, 16)),
+    (0x03E00412, "ADD r1,(r2)"),
+    (0x03E00422, "ADD r1,-(r2)"),
+    (0x03E00432, "ADD r1,(r2)+"),
+    (0x03E04402, "ADD (r1),r2"),
+    (0x03E08402, "ADD -(r1),r2"),
+    (0x03E0C402, "ADD (r1)+,r2"),
+    (0x03E0C432, "ADD (r1)+,(r2)+"),
+    (0x03E0280B, "ADD r10,r11"),
+    (0x03E00600, "ADD r1,#0"),
+    (0x03E006FF, "ADD r1,#255"),
+    (0x03E00700, "ADD r1,#-256"),
+    (0x03E007FF, "ADD r1,#-1"),
+    (0xF3E005C2, "ADD r1,r2"),
+]
+
+
+def listed():
+    """An image of these words alone, and how its listing ends."""
+    words = [word for word, _ in LISTED]
+    image = b"FM91" + numbers(1, 0, len(words), 0, *[0] * 17, NO_CONDITION, 0, 0, len(words), *words)
+    lines = "".join(f"{at:08x} {word:08x} {text}\n" for at, (word, text) in enumerate(LISTED)).encode()
+    return Row("images.py: words as instructions", {"i": image}, [Run(b"show i", lambda text: text.endswith(b"flags ----\n" + lines), 0)])
+
+
+# 4. Readings: slots of each kind from 30 downwards, with the condition word at 31, the condition `mine`, and four instructions at 32 that store
+# registers where other registers point.
+
+SLOTS = [slot("x", 0, 0, 30), slot("b", 1, 0, 29), slot("c", 2, 0, 28), slot("a", 0, 3, 27), slot("d", 1, 1, 24)]
+VALUES = b"((x -2147483648) (b false) (c #65) (a (10 -10 30)) (d (true)))"
+READ = "x = -2147483648\nb = false\nc = #65\na = (10 -10 30)\nd = (true)\n"
+
+
+def storing(condition, pc, *stored):
+    """The image with this condition word, which begins at a place, and stores these words at these addresses."""
+    registers = [0, *(number for pair in stored for number in pair)]
+    registers += [0] * (15 - len(registers)) + [pc]
+    words = [0x00E04000 | (2 * place + 1) << 10 | (2 * place + 2) for place in range(4)]
+    head = numbers(1, 16, 32, 36, *registers, 0, 31, 1) + name("mine") + numbers(len(SLOTS)) + b"".join(SLOTS)
+    return b"FM91" + head + numbers(20, *[0] * 15, condition, *words)
+
+
+def readings():
+    """Each condition, and words that no value has."""
+    for condition, text in ((0, "?0"), (1, "routineerror"), (2, "normal"), (3, "mine"), (4, "?4")):
+        run = Run(b"run i v 0", f"finished 0\ncondition {text}\n{READ}".encode())
+        yield Row(f"images.py: condition {text}", {"i": storing(condition, 36), "v": VALUES}, [run])
+    image = storing(2, 32, (31, 4), (29, 0xFFFFFFFF), (28, 128), (24, 2))
+    run = Run(b"run i v 4", b"finished 4\ncondition ?4\nx = -2147483648\nb = ?4294967295\nc = ?128\na = (10 -10 30)\nd = (?2)\n")
+    yield Row("images.py: words that no value has", {"i": image, "v": VALUES}, [run])
+
+
+# 5. The image of an assignment, for CTRL 7 and TEMP 3.
 
 SEVEN = (TOP / "examples/first/seven.gypsy").read_bytes()
 
@@ -200,11 +303,15 @@ def fields():
         yield shown(f"ends with {tail.hex()}", returning()[:92] + tail, fault)
     for tail, fault in TABLES:
         yield shown(f"ends with {tail.hex()} in version 2", returning((0, 2)) + tail, fault)
+    for place, number, fault in NUMBERS_AT_100:
+        yield shown(f"{number} at place {place} of AT_100", AT_100[:place] + numbers(number) + AT_100[place + 4 :], fault)
+    run = Run(b"migrate i o", b"written o\n", stored="o", content=lambda files: files["o"] == files["i"])
+    yield Row("images.py: AT_100 is stored as it is", {"i": AT_100}, [run])
 
 
 def cuts():
     """Each beginning of an image is cut short, and a byte more is too many."""
-    for image in (returning(), returning((0, 2)) + TABLES[-1][0]):
+    for image in (returning(), returning((0, 2)) + TABLES[-1][0], AT_100):
         for length in range(len(image)):
             yield shown(f"cut to {length} of {len(image)} bytes", image[:length], (3, length))
         yield shown("a byte more", image + b"\0", (4, len(image)))
@@ -243,5 +350,7 @@ def rows():
     yield from cuts()
     yield from built()
     yield from changed()
+    yield listed()
+    yield from readings()
     runs = [Run(b"run i v 0", LARGEST_REPORT.encode()), Run(b"show i", largest_listing, 0)]
     yield Row("images.py: the largest", {"i": largest(), "v": LARGEST_TEXT.encode()}, runs)

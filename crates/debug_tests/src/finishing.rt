@@ -5,13 +5,16 @@ ghost use Rattle.level_debuggers.specs.Levels.{IsRunner};
 ghost use Rattle.level_debuggers.specs.Seen.Sessions.{IsSession};
 
 use crate::runners::accepted_of;
-use crate::sessions::ASSIGNS;
 use crate::transcript::session_of;
 use fm_machine::Machine;
 use level_debuggers::{Rule, Runner, Session, SessionRun};
 use stack_build::{ImageStart, start_image};
 use std::alloc::Global;
 use std::test::Fail;
+
+/// An assignment of a constant.
+const ASSIGNS: &[u8] =
+    b"(program main\n(proc main ((x integer)) () () () (mg-simple-constant-assignment x 7)))\n";
 
 /// More words than the window of the assignment has, from 0 on.
 const WORDS: u32 = 1000;

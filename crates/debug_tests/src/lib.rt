@@ -6,8 +6,6 @@
 #[cfg(test)]
 mod finishing;
 #[cfg(test)]
-mod large;
-#[cfg(test)]
 mod runners;
 #[cfg(test)]
 mod sessions;

@@ -1,108 +1,11 @@
-//! Sessions at each level, by the scripts that they are given.
+//! Sessions of systems and of images that aren't of a source, by the scripts that they are given. `conformance` has those of sources.
 
-use crate::runners::{Picture, of_image, of_source, of_system};
-use crate::transcript::{Lines, says};
+use crate::runners::{Picture, of_image, of_system};
+use crate::transcript::says;
 use std::test::Fail;
 
 /// No condition word.
 const NONE: u32 = 0xffff_ffff;
-
-/// An assignment of a constant.
-pub(crate) const ASSIGNS: &[u8] =
-    b"(program main\n(proc main ((x integer)) () () () (mg-simple-constant-assignment x 7)))\n";
-
-/// A procedure that calls itself.
-pub(crate) const RECURSIVE: &[u8] = b"(program main
-(proc main ((n integer)) () () () (call p (n) ()))
-(proc p ((n integer)) () ((b boolean false) (one integer 1)) ()
-(seq (mg-simple-constant-eq b n 0)
-(if b (no-op) (seq (mg-integer-subtract n n one) (call p (n) ()))))))
-";
-
-/// Scripts of a run of the assignment, and what is said.
-const SOURCES: [(&[u8], &str); 6] = [
-    (
-        b"attach last\nstep 5\ndetach last",
-        "attached last\nstepped 2 ended\nlast 48 14\n",
-    ),
-    (b"attach peak\nattach peak", "attached peak\nnone waits 2\n"),
-    (
-        b"show\nup\nstep 1\nshow",
-        "at 48 depth 1\ncondition normal\nx = 0\ntop\nstepped 1\nat 14 depth 1\ncondition normal\nx = 7\n",
-    ),
-    (
-        b"step 0\nstep 2\nstep 0\nstep 3\nshow",
-        "stepped 0\nstepped 2 ended\nstepped 0 ended\nstepped 0 ended\nended\ncondition normal\nx = 7\n",
-    ),
-    (
-        b"attach count\nattach last\nattach peak\nstep 1\ndetach peak\ndetach count\nstep 1\ndetach last\ndetach last",
-        "attached count\nattached last\nattached peak\nstepped 1\npeak 1\ncount 1\nstepped 1 ended\nlast 48 14\nnone attached 9\n",
-    ),
-    (b"detach count\nup", "none attached 1\ntop\n"),
-];
-
-fn sources() -> &'static [(&'static [u8], &'static str)] {
-    &SOURCES
-}
-
-#[test]
-fn runs_of_a_source(rt: HostRuntime) -> Result<(), Fail> {
-    for (script, wanted) in sources() {
-        let runner = of_source(rt.alloc(), ASSIGNS, 0, 100, 100)?;
-        let is_said = says(rt.alloc(), runner, script, Lines::Each, wanted)?;
-        assert!(rt; is_said, "{wanted}");
-    }
-    Ok(())
-}
-
-/// Scripts of a run in which a call has no room, and what is said.
-const WITHOUT_ROOM: [(&[u8], &str); 2] = [
-    (
-        b"attach peak\nattach last\nstep 100\nstep 1\ndetach peak\ndetach last",
-        "attached peak\nattached last\nstepped 12 ended\nstepped 0 ended\npeak 3\nlast 213 134 164 183 213 65 65 14\n",
-    ),
-    (
-        b"attach last\nstep 8\ndetach last\nup\nstep 1\nup\nstep 100\nshow",
-        "attached last\nstepped 8\nlast 48 134 164 183 213 134 164 183\ntop\nstepped 1\ntop\nstepped 3 ended\nended\ncondition spaceerror\nn = 0\n",
-    ),
-];
-
-fn without_room() -> &'static [(&'static [u8], &'static str)] {
-    &WITHOUT_ROOM
-}
-
-#[test]
-fn a_call_without_room(rt: HostRuntime) -> Result<(), Fail> {
-    for (script, wanted) in without_room() {
-        let runner = of_source(rt.alloc(), RECURSIVE, 2, 23, 10)?;
-        let is_said = says(rt.alloc(), runner, script, Lines::Each, wanted)?;
-        assert!(rt; is_said, "{wanted}");
-    }
-    Ok(())
-}
-
-/// Scripts that don't come to their ends, and what is said.
-const REFUSED: [(&[u8], &str); 2] = [
-    (
-        b"attach count\n\nstep 3\nattach count\nshow",
-        "attached count\nstepped 3\nnone waits 4\n",
-    ),
-    (b"step 8\ndetach last\nup", "stepped 8\nnone attached 2\n"),
-];
-
-fn refused() -> &'static [(&'static [u8], &'static str)] {
-    &REFUSED
-}
-
-#[test]
-fn a_refusal_ends_a_script(rt: HostRuntime) -> Result<(), Fail> {
-    for (script, wanted) in refused() {
-        let runner = of_source(rt.alloc(), RECURSIVE, 2, 23, 10)?;
-        let is_said = says(rt.alloc(), runner, script, Lines::Whole, wanted)?;
-        assert!(rt; is_said, "{wanted}");
-    }
-    Ok(())
-}
 
 /// The images of the tests.
 #[derive(Clone, Copy)]
@@ -229,7 +132,7 @@ fn systems() -> &'static [(&'static [u8], Pictured, &'static [u8], &'static str)
 fn runs_of_a_system(rt: HostRuntime) -> Result<(), Fail> {
     for (text, picture, script, wanted) in systems() {
         let runner = of_system(rt.alloc(), text, &picture_of(*picture))?;
-        let is_said = says(rt.alloc(), runner, script, Lines::Each, wanted)?;
+        let is_said = says(rt.alloc(), runner, script, wanted)?;
         assert!(rt; is_said, "{wanted}");
     }
     Ok(())
@@ -267,7 +170,7 @@ fn images() -> &'static [(Pictured, &'static [u8], &'static str)] {
 fn runs_of_an_image(rt: HostRuntime) -> Result<(), Fail> {
     for (picture, script, wanted) in images() {
         let runner = of_image(rt.alloc(), &picture_of(*picture))?;
-        let is_said = says(rt.alloc(), runner, script, Lines::Each, wanted)?;
+        let is_said = says(rt.alloc(), runner, script, wanted)?;
         assert!(rt; is_said, "{wanted}");
     }
     Ok(())

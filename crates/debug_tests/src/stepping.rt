@@ -3,12 +3,19 @@
 ghost use Rattle.level_debuggers.specs.Seen.Sessions.{IsSession};
 
 use crate::runners::of_source;
-use crate::sessions::RECURSIVE;
 use crate::transcript::session_of;
 use level_debuggers::{Rule, Session, SessionRun};
 use stack_text::Memory;
 use std::alloc::Global;
 use std::test::Fail;
+
+/// A procedure that calls itself.
+const RECURSIVE: &[u8] = b"(program main
+(proc main ((n integer)) () () () (call p (n) ()))
+(proc p ((n integer)) () ((b boolean false) (one integer 1)) ()
+(seq (mg-simple-constant-eq b n 0)
+(if b (no-op) (seq (mg-integer-subtract n n one) (call p (n) ()))))))
+";
 
 /// Steps a session to its end, 5 steps a call, and by another call where memory ran out in one. Nothing where so many calls don't
 /// reach the end.

@@ -12,15 +12,6 @@ use piton_machine::ErrorKind;
 use std::alloc::{AllocError, Global};
 use std::test::Fail;
 
-/// Whether the lines behind a refusal are followed too.
-#[derive(Clone, Copy)]
-pub(crate) enum Lines {
-    /// Each line as a script of its own.
-    Each,
-    /// The script as it is, which a refusal ends.
-    Whole,
-}
-
 /// Appends a line of a word and numbers.
 fn push_line(
     alloc: Global,
@@ -114,15 +105,12 @@ fn lines_of(alloc: Global, script: &[u8]) -> Result<Vec<Line>, Fail> {
     Ok(read_script(alloc, script)?)
 }
 
-/// What a session says to lines.
-fn said(alloc: Global, session: &mut Session, lines: &[Line], by: Lines) -> Result<Vec<u8>, Fail>
+/// What a session says to each line as a script of its own.
+fn said(alloc: Global, session: &mut Session, lines: &[Line]) -> Result<Vec<u8>, Fail>
     requires { IsSession session.old }
 {
     let mut text = Vec::new(alloc);
-    match by {
-        Lines::Each => say_each(alloc, session, lines, &mut text)?,
-        Lines::Whole => say(alloc, session, lines, &mut text)?,
-    }
+    say_each(alloc, session, lines, &mut text)?;
     Ok(text)
 }
 
@@ -135,31 +123,20 @@ pub(crate) fn session_of(alloc: Global, runner: Runner) -> Result<Session, Fail>
     Ok(Session::new(alloc, runner, watches)?)
 }
 
-/// Whether a session says this to a script.
-fn is_said(
-    alloc: Global,
-    session: &mut Session,
-    script: &[u8],
-    by: Lines,
-    wanted: &str,
-) -> Result<bool, Fail>
+/// Whether a session says this to the lines of a script, each as a script of its own.
+fn is_said(alloc: Global, session: &mut Session, script: &[u8], wanted: &str) -> Result<bool, Fail>
     requires { IsSession session.old }
 {
     let lines = lines_of(alloc, script)?;
-    let text = said(alloc, session, &lines, by)?;
+    let text = said(alloc, session, &lines)?;
     Ok(text.as_slice() == wanted.as_bytes())
 }
 
-/// Whether a session of a run, with a watch of each rule, says this to a script.
-pub(crate) fn says(
-    alloc: Global,
-    runner: Runner,
-    script: &[u8],
-    by: Lines,
-    wanted: &str,
-) -> Result<bool, Fail>
+/// Whether a session of a run, with a watch of each rule, says this to the lines of a script, each as a script of its own: so a refusal
+/// ends only its own line.
+pub(crate) fn says(alloc: Global, runner: Runner, script: &[u8], wanted: &str) -> Result<bool, Fail>
     requires { IsRunner runner }
 {
     let mut session = session_of(alloc, runner)?;
-    is_said(alloc, &mut session, script, by, wanted)
+    is_said(alloc, &mut session, script, wanted)
 }

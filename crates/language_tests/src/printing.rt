@@ -1,0 +1,4 @@
+//! What is printed of texts that are read.
+
+mod gypsy;
+mod piton;
