@@ -255,7 +255,7 @@ def storing(condition, pc, *stored):
 
 def readings():
     """Each condition, and words that no value has."""
-    for condition, text in ((0, "?0"), (1, "routineerror"), (2, "normal"), (3, "mine"), (4, "?4")):
+    for condition, text in ((0, "leave"), (1, "routineerror"), (2, "normal"), (3, "mine"), (4, "?4")):
         run = Run(b"run i v 0", f"finished 0\ncondition {text}\n{READ}".encode())
         yield Row(f"images.py: condition {text}", {"i": storing(condition, 36), "v": VALUES}, [run])
     image = storing(2, 32, (31, 4), (29, 0xFFFFFFFF), (28, 128), (24, 2))

@@ -168,7 +168,7 @@ COUNTS = [
     ("1,001 arguments", "check t", lambda: "(program m\n(proc m () () () () (mg-integer-add" + " x" * 1000 + ")))\n", "refused S22 at 31"),
     ("1,000 areas of one name", "pcheck t", lambda: of_programs("(m () () (ret))", main="m", areas="(a (nat 1))" * 1000), "refused Q2 at 27"),
     ("one area more", "pcheck t", lambda: of_programs("(m () () (ret))", main="m", areas="(a (nat 1))" * 1001), "refused P9 at 0"),
-    ("400 formals of one name", "pcheck t", lambda: of_programs("(m (" + " x" * 400 + ") () (ret))", main="m"), "refused Q14 at 9"),
+    ("400 formals of one name", "pcheck t", lambda: of_programs("(m (" + " x" * 400 + ") () (ret))", main="m"), "refused Q4 at 23"),
     ("one formal more", "pcheck t", lambda: of_programs("(m (" + " x" * 401 + ") () (ret))", main="m"), "refused P9 at 20"),
     ("2 formals and 398 temporaries", "pcheck t", lambda: of_programs("(m (x y) (" + "(t (nat 1))" * 398 + ") (ret))", main="m"), "refused Q14 at 9"),
     ("one temporary more", "pcheck t", lambda: of_programs("(m (x y) (" + "(t (nat 1))" * 399 + ") (ret))", main="m"), "refused P9 at 20"),
