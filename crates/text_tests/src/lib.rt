@@ -1,4 +1,5 @@
-//! Tests of what no command shows of the crates of common ground: trees, names and sequences, shelves and sinks.
+//! Tests of what no command shows of texts, files and output: trees, names and sequences; sources and systems that are printed again;
+//! shelves and sinks.
 //!
 //! They have a crate of their own, since a crate with tests is proved twice.
 #![tactic(auto)]
@@ -7,6 +8,8 @@
 mod memory;
 #[cfg(test)]
 mod names;
+#[cfg(test)]
+mod printing;
 #[cfg(test)]
 mod sequences;
 #[cfg(test)]
