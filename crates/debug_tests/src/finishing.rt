@@ -58,30 +58,46 @@ fn finished(alloc: Global) -> Result<Runner, Fail>
     Ok(session.finish())
 }
 
+fn make_plain_steps(machine: &mut Machine) -> Result<(), Fail> {
+    for _ in 0..5 {
+        machine.step()?;
+    }
+    Ok(())
+}
+
 /// The machine of the assignment after 5 steps without a session.
 fn stepped(alloc: Global) -> Result<Machine, Fail> {
     let start = start(alloc)?;
     let mut machine = start.machine;
-    for _ in 0..5 {
-        machine.step()?;
-    }
+    make_plain_steps(&mut machine)?;
     Ok(machine)
 }
 
-/// Whether the machine that comes out of the session has made 5 steps, the last one to the word at 12, and is as without a session.
-fn is_handed_back(alloc: Global) -> Result<bool, Fail> {
-    let plain = stepped(alloc)?;
-    match finished(alloc)? {
+/// Whether a runner's machine has made 5 steps, the last one to the word at 12, and is like another.
+fn is_like(runner: &Runner, plain: &Machine) -> bool {
+    match runner {
         Runner::Fm { image: _, machine } => {
-            Ok(machine.register(15) == 12 && are_equal(&machine, &plain))
+            machine.register(15) == 12 && are_equal(machine, plain)
         }
-        _ => Ok(false),
+        _ => false,
     }
+}
+
+/// Whether the machine that comes out of the session is so.
+fn is_handed_back(alloc: Global, plain: &Machine) -> Result<bool, Fail> {
+    let runner = finished(alloc)?;
+    Ok(is_like(&runner, plain))
+}
+
+/// Whether it is as without a session.
+fn is_as_without(alloc: Global) -> Result<bool, Fail> {
+    let plain = stepped(alloc)?;
+    is_handed_back(alloc, &plain)
 }
 
 #[test]
 fn a_finished_run_is_as_without_watches(rt: HostRuntime) -> Result<(), Fail> {
-    assert!(rt; is_handed_back(rt.alloc())?);
+    assert!(rt; is_as_without(rt.alloc())?);
     Ok(())
 }
 

@@ -11,7 +11,6 @@ use fm_code::template::*;
 use fm_machine::Machine;
 use fm_words::{Cc, Op};
 use std::alloc::Global;
-use std::process::Abort;
 use std::test::Fail;
 
 /// The code begins at 100, three words of areas at 150, the control stack's part at 160, the
@@ -34,58 +33,68 @@ fn set_below(machine: &mut Machine, end: u32, words: &[u32]) -> Result<u32, Fail
     Ok(at)
 }
 
-/// The address of the first of words that are found before an address.
-fn found_below(rt: &impl Abort, machine: &Machine, end: u32, words: &[u32]) -> u32 {
+/// The address of the first of words that are to be found before an address, where they are.
+fn found_below(machine: &Machine, end: u32, words: &[u32]) -> Option<u32> {
     let mut at = end;
     for word in words.iter().rev() {
         at = at.wrapping_sub(1);
-        assert_eq!(rt; machine.peek(at), Some(*word), "at {at}");
+        if machine.peek(at) != Some(*word) {
+            return None;
+        }
     }
-    at
+    Some(at)
 }
 
-fn machine_with(alloc: Global, code: &[u32], view: &View) -> Result<Machine, Fail> {
-    let mut machine = Machine::new(alloc, CODE, END - CODE)?;
+fn put_code(machine: &mut Machine, code: &[u32]) -> Result<(), Fail> {
     let mut pc = CODE;
     for word in code {
         machine.poke(pc, *word)?;
         pc = pc.wrapping_add(1);
     }
-    set_below(&mut machine, AREAS_END, view.areas)?;
-    let ctrl_top = set_below(&mut machine, TEMP, view.ctrl)?;
-    let temp_top = set_below(&mut machine, END, view.temp)?;
+    Ok(())
+}
+
+fn put_view(machine: &mut Machine, view: &View) -> Result<(), Fail> {
+    set_below(machine, AREAS_END, view.areas)?;
+    let ctrl_top = set_below(machine, TEMP, view.ctrl)?;
+    let temp_top = set_below(machine, END, view.temp)?;
     machine.set_register(0, view.frame);
     machine.set_register(1, ctrl_top);
     machine.set_register(2, temp_top);
     machine.set_register(15, CODE);
-    Ok(machine)
+    Ok(())
 }
 
-/// The code leads from the one view to the other in so many steps, and to this pc.
-fn executes(rt: &impl Abort, alloc: Global, case: &Case) -> Result<(), Fail> {
-    let Case {
-        code,
-        steps,
-        before,
-        pc,
-        after,
-    } = case;
-    let words = assembled(alloc, code)?;
-    let mut machine = machine_with(alloc, &words, before)?;
-    for _ in 0..*steps {
+/// Whether a machine has come to a pc, and has what a view says.
+fn has_view(machine: &Machine, pc: u32, view: &View) -> bool {
+    let ctrl_top = found_below(machine, TEMP, view.ctrl);
+    let temp_top = found_below(machine, END, view.temp);
+    found_below(machine, AREAS_END, view.areas).is_some()
+        && ctrl_top == Some(machine.register(1))
+        && temp_top == Some(machine.register(2))
+        && [machine.register(0), machine.register(15)] == [view.frame, pc]
+}
+
+fn make_steps(machine: &mut Machine, steps: u32) -> Result<(), Fail> {
+    for _ in 0..steps {
         machine.step()?;
     }
-    found_below(rt, &machine, AREAS_END, after.areas);
-    let ctrl_top = found_below(rt, &machine, TEMP, after.ctrl);
-    let temp_top = found_below(rt, &machine, END, after.temp);
-    let registers = [
-        machine.register(0),
-        machine.register(1),
-        machine.register(2),
-        machine.register(15),
-    ];
-    assert_eq!(rt; registers, [after.frame, ctrl_top, temp_top, *pc], "{code}");
     Ok(())
+}
+
+/// Whether code leads from the one view to the other in so many steps, and to this pc.
+fn leads(machine: &mut Machine, code: &[u32], case: &Case) -> Result<bool, Fail> {
+    put_code(machine, code)?;
+    put_view(machine, &case.before)?;
+    make_steps(machine, case.steps)?;
+    Ok(has_view(machine, case.pc, &case.after))
+}
+
+/// Whether the code of a case does so on a new machine.
+fn executes(alloc: Global, case: &Case) -> Result<bool, Fail> {
+    let code = assembled(alloc, case.code)?;
+    let mut machine = Machine::new(alloc, CODE, END - CODE)?;
+    leads(&mut machine, &code, case)
 }
 
 #[test]
@@ -98,7 +107,7 @@ fn moves_and_operations(rt: HostRuntime) -> Result<(), Fail> {
             pc: *pc,
             after: View::with_temp(after),
         };
-        executes(&rt, rt.alloc(), &case)?;
+        assert!(rt; executes(rt.alloc(), &case)?, "{code}");
     }
     Ok(())
 }
@@ -106,7 +115,7 @@ fn moves_and_operations(rt: HostRuntime) -> Result<(), Fail> {
 #[test]
 fn frames_and_areas(rt: HostRuntime) -> Result<(), Fail> {
     for case in CASES {
-        executes(&rt, rt.alloc(), &case)?;
+        assert!(rt; executes(rt.alloc(), &case)?, "{}", case.code);
     }
     Ok(())
 }
