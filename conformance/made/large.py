@@ -145,35 +145,40 @@ GENERATED = [
     ("10,000 calls inside 195 lists of 199 handlers, generated", "pit t 999 9 o", lambda: inside_handlers(RAISES, 10000), 0, "written o"),
 ]
 
-# As many parts as a text may have, and one more: the name, the words, the text, and what is printed.
+
+def of_parts(formals="()", conditions="()", variables="()", local="()", body="(no-op)"):
+    """A source of one procedure, from the texts of its parts."""
+    return f"(program m\n(proc m {formals} {conditions} {variables} {local} {body}))\n"
+
+
+# As many parts as a source may have, and one more: the name, the text, and what `check` prints.
+SOURCE_COUNTS = [
+    ("100,000 actuals", lambda: of_parts(body="(call p (x" + " x" * 99999 + ") ())"), "refused S16 at 37"),
+    ("200 formals", lambda: of_parts("((x integer)" + " (x integer)" * 199 + ")"), "refused S4 at 33"),
+    ("and a local", lambda: of_parts("((x integer)" + " (x integer)" * 199 + ")", variables="((y integer 1))"), "refused M12 at 11"),
+    ("201 formals that are none", lambda: of_parts("(x" + " x" * 200 + ")", variables="y"), "refused M12 at 11"),
+    ("200 conditions", lambda: of_parts(conditions="(c" + " c" * 199 + ")"), "refused S5 at 25"),
+    ("and a local one", lambda: of_parts(conditions="(c" + " c" * 199 + ")", local="(d)"), "refused M12 at 11"),
+    ("local conditions that are no list", lambda: of_parts(conditions="(c" + " c" * 150 + ")", local="c"), "refused M5 at 329"),
+    ("4,096 items", lambda: of_parts(variables="((a (array integer 4096) (1" + " 2" * 4095 + ")))"), "ok"),
+    ("1,000 arguments", lambda: of_parts(body="(mg-integer-add" + " x" * 1000 + ")"), "refused S22 at 31"),
+]
+
+# The same of systems: what `pcheck` prints.
+SYSTEM_COUNTS = [
+    ("1,000 areas of one name", lambda: of_programs("(m () () (ret))", main="m", areas="(a (nat 1))" * 1000), "refused Q2 at 27"),
+    ("one area more", lambda: of_programs("(m () () (ret))", main="m", areas="(a (nat 1))" * 1001), "refused P9 at 0"),
+    ("400 formals of one name", lambda: of_programs("(m (" + " x" * 400 + ") () (ret))", main="m"), "refused Q4 at 23"),
+    ("one formal more", lambda: of_programs("(m (" + " x" * 401 + ") () (ret))", main="m"), "refused P9 at 20"),
+    ("2 formals and 398 temporaries", lambda: of_programs("(m (x y) (" + "(t (nat 1))" * 398 + ") (ret))", main="m"), "refused Q14 at 9"),
+    ("one temporary more", lambda: of_programs("(m (x y) (" + "(t (nat 1))" * 399 + ") (ret))", main="m"), "refused P9 at 20"),
+    ("400 temporaries", lambda: of_programs("(m x (" + "(t (nat 1))" * 400 + ") (ret))", main="m"), "refused P3 at 23"),
+    ("401 temporaries", lambda: of_programs("(m x (" + "(t (nat 1))" * 401 + ") (ret))", main="m"), "refused P9 at 20"),
+]
+
 COUNTS = [
-    ("100,000 actuals", "check t", lambda: "(program m\n(proc m () () () () (call p (x" + " x" * 99999 + ") ())))\n", "refused S16 at 37"),
-    ("200 formals", "check t", lambda: "(program m\n(proc m ((x integer)" + " (x integer)" * 199 + ") () () () (no-op)))\n", "refused S4 at 33"),
-    (
-        "200 formals and a local",
-        "check t",
-        lambda: "(program m\n(proc m ((x integer)" + " (x integer)" * 199 + ") () ((y integer 1)) () (no-op)))\n",
-        "refused M12 at 11",
-    ),
-    ("201 formals that are none", "check t", lambda: "(program m\n(proc m (x" + " x" * 200 + ") () y () (no-op)))\n", "refused M12 at 11"),
-    ("200 conditions", "check t", lambda: "(program m\n(proc m () (c" + " c" * 199 + ") () () (no-op)))\n", "refused S5 at 25"),
-    ("200 conditions and a local one", "check t", lambda: "(program m\n(proc m () (c" + " c" * 199 + ") () (d) (no-op)))\n", "refused M12 at 11"),
-    ("local conditions that are no list", "check t", lambda: "(program m\n(proc m () (c" + " c" * 150 + ") () c (no-op)))\n", "refused M5 at 329"),
-    (
-        "4,096 items",
-        "check t",
-        lambda: "(program m\n(proc m () () ((a (array integer 4096) (1" + " 2" * 4095 + "))) () (no-op)))\n",
-        "ok",
-    ),
-    ("1,001 arguments", "check t", lambda: "(program m\n(proc m () () () () (mg-integer-add" + " x" * 1000 + ")))\n", "refused S22 at 31"),
-    ("1,000 areas of one name", "pcheck t", lambda: of_programs("(m () () (ret))", main="m", areas="(a (nat 1))" * 1000), "refused Q2 at 27"),
-    ("one area more", "pcheck t", lambda: of_programs("(m () () (ret))", main="m", areas="(a (nat 1))" * 1001), "refused P9 at 0"),
-    ("400 formals of one name", "pcheck t", lambda: of_programs("(m (" + " x" * 400 + ") () (ret))", main="m"), "refused Q4 at 23"),
-    ("one formal more", "pcheck t", lambda: of_programs("(m (" + " x" * 401 + ") () (ret))", main="m"), "refused P9 at 20"),
-    ("2 formals and 398 temporaries", "pcheck t", lambda: of_programs("(m (x y) (" + "(t (nat 1))" * 398 + ") (ret))", main="m"), "refused Q14 at 9"),
-    ("one temporary more", "pcheck t", lambda: of_programs("(m (x y) (" + "(t (nat 1))" * 399 + ") (ret))", main="m"), "refused P9 at 20"),
-    ("400 temporaries", "pcheck t", lambda: of_programs("(m x (" + "(t (nat 1))" * 400 + ") (ret))", main="m"), "refused P3 at 23"),
-    ("401 temporaries", "pcheck t", lambda: of_programs("(m x (" + "(t (nat 1))" * 401 + ") (ret))", main="m"), "refused P9 at 20"),
+    *(("check t", *row) for row in SOURCE_COUNTS),
+    *(("pcheck t", *row) for row in SYSTEM_COUNTS),
 ]
 
 # All of them: the layer, the name, the words, the text, the exit status and what is printed.
@@ -342,7 +347,7 @@ def rows():
         yield Row(f"large.py: files of {lengths} bytes", files, [run_of(words, status, printed)])
     for _, name, words, text, status, printed in TEXTS:
         yield Row(f"large.py: {name}", {"t": lambda text=text: text().encode()}, [run_of(words, status, printed)])
-    for name, words, text, printed in COUNTS:
+    for words, name, text, printed in COUNTS:
         yield Row(f"large.py: {name}", {"t": lambda text=text: text().encode()}, [Run(words.encode(), printed.encode() + b"\n")])
     for _, name, words, text, values, printed in RUNS:
         yield Row(f"large.py: {name}", {"t": text.encode(), "v": values.encode()}, [run_of(words, 0, printed)])

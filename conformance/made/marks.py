@@ -1,6 +1,4 @@
-"""Marks in the images that `build` stores: how many there are, and that each place that a run of the source comes to is one of theirs. The
-numbers were counted by hand from docs/generated.md.
-"""
+"""Marks in the images that `build` stores: how many there are, and that each place that a run of the source comes to is one of theirs."""
 import re
 import struct
 
