@@ -84,7 +84,7 @@ machine_says read walk source sizes base j values (At p x w fs t) accepted short
 
 -- ---- Piton's machine
 
--- a frame is there for the activation on top
+-- whatever a step gives, and where a frame is left, the run goes on
 after_goes : (run : PitonLevelOf) (r : Result Seen ErrorKind) → is_over (lifted Piton (piton_after run r)) ≡ false
 after_goes run (Ok v) = refl
 after_goes run (Err kind) = refl

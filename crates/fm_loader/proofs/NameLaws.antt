@@ -12,8 +12,7 @@ use Rattle.stack_text.proofs.SharedLaws.{any_now, no_earlier}
 use Rattle.fm_image.specs.declared.slot.Slot.{Slot}
 use Rattle.fm_loader.specs.Values.{HaveOwnNames, slot_named}
 
--- a name is none of those before it
-
+-- the name of the slot in a place is the one in that place among the names
 get_or-name : (slots : List Slot) (i : ℕ) (slot : Slot) → i < length slots → slot ≡ get_or slots i slot → slot.name ≡ get_or (map (λ s. s.name) slots) i slot.name
 get_or-name [] i slot lt is = absurd (omega arith)
 get_or-name (s ∷ slots) zero slot lt is = ap (λ (s : Slot). s.name) is

@@ -20,7 +20,7 @@ use std::alloc::Global;
 const MAX_LABEL_BYTES: usize = 11;
 
 /// The name of a label.
-#[tactic(auto, using(crate::proofs::LabelLaws::label_named), unfolding(crate::specs::Written::label_text))]
+#[tactic(auto, unfolding(crate::specs::Written::label_text))]
 pub(crate) fn label_named(alloc: Global, label: u32) -> Result<Named, Memory>
     ensures { IfOk result (λ name. name ≡ label_name label) }
 {

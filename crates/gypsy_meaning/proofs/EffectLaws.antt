@@ -105,7 +105,7 @@ set_holds test (y ∷ items) (suc i) z h e =
     let p = and_parts (test y) (list_all test items) h in
     and_from (test y) (list_all test (slice_set items i z)) p.0 (set_holds test items i z p.1 e)
 
--- the item of a simple value
+-- the item at an index is a simple value, or none is there
 indexed_fits : (k : Kind) (n : ℕ) (a : ValueOf) (z : ℤ) → a.shape ≡ record { kind = k; length = n } → ValueFits a → EffectFits (simple k) (indexed a z)
 indexed_fits k n a (negsuc i) e f = tt
 indexed_fits k n a (pos i) e f = pick (nat_lt i (length a.items)) refl

@@ -19,7 +19,7 @@ use Rattle.gypsy_syntax.proofs.RangeLaws.{simple_item}
 use Rattle.gypsy_predef.specs.Runs.{word_of_item, words_of_value, Argument, ArgumentFits, ArgumentsFit}
 use Rattle.gypsy_predef.proofs.StackLaws.{element_there}
 
--- a simple value has one item, in range
+-- a simple value has one item, and is one word
 pub simple_items : (k : Kind) (v : ValueOf) → v.shape ≡ simple k → ValueFits v → v.items ≡ item_of_value v ∷ []
 simple_items k v e f = one_item v.items (f.number ∙ ap item_count e)
 

@@ -317,7 +317,7 @@ keeps_fits s h = placed_source s (holds_at FitsForm (source_in (tree_of s)) (wit
 
 -- ---- arguments that fit, one by one
 
-pub one_fits : (a : ArgOf) → FitsArgument a → All FitsArgument (a ∷ [])
+one_fits : (a : ArgOf) → FitsArgument a → All FitsArgument (a ∷ [])
 one_fits a p = All-cons FitsArgument a [] p (All-nil FitsArgument)
 
 pub two_fit : (a b : ArgOf) → FitsArgument a → FitsArgument b → All FitsArgument (a ∷ b ∷ [])

@@ -58,7 +58,7 @@ impl<'a> TextTree<'a> {
     }
 
     /// The same tree, with bytes of its own.
-    pub fn to_owned(&self, alloc: Global) -> Result<Tree, AllocError>
+    pub(crate) fn to_owned(&self, alloc: Global) -> Result<Tree, AllocError>
         ensures { IfOk result (λ tree. owned_node tree ≡ node_of self.now) }
     {
         match self {
