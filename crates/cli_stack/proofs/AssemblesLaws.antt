@@ -30,9 +30,10 @@ use Rattle.command_line.specs.Roles.{limit_of}
 use Rattle.command_line.specs.Gathered.{text_or_end}
 use Rattle.command_line.specs.CommandFiles.{inputs_of, output_of}
 use Rattle.command_line.proofs.FileLaws.{was_short}
-use Rattle.cli_stack.specs.Commands.Asm.{assembled_stored}
-use Rattle.cli_stack.specs.Commands.Unasm.{printed_stored}
-use Rattle.cli_stack.specs.Answer.{set_file, stored_by, answer_on, answer_to, answer_by}
+use Rattle.stack_commands.specs.Commands.Asm.{assembled_stored}
+use Rattle.stack_commands.specs.Commands.Unasm.{printed_stored}
+use Rattle.stack_commands.specs.Prepared.{stored_by}
+use Rattle.cli_stack.specs.Answer.{set_file, answer_on, answer_to, answer_by}
 use Rattle.cli_stack.specs.Assembles.{HoldsAssembled, SpellsAgain, HoldsAssembly, StoresAssembled, StoresAssembly, Assembles}
 use Rattle.cli_stack.proofs.RoleLaws.{set_bytes, written_role, only_file, only_role, both_roles}
 

@@ -32,14 +32,15 @@ use Rattle.command_line.specs.declared.role.Role.TheVariants.{TaskSource, TaskVa
 use Rattle.command_line.specs.CommandFiles.{task_inputs, inputs_of}
 use Rattle.command_line.specs.Gathered.{Texts, texts_of, gathered}
 use Rattle.command_line.specs.CommandRows.{command_of}
-use Rattle.cli_stack.specs.declared.commands.turns.tasks.TasksFault.{TasksFault}
-use Rattle.cli_stack.specs.declared.reply.Verdict.{Verdict}
-use Rattle.cli_stack.specs.declared.reply.Verdict.TheVariants.{Done}
-use Rattle.cli_stack.specs.Replies.{ReplyOf, reply_text, status_of, verdict_line}
-use Rattle.cli_stack.specs.Commands.Run.{outcome_reply, run_reply}
-use Rattle.cli_stack.specs.Answer.{reply_by, answer_with, answer_on, answer_to, answer_by}
+use Rattle.stack_commands.specs.declared.turns.tasks.TasksFault.{TasksFault}
+use Rattle.stack_commands.specs.declared.reply.Verdict.{Verdict}
+use Rattle.stack_commands.specs.declared.reply.Verdict.TheVariants.{Done}
+use Rattle.stack_commands.specs.Replies.{ReplyOf, reply_text, status_of, verdict_line}
+use Rattle.stack_commands.specs.Commands.Run.{outcome_reply, run_reply}
+use Rattle.stack_commands.specs.Prepared.{reply_by}
+use Rattle.cli_stack.specs.Answer.{answer_with, answer_on, answer_to, answer_by}
 use Rattle.cli_stack.specs.Turns.{TaskMeaning, MeansTask, MeanTasks, meanings_text, TellsTasks, TellsEach, EachTaskIsTold}
-use Rattle.cli_stack.specs.Commands.Turns.{few_enough, image_or_fault, images_from, word_count, small_enough, values_or_fault, tasks_from, tasks_of, last_round, round_line, task_text, tasks_text, is_end, tasks_verdict, tasks_reply, turns_by, turns_reply}
+use Rattle.stack_commands.specs.Commands.Turns.{few_enough, image_or_fault, images_from, word_count, small_enough, values_or_fault, tasks_from, tasks_of, last_round, round_line, task_text, tasks_text, is_end, tasks_verdict, tasks_reply, turns_by, turns_reply}
 use Rattle.cli_stack.proofs.TellsLaws.{is_there}
 
 -- a text behind so many others

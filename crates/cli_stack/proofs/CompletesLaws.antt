@@ -36,8 +36,9 @@ use Rattle.command_line.specs.declared.status.Status.TheVariants.{ShelfFault, Si
 use Rattle.command_line.specs.CommandFiles.{inputs_of, output_of, file_names}
 use Rattle.command_line.specs.Ends.{end_line}
 use Rattle.command_line.specs.Gathered.{Texts}
-use Rattle.cli_stack.specs.Answer.{set_file, stored_by, answer_on, answer_to, answer_by, files_after}
-use Rattle.cli_stack.specs.Commands.Build.{image_stored}
+use Rattle.stack_commands.specs.Prepared.{stored_by}
+use Rattle.cli_stack.specs.Answer.{set_file, answer_on, answer_to, answer_by, files_after}
+use Rattle.stack_commands.specs.Commands.Build.{image_stored}
 use Rattle.cli_stack.specs.Tells.{IsBuilt, TellsMeaning, Tells}
 use Rattle.cli_stack.specs.FilesAndSizes.{IsReadable}
 use Rattle.cli_stack.specs.Completes.{HasSource, Completed, CompletesRun, CompletesCommand, Completes}

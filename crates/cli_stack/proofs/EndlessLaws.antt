@@ -25,11 +25,12 @@ use Rattle.command_line.specs.declared.role.Role.TheVariants.{Source, Values, Im
 use Rattle.command_line.specs.CommandFiles.{inputs_of}
 use Rattle.command_line.specs.Gathered.{Texts}
 use Rattle.command_line.specs.CommandRows.{command_of}
-use Rattle.cli_stack.specs.declared.reply.Verdict.TheVariants.{Unfinished}
-use Rattle.cli_stack.specs.Replies.{ReplyOf, status_of, verdict_line}
-use Rattle.cli_stack.specs.Commands.Go.{go_reply}
-use Rattle.cli_stack.specs.Commands.Run.{end_reply, run_reply, image_file_reply}
-use Rattle.cli_stack.specs.Answer.{reply_by, answer_with, answer_on, answer_to, answer_by}
+use Rattle.stack_commands.specs.declared.reply.Verdict.TheVariants.{Unfinished}
+use Rattle.stack_commands.specs.Replies.{ReplyOf, status_of, verdict_line}
+use Rattle.stack_commands.specs.Commands.Go.{go_reply}
+use Rattle.stack_commands.specs.Commands.Run.{end_reply, run_reply, image_file_reply}
+use Rattle.stack_commands.specs.Prepared.{reply_by}
+use Rattle.cli_stack.specs.Answer.{answer_with, answer_on, answer_to, answer_by}
 use Rattle.cli_stack.specs.Tells.{IsBuilt, IsRead}
 use Rattle.cli_stack.specs.FilesAndSizes.{IsReadable}
 use Rattle.cli_stack.specs.Endless.{TellsUnfinished, StaysOn, EndlessStaysOn}

@@ -39,11 +39,12 @@ use Rattle.command_line.specs.declared.words.reader.Level.TheVariants.{Gypsy, Pi
 use Rattle.command_line.specs.CommandFiles.{inputs_of}
 use Rattle.command_line.specs.Gathered.{Texts, gathered}
 use Rattle.command_line.specs.CommandRows.{command_of}
-use Rattle.cli_stack.specs.declared.reply.Verdict.{Verdict}
-use Rattle.cli_stack.specs.Replies.{ReplyOf, reply_text, verdict_line}
-use Rattle.cli_stack.specs.Commands.SourceText.{accepted_in}
-use Rattle.cli_stack.specs.Commands.Debug.{lines_reply, run_at, run_in, script_reply, session_on, session_reply}
-use Rattle.cli_stack.specs.Answer.{reply_by, answer_on, answer_to, answer_by}
+use Rattle.stack_commands.specs.declared.reply.Verdict.{Verdict}
+use Rattle.stack_commands.specs.Replies.{ReplyOf, reply_text, verdict_line}
+use Rattle.stack_commands.specs.Commands.SourceText.{accepted_in}
+use Rattle.stack_commands.specs.Commands.Debug.{lines_reply, run_at, run_in, script_reply, session_on, session_reply}
+use Rattle.stack_commands.specs.Prepared.{reply_by}
+use Rattle.cli_stack.specs.Answer.{answer_on, answer_to, answer_by}
 use Rattle.cli_stack.specs.FilesAndSizes.{IsReadable}
 use Rattle.cli_stack.specs.Explains.{BeginsWith, Explains, ExplainsMoments, steps_to}
 use Rattle.cli_stack.proofs.TellsLaws.{is_there}

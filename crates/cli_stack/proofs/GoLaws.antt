@@ -17,10 +17,10 @@ use Rattle.command_line.specs.declared.early_end.EarlyEnd.{EarlyEnd}
 use Rattle.command_line.specs.declared.early_end.EarlyEnd.TheVariants as early
 use Rattle.command_line.specs.declared.status.Status.TheVariants.{Done}
 use Rattle.command_line.specs.Ends.{end_status}
-use Rattle.cli_stack.specs.Replies.{status_of}
-use Rattle.cli_stack.specs.Commands.Run.{run_reply, values_reply}
-use Rattle.cli_stack.specs.Commands.SourceText.{build_verdict}
-use Rattle.cli_stack.specs.Commands.Go.{go_reply}
+use Rattle.stack_commands.specs.Replies.{status_of}
+use Rattle.stack_commands.specs.Commands.Run.{run_reply, values_reply}
+use Rattle.stack_commands.specs.Commands.SourceText.{build_verdict}
+use Rattle.stack_commands.specs.Commands.Go.{go_reply}
 use Rattle.cli_stack.specs.Answer.{Answer, answer_with}
 
 -- a machine comes to a program counter first once

@@ -18,8 +18,9 @@ use Rattle.command_line.specs.declared.role.Role.TheVariants.{Source, Piton, Val
 use Rattle.command_line.specs.Roles.{limit_of}
 use Rattle.command_line.specs.Gathered.{text_or_end}
 use Rattle.command_line.specs.CommandFiles.{inputs_of, output_of}
-use Rattle.cli_stack.specs.Answer.{set_file, stored_by, answer_on, answer_to, answer_by}
-use Rattle.cli_stack.specs.Commands.Build.{image_stored}
+use Rattle.stack_commands.specs.Prepared.{stored_by}
+use Rattle.cli_stack.specs.Answer.{set_file, answer_on, answer_to, answer_by}
+use Rattle.stack_commands.specs.Commands.Build.{image_stored}
 use Rattle.cli_stack.specs.Implements.{HoldsImplementation, StoresImplementation, Compiles}
 use Rattle.cli_stack.proofs.RoleLaws.{set_bytes, written_role, only_file, only_role}
 
@@ -51,8 +52,8 @@ go_holds : BuiltImplements → (watches : List Watching) (files : Files) (source
     → (answer_on (command.Go source values control temporary budget image) watches (first >>= λ text. (second >>= λ other. Ok ((Values, other) ∷ [])) >>= λ texts. Ok ((Source, text) ∷ texts))).output ≡ Some (stored, bytes)
     → HoldsImplementation files source (stack_sizes control temporary) bytes
 unfolding output_of stored_by
-go_holds laws watches files source values image control temporary budget (Err early) second stored bytes got sets = cc
-go_holds laws watches files source values image control temporary budget (Ok text) (Err early) stored bytes got sets = cc
+go_holds laws watches files source values image control temporary budget (Err early) second stored bytes got sets = absurd (let e : None ≡ Some (stored, bytes) = sets in cc)
+go_holds laws watches files source values image control temporary budget (Ok text) (Err early) stored bytes got sets = absurd (let e : None ≡ Some (stored, bytes) = sets in cc)
 go_holds laws watches files source values image control temporary budget (Ok text) (Ok other) stored bytes got sets =
     let file = was_short files (Source, source) text got in
     built_holds files source text control temporary stored bytes file.0 file.1 (built text control temporary 0) (laws text control temporary 0 (is_readable text file.1) (omega arith)) (Image, image) sets
@@ -62,7 +63,7 @@ build_holds : BuiltImplements → (watches : List Watching) (files : Files) (sou
     → (answer_on (command.Build source control temporary image) watches (first >>= λ text. Ok ((Source, text) ∷ []))).output ≡ Some (stored, bytes)
     → HoldsImplementation files source (stack_sizes control temporary) bytes
 unfolding output_of stored_by
-build_holds laws watches files source image control temporary (Err early) stored bytes got sets = cc
+build_holds laws watches files source image control temporary (Err early) stored bytes got sets = absurd (let e : None ≡ Some (stored, bytes) = sets in cc)
 build_holds laws watches files source image control temporary (Ok text) stored bytes got sets =
     let file = was_short files (Source, source) text got in
     built_holds files source text control temporary stored bytes file.0 file.1 (built text control temporary 0) (laws text control temporary 0 (is_readable text file.1) (omega arith)) (Image, image) sets

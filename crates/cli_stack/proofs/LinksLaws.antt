@@ -34,18 +34,19 @@ use Rattle.command_line.specs.Gathered.{Texts, text_or_end}
 use Rattle.command_line.specs.CommandFiles.{inputs_of, output_of}
 use Rattle.stack_text.specs.Lines.{line}
 use Rattle.command_line.proofs.FileLaws.{was_short}
-use Rattle.cli_stack.specs.declared.reply.Verdict.{Verdict}
-use Rattle.cli_stack.specs.declared.reply.Verdict.TheVariants.{Done}
-use Rattle.cli_stack.specs.Replies.{ReplyOf, status_of, verdict_line}
-use Rattle.cli_stack.specs.Commands.Run.{outcome_reply, run_reply, image_file_reply}
-use Rattle.cli_stack.specs.Commands.PitonText.{checked_in}
-use Rattle.cli_stack.specs.Commands.Pbuild.{is_large, checked_stored}
-use Rattle.cli_stack.specs.Answer.{set_file, stored_by, reply_by, answer_on, answer_to, answer_by}
+use Rattle.stack_commands.specs.declared.reply.Verdict.{Verdict}
+use Rattle.stack_commands.specs.declared.reply.Verdict.TheVariants.{Done}
+use Rattle.stack_commands.specs.Replies.{ReplyOf, status_of, verdict_line}
+use Rattle.stack_commands.specs.Commands.Run.{outcome_reply, run_reply, image_file_reply}
+use Rattle.stack_commands.specs.Commands.PitonText.{checked_in}
+use Rattle.stack_commands.specs.Commands.Pbuild.{is_large, checked_stored}
+use Rattle.stack_commands.specs.Prepared.{stored_by, reply_by}
+use Rattle.cli_stack.specs.Answer.{set_file, answer_on, answer_to, answer_by}
 use Rattle.cli_stack.specs.FilesAndSizes.{IsReadable}
 use Rattle.cli_stack.specs.Links.{cost_of, RunsAs, TellsCost, TellsCosts, HoldsLinked, StoresLinked, Links}
 use Rattle.cli_stack.proofs.RoleLaws.{set_bytes, written_role, only_file, only_role, both_roles}
 use Rattle.cli_stack.proofs.KnownLaws.{text_is_checked}
-use Rattle.cli_stack.proofs.LinkedLaws.{image_short, image_spelled}
+use Rattle.stack_commands.proofs.LinkedLaws.{image_short, image_spelled}
 use Rattle.cli_stack.proofs.LoadedLaws.{image_loaded}
 use Rattle.cli_stack.proofs.TellsLaws.{both_there}
 

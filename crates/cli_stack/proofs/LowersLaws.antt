@@ -16,7 +16,6 @@ use Rattle.fm_loader.specs.Values.{values_in}
 use Rattle.level_debuggers.specs.Tallies.{Watching}
 use Rattle.gypsy_syntax.specs.declared.literal.Decl.{Decl}
 use Rattle.gypsy_syntax.specs.Places.{unplaced_decl, unplaced_proc, without_places}
-use Rattle.gypsy_syntax.specs.Printed.{gypsy_text}
 use Rattle.gypsy_syntax.specs.Resolved.{place_among, program_of}
 use Rattle.gypsy_syntax.specs.Sources.{ProcOf, SourceOf}
 use Rattle.gypsy_space.specs.Costs.{Tally}
@@ -25,17 +24,16 @@ use Rattle.gypsy_meaning.specs.Calls.{CurrentCondition}
 use Rattle.gypsy_meaning.specs.Counted.{CountedOutcome, CountedDone, CountedUnfinished, counted_meaning, uncounted, tally_of}
 use Rattle.gypsy_meaning.specs.Meaning.{Done as RunDone, meaning}
 use Rattle.gypsy_meaning.proofs.CountLaws.{meaning-uncounted}
-use Rattle.mini_syntax.specs.MiniReading.{IsFault, IsFaultless}
+use Rattle.mini_syntax.specs.MiniReading.{IsFaultless}
 use Rattle.mini_syntax.specs.Breaches.{body_of, declared_of, names_of}
 use Rattle.mini_syntax.specs.declared.program.Declared.{Declared}
 use Rattle.mini_syntax.specs.Grammar.{InfixProgram}
 use Rattle.mini_syntax.specs.Language.{Stmt}
 use Rattle.mini_gypsy.specs.Lowered.{decl_of, lowered}
-use Rattle.mini_gypsy.specs.Promises as gypsy
 use Rattle.mini_texts.specs.Readings.{Reading, faultless, faulty, lowering_by, source_for}
 use Rattle.mini_texts.specs.Stored.{StandsFor, stored_text}
 use Rattle.mini_texts.proofs.PlaceLaws.{map_over}
-use Rattle.mini_texts.proofs.ReadingLaws.{fault_read, read, source_read}
+use Rattle.mini_texts.proofs.ReadingLaws.{read}
 use Rattle.mini_texts.proofs.RuleLaws.{procedure_same}
 use Rattle.mini_texts.proofs.StoredLaws.{stands, stored_short}
 use Rattle.stack_build.specs.Build.{source_in}
@@ -54,13 +52,11 @@ use Rattle.command_line.specs.Ends.{end_status}
 use Rattle.command_line.specs.Gathered.{Texts, text_or_end}
 use Rattle.command_line.specs.Roles.{limit_of}
 use Rattle.command_line.proofs.FileLaws.{was_short}
-use Rattle.cli_stack.specs.declared.reply.RuleLetter.TheVariants.{Y}
-use Rattle.cli_stack.specs.declared.reply.Verdict.TheVariants as verdict
-use Rattle.cli_stack.specs.Replies.{status_of, verdict_alone}
-use Rattle.cli_stack.specs.Commands.Run.{end_reply, run_reply}
-use Rattle.cli_stack.specs.Commands.Pit.{written_reply}
-use Rattle.cli_stack.specs.Commands.Mini.{lowering_of, lowered_stored, lowered_reply, mini_stored, mini_reply}
-use Rattle.cli_stack.specs.Answer.{set_file, stored_by, reply_by, answer_with, answer_on, answer_to, answer_by}
+use Rattle.stack_commands.specs.Replies.{status_of}
+use Rattle.stack_commands.specs.Commands.Run.{end_reply, run_reply}
+use Rattle.stack_commands.specs.Commands.Mini.{lowering_of, lowered_stored, lowered_reply}
+use Rattle.stack_commands.specs.Prepared.{stored_by, reply_by}
+use Rattle.cli_stack.specs.Answer.{set_file, answer_with, answer_on, answer_to, answer_by}
 use Rattle.cli_stack.specs.Implements.{HoldsImplementation, StoresImplementation}
 use Rattle.cli_stack.specs.FilesAndSizes.{IsReadable, sizes_of}
 use Rattle.cli_stack.specs.Lowers.{MeansProgram, TellsMini, RunEnds, CarriesRuns, HoldsRuns, StoresRuns, TellsEnd, TellsRuns, TellsOwn, LowersPrograms}
@@ -69,25 +65,7 @@ use Rattle.cli_stack.proofs.ImplementsLaws.{stores}
 use Rattle.cli_stack.proofs.SlotLaws.{image_takes}
 use Rattle.cli_stack.proofs.TellsLaws.{both_there, reply_tells}
 
--- 1. What the command makes of a text that the lowering has answered.
-
-pub lowered_file : (text : List ℕ) (s : SourceOf) → gypsy.Lowers text s → mini_stored text ≡ Some (gypsy_text s)
-unfolding lowering_of
-lowered_file text s a = ap lowered_stored (source_read text s a (read text))
-
-pub lowered_said : (name text : List ℕ) (s : SourceOf) → gypsy.Lowers text s → mini_reply name text ≡ written_reply name
-unfolding lowering_of
-lowered_said name text s a = ap (lowered_reply name) (source_read text s a (read text))
-
-pub fault_file : (text : List ℕ) (rule place : ℕ) → IsFault text rule place → mini_stored text ≡ None
-unfolding lowering_of
-fault_file text rule place f = ap lowered_stored (fault_read text rule place f (read text))
-
-pub fault_said : (name text : List ℕ) (rule place : ℕ) → IsFault text rule place → mini_reply name text ≡ verdict_alone (verdict.Refused Y rule place)
-unfolding lowering_of
-fault_said name text rule place f = ap (lowered_reply name) (fault_read text rule place f (read text))
-
--- 2. The variables of what is stored.
+-- 1. The variables of what is stored.
 
 names_over : (o : Option ProcOf) → map (λ (d : Decl). d.name.name) (formals_in (option_map unplaced_proc o)) ≡ map (λ (d : Decl). d.name.name) (formals_in o)
 names_over None = refl
@@ -117,7 +95,7 @@ stored_means text program few is =
       means = s.means;
     }
 
--- 3. `mini`.
+-- 2. `mini`.
 
 early_refused : (e : EarlyEnd) → end_status e ≡ Refused → ⊥
 early_refused (early.Missing name) h = cc
@@ -156,7 +134,7 @@ mini_tells watches files program source (Ok text) got = by_reading (read text)
       refused = λ h. record { text = text; readable = file; rule = b.rule; place = b.place; fault = f; told = refl; output = refl };
     }
 
--- 4. The images of a source that means what a program does.
+-- 3. The images of a source that means what a program does.
 
 -- a run of the program that is done is one of the source, and has a count
 finishes : (text : List ℕ) (program : InfixProgram) (means : MeansProgram text program) (sizes : StackSizes) (values finals : List ValueOf) (way : CurrentCondition) → FitsFormals means.source values → RunEnds program values finals way
@@ -195,7 +173,7 @@ images c files output holds source image stored bytes text program reads writes 
           runs = carries text program means h.image sizes (subst (λ (s : SourceOf). Implements h.image s sizes) same h.implements);
         }
 
--- 5. `go`.
+-- 4. `go`.
 
 -- a run of the image that ended tells how the program's run did
 module _ (source : SourceOf) (image : ImageOf) (sizes : StackSizes) (values finals : List ValueOf) (way : CurrentCondition) (count budget : ℕ) (output : Option (List ℕ × List ℕ))
@@ -238,7 +216,7 @@ go_tells implement take watches files source values image control temporary budg
     let fin = finishes text program means sizes found finals way fits (subst (λ (v : List ValueOf). RunEnds program v finals way) (sym same) ends) in
     run_tells means.source b.image sizes found finals way fin.0 budget _ builds.implements fits fin.1 done))
 
--- 6. All commands.
+-- 5. All commands.
 
 own_by : BuiltImplements → BuiltTakesValues → (c : Command) (watches : List Watching) (files : Files) → TellsOwn c files (answer_to c watches files)
 unfolding inputs_of

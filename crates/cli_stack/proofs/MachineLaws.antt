@@ -48,33 +48,33 @@ use Rattle.command_line.specs.declared.command.Command.{Command}
 use Rattle.command_line.specs.declared.command.Command.TheVariants as command
 use Rattle.command_line.specs.declared.role.Role.TheVariants as role
 use Rattle.command_line.specs.Gathered.{Texts, text_of, texts_of}
-use Rattle.cli_stack.specs.declared.commands.turns.tasks.TasksFault.{TasksFault}
-use Rattle.cli_stack.specs.declared.commands.turns.tasks.TasksFault.TheVariants as tasks_fault
-use Rattle.cli_stack.specs.declared.reply.Reply.{Reply}
-use Rattle.cli_stack.specs.declared.reply.SizeOf.TheVariants.{Words}
-use Rattle.cli_stack.specs.declared.reply.Verdict.{Verdict}
-use Rattle.cli_stack.specs.declared.reply.Verdict.TheVariants as verdict
-use Rattle.cli_stack.specs.Replies.{ReplyOf, reply_of, status_of, verdict_alone, judgement_reply, built_reply}
-use Rattle.cli_stack.specs.Answer.{reply_by}
-use Rattle.cli_stack.specs.Commands.Go.{go_reply}
-use Rattle.cli_stack.specs.Commands.Big.{go_on_source, big_reply}
-use Rattle.cli_stack.specs.Commands.Build.{build_reply}
-use Rattle.cli_stack.specs.Commands.Debug.{run_in, lines_reply, script_reply, session_reply}
-use Rattle.cli_stack.specs.Commands.Mean.{mean_end_reply, mean_run_reply, mean_started_reply, mean_accepted_reply}
-use Rattle.cli_stack.specs.Commands.Pbuild.{is_large, linked_reply, checked_reply}
-use Rattle.cli_stack.specs.Commands.Pit.{written_reply, pit_reply}
-use Rattle.cli_stack.specs.Commands.PitonText.{checked_in}
-use Rattle.cli_stack.specs.Commands.Prun.{run_end_reply, checked_run_reply, system_run_reply}
-use Rattle.cli_stack.specs.Commands.Run.{end_reply, run_reply, values_reply, image_reply}
-use Rattle.cli_stack.specs.Commands.Show.{listing_reply}
-use Rattle.cli_stack.specs.Commands.Migrate.{migrated_reply}
-use Rattle.cli_stack.specs.Commands.Asm.{assembled_reply}
-use Rattle.cli_stack.specs.Commands.Mini.{lowering_of, lowered_reply}
-use Rattle.cli_stack.specs.Commands.Unasm.{printed_reply}
-use Rattle.cli_stack.specs.Commands.Need.{bounds_reply, certified_reply, need_reply_by}
-use Rattle.cli_stack.specs.Commands.Cert.{judged_reply, certificate_reply, cert_reply_by}
-use Rattle.cli_stack.specs.Commands.SourceText.{accepted_in}
-use Rattle.cli_stack.specs.Commands.Turns.{fault_reply, tasks_of, tasks_reply, turns_by}
+use Rattle.stack_commands.specs.declared.turns.tasks.TasksFault.{TasksFault}
+use Rattle.stack_commands.specs.declared.turns.tasks.TasksFault.TheVariants as tasks_fault
+use Rattle.stack_commands.specs.declared.reply.Reply.{Reply}
+use Rattle.stack_commands.specs.declared.reply.SizeOf.TheVariants.{Words}
+use Rattle.stack_commands.specs.declared.reply.Verdict.{Verdict}
+use Rattle.stack_commands.specs.declared.reply.Verdict.TheVariants as verdict
+use Rattle.stack_commands.specs.Replies.{ReplyOf, reply_of, status_of, verdict_alone, judgement_reply, built_reply}
+use Rattle.stack_commands.specs.Prepared.{reply_by}
+use Rattle.stack_commands.specs.Commands.Go.{go_reply}
+use Rattle.stack_commands.specs.Commands.Big.{go_on_source, big_reply}
+use Rattle.stack_commands.specs.Commands.Build.{build_reply}
+use Rattle.stack_commands.specs.Commands.Debug.{run_in, lines_reply, script_reply, session_reply}
+use Rattle.stack_commands.specs.Commands.Mean.{mean_end_reply, mean_run_reply, mean_started_reply, mean_accepted_reply}
+use Rattle.stack_commands.specs.Commands.Pbuild.{is_large, linked_reply, checked_reply}
+use Rattle.stack_commands.specs.Commands.Pit.{written_reply, pit_reply}
+use Rattle.stack_commands.specs.Commands.PitonText.{checked_in}
+use Rattle.stack_commands.specs.Commands.Prun.{run_end_reply, checked_run_reply, system_run_reply}
+use Rattle.stack_commands.specs.Commands.Run.{end_reply, run_reply, values_reply, image_reply}
+use Rattle.stack_commands.specs.Commands.Show.{listing_reply}
+use Rattle.stack_commands.specs.Commands.Migrate.{migrated_reply}
+use Rattle.stack_commands.specs.Commands.Asm.{assembled_reply}
+use Rattle.stack_commands.specs.Commands.Mini.{lowering_of, lowered_reply}
+use Rattle.stack_commands.specs.Commands.Unasm.{printed_reply}
+use Rattle.stack_commands.specs.Commands.Need.{bounds_reply, certified_reply, need_reply_by}
+use Rattle.stack_commands.specs.Commands.Cert.{judged_reply, certificate_reply, cert_reply_by}
+use Rattle.stack_commands.specs.Commands.SourceText.{accepted_in}
+use Rattle.stack_commands.specs.Commands.Turns.{fault_reply, tasks_of, tasks_reply, turns_by}
 use Rattle.cli_stack.specs.Kept.{RunsImage, IsRunEnd}
 use Rattle.cli_stack.specs.Scaffold.Driver.{IsReplyTo}
 

@@ -39,12 +39,13 @@ use Rattle.command_line.specs.declared.command.TaskFiles.{TaskFiles}
 use Rattle.command_line.specs.declared.status.Status.TheVariants.{Done}
 use Rattle.command_line.specs.Gathered.{Texts}
 use Rattle.command_line.specs.CommandFiles.{task_inputs, inputs_of, output_of}
-use Rattle.cli_stack.specs.declared.reply.Verdict.{Verdict}
-use Rattle.cli_stack.specs.declared.reply.Verdict.TheVariants as verdict
-use Rattle.cli_stack.specs.Replies.{ReplyOf, status_of, verdict_line}
-use Rattle.cli_stack.specs.Commands.SourceText.{unless_refused, accepted_in}
-use Rattle.cli_stack.specs.Commands.Mean.{said_text, mean_end_reply, mean_run_reply, mean_started_reply, mean_accepted_reply, mean_reply}
-use Rattle.cli_stack.specs.Answer.{reply_by, answer_with, answer_on, answer_to, answer_by}
+use Rattle.stack_commands.specs.declared.reply.Verdict.{Verdict}
+use Rattle.stack_commands.specs.declared.reply.Verdict.TheVariants as verdict
+use Rattle.stack_commands.specs.Replies.{ReplyOf, status_of, verdict_line}
+use Rattle.stack_commands.specs.Commands.SourceText.{unless_refused, accepted_in}
+use Rattle.stack_commands.specs.Commands.Mean.{said_text, mean_end_reply, mean_run_reply, mean_started_reply, mean_accepted_reply, mean_reply}
+use Rattle.stack_commands.specs.Prepared.{reply_by}
+use Rattle.cli_stack.specs.Answer.{answer_with, answer_on, answer_to, answer_by}
 use Rattle.cli_stack.specs.FilesAndSizes.{IsReadable}
 use Rattle.cli_stack.specs.Means.{meaning_text, IsMeant, TellsSteps, Follows, FollowsMeanings, Means}
 use Rattle.cli_stack.proofs.TellsLaws.{both_there}

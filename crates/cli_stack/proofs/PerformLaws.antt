@@ -14,7 +14,8 @@ use Rattle.command_line.specs.Gathered.{Texts, gathered}
 use Rattle.command_line.specs.CommandFiles.{names_of, inputs_of, output_of, file_names}
 use Rattle.command_line.specs.Devices.{EndsAtOne, IsFaultAt, LeavesPart}
 use Rattle.command_line.proofs.GatherLaws.{rose_from}
-use Rattle.cli_stack.specs.Answer.{Answer, answer_to, answer_on, set_file, stored_by}
+use Rattle.stack_commands.specs.Prepared.{stored_by}
+use Rattle.cli_stack.specs.Answer.{Answer, answer_to, answer_on, set_file}
 use Rattle.cli_stack.specs.World.{ShelfOf, shelf_of}
 use Rattle.cli_stack.specs.Scaffold.Driver.{HasReason, LeavesAs, Leaves}
 

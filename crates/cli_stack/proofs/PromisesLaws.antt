@@ -16,10 +16,10 @@ use Rattle.command_line.specs.Ends.{end_status, end_line}
 use Rattle.command_line.specs.CommandFiles.{input_names, file_names}
 use Rattle.command_line.proofs.PrintLaws.{nothing_printed}
 use Rattle.cli_stack.specs.declared.driver.conclude.Conclusion.{Conclusion}
-use Rattle.cli_stack.specs.declared.reply.Reply.{Reply}
-use Rattle.cli_stack.specs.declared.reply.Verdict.{Verdict}
-use Rattle.cli_stack.specs.declared.reply.Verdict.TheVariants as verdict
-use Rattle.cli_stack.specs.Replies.{status_of, verdict_line}
+use Rattle.stack_commands.specs.declared.reply.Reply.{Reply}
+use Rattle.stack_commands.specs.declared.reply.Verdict.{Verdict}
+use Rattle.stack_commands.specs.declared.reply.Verdict.TheVariants as verdict
+use Rattle.stack_commands.specs.Replies.{status_of, verdict_line}
 use Rattle.cli_stack.specs.Answer.{Answer, early_answer, files_after, answer_by}
 use Rattle.cli_stack.specs.World.{World}
 use Rattle.cli_stack.specs.Promises.{PromisesOf}

@@ -35,7 +35,6 @@ use Rattle.piton_machine.specs.Fits.{system_in}
 use Rattle.piton_machine.specs.Seen.StateView.{Ran, state_run, opening}
 use Rattle.piton_machine.specs.Seen.StateView.{Seen as PitonSeen}
 use Rattle.gypsy_space.specs.Needs.{StackSizes as StackWords, stack_sizes}
-use Rattle.debug_script.specs.declared.fault.ScriptFault.TheVariants as script
 use Rattle.level_debuggers.specs.Tallies.{Watching}
 use Rattle.stack_shelf.specs.Shelf.{appended}
 use Rattle.stack_build.specs.Build.{source_in, reading_fault, accepted_unless, accepted_by}
@@ -44,24 +43,24 @@ use Rattle.command_line.specs.declared.command.Command.TheVariants as command
 use Rattle.command_line.specs.declared.role.Role.TheVariants as role
 use Rattle.command_line.specs.Gathered.{Texts, text_of}
 use Rattle.command_line.specs.CommandFiles.{output_of}
-use Rattle.cli_stack.specs.declared.reply.Reply.{Reply}
-use Rattle.cli_stack.specs.declared.reply.SizeOf.{SizeOf}
-use Rattle.cli_stack.specs.declared.reply.Verdict.{Verdict}
-use Rattle.cli_stack.specs.declared.reply.Verdict.TheVariants as verdict
-use Rattle.cli_stack.specs.Replies.{ReplyOf, verdict_alone, judgement_reply, reply_text, verdict_line}
-use Rattle.cli_stack.specs.Answer.{reply_by}
-use Rattle.cli_stack.specs.Commands.Run.{end_reply, run_reply, values_reply, image_reply}
-use Rattle.cli_stack.specs.Commands.Show.{listing_reply}
-use Rattle.cli_stack.specs.Commands.Migrate.{migrated_reply}
-use Rattle.cli_stack.specs.Commands.Asm.{assembled_reply}
-use Rattle.cli_stack.specs.Commands.Mini.{lowering_of, lowered_reply}
-use Rattle.cli_stack.specs.Commands.Unasm.{printed_reply}
-use Rattle.cli_stack.specs.Commands.Need.{bounds_reply, certified_reply, need_reply_by}
-use Rattle.cli_stack.specs.Commands.Cert.{judged_reply, certificate_reply, cert_reply_by}
-use Rattle.cli_stack.specs.Commands.Prun.{run_end_reply, checked_run_reply, system_run_reply}
-use Rattle.cli_stack.specs.Commands.SourceText.{build_verdict, unless_refused, accepted_in}
-use Rattle.cli_stack.specs.Commands.Pit.{written_reply}
-use Rattle.cli_stack.specs.Commands.PitonText.{piton_verdict, checked_unless, checked_by, checked_in}
+use Rattle.stack_commands.specs.declared.reply.Reply.{Reply}
+use Rattle.stack_commands.specs.declared.reply.SizeOf.{SizeOf}
+use Rattle.stack_commands.specs.declared.reply.Verdict.{Verdict}
+use Rattle.stack_commands.specs.declared.reply.Verdict.TheVariants as verdict
+use Rattle.stack_commands.specs.Replies.{ReplyOf, verdict_alone, judgement_reply, reply_text, verdict_line}
+use Rattle.stack_commands.specs.Prepared.{reply_by}
+use Rattle.stack_commands.specs.Commands.Run.{end_reply, run_reply, values_reply, image_reply}
+use Rattle.stack_commands.specs.Commands.Show.{listing_reply}
+use Rattle.stack_commands.specs.Commands.Migrate.{migrated_reply}
+use Rattle.stack_commands.specs.Commands.Asm.{assembled_reply}
+use Rattle.stack_commands.specs.Commands.Mini.{lowering_of, lowered_reply}
+use Rattle.stack_commands.specs.Commands.Unasm.{printed_reply}
+use Rattle.stack_commands.specs.Commands.Need.{bounds_reply, certified_reply, need_reply_by}
+use Rattle.stack_commands.specs.Commands.Cert.{judged_reply, certificate_reply, cert_reply_by}
+use Rattle.stack_commands.specs.Commands.Prun.{run_end_reply, checked_run_reply, system_run_reply}
+use Rattle.stack_commands.specs.Commands.SourceText.{build_verdict, unless_refused, accepted_in}
+use Rattle.stack_commands.specs.Commands.Pit.{written_reply}
+use Rattle.stack_commands.specs.Commands.PitonText.{piton_verdict, checked_unless, checked_by, checked_in}
 use Rattle.cli_stack.specs.World.{World}
 use Rattle.cli_stack.specs.Causes.{HasSizes, SizePrinted}
 use Rattle.cli_stack.specs.Scaffold.Driver.{IsReplyTo}

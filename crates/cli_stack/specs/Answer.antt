@@ -2,84 +2,18 @@
 use Rattle.std.specs.Prelude.{ℕ, List, Option, Some, None, Result, Ok, Err}
 use Rattle.fm_machine.specs.State.{Fm}
 use Rattle.stack_shelf.specs.Files.{Files, put_file}
-use Rattle.gypsy_space.specs.Needs.{stack_sizes}
-use Rattle.stack_build.specs.Build.{built, compiled}
 use Rattle.level_debuggers.specs.Tallies.{Watching}
 use Rattle.command_line.specs.declared.command.Command.{Command}
-use Rattle.command_line.specs.declared.command.Command.TheVariants.{Check, Mean, Pit, Build, Pcheck, Prun, Pbuild}
-use Rattle.command_line.specs.declared.command.Command.TheVariants.{Run, Go, Show, Migrate, Asm, Unasm, Need, Cert, Debug, Turns, Big, Mini}
 use Rattle.command_line.specs.declared.early_end.EarlyEnd.{EarlyEnd}
 use Rattle.command_line.specs.declared.role.Role.{Role}
-use Rattle.command_line.specs.declared.role.Role.TheVariants as role
 use Rattle.command_line.specs.declared.status.Status.{Status}
 use Rattle.command_line.specs.CommandRows.{command_of}
 use Rattle.command_line.specs.CommandFiles.{inputs_of, output_of}
-use Rattle.command_line.specs.Gathered.{Texts, text_of, texts_of, gathered}
+use Rattle.command_line.specs.Gathered.{Texts, gathered}
 use Rattle.command_line.specs.Ends.{end_status, end_line}
-use Rattle.cli_stack.specs.declared.reply.Verdict.TheVariants.{Usage}
-use Rattle.cli_stack.specs.Replies.{ReplyOf, verdict_alone, reply_text, status_of}
-use Rattle.cli_stack.specs.Commands.Check.{check_reply}
-use Rattle.cli_stack.specs.Commands.Mean.{mean_reply}
-use Rattle.cli_stack.specs.Commands.Pit.{pit_stored, pit_reply}
-use Rattle.cli_stack.specs.Commands.Build.{image_stored, build_reply}
-use Rattle.cli_stack.specs.Commands.Pcheck.{pcheck_reply}
-use Rattle.cli_stack.specs.Commands.Prun.{prun_reply}
-use Rattle.cli_stack.specs.Commands.Pbuild.{pbuild_stored, pbuild_reply}
-use Rattle.cli_stack.specs.Commands.Run.{image_file_reply}
-use Rattle.cli_stack.specs.Commands.Go.{go_reply}
-use Rattle.cli_stack.specs.Commands.Show.{show_reply}
-use Rattle.cli_stack.specs.Commands.Migrate.{migrate_stored, migrate_reply}
-use Rattle.cli_stack.specs.Commands.Asm.{asm_stored, asm_reply}
-use Rattle.cli_stack.specs.Commands.Unasm.{unasm_stored, unasm_reply}
-use Rattle.cli_stack.specs.Commands.Need.{need_stored, need_reply}
-use Rattle.cli_stack.specs.Commands.Cert.{cert_reply}
-use Rattle.cli_stack.specs.Commands.Debug.{debug_reply}
-use Rattle.cli_stack.specs.Commands.Turns.{turns_reply}
-use Rattle.cli_stack.specs.Commands.Big.{big_reply}
-use Rattle.cli_stack.specs.Commands.Mini.{mini_stored, mini_reply}
-
--- 1. What a command makes of its texts: what it stores, and what it replies. Watches are handed in, for `debug`.
-
-unfoldable pub stored_by : Command → Texts → Option (List ℕ)
-stored_by (Pit source control temporary piton) texts = pit_stored (compiled (text_of role.Source texts) control temporary 0)
-stored_by (Build source control temporary image) texts = image_stored (built (text_of role.Source texts) control temporary 0)
-stored_by (Pbuild piton image) texts = pbuild_stored (text_of role.Piton texts)
-stored_by (Go source values control temporary budget image) texts =
-    image_stored (built (text_of role.Source texts) control temporary 0)
-stored_by (Migrate image output) texts = migrate_stored (text_of role.Image texts)
-stored_by (Asm assembly image) texts = asm_stored (text_of role.Assembly texts)
-stored_by (Unasm image assembly) texts = unasm_stored (text_of role.Image texts)
-stored_by (Need source certificate) texts = need_stored (text_of role.Source texts)
-stored_by (Mini program source) texts = mini_stored (text_of role.Infix texts)
-stored_by _ texts = None
-
-unfoldable pub reply_by : Command → List Watching → Texts → ReplyOf
-reply_by (Check source) watches texts = check_reply (text_of role.Source texts)
-reply_by (Mean source values control temporary limit) watches texts =
-    mean_reply (text_of role.Source texts) (text_of role.Values texts) control temporary limit
-reply_by (Pit source control temporary piton) watches texts = pit_reply piton (compiled (text_of role.Source texts) control temporary 0)
-reply_by (Build source control temporary image) watches texts = build_reply (built (text_of role.Source texts) control temporary 0)
-reply_by (Pcheck piton) watches texts = pcheck_reply (text_of role.Piton texts)
-reply_by (Prun piton limit) watches texts = prun_reply (text_of role.Piton texts) limit
-reply_by (Pbuild piton image) watches texts = pbuild_reply (text_of role.Piton texts)
-reply_by (Run image values budget) watches texts = image_file_reply (text_of role.Image texts) (text_of role.Values texts) budget
-reply_by (Go source values control temporary budget image) watches texts =
-    go_reply (built (text_of role.Source texts) control temporary 0) (text_of role.Values texts) budget
-reply_by (Show image) watches texts = show_reply (text_of role.Image texts)
-reply_by (Migrate image output) watches texts = migrate_reply output (text_of role.Image texts)
-reply_by (Asm assembly image) watches texts = asm_reply (text_of role.Assembly texts)
-reply_by (Unasm image assembly) watches texts = unasm_reply assembly (text_of role.Image texts)
-reply_by (Need source certificate) watches texts = need_reply (text_of role.Source texts)
-reply_by (Cert source certificate control temporary) watches texts =
-    cert_reply (text_of role.Source texts) (text_of role.Certificate texts) control temporary
-reply_by (Debug level source values control temporary script) watches texts =
-    debug_reply level (text_of role.Source texts) (text_of role.Values texts) control temporary (text_of role.Script texts) watches
-reply_by (Turns turn budget control temporary tasks) watches texts =
-    turns_reply turn budget (stack_sizes control temporary) (texts_of role.TaskSource texts) (texts_of role.TaskValues texts)
-reply_by (Big number procedures) watches texts = big_reply number procedures
-reply_by (Mini program source) watches texts = mini_reply source (text_of role.Infix texts)
-
--- 2. All together: the first file that is missing or too long ends the command.
+use Rattle.stack_commands.specs.declared.reply.Verdict.TheVariants.{Usage}
+use Rattle.stack_commands.specs.Replies.{ReplyOf, verdict_alone, reply_text, status_of}
+use Rattle.stack_commands.specs.Prepared.{stored_by, reply_by}
 
 -- how the program ends: its status, what it prints, the file that it sets, and the state of the machine that was run
 pub record Answer : Type 0 where

@@ -5,12 +5,11 @@ use Rattle.stack_shelf.specs.Causes.{Counts, Rose}
 use Rattle.stack_shelf.specs.Shelf.{appended}
 use Rattle.command_line.specs.declared.command.Command.{Command}
 use Rattle.command_line.specs.declared.role.Role.TheVariants.{Image}
-use Rattle.command_line.specs.declared.status.Status.TheVariants.{Size}
 use Rattle.command_line.specs.Gathered.{Texts}
-use Rattle.cli_stack.specs.declared.reply.SizeOf.{SizeOf}
-use Rattle.cli_stack.specs.declared.reply.Verdict.TheVariants as verdict
-use Rattle.cli_stack.specs.Replies.{reply_text}
-use Rattle.cli_stack.specs.Answer.{reply_by}
+use Rattle.stack_commands.specs.declared.reply.SizeOf.{SizeOf}
+use Rattle.stack_commands.specs.declared.reply.Verdict.TheVariants as verdict
+use Rattle.stack_commands.specs.Replies.{reply_text}
+use Rattle.stack_commands.specs.Prepared.{reply_by}
 use Rattle.cli_stack.specs.World.{World}
 use Rattle.cli_stack.specs.FilesAndSizes.{StoresFile, sizes_of}
 

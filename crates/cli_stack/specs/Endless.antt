@@ -15,8 +15,8 @@ use Rattle.command_line.specs.declared.command.Command.TheVariants.{Run, Go}
 use Rattle.command_line.specs.declared.role.Role.TheVariants.{Values}
 use Rattle.command_line.specs.declared.status.Status.TheVariants.{Unfinished}
 use Rattle.command_line.specs.CommandRows.{command_of}
-use Rattle.cli_stack.specs.declared.reply.Verdict.TheVariants as verdict
-use Rattle.cli_stack.specs.Replies.{verdict_line}
+use Rattle.stack_commands.specs.declared.reply.Verdict.TheVariants as verdict
+use Rattle.stack_commands.specs.Replies.{verdict_line}
 use Rattle.cli_stack.specs.Answer.{Answer, answer}
 use Rattle.cli_stack.specs.Tells.{IsBuilt, IsRead}
 use Rattle.cli_stack.specs.FilesAndSizes.{IsReadable}

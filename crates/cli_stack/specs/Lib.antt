@@ -18,7 +18,5 @@ pub mod Explains
 pub mod Turns
 pub mod Answer
 pub mod World
-pub mod Replies
--- In folders: the commands, scaffold.
-pub mod Commands
+-- In a folder: scaffold.
 pub mod Scaffold

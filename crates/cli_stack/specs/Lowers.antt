@@ -23,9 +23,9 @@ use Rattle.command_line.specs.declared.command.Command.{Command}
 use Rattle.command_line.specs.declared.command.Command.TheVariants.{Go, Mini}
 use Rattle.command_line.specs.declared.role.Role.TheVariants.{Infix, Source, Values, Image}
 use Rattle.command_line.specs.declared.status.Status.TheVariants.{Done, Refused}
-use Rattle.cli_stack.specs.declared.reply.RuleLetter.TheVariants.{Y}
-use Rattle.cli_stack.specs.declared.reply.Verdict.TheVariants as verdict
-use Rattle.cli_stack.specs.Replies.{verdict_line}
+use Rattle.stack_commands.specs.declared.reply.RuleLetter.TheVariants.{Y}
+use Rattle.stack_commands.specs.declared.reply.Verdict.TheVariants as verdict
+use Rattle.stack_commands.specs.Replies.{verdict_line}
 use Rattle.cli_stack.specs.Answer.{Answer}
 use Rattle.cli_stack.specs.Tells.{TellsMeaning}
 use Rattle.cli_stack.specs.FilesAndSizes.{ReadsFile, StoresFile, IsReadable}

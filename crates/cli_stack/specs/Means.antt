@@ -22,7 +22,7 @@ use Rattle.command_line.specs.declared.status.Status.TheVariants.{Done}
 use Rattle.command_line.specs.CommandFiles.{inputs_of, output_of}
 use Rattle.cli_stack.specs.Answer.{Answer}
 use Rattle.cli_stack.specs.FilesAndSizes.{IsReadable}
-use Rattle.cli_stack.specs.Commands.Mean.{said_text}
+use Rattle.stack_commands.specs.Commands.Mean.{said_text}
 
 -- a run of a source's steps: the files of the source and of its values, the sizes of the stacks, and the most steps
 pub record FollowOf : Type 0 where

@@ -19,9 +19,9 @@ use Rattle.command_line.specs.declared.command.Command.{Command}
 use Rattle.command_line.specs.declared.command.Command.TheVariants.{Go, Need, Cert}
 use Rattle.command_line.specs.declared.role.Role.TheVariants.{Source}
 use Rattle.command_line.specs.declared.status.Status.TheVariants.{Done, Recursive}
-use Rattle.cli_stack.specs.declared.reply.Verdict.TheVariants as verdict
-use Rattle.cli_stack.specs.Replies.{verdict_line}
-use Rattle.cli_stack.specs.Commands.Need.{sizes_text}
+use Rattle.stack_commands.specs.declared.reply.Verdict.TheVariants as verdict
+use Rattle.stack_commands.specs.Replies.{verdict_line}
+use Rattle.stack_commands.specs.Commands.Need.{sizes_text}
 use Rattle.cli_stack.specs.Answer.{Answer, answer_to}
 use Rattle.cli_stack.specs.Tells.{TellsMeaning}
 use Rattle.cli_stack.specs.FilesAndSizes.{IsReadable}

@@ -4,7 +4,6 @@ use Rattle.stack_shelf.specs.Files.{Files}
 use Rattle.stack_shelf.specs.Causes.{Counts, Rose}
 use Rattle.stack_shelf.specs.Shelf.{PartlyStored, PrefixAppended}
 use Rattle.command_line.specs.declared.early_end.EarlyEnd.TheVariants as end
-use Rattle.command_line.specs.declared.status.Status.TheVariants.{ShelfFault}
 use Rattle.command_line.specs.Ends.{end_line}
 use Rattle.cli_stack.specs.Answer.{files_after}
 use Rattle.cli_stack.specs.World.{World}

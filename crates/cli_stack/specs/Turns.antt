@@ -21,7 +21,7 @@ use Rattle.command_line.specs.declared.status.Status.TheVariants.{Done}
 use Rattle.command_line.specs.CommandRows.{command_of}
 use Rattle.cli_stack.specs.Answer.{Answer, answer}
 use Rattle.cli_stack.specs.FilesAndSizes.{IsReadable}
-use Rattle.cli_stack.specs.Commands.Turns.{word_count, round_line}
+use Rattle.stack_commands.specs.Commands.Turns.{word_count, round_line}
 
 -- what a task means: the image of its source, and with which values of main's formals, with which condition and after how many
 -- counted instructions its meaning is done

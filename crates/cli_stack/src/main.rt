@@ -1,10 +1,8 @@
 //! The short stack as one program: runs the words of its command line over the files of the current folder.
 #![tactic(auto)]
 
-mod commands;
 mod driver;
 mod program;
-mod reply;
 #[cfg(test)]
 mod tests;
 

@@ -15,10 +15,11 @@ use Rattle.command_line.specs.Ends.{end_status, end_line}
 use Rattle.command_line.specs.Gathered.{Texts}
 use Rattle.command_line.specs.CommandFiles.{input_names, file_names}
 use Rattle.cli_stack.specs.declared.driver.conclude.Conclusion.{Conclusion}
-use Rattle.cli_stack.specs.declared.reply.Reply.{Reply}
-use Rattle.cli_stack.specs.declared.reply.Verdict.TheVariants.{Usage}
-use Rattle.cli_stack.specs.Replies.{status_of, verdict_line, reply_of, verdict_alone}
-use Rattle.cli_stack.specs.Answer.{Answer, reply_by, answer_with, early_answer, answer_by, files_after}
+use Rattle.stack_commands.specs.declared.reply.Reply.{Reply}
+use Rattle.stack_commands.specs.declared.reply.Verdict.TheVariants.{Usage}
+use Rattle.stack_commands.specs.Replies.{status_of, verdict_line, reply_of, verdict_alone}
+use Rattle.stack_commands.specs.Prepared.{reply_by}
+use Rattle.cli_stack.specs.Answer.{Answer, answer_with, early_answer, answer_by, files_after}
 use Rattle.cli_stack.specs.World.{ShelfOf, OutOf}
 use Rattle.cli_stack.specs.Remains.{HoldsPart, FaultRose}
 

@@ -3,9 +3,9 @@ ghost use Rattle.std.specs.Prelude.{◌≡◌, IfOk, Some};
 ghost use Rattle.cli_stack.specs.World.{out_of};
 ghost use Rattle.cli_stack.specs.Scaffold.Driver.{machine_kept, conclusion_of, Concludes};
 
-use crate::reply::Reply;
 use command_line::{EarlyEnd, Status, print};
 use fm_machine::Machine;
+use stack_commands::Reply;
 use stack_shelf::{PutFault, Sink};
 use stack_text::{Memory, Seq};
 use std::alloc::Global;

@@ -7,10 +7,9 @@ ghost use Rattle.command_line.specs.CommandRows.{command_of};
 ghost use Rattle.cli_stack.specs.World.{shelf_of};
 ghost use Rattle.cli_stack.specs.Scaffold.Driver.{Leaves, HasReason, IsReplyTo};
 
-use crate::commands::{Plan, finish, prepare};
-use crate::reply::{Reply, Verdict};
 use command_line::{Command, EarlyEnd, WordsFault, command_of, gather, save};
 use level_debuggers::Watch;
+use stack_commands::{Plan, Reply, Verdict, finish, prepare};
 use stack_shelf::Shelf;
 use std::alloc::Global;
 

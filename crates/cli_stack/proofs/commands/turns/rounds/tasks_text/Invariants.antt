@@ -1,7 +1,0 @@
-use Rattle.std.proofs.Common.{◌≡◌, ◌++◌, drop}
-use Rattle.cli_stack.specs.Scaffold.Told.{told_from}
-use Rattle.cli_stack.proofs.commands.turns.rounds.tasks_text.Given as goal
-
--- the text so far, and that of the tasks that are left, are that of all
-abbrev pub invariant-loop-i : goal.invariant-loop-i
-invariant-loop-i l = l.text.items ++ told_from l.budget l.turns l.i (drop l.i l.turns.contexts) ≡ told_from l.budget l.turns 0 l.turns.contexts

@@ -1,9 +1,0 @@
--- What is left to do once the file is stored, as the reply that it leads to.
-use Rattle.cli_stack.specs.declared.commands.plan.Pending.{Pending}
-use Rattle.cli_stack.specs.declared.commands.plan.Pending.TheVariants as pending
-use Rattle.cli_stack.specs.Replies.{ReplyOf, reply_of}
-use Rattle.cli_stack.specs.Commands.Run.{run_reply}
-
-abbrev pub pending_reply : Pending → ReplyOf
-pending_reply (pending.Reply reply) = reply_of reply
-pending_reply (pending.Run run) = run_reply run.image run.values run.budget

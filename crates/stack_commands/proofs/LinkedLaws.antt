@@ -1,0 +1,70 @@
+-- The image of a linked system keeps the limits of images, and its file those of files; where the words are too many, there is none.
+use Rattle.std.proofs.Common.{◌≡◌, ◌≤◌, ℕ, length, Some, None, true, false, refl, arith}
+use Rattle.std.specs.Prelude.{◌^◌, IsTrue}
+use Rattle.std.proofs.lemmas.Bool.{and_from, le-leb, le-ltb, lt-ltb}
+use Rattle.fm_image.specs.Image.{all_after, is_image}
+use Rattle.fm_image.specs.Spelling.{spelling, Spelled}
+use Rattle.fm_image.proofs.LimitLaws.{from_limits}
+use Rattle.piton_check.specs.PitonChecking.{CheckedOf, IsChecked}
+use Rattle.piton_check.specs.Instruction.{SystemView}
+use Rattle.piton_machine.specs.Fits.{system_in}
+use Rattle.piton_machine.specs.Placed.{placed}
+use Rattle.piton_linker.specs.declared.fault.LinkFault.TheVariants.{Large}
+use Rattle.piton_linker.specs.Layouts.{trimmed, IsFault}
+use Rattle.stack_build.specs.Image.{linked_image}
+use Rattle.stack_build.specs.PlacedWords.{PlacedAreWords}
+use Rattle.stack_build.proofs.ImageBytes.{file_few}
+use Rattle.stack_build.proofs.ImageLimits.{placed_fits}
+use Rattle.command_line.specs.declared.role.Role.TheVariants.{Image}
+use Rattle.command_line.specs.Roles.{limit_of}
+use Rattle.stack_commands.specs.declared.reply.SizeOf.TheVariants.{Words}
+use Rattle.stack_commands.specs.declared.reply.Verdict.TheVariants.{Size}
+use Rattle.stack_commands.specs.Replies.{verdict_alone}
+use Rattle.stack_commands.specs.Commands.Pbuild.{is_large, linked_stored, linked_reply}
+
+-- the image keeps the limits of images
+pub image_fits : (c : CheckedOf) → IsChecked c → (placed (system_in c)).size ≤ 2 ^ 20 → IsTrue (is_image (linked_image (system_in c)))
+unfolding all_after
+image_fits c is small =
+    let s : SystemView = system_in c in
+    let fits = placed_fits s is.sound small in
+    from_limits (linked_image s) record {
+      version = refl;
+      tables = refl;
+      window = and_from _ _ fits.sized fits.inside;
+      registers = refl;
+      condition_address = refl;
+      condition_count = refl;
+      conditions = refl;
+      slot_count = refl;
+      slots = refl;
+      words = le-leb (length (trimmed (placed s).words)) (placed s).size fits.few;
+    }
+
+-- its file is short enough to be read
+pub image_short : (c : CheckedOf) → IsChecked c → (placed (system_in c)).size ≤ 2 ^ 20 → length (spelling (linked_image (system_in c))) ≤ limit_of Image
+image_short c is small = let all = file_few (linked_image (system_in c)) (image_fits c is small) in omega (arith, all)
+
+-- and is the one spelling of it
+pub image_spelled : PlacedAreWords → (c : CheckedOf) → IsChecked c → (placed (system_in c)).size ≤ 2 ^ 20 → Spelled (spelling (linked_image (system_in c))) (linked_image (system_in c))
+image_spelled placed_are_words c is small =
+    let words = placed_are_words (system_in c) is.sound small in
+    record { limits = image_fits c is small; registers = words.0; words = words.1; fields = refl }
+
+-- where the words are few enough, its spelling is stored
+pub small_stored : (s : SystemView) → (placed s).size ≤ 2 ^ 20 → linked_stored s ≡ Some (spelling (linked_image s))
+small_stored s small =
+    let few : is_large s ≡ false = le-ltb (2 ^ 20) (placed s).size small in
+    rw few refl
+
+-- where the words are too many, nothing is stored
+pub large_stored : (s : SystemView) (need : ℕ) → IsFault s (Large need) → linked_stored s ≡ None
+large_stored s need fault =
+    let large : is_large s ≡ true = lt-ltb (2 ^ 20) (placed s).size fault.1 in
+    rw large refl
+
+-- and it is said how many they are
+pub large_reply : (s : SystemView) (need : ℕ) → IsFault s (Large need) → linked_reply s ≡ verdict_alone (Size Words need)
+large_reply s need fault =
+    let large : is_large s ≡ true = lt-ltb (2 ^ 20) (placed s).size fault.1 in
+    rw (large, fault.0) refl

@@ -1,0 +1,3 @@
+-- Scaffold: what only private functions and lemmas say.
+pub mod Tasks
+pub mod Told

@@ -1,0 +1,268 @@
+//! The command `debug`.
+ghost use Rattle.std.specs.Prelude.{◌≡◌, ◌≤◌, ◌^◌, List, [], None, Some, IfOk, length, map};
+ghost use Rattle.gypsy_space.specs.Needs.{stack_sizes};
+ghost use Rattle.gypsy_syntax.specs.Seen.SourceView.{source_of};
+ghost use Rattle.level_debuggers.specs.Levels.{IsRunner, LevelOf, level_of};
+ghost use Rattle.level_debuggers.specs.Seen.Sessions.{IsSession, session_of};
+ghost use Rattle.level_debuggers.specs.Transcripts.{followed};
+ghost use Rattle.level_debuggers.specs.Tallies.{Watching, watching};
+ghost use Rattle.stack_build.specs.Starts.{GivesStart};
+ghost use Rattle.debug_script.specs.Scripts.{fault_of, script_of};
+ghost use Rattle.command_line.specs.declared.role.Role.TheVariants as Role;
+ghost use Rattle.command_line.specs.declared.words.reader.Level.TheVariants as Level;
+ghost use Rattle.command_line.specs.Gathered.{text_of};
+ghost use Rattle.stack_commands.specs.Replies.{verdict_alone};
+ghost use Rattle.stack_commands.specs.Commands.Debug.{run_at, run_in, found_run, session_on, end_verdict, followed_reply, script_verdict, script_reply, debug_reply};
+ghost use Rattle.stack_commands.specs.Plans.{pending_reply};
+
+use crate::plan::{Pending, Plan};
+use crate::reply::{Reply, Verdict};
+use crate::source_text::{read_accepted, start_verdict};
+use command_line::{Level, Role, StackSize, Texts};
+use debug_script::{Line, ScriptFault, read_script};
+use gypsy_check::Accepted;
+use gypsy_space::needs;
+use level_debuggers::{Runner, ScriptEnd, Session, Watch, follow};
+use stack_build::{StartFault, start_image, start_meaning, start_system};
+use stack_text::{Memory, Seq};
+use std::alloc::Global;
+
+/// What is left of `debug` once its texts are there.
+pub fn prepare(
+    alloc: Global,
+    level: Level,
+    texts: &Texts,
+    control: &StackSize,
+    temporary: &StackSize,
+    watches: Vec<Box<dyn Watch>>,
+) -> Result<Plan, Memory>
+    ensures stored { IfOk result (λ plan. plan.stored ≡ None) }
+    ensures reply { IfOk result (λ plan. pending_reply plan.pending
+        ≡ debug_reply level (text_of Role.Source texts.now) (text_of Role.Values texts.now) control.now temporary.now
+        (text_of Role.Script texts.now) (map (λ w. watching (rule_of w) (tally_of w)) watches.items)) }
+{
+    let (source, values) = (texts.of(Role::Source), texts.of(Role::Values));
+    match run_in(
+        alloc,
+        level,
+        source,
+        values,
+        control.words(),
+        temporary.words(),
+    )? {
+        Ok(runner) => play_from(alloc, runner, texts.of(Role::Script), watches),
+        Err(verdict) => Ok(Plan::verdict_alone(alloc, verdict)),
+    }
+}
+
+/// A runner of an accepted source's own steps.
+fn gypsy_runner(
+    alloc: Global,
+    accepted: Accepted,
+    values: &[u8],
+    control: u32,
+    temporary: u32,
+) -> Result<Runner, StartFault>
+    requires { length values.now ≤ 2 ^ 31 }
+    ensures run { GivesStart level_of result
+        (run_at Level.Gypsy (source_of accepted) (stack_sizes control temporary) values.now) }
+    ensures is { IfOk result IsRunner }
+{
+    let needs = needs(alloc, &accepted)?;
+    let meaning = start_meaning(alloc, &accepted, &needs, control, temporary, values)?;
+    Ok(Runner::Gypsy {
+        accepted,
+        needs,
+        meaning,
+    })
+}
+
+/// A runner of the system that an accepted source compiles to.
+fn piton_runner(
+    alloc: Global,
+    accepted: &Accepted,
+    values: &[u8],
+    control: u32,
+    temporary: u32,
+) -> Result<Runner, StartFault>
+    requires { length values.now ≤ 2 ^ 31 }
+    ensures run { GivesStart level_of result
+        (run_at Level.Piton (source_of accepted.now) (stack_sizes control temporary) values.now) }
+    ensures is { IfOk result IsRunner }
+{
+    let start = start_system(alloc, accepted, control, temporary, values)?;
+    Ok(Runner::Piton {
+        checked: start.checked,
+        image: start.image,
+        state: start.state,
+    })
+}
+
+/// A runner of the image that is built of an accepted source.
+fn image_runner(
+    alloc: Global,
+    accepted: &Accepted,
+    values: &[u8],
+    control: u32,
+    temporary: u32,
+) -> Result<Runner, StartFault>
+    requires { length values.now ≤ 2 ^ 31 }
+    ensures run { GivesStart level_of result
+        (run_at Level.Fm9001 (source_of accepted.now) (stack_sizes control temporary) values.now) }
+    ensures is { IfOk result IsRunner }
+{
+    let start = start_image(alloc, accepted, control, temporary, values)?;
+    Ok(Runner::Fm {
+        image: start.image,
+        machine: start.machine,
+    })
+}
+
+/// The runner of an accepted source, at a level.
+fn run_at(
+    alloc: Global,
+    level: Level,
+    accepted: Accepted,
+    values: &[u8],
+    control: u32,
+    temporary: u32,
+) -> Result<Runner, StartFault>
+    requires { length values.now ≤ 2 ^ 31 }
+    ensures run { GivesStart level_of result
+        (run_at level (source_of accepted) (stack_sizes control temporary) values.now) }
+    ensures is { IfOk result IsRunner }
+{
+    match level {
+        Level::Gypsy => gypsy_runner(alloc, accepted, values, control, temporary),
+        Level::Piton => piton_runner(alloc, &accepted, values, control, temporary),
+        Level::Fm9001 => image_runner(alloc, &accepted, values, control, temporary),
+    }
+}
+
+/// The runner of the source in a text, or the verdict where there is none.
+#[tactic(auto, unfolding(crate::specs::Commands::Debug::run_in))]
+fn run_in(
+    alloc: Global,
+    level: Level,
+    source: &[u8],
+    values: &[u8],
+    control: u32,
+    temporary: u32,
+) -> Result<Result<Runner, Verdict>, Memory>
+    requires source { length source.now ≤ 2 ^ 31 }
+    requires values { length values.now ≤ 2 ^ 31 }
+    ensures run { IfOk result (λ found.
+        found_run found ≡ run_in level source.now (stack_sizes control temporary) values.now) }
+    ensures is { IfOk result (λ found. IfOk found IsRunner) }
+{
+    let accepted = match read_accepted(alloc, source)? {
+        Ok(accepted) => accepted,
+        Err(verdict) => return Ok(Err(verdict)),
+    };
+    match run_at(alloc, level, accepted, values, control, temporary) {
+        Ok(runner) => Ok(Ok(runner)),
+        Err(fault) => Ok(Err(start_verdict(fault)?)),
+    }
+}
+
+/// The plan where a script is refused.
+fn refused_script(alloc: Global, fault: ScriptFault) -> Result<Plan, Memory>
+    ensures known { IfOk result (λ _. fault_of fault ≡ Some fault) }
+    ensures stored { IfOk result (λ plan. plan.stored ≡ None) }
+    ensures reply { IfOk result (λ plan. pending_reply plan.pending ≡ verdict_alone (script_verdict fault)) }
+{
+    match fault {
+        ScriptFault::Refused { rule, line } => {
+            Ok(Plan::verdict_alone(alloc, Verdict::Script { rule, line }))
+        }
+        ScriptFault::Memory => Err(Memory),
+    }
+}
+
+/// How the command ends with its script.
+fn end_verdict(session: &Session, end: ScriptEnd) -> Result<Verdict, Memory>
+    ensures { let session = session_of
+        (λ w. watching (rule_of (w.vtable, w.value)) (tally_of (w.vtable, w.value))) session.now in
+        IfOk result (λ verdict. verdict ≡ end_verdict session.level end) }
+{
+    match end {
+        ScriptEnd::Done => Ok(Verdict::Done),
+        ScriptEnd::Error {
+            kind,
+            program,
+            place,
+            after: count,
+        } => match session.program_name(program) {
+            Some(program) => Ok(Verdict::Error {
+                kind,
+                program: program.clone()?,
+                place,
+                count,
+            }),
+            None => Ok(Verdict::Usage),
+        },
+        ScriptEnd::Outside {
+            address,
+            after: count,
+        } => Ok(Verdict::Outside { address, count }),
+        ScriptEnd::NoneWaits { line } => Ok(Verdict::Script { rule: 4, line }),
+        ScriptEnd::NoneAttached { line } => Ok(Verdict::Script { rule: 5, line }),
+    }
+}
+
+/// Follows the lines of a script in a session, and replies what it said.
+#[tactic(auto, unfolding(crate::specs::Commands::Debug::lines_reply))]
+fn reply_of_session(alloc: Global, session: &mut Session, lines: &[Line]) -> Result<Plan, Memory>
+    requires { IsSession session.old }
+    ensures stored { IfOk result (λ plan. plan.stored ≡ None) }
+    ensures reply { let session = session_of
+        (λ w. watching (rule_of (w.vtable, w.value)) (tally_of (w.vtable, w.value))) session.old in
+        IfOk result (λ plan. pending_reply plan.pending ≡ followed_reply (followed [] lines.now session)) }
+{
+    let mut said = Vec::new(alloc);
+    let end = follow(alloc, session, lines, &mut said)?;
+    let verdict = end_verdict(session, end)?;
+    Ok(Plan {
+        stored: None,
+        pending: Pending::Reply(Reply {
+            said: Seq::from_vec(said),
+            verdict,
+            machine: None,
+        }),
+    })
+}
+
+/// Reads a script, and follows it in a session that has made no step.
+#[tactic(auto, unfolding(crate::specs::Commands::Debug::lines_reply))]
+fn play(alloc: Global, session: &mut Session, script: &[u8]) -> Result<Plan, Memory>
+    requires script { length script.now ≤ 2 ^ 31 }
+    requires is { IsSession session.old }
+    ensures stored { IfOk result (λ plan. plan.stored ≡ None) }
+    ensures reply { let session = session_of
+        (λ w. watching (rule_of (w.vtable, w.value)) (tally_of (w.vtable, w.value))) session.old in
+        IfOk result (λ plan. (run : LevelOf) (watches : List Watching) → session ≡ session_on run watches
+        → pending_reply plan.pending ≡ script_reply run watches (script_of script.now)) }
+{
+    match read_script(alloc, script) {
+        Ok(lines) => reply_of_session(alloc, session, &lines),
+        Err(fault) => refused_script(alloc, fault),
+    }
+}
+
+/// Follows a script in a session of a runner.
+fn play_from(
+    alloc: Global,
+    runner: Runner,
+    script: &[u8],
+    watches: Vec<Box<dyn Watch>>,
+) -> Result<Plan, Memory>
+    requires script { length script.now ≤ 2 ^ 31 }
+    requires runner { IsRunner runner }
+    ensures stored { IfOk result (λ plan. plan.stored ≡ None) }
+    ensures reply { IfOk result (λ plan. pending_reply plan.pending
+        ≡ script_reply (level_of runner) (map (λ w. watching (rule_of w) (tally_of w)) watches.items)
+        (script_of script.now)) }
+{
+    let mut session = Session::new(alloc, runner, watches)?;
+    play(alloc, &mut session, script)
+}

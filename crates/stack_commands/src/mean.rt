@@ -1,0 +1,145 @@
+//! The command `mean`.
+ghost use Rattle.std.specs.Prelude.{◌≡◌, ◌≤◌, ◌^◌, None, IfOk, length, map};
+ghost use Rattle.gypsy_syntax.specs.Seen.SourceView.{source_of};
+ghost use Rattle.gypsy_space.specs.Needs.{stack_sizes};
+ghost use Rattle.gypsy_meaning.specs.Seen.Belongs.{BelongsTo};
+ghost use Rattle.gypsy_meaning.specs.Seen.Running.{seen};
+ghost use Rattle.stack_commands.specs.Commands.Mean.{said_text, ended_text, mean_end_reply, mean_run_reply, mean_source_reply, mean_reply};
+ghost use Rattle.stack_commands.specs.Plans.{pending_reply};
+
+use crate::plan::Plan;
+use crate::reply::Verdict;
+use crate::source_text::{read_accepted, start_verdict};
+use command_line::StackSize;
+use display_maps::push_run;
+use gypsy_check::Accepted;
+use gypsy_meaning::{Current, MeanRun, Meaning};
+use gypsy_space::{Needs, needs};
+use stack_build::start_meaning;
+use stack_text::{Memory, Name, Seq, Value};
+use std::alloc::Global;
+
+/// What is left of `mean` once its texts are there.
+pub fn prepare(
+    alloc: Global,
+    source: &[u8],
+    values: &[u8],
+    control: &StackSize,
+    temporary: &StackSize,
+    limit: u64,
+) -> Result<Plan, Memory>
+    requires source { length source.now ≤ 2 ^ 31 }
+    requires values { length values.now ≤ 2 ^ 31 }
+    ensures stored { IfOk result (λ plan. plan.stored ≡ None) }
+    ensures reply { IfOk result (λ plan.
+        pending_reply plan.pending ≡ mean_reply source.now values.now control.now temporary.now limit) }
+{
+    match read_accepted(alloc, source)? {
+        Ok(accepted) => run_source(
+            alloc,
+            &accepted,
+            values,
+            control.words(),
+            temporary.words(),
+            limit,
+        ),
+        Err(verdict) => Ok(Plan::verdict_alone(alloc, verdict)),
+    }
+}
+
+/// The run of an accepted source, with stacks of these sizes.
+fn run_source(
+    alloc: Global,
+    accepted: &Accepted,
+    values: &[u8],
+    control: u32,
+    temporary: u32,
+    limit: u64,
+) -> Result<Plan, Memory>
+    requires { length values.now ≤ 2 ^ 31 }
+    ensures stored { IfOk result (λ plan. plan.stored ≡ None) }
+    ensures reply { IfOk result (λ plan. pending_reply plan.pending
+        ≡ mean_source_reply (source_of accepted.now) (stack_sizes control temporary) values.now limit) }
+{
+    let needs = needs(alloc, accepted)?;
+    match start_meaning(alloc, accepted, &needs, control, temporary, values) {
+        Ok(meaning) => run_meaning(alloc, accepted, &needs, meaning, limit),
+        Err(fault) => Ok(Plan::verdict_alone(alloc, start_verdict(fault)?)),
+    }
+}
+
+/// The run of a source's steps from a state on.
+#[tactic(auto, unfolding(crate::specs::Commands::Mean::mean_run_reply))]
+fn run_meaning(
+    alloc: Global,
+    accepted: &Accepted,
+    needs: &Needs,
+    meaning: Meaning,
+    limit: u64,
+) -> Result<Plan, Memory>
+    requires { BelongsTo (source_of accepted.now) needs.now.procedures.items meaning }
+    ensures stored { IfOk result (λ plan. plan.stored ≡ None) }
+    ensures reply { IfOk result (λ plan. pending_reply plan.pending
+        ≡ mean_run_reply (source_of accepted.now) (seen meaning) limit) }
+{
+    let mut meaning = meaning;
+    let run = meaning.run(alloc, accepted, needs, limit)?;
+    plan_of(alloc, accepted, needs, limit, run, &meaning)
+}
+
+/// The reply to a run that ended in this way.
+fn plan_of(
+    alloc: Global,
+    accepted: &Accepted,
+    needs: &Needs,
+    limit: u64,
+    run: MeanRun,
+    meaning: &Meaning,
+) -> Result<Plan, Memory>
+    requires { BelongsTo (source_of accepted.now) needs.now.procedures.items meaning.now }
+    ensures stored { IfOk result (λ plan. plan.stored ≡ None) }
+    ensures reply { IfOk result (λ plan. pending_reply plan.pending
+        ≡ mean_end_reply (source_of accepted.now) limit run (seen meaning.now)) }
+{
+    match run {
+        MeanRun::Ended => Ok(Plan::all_said(ended_text(alloc, accepted, needs, meaning)?)),
+        MeanRun::Spent => Ok(Plan::verdict_alone(alloc, Verdict::Unfinished { limit })),
+    }
+}
+
+/// The lines of how many steps a run made and at which cost, its condition and its variables.
+fn run_text(
+    alloc: Global,
+    steps: u64,
+    counted: u64,
+    condition: &Current,
+    variables: &[(Name, Value)],
+) -> Result<Vec<u8>, Memory>
+    ensures { IfOk result (λ text. text.items
+        ≡ said_text steps counted condition.now (map (λ v. v.0) variables.now) (map (λ v. v.1) variables.now)) }
+{
+    let mut text = format!(in alloc; "steps {steps}\ncounted {counted}\n")?.into_bytes();
+    push_run(alloc, &mut text, condition, variables)?;
+    Ok(text)
+}
+
+/// What is said of a run that ended.
+fn ended_text(
+    alloc: Global,
+    accepted: &Accepted,
+    needs: &Needs,
+    meaning: &Meaning,
+) -> Result<Seq<u8>, Memory>
+    requires { BelongsTo (source_of accepted.now) needs.now.procedures.items meaning.now }
+    ensures { IfOk result (λ text. text ≡ ended_text (source_of accepted.now) (seen meaning.now)) }
+{
+    let (steps, counted) = (meaning.steps(), meaning.counted());
+    let text = run_text(
+        alloc,
+        steps,
+        counted,
+        meaning.condition(),
+        meaning.variables(),
+    )?;
+    Ok(Seq::from_vec(text))
+}

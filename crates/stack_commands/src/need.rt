@@ -1,0 +1,115 @@
+//! The command `need`.
+ghost use Rattle.std.specs.Prelude.{◌≡◌, ◌≤◌, ◌<◌, ◌^◌, [], Some, IfOk, get_or, length, map};
+ghost use Rattle.gypsy_syntax.specs.Resolved.{procedure_names, program_of};
+ghost use Rattle.gypsy_syntax.specs.Seen.SourceView.{proc_of, source_of};
+ghost use Rattle.gypsy_space.specs.Events.{AreNeeds, AreSmall};
+ghost use Rattle.space_cert.specs.CertText.{certificate_text};
+ghost use Rattle.space_cert.specs.Covers.{as_words, sizes_for};
+ghost use Rattle.stack_commands.specs.Commands.Need.{sizes_text, certified_stored, certified_reply, need_stored, need_reply};
+ghost use Rattle.stack_commands.specs.Plans.{pending_reply};
+ghost use Rattle.stack_commands.specs.Replies.{all_said};
+
+use crate::plan::{Pending, Plan};
+use crate::reply::{Reply, Verdict};
+use crate::source_text::read_accepted;
+use gypsy_check::Accepted;
+use gypsy_space::{Needs, needs};
+use gypsy_syntax::Proc;
+use space_cert::{CertFault, Certificate, certify, print_certificate, sizes_for};
+use stack_text::{Memory, Name, Seq};
+use std::alloc::Global;
+
+/// What `need` stores, and what is left to do.
+pub fn prepare(alloc: Global, source: &[u8]) -> Result<Plan, Memory>
+    requires { length source.now ≤ 2 ^ 31 }
+    ensures stored { IfOk result (λ plan. plan.stored ≡ need_stored source.now) }
+    ensures reply { IfOk result (λ plan. pending_reply plan.pending ≡ need_reply source.now) }
+{
+    match read_accepted(alloc, source)? {
+        Ok(accepted) => certify_source(alloc, &accepted),
+        Err(verdict) => Ok(Plan::verdict_alone(alloc, verdict)),
+    }
+}
+
+/// The certificate of an accepted source, or the procedure that reaches itself.
+#[tactic(auto, unfolding(crate::specs::Commands::Need::certified_stored, crate::specs::Commands::Need::certified_reply))]
+fn certify_source(alloc: Global, accepted: &Accepted) -> Result<Plan, Memory>
+    ensures stored { IfOk result (λ plan. plan.stored ≡ certified_stored (source_of accepted.now)) }
+    ensures reply { IfOk result (λ plan. pending_reply plan.pending ≡ certified_reply (source_of accepted.now)) }
+{
+    let needs = needs(alloc, accepted)?;
+    match certify(alloc, accepted, &needs) {
+        Ok(certificate) => store(alloc, accepted, &needs, &certificate),
+        Err(CertFault::Recursive { procedure }) => Ok(Plan::verdict_alone(
+            alloc,
+            Verdict::Recursive {
+                procedure: procedure_name(accepted, procedure)?,
+            },
+        )),
+        Err(CertFault::Memory) => Err(Memory),
+    }
+}
+
+/// The procedure at a position.
+fn procedure_at(procs: &[Proc], procedure: u32) -> &Proc
+    requires { procedure < length procs.now }
+    ensures { result.now.name.name
+        ≡ get_or (map (λ proc. proc.name.name) (map proc_of procs.now)) procedure [] }
+{
+    let place = procedure as usize;
+    &procs[place]
+}
+
+/// The name of a procedure.
+fn name_of(proc: &Proc) -> Result<Name, Memory>
+    ensures { IfOk result (λ name. name ≡ proc.now.name.name) }
+{
+    Ok(proc.name.name.clone()?)
+}
+
+/// The name of the procedure at a position of an accepted source.
+fn procedure_name(accepted: &Accepted, procedure: u32) -> Result<Name, Memory>
+    requires { procedure < length (program_of (source_of accepted.now)).procs }
+    ensures { IfOk result (λ name. name ≡ get_or (procedure_names (source_of accepted.now)) procedure []) }
+{
+    let source = accepted.source();
+    let procs = source.procs.as_slice();
+    name_of(procedure_at(procs, procedure))
+}
+
+/// The lines of the sizes of both stacks.
+fn sizes_text(alloc: Global, sizes: (u64, u64)) -> Result<Seq<u8>, Memory>
+    ensures { IfOk result (λ text. text ≡ sizes_text (as_words sizes)) }
+{
+    let (temporary, control) = sizes;
+    let text = format!(in alloc; "control {control}\ntemporary {temporary}\n")?;
+    Ok(Seq::from_vec(text.into_bytes()))
+}
+
+/// Stores a certificate, and says which sizes it is enough for.
+fn store(
+    alloc: Global,
+    accepted: &Accepted,
+    needs: &Needs,
+    certificate: &Certificate,
+) -> Result<Plan, Memory>
+    requires number { length certificate.now.bounds.items ≡ length (source_of accepted.now).procs }
+    requires needs { AreNeeds (program_of (source_of accepted.now)) needs.now.procedures.items }
+    requires small { AreSmall needs.now.procedures.items }
+    ensures stored { let names = procedure_names (source_of accepted.now) in
+        IfOk result (λ plan. plan.stored ≡ Some (certificate_text names certificate.now.bounds.items)) }
+    ensures reply { let program = program_of (source_of accepted.now) in
+        IfOk result (λ plan.
+        pending_reply plan.pending ≡ all_said (sizes_text (sizes_for program certificate.now.bounds.items))) }
+{
+    let said = sizes_text(alloc, sizes_for(accepted, needs, certificate))?;
+    let file = print_certificate(alloc, accepted, certificate)?;
+    Ok(Plan {
+        stored: Some(Seq::from_vec(file)),
+        pending: Pending::Reply(Reply {
+            said,
+            verdict: Verdict::Done,
+            machine: None,
+        }),
+    })
+}
