@@ -21,7 +21,7 @@ pub record ReadingOf : Type 0 where
 abbrev pub word_in : Fm → ℕ → Option ℕ
 word_in s address = word_at s.base s.memory address
 
--- the same, and 0 for an address outside the window
+-- the same, and 0 for an address outside the window, which no slot and no condition address of an image within its limits has
 abbrev pub word_or_zero : Fm → ℕ → ℕ
 word_or_zero s address = unwrap_or (word_in s address) 0
 

@@ -3,7 +3,8 @@ use Rattle.std.proofs.Common.{◌≡◌, ℕ, ◌+◌, ◌-◌, ◌<◌, ◌≤�
 use Rattle.std.specs.List.{flat_map, list_all, slice_split}
 use Rattle.std.proofs.lemmas.Bool.{and_parts, and_from}
 use Rattle.stack_text.specs.declared.breach.Breach.{Breach}
-use Rattle.fm_image.specs.Image.{ImageOf, is_size, is_inside}
+use Rattle.fm_image.specs.Image.{ImageOf}
+use Rattle.fm_image.specs.Limits.{is_size, is_inside}
 use Rattle.fm_image.specs.Spelling.{are_words}
 use Rattle.fm_asm.specs.declared.due.Due.TheVariants as due
 use Rattle.fm_asm.specs.Cuts.{without_trailing}

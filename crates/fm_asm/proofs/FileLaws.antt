@@ -1,7 +1,8 @@
 -- The image that a text spells keeps the limits of images, and its numbers have 32 bits.
 use Rattle.std.proofs.Common.{◌≡◌, ℕ, ◌^◌, ◌==◌, Bool, true, false, cond, List, [], ◌∷◌, length, refl, sym, subst, arith, nat_lt, le-leb, ◌≤◌}
 use Rattle.std.proofs.lemmas.Bool.{and_parts, and_from}
-use Rattle.fm_image.specs.Image.{ImageOf, is_size, is_inside, all_after}
+use Rattle.fm_image.specs.Image.{ImageOf}
+use Rattle.fm_image.specs.Limits.{is_size, is_inside, all_after}
 use Rattle.fm_image.specs.Spelling.{are_words, spelling, Spelled}
 use Rattle.fm_image.proofs.LimitLaws.{from_limits}
 use Rattle.fm_asm.specs.Cuts.{unless_trailing, without_trailing}

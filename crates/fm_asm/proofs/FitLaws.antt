@@ -12,7 +12,7 @@ use Rattle.stack_text.specs.Numerals.{numeral_value}
 use Rattle.fm_words.specs.declared.instruction.OperandA.{OperandA}
 use Rattle.fm_words.specs.declared.instruction.OperandA.TheVariants.{Immediate, Place}
 use Rattle.fm_words.specs.declared.instruction.Instr.{Instr}
-use Rattle.fm_words.specs.Code.{encode_of, IsOperand, IsInstr, significant}
+use Rattle.fm_words.specs.Encoding.{encode_of, IsOperand, IsInstr, significant}
 use Rattle.fm_words.proofs.FieldLaws.{decode_encode, encode_decode}
 use Rattle.fm_asm.specs.Values.{Value, number, label, in_32_bits}
 use Rattle.fm_asm.specs.Instructions.{in_9_bits}

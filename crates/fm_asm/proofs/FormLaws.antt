@@ -9,7 +9,7 @@ use Rattle.stack_text.proofs.BreachLaws.{least-append}
 use Rattle.fm_asm.specs.declared.due.Due.{Due}
 use Rattle.fm_asm.specs.declared.due.Due.TheVariants as due
 use Rattle.fm_asm.specs.Cuts.{cut, without_leading_spaces, without_trailing, trimmed}
-use Rattle.fm_image.specs.Image.{is_size}
+use Rattle.fm_image.specs.Limits.{is_size}
 use Rattle.fm_asm.specs.Values.{Value, number, label}
 use Rattle.fm_asm.specs.Statements.{Statement, base, size, final, start, word, instruction}
 use Rattle.stack_text.specs.Lines.{is_plain_line}

@@ -8,7 +8,8 @@ use Rattle.std.proofs.lemmas.Bool.{and_parts}
 use Rattle.std.proofs.lemmas.Fmt.{length-decimal-le}
 use Rattle.std.proofs.lemmas.List.{length-append}
 use Rattle.hex.proofs.HexLemmas.{decode_sized-ok}
-use Rattle.fm_image.specs.Image.{ImageOf, is_size, is_inside, is_image}
+use Rattle.fm_image.specs.Image.{ImageOf}
+use Rattle.fm_image.specs.Limits.{is_size, is_inside, is_image}
 use Rattle.fm_image.proofs.LimitLaws.{limits_of}
 use Rattle.fm_show.specs.Digits.{hex_digits}
 use Rattle.fm_show.specs.Disassembly.{disassembly_text}

@@ -17,8 +17,10 @@ use Rattle.hex.proofs.HexLemmas.{decode_sized-encode_lower, decode_sized-ok, IsO
 use Rattle.stack_text.specs.Numerals.{is_digits}
 use Rattle.stack_text.proofs.NumeralTextLaws.{value-signed_decimal}
 use Rattle.fm_words.specs.declared.condition.Flags.{Flags}
-use Rattle.fm_words.specs.Code.{no_flags, decode_of, encode_of}
-use Rattle.fm_image.specs.Image.{marked_version, ImageOf, is_size, is_inside, is_image}
+use Rattle.fm_words.specs.Code.{no_flags, decode_of}
+use Rattle.fm_words.specs.Encoding.{encode_of}
+use Rattle.fm_image.specs.Image.{ImageOf}
+use Rattle.fm_image.specs.Limits.{marked_version, is_size, is_inside, is_image}
 use Rattle.fm_image.proofs.LimitLaws.{limits_of}
 use Rattle.fm_show.specs.Digits.{hex_digits}
 use Rattle.fm_show.specs.Disassembly.{disassembly_text}

@@ -18,7 +18,8 @@ use Rattle.fm_words.specs.declared.instruction.Mode.{Mode}
 use Rattle.fm_words.specs.declared.instruction.Mode.TheVariants.{Register, Indirect, PreDecrement, PostIncrement}
 use Rattle.fm_words.specs.declared.instruction.OperandA.{OperandA}
 use Rattle.fm_words.specs.declared.instruction.OperandA.TheVariants.{Immediate, Place}
-use Rattle.fm_words.specs.Code.{decode_of, encode_of, IsOperand}
+use Rattle.fm_words.specs.Code.{decode_of}
+use Rattle.fm_words.specs.Encoding.{encode_of, IsOperand}
 use Rattle.fm_show.specs.Disassembly.{operation_name, condition_text, flags_text, place_text, operand_text, instruction_text, disassembly_text}
 use Rattle.fm_show.proofs.LosslessLaws.{limits}
 use Rattle.fm_asm.specs.Instructions.{in_9_bits}

@@ -7,7 +7,7 @@ use Rattle.std.proofs.lemmas.Bool.{and_parts, and_from}
 use Rattle.stack_text.specs.Results.{◌>>=◌}
 use Rattle.stack_text.specs.declared.breach.Breach.{Breach}
 use Rattle.stack_text.proofs.SharedLaws.{rule_fails, append_none}
-use Rattle.fm_image.specs.Image.{is_size, is_inside}
+use Rattle.fm_image.specs.Limits.{is_size, is_inside}
 use Rattle.fm_asm.specs.declared.due.Due.{Due}
 use Rattle.fm_asm.specs.declared.due.Due.TheVariants as due
 use Rattle.fm_asm.specs.Values.{Value, number, label}

@@ -2,7 +2,7 @@
 use Rattle.std.proofs.Common.{◌≡◌, ℕ, ◌+◌, true, List, [], ◌∷◌, ◌++◌, length, map, Option, Some, None, Result, Ok, Err, refl, sym, ap, ◌∙◌}
 use Rattle.std.specs.Prelude.{option_to_list}
 use Rattle.stack_text.specs.Results.{◌>>=◌}
-use Rattle.fm_image.specs.Image.{is_size}
+use Rattle.fm_image.specs.Limits.{is_size}
 use Rattle.fm_asm.specs.declared.due.Due.{Due}
 use Rattle.fm_asm.specs.declared.due.Due.TheVariants as due
 use Rattle.fm_asm.specs.Values.{Value, number, label}

@@ -21,7 +21,8 @@ use Rattle.fm_words.specs.declared.condition.Flags.{Flags}
 use Rattle.fm_words.specs.declared.instruction.Mode.{Mode}
 use Rattle.fm_words.specs.declared.instruction.Mode.TheVariants.{Register, Indirect, PreDecrement, PostIncrement}
 use Rattle.fm_words.specs.declared.instruction.OperandA.{OperandA}
-use Rattle.fm_words.specs.Code.{ops, no_flags, encode_of}
+use Rattle.fm_words.specs.Code.{ops, no_flags}
+use Rattle.fm_words.specs.Encoding.{encode_of}
 use Rattle.fm_show.specs.Disassembly.{operation_name, condition_name, condition_text, shown_if, flags_text, place_text}
 use Rattle.fm_asm.specs.Cuts.{cut, split_once, after_prefix}
 use Rattle.fm_asm.specs.Values.{Value, number, label, decimal_value, decimal_in, number_of_bytes, hex_value, hexadecimal_after, as_number, value_in}

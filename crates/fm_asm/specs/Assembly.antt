@@ -14,9 +14,10 @@ use Rattle.fm_words.specs.declared.condition.Flags.{Flags}
 use Rattle.fm_words.specs.declared.instruction.Mode.{Mode}
 use Rattle.fm_words.specs.declared.instruction.OperandA.{OperandA}
 use Rattle.fm_words.specs.declared.instruction.OperandA.TheVariants.{Place}
-use Rattle.fm_words.specs.Code.{encode_of}
+use Rattle.fm_words.specs.Encoding.{encode_of}
 use Rattle.fm_show.specs.Disassembly.{operation_name, condition_text, flags_text, place_text}
-use Rattle.fm_image.specs.Image.{ImageOf, is_size, is_inside}
+use Rattle.fm_image.specs.Image.{ImageOf}
+use Rattle.fm_image.specs.Limits.{is_size, is_inside}
 use Rattle.fm_image.specs.Spelling.{are_words}
 use Rattle.fm_asm.specs.Cuts.{without_trailing}
 use Rattle.fm_asm.specs.Values.{Value, number, label, decimal_value}

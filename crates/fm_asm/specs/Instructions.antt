@@ -13,7 +13,8 @@ use Rattle.fm_words.specs.declared.instruction.Mode.TheVariants.{Register, Indir
 use Rattle.fm_words.specs.declared.instruction.OperandA.{OperandA}
 use Rattle.fm_words.specs.declared.instruction.OperandA.TheVariants.{Immediate, Place}
 use Rattle.fm_words.specs.declared.instruction.Instr.{Instr}
-use Rattle.fm_words.specs.Code.{ops, no_flags, encode_of}
+use Rattle.fm_words.specs.Code.{ops, no_flags}
+use Rattle.fm_words.specs.Encoding.{encode_of}
 use Rattle.fm_show.specs.Disassembly.{operation_name, condition_name}
 use Rattle.fm_asm.specs.Cuts.{cut, split_once, after_prefix}
 

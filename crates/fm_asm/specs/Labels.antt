@@ -8,7 +8,7 @@ use Rattle.std.specs.Str.{bytes_eq}
 use Rattle.indexmap.specs.IndexMap.{IndexMap}
 use Rattle.stack_text.specs.declared.breach.Breach.{Breach}
 use Rattle.stack_text.specs.Breaches.{when}
-use Rattle.fm_image.specs.Image.{is_inside}
+use Rattle.fm_image.specs.Limits.{is_inside}
 use Rattle.fm_asm.specs.Values.{Value, number, label}
 use Rattle.fm_asm.specs.Statements.{Statement, final, start, word, instruction}
 use Rattle.fm_asm.specs.Lines.{Line}

@@ -4,8 +4,10 @@ use Rattle.std.specs.Prelude.{Bool, false, not, is_none, ◌&&◌, ◌||◌, ◌
 use Rattle.std.specs.Fmt.{decimal}
 use Rattle.std.specs.List.{flat_map, list_all}
 use Rattle.fm_words.specs.declared.condition.Flags.{Flags}
-use Rattle.fm_words.specs.Code.{decode_of, encode_of}
-use Rattle.fm_image.specs.Image.{marked_version, ImageOf}
+use Rattle.fm_words.specs.Code.{decode_of}
+use Rattle.fm_words.specs.Encoding.{encode_of}
+use Rattle.fm_image.specs.Image.{ImageOf}
+use Rattle.fm_image.specs.Limits.{marked_version}
 use Rattle.fm_image.specs.Bare.{bare_image}
 use Rattle.fm_show.specs.Digits.{hex_digits}
 use Rattle.fm_show.specs.Disassembly.{disassembly_text}

@@ -4,7 +4,7 @@ use Rattle.std.specs.Prelude.{◌≡◌, ℕ, ◌+◌, List, [], ◌∷◌, ◌+
 use Rattle.std.specs.List.{slice_split}
 use Rattle.stack_text.specs.Results.{◌>>=◌}
 use Rattle.stack_text.specs.declared.breach.Breach.{Breach}
-use Rattle.fm_image.specs.Image.{is_size}
+use Rattle.fm_image.specs.Limits.{is_size}
 use Rattle.fm_asm.specs.declared.due.Due.{Due}
 use Rattle.fm_asm.specs.declared.due.Due.TheVariants as due
 use Rattle.fm_asm.specs.declared.source.Source as declared

@@ -3,7 +3,8 @@
 ghost use Rattle.std.specs.Prelude.{◌≡◌, ◌≤◌, ◌<◌, ◌^◌, ◌++◌, IsTrue, length, take, option_map, OnOk, IfOk};
 ghost use Rattle.std.specs.List.{flat_map};
 ghost use Rattle.stack_text.specs.Breaches.{least};
-ghost use Rattle.fm_image.specs.Image.{ImageOf, is_size, is_inside};
+ghost use Rattle.fm_image.specs.Image.{ImageOf};
+ghost use Rattle.fm_image.specs.Limits.{is_size, is_inside};
 ghost use Rattle.fm_asm.specs.Cuts.{without_trailing};
 ghost use Rattle.fm_asm.specs.Statements.{statement_of};
 ghost use Rattle.fm_asm.specs.Lines.{line_of};

@@ -2,7 +2,7 @@
 
 ghost use Rattle.std.specs.Prelude.{◌≡◌, ◌<◌, IfSome, option_map};
 ghost use Rattle.std.specs.Option.{option_copied};
-ghost use Rattle.fm_words.specs.Code.{encode_of, IsOperand};
+ghost use Rattle.fm_words.specs.Encoding.{encode_of, IsOperand};
 ghost use Rattle.fm_asm.specs.Instructions.{operation_in, condition_named, condition_in, letter_in, flag_letters_in, flags_in, named_in, head_in, instruction_of, instruction_in};
 
 use crate::cuts::{after_prefix, cut, split_once};

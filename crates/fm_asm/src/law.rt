@@ -3,7 +3,8 @@
 ghost use Rattle.std.specs.Prelude.{◌≡◌, ◌↔◌, ℕ, ◌<◌, ◌≤◌, ◌^◌, List, length, IsTrue, Ok, Err};
 ghost use Rattle.stack_text.specs.Breaches.{least};
 ghost use Rattle.stack_text.specs.declared.breach.Breach.{Breach};
-ghost use Rattle.fm_image.specs.Image.{ImageOf, is_image};
+ghost use Rattle.fm_image.specs.Image.{ImageOf};
+ghost use Rattle.fm_image.specs.Limits.{is_image};
 ghost use Rattle.fm_image.specs.Spelling.{are_words, spelling, Spelled};
 ghost use Rattle.fm_asm.specs.Sources.{source_in};
 ghost use Rattle.fm_asm.specs.FormBreaches.{text_breaches, fault_in};

@@ -2,7 +2,7 @@
 
 ghost use Rattle.std.specs.Prelude.{◌≡◌, ◌<◌, IfSome};
 ghost use Rattle.std.specs.Option.{option_copied};
-ghost use Rattle.fm_words.specs.Code.{IsOperand};
+ghost use Rattle.fm_words.specs.Encoding.{IsOperand};
 ghost use Rattle.fm_asm.specs.Instructions.{closed, register_in, closing_mode, indirect_in, decrement_in, direct_in, place_in, immediate_in, operand_in};
 
 use crate::cuts::{after_prefix, split_once};

@@ -15,7 +15,8 @@ use Rattle.fm_words.specs.declared.instruction.OperandA.{OperandA}
 use Rattle.fm_words.specs.declared.instruction.OperandA.TheVariants.{Place}
 use Rattle.fm_words.specs.declared.instruction.Instr.{Instr}
 use Rattle.fm_words.specs.Alu.{alu_of, does_hold}
-use Rattle.fm_words.specs.Code.{encode_of, IsInstr, IsOperand, no_flags}
+use Rattle.fm_words.specs.Code.{no_flags}
+use Rattle.fm_words.specs.Encoding.{encode_of, IsInstr, IsOperand}
 use Rattle.fm_words.proofs.FieldLaws.{decode_encode}
 use Rattle.fm_machine.specs.State.{Fm, word_at, with_word}
 use Rattle.fm_machine.specs.Step.{fm_step, found_word, effect_of, effect_of_values, value_a, value_at, value_b, registers_after, registers_after_a, address_of, reads_b, flags_set, store_result, store_at_if, then_on}

@@ -9,7 +9,8 @@ use Rattle.fm_words.specs.declared.instruction.Mode.TheVariants.{Register, Indir
 use Rattle.fm_words.specs.declared.instruction.OperandA.{OperandA}
 use Rattle.fm_words.specs.declared.instruction.OperandA.TheVariants.{Immediate, Place}
 use Rattle.fm_words.specs.declared.instruction.Instr.{Instr}
-use Rattle.fm_words.specs.Code.{encode_of, no_flags}
+use Rattle.fm_words.specs.Code.{no_flags}
+use Rattle.fm_words.specs.Encoding.{encode_of}
 
 -- `r3`
 abbrev pub reg : ℕ → OperandA

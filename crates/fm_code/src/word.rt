@@ -1,7 +1,7 @@
 //! The notation of instruction words: an operation, then its target, then its source.
 
 ghost use Rattle.std.specs.Prelude.{◌≡◌};
-ghost use Rattle.fm_words.specs.Code.{IsOperand};
+ghost use Rattle.fm_words.specs.Encoding.{IsOperand};
 ghost use Rattle.fm_code.specs.InstructionWords.{reg, at, push, pop, immediate, literal, literal_at, instruction, always, setting, when, mov, add, sub};
 
 use fm_words::{Cc, Flags, Instr, Mode, Op, OperandA, encode};

@@ -5,7 +5,7 @@ use Rattle.stack_text.specs.Names.{is_name}
 use Rattle.fm_image.specs.declared.fault.Rule.{Rule}
 use Rattle.fm_image.specs.declared.fault.Rule.TheVariants as rules
 use Rattle.fm_image.specs.declared.window.Window.{Window}
-use Rattle.fm_image.specs.Image.{magic_bytes, is_version, is_size, is_inside, is_window, is_new, is_condition}
+use Rattle.fm_image.specs.Limits.{magic_bytes, is_version, is_size, is_inside, is_window, is_new, is_condition}
 use Rattle.fm_image.specs.Spelling.{number_bytes, name_bytes, window_bytes, opening_bytes}
 use Rattle.stack_text.specs.Results.{◌>>=◌}
 use Rattle.fm_image.specs.Fields.{number_at, passing, bytes_at, is_name_length, text_at}

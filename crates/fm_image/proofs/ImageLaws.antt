@@ -8,7 +8,9 @@ use Rattle.fm_image.specs.declared.fault.ImageFault.{ImageFault}
 use Rattle.fm_image.specs.declared.fault.ImageFault.TheVariants.{Refused, Memory}
 use Rattle.fm_image.specs.declared.slot.Slot.{Slot}
 use Rattle.fm_image.specs.declared.window.Window.{Window}
-use Rattle.fm_image.specs.Image.{ImageOf, Tables, tables_of, window_of, is_version, is_size, is_inside, is_window, is_condition_address, is_condition, is_count, most_conditions, is_slot, is_tables, all_after, is_image}
+use Rattle.fm_image.specs.Image.{ImageOf}
+use Rattle.fm_image.specs.Limits.{Tables, tables_of, window_of, is_version, is_size, is_inside, is_window, is_condition_address}
+use Rattle.fm_image.specs.Limits.{is_condition, is_count, most_conditions, is_slot, is_tables, all_after, is_image}
 use Rattle.fm_image.specs.Spelling.{number_bytes, numbers_bytes, name_bytes, counted_bytes, window_bytes, flags_bytes, condition_address_bytes, slot_bytes, opening_bytes, tables_bytes, spelling, are_words, Spelled}
 use Rattle.stack_text.specs.Results.{◌>>=◌}
 use Rattle.fm_image.specs.Rules.{Fault, GivesImage}

@@ -8,7 +8,10 @@ use Rattle.fm_image.specs.declared.procedure.Mark.{Mark}
 use Rattle.fm_image.specs.declared.window.Window.{Window}
 use Rattle.fm_image.specs.Procedure.{ProcedureOf}
 use Rattle.fm_image.specs.Spelling.{is_small}
-use Rattle.fm_image.specs.Image.{ImageOf, Tables, tables_of, in_version_2, window_of, is_version, is_size, is_inside, is_window, is_condition_address, is_count, most_conditions, is_condition, is_slot, is_variable, is_procedure, is_mark, are_tables, is_tables, all_after, is_image}
+use Rattle.fm_image.specs.Image.{ImageOf}
+use Rattle.fm_image.specs.Limits.{Tables, tables_of, in_version_2, window_of, is_version, is_size, is_inside, is_window}
+use Rattle.fm_image.specs.Limits.{is_condition_address, is_count, most_conditions, is_condition, is_slot, is_variable, is_procedure}
+use Rattle.fm_image.specs.Limits.{is_mark, are_tables, is_tables, all_after, is_image}
 
 pub record Limits (image : ImageOf) : Type 0 where
   pub version : is_version image.version ≡ true

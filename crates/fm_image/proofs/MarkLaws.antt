@@ -5,7 +5,9 @@ use Rattle.std.specs.List.{Contains, list_all}
 use Rattle.std.proofs.lemmas.Bool.{and_parts, and_from, eqb-true, ltb-true, lt-ltb}
 use Rattle.fm_image.specs.declared.procedure.Mark.{Mark}
 use Rattle.fm_image.specs.declared.window.Window.{Window}
-use Rattle.fm_image.specs.Image.{ImageOf, Tables, tables_of, window_of, is_inside, last_mark, is_after, is_place, is_mark, is_count, is_procedure, are_tables, all_after, is_image}
+use Rattle.fm_image.specs.Image.{ImageOf}
+use Rattle.fm_image.specs.Limits.{Tables, tables_of, window_of, is_inside, last_mark, is_after, is_place, is_mark, is_count, is_procedure}
+use Rattle.fm_image.specs.Limits.{are_tables, all_after, is_image}
 use Rattle.fm_image.proofs.LimitLaws.{limits_of}
 
 pub no_mark : Mark

@@ -12,7 +12,7 @@ use Rattle.fm_image.specs.declared.procedure.VarInfo.{VarInfo}
 use Rattle.fm_image.specs.declared.slot.Slot.{Slot}
 use Rattle.fm_image.specs.declared.window.Window.{Window}
 use Rattle.fm_image.specs.Procedure.{ProcedureOf}
-use Rattle.fm_image.specs.Image.{is_new, is_count, is_condition, is_slot, is_slot_address, is_offset, is_variable, is_procedure, all_after}
+use Rattle.fm_image.specs.Limits.{is_new, is_count, is_condition, is_slot, is_slot_address, is_offset, is_variable, is_procedure, all_after}
 
 -- ---- from names that differ
 

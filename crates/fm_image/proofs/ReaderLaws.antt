@@ -8,7 +8,7 @@ use Rattle.std.proofs.lemmas.List.Concat.{flat_map-cons}
 use Rattle.std.proofs.lemmas.Nat.{be_bytes_4, from_be_bytes-to_be_bytes_4}
 use Rattle.fm_image.specs.declared.fault.Rule.{Rule}
 use Rattle.fm_image.specs.declared.fault.Rule.TheVariants as rules
-use Rattle.fm_image.specs.Image.{all_after}
+use Rattle.fm_image.specs.Limits.{all_after}
 use Rattle.fm_image.specs.Spelling.{number_bytes, counted_bytes}
 use Rattle.stack_text.specs.Results.{◌>>=◌}
 use Rattle.stack_text.proofs.ResultLaws.{bind_ok, bind_at}

@@ -6,13 +6,15 @@ use Rattle.stack_text.specs.declared.shape.Kind.TheVariants.{Integer, Boolean, C
 use Rattle.stack_text.specs.declared.shape.Shape.{Shape}
 use Rattle.stack_text.specs.Values.{item_count}
 use Rattle.fm_words.specs.declared.condition.Flags.{Flags}
-use Rattle.fm_words.specs.Code.{flags_of, flags_number}
+use Rattle.fm_words.specs.Code.{flags_of}
+use Rattle.fm_words.specs.Encoding.{flags_number}
 use Rattle.fm_words.proofs.FlagsLaws.{flags_of_back, flags_number_back, flags_number_below}
 use Rattle.fm_image.specs.declared.fault.Rule.TheVariants as rules
 use Rattle.fm_image.specs.declared.procedure.VarInfo.{VarInfo}
 use Rattle.fm_image.specs.declared.slot.Slot.{Slot}
 use Rattle.fm_image.specs.declared.window.Window.{Window}
-use Rattle.fm_image.specs.Image.{is_size, is_inside, is_window, is_condition_address, is_condition, is_slot, is_slot_address, is_offset, is_variable}
+use Rattle.fm_image.specs.Limits.{is_size, is_inside, is_window, is_condition_address, is_condition, is_slot, is_slot_address, is_offset}
+use Rattle.fm_image.specs.Limits.{is_variable}
 use Rattle.fm_image.specs.Spelling.{number_bytes, name_bytes, flags_bytes, address_number, condition_address_bytes, kind_number, kind_bytes, shape_bytes, slot_bytes, variable_bytes}
 use Rattle.stack_text.specs.Results.{◌>>=◌}
 use Rattle.fm_image.specs.Rules.{Fault}

@@ -8,7 +8,8 @@ use Rattle.fm_image.specs.declared.fault.Rule.TheVariants as rules
 use Rattle.fm_image.specs.declared.procedure.Mark.{Mark}
 use Rattle.fm_image.specs.declared.window.Window.{Window}
 use Rattle.fm_image.specs.Procedure.{ProcedureOf}
-use Rattle.fm_image.specs.Image.{Tables, no_tables, is_size, is_inside, is_window, is_count, is_condition, all_after, is_variable, is_procedure, last_mark, is_after, is_place, is_mark, are_tables, is_tables}
+use Rattle.fm_image.specs.Limits.{Tables, no_tables, is_size, is_inside, is_window, is_count, is_condition, all_after, is_variable}
+use Rattle.fm_image.specs.Limits.{is_procedure, last_mark, is_after, is_place, is_mark, are_tables, is_tables}
 use Rattle.fm_image.specs.Spelling.{number_bytes, name_bytes, counted_bytes, variable_bytes, procedure_bytes, mark_bytes, tables_bytes}
 use Rattle.fm_image.specs.Rules.{Fault}
 use Rattle.fm_image.specs.Fields.{number_at, passing}

@@ -1,6 +1,7 @@
 -- what is promised
 pub mod Procedure
 pub mod Image
+pub mod Limits
 pub mod Bare
 pub mod Spelling
 pub mod Rules

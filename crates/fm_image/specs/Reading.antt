@@ -19,10 +19,10 @@ use Rattle.fm_image.specs.declared.procedure.VarInfo.{VarInfo}
 use Rattle.fm_image.specs.declared.slot.Slot.{Slot}
 use Rattle.fm_image.specs.declared.window.Window.{Window}
 use Rattle.fm_image.specs.Procedure.{ProcedureOf}
-use Rattle.fm_image.specs.Image.{magic_bytes, unmarked_version, ImageOf, Tables, no_tables, is_version, is_size, is_inside}
-use Rattle.fm_image.specs.Image.{most_marked_conditions}
-use Rattle.fm_image.specs.Image.{is_condition_address, is_count, is_new}
-use Rattle.fm_image.specs.Image.{is_slot_address, most_conditions, is_offset, last_mark, is_after, is_place}
+use Rattle.fm_image.specs.Image.{ImageOf}
+use Rattle.fm_image.specs.Limits.{magic_bytes, unmarked_version, Tables, no_tables, is_version, is_size, is_inside, most_marked_conditions}
+use Rattle.fm_image.specs.Limits.{is_condition_address, is_count, is_new}
+use Rattle.fm_image.specs.Limits.{is_slot_address, most_conditions, is_offset, last_mark, is_after, is_place}
 use Rattle.fm_image.specs.Rules.{rule_number, Fault, Parser}
 use Rattle.fm_image.specs.Fields.{place, number_at, passing, bytes_at, text_at, items_at}
 

@@ -8,14 +8,14 @@ use Rattle.stack_text.specs.declared.shape.Kind.{Kind}
 use Rattle.stack_text.specs.declared.shape.Kind.TheVariants.{Integer, Boolean, Character}
 use Rattle.stack_text.specs.declared.shape.Shape.{Shape}
 use Rattle.fm_words.specs.declared.condition.Flags.{Flags}
-use Rattle.fm_words.specs.Code.{flags_number}
+use Rattle.fm_words.specs.Encoding.{flags_number}
 use Rattle.fm_image.specs.declared.procedure.Mark.{Mark}
 use Rattle.fm_image.specs.declared.procedure.VarInfo.{VarInfo}
 use Rattle.fm_image.specs.declared.slot.Slot.{Slot}
 use Rattle.fm_image.specs.declared.window.Window.{Window}
 use Rattle.fm_image.specs.Procedure.{ProcedureOf}
-use Rattle.fm_image.specs.Image.{magic_bytes, unmarked_version, ImageOf, Tables, tables_of, is_count, window_of, is_image}
-use Rattle.fm_image.specs.Image.{most_marked_conditions}
+use Rattle.fm_image.specs.Image.{ImageOf}
+use Rattle.fm_image.specs.Limits.{magic_bytes, unmarked_version, Tables, tables_of, is_count, window_of, is_image, most_marked_conditions}
 
 -- a number in four bytes, highest first
 abbrev pub number_bytes : ℕ → List ℕ

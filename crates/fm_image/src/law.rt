@@ -1,7 +1,8 @@
 //! Laws of image files.
 
 ghost use Rattle.std.specs.Prelude.{◌≡◌, ℕ, List, IsTrue, Ok};
-ghost use Rattle.fm_image.specs.Image.{ImageOf, is_image};
+ghost use Rattle.fm_image.specs.Image.{ImageOf};
+ghost use Rattle.fm_image.specs.Limits.{is_image};
 ghost use Rattle.fm_image.specs.Spelling.{are_words, spelling, Spelled};
 ghost use Rattle.fm_image.specs.Reading.{read_of};
 

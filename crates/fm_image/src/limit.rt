@@ -1,7 +1,7 @@
 //! The magic, the versions and the limits of the fields.
 
 ghost use Rattle.std.specs.Prelude.{◌≡◌, ◌≤◌};
-ghost use Rattle.fm_image.specs.Image.{is_version, is_size, is_inside, is_condition_address, is_slot_address, most_conditions, is_after};
+ghost use Rattle.fm_image.specs.Limits.{is_version, is_size, is_inside, is_condition_address, is_slot_address, most_conditions, is_after};
 ghost use Rattle.fm_image.specs.Fields.{is_name_length};
 
 use crate::procedure::Mark;

@@ -1,7 +1,8 @@
 //! Reading images.
 
 ghost use Rattle.std.specs.Prelude.{◌≡◌, ◌∷◌, ◌++◌, [], map, IsTrue, IfOk, OnOk, Ok};
-ghost use Rattle.fm_image.specs.Image.{ImageOf, is_new, last_mark};
+ghost use Rattle.fm_image.specs.Image.{ImageOf};
+ghost use Rattle.fm_image.specs.Limits.{is_new, last_mark};
 ghost use Rattle.fm_image.specs.Spelling.{Spelled};
 ghost use Rattle.fm_image.specs.Rules.{GivesExactly, GivesImage};
 ghost use Rattle.fm_image.specs.Fields.{place, number_at, bytes_at, text_at};

@@ -2,7 +2,7 @@
 
 ghost use Rattle.std.specs.Prelude.{◌≡◌, ◌≤◌, ◌<◌, ◌^◌, ◌++◌, length, IfOk, OnOk, IsTrue};
 ghost use Rattle.std.specs.List.{list_all};
-ghost use Rattle.fm_image.specs.Image.{Tables};
+ghost use Rattle.fm_image.specs.Limits.{Tables};
 ghost use Rattle.fm_image.specs.Spelling.{is_small};
 ghost use Rattle.fm_image.specs.Spelling.{number_bytes, numbers_bytes, name_bytes, counted_bytes, slot_bytes, opening_bytes, window_bytes, variable_bytes, procedure_bytes, mark_bytes, tables_bytes, spelling};
 

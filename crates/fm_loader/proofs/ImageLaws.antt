@@ -7,7 +7,8 @@ use Rattle.stack_text.specs.Values.{item_count}
 use Rattle.fm_machine.specs.State.{is_refused}
 use Rattle.fm_image.specs.declared.slot.Slot.{Slot}
 use Rattle.fm_image.specs.declared.window.Window.{Window}
-use Rattle.fm_image.specs.Image.{ImageOf, window_of, is_new, is_slot, is_slot_address, all_after, is_image}
+use Rattle.fm_image.specs.Image.{ImageOf}
+use Rattle.fm_image.specs.Limits.{window_of, is_new, is_slot, is_slot_address, all_after, is_image}
 use Rattle.fm_image.proofs.LimitLaws.{limits_of, sized}
 use Rattle.fm_image.proofs.NameLaws.{slots_differ}
 use Rattle.fm_loader.specs.Values.{HaveOwnNames}

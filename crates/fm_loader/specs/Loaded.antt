@@ -25,7 +25,7 @@ abbrev pub with_items : ℕ → ℕ → List ℤ → List ℕ → List ℕ
 with_items base address [] memory = memory
 with_items base address (item ∷ items) memory = with_items base (address - 1) items (with_word base memory address (word_of_int item))
 
--- each value stored in its slot
+-- each value stored in its slot: within the window, where the image is within its limits
 abbrev pub with_values : ℕ → List Slot → List ValueOf → List ℕ → List ℕ
 with_values base [] values memory = memory
 with_values base (slot ∷ slots) [] memory = memory

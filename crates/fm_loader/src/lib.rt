@@ -10,4 +10,4 @@ mod values;
 
 pub use fault::ValuesFault;
 pub use loading::load;
-pub use values::read_values;
+pub use values::{read_image_values, read_values};

@@ -9,7 +9,7 @@ ghost use Rattle.fm_loader.specs.Values.{values_at, values_in, HaveOwnNames};
 use crate::fault::{Rule, ValuesFault, refused};
 use crate::judging::{all_found, found};
 use crate::reading::entries;
-use fm_image::Slot;
+use fm_image::{Image, Slot};
 use stack_text::{TextFault, TextTree, Value, read_text_tree};
 use std::alloc::Global;
 
@@ -50,4 +50,23 @@ pub fn read_values(alloc: Global, text: &[u8], slots: &[Slot]) -> Result<Vec<Val
         Err(TextFault::Fault { rule: _, place }) => Err(refused(Rule::Form, place)),
         Err(TextFault::Memory) => Err(ValuesFault::Memory),
     }
+}
+
+/// The values that a text of at most 2^31 bytes gives the slots of an image, in the order of the slots.
+///
+/// It is `read_values` of the image's slots, whose names always differ.
+///
+/// # Errors
+///
+/// As those of `read_values`.
+pub fn read_image_values(
+    alloc: Global,
+    text: &[u8],
+    image: &Image,
+) -> Result<Vec<Value>, ValuesFault>
+    requires { length text.now ≤ 2 ^ 31 }
+    ensures value { GivesValues (λ values. values.items) result (values_in image.now.slots text.now) }
+    ensures fits { IfOk result (λ values. Fits image.now.slots values.items) }
+{
+    read_values(alloc, text, &image.slots)
 }

@@ -1,5 +1,6 @@
 //! What a machine refuses.
 
+use std::alloc::AllocError;
 use thiserror::Error;
 
 /// An address outside the window that an instruction, or a caller, needed.
@@ -19,4 +20,15 @@ pub enum NewFault {
     /// There is no memory for the window.
     #[error("there is no memory for the window")]
     Memory,
+}
+
+impl From<AllocError> for NewFault {
+    ghost use Rattle.std.specs.Prelude.{◌≡◌};
+    ghost use Rattle.fm_machine.specs.declared.fault.NewFault.TheVariants.{Memory};
+
+    ghost from_gives = { λ _ e. e ≡ Memory };
+
+    fn from(_error: AllocError) -> NewFault {
+        NewFault::Memory
+    }
 }

@@ -6,6 +6,7 @@
 
 mod fault;
 mod flag_bits;
+mod forms;
 mod operand;
 mod processor;
 mod window;

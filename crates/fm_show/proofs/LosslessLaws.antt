@@ -19,7 +19,8 @@ use Rattle.fm_words.specs.declared.instruction.Mode.TheVariants.{Register, Indir
 use Rattle.fm_words.specs.declared.instruction.OperandA.{OperandA}
 use Rattle.fm_words.specs.declared.instruction.OperandA.TheVariants.{Immediate, Place}
 use Rattle.fm_words.specs.declared.instruction.Instr.{Instr}
-use Rattle.fm_words.specs.Code.{ops, ccs, modes, imm_of, operand_of, decode_of, encode_of, IsOperand, IsInstr, significant}
+use Rattle.fm_words.specs.Code.{ops, ccs, modes, imm_of, operand_of, decode_of}
+use Rattle.fm_words.specs.Encoding.{encode_of, IsOperand, IsInstr, significant}
 use Rattle.fm_words.proofs.FieldLaws.{decode_encode, encode_decode}
 use Rattle.fm_show.specs.Disassembly.{operation_name, condition_text, flags_text, register_name, place_text, operand_text, instruction_text, disassembly_text}
 

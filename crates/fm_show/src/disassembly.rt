@@ -1,7 +1,7 @@
 //! Instructions as text.
 
 ghost use Rattle.std.specs.Prelude.{◌≡◌, ◌↔◌, ℕ, IfOk, Some};
-ghost use Rattle.fm_words.specs.Code.{significant};
+ghost use Rattle.fm_words.specs.Encoding.{significant};
 ghost use Rattle.fm_show.specs.Disassembly.{operation_name, condition_name, condition_text, flags_text, place_text, operand_text, instruction_text, disassembly_text};
 
 use fm_words::{Cc, Flags, Instr, Mode, Op, OperandA, decode};

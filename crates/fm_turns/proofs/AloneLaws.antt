@@ -5,7 +5,8 @@ use Rattle.std.proofs.lemmas.Bool.{cases_lt, leb-false, ltb-true, ltb-false, eqb
 use Rattle.std.proofs.lemmas.List.Sums.{sum_by-cons, sum_by_push}
 use Rattle.fm_machine.specs.State.{Fm}
 use Rattle.fm_machine.specs.Step.{fm_step, then_on}
-use Rattle.fm_machine.specs.Run.{fm_run, Avoids, IsFirst, IsOutcome, RunOutcome, outcome}
+use Rattle.fm_machine.specs.Run.{fm_run, Avoids, IsFirst}
+use Rattle.fm_machine.specs.Outcome.{IsOutcome, RunOutcome, outcome}
 use Rattle.fm_machine.specs.declared.fault.Outside.{Outside}
 use Rattle.fm_machine.proofs.RunLaws.{outcome_is, run_add, run_more, not_both}
 use Rattle.fm_machine.specs.declared.processor.Run.{Run}

@@ -11,7 +11,7 @@ use Rattle.std.proofs.lemmas.List.{length-replicate}
 use Rattle.std.proofs.lemmas.List.Elements.{All-head, All-tail}
 use Rattle.std.proofs.lemmas.List.Folds.{sum_by-replicate}
 use Rattle.fm_machine.specs.State.{Fm}
-use Rattle.fm_machine.specs.Run.{RunOutcome, outcome}
+use Rattle.fm_machine.specs.Outcome.{RunOutcome, outcome}
 use Rattle.fm_machine.specs.declared.processor.Run.{Run}
 use Rattle.fm_machine.specs.declared.processor.Run.TheVariants as run
 use Rattle.display_maps.specs.Reading.{ReadingOf, reading}

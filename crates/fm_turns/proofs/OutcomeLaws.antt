@@ -2,7 +2,8 @@
 use Rattle.std.proofs.Common.{◌≡◌, ℕ, zero, suc, ◌+◌, ◌<◌, ◌≤◌, ◌==◌, List, Bool, true, false, if◌then◌else◌, Result, Ok, Err, refl, ap, subst, ◌∙◌, arith}
 use Rattle.fm_machine.specs.State.{Fm}
 use Rattle.fm_machine.specs.Step.{fm_step, then_on}
-use Rattle.fm_machine.specs.Run.{fm_run, pc_of, Avoids, IsOutcome, RunOutcome, outcome, one_later, after_one, stepped_on}
+use Rattle.fm_machine.specs.Run.{fm_run, pc_of, Avoids}
+use Rattle.fm_machine.specs.Outcome.{IsOutcome, RunOutcome, outcome, one_later, after_one, stepped_on}
 use Rattle.fm_machine.specs.declared.fault.Outside.{Outside}
 use Rattle.fm_machine.specs.declared.processor.Run.{Run}
 use Rattle.fm_machine.specs.declared.processor.Run.TheVariants as run

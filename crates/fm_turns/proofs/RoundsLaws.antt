@@ -5,7 +5,8 @@ use Rattle.std.proofs.lemmas.Bool.{and_parts, eqb-true}
 use Rattle.std.proofs.lemmas.List.{append-nil}
 use Rattle.std.proofs.lemmas.List.Elements.{All-head, All-tail}
 use Rattle.fm_machine.specs.State.{Fm}
-use Rattle.fm_machine.specs.Run.{RunOutcome, outcome, pc_of}
+use Rattle.fm_machine.specs.Run.{pc_of}
+use Rattle.fm_machine.specs.Outcome.{RunOutcome, outcome}
 use Rattle.fm_machine.specs.declared.processor.Run.TheVariants as run
 use Rattle.fm_turns.specs.declared.task.Task.{Task}
 use Rattle.fm_turns.specs.declared.task.Task.TheVariants.{Running, Ended}

@@ -1,7 +1,7 @@
 //! A turn, and a round of turns.
 
 ghost use Rattle.std.specs.Prelude.{◌≡◌, ◌≤◌, length};
-ghost use Rattle.fm_machine.specs.Run.{outcome};
+ghost use Rattle.fm_machine.specs.Outcome.{outcome};
 ghost use Rattle.fm_turns.specs.declared.task.Task.TheVariants.{Running};
 ghost use Rattle.fm_turns.specs.Turns.{turn_length, running_or_spent, state_after, after_turn_in, after_turn, after_turns};
 ghost use Rattle.fm_turns.specs.Turns.{IsWithin, AreWithin};

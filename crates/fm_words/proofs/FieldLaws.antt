@@ -3,7 +3,9 @@ use Rattle.std.proofs.Common.{◌≡◌, ℕ, zero, suc, ◌+◌, ◌-◌, ◌*�
 use Rattle.std.proofs.lemmas.Bool.Decides.{nat_tests}
 use Rattle.std.proofs.lemmas.Int.{ints}
 use Rattle.std.specs.Prelude.{nat_lt, ℤ, pos, negsuc}
-use Rattle.fm_words.specs.Code.{op_of, cc_of, mode_of, flags_of, imm_of, operand_of, decode_of, op_number, cc_number, mode_number, imm_number, operand_number, encode_of, IsOperand, IsInstr, significant}
+use Rattle.fm_words.specs.Code.{op_of, cc_of, mode_of, flags_of, imm_of, operand_of, decode_of}
+use Rattle.fm_words.specs.Encoding.{op_number, cc_number, mode_number, imm_number, operand_number, encode_of, IsOperand, IsInstr}
+use Rattle.fm_words.specs.Encoding.{significant}
 use Rattle.fm_words.proofs.FlagsLaws.{flags_of_back, flags_number_back, flags_number_below}
 use Rattle.fm_words.specs.declared.operation.Op.{Op}
 use Rattle.fm_words.specs.declared.operation.Op.TheVariants.{Move, Inc, Addc, Add, Neg, Dec, Subb, Sub, Ror, Asr, Lsr, Xor, Or, And, Not, M15}

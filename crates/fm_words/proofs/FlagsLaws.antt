@@ -2,7 +2,8 @@
 use Rattle.std.proofs.Common.{◌≡◌, ℕ, ◌<◌, ◌≤◌, eqb, Bool, true, false, arith, refl}
 use Rattle.std.proofs.lemmas.Bool.{eqb-true, agree_below_at}
 use Rattle.std.specs.Int.{from_bool as bit_of}
-use Rattle.fm_words.specs.Code.{flags_of, flags_number}
+use Rattle.fm_words.specs.Code.{flags_of}
+use Rattle.fm_words.specs.Encoding.{flags_number}
 use Rattle.fm_words.specs.declared.condition.Flags.{Flags}
 
 -- the flags of a number of flags are those flags

@@ -12,7 +12,8 @@ use Rattle.gypsy_syntax.specs.declared.slot.Form.{Form}
 use Rattle.gypsy_syntax.specs.declared.slot.Form.TheVariants.{Simple, Array, Literal}
 use Rattle.gypsy_syntax.specs.declared.slot.Slot.{Slot}
 use Rattle.gypsy_syntax.specs.Programs.{simple, shapes_of, Var, Lit}
-use Rattle.gypsy_syntax.specs.ProgramFits.{ValueFits, ArgFits, ArgsFit, slot_kind}
+use Rattle.gypsy_syntax.specs.ProgramFits.{ArgFits, ArgsFit, slot_kind}
+use Rattle.gypsy_syntax.specs.ValuesFit.{ValueFits}
 use Rattle.stack_text.specs.Breaches.{when}
 use Rattle.stack_text.proofs.SharedLaws.{rule_holds, rule_fails, append_none, kind_same}
 use Rattle.gypsy_check.specs.Declarations.{type_at, type_of}

@@ -15,9 +15,11 @@ use Rattle.gypsy_syntax.specs.Resolved.{place_among, position_of, variable_names
 use Rattle.gypsy_syntax.specs.Resolved.{is_leave_name, is_routine_name, is_space_name, cond_of, variable_of, statement_of, statement_of_all, procedure_of, program_of}
 use Rattle.gypsy_syntax.specs.Predefined.{slots_of}
 use Rattle.gypsy_syntax.specs.Programs.{ConditionOf, Leave, Routine, Space, Declared, simple, shapes_of, words_of, Proc, Program, no_proc, proc_at}
-use Rattle.gypsy_syntax.specs.ProgramFits.{ValueFits, Each, CondFits, HandlerFits, ActualsFit, CallFits, StmtFits, ProcFits, ProgramFits}
+use Rattle.gypsy_syntax.specs.ProgramFits.{Each, CondFits, HandlerFits, ActualsFit, CallFits, StmtFits, ProcFits, ProgramFits}
+use Rattle.gypsy_syntax.specs.ValuesFit.{ValueFits}
+use Rattle.gypsy_syntax.specs.Resolved.{procedure_at, procedure_named}
 use Rattle.stack_text.specs.Breaches.{when}
-use Rattle.gypsy_check.specs.Declarations.{type_of, procedure_at, procedure_named, is_condition, variables_of, conditions_of, repeats}
+use Rattle.gypsy_check.specs.Declarations.{type_of, is_condition, variables_of, conditions_of, repeats}
 use Rattle.gypsy_check.specs.Types.{same_length, same_type, is_boolean, has_length, words_of_types}
 use Rattle.stack_text.specs.Values.{same_kind}
 use Rattle.stack_text.proofs.SharedLaws.{not_true, rule_holds, rule_fails, some_of, append_none}

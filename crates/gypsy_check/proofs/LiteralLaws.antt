@@ -12,7 +12,8 @@ use Rattle.gypsy_syntax.specs.declared.literal.TypeText.{TypeText}
 use Rattle.gypsy_syntax.specs.Sources.{LiteralOf, LiteralsOf, integer, truth, character, array, no_items, item, literal_place, LocalOf}
 use Rattle.gypsy_syntax.specs.Resolved.{length_of, shape_of, item_of, items_of_all, value_items, literal_kind, local_value}
 use Rattle.gypsy_syntax.specs.Programs.{simple, words_of}
-use Rattle.gypsy_syntax.specs.ProgramFits.{is_in_range, ValueFits}
+use Rattle.gypsy_syntax.specs.Ranges.{is_in_range}
+use Rattle.gypsy_syntax.specs.ValuesFit.{ValueFits}
 use Rattle.gypsy_syntax.specs.Effects.{same_int}
 use Rattle.stack_text.specs.Breaches.{when}
 use Rattle.stack_text.proofs.SharedLaws.{rule_holds, append_none, kind_same}

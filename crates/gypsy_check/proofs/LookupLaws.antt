@@ -4,14 +4,14 @@ use Rattle.std.proofs.Common.{Bool, true, false, not, ◌||◌, Option, Some, No
 use Rattle.std.specs.List.{list_any, prefix_len}
 use Rattle.std.proofs.lemmas.Bool.{cases_lt}
 use Rattle.gypsy_syntax.specs.declared.literal.TypeText.{TypeText}
-use Rattle.gypsy_syntax.specs.Resolved.{place_among, condition_names}
+use Rattle.gypsy_syntax.specs.Resolved.{place_among, condition_names, procedure_at}
 use Rattle.stack_text.specs.declared.name.Named.{Named}
 use Rattle.gypsy_syntax.specs.declared.literal.Decl.{Decl}
 use Rattle.gypsy_syntax.specs.declared.literal.Local.{Local}
 use Rattle.gypsy_syntax.specs.declared.proc.Proc.{Proc}
 use Rattle.gypsy_syntax.specs.Sources.{LocalOf, ProcOf}
 use Rattle.gypsy_syntax.specs.Seen.SourceView.{local_of, proc_of}
-use Rattle.gypsy_check.specs.Declarations.{type_at, type_of, procedure_at, is_condition}
+use Rattle.gypsy_check.specs.Declarations.{type_at, type_of, is_condition}
 
 shift : (p l : ℕ) → cond (nat_lt (1 + p) (suc l)) (Some (1 + p)) None ≡ option_map suc (cond (nat_lt p l) (Some p) None)
 shift p l =

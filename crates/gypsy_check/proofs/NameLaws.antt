@@ -10,9 +10,10 @@ use Rattle.gypsy_syntax.specs.declared.literal.Decl.{Decl}
 use Rattle.gypsy_syntax.specs.Resolved.{place_among, position_of, variable_names, variable_types, shape_of, local_value, procedure_of}
 use Rattle.gypsy_syntax.specs.Programs.{shapes_of}
 use Rattle.gypsy_syntax.specs.ProgramFits.{Each, Misses, Distinct}
+use Rattle.gypsy_syntax.specs.Resolved.{procedure_at}
 use Rattle.stack_text.specs.Breaches.{when}
 use Rattle.stack_text.proofs.SharedLaws.{rule_fails, append_none, get_map}
-use Rattle.gypsy_check.specs.Declarations.{type_at, type_of, procedure_at, is_among, repeats}
+use Rattle.gypsy_check.specs.Declarations.{type_at, type_of, is_among, repeats}
 
 -- the name is among these
 abbrev pub Found : List (List ℕ) → List ℕ → Type 0

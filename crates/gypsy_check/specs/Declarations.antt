@@ -9,8 +9,8 @@ use Rattle.gypsy_syntax.specs.declared.literal.TypeText.{TypeText}
 use Rattle.gypsy_syntax.specs.declared.keyword.Keyword.{Keyword}
 use Rattle.gypsy_syntax.specs.declared.keyword.Keyword.TheVariants.{Predef}
 use Rattle.gypsy_syntax.specs.Keywords.{keyword_named}
-use Rattle.gypsy_syntax.specs.Resolved.{place_among, variable_names, variable_types, condition_names, procedure_names}
-use Rattle.gypsy_syntax.specs.Sources.{ProcOf, SourceOf}
+use Rattle.gypsy_syntax.specs.Resolved.{place_among, variable_names, variable_types, condition_names}
+use Rattle.gypsy_syntax.specs.Sources.{ProcOf}
 
 -- the type of the first variable of a name, formals before locals
 abbrev pub type_at : List TypeText → Option ℕ → Option TypeText
@@ -19,14 +19,6 @@ type_at types (Some i) = slice_get types i
 
 abbrev pub type_of : ProcOf → List ℕ → Option TypeText
 type_of p name = type_at (variable_types p) (place_among name (variable_names p))
-
--- the first procedure of a name
-abbrev pub procedure_at : List ProcOf → Option ℕ → Option ProcOf
-procedure_at procs None = None
-procedure_at procs (Some i) = slice_get procs i
-
-abbrev pub procedure_named : SourceOf → List ℕ → Option ProcOf
-procedure_named s name = procedure_at s.procs (place_among name (procedure_names s))
 
 -- a condition of the name is declared, formal or local
 abbrev pub is_condition : ProcOf → List ℕ → Bool

@@ -11,14 +11,14 @@ use Rattle.stack_text.specs.declared.shape.Kind.TheVariants.{Integer, Character}
 use Rattle.stack_text.specs.Breaches.{when}
 use Rattle.gypsy_syntax.specs.declared.literal.TypeText.{TypeText}
 use Rattle.gypsy_syntax.specs.declared.slot.Slot.{Slot}
-use Rattle.gypsy_syntax.specs.ProgramFits.{is_in_range}
+use Rattle.gypsy_syntax.specs.Ranges.{is_in_range}
 use Rattle.gypsy_syntax.specs.Predefined.{slots_of}
-use Rattle.gypsy_syntax.specs.Resolved.{variable_types, is_leave_name, is_routine_name, is_space_name}
+use Rattle.gypsy_syntax.specs.Resolved.{variable_types, is_leave_name, is_routine_name, is_space_name, procedure_named}
 use Rattle.gypsy_syntax.specs.Sources.{LiteralOf, LiteralsOf, integer, truth, character, array, no_items, item, literal_place}
 use Rattle.gypsy_syntax.specs.Sources.{ArgOf, variable, constant, arg_place, LocalOf, ProcOf, SourceOf}
 use Rattle.gypsy_syntax.specs.Sources.{StmtOf, StmtsOf, no_op, signal, seq, loop, branch, begin, call, predef, no_parts, part}
 use Rattle.gypsy_check.specs.Arguments.{kind_of, is_wanted, settled_by, is_undeclared}
-use Rattle.gypsy_check.specs.Declarations.{type_of, procedure_named, is_condition, is_predefined, variables_of, conditions_of, repeats}
+use Rattle.gypsy_check.specs.Declarations.{type_of, is_condition, is_predefined, variables_of, conditions_of, repeats}
 use Rattle.gypsy_check.specs.Types.{same_type, is_boolean, has_length, suits, words_of_types}
 
 -- S9: a number is out of the range of its kind

@@ -4,7 +4,8 @@ ghost use Rattle.std.specs.Prelude.{◌≡◌, ℕ, List, [], map, is_some, IfOk
 ghost use Rattle.std.specs.Str.{bytes_eq};
 ghost use Rattle.stack_text.specs.Breaches.{when, Notes};
 ghost use Rattle.gypsy_syntax.specs.Seen.SourceView.{proc_of, source_of};
-ghost use Rattle.gypsy_check.specs.Declarations.{procedure_named, repeats};
+ghost use Rattle.gypsy_syntax.specs.Resolved.{procedure_named};
+ghost use Rattle.gypsy_check.specs.Declarations.{repeats};
 ghost use Rattle.gypsy_check.specs.Tables.{look_up, KnowsCallees, KnowsProcs};
 ghost use Rattle.stack_text.specs.Options.{first_or};
 

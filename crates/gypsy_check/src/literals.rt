@@ -4,7 +4,7 @@ ghost use Rattle.std.specs.Prelude.{◌≡◌};
 ghost use Rattle.std.specs.List.{flat_map};
 ghost use Rattle.stack_text.specs.declared.shape.Kind.TheVariants.{Integer, Character};
 ghost use Rattle.stack_text.specs.Breaches.{Notes};
-ghost use Rattle.gypsy_syntax.specs.ProgramFits.{is_in_range};
+ghost use Rattle.gypsy_syntax.specs.Ranges.{is_in_range};
 ghost use Rattle.gypsy_syntax.specs.Resolved.{literal_kind};
 ghost use Rattle.gypsy_syntax.specs.Sources.{literal_place};
 ghost use Rattle.gypsy_syntax.specs.Seen.SourceView.{literal_of};

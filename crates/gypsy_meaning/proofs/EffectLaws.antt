@@ -14,11 +14,12 @@ use Rattle.gypsy_syntax.specs.declared.slot.Form.TheVariants.{Simple, Array, Lit
 use Rattle.gypsy_syntax.specs.declared.slot.Slot.{Slot}
 use Rattle.gypsy_syntax.specs.Predefined.{slots_of, integer_slot, boolean_slot, shared, predef_effect}
 use Rattle.gypsy_syntax.specs.Programs.{simple, Arg, Var, Lit}
-use Rattle.gypsy_syntax.specs.ProgramFits.{is_in_range, ValueFits, ArgFits, ArgsFit, slot_kind}
+use Rattle.gypsy_syntax.specs.ProgramFits.{ArgFits, ArgsFit, slot_kind}
+use Rattle.gypsy_syntax.specs.Ranges.{is_in_range}
+use Rattle.gypsy_syntax.specs.ValuesFit.{ValueFits, VarsFit}
 use Rattle.gypsy_syntax.specs.Effects.{Effect, Normal, Fault, Beyond, integer_value, truth_value, item_of_value, value_at, number_effect, indexed, stored}
 use Rattle.gypsy_syntax.proofs.RangeLaws.{get_holds, simple_item}
 use Rattle.gypsy_meaning.specs.Calls.{value_of, values_of, target_of}
-use Rattle.gypsy_meaning.specs.Kept.{VarsFit}
 
 -- a value of this form and kind
 abbrev FormFits : Form → Kind → ValueOf → Type 0

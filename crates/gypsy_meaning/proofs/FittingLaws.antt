@@ -5,7 +5,9 @@ use Rattle.std.proofs.lemmas.Bool.{and_parts, and_from, leb-true}
 use Rattle.stack_text.specs.declared.shape.Shape.{Shape}
 use Rattle.stack_text.specs.Values.{ValueOf, item_count, same_kind}
 use Rattle.stack_text.proofs.SharedLaws.{kind_same}
-use Rattle.gypsy_syntax.specs.ProgramFits.{ProgramFits, ValueFits, is_in_range}
+use Rattle.gypsy_syntax.specs.ProgramFits.{ProgramFits}
+use Rattle.gypsy_syntax.specs.Ranges.{is_in_range}
+use Rattle.gypsy_syntax.specs.ValuesFit.{ValueFits, VarsFit}
 use Rattle.gypsy_syntax.specs.Programs.{Program, proc_at, words_of}
 use Rattle.gypsy_check.proofs.LiteralLaws.{kind_self}
 use Rattle.gypsy_space.specs.Events.{AreNeeds, need_at, need_of}
@@ -13,7 +15,6 @@ use Rattle.gypsy_space.specs.Needs.{StackSizes, main_need, main_used}
 use Rattle.gypsy_space.specs.declared.need.Need.{Need}
 use Rattle.gypsy_space.proofs.SmallLaws.{words_of-append}
 use Rattle.gypsy_meaning.specs.Seen.Fitting.{CanStart, are_as_many, are_values, can_start, is_value_of, same_shape, suffice}
-use Rattle.gypsy_meaning.specs.Kept.{VarsFit}
 
 shapes_same : (a b : Shape) → same_shape a b ≡ true → a ≡ b
 shapes_same a b e =

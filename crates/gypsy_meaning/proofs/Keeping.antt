@@ -6,7 +6,8 @@ use Rattle.stack_text.specs.Values.{ValueOf}
 use Rattle.gypsy_syntax.specs.declared.predef.Predef.{Predef}
 use Rattle.gypsy_syntax.specs.Programs.{ConditionOf, Leave, Routine, Space, Declared, Arg, Proc, Program, proc_at, body_of, shapes_of, conds_of}
 use Rattle.gypsy_syntax.specs.Programs.{Stmt, Skip, NoOp, Signal, Seq, Loop, If, Begin, Call, Apply}
-use Rattle.gypsy_syntax.specs.ProgramFits.{ValueFits, Each, CondFits, ActualsFit, CallFits, StmtFits, ProgramFits}
+use Rattle.gypsy_syntax.specs.ProgramFits.{Each, CondFits, ActualsFit, CallFits, StmtFits, ProgramFits}
+use Rattle.gypsy_syntax.specs.ValuesFit.{ValueFits, VarsFit}
 use Rattle.gypsy_syntax.specs.Predefined.{predef_effect}
 use Rattle.gypsy_syntax.specs.Effects.{Effect, Normal, Fault, Beyond, value_at, is_true_value}
 use Rattle.gypsy_space.specs.Costs.{Tally, spend, predef_spend, out_spend}
@@ -15,7 +16,7 @@ use Rattle.gypsy_space.specs.declared.need.Lack.{Lack}
 use Rattle.gypsy_space.specs.declared.need.Lack.TheVariants.{Nothing, Temporary, Control}
 use Rattle.gypsy_meaning.specs.Calls.{has_cond, is_passed_on, matching, main_way, values_of, copied_in, copied_out, main_start, main_formals}
 use Rattle.gypsy_meaning.specs.Machine.{Item, Do, Back, JoinThen, JoinOne, Guard, Out, Frame, Held, State, At, Next, opens, open_on, settle, stop_if, raise, either_move, apply_step, used, call_step, do_step, end_step, out_step, gypsy_step, start}
-use Rattle.gypsy_meaning.specs.Kept.{VarsFit, in_loop, RaisedFits, WorkFits, FramesFit, StateFits, EndFits, MoveFits}
+use Rattle.gypsy_meaning.specs.Kept.{in_loop, RaisedFits, WorkFits, FramesFit, StateFits, EndFits, MoveFits}
 use Rattle.gypsy_meaning.proofs.EffectLaws.{value_fits, set_fits, apply_fits}
 
 -- Variables.

@@ -11,12 +11,13 @@ use Rattle.gypsy_syntax.specs.Programs.{ConditionOf, Routine, Space, Arg, Progra
 use Rattle.gypsy_syntax.specs.Programs.{Stmt, Skip, NoOp, Signal, Seq, Loop, If, Begin, Call, Apply}
 use Rattle.gypsy_syntax.specs.Predefined.{predef_effect}
 use Rattle.gypsy_syntax.specs.Effects.{Effect, Normal, Fault, Beyond, no_value, value_at, is_true_value}
+use Rattle.gypsy_syntax.specs.ValuesFit.{VarsFit}
 use Rattle.gypsy_space.specs.Costs.{Tally, spend, predef_spend, out_spend}
 use Rattle.gypsy_space.specs.Needs.{StackSizes, lack_of, call_spend, with_call}
 use Rattle.gypsy_space.specs.declared.need.Lack.{Lack}
 use Rattle.gypsy_space.specs.declared.need.Lack.TheVariants.{Nothing, Temporary, Control}
 use Rattle.gypsy_meaning.specs.Calls.{has_cond, is_leave, is_passed_on, matching, values_of, target_of, copied_in, copied_out}
-use Rattle.gypsy_meaning.specs.Kept.{FramesFit, VarsFit}
+use Rattle.gypsy_meaning.specs.Kept.{FramesFit}
 use Rattle.gypsy_meaning.specs.Machine.{Item, Do, Back, JoinThen, JoinOne, Guard, Out, Frame, Held, State, At, Move, Next, Ended, Ending, go_on}
 use Rattle.gypsy_meaning.specs.Machine.{open_on, settle, stop_if, raise, either_move, apply_step, used, call_step, do_step, end_step, out_step, gypsy_step, run}
 use Rattle.gypsy_meaning.specs.Room.{HasWords, HaveWords}

@@ -1,4 +1,5 @@
 pub mod CountLaws
+pub mod LongerLaws
 pub mod Runs
 pub mod EffectLaws
 pub mod Keeping

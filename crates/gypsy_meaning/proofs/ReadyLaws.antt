@@ -10,6 +10,7 @@ use Rattle.gypsy_syntax.specs.Effects.{item_of_value, value_at}
 use Rattle.gypsy_syntax.specs.Predefined.{slots_of}
 use Rattle.gypsy_syntax.specs.ProgramFits.{ActualsFit, ArgsFit}
 use Rattle.gypsy_syntax.specs.Programs.{proc_at, shapes_of}
+use Rattle.gypsy_syntax.specs.ValuesFit.{VarsFit}
 use Rattle.gypsy_space.specs.Nodes.{seen_arg, seen_program}
 use Rattle.gypsy_space.specs.declared.need.Need.{Need}
 use Rattle.gypsy_space.specs.declared.program.Argument.{Argument}
@@ -17,7 +18,7 @@ use Rattle.gypsy_space.specs.declared.program.CallSite.{CallSite}
 use Rattle.gypsy_meaning.specs.Scaffold.PredefinedEffects.{Suits}
 use Rattle.gypsy_meaning.specs.Scaffold.Entering.{AreLent, call_top}
 use Rattle.gypsy_meaning.specs.Calls.{values_of}
-use Rattle.gypsy_meaning.specs.Kept.{VarsFit, WorkFits}
+use Rattle.gypsy_meaning.specs.Kept.{WorkFits}
 use Rattle.gypsy_meaning.specs.Machine.{Item}
 use Rattle.gypsy_meaning.specs.Seen.Named.{variables_of}
 use Rattle.gypsy_meaning.specs.Scaffold.Stepping.{IsReady}

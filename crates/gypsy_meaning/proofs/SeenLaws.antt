@@ -3,9 +3,10 @@ use Rattle.std.proofs.Common.{◌≡◌, ℕ, zero, suc, ◌≤◌, List, refl, 
 use Rattle.stack_text.specs.Values.{ValueOf}
 use Rattle.gypsy_syntax.specs.ProgramFits.{ProgramFits}
 use Rattle.gypsy_syntax.specs.Programs.{Program, proc_at}
+use Rattle.gypsy_syntax.specs.ValuesFit.{VarsFit}
 use Rattle.gypsy_space.specs.Needs.{StackSizes, main_need}
 use Rattle.gypsy_meaning.specs.Seen.Belongs.{StageFits}
-use Rattle.gypsy_meaning.specs.Kept.{MoveFits, VarsFit}
+use Rattle.gypsy_meaning.specs.Kept.{MoveFits}
 use Rattle.gypsy_meaning.specs.Room.{MoveRoom, StateRoom}
 use Rattle.gypsy_meaning.specs.Machine.{At, Ended, Move, Next, gypsy_step}
 use Rattle.gypsy_meaning.specs.Seen.RunView.{Finished, IsOfRun, Running, Seen, Stage, after, after_move, answer_of, left_from, left_of, opening, ran_on, meaning_run}

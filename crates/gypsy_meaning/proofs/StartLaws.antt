@@ -8,6 +8,7 @@ use Rattle.stack_text.specs.Values.{ValueOf}
 use Rattle.gypsy_syntax.specs.Sources.{SourceOf}
 use Rattle.gypsy_syntax.specs.Programs.{Program, body_of, proc_at, shapes_of, words_of}
 use Rattle.gypsy_syntax.specs.Resolved.{program_of}
+use Rattle.gypsy_syntax.specs.ValuesFit.{VarsFit}
 use Rattle.gypsy_check.specs.Accepted.{IsAccepted}
 use Rattle.gypsy_space.specs.Costs.{start_tally}
 use Rattle.gypsy_space.specs.Events.{AreNeeds, AreSmall}
@@ -18,7 +19,6 @@ use Rattle.gypsy_space.specs.declared.program.Program.{Program as Code}
 use Rattle.gypsy_meaning.specs.Seen.Belongs.{BelongsTo, IsKept, Suffices}
 use Rattle.gypsy_meaning.specs.Calls.{main_start}
 use Rattle.gypsy_meaning.specs.Seen.Held.{AreActivations, IsHeld}
-use Rattle.gypsy_meaning.specs.Kept.{VarsFit}
 use Rattle.gypsy_meaning.specs.Machine.{At, Frame, Item, open_on, start, used}
 use Rattle.gypsy_meaning.specs.Seen.Named.{proc_names, seen_names, unnamed, variables_of}
 use Rattle.gypsy_meaning.specs.Seen.Running.{frames_in, frames_of, kept_frames, seen, sizes_of, stage_by}

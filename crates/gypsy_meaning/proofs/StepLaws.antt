@@ -5,9 +5,10 @@ use Rattle.stack_text.specs.Values.{ValueOf}
 use Rattle.gypsy_syntax.specs.Sources.{SourceOf}
 use Rattle.gypsy_syntax.specs.Programs.{Program, proc_at}
 use Rattle.gypsy_syntax.specs.Resolved.{program_of}
+use Rattle.gypsy_syntax.specs.ValuesFit.{VarsFit}
 use Rattle.gypsy_space.specs.Events.{AreNeeds}
 use Rattle.gypsy_meaning.specs.Seen.Belongs.{BelongsTo, IsKept, IsRunOf, StageFits, Suffices}
-use Rattle.gypsy_meaning.specs.Kept.{FramesFit, StateFits, VarsFit}
+use Rattle.gypsy_meaning.specs.Kept.{FramesFit, StateFits}
 use Rattle.gypsy_space.specs.Costs.{start_tally}
 use Rattle.gypsy_space.specs.Needs.{StackSizes, stack_sizes}
 use Rattle.gypsy_space.specs.Nodes.{seen_program}

@@ -1,18 +1,10 @@
 -- What every state of the step machine keeps, where the program fits.
 use Rattle.std.specs.Prelude.{◌≡◌, ℕ, ◌<◌, List, [], ◌∷◌, Bool, true, false, Some, None}
-use Rattle.stack_text.specs.declared.shape.Shape.{Shape}
-use Rattle.stack_text.specs.Values.{ValueOf}
 use Rattle.gypsy_syntax.specs.Programs.{ConditionOf, Leave, Routine, Space, Declared, Proc, Program, proc_at, shapes_of, conds_of}
-use Rattle.gypsy_syntax.specs.ProgramFits.{ValueFits, Each, HandlerFits, CallFits, StmtFits}
+use Rattle.gypsy_syntax.specs.ProgramFits.{Each, HandlerFits, CallFits, StmtFits}
+use Rattle.gypsy_syntax.specs.ValuesFit.{VarsFit}
 use Rattle.gypsy_meaning.specs.Calls.{CurrentCondition}
 use Rattle.gypsy_meaning.specs.Machine.{Item, Do, Back, JoinThen, JoinOne, Guard, Out, Frame, Held, State, At, Move, Next, Ended}
-
--- values of these shapes
-abbrev pub VarsFit : List Shape → List ValueOf → Type 0
-VarsFit [] [] = Unit {0}
-VarsFit [] (v ∷ x) = ⊥
-VarsFit (s ∷ shapes) [] = ⊥
-VarsFit (s ∷ shapes) (v ∷ x) = (v.shape ≡ s) × ValueFits v × VarsFit shapes x
 
 -- whether a loop is round what stands on the list
 abbrev pub in_loop : List Item → Bool

@@ -2,7 +2,8 @@
 
 ghost use Rattle.std.specs.Prelude.{◌≡◌, ◌≤◌, map};
 ghost use Rattle.std.specs.List.{list_all};
-ghost use Rattle.gypsy_syntax.specs.ProgramFits.{ProgramFits, is_in_range};
+ghost use Rattle.gypsy_syntax.specs.ProgramFits.{ProgramFits};
+ghost use Rattle.gypsy_syntax.specs.Ranges.{is_in_range};
 ghost use Rattle.gypsy_syntax.specs.Programs.{proc_at, words_of};
 ghost use Rattle.gypsy_space.specs.Events.{AreNeeds, AreSmall};
 ghost use Rattle.gypsy_space.specs.Needs.{main_need, stack_sizes};

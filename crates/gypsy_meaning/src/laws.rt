@@ -2,10 +2,11 @@
 
 ghost use Rattle.std.specs.Prelude.{◌≡◌, ℕ, ◌≤◌, List};
 ghost use Rattle.stack_text.specs.Values.{ValueOf};
-ghost use Rattle.gypsy_syntax.specs.Programs.{Program, proc_at};
+ghost use Rattle.gypsy_syntax.specs.Programs.{Program, Stmt, proc_at};
 ghost use Rattle.gypsy_syntax.specs.ProgramFits.{ProgramFits};
 ghost use Rattle.gypsy_space.specs.Needs.{StackSizes, main_need};
 ghost use Rattle.gypsy_syntax.specs.Sources.{SourceOf};
+ghost use Rattle.gypsy_syntax.specs.ValuesFit.{VarsFit};
 ghost use Rattle.gypsy_space.specs.declared.need.Need.{Need};
 ghost use Rattle.gypsy_meaning.specs.Agree.{Agree};
 ghost use Rattle.gypsy_meaning.specs.Seen.Belongs.{BelongsTo, IsRunOf};
@@ -14,9 +15,19 @@ ghost use Rattle.gypsy_meaning.specs.Seen.RunView.{IsOfRun, Seen, after, left_of
 ghost use Rattle.gypsy_meaning.specs.declared.running.Meaning.{Meaning};
 ghost use Rattle.gypsy_meaning.specs.Counted.{counted_meaning, uncounted};
 ghost use Rattle.gypsy_meaning.specs.Machine.{State, start, gypsy_step};
-ghost use Rattle.gypsy_meaning.specs.Meaning.{meaning};
-ghost use Rattle.gypsy_meaning.specs.Kept.{VarsFit, StateFits, MoveFits};
+ghost use Rattle.gypsy_meaning.specs.Calls.{CurrentCondition};
+ghost use Rattle.gypsy_meaning.specs.Meaning.{Done, evaluate, meaning};
+ghost use Rattle.gypsy_meaning.specs.Kept.{StateFits, MoveFits};
 ghost use Rattle.gypsy_meaning.specs.Room.{StateRoom, MoveRoom};
+
+/// A statement that is done within a bound is done the same within each greater one, so it has one end.
+pub fn statements_end_once()
+    ensures longer { (q : Program) (sizes : StackSizes) (n m : ℕ) (s : Stmt) (u : StackSizes) (x y : List ValueOf)
+        (c : CurrentCondition) → n ≤ m → evaluate q sizes n s u x ≡ Done y c → evaluate q sizes m s u x ≡ Done y c }
+    ensures once { (q : Program) (sizes : StackSizes) (n m : ℕ) (s : Stmt) (u : StackSizes) (x y z : List ValueOf)
+        (c d : CurrentCondition) → evaluate q sizes n s u x ≡ Done y c → evaluate q sizes m s u x ≡ Done z d →
+        (y ≡ z) × (c ≡ d) }
+{}
 
 /// The step machine and the meaning agree, and count the same instructions and the same steps of Piton.
 pub fn meanings_agree()

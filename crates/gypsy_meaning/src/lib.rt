@@ -30,7 +30,7 @@ pub use conditions::Current;
 pub use fitting::{control_need, temporary_need};
 pub use laws::{
     counting_changes_nothing, lending_changes_no_step, meanings_agree, runs_keep_their_source,
-    runs_show_moments, start_fits, steps_keep_fit, steps_keep_room,
+    runs_show_moments, start_fits, statements_end_once, steps_keep_fit, steps_keep_room,
 };
 pub use returning::is_passed_on;
 pub use running::Meaning;

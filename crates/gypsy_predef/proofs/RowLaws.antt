@@ -29,7 +29,7 @@ use Rattle.gypsy_syntax.specs.Predefined.{slots_of, shared, integer_slot, boolea
 use Rattle.gypsy_syntax.specs.Effects.{Normal, Fault, Beyond, item_of_value, truth_value, integer_value, are_same, is_true_value}
 use Rattle.gypsy_syntax.specs.Effects as effects
 use Rattle.gypsy_syntax.specs.Effects.{number_effect, indexed}
-use Rattle.gypsy_syntax.specs.ProgramFits.{is_in_range}
+use Rattle.gypsy_syntax.specs.Ranges.{is_in_range}
 use Rattle.gypsy_syntax.proofs.RangeLaws.{simple_item}
 use Rattle.gypsy_predef.specs.Bodies.{body_of}
 use Rattle.gypsy_predef.specs.Runs.{word_of_item, words_of_value, with_elements, length_word, Argument, values_of, ArgumentFits, ArgumentsFit, with_arguments, Runs, PredefRuns, CountsAdd, WordsWritten}

@@ -13,7 +13,9 @@ use Rattle.piton_machine.specs.State.{element}
 use Rattle.gypsy_syntax.specs.declared.slot.Form.TheVariants.{Simple, Array}
 use Rattle.gypsy_syntax.specs.declared.slot.Slot.{Slot}
 use Rattle.gypsy_syntax.specs.Programs.{simple}
-use Rattle.gypsy_syntax.specs.ProgramFits.{ValueFits, slot_kind, is_in_range}
+use Rattle.gypsy_syntax.specs.ProgramFits.{slot_kind}
+use Rattle.gypsy_syntax.specs.Ranges.{is_in_range}
+use Rattle.gypsy_syntax.specs.ValuesFit.{ValueFits}
 use Rattle.gypsy_syntax.specs.Effects.{item_of_value, truth_value}
 use Rattle.gypsy_syntax.proofs.RangeLaws.{simple_item}
 use Rattle.gypsy_predef.specs.Runs.{word_of_item, words_of_value, Argument, ArgumentFits, ArgumentsFit}

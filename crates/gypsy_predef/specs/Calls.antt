@@ -19,7 +19,8 @@ use Rattle.gypsy_syntax.specs.declared.slot.Slot.{Slot}
 use Rattle.gypsy_syntax.specs.declared.predef.Predef.{Predef}
 use Rattle.gypsy_syntax.specs.Predefined.{slots_of, predef_effect, predef_cost, predef_temp, predef_ctrl, predef_number, can_fail}
 use Rattle.gypsy_syntax.specs.Programs.{Arg, Var, Lit}
-use Rattle.gypsy_syntax.specs.ProgramFits.{ArgsFit, ValueFits}
+use Rattle.gypsy_syntax.specs.ProgramFits.{ArgsFit}
+use Rattle.gypsy_syntax.specs.ValuesFit.{ValueFits}
 use Rattle.gypsy_syntax.specs.Effects.{Effect, Normal, Fault, Beyond, value_at}
 use Rattle.gypsy_predef.specs.Bodies.{body_of, bodies}
 use Rattle.gypsy_predef.specs.Runs.{Argument, ArgumentsFit, Holds, pushed_word, values_of, length_words}

@@ -17,7 +17,8 @@ use Rattle.gypsy_syntax.specs.declared.predef.Predef.{Predef}
 use Rattle.gypsy_syntax.specs.declared.predef.Predef.TheVariants as row
 use Rattle.gypsy_syntax.specs.Predefined.{slots_of, predef_effect, predef_cost, predef_temp, predef_ctrl, predef_number, can_fail}
 use Rattle.gypsy_syntax.specs.Programs.{simple}
-use Rattle.gypsy_syntax.specs.ProgramFits.{ValueFits, slot_kind}
+use Rattle.gypsy_syntax.specs.ProgramFits.{slot_kind}
+use Rattle.gypsy_syntax.specs.ValuesFit.{ValueFits}
 use Rattle.gypsy_syntax.specs.Effects.{Effect, Normal, Fault, Beyond, same_int, item_of_value, value_at}
 use Rattle.gypsy_predef.specs.Bodies.{body_of, lengths_of}
 

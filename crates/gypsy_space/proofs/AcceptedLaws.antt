@@ -21,7 +21,9 @@ use Rattle.gypsy_syntax.specs.declared.statement.Stmt.{Stmt as Text}
 use Rattle.gypsy_syntax.specs.Fits.{FitsForm, FitsProcedure}
 use Rattle.gypsy_syntax.specs.Predefined.{slots_of}
 use Rattle.gypsy_syntax.specs.Programs.{no_proc}
-use Rattle.gypsy_syntax.specs.ProgramFits.{ArgFits, ArgsFit, Each, ProcFits, StmtFits, ValueFits, is_in_range, slot_kind}
+use Rattle.gypsy_syntax.specs.ProgramFits.{ArgFits, ArgsFit, Each, ProcFits, StmtFits, slot_kind}
+use Rattle.gypsy_syntax.specs.Ranges.{is_in_range}
+use Rattle.gypsy_syntax.specs.ValuesFit.{ValueFits}
 use Rattle.gypsy_syntax.specs.Resolved.{argument_of, condition_names, item_of, items_of_all, local_value, place_among, position_of, procedure_of, program_of, statement_of, statement_of_all, value_items, variable_names, variable_types}
 use Rattle.gypsy_syntax.specs.Sources.{LiteralOf, integer, truth, character, array, ArgOf, variable, constant, LocalOf, ProcOf, SourceOf}
 use Rattle.gypsy_syntax.specs.Sources.{StmtOf, StmtsOf, no_op, signal, seq, loop, branch, begin, call, predef, no_parts, part}

@@ -3,7 +3,7 @@
 use Rattle.std.specs.Prelude.{All, IsTrue}
 use Rattle.gypsy_syntax.specs.declared.literal.Decl.{Decl}
 use Rattle.gypsy_syntax.specs.Fits.{FitsProcedure}
-use Rattle.gypsy_syntax.specs.ProgramFits.{ValueFits}
+use Rattle.gypsy_syntax.specs.ValuesFit.{ValueFits}
 use Rattle.gypsy_syntax.specs.Resolved.{literal_value, local_value}
 use Rattle.gypsy_syntax.specs.Sources.{ArgOf, variable, constant}
 use Rattle.gypsy_syntax.specs.Sources.{StmtOf, StmtsOf, no_op, signal, seq, loop, branch, begin, call, predef, no_parts, part}

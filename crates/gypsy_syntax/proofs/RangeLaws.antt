@@ -7,7 +7,8 @@ use Rattle.stack_text.specs.declared.shape.Kind.TheVariants.{Integer, Boolean, C
 use Rattle.stack_text.specs.declared.shape.Shape.{Shape}
 use Rattle.stack_text.specs.Values.{ValueOf, is_item, item_count}
 use Rattle.gypsy_syntax.specs.Programs.{simple}
-use Rattle.gypsy_syntax.specs.ProgramFits.{ValueFits, is_in_range}
+use Rattle.gypsy_syntax.specs.Ranges.{is_in_range}
+use Rattle.gypsy_syntax.specs.ValuesFit.{ValueFits}
 use Rattle.gypsy_syntax.specs.Effects.{item_of_value}
 
 pub range_item : (k : Kind) (z : ℤ) → is_in_range k z ≡ true → is_item k z ≡ true

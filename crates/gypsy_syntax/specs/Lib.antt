@@ -12,6 +12,7 @@ pub mod Fits
 pub mod Programs
 pub mod Resolved
 pub mod Ranges
+pub mod ValuesFit
 pub mod ProgramFits
 pub mod Effects
 pub mod Predefined

@@ -1,25 +1,17 @@
 -- What is known of the program of a source that breaks no static rule.
 use Rattle.std.specs.Prelude.{◌≡◌, ◌≢◌, ℕ, ◌<◌, ◌≤◌, List, [], ◌∷◌, length, slice_get, Bool, true, false, Option, Some, None}
-use Rattle.std.specs.List.{list_all}
 use Rattle.stack_text.specs.SharedLimits.{most_stack, most_array}
 use Rattle.stack_text.specs.declared.shape.Kind.{Kind}
 use Rattle.stack_text.specs.declared.shape.Kind.TheVariants.{Boolean}
 use Rattle.stack_text.specs.declared.shape.Shape.{Shape}
-use Rattle.stack_text.specs.Values.{ValueOf, item_count}
 use Rattle.gypsy_syntax.specs.declared.slot.Form.{Form}
 use Rattle.gypsy_syntax.specs.declared.slot.Form.TheVariants.{Simple, Array, Literal}
 use Rattle.gypsy_syntax.specs.declared.slot.Slot.{Slot}
 use Rattle.gypsy_syntax.specs.Predefined.{slots_of}
-pub use Rattle.gypsy_syntax.specs.Ranges.{is_in_range}
 use Rattle.gypsy_syntax.specs.Programs.{ConditionOf, Leave, Routine, Space, Declared, Arg, Var, Lit}
 use Rattle.gypsy_syntax.specs.Programs.{Proc, Program, simple, proc_at, shapes_of, conds_of, words_of}
 use Rattle.gypsy_syntax.specs.Programs.{Stmt, Skip, NoOp, Signal, Seq, Loop, If, Begin, Call, Apply}
-
--- a value has its shape's number of items, each in range
-pub record ValueFits (v : ValueOf) : Type 0 where
-  pub few : v.shape.length ≤ most_array
-  pub number : length v.items ≡ item_count v.shape
-  pub items : list_all (is_in_range v.shape.kind) v.items ≡ true
+use Rattle.gypsy_syntax.specs.ValuesFit.{ValueFits}
 
 -- a is none of these
 abbrev pub Misses : ℕ → List ℕ → Type 0

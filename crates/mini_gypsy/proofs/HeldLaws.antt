@@ -5,7 +5,7 @@ use Rattle.std.specs.Prelude as std
 use Rattle.stack_text.specs.Values.{ValueOf}
 use Rattle.stack_text.specs.declared.shape.Kind.TheVariants.{Integer}
 use Rattle.gypsy_syntax.specs.Effects.{Normal, integer_value, truth_value, value_at}
-use Rattle.gypsy_syntax.specs.ProgramFits.{is_in_range}
+use Rattle.gypsy_syntax.specs.Ranges.{is_in_range}
 use Rattle.mini_syntax.specs.declared.sort.Sort.{Sort}
 use Rattle.mini_syntax.specs.declared.sort.Sort.TheVariants.{Int, Bool}
 use Rattle.mini_syntax.specs.declared.operator.Prefix.{Prefix}

@@ -12,13 +12,13 @@ use Rattle.stack_text.specs.Values.{ValueOf, item_count}
 use Rattle.stack_text.proofs.SharedLaws.{one_item}
 use Rattle.gypsy_syntax.specs.declared.literal.Decl.{Decl}
 use Rattle.gypsy_syntax.specs.Effects.{integer_value, truth_value, item_of_value, is_true_value, same_int}
-use Rattle.gypsy_syntax.specs.ProgramFits.{is_in_range, ValueFits}
+use Rattle.gypsy_syntax.specs.Ranges.{is_in_range}
+use Rattle.gypsy_syntax.specs.ValuesFit.{ValueFits, VarsFit}
 use Rattle.gypsy_syntax.specs.Programs.{Program, Leave, Routine, Space, simple, proc_at}
 use Rattle.gypsy_syntax.specs.Programs as gypsy
 use Rattle.gypsy_syntax.specs.Resolved.{program_of, shape_of, truth_item, statement_of, local_value, place_among}
 use Rattle.gypsy_space.specs.Needs.{StackSizes, main_used}
 use Rattle.gypsy_meaning.specs.Calls.{main_start, main_formals, main_way, is_passed_on}
-use Rattle.gypsy_meaning.specs.Kept.{VarsFit}
 use Rattle.gypsy_meaning.specs.Meaning.{MeaningOutcome, Done, Unfinished, evaluate, main_end, meaning}
 use Rattle.mini_syntax.specs.declared.program.Declared.{Declared}
 use Rattle.mini_syntax.specs.declared.sort.Sort.{Sort}

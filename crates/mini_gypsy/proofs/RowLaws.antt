@@ -7,7 +7,7 @@ use Rattle.stack_text.specs.declared.shape.Kind.TheVariants.{Integer}
 use Rattle.gypsy_syntax.specs.Predefined.{effect_by}
 use Rattle.gypsy_syntax.specs.Effects.{Effect, Normal, integer_value, truth_value, value_at, number_effect, is_true_value, are_same}
 use Rattle.gypsy_syntax.specs.Effects as effect
-use Rattle.gypsy_syntax.specs.ProgramFits.{is_in_range}
+use Rattle.gypsy_syntax.specs.Ranges.{is_in_range}
 use Rattle.gypsy_syntax.specs.Programs.{Arg, Var}
 use Rattle.gypsy_meaning.specs.Calls.{target_of}
 use Rattle.gypsy_meaning.specs.Meaning.{applied}

@@ -7,10 +7,10 @@ use Rattle.gypsy_syntax.specs.GypsyReading.{KeepsForm}
 use Rattle.gypsy_syntax.specs.Printed.{tree_of}
 use Rattle.gypsy_syntax.specs.Programs as gypsy
 use Rattle.gypsy_syntax.specs.Resolved.{program_of}
+use Rattle.gypsy_syntax.specs.ValuesFit.{VarsFit}
 use Rattle.gypsy_syntax.proofs.MadeLaws.{fits_keeps}
 use Rattle.gypsy_syntax.proofs.ReadAgainLaws.{gypsy_text_reads}
 use Rattle.gypsy_syntax.proofs.SizeLaws.{text_over}
-use Rattle.gypsy_meaning.specs.Kept.{VarsFit}
 use Rattle.mini_syntax.specs.MiniReading.{IsFaultless}
 use Rattle.mini_syntax.specs.Breaches.{body_of, declared_of}
 use Rattle.mini_syntax.specs.declared.program.Declared.{Declared}

@@ -8,9 +8,9 @@ use Rattle.gypsy_syntax.specs.Programs.{proc_at}
 use Rattle.gypsy_syntax.specs.Programs as gypsy
 use Rattle.gypsy_syntax.specs.Resolved.{program_of}
 use Rattle.gypsy_syntax.specs.Sources.{SourceOf}
+use Rattle.gypsy_syntax.specs.ValuesFit.{VarsFit}
 use Rattle.gypsy_check.specs.Rules.{violations}
 use Rattle.gypsy_space.specs.Needs.{StackSizes}
-use Rattle.gypsy_meaning.specs.Kept.{VarsFit}
 use Rattle.gypsy_meaning.specs.Meaning.{meaning}
 use Rattle.mini_syntax.specs.Breaches.{body_of}
 use Rattle.mini_syntax.specs.Grammar.{InfixProgram}

@@ -1,7 +1,7 @@
 //! Words from text, as `MOVE[zs] r15,=120; MOVE -(r2),r3`.
 
 ghost use Rattle.std.specs.Prelude.{◌<◌};
-ghost use Rattle.fm_words.specs.Code.{IsOperand};
+ghost use Rattle.fm_words.specs.Encoding.{IsOperand};
 
 use fm_code::word::{
     ALL_FLAGS, FLAG_C, FLAG_Z, FLAGS_CV, at, immediate, literal, literal_at, pop, push, reg,

@@ -3,13 +3,14 @@ use Rattle.std.specs.Prelude.{◌≡◌, ℕ, ◌≤◌, List, map, take, length
 use Rattle.gypsy_syntax.specs.Sources.{SourceOf}
 use Rattle.gypsy_syntax.specs.Programs.{Program, proc_at}
 use Rattle.gypsy_syntax.specs.Resolved.{program_of}
+use Rattle.gypsy_syntax.specs.ValuesFit.{VarsFit}
 use Rattle.gypsy_check.specs.Accepted.{IsAccepted}
 use Rattle.gypsy_space.specs.Events.{AreNeeds, AreSmall}
 use Rattle.gypsy_space.specs.Needs.{StackSizes, main_need}
 use Rattle.gypsy_space.specs.Nodes.{seen_program}
 use Rattle.gypsy_space.specs.declared.need.Need.{Need}
 use Rattle.gypsy_meaning.specs.Seen.Held.{IsHeld}
-use Rattle.gypsy_meaning.specs.Kept.{EndFits, StateFits, VarsFit}
+use Rattle.gypsy_meaning.specs.Kept.{EndFits, StateFits}
 use Rattle.gypsy_meaning.specs.Seen.Named.{proc_names, seen_names, unnamed, variables_of}
 use Rattle.gypsy_meaning.specs.Seen.Running.{seen, sizes_of}
 use Rattle.gypsy_meaning.specs.Seen.RunView.{Finished, Running, Stage, after, opening}

@@ -5,10 +5,10 @@ use Rattle.stack_text.specs.SharedLimits.{most_array}
 use Rattle.stack_text.specs.declared.shape.Shape.{Shape}
 use Rattle.stack_text.specs.Values.{ValueOf, item_count, same_kind}
 use Rattle.gypsy_syntax.specs.Programs.{Program, proc_at}
-use Rattle.gypsy_syntax.specs.ProgramFits.{is_in_range}
+use Rattle.gypsy_syntax.specs.Ranges.{is_in_range}
+use Rattle.gypsy_syntax.specs.ValuesFit.{VarsFit}
 use Rattle.gypsy_space.specs.Needs.{StackSizes, main_need}
 use Rattle.gypsy_meaning.specs.Seen.Belongs.{Suffices}
-use Rattle.gypsy_meaning.specs.Kept.{VarsFit}
 
 abbrev pub same_shape : Shape → Shape → Bool
 same_shape a b = same_kind a.kind b.kind && a.length == b.length

@@ -21,6 +21,10 @@ moment q sizes (suc j) g = moved_on (gypsy_step q sizes g) (moment q sizes j)
 abbrev pub moment_from : Program → StackSizes → List ValueOf → ℕ → Move
 moment_from q sizes v j = moment q sizes j (start q v)
 
+-- it goes on for ever
+abbrev pub NeverEnds : Program → StackSizes → List ValueOf → Type 0
+NeverEnds q sizes v = (j : ℕ) → (g : State) × (moment_from q sizes v j ≡ Next g)
+
 -- the stage that is shown there, and what is spent
 abbrev pub shown_stage : Move → Stage
 shown_stage (Next g) = Running (bare g)

@@ -1,7 +1,7 @@
 use Rattle.std.proofs.Common.{[], ap, refl, length, eqb, le-leb, List, ℕ}
 use Rattle.std.proofs.lemmas.Bool.{and_from}
 use Rattle.fm_image.specs.declared.slot.Slot.{Slot}
-use Rattle.fm_image.specs.Image.{is_count, is_condition, is_slot, all_after, are_tables}
+use Rattle.fm_image.specs.Limits.{is_count, is_condition, is_slot, all_after, are_tables}
 use Rattle.fm_image.proofs.LimitLaws.{from_limits}
 use Rattle.fm_image.proofs.image.bare_image.Goals as goal
 

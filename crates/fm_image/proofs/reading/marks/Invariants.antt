@@ -1,6 +1,6 @@
 use Rattle.std.proofs.Common.{◌≡◌, ◌-◌, []}
 use Rattle.fm_image.specs.Fields.{items_at}
-use Rattle.fm_image.specs.Image.{last_mark}
+use Rattle.fm_image.specs.Limits.{last_mark}
 use Rattle.fm_image.specs.Reading.{mark_at}
 use Rattle.fm_image.proofs.reading.marks.Given as goal
 

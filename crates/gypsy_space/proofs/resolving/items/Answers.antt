@@ -2,7 +2,7 @@ use Rattle.std.proofs.Common.{◌≡◌, true, ap, subst, ◌∙◌}
 use Rattle.std.specs.List.{list_all}
 use Rattle.std.proofs.lemmas.List.Elements.{All-same}
 use Rattle.stack_text.specs.declared.shape.Kind.TheVariants.{Integer}
-use Rattle.gypsy_syntax.specs.ProgramFits.{is_in_range}
+use Rattle.gypsy_syntax.specs.Ranges.{is_in_range}
 use Rattle.gypsy_syntax.specs.Resolved.{items_of_all, value_items}
 use Rattle.gypsy_syntax.specs.Sources.{LiteralOf, array}
 use Rattle.gypsy_syntax.specs.Seen.SourceView.{items_of_list, literal_of}

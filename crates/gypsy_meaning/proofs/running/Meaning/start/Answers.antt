@@ -5,10 +5,10 @@ use Rattle.stack_text.specs.Values.{ValueOf}
 use Rattle.gypsy_syntax.specs.Programs.{proc_at, words_of}
 use Rattle.gypsy_syntax.specs.Resolved.{program_of}
 use Rattle.gypsy_syntax.specs.Seen.SourceView.{source_of}
+use Rattle.gypsy_syntax.specs.ValuesFit.{VarsFit}
 use Rattle.gypsy_space.specs.Nodes.{seen_program}
 use Rattle.gypsy_space.specs.Needs.{stack_sizes}
 use Rattle.gypsy_meaning.specs.Calls.{main_start}
-use Rattle.gypsy_meaning.specs.Kept.{VarsFit}
 use Rattle.gypsy_meaning.specs.Seen.Named.{proc_names, seen_names, variables_of}
 use Rattle.gypsy_meaning.specs.Seen.RunView.{opening}
 use Rattle.gypsy_meaning.specs.declared.names.Names.{Names}
