@@ -1,5 +1,5 @@
 -- The image that is stored of an assembly text is the one that it spells, and a text that is stored of an image spells it.
-use Rattle.std.proofs.Common.{◌≡◌, ◌≤◌, ◌<◌, ◌∷◌, [], inl, inr, ℕ, zero, suc, List, Bool, true, false, Option, Some, None, IfSome, Result, Ok, Err, length, get_or, refl, sym, ap, subst, arith}
+use Rattle.std.proofs.Common.{◌≡◌, ◌≤◌, ◌<◌, ◌∷◌, [], inl, inr, ℕ, zero, suc, List, Bool, true, false, Some, None, Result, Ok, Err, length, get_or, refl, sym, ap, subst, arith}
 use Rattle.std.specs.Prelude.{◌^◌, All, IsTrue, if◌then◌else◌}
 use Rattle.std.proofs.lemmas.Bool.{and_parts, cases_lt, ltb-true}
 use Rattle.std.proofs.lemmas.List.{get_or_past}
@@ -8,7 +8,8 @@ use Rattle.stack_text.specs.declared.breach.Breach.{Breach}
 use Rattle.stack_shelf.specs.Files.{Files}
 use Rattle.stack_shelf.specs.Shelf.{fetched}
 use Rattle.level_debuggers.specs.Tallies.{Watching}
-use Rattle.fm_image.specs.Image.{ImageOf, is_image}
+use Rattle.fm_image.specs.Image.{ImageOf}
+use Rattle.fm_image.specs.Limits.{is_image}
 use Rattle.fm_image.specs.Reading.{read_of}
 use Rattle.fm_image.specs.Spelling.{spelling, are_words, Spelled}
 use Rattle.fm_image.proofs.ImageLaws.{read_spells}
@@ -33,7 +34,7 @@ use Rattle.command_line.proofs.FileLaws.{was_short}
 use Rattle.stack_commands.specs.Commands.Asm.{assembled_stored}
 use Rattle.stack_commands.specs.Commands.Unasm.{printed_stored}
 use Rattle.stack_commands.specs.Prepared.{stored_by}
-use Rattle.cli_stack.specs.Answer.{set_file, answer_on, answer_to, answer_by}
+use Rattle.cli_stack.specs.Answer.{set_file, answer_on, answer_to}
 use Rattle.cli_stack.specs.Assembles.{HoldsAssembled, SpellsAgain, HoldsAssembly, StoresAssembled, StoresAssembly, Assembles}
 use Rattle.cli_stack.proofs.RoleLaws.{set_bytes, written_role, only_file, only_role, both_roles}
 
@@ -71,7 +72,7 @@ asm_holds watches files assembly image (Ok text) stored bytes got sets = by_asse
 
 -- 2. The text of an image.
 
-are_bytes : (bytes : List ℕ) → All (λ byte. byte < 256) bytes → IsBytes bytes
+pub are_bytes : (bytes : List ℕ) → All (λ byte. byte < 256) bytes → IsBytes bytes
 are_bytes bytes all i =
     elim (cases_lt i (length bytes)) [
       | inl lt ↦ all i 0 lt
@@ -79,12 +80,12 @@ are_bytes bytes all i =
     ]
 
 -- the address at which a run starts is a number of 32 bits
-first_below : (words : List ℕ) (i : ℕ) → IsTrue (are_words words) → get_or words i 0 < 2 ^ 32
+pub first_below : (words : List ℕ) (i : ℕ) → IsTrue (are_words words) → get_or words i 0 < 2 ^ 32
 first_below [] i fit = omega arith
 first_below (w ∷ words) zero fit = ltb-true w (2 ^ 32) (and_parts _ _ fit).0
 first_below (w ∷ words) (suc i) fit = first_below words i (and_parts _ _ fit).1
 
-spells_again : (bytes : List ℕ) (image : ImageOf) → read_of bytes ≡ Ok image → IsTrue (is_plain image) → All (λ byte. byte < 256) bytes → SpellsAgain bytes (assembly_text image) image
+pub spells_again : (bytes : List ℕ) (image : ImageOf) → read_of bytes ≡ Ok image → IsTrue (is_plain image) → All (λ byte. byte < 256) bytes → SpellsAgain bytes (assembly_text image) image
 spells_again bytes image read plain all =
     let spelled = read_spells bytes image (are_bytes bytes all) read in
     let start : start_of image < 2 ^ 32 = first_below image.registers 15 spelled.registers in
@@ -147,8 +148,5 @@ texts_by (command.Need source certificate) watches files = λ name own stored wr
 texts_by (command.Mini program source) watches files = λ name own stored written reads writes sets. absurd (let e : Source ≡ Assembly = ap written_role writes in cc)
 texts_by c watches files = λ name own stored written reads writes sets. absurd (let e : None ≡ Some (Assembly, own) = writes in cc)
 
--- whatever the command and the files are
-pub assembles : (c : Option Command) (watches : List Watching) (o : Option Files) → IfSome o (λ files. Assembles c files (answer_by c watches files).output)
-assembles c watches None = tt
-assembles None watches (Some files) = tt
-assembles (Some c) watches (Some files) = record { images = images_by c watches files; texts = texts_by c watches files }
+pub assembles : (c : Command) (watches : List Watching) (files : Files) → Assembles c files (answer_to c watches files).output
+assembles c watches files = record { images = images_by c watches files; texts = texts_by c watches files }

@@ -39,11 +39,11 @@ use Rattle.command_line.specs.Gathered.{Texts}
 use Rattle.stack_commands.specs.Prepared.{stored_by}
 use Rattle.cli_stack.specs.Answer.{set_file, answer_on, answer_to, answer_by, files_after}
 use Rattle.stack_commands.specs.Commands.Build.{image_stored}
-use Rattle.cli_stack.specs.Tells.{IsBuilt, TellsMeaning, Tells}
+use Rattle.cli_stack.specs.Tells.{IsBuilt, TellsMeaning, TellsMeanings}
 use Rattle.cli_stack.specs.FilesAndSizes.{IsReadable}
-use Rattle.cli_stack.specs.Completes.{HasSource, Completed, CompletesRun, CompletesCommand, Completes}
-use Rattle.cli_stack.specs.Causes.{RoseAndPrinted}
-use Rattle.cli_stack.specs.Answers.{Agrees}
+use Rattle.cli_stack.specs.Completes.{HasSource, Completed, CompletesRun, CompletesCommand}
+use Rattle.cli_stack.specs.Causes.{RoseAt}
+use Rattle.cli_stack.specs.Agrees.{Agrees}
 use Rattle.cli_stack.specs.World.{World}
 use Rattle.cli_stack.proofs.MeansLaws.{first_name, others}
 use Rattle.cli_stack.proofs.SlotLaws.{image_takes}
@@ -112,7 +112,7 @@ module _ (watches : List Watching) (files : Files) (source_name values_name name
     same = refl;
   }
 
-  is_told : Tells (Some (command.Go source_name values_name control temporary budget name)) files (answer_to (command.Go source_name values_name control temporary budget name) watches files)
+  is_told : TellsMeanings (command.Go source_name values_name control temporary budget name) files (answer_to (command.Go source_name values_name control temporary budget name) watches files)
       → (values finals : List ValueOf) (way : CurrentCondition) (count : ℕ) → values_in (formal_slots source) values_text ≡ Ok values
       → Finishes source (stack_sizes control temporary) values finals way count → count ≤ budget
       → TellsMeaning source (image_of source (stack_sizes control temporary) 0) finals way count (answer_to (command.Go source_name values_name control temporary budget name) watches files)
@@ -124,7 +124,7 @@ module _ (watches : List Watching) (files : Files) (source_name values_name name
   -- the command comes to its answer
   module _ (before after : World) (status : Status) where
     agreeing : Agrees (answer_to (command.Go source_name values_name control temporary budget name) watches files) files before after status
-        → Tells (Some (command.Go source_name values_name control temporary budget name)) files (answer_to (command.Go source_name values_name control temporary budget name) watches files)
+        → TellsMeanings (command.Go source_name values_name control temporary budget name) files (answer_to (command.Go source_name values_name control temporary budget name) watches files)
         → Completed files name source (stack_sizes control temporary) values_text budget before after status
     agreeing agrees tells = record {
       stored = agrees.files_left ∙ ap (λ (o : Option (List ℕ × List ℕ)). Some (files_after o files)) is_stored;
@@ -149,17 +149,17 @@ module _ (watches : List Watching) (before after : World) (status : Status) wher
   -- `go`, of its own files
   completes_go : (source_name values_name name : List ℕ) (control temporary budget : ℕ) (files : Files)
       → (status ≢ ShelfFault → status ≢ SinkFault → status ≢ OutOfMemory → Agrees (answer_to (command.Go source_name values_name control temporary budget name) watches files) files before after status)
-      → (status ≡ ShelfFault → RoseAndPrinted (λ c. c.faults) (λ n. end_line (early.ShelfFault n)) (file_names (Some (command.Go source_name values_name control temporary budget name))) before after)
+      → (status ≡ ShelfFault → RoseAt (λ c. c.faults) (file_names (Some (command.Go source_name values_name control temporary budget name))) before.shelf after.shelf (λ n. after.out.taken ≡ appended before.out.taken (end_line (early.ShelfFault n))))
       → (status ≡ SinkFault → Rose before.out.faults after.out.faults)
-      → Tells (Some (command.Go source_name values_name control temporary budget name)) files (answer_to (command.Go source_name values_name control temporary budget name) watches files)
+      → TellsMeanings (command.Go source_name values_name control temporary budget name) files (answer_to (command.Go source_name values_name control temporary budget name) watches files)
       → CompletesRun (command.Go source_name values_name control temporary budget name) files source_name values_name name (stack_sizes control temporary) budget before after status
   completes_go source_name values_name name control temporary budget files answers shelf_fault sink_fault tells source values_text has there none =
       ⊎_elim (λ memory. inl memory) (λ lasts. inr (agreeing watches files source_name values_name name control temporary budget source values_text has there before after status
       (answers (λ e. let failed = shelf_fault e in none.shelf failed.0 failed.1 failed.2) (λ e. none.sink (sink_fault e)) lasts) tells)) (memory_or_not status)
 
   completes_on : (c : Command) (files : Files) → (status ≢ ShelfFault → status ≢ SinkFault → status ≢ OutOfMemory → Agrees (answer_to c watches files) files before after status)
-      → (status ≡ ShelfFault → RoseAndPrinted (λ c. c.faults) (λ name. end_line (early.ShelfFault name)) (file_names (Some c)) before after) → (status ≡ SinkFault → Rose before.out.faults after.out.faults)
-      → Tells (Some c) files (answer_to c watches files) → CompletesCommand c files before after status
+      → (status ≡ ShelfFault → RoseAt (λ c. c.faults) (file_names (Some c)) before.shelf after.shelf (λ name. after.out.taken ≡ appended before.out.taken (end_line (early.ShelfFault name)))) → (status ≡ SinkFault → Rose before.out.faults after.out.faults)
+      → TellsMeanings c files (answer_to c watches files) → CompletesCommand c files before after status
   unfolding inputs_of output_of
   completes_on (command.Check source_name) files answers shelf_fault sink_fault tells = λ source values image reads writes. absurd (let e : None ≡ Some (Image, image) = writes in cc)
   completes_on (command.Mean source_name values_name control temporary limit) files answers shelf_fault sink_fault tells = λ source values image reads writes. absurd (let e : None ≡ Some (Image, image) = writes in cc)
@@ -185,9 +185,8 @@ module _ (watches : List Watching) (before after : World) (status : Status) wher
   completes_on (command.Mini program name) files answers shelf_fault sink_fault tells = λ source values image reads writes. absurd (let e : [] ≡ (Values, values) ∷ [] = ap others reads in cc)
   completes_on c files answers shelf_fault sink_fault tells = λ source values image reads writes. absurd (let e : None ≡ Some (Image, image) = writes in cc)
 
-  pub completes : (command : Option Command) (o : Option Files) → IfSome o (λ files. status ≢ ShelfFault → status ≢ SinkFault → status ≢ OutOfMemory → Agrees (answer_by command watches files) files before after status)
-      → (status ≡ ShelfFault → RoseAndPrinted (λ c. c.faults) (λ name. end_line (early.ShelfFault name)) (file_names command) before after) → (status ≡ SinkFault → Rose before.out.faults after.out.faults)
-      → IfSome o (λ files. Tells command files (answer_by command watches files)) → IfSome o (λ files. Completes command files before after status)
-  completes command None answers shelf_fault sink_fault tells = tt
-  completes None (Some files) answers shelf_fault sink_fault tells = tt
-  completes (Some c) (Some files) answers shelf_fault sink_fault tells = completes_on c files answers shelf_fault sink_fault tells
+  pub completes : (command : Option Command) (files : Files) → (status ≢ ShelfFault → status ≢ SinkFault → status ≢ OutOfMemory → Agrees (answer_by command watches files) files before after status)
+      → (status ≡ ShelfFault → RoseAt (λ c. c.faults) (file_names command) before.shelf after.shelf (λ name. after.out.taken ≡ appended before.out.taken (end_line (early.ShelfFault name)))) → (status ≡ SinkFault → Rose before.out.faults after.out.faults)
+      → IfSome command (λ c. TellsMeanings c files (answer_to c watches files)) → IfSome command (λ c. CompletesCommand c files before after status)
+  completes None files answers shelf_fault sink_fault tells = tt
+  completes (Some c) files answers shelf_fault sink_fault tells = completes_on c files answers shelf_fault sink_fault tells

@@ -1,34 +1,56 @@
 -- What a session says where the source's step machine has come to a state.
-use Rattle.std.proofs.Common.{◌≡◌, ◌≤◌, ℕ, List, [], ◌∷◌, ◌++◌, Option, Some, None, Result, Ok, length, refl, sym, ap, ◌∙◌, subst, arith, append_assoc}
-use Rattle.std.specs.Prelude.{◌^◌, IsTrue}
+use Rattle.std.proofs.Common.{◌≡◌, ◌≤◌, ℕ, zero, suc, List, [], ◌∷◌, ◌++◌, Option, Some, None, Result, Ok, Err, length, refl, sym, ap, ◌∙◌, subst, arith, append_assoc}
+use Rattle.std.specs.Prelude.{Bool, if◌then◌else◌, ◌^◌, IsTrue}
+use Rattle.std.proofs.lemmas.Bool.{eq-eqb}
 use Rattle.stack_text.specs.Results.{◌>>=◌}
 use Rattle.stack_text.specs.Values.{ValueOf}
 use Rattle.stack_shelf.specs.Files.{Files}
 use Rattle.fm_image.specs.Image.{ImageOf}
+use Rattle.fm_loader.specs.Loaded.{loaded}
 use Rattle.fm_loader.specs.Values.{values_in}
+use Rattle.fm_machine.specs.Run.{pc_of}
+use Rattle.fm_machine.specs.Step.{fm_step}
+use Rattle.display_maps.specs.Reading.{ReadingOf, reading}
+use Rattle.display_maps.specs.ReadingAt.{reading_at}
+use Rattle.display_maps.specs.Report.{lines_of_reading}
 use Rattle.gypsy_syntax.specs.Resolved.{program_of}
 use Rattle.gypsy_syntax.specs.Sources.{SourceOf}
 use Rattle.gypsy_check.specs.Accepted.{IsAccepted}
 use Rattle.gypsy_space.specs.Needs.{StackSizes, stack_sizes}
-use Rattle.gypsy_meaning.specs.Machine.{State}
-use Rattle.gypsy_meaning.specs.Seen.RunView.{spent_at}
+use Rattle.gypsy_space.specs.Costs.{Tally}
+use Rattle.gypsy_meaning.specs.Calls.{CurrentCondition}
+use Rattle.gypsy_meaning.specs.Machine.{State, Move, Next, Ended}
+use Rattle.gypsy_meaning.specs.Seen.Moments.{moment_from}
+use Rattle.gypsy_meaning.specs.Seen.RunView.{Seen, spent_at}
 use Rattle.stack_build.specs.Build.{BuiltOf, BuildsText, built, source_built, source_in}
 use Rattle.stack_build.specs.declared.fault.BuildFault.{BuildFault}
 use Rattle.stack_build.specs.Image.{places_fit}
-use Rattle.stack_build.specs.Implements.{FitsFormals}
+use Rattle.stack_build.specs.Implements.{meaning_shown}
+use Rattle.stack_build.specs.ComesTo.{ComesTo}
 use Rattle.stack_build.specs.Joined.{BuiltImplements, BuiltTakesValues}
-use Rattle.stack_build.specs.Moments.{KeepsMoments}
-use Rattle.stack_build.specs.Starts.{system_start, image_start, built_start}
+use Rattle.stack_build.specs.Moments.{ArrivesAt, ArrivesAtEnd, KeepsMoments}
+use Rattle.stack_build.specs.Starts.{gypsy_start, system_start, image_start, built_start}
+use Rattle.stack_build.specs.declared.start_fault.StartFault.{StartFault}
 use Rattle.stack_build.proofs.KnownLaws.{source_is_accepted}
 use Rattle.debug_script.specs.declared.fault.ScriptFault.{ScriptFault}
 use Rattle.debug_script.specs.declared.reading.Line.{Line}
 use Rattle.debug_script.specs.Scripts.{script_of}
-use Rattle.level_debuggers.specs.Levels.{LevelOf}
-use Rattle.level_debuggers.specs.ScriptSteps.{AskForSteps, SaysAfter, TextStays, UpSaysMoment, steps_of, stepped_lines, up_line}
+use Rattle.level_debuggers.specs.GypsyLevels.{GypsyLevelOf, gypsy_next, gypsy_up}
+use Rattle.level_debuggers.specs.Levels as levels
+use Rattle.level_debuggers.specs.Levels.{LevelOf, Fm, lifted, next_of, program_named, up_text}
+use Rattle.level_debuggers.specs.FmLevels.{FmLevelOf, fm_after}
+use Rattle.level_debuggers.specs.RunWalks.{MachinesWalk, WalksTo}
+use Rattle.level_debuggers.specs.ScriptSteps.{AskForSteps, GoesOn, SaysAfter, StepsAreSaid, TextStays, UpIsSaid, steps_of, stepped_lines, up_line}
+use Rattle.level_debuggers.specs.Steps as step
+use Rattle.level_debuggers.specs.Steps.{Over, Stops, Makes}
+use Rattle.level_debuggers.specs.Texts.{mark_text}
+use Rattle.level_debuggers.specs.declared.script_end.ScriptEnd.{ScriptEnd}
+use Rattle.level_debuggers.specs.declared.script_end.ScriptEnd.TheVariants as end
 use Rattle.level_debuggers.specs.Tallies.{Watching}
 use Rattle.level_debuggers.specs.Transcripts.{Followed, followed}
-use Rattle.level_debuggers.specs.Walks.{SessionOf}
-use Rattle.debug_moments.specs.SessionMoments.{BothSay, BuiltSaysMoments, image_run, state_text, steps_at, system_run}
+use Rattle.level_debuggers.specs.Walks.{SessionOf, walk, walk_on}
+use Rattle.debug_moments.proofs.EndLaws.{walk_past}
+use Rattle.debug_moments.specs.SessionMoments.{BothSay, BuiltSaysEnds, BuiltSaysMoments, image_run, state_text, steps_at, system_run}
 use Rattle.command_line.specs.declared.command.Command.{Command}
 use Rattle.command_line.specs.declared.command.Command.TheVariants as command
 use Rattle.command_line.specs.declared.early_end.EarlyEnd.{EarlyEnd}
@@ -38,15 +60,18 @@ use Rattle.command_line.specs.declared.words.reader.Level.{Level}
 use Rattle.command_line.specs.declared.words.reader.Level.TheVariants.{Gypsy, Piton, Fm9001}
 use Rattle.command_line.specs.CommandFiles.{inputs_of}
 use Rattle.command_line.specs.Gathered.{Texts, gathered}
-use Rattle.command_line.specs.CommandRows.{command_of}
 use Rattle.stack_commands.specs.declared.reply.Verdict.{Verdict}
 use Rattle.stack_commands.specs.Replies.{ReplyOf, reply_text, verdict_line}
 use Rattle.stack_commands.specs.Commands.SourceText.{accepted_in}
-use Rattle.stack_commands.specs.Commands.Debug.{lines_reply, run_at, run_in, script_reply, session_on, session_reply}
+use Rattle.stack_commands.specs.Commands.Debug.{end_verdict, error_verdict, lines_reply, or_verdict, run_at, run_in, script_reply, session_on, session_reply}
+use Rattle.stack_commands.specs.declared.reply.Verdict.TheVariants as verdict
+use Rattle.piton_machine.specs.declared.error_kind.ErrorKind.{ErrorKind}
 use Rattle.stack_commands.specs.Prepared.{reply_by}
-use Rattle.cli_stack.specs.Answer.{answer_on, answer_to, answer_by}
+use Rattle.cli_stack.specs.Answer.{answer_on, answer_to}
 use Rattle.cli_stack.specs.FilesAndSizes.{IsReadable}
-use Rattle.cli_stack.specs.Explains.{BeginsWith, Explains, ExplainsMoments, steps_to}
+use Rattle.cli_stack.specs.Decides.{IsReadyToRun}
+use Rattle.cli_stack.specs.Explains.{AsksUp, BeginsWith, Explains, ExplainsRun, LeadsToEnd, SaysTo, steps_to}
+use Rattle.cli_stack.proofs.DecidesLaws.{ready_runs}
 use Rattle.cli_stack.proofs.TellsLaws.{is_there}
 
 -- 1. The run that the session has.
@@ -74,27 +99,115 @@ run_found level text source sizes values_text run read is = rw (read, is) refl
 
 -- 2. What it says.
 
-module _ (up : UpSaysMoment) (stays : TextStays) (run : LevelOf) (watches : List Watching) (script : List ℕ) (before after : List Line) (number : ℕ) (said : List ℕ)
-    (asks : AskForSteps before) (says : SaysAfter (steps_of before) run said) (is : script_of script ≡ Ok (before ++ up_line number ∷ after)) where
-  script_says : BeginsWith (script_reply run watches (script_of script)).said (stepped_lines before ++ said)
+error_not_done : (kind : ErrorKind) (name : Option (List ℕ)) (place after : ℕ) → error_verdict kind name place after ≡ verdict.Done → ⊥
+error_not_done kind None place after h = cc
+error_not_done kind (Some name) place after h = cc
+
+-- where all went well, the script ended so
+done_ended : (run : LevelOf) (e : ScriptEnd) → end_verdict run e ≡ verdict.Done → e ≡ end.Done
+done_ended run end.Done h = refl
+done_ended run (end.Error kind program place after) h = absurd (error_not_done kind (program_named run program) place after h)
+done_ended run (end.Outside address after) h = absurd cc
+done_ended run (end.NoneWaits line) h = absurd cc
+done_ended run (end.NoneAttached line) h = absurd cc
+
+module _ (up : UpIsSaid) (stays : TextStays) (run : LevelOf) (watches : List Watching) (script : List ℕ) (before after : List Line) (number : ℕ) (said : List ℕ)
+    (done : (lines_reply run watches before).verdict ≡ verdict.Done) (says : (lines_reply run watches before).said ≡ said) (is : script_of script ≡ Ok (before ++ up_line number ∷ after)) where
+  script_says : BeginsWith (script_reply run watches (script_of script)).said (said ++ up_text (walk (steps_of before) run).level)
   unfolding lines_reply
   script_says =
       let s : SessionOf = session_on run watches in
-      let rest = stays (stepped_lines before ++ said) after (followed [] before s).session in (
+      let made : Followed = followed [] before s in
+      let told : List ℕ = up_text (walk (steps_of before) run).level in
+      let ended : made.end ≡ end.Done = done_ended made.session.level made.end done in
+      let rest = stays (made.text ++ told) after made.session in (
         rest.0,
         ap (λ (r : Result (List Line) ScriptFault). (script_reply run watches r).said) is
-            ∙ ap (λ (f : Followed). f.text) (up [] said before after number s asks says) ∙ rest.1,
+            ∙ ap (λ (f : Followed). f.text) (up [] before after number s ended) ∙ rest.1 ∙ ap (λ (t : List ℕ). t ++ told ++ rest.0) says,
       )
 
-  reply_says : BeginsWith (reply_text (script_reply run watches (script_of script))) (stepped_lines before ++ said)
-  reply_says =
+  reply_says : (text : List ℕ) → up_text (walk (steps_of before) run).level ≡ text → BeginsWith (reply_text (script_reply run watches (script_of script))) (said ++ text)
+  reply_says text same =
       let reply : ReplyOf = script_reply run watches (script_of script) in
+      let told : List ℕ = up_text (walk (steps_of before) run).level in
       let begins = script_says in (
         begins.0 ++ verdict_line reply.verdict,
-        ap (λ (t : List ℕ). t ++ verdict_line reply.verdict) begins.1 ∙ append_assoc (stepped_lines before ++ said) begins.0 (verdict_line reply.verdict),
+        ap (λ (t : List ℕ). t ++ verdict_line reply.verdict) begins.1 ∙ append_assoc (said ++ told) begins.0 (verdict_line reply.verdict)
+            ∙ ap (λ (t : List ℕ). said ++ t ++ (begins.0 ++ verdict_line reply.verdict)) same,
       )
 
--- 3. The command.
+-- lines that ask for steps are carried out
+steps_said : StepsAreSaid → (run : LevelOf) (watches : List Watching) (lines : List Line) → AskForSteps lines → GoesOn (steps_of lines) run
+    → ((lines_reply run watches lines).verdict ≡ verdict.Done) × ((lines_reply run watches lines).said ≡ stepped_lines lines)
+unfolding lines_reply
+steps_said steps run watches lines asks goes =
+    let made : Followed = followed [] lines (session_on run watches) in
+    let h = steps [] lines (session_on run watches) asks goes in
+    (ap (end_verdict made.session.level) h.0, h.1)
+
+-- 3. The end of a run.
+
+module _ (run : FmLevelOf) (there : pc_of run.state ≡ run.image.final_pc) where
+  is_over_there : next_of (Fm run) ≡ Over
+  is_over_there = ap (λ (b : Bool). lifted Fm (if b then Over else fm_after run (fm_step run.state))) (eq-eqb (pc_of run.state) run.image.final_pc there)
+
+  said_there : up_text (Fm run) ≡ lines_of_reading run.image (reading run.image run.state)
+  said_there =
+      ap (λ (b : Bool). if b then lines_of_reading run.image (reading run.image run.state) else mark_text (reading_at run.image run.state)) (eq-eqb (pc_of run.state) run.image.final_pc there)
+
+end_said : MachinesWalk → (image : ImageOf) (values : List ValueOf) (count n : ℕ) (read : ReadingOf) → ComesTo image values count read → count ≤ n
+    → up_text (walk n (image_run image values)).level ≡ lines_of_reading image read
+end_said walks image values count n read comes le =
+    let run : FmLevelOf = record { image = image; state = loaded image values } in
+    let there : FmLevelOf = record { image = image; state = comes.state } in
+    let w : WalksTo count (Fm run) (Fm there) = walks count run comes.state comes.first.reached comes.first.before in
+    let past : (walk n (Fm run)).level ≡ Fm there = walk_past count n (Fm run) (Fm there) le w.whole w.leads (is_over_there there comes.first.there) in
+    ap up_text past ∙ said_there there comes.first.there ∙ ap (lines_of_reading image) comes.reads
+
+-- 4. The level of the source.
+
+-- a run of the source's own steps
+abbrev IsOfSource : LevelOf → Type 0
+IsOfSource (levels.Gypsy r) = Unit {0}
+IsOfSource level = ⊥
+
+source_says : (n : ℕ) (r : GypsyLevelOf) → up_text (walk n (levels.Gypsy r)).level ≡ gypsy_up
+unfolding walk
+source_says zero r = refl
+source_says (suc n) r = by_next (gypsy_next r) (λ next. source_says n next)
+  where
+    by_next : (x : step.Next GypsyLevelOf) → ((next : GypsyLevelOf) → up_text (walk n (levels.Gypsy next)).level ≡ gypsy_up)
+        → up_text (walk_on (levels.Gypsy r) (walk n) (lifted levels.Gypsy x)).level ≡ gypsy_up
+    by_next (Makes event next) go = go next
+    by_next Over go = refl
+    by_next (Stops stop) go = refl
+
+of_source_says : (n : ℕ) (run : LevelOf) → IsOfSource run → up_text (walk n run).level ≡ gypsy_up
+of_source_says n (levels.Gypsy r) is = source_says n r
+of_source_says n (levels.Piton r) is = absurd is
+of_source_says n (Fm r) is = absurd is
+
+source_begins : (text : List ℕ) (sizes : StackSizes) (values_text : List ℕ) (run : LevelOf) → run_in Gypsy text sizes values_text ≡ Ok run → IsOfSource run
+unfolding run_in
+source_begins text sizes values_text run begins = by_source (accepted_in text) begins
+  where
+    by_start : (source : SourceOf) (start : Result Seen StartFault) → or_verdict (start >>= λ seen. Ok (levels.Gypsy (record { source = source; seen = seen }))) ≡ Ok run → IsOfSource run
+    by_start source (Err fault) begins = absurd cc
+    by_start source (Ok seen) begins =
+        let both : Ok (levels.Gypsy (record { source = source; seen = seen })) ≡ Ok run = begins in
+        let same : levels.Gypsy (record { source = source; seen = seen }) ≡ run = cc in
+        subst IsOfSource same tt
+
+    by_source : (found : Result SourceOf Verdict) → (found >>= λ source. or_verdict (run_at Gypsy source sizes values_text)) ≡ Ok run → IsOfSource run
+    by_source (Err refusal) begins = absurd cc
+    by_source (Ok source) begins = by_start source (gypsy_start source sizes values_text) begins
+
+top_says : (level : Level) → level ≡ Gypsy → (text : List ℕ) (sizes : StackSizes) (values_text : List ℕ) (run : LevelOf) (n : ℕ) → run_in level text sizes values_text ≡ Ok run → up_text (walk n run).level ≡ gypsy_up
+top_says Gypsy at text sizes values_text run n begins = of_source_says n run (source_begins text sizes values_text run begins)
+top_says Piton at text sizes values_text run n begins = absurd cc
+top_says Fm9001 at text sizes values_text run n begins = absurd cc
+
+-- 5. The command.
 
 three_there : (files : Files) (first second third : Role × List ℕ) (text other last : List ℕ) → IsReadable files first.0 first.1 text → IsReadable files second.0 second.1 other → IsReadable files third.0 third.1 last
     → gathered files (first ∷ second ∷ third ∷ []) ≡ Ok ((first.0, text) ∷ (second.0, other) ∷ (third.0, last) ∷ [])
@@ -124,40 +237,99 @@ begins Fm9001 source sizes found values_text values g n made gives both is = rec
   says = subst (λ (m : ℕ). SaysAfter m (image_run found.image values) (state_text source g)) (some_same (spent_at g) n is) both.machine;
 }
 
-module _ (implement : BuiltImplements) (take : BuiltTakesValues) (moments : BuiltSaysMoments) (up : UpSaysMoment) (stays : TextStays) where
-  debug_explains : (level : Level) (source_name values_name : List ℕ) (control temporary : ℕ) (script_name : List ℕ) (watches : List Watching) (files : Files)
-      → ExplainsMoments (Some (command.Debug level source_name values_name control temporary script_name)) files
-      (answer_to (command.Debug level source_name values_name control temporary script_name) watches files)
-  unfolding inputs_of reply_by
-  debug_explains level source_name values_name control temporary script_name watches files source image values_text script values j number g before after here there last gives is asks stands steps =
+-- what a run says at its end
+module _ (implement : BuiltImplements) (take : BuiltTakesValues) (ends : BuiltSaysEnds) (walks : MachinesWalk) (source_name values_name : List ℕ) (control temporary : ℕ) (files : Files)
+    (is : IsReadyToRun files source_name values_name (stack_sizes control temporary)) where
+  ended_text : (level : Level) (j n : ℕ) (finals : List ValueOf) (way : CurrentCondition) (spent : Tally) (run : LevelOf) → run_in level is.built.text (stack_sizes control temporary) is.values_text ≡ Ok run
+      → moment_from (program_of is.source) (stack_sizes control temporary) is.values j ≡ Ended finals way spent → LeadsToEnd level spent n
+      → up_text (walk n run).level ≡ lines_of_reading is.image (meaning_shown is.source finals way)
+  ended_text Fm9001 j n finals way spent run begins stands enough =
+      let sizes : StackSizes = stack_sizes control temporary in
+      let ready = ready_runs implement take files source_name values_name control temporary is in
+      let arrives : ArrivesAtEnd is.source is.image is.values finals way spent.count = subst (λ (m : Move). ArrivesAt is.source sizes is.image is.values m) stands (ready.moments is.values j ready.fits) in
+      let own : source_built is.source sizes 0 ≡ Ok is.built.found = of_source is.built.text control temporary is.source is.built.found is.built.read is.built.made in
+      let first : run_at Fm9001 is.source sizes is.values_text ≡ Ok (image_run is.built.found.image is.values) = machine_run is.source sizes is.built.found is.values_text is.values own ready.gives in
+      let found : run_in Fm9001 is.built.text sizes is.values_text ≡ Ok (image_run is.built.found.image is.values) = run_found Fm9001 is.built.text is.source sizes is.values_text (image_run is.built.found.image is.values) is.built.read first in
+      let both : Ok run ≡ Ok (image_run is.built.found.image is.values) = sym begins ∙ found in
+      let same : run ≡ image_run is.built.found.image is.values = cc in
+      ap (λ (l : LevelOf). up_text (walk n l).level) (same ∙ ap (λ (i : ImageOf). image_run i is.values) is.built.same)
+      ∙ end_said walks is.image is.values spent.count n (meaning_shown is.source finals way) arrives.comes enough
+  ended_text Piton j n finals way spent run begins stands enough =
+      let sizes : StackSizes = stack_sizes control temporary in
+      let ready = ready_runs implement take files source_name values_name control temporary is in
+      let short : length is.built.text ≤ 2 ^ 31 = omega (arith, is.built.readable.short) in
+      let accepted : IsAccepted is.source = source_is_accepted is.built.text short is.source is.built.read in
+      let own : source_built is.source sizes 0 ≡ Ok is.built.found = of_source is.built.text control temporary is.source is.built.found is.built.read is.built.made in
+      let level : LevelOf = system_run is.source is.built.found.piton is.built.found.image is.values in
+      let first : run_at Piton is.source sizes is.values_text ≡ Ok level = piton_run is.source sizes is.built.found is.values_text is.values own ready.gives in
+      let found : run_in Piton is.built.text sizes is.values_text ≡ Ok level = run_found Piton is.built.text is.source sizes is.values_text level is.built.read first in
+      let both : Ok run ≡ Ok level = sym begins ∙ found in
+      let same : run ≡ level = cc in
+      ap (λ (l : LevelOf). up_text (walk n l).level) same
+      ∙ ends is.source sizes j n is.built.found is.values finals way spent accepted ready.fits own stands enough
+      ∙ ap (λ (i : ImageOf). lines_of_reading i (meaning_shown is.source finals way)) is.built.same
+  ended_text Gypsy j n finals way spent run begins stands enough = absurd enough
+
+module _ (implement : BuiltImplements) (take : BuiltTakesValues) (moments : BuiltSaysMoments) (ends : BuiltSaysEnds) (up : UpIsSaid) (said_steps : StepsAreSaid) (stays : TextStays) (walks : MachinesWalk)
+    (level : Level) (source_name values_name : List ℕ) (control temporary : ℕ) (script_name : List ℕ) (watches : List Watching) (files : Files)
+    (is : IsReadyToRun files source_name values_name (stack_sizes control temporary)) where
+  abbrev debug : Command
+  debug = command.Debug level source_name values_name control temporary script_name
+
+  -- the run that the session begins with, and what it says where the step machine is in a state
+  begun : (j n : ℕ) (g : State) → moment_from (program_of is.source) (stack_sizes control temporary) is.values j ≡ Next g → steps_to level g ≡ Some n
+      → (b : Begins level is.source (stack_sizes control temporary) is.values_text n (state_text is.source g)) × (run_in level is.built.text (stack_sizes control temporary) is.values_text ≡ Ok b.run)
+  begun j n g stands steps =
+      let here = is.built in
       let sizes : StackSizes = stack_sizes control temporary in
       let short : length here.text ≤ 2 ^ 31 = omega (arith, here.readable.short) in
       let few : length here.text ≤ 2 ^ 20 = omega (arith, here.readable.short) in
       let made : built here.text control temporary 0 ≡ Ok here.found = here.made in
       let builds : BuildsText here.text control temporary here.found = rw made at (implement here.text control temporary 0 short (omega arith)) in
-      let read : Ok builds.source ≡ Ok source = sym builds.read ∙ here.read in
-      let same : builds.source ≡ source = cc in
-      let accepted : IsAccepted source = source_is_accepted here.text short source here.read in
-      let marked : IsTrue (places_fit (program_of source)) = subst (λ (s : SourceOf). IsTrue (places_fit (program_of s))) same (builds.marked few) in
-      let keeps : KeepsMoments here.found.image source sizes = subst (λ (s : SourceOf). KeepsMoments here.found.image s sizes) same builds.builds.moments in
-      let found : values_in here.found.image.slots values_text ≡ Ok values = ap (λ (i : ImageOf). values_in i.slots values_text) here.same ∙ gives in
-      let fits : FitsFormals source values = take here.text control temporary 0 source here.found values_text values short (omega arith) here.read made found in
-      let own : source_built source sizes 0 ≡ Ok here.found = of_source here.text control temporary source here.found here.read made in
-      let both : BothSay source here.found values g = moments source sizes j here.found values g accepted marked fits own keeps stands in
-      let run = begins level source sizes here.found values_text values g (steps_of before) own found both steps in
-      let begun : run_in level here.text sizes values_text ≡ Ok run.run = run_found level here.text source sizes values_text run.run here.read run.is in
-      let said : BeginsWith (reply_text (session_reply (run_in level here.text sizes values_text) watches script)) (stepped_lines before ++ state_text source g) =
-      subst (λ (r : Result LevelOf Verdict). BeginsWith (reply_text (session_reply r watches script)) (stepped_lines before ++ state_text source g)) (sym begun)
-      (reply_says up stays run.run watches script before after number (state_text source g) asks run.says is) in
-      subst (λ (r : Result Texts EarlyEnd). BeginsWith (answer_on (command.Debug level source_name values_name control temporary script_name) watches r).text (stepped_lines before ++ state_text source g))
-      (sym (three_there files (Source, source_name) (Values, values_name) (Script, script_name) here.text values_text script here.readable there last))
-      said
+      let read : Ok builds.source ≡ Ok is.source = sym builds.read ∙ here.read in
+      let same : builds.source ≡ is.source = cc in
+      let accepted : IsAccepted is.source = source_is_accepted here.text short is.source here.read in
+      let marked : IsTrue (places_fit (program_of is.source)) = subst (λ (s : SourceOf). IsTrue (places_fit (program_of s))) same (builds.marked few) in
+      let keeps : KeepsMoments here.found.image is.source sizes = subst (λ (s : SourceOf). KeepsMoments here.found.image s sizes) same builds.builds.moments in
+      let run = ready_runs implement take files source_name values_name control temporary is in
+      let own : source_built is.source sizes 0 ≡ Ok here.found = of_source here.text control temporary is.source here.found here.read made in
+      let both : BothSay is.source here.found is.values g = moments is.source sizes j here.found is.values g accepted marked run.fits own keeps stands in
+      let b = begins level is.source sizes here.found is.values_text is.values g n own run.gives both steps in
+      (b, run_found level here.text is.source sizes is.values_text b.run here.read b.is)
 
-  explains_by : (c : Option Command) (watches : List Watching) (files : Files) → ExplainsMoments c files (answer_by c watches files)
-  explains_by (Some (command.Debug level source_name values_name control temporary script_name)) watches files =
-      debug_explains level source_name values_name control temporary script_name watches files
-  explains_by c watches files = tt
+  -- what the answer says where the run says this behind the lines
+  answer_says : (before after : List Line) (said text : List ℕ) (asks : AsksUp files script_name before after) (to : SaysTo level is.built.text (stack_sizes control temporary) is.values_text watches before said)
+      → up_text (walk (steps_of before) to.run).level ≡ text → BeginsWith (answer_to debug watches files).text (said ++ text)
+  unfolding inputs_of reply_by
+  answer_says before after said text asks to same =
+      let sizes : StackSizes = stack_sizes control temporary in
+      subst (λ (r : Result Texts EarlyEnd). BeginsWith (answer_on debug watches r).text (said ++ text))
+      (sym (three_there files (Source, source_name) (Values, values_name) (Script, script_name) is.built.text is.values_text asks.script is.built.readable is.there asks.there))
+      (subst (λ (r : Result LevelOf Verdict). BeginsWith (reply_text (session_reply r watches asks.script)) (said ++ text)) (sym to.begins)
+      (reply_says up stays to.run watches asks.script before after asks.number said to.done to.says asks.lines text same))
 
-  pub explains : (words : List (List ℕ)) (watches : List Watching) (o : Option Files) → Explains words watches o
-  explains words watches None = tt
-  explains words watches (Some files) = explains_by (command_of words) watches files
+  run_same : (a b : LevelOf) → run_in level is.built.text (stack_sizes control temporary) is.values_text ≡ Ok a → run_in level is.built.text (stack_sizes control temporary) is.values_text ≡ Ok b → a ≡ b
+  run_same a b first second = let same : Ok a ≡ Ok b = sym first ∙ second in cc
+
+  debug_explains : ExplainsRun level files script_name source_name values_name (stack_sizes control temporary) is watches (answer_to debug watches files)
+  debug_explains = record {
+    up = λ before after said j g asks to stands steps.
+        let b = begun j (steps_of before) g stands steps in
+        let same : b.0.run ≡ to.run = run_same b.0.run to.run b.1 to.begins in
+        answer_says before after said (state_text is.source g) asks to
+        (ap (λ (l : LevelOf). up_text (walk (steps_of before) l).level) (sym same) ∙ b.0.says.says);
+    up_at_end = λ before after said j finals way spent asks to stands enough.
+        answer_says before after said (lines_of_reading is.image (meaning_shown is.source finals way)) asks to
+        (ended_text implement take ends walks source_name values_name control temporary files is level j (steps_of before) finals way spent to.run to.begins stands enough);
+    up_at_top = λ at before after said asks to.
+        answer_says before after said gypsy_up asks to (top_says level at is.built.text (stack_sizes control temporary) is.values_text to.run (steps_of before) to.begins);
+    steps = λ lines j g asks stands steps.
+        let b = begun j (steps_of lines) g stands steps in
+        let h = steps_said said_steps b.0.run watches lines asks b.0.says.goes in
+        record { run = b.0.run; begins = b.1; done = h.0; says = h.1 };
+  }
+
+pub explains : BuiltImplements → BuiltTakesValues → BuiltSaysMoments → BuiltSaysEnds → UpIsSaid → StepsAreSaid → TextStays → MachinesWalk → (c : Command) (watches : List Watching) (files : Files) → Explains c watches files (answer_to c watches files)
+explains implement take moments ends up steps stays walks (command.Debug level source_name values_name control temporary script_name) watches files =
+    λ is. debug_explains implement take moments ends up steps stays walks level source_name values_name control temporary script_name watches files is
+explains implement take moments ends up steps stays walks c watches files = tt

@@ -1,5 +1,6 @@
 -- What a command stores does as its source means.
-use Rattle.std.proofs.Common.{◌≡◌, ◌≤◌, ℕ, zero, suc, List, [], ◌∷◌, Option, Some, None, IfSome, Result, Ok, Err, IfOk, length, refl, ap, subst, arith}
+use Rattle.std.proofs.Common.{◌≡◌, ◌≤◌, ℕ, zero, suc, List, [], ◌∷◌, Some, None, Result, Ok, Err, IfOk, length, refl, sym, ap, subst, arith, if◌then◌else◌}
+use Rattle.std.proofs.lemmas.List.Elements.{All-head}
 use Rattle.std.specs.Prelude.{◌^◌, Contains}
 use Rattle.stack_text.specs.Results.{◌>>=◌}
 use Rattle.stack_shelf.specs.Files.{Files, file_at}
@@ -15,13 +16,14 @@ use Rattle.command_line.specs.declared.command.Command.TheVariants as command
 use Rattle.command_line.specs.declared.early_end.EarlyEnd.{EarlyEnd}
 use Rattle.command_line.specs.declared.role.Role.{Role}
 use Rattle.command_line.specs.declared.role.Role.TheVariants.{Source, Piton, Values, Image, Assembly, Certificate}
-use Rattle.command_line.specs.Roles.{limit_of}
-use Rattle.command_line.specs.Gathered.{text_or_end}
+use Rattle.command_line.specs.Roles.{limit_of, is_role}
+use Rattle.command_line.specs.Gathered.{Texts, AreShort, roles_of, text_of, text_or_end}
 use Rattle.command_line.specs.CommandFiles.{inputs_of, output_of}
 use Rattle.stack_commands.specs.Prepared.{stored_by}
-use Rattle.cli_stack.specs.Answer.{set_file, answer_on, answer_to, answer_by}
+use Rattle.cli_stack.specs.Answer.{set_file, answer_on, answer_to}
 use Rattle.stack_commands.specs.Commands.Build.{image_stored}
-use Rattle.cli_stack.specs.Implements.{HoldsImplementation, StoresImplementation, Compiles}
+use Rattle.cli_stack.specs.Implements.{IsImplementation, HoldsImplementation, StoresImplementation, StoresImplementationOf}
+use Rattle.cli_stack.specs.RepliesTo.{AreTexts}
 use Rattle.cli_stack.proofs.RoleLaws.{set_bytes, written_role, only_file, only_role}
 
 -- a source's text is short enough to be read
@@ -29,6 +31,23 @@ is_readable : (text : List ℕ) → length text ≤ 1048576 → length text ≤ 
 is_readable text short = omega (arith, short)
 
 -- what is stored of what was built
+built_is : (text : List ℕ) (control temporary : ℕ) (bytes : List ℕ) → length text ≤ 1048576 → (found : Result BuiltOf BuildFault) → IfOk found (BuildsText text control temporary) → image_stored found ≡ Some bytes
+    → IsImplementation text (stack_sizes control temporary) bytes
+built_is text control temporary bytes few (Err fault) builds is = absurd (let e : None ≡ Some bytes = is in cc)
+built_is text control temporary bytes few (Ok found) builds is =
+    let both : Some found.bytes ≡ Some bytes = is in
+    let same : found.bytes ≡ bytes = cc in
+    subst (IsImplementation text (stack_sizes control temporary)) same (record {
+      source = builds.source;
+      read = builds.read;
+      image = found.image;
+      short = builds.short few;
+      spells = builds.builds.spells;
+      implements = builds.builds.implements;
+      moments = builds.builds.moments;
+      unfinished = builds.builds.unfinished;
+    })
+
 module _ (files : Files) (source text : List ℕ) (control temporary : ℕ) (stored bytes : List ℕ) (there : file_at files source ≡ Some text) (few : length text ≤ 1048576) where
   built_holds : (found : Result BuiltOf BuildFault) → IfOk found (BuildsText text control temporary) → (image : Role × List ℕ) → set_file (Some image) (image_stored found) ≡ Some (stored, bytes) → HoldsImplementation files source (stack_sizes control temporary) bytes
   built_holds (Err fault) builds image sets = absurd (let e : None ≡ Some (stored, bytes) = sets in cc)
@@ -37,14 +56,7 @@ module _ (files : Files) (source text : List ℕ) (control temporary : ℕ) (sto
       subst (HoldsImplementation files source (stack_sizes control temporary)) same (record {
         text = text;
         there = there;
-        source = builds.source;
-        read = builds.read;
-        image = found.image;
-        short = builds.short few;
-        spells = builds.builds.spells;
-        implements = builds.builds.implements;
-        moments = builds.builds.moments;
-        unfinished = builds.builds.unfinished;
+        is = built_is text control temporary found.bytes few (Ok found) builds refl;
       })
 
 go_holds : BuiltImplements → (watches : List Watching) (files : Files) (source values image : List ℕ) (control temporary budget : ℕ) (first second : Result (List ℕ) EarlyEnd) (stored bytes : List ℕ)
@@ -94,8 +106,37 @@ stores laws (command.Need source certificate) watches files = λ name own stored
 stores laws (command.Mini program source) watches files = λ name own stored bytes reads writes sets. absurd (let e : Source ≡ Image = ap written_role writes in cc)
 stores laws c watches files = λ name own stored bytes reads writes sets. absurd (let e : None ≡ Some (Image, own) = writes in cc)
 
--- whatever the command and the files are
-pub implements : BuiltImplements → (c : Option Command) (watches : List Watching) (o : Option Files) → IfSome o (λ files. Compiles c files (answer_by c watches files).output)
-implements laws c watches None = tt
-implements laws None watches (Some files) = tt
-implements laws (Some c) watches (Some files) = stores laws c watches files
+-- The texts of its files, as any shelf gives them.
+
+abbrev first_role : List Role → Role
+first_role [] = Piton
+first_role (role ∷ roles) = role
+
+-- the first text is the source's, and short
+source_short : (texts : Texts) (roles : List Role) → roles_of texts ≡ Source ∷ roles → AreShort texts → length (text_of Source texts) ≤ 1048576
+source_short [] roles e short = absurd cc
+source_short ((role, text) ∷ texts) roles e short =
+    let first : role ≡ Source = ap first_role e in
+    subst (λ (r : Role). length text ≤ limit_of r → length (if is_role r Source then text else text_of Source texts) ≤ 1048576) (sym first) (λ few. few)
+    (All-head (λ (t : Role × List ℕ). length t.1 ≤ limit_of t.0) (role, text) texts short)
+
+-- what was built of the source's text is stored
+of_text : BuiltImplements → (texts : Texts) (roles : List Role) (control temporary : ℕ) (bytes : List ℕ) → roles_of texts ≡ Source ∷ roles → AreShort texts
+    → image_stored (built (text_of Source texts) control temporary 0) ≡ Some bytes → IsImplementation (text_of Source texts) (stack_sizes control temporary) bytes
+of_text laws texts roles control temporary bytes e short is =
+    let text : List ℕ = text_of Source texts in
+    let few : length text ≤ 1048576 = source_short texts roles e short in
+    built_is text control temporary bytes few (built text control temporary 0) (laws text control temporary 0 (is_readable text few) (omega arith)) is
+
+pub stores_of : BuiltImplements → (c : Command) (texts : Texts) → AreTexts c texts → StoresImplementationOf c texts
+unfolding inputs_of output_of stored_by
+stores_of laws (command.Pit source control temporary piton) texts are = λ name own bytes reads writes is. absurd (let e : Piton ≡ Image = ap written_role writes in cc)
+stores_of laws (command.Build source control temporary image) texts are = λ name own bytes reads writes is. of_text laws texts [] control temporary bytes are.roles are.short is
+stores_of laws (command.Pbuild piton image) texts are = λ name own bytes reads writes is. absurd (only_role Source Piton piton name (λ e. cc) reads)
+stores_of laws (command.Go source values control temporary budget image) texts are = λ name own bytes reads writes is. of_text laws texts (Values ∷ []) control temporary bytes are.roles are.short is
+stores_of laws (command.Migrate image output) texts are = λ name own bytes reads writes is. absurd (only_role Source Image image name (λ e. cc) reads)
+stores_of laws (command.Asm assembly image) texts are = λ name own bytes reads writes is. absurd (only_role Source Assembly assembly name (λ e. cc) reads)
+stores_of laws (command.Unasm image assembly) texts are = λ name own bytes reads writes is. absurd (let e : Assembly ≡ Image = ap written_role writes in cc)
+stores_of laws (command.Need source certificate) texts are = λ name own bytes reads writes is. absurd (let e : Certificate ≡ Image = ap written_role writes in cc)
+stores_of laws (command.Mini program source) texts are = λ name own bytes reads writes is. absurd (let e : Source ≡ Image = ap written_role writes in cc)
+stores_of laws c texts are = λ name own bytes reads writes is. absurd (let e : None ≡ Some (Image, own) = writes in cc)

@@ -1,5 +1,5 @@
 -- What is stored of a Piton text does what its system does.
-use Rattle.std.proofs.Common.{◌≡◌, ◌≤◌, ℕ, Bool, true, false, List, [], ◌∷◌, ◌++◌, Option, Some, None, IfSome, Result, Ok, Err, length, refl, sym, ap, ◌∙◌, subst, append-nil, arith}
+use Rattle.std.proofs.Common.{◌≡◌, ◌≤◌, ℕ, Bool, true, false, List, [], ◌∷◌, ◌++◌, Some, None, Result, Ok, Err, length, refl, sym, ap, ◌∙◌, subst, append-nil, arith}
 use Rattle.std.specs.Prelude.{◌^◌, if◌then◌else◌, codes}
 use Rattle.std.specs.Fmt.{decimal}
 use Rattle.std.proofs.lemmas.Bool.{ltb-false}
@@ -7,7 +7,7 @@ use Rattle.stack_text.specs.Results.{◌>>=◌}
 use Rattle.level_debuggers.specs.Tallies.{Watching}
 use Rattle.stack_shelf.specs.Files.{Files, file_at}
 use Rattle.stack_shelf.specs.Shelf.{fetched}
-use Rattle.fm_machine.specs.Run.{RunOutcome, outcome}
+use Rattle.fm_machine.specs.Outcome.{RunOutcome, outcome}
 use Rattle.fm_machine.specs.declared.processor.Run.TheVariants.{Ended}
 use Rattle.fm_machine.proofs.RunLaws.{outcome_only}
 use Rattle.fm_image.specs.Image.{ImageOf}
@@ -41,9 +41,9 @@ use Rattle.stack_commands.specs.Commands.Run.{outcome_reply, run_reply, image_fi
 use Rattle.stack_commands.specs.Commands.PitonText.{checked_in}
 use Rattle.stack_commands.specs.Commands.Pbuild.{is_large, checked_stored}
 use Rattle.stack_commands.specs.Prepared.{stored_by, reply_by}
-use Rattle.cli_stack.specs.Answer.{set_file, answer_on, answer_to, answer_by}
+use Rattle.cli_stack.specs.Answer.{set_file, answer_on, answer_to}
 use Rattle.cli_stack.specs.FilesAndSizes.{IsReadable}
-use Rattle.cli_stack.specs.Links.{cost_of, RunsAs, TellsCost, TellsCosts, HoldsLinked, StoresLinked, Links}
+use Rattle.cli_stack.specs.Links.{cost_of, RunsAs, TellsCost, TellsCosts, HoldsLinked, StoresLinked}
 use Rattle.cli_stack.proofs.RoleLaws.{set_bytes, written_role, only_file, only_role, both_roles}
 use Rattle.cli_stack.proofs.KnownLaws.{text_is_checked}
 use Rattle.stack_commands.proofs.LinkedLaws.{image_short, image_spelled}
@@ -123,22 +123,16 @@ pbuild_holds words watches files piton image (Ok text) stored bytes got sets =
 
 -- 3. All commands.
 
-links_by : PlacedAreWords → (c : Command) (watches : List Watching) (files : Files) → StoresLinked c files (answer_to c watches files).output
+pub links : PlacedAreWords → (c : Command) (watches : List Watching) (files : Files) → StoresLinked c files (answer_to c watches files).output
 unfolding inputs_of output_of
-links_by words (command.Pit source control temporary piton) watches files = λ name own stored bytes reads writes sets. absurd (only_role Piton Source source name (λ e. cc) reads)
-links_by words (command.Build source control temporary image) watches files = λ name own stored bytes reads writes sets. absurd (only_role Piton Source source name (λ e. cc) reads)
-links_by words (command.Pbuild piton image) watches files = λ name own stored bytes reads writes sets.
+links words (command.Pit source control temporary piton) watches files = λ name own stored bytes reads writes sets. absurd (only_role Piton Source source name (λ e. cc) reads)
+links words (command.Build source control temporary image) watches files = λ name own stored bytes reads writes sets. absurd (only_role Piton Source source name (λ e. cc) reads)
+links words (command.Pbuild piton image) watches files = λ name own stored bytes reads writes sets.
     subst (λ (n : List ℕ). HoldsLinked files n bytes) (only_file Piton piton name reads) (pbuild_holds words watches files piton image _ stored bytes refl sets)
-links_by words (command.Go source values control temporary budget image) watches files = λ name own stored bytes reads writes sets. absurd (both_roles Piton Source Values source values name (λ e. cc) (λ e. cc) reads)
-links_by words (command.Migrate image output) watches files = λ name own stored bytes reads writes sets. absurd (only_role Piton Image image name (λ e. cc) reads)
-links_by words (command.Asm assembly image) watches files = λ name own stored bytes reads writes sets. absurd (only_role Piton Assembly assembly name (λ e. cc) reads)
-links_by words (command.Unasm image assembly) watches files = λ name own stored bytes reads writes sets. absurd (only_role Piton Image image name (λ e. cc) reads)
-links_by words (command.Need source certificate) watches files = λ name own stored bytes reads writes sets. absurd (only_role Piton Source source name (λ e. cc) reads)
-links_by words (command.Mini program source) watches files = λ name own stored bytes reads writes sets. absurd (let e : Source ≡ Image = ap written_role writes in cc)
-links_by words c watches files = λ name own stored bytes reads writes sets. absurd (let e : None ≡ Some (Image, own) = writes in cc)
-
--- whatever the command and the files are
-pub links : PlacedAreWords → (c : Option Command) (watches : List Watching) (o : Option Files) → IfSome o (λ files. Links c files (answer_by c watches files).output)
-links words c watches None = tt
-links words None watches (Some files) = tt
-links words (Some c) watches (Some files) = links_by words c watches files
+links words (command.Go source values control temporary budget image) watches files = λ name own stored bytes reads writes sets. absurd (both_roles Piton Source Values source values name (λ e. cc) (λ e. cc) reads)
+links words (command.Migrate image output) watches files = λ name own stored bytes reads writes sets. absurd (only_role Piton Image image name (λ e. cc) reads)
+links words (command.Asm assembly image) watches files = λ name own stored bytes reads writes sets. absurd (only_role Piton Assembly assembly name (λ e. cc) reads)
+links words (command.Unasm image assembly) watches files = λ name own stored bytes reads writes sets. absurd (only_role Piton Image image name (λ e. cc) reads)
+links words (command.Need source certificate) watches files = λ name own stored bytes reads writes sets. absurd (only_role Piton Source source name (λ e. cc) reads)
+links words (command.Mini program source) watches files = λ name own stored bytes reads writes sets. absurd (let e : Source ≡ Image = ap written_role writes in cc)
+links words c watches files = λ name own stored bytes reads writes sets. absurd (let e : None ≡ Some (Image, own) = writes in cc)

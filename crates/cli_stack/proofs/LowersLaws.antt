@@ -1,20 +1,15 @@
 -- What is stored of an infix program means what the program does, and so does what is built of that.
-use Rattle.std.proofs.Common.{◌≡◌, ◌≤◌, ◌∷◌, [], ℕ, List, Option, Some, None, IfSome, Result, Ok, Err, length, map, refl, sym, ap, ◌∙◌, subst, arith}
-use Rattle.std.specs.Prelude.{◌^◌, IsSomeAnd, option_map}
+use Rattle.std.proofs.Common.{◌≡◌, ◌≤◌, ⊎_elim, ◌∷◌, [], ℕ, List, Option, Some, None, Result, Ok, Err, length, map, refl, sym, ap, ◌∙◌, subst, arith}
+use Rattle.std.specs.Prelude.{◌<◌, ◌^◌, IsSomeAnd, option_map}
 use Rattle.stack_text.specs.Results.{◌>>=◌}
 use Rattle.stack_text.specs.Values.{ValueOf}
 use Rattle.stack_shelf.specs.Files.{Files}
 use Rattle.stack_shelf.specs.Shelf.{fetched}
-use Rattle.fm_machine.specs.State.{Fm}
-use Rattle.fm_machine.specs.Run.{RunOutcome, IsOutcome, outcome}
-use Rattle.fm_machine.specs.declared.processor.Run.{Run}
-use Rattle.fm_machine.specs.declared.processor.Run.TheVariants as run
-use Rattle.fm_machine.proofs.RunLaws.{outcome_is}
 use Rattle.fm_image.specs.Image.{ImageOf}
 use Rattle.fm_loader.specs.Loaded.{loaded}
-use Rattle.fm_loader.specs.Values.{values_in}
+use Rattle.display_maps.specs.Reading.{reading}
+use Rattle.display_maps.specs.Report.{report_text}
 use Rattle.level_debuggers.specs.Tallies.{Watching}
-use Rattle.gypsy_syntax.specs.declared.literal.Decl.{Decl}
 use Rattle.gypsy_syntax.specs.Places.{unplaced_decl, unplaced_proc, without_places}
 use Rattle.gypsy_syntax.specs.Resolved.{place_among, program_of}
 use Rattle.gypsy_syntax.specs.Sources.{ProcOf, SourceOf}
@@ -25,64 +20,65 @@ use Rattle.gypsy_meaning.specs.Counted.{CountedOutcome, CountedDone, CountedUnfi
 use Rattle.gypsy_meaning.specs.Meaning.{Done as RunDone, meaning}
 use Rattle.gypsy_meaning.proofs.CountLaws.{meaning-uncounted}
 use Rattle.mini_syntax.specs.MiniReading.{IsFaultless}
-use Rattle.mini_syntax.specs.Breaches.{body_of, declared_of, names_of}
+use Rattle.mini_syntax.specs.Breaches.{body_of, declared_of}
 use Rattle.mini_syntax.specs.declared.program.Declared.{Declared}
 use Rattle.mini_syntax.specs.Grammar.{InfixProgram}
 use Rattle.mini_syntax.specs.Language.{Stmt}
 use Rattle.mini_gypsy.specs.Lowered.{decl_of, lowered}
 use Rattle.mini_texts.specs.Readings.{Reading, faultless, faulty, lowering_by, source_for}
-use Rattle.mini_texts.specs.Stored.{StandsFor, stored_text}
+use Rattle.mini_texts.specs.Stored.{MeansAlways, StandsFor, stored_text}
 use Rattle.mini_texts.proofs.PlaceLaws.{map_over}
 use Rattle.mini_texts.proofs.ReadingLaws.{read}
 use Rattle.mini_texts.proofs.RuleLaws.{procedure_same}
 use Rattle.mini_texts.proofs.StoredLaws.{stands, stored_short}
 use Rattle.stack_build.specs.Build.{source_in}
-use Rattle.stack_build.specs.Formals.{formals_in, main_of, shown_names}
-use Rattle.stack_build.specs.Implements.{meaning_shown, FitsFormals, Finishes, Implements, ComesTo}
+use Rattle.stack_build.specs.Formals.{formals_in, main_of, shown_formals}
+use Rattle.stack_build.specs.Implements.{meaning_shown, FitsFormals, Finishes, Implements}
 use Rattle.stack_build.specs.Joined.{BuiltImplements, BuiltTakesValues}
+use Rattle.stack_build.specs.Meant.{KeptMeansOnly}
 use Rattle.stack_build.proofs.BuildLaws.{accepted_found}
 use Rattle.command_line.specs.declared.command.Command.{Command}
 use Rattle.command_line.specs.declared.command.Command.TheVariants as command
 use Rattle.command_line.specs.declared.early_end.EarlyEnd.{EarlyEnd}
 use Rattle.command_line.specs.declared.early_end.EarlyEnd.TheVariants as early
-use Rattle.command_line.specs.declared.role.Role.TheVariants.{Infix, Source, Values}
+use Rattle.command_line.specs.declared.role.Role.TheVariants.{Infix, Source}
 use Rattle.command_line.specs.declared.status.Status.TheVariants.{Done, Refused}
 use Rattle.command_line.specs.CommandFiles.{inputs_of, output_of}
 use Rattle.command_line.specs.Ends.{end_status}
-use Rattle.command_line.specs.Gathered.{Texts, text_or_end}
+use Rattle.command_line.specs.Gathered.{text_or_end}
 use Rattle.command_line.specs.Roles.{limit_of}
 use Rattle.command_line.proofs.FileLaws.{was_short}
-use Rattle.stack_commands.specs.Replies.{status_of}
-use Rattle.stack_commands.specs.Commands.Run.{end_reply, run_reply}
 use Rattle.stack_commands.specs.Commands.Mini.{lowering_of, lowered_stored, lowered_reply}
 use Rattle.stack_commands.specs.Prepared.{stored_by, reply_by}
-use Rattle.cli_stack.specs.Answer.{set_file, answer_with, answer_on, answer_to, answer_by}
+use Rattle.cli_stack.specs.Answer.{Answer, set_file, answer_with, answer_on, answer_to}
 use Rattle.cli_stack.specs.Implements.{HoldsImplementation, StoresImplementation}
 use Rattle.cli_stack.specs.FilesAndSizes.{IsReadable, sizes_of}
-use Rattle.cli_stack.specs.Lowers.{MeansProgram, TellsMini, RunEnds, CarriesRuns, HoldsRuns, StoresRuns, TellsEnd, TellsRuns, TellsOwn, LowersPrograms}
-use Rattle.cli_stack.proofs.GoLaws.{first_once, early_done, go_done}
+use Rattle.cli_stack.specs.Decides.{IsReadyToRun, IsDone, IsNotDone, Decided}
+use Rattle.cli_stack.specs.Tells.{TellsMeaning}
+use Rattle.cli_stack.specs.Lowers.{formal_type, declared_type, MeansProgram, TellsMini, RunEnds, CarriesRuns, HoldsRuns, StoresRuns, TellsFrom, TellsRuns, TellsOwn, LowersPrograms}
+use Rattle.cli_stack.proofs.DecidesLaws.{decides, ready_runs}
+use Rattle.cli_stack.proofs.GoLaws.{first_once, early_done}
 use Rattle.cli_stack.proofs.ImplementsLaws.{stores}
-use Rattle.cli_stack.proofs.SlotLaws.{image_takes}
-use Rattle.cli_stack.proofs.TellsLaws.{both_there, reply_tells}
 
 -- 1. The variables of what is stored.
 
-names_over : (o : Option ProcOf) → map (λ (d : Decl). d.name.name) (formals_in (option_map unplaced_proc o)) ≡ map (λ (d : Decl). d.name.name) (formals_in o)
-names_over None = refl
-names_over (Some p) = map_over (λ (d : Decl). d.name.name) unplaced_decl (λ (d : Decl). d.name.name) (λ d. refl) p.formals
+formals_over : (o : Option ProcOf) → map formal_type (formals_in (option_map unplaced_proc o)) ≡ map formal_type (formals_in o)
+formals_over None = refl
+formals_over (Some p) = map_over formal_type unplaced_decl formal_type (λ d. refl) p.formals
 
--- without places they have the same names
-names_bare : (s : SourceOf) → shown_names (without_places s) ≡ shown_names s
+-- without places they have the same names and types
+formals_bare : (s : SourceOf) → map formal_type (shown_formals (without_places s)) ≡ map formal_type (shown_formals s)
 unfolding main_of
-names_bare s = ap (λ (o : Option ProcOf). map (λ (d : Decl). d.name.name) (formals_in o)) (procedure_same s s.main.name) ∙ names_over (main_of s)
+formals_bare s = ap (λ (o : Option ProcOf). map formal_type (formals_in o)) (procedure_same s s.main.name) ∙ formals_over (main_of s)
 
-names_lowered : (ds : List Declared) (body : Stmt) → shown_names (lowered ds body) ≡ names_of ds
+formals_lowered : (ds : List Declared) (body : Stmt) → map formal_type (shown_formals (lowered ds body)) ≡ map declared_type ds
 unfolding main_of place_among
-names_lowered ds body = map_over (λ (d : Decl). d.name.name) (λ (d : Declared). decl_of d.name d.sort) (λ (d : Declared). d.name) (λ d. refl) ds
+formals_lowered ds body = map_over formal_type (λ (d : Declared). decl_of d.name d.sort) declared_type (λ d. refl) ds
 
-stored_names : (source : SourceOf) (program : InfixProgram) → without_places source ≡ without_places (source_for program) → shown_names source ≡ names_of (declared_of program)
-stored_names source program same =
-    sym (names_bare source) ∙ ap (λ (s : SourceOf). shown_names s) same ∙ names_bare (source_for program) ∙ names_lowered (declared_of program) (body_of program)
+stored_formals : (source : SourceOf) (program : InfixProgram) → without_places source ≡ without_places (source_for program)
+    → map formal_type (shown_formals source) ≡ map declared_type (declared_of program)
+stored_formals source program same =
+    sym (formals_bare source) ∙ ap (λ (s : SourceOf). map formal_type (shown_formals s)) same ∙ formals_bare (source_for program) ∙ formals_lowered (declared_of program) (body_of program)
 
 -- what is stored of a program means what the program does
 stored_means : (text : List ℕ) (program : InfixProgram) → length text ≤ 2 ^ 20 → IsFaultless text program → MeansProgram (stored_text program) program
@@ -91,7 +87,7 @@ stored_means text program few is =
     record {
       source = s.source;
       read = accepted_found (stored_text program) s.source s.read s.rules;
-      names = stored_names s.source program s.same;
+      variables = stored_formals s.source program s.same;
       means = s.means;
     }
 
@@ -165,70 +161,78 @@ images c files output holds source image stored bytes text program reads writes 
     by_sizes (Some sizes) h =
         let texts : Some h.text ≡ Some text = sym h.there ∙ there in
         let same_text : h.text ≡ text = cc in
-        let sources : Ok h.source ≡ Ok means.source = sym h.read ∙ ap source_in same_text ∙ means.read in
-        let same : h.source ≡ means.source = cc in
+        let sources : Ok h.is.source ≡ Ok means.source = sym h.is.read ∙ ap source_in same_text ∙ means.read in
+        let same : h.is.source ≡ means.source = cc in
         record {
-          image = h.image;
-          spells = h.spells;
-          runs = carries text program means h.image sizes (subst (λ (s : SourceOf). Implements h.image s sizes) same h.implements);
+          image = h.is.image;
+          spells = h.is.spells;
+          runs = carries text program means h.is.image sizes (subst (λ (s : SourceOf). Implements h.is.image s sizes) same h.is.implements);
         }
 
 -- 4. `go`.
 
--- a run of the image that ended tells how the program's run did
-module _ (source : SourceOf) (image : ImageOf) (sizes : StackSizes) (values finals : List ValueOf) (way : CurrentCondition) (count budget : ℕ) (output : Option (List ℕ × List ℕ))
-    (does : Implements image source sizes) (fits : FitsFormals source values) (fin : Finishes source sizes values finals way count) where
-  run_tells : status_of (run_reply image values budget).verdict ≡ Done → TellsEnd source finals way (answer_with output (run_reply image values budget))
-  unfolding run_reply
-  run_tells done =
-      let o : RunOutcome = outcome budget image.final_pc (loaded image values) in
+-- a meaning is done with one count
+counts_once : (image : ImageOf) (source : SourceOf) (sizes : StackSizes) (values x y : List ValueOf) (c d : CurrentCondition) (k j : ℕ) → Implements image source sizes → FitsFormals source values
+    → Finishes source sizes values x c k → Finishes source sizes values y d j → k ≡ j
+counts_once image source sizes values x y c d k j does fits first second =
+    let one = does values x c k fits first in
+    let two = does values y d j fits second in
+    (first_once (loaded image values) image.final_pc k j one.state two.state one.first two.first).0
+
+module _ (implement : BuiltImplements) (take : BuiltTakesValues) (meant : KeptMeansOnly) (watches : List Watching) (files : Files) (source values image : List ℕ) (control temporary budget : ℕ)
+    (is : IsReadyToRun files source values (stack_sizes control temporary)) (program : InfixProgram) (means : MeansProgram is.built.text program) where
+  go_tells : TellsRuns program is.source (stack_sizes control temporary) is.image is.values budget (answer_to (command.Go source values control temporary budget image) watches files)
+  go_tells =
+      let sizes : StackSizes = stack_sizes control temporary in
+      let go : Answer = answer_to (command.Go source values control temporary budget image) watches files in
+      let run = ready_runs implement take files source values control temporary is in
+      let decided : Decided is.source sizes is.image is.values budget go = (decides meant implement take (command.Go source values control temporary budget image) watches files).decided is in
+      let read : Ok means.source ≡ Ok is.source = sym means.read ∙ is.built.read in
+      let same : means.source ≡ is.source = cc in
+      let always : MeansAlways (program_of is.source) (body_of program) = subst (λ (s : SourceOf). MeansAlways (program_of s) (body_of program)) same means.means in
+      let own : MeansProgram is.built.text program =
+      record { source = is.source; read = is.built.read; variables = subst (λ (s : SourceOf). map formal_type (shown_formals s) ≡ map declared_type (declared_of program)) same means.variables; means = always } in
       record {
-        image = image;
-        count = count;
-        tells = reply_tells image source sizes values finals way count budget output (run_reply image values budget) does fits fin (by_end o.run o.state (outcome_is (loaded image values) image.final_pc budget) done) refl;
+        ends = λ finals way ends.
+            let fin = finishes is.built.text program own sizes is.values finals way run.fits ends in
+            from_count sizes go run.implements run.fits decided finals way fin.0 fin.1;
+        endless = λ never. decided.endless (λ n. always sizes is.values n run.fits ∙ never n);
       }
     where
-      comes : ComesTo image values count (meaning_shown source finals way)
-      comes = does values finals way count fits fin
-
-      by_end : (r : Run) (s : Fm) → IsOutcome (loaded image values) image.final_pc budget r s → status_of (end_reply image budget r s).verdict ≡ Done → count ≤ budget
-      by_end (run.Ended k) s is done =
-          let same : count ≡ k = (first_once (loaded image values) image.final_pc count k comes.state s comes.first is.1).0 in
-          let within : k ≤ budget = is.0 in
-          omega (arith, same, within)
-      by_end run.Spent s is done = absurd cc
-      by_end (run.Outside a k) s is done = absurd cc
-
-go_tells : BuiltImplements → BuiltTakesValues → (watches : List Watching) (files : Files) (source values image : List ℕ) (control temporary budget : ℕ)
-    → TellsRuns files source values (answer_to (command.Go source values control temporary budget image) watches files)
-unfolding inputs_of reply_by
-go_tells implement take watches files source values image control temporary budget text values_text program means x finals way there there' gives ends =
-    let go : Command = command.Go source values control temporary budget image in
-    let sizes : StackSizes = stack_sizes control temporary in
-    let short : length text ≤ 2 ^ 31 = let few : length text ≤ limit_of Source = there.short in omega (arith, few) in
-    subst (λ (r : Result Texts EarlyEnd). (answer_on go watches r).status ≡ Done → TellsEnd means.source finals way (answer_on go watches r))
-    (sym (both_there files (Source, source) (Values, values) text values_text there there'))
-    (go_done implement take text short means.source means.read sizes (TellsEnd means.source finals way) values_text budget _
-    (λ b found builds given fits done.
-    let slots : Ok found ≡ Ok x =
-    sym given ∙ ap (λ (i : ImageOf). values_in i.slots values_text) builds.is ∙ image_takes means.source sizes builds.base values_text ∙ gives in
-    let same : found ≡ x = cc in
-    let fin = finishes text program means sizes found finals way fits (subst (λ (v : List ValueOf). RunEnds program v finals way) (sym same) ends) in
-    run_tells means.source b.image sizes found finals way fin.0 budget _ builds.implements fits fin.1 done))
+      from_count : (sizes : StackSizes) (go : Answer) → Implements is.image is.source sizes → FitsFormals is.source is.values → Decided is.source sizes is.image is.values budget go
+          → (finals : List ValueOf) (way : CurrentCondition) (count : ℕ) → Finishes is.source sizes is.values finals way count → TellsFrom is.source sizes is.image is.values finals way budget go
+      from_count sizes go does fits decided finals way count fin = record {
+        count = count;
+        meant = fin;
+        within = λ enough. ⊎_elim (λ (d : IsDone is.source sizes is.image is.values budget go). told d) (λ (n : IsNotDone is.source sizes is.values budget go). absurd (let beyond : budget < count = n.beyond finals way count fin in omega (arith, beyond, enough))) decided.either;
+        beyond = λ few. ⊎_elim (λ (d : IsDone is.source sizes is.image is.values budget go). absurd (
+            let once : d.count ≡ count = counts_once is.image is.source sizes is.values d.finals finals d.way way d.count count does fits d.meant fin in
+            let within : d.count ≤ budget = d.within in
+            omega (arith, once, within, few))) (λ (n : IsNotDone is.source sizes is.values budget go). n.tells) decided.either;
+      }
+        where
+          told : IsDone is.source sizes is.image is.values budget go → TellsMeaning is.source is.image finals way count go
+          told d =
+              let one = does is.values d.finals d.way d.count fits d.meant in
+              let two = does is.values finals way count fits fin in
+              let once = first_once (loaded is.image is.values) is.image.final_pc d.count count one.state two.state one.first two.first in
+              let shown : meaning_shown is.source d.finals d.way ≡ meaning_shown is.source finals way = sym one.reads ∙ ap (reading is.image) once.1 ∙ two.reads in
+              record {
+                status = d.tells.status;
+                text = d.tells.text ∙ ap (λ r. report_text is.image r d.count) shown ∙ ap (report_text is.image (meaning_shown is.source finals way)) once.0;
+              }
 
 -- 5. All commands.
 
-own_by : BuiltImplements → BuiltTakesValues → (c : Command) (watches : List Watching) (files : Files) → TellsOwn c files (answer_to c watches files)
+own_by : BuiltImplements → BuiltTakesValues → KeptMeansOnly → (c : Command) (watches : List Watching) (files : Files) → TellsOwn c files (answer_to c watches files)
 unfolding inputs_of
-own_by implement take (command.Go source values control temporary budget image) watches files = go_tells implement take watches files source values image control temporary budget
-own_by implement take (command.Mini program source) watches files = mini_tells watches files program source _ refl
-own_by implement take c watches files = tt
+own_by implement take meant (command.Go source values control temporary budget image) watches files =
+    λ is program means. go_tells implement take meant watches files source values image control temporary budget is program means
+own_by implement take meant (command.Mini program source) watches files = mini_tells watches files program source _ refl
+own_by implement take meant c watches files = tt
 
--- whatever the command and the files are
-pub lowers : BuiltImplements → BuiltTakesValues → (c : Option Command) (watches : List Watching) (o : Option Files) → IfSome o (λ files. LowersPrograms c files (answer_by c watches files))
-lowers implement take c watches None = tt
-lowers implement take None watches (Some files) = tt
-lowers implement take (Some c) watches (Some files) = record {
-  own = own_by implement take c watches files;
+pub lowers : BuiltImplements → BuiltTakesValues → KeptMeansOnly → (c : Command) (watches : List Watching) (files : Files) → LowersPrograms c files (answer_to c watches files)
+lowers implement take meant c watches files = record {
+  own = own_by implement take meant c watches files;
   images = images c files (answer_to c watches files).output (stores implement c watches files);
 }

@@ -2,7 +2,7 @@
 use Rattle.std.proofs.Common.{◌≡◌, ◌⊎◌, inl, inr, ⊎_elim, ℕ, List, Bool, true, false, Option, None, Some, Result, Ok, Err, refl, sym, ap, subst}
 use Rattle.std.specs.Prelude.{◌^◌, codes, if◌then◌else◌}
 use Rattle.std.specs.Option.{option_map}
-use Rattle.fm_machine.specs.Run.{RunOutcome, outcome}
+use Rattle.fm_machine.specs.Outcome.{RunOutcome, outcome}
 use Rattle.fm_machine.specs.State.{Fm, MachineOf}
 use Rattle.fm_machine.specs.declared.processor.Run.{Run}
 use Rattle.fm_machine.specs.declared.processor.Run.TheVariants as run
@@ -76,7 +76,6 @@ use Rattle.stack_commands.specs.Commands.Cert.{judged_reply, certificate_reply, 
 use Rattle.stack_commands.specs.Commands.SourceText.{accepted_in}
 use Rattle.stack_commands.specs.Commands.Turns.{fault_reply, tasks_of, tasks_reply, turns_by}
 use Rattle.cli_stack.specs.Kept.{RunsImage, IsRunEnd}
-use Rattle.cli_stack.specs.Scaffold.Driver.{IsReplyTo}
 
 -- 1. Who may leave a machine.
 
@@ -261,11 +260,16 @@ by_command (command.Big number procedures) watches texts =
     with_run (command.Big number procedures) (reply_by (command.Big number procedures) watches texts) tt (big_ends number procedures)
 by_command (command.Mini program source) watches texts = inl (lowered_none source (lowering_of (text_of role.Infix texts)))
 
-of_reply : (c : Option Command) (watches : List Watching) (reply : Reply) → IsReplyTo c watches reply → OnlyRuns c (reply_of reply)
+-- the reply is the command's to some texts, or `usage` where there is no command
+abbrev pub RepliesToSome : Option Command → List Watching → ReplyOf → Type 0
+RepliesToSome None watches reply = reply ≡ verdict_alone verdict.Usage
+RepliesToSome (Some c) watches reply = (texts : Texts) × (reply ≡ reply_by c watches texts)
+
+of_reply : (c : Option Command) (watches : List Watching) (reply : Reply) → RepliesToSome c watches (reply_of reply) → OnlyRuns c (reply_of reply)
 of_reply None watches reply is = inl (ap (λ (r : ReplyOf). r.state) is)
-of_reply (Some c) watches reply (texts, is) = subst (OnlyRuns (Some c)) (sym is) (by_command c watches texts)
+of_reply (Some c) watches reply to = subst (OnlyRuns (Some c)) (sym to.1) (by_command c watches to.0)
 
 -- a reply that is not the end of such a run has no machine
-pub only_runs : (c : Option Command) (watches : List Watching) (reply : Reply) → IsReplyTo c watches reply → ¬ (RunsImage c × IsRunEnd (status_of reply.verdict))
+pub only_runs : (c : Option Command) (watches : List Watching) (reply : Reply) → RepliesToSome c watches (reply_of reply) → ¬ (RunsImage c × IsRunEnd (status_of reply.verdict))
     → option_map (λ (m : MachineOf). m.state) reply.machine ≡ None
 only_runs c watches reply is none = ⊎_elim (λ (state : (reply_of reply).state ≡ None). state) (λ run. absurd (none run)) (of_reply c watches reply is)

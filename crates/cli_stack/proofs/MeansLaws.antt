@@ -1,5 +1,5 @@
 -- What `mean` tells is what its source means.
-use Rattle.std.proofs.Common.{◌≡◌, ◌≤◌, ℕ, zero, suc, false, List, [], ◌∷◌, ◌++◌, append-nil, Option, Some, None, IfSome, Result, Ok, refl, sym, ap, ◌∙◌, subst, arith}
+use Rattle.std.proofs.Common.{◌≡◌, ◌≤◌, ℕ, zero, suc, false, List, [], ◌∷◌, ◌++◌, append-nil, Option, Some, None, Result, Ok, refl, sym, ap, ◌∙◌, subst, arith}
 use Rattle.std.specs.Prelude.{nat_lt}
 use Rattle.std.proofs.lemmas.Bool.{le-ltb}
 use Rattle.stack_text.specs.Values.{ValueOf}
@@ -45,9 +45,9 @@ use Rattle.stack_commands.specs.Replies.{ReplyOf, status_of, verdict_line}
 use Rattle.stack_commands.specs.Commands.SourceText.{unless_refused, accepted_in}
 use Rattle.stack_commands.specs.Commands.Mean.{said_text, mean_end_reply, mean_run_reply, mean_started_reply, mean_accepted_reply, mean_reply}
 use Rattle.stack_commands.specs.Prepared.{reply_by}
-use Rattle.cli_stack.specs.Answer.{answer_with, answer_on, answer_to, answer_by}
+use Rattle.cli_stack.specs.Answer.{answer_with, answer_on, answer_to}
 use Rattle.cli_stack.specs.FilesAndSizes.{IsReadable}
-use Rattle.cli_stack.specs.Means.{meaning_text, IsMeant, TellsSteps, Follows, FollowsMeanings, Means}
+use Rattle.cli_stack.specs.Means.{meaning_text, MeansInSteps, TellsSteps, Follows, FollowsMeanings}
 use Rattle.cli_stack.proofs.TellsLaws.{both_there}
 
 -- 1. A reply.
@@ -61,7 +61,7 @@ done_only v e = absurd cc
 record Told (source : SourceOf) (sizes : StackSizes) (values finals : List ValueOf) (way : CurrentCondition) (reply : ReplyOf) : Type 0 where
   pub steps : ℕ
   pub count : ℕ
-  pub meant : IsMeant source sizes values finals way steps count
+  pub meant : MeansInSteps source sizes values finals way steps count
   pub verdict : reply.verdict ≡ verdict.Done
   pub said : reply.said ≡ meaning_text source (Finished finals way) steps count
 
@@ -217,38 +217,32 @@ abbrev pub others : List (Role × List ℕ) → List (Role × List ℕ)
 others [] = []
 others (f ∷ fs) = fs
 
-follows : (c : Command) (watches : List Watching) (files : Files) → FollowsMeanings c files (answer_to c watches files)
+pub means : (c : Command) (watches : List Watching) (files : Files) → FollowsMeanings c files (answer_to c watches files)
 unfolding inputs_of output_of
-follows (command.Check source_name) watches files = λ source values reads writes. absurd (let e : [] ≡ (Values, values) ∷ [] = ap others reads in cc)
-follows (command.Mean source_name values_name control temporary limit) watches files = λ source values reads writes. (
+means (command.Check source_name) watches files = λ source values reads writes. absurd (let e : [] ≡ (Values, values) ∷ [] = ap others reads in cc)
+means (command.Mean source_name values_name control temporary limit) watches files = λ source values reads writes. (
   ap first_name reads,
   ap (λ (fs : List (Role × List ℕ)). first_name (others fs)) reads,
   λ text s values_text v there read enough there' found. mean_follows watches files text values_text s v source_name values_name control temporary limit there read enough there' found,
 )
-follows (command.Pit source_name control temporary piton) watches files = λ source values reads writes. absurd (let e : Some (Piton, piton) ≡ None = writes in cc)
-follows (command.Build source_name control temporary image) watches files = λ source values reads writes. absurd (let e : Some (Image, image) ≡ None = writes in cc)
-follows (command.Pcheck piton) watches files = λ source values reads writes. absurd (let e : Piton ≡ Source = ap first_role reads in cc)
-follows (command.Prun piton limit) watches files = λ source values reads writes. absurd (let e : Piton ≡ Source = ap first_role reads in cc)
-follows (command.Pbuild piton image) watches files = λ source values reads writes. absurd (let e : Some (Image, image) ≡ None = writes in cc)
-follows (command.Run image values_name budget) watches files = λ source values reads writes. absurd (let e : Image ≡ Source = ap first_role reads in cc)
-follows (command.Go source_name values_name control temporary budget image) watches files = λ source values reads writes. absurd (let e : Some (Image, image) ≡ None = writes in cc)
-follows (command.Show image) watches files = λ source values reads writes. absurd (let e : Image ≡ Source = ap first_role reads in cc)
-follows (command.Migrate image output) watches files = λ source values reads writes. absurd (let e : Image ≡ Source = ap first_role reads in cc)
-follows (command.Asm assembly image) watches files = λ source values reads writes. absurd (let e : Assembly ≡ Source = ap first_role reads in cc)
-follows (command.Unasm image assembly) watches files = λ source values reads writes. absurd (let e : Image ≡ Source = ap first_role reads in cc)
-follows (command.Need source_name certificate) watches files = λ source values reads writes. absurd (let e : [] ≡ (Values, values) ∷ [] = ap others reads in cc)
-follows (command.Cert source_name certificate control temporary) watches files = λ source values reads writes. absurd (let e : Certificate ≡ Values = ap (λ (fs : List (Role × List ℕ)). first_role (others fs)) reads in cc)
-follows (command.Debug level source_name values_name control temporary script) watches files = λ source values reads writes. absurd (let e : (Script, script) ∷ [] ≡ [] = ap (λ (fs : List (Role × List ℕ)). others (others fs)) reads in cc)
-follows (command.Turns turn budget control temporary tasks) watches files = λ source values reads writes. absurd (no_source tasks (ap first_role reads))
+means (command.Pit source_name control temporary piton) watches files = λ source values reads writes. absurd (let e : Some (Piton, piton) ≡ None = writes in cc)
+means (command.Build source_name control temporary image) watches files = λ source values reads writes. absurd (let e : Some (Image, image) ≡ None = writes in cc)
+means (command.Pcheck piton) watches files = λ source values reads writes. absurd (let e : Piton ≡ Source = ap first_role reads in cc)
+means (command.Prun piton limit) watches files = λ source values reads writes. absurd (let e : Piton ≡ Source = ap first_role reads in cc)
+means (command.Pbuild piton image) watches files = λ source values reads writes. absurd (let e : Some (Image, image) ≡ None = writes in cc)
+means (command.Run image values_name budget) watches files = λ source values reads writes. absurd (let e : Image ≡ Source = ap first_role reads in cc)
+means (command.Go source_name values_name control temporary budget image) watches files = λ source values reads writes. absurd (let e : Some (Image, image) ≡ None = writes in cc)
+means (command.Show image) watches files = λ source values reads writes. absurd (let e : Image ≡ Source = ap first_role reads in cc)
+means (command.Migrate image output) watches files = λ source values reads writes. absurd (let e : Image ≡ Source = ap first_role reads in cc)
+means (command.Asm assembly image) watches files = λ source values reads writes. absurd (let e : Assembly ≡ Source = ap first_role reads in cc)
+means (command.Unasm image assembly) watches files = λ source values reads writes. absurd (let e : Image ≡ Source = ap first_role reads in cc)
+means (command.Need source_name certificate) watches files = λ source values reads writes. absurd (let e : [] ≡ (Values, values) ∷ [] = ap others reads in cc)
+means (command.Cert source_name certificate control temporary) watches files = λ source values reads writes. absurd (let e : Certificate ≡ Values = ap (λ (fs : List (Role × List ℕ)). first_role (others fs)) reads in cc)
+means (command.Debug level source_name values_name control temporary script) watches files = λ source values reads writes. absurd (let e : (Script, script) ∷ [] ≡ [] = ap (λ (fs : List (Role × List ℕ)). others (others fs)) reads in cc)
+means (command.Turns turn budget control temporary tasks) watches files = λ source values reads writes. absurd (no_source tasks (ap first_role reads))
   where
     no_source : (tasks : List TaskFiles) → first_role (task_inputs tasks) ≡ Source → ⊥
     no_source [] e = cc
     no_source (task ∷ tasks) e = cc
-follows (command.Mini program stored) watches files = λ source values reads writes. absurd (let e : Infix ≡ Source = ap first_role reads in cc)
-follows c watches files = λ source values reads writes. absurd (let e : Piton ≡ Source = ap first_role reads in cc)
-
--- whatever the command and the files are
-pub means : (c : Option Command) (watches : List Watching) (o : Option Files) → IfSome o (λ files. Means c files (answer_by c watches files))
-means c watches None = tt
-means None watches (Some files) = tt
-means (Some c) watches (Some files) = follows c watches files
+means (command.Mini program stored) watches files = λ source values reads writes. absurd (let e : Infix ≡ Source = ap first_role reads in cc)
+means c watches files = λ source values reads writes. absurd (let e : Piton ≡ Source = ap first_role reads in cc)

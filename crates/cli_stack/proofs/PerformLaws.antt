@@ -48,7 +48,7 @@ part files mid before after between command output bytes o (ShelfFault name) was
     moved : PartlyStored mid after.files output.1 bytes → PartlyStored (Some files) after.files output.1 bytes
     moved half = subst (λ (m : Option Files). PartlyStored m after.files output.1 bytes) was half
 part files mid before after between command output bytes o OutOfMemory was is says fell left fault a e =
-    ⊎_elim (λ same. inl (same ∙ was)) (λ half. inr (inr (rw (e, says) (moved half.0), (output.1, own command output is, rose_from _ _ _ (fell.faults output.1) half.1)))) left
+    ⊎_elim (λ same. inl (same ∙ was)) (λ half. inr (inr (rw (e, says) (moved half.0), (output.1, own command output is, rose_from _ _ _ (fell.faults output.1) half.1, tt)))) left
   where
     moved : PartlyStored mid after.files output.1 bytes → PartlyStored (Some files) after.files output.1 bytes
     moved half = subst (λ (m : Option Files). PartlyStored m after.files output.1 bytes) was half

@@ -1,5 +1,5 @@
 -- The promises of the program, from what its two halves say: how the command was performed, and how it was concluded.
-use Rattle.std.proofs.Common.{◌≡◌, ◌⊎◌, inl, inr, ⊎_elim, ℕ, List, ◌++◌, Bool, true, false, Option, Some, None, IfSome, IfErr, IfOk, Result, Ok, Err, refl, sym, ap, ◌∙◌, subst}
+use Rattle.std.proofs.Common.{◌≡◌, ◌⊎◌, inl, inr, ⊎_elim, ℕ, List, Bool, true, false, Option, Some, None, IfSome, IfErr, IfOk, Result, Ok, Err, refl, sym, ap, ◌∙◌, subst}
 use Rattle.std.specs.Prelude.{◌≢◌}
 use Rattle.std.specs.Option.{option_map}
 use Rattle.fm_machine.specs.State.{Fm, MachineOf}
@@ -19,25 +19,20 @@ use Rattle.cli_stack.specs.declared.driver.conclude.Conclusion.{Conclusion}
 use Rattle.stack_commands.specs.declared.reply.Reply.{Reply}
 use Rattle.stack_commands.specs.declared.reply.Verdict.{Verdict}
 use Rattle.stack_commands.specs.declared.reply.Verdict.TheVariants as verdict
-use Rattle.stack_commands.specs.Replies.{status_of, verdict_line}
-use Rattle.cli_stack.specs.Answer.{Answer, early_answer, files_after, answer_by}
+use Rattle.stack_commands.specs.Replies.{ReplyOf, status_of, reply_of}
+use Rattle.cli_stack.specs.Answer.{Answer, early_answer, files_after, answer_by, answer_to}
 use Rattle.cli_stack.specs.World.{World}
-use Rattle.cli_stack.specs.Promises.{PromisesOf}
+use Rattle.cli_stack.specs.Promises.{KeepsWithFiles, IsTooLong, KeepsPromises}
 use Rattle.cli_stack.specs.Kept.{RunsImage, IsRunEnd}
 use Rattle.cli_stack.specs.Remains.{HoldsPart, LeavesFiles, PrintsPrefix}
-use Rattle.cli_stack.specs.Causes.{RoseAt, RoseAndPrinted, SizePrinted}
-use Rattle.cli_stack.specs.Answers.{HoldsMachine, Agrees}
-use Rattle.cli_stack.specs.Tells.{Tells}
-use Rattle.cli_stack.specs.Implements.{Compiles}
-use Rattle.cli_stack.specs.Means.{Means}
-use Rattle.cli_stack.specs.Links.{Links}
-use Rattle.cli_stack.specs.Assembles.{Assembles}
-use Rattle.cli_stack.specs.Needs.{Needs}
-use Rattle.cli_stack.specs.Lowers.{LowersPrograms}
-use Rattle.cli_stack.specs.Scaffold.Driver.{HasReason, IsReplyTo, LeavesAs, Leaves, machine_kept, conclusion_of, Stopped, NotBegun, Concludes}
+use Rattle.cli_stack.specs.Causes.{RoseAt}
+use Rattle.cli_stack.specs.Agrees.{HoldsMachine, Agrees}
+use Rattle.cli_stack.specs.Tells.{TellsMeanings}
+use Rattle.cli_stack.specs.RepliesTo.{Devices, IsReplyTo, Replies, TookLines}
+use Rattle.cli_stack.specs.Scaffold.Driver.{HasReason, LeavesAs, Leaves, machine_kept, conclusion_of, Stopped, NotBegun, Concludes}
 use Rattle.cli_stack.proofs.CompletesLaws.{completes}
-use Rattle.cli_stack.proofs.MachineLaws.{only_runs}
-use Rattle.cli_stack.proofs.SizeLaws.{size_printed}
+use Rattle.cli_stack.proofs.MachineLaws.{RepliesToSome, only_runs}
+use Rattle.cli_stack.proofs.SizeLaws.{has_sizes}
 
 -- 1. Statuses.
 
@@ -96,18 +91,18 @@ holds_machine before after (Some m) None kept is = cc
 holds_machine before after (Some m) (Some s) kept is = let same : s ≡ m.state = cc in rw kept (sym same)
 
 -- the command concludes as it is to answer, and has set its file
-agreeing : (answer : Answer) (names : List (List ℕ)) (files : Files) (before after : World) (c : Conclusion) (status : Status)
+agreeing : (Took : List ℕ → Type 0) (answer : Answer) (names : List (List ℕ)) (files : Files) (before after : World) (c : Conclusion) (status : Status)
     → answer.status ≡ c.status → answer.text ≡ c.text → answer.machine ≡ option_map (λ (m : MachineOf). m.state) c.machine
     → after.shelf.files ≡ Some (files_after answer.output files) → is_plain c.status ≡ true
-    → Concludes (Some c) status before.out after.out → Known answer names files before after status
-agreeing answer names files before after c status ends says runs left plain (inl n) = record {
+    → Concludes Took (Some c) status before.out after.out → Known answer names files before after status
+agreeing Took answer names files before after c status ends says runs left plain (inl n) = record {
   answers = λ h1 h2 h3. absurd (h3 n.ends);
   files_at_10 = λ h. absurd (let e : ShelfFault ≡ OutOfMemory = sym h ∙ n.ends in cc);
   files_at_11 = λ h. inl left;
   files_at_14 = λ h. inr (inl left);
   text = λ h. inl (nothing_printed before.out.taken after.out.taken answer.text n.text);
 }
-agreeing answer names files before after c status ends says runs left plain (inr (inl p)) = record {
+agreeing Took answer names files before after c status ends says runs left plain (inr (inl p)) = record {
   answers = λ h1 h2 h3. record {
     ends = p.ends ∙ sym ends;
     files_left = left;
@@ -119,7 +114,7 @@ agreeing answer names files before after c status ends says runs left plain (inr
   files_at_14 = λ h. inr (inl left);
   text = λ h. absurd (⊎_elim (λ (e : status ≡ SinkFault). apart is_plain c.status SinkFault plain refl (sym p.ends ∙ e)) (λ e. apart is_plain c.status OutOfMemory plain refl (sym p.ends ∙ e)) h);
 }
-agreeing answer names files before after c status ends says runs left plain (inr (inr s)) = record {
+agreeing Took answer names files before after c status ends says runs left plain (inr (inr s)) = record {
   answers = λ h1 h2 h3. absurd (⊎_elim (λ failed. h2 failed.0) (λ memory. h3 memory) s.cause);
   files_at_10 = λ h. absurd (⊎_elim (λ failed. let e : ShelfFault ≡ SinkFault = sym h ∙ failed.0 in cc) (λ memory. let e : ShelfFault ≡ OutOfMemory = sym h ∙ memory in cc) s.cause);
   files_at_11 = λ h. inl left;
@@ -131,137 +126,144 @@ agreeing answer names files before after c status ends says runs left plain (inr
 early_left : (answer : Answer) (end : EarlyEnd) (files : Files) (left : Option Files) → answer ≡ early_answer end → left ≡ Some files → left ≡ Some (files_after answer.output files)
 early_left answer end files left is same = same ∙ ap (λ (a : Answer). Some (files_after a.output files)) (sym is)
 
-known : (command : Option Command) (answer : Answer) (files : Files) (before after : World) (ran : Result Reply EarlyEnd) (status : Status)
+known : (Took : List ℕ → Type 0) (command : Option Command) (answer : Answer) (files : Files) (before after : World) (ran : Result Reply EarlyEnd) (status : Status)
     → LeavesAs answer (file_names command) files before.shelf after.shelf ran → IfErr ran (HasReason before.shelf.counts after.shelf.counts command)
-    → Concludes (conclusion_of ran) status before.out after.out → Known answer (file_names command) files before after status
-known command answer files before after (Ok reply) status l reason ends =
-    agreeing answer (file_names command) files before after _ status (ap (λ (a : Answer). a.status) l.0) (ap (λ (a : Answer). a.text) l.0) (ap (λ (a : Answer). a.machine) l.0) l.1 (plain_verdict reply.verdict) ends
-known command answer files before after (Err (early.Missing name)) status l reason ends =
-    agreeing answer (file_names command) files before after _ status (ap (λ (a : Answer). a.status) l.0) (ap (λ (a : Answer). a.text) l.0) (ap (λ (a : Answer). a.machine) l.0) (early_left answer (early.Missing name) files after.shelf.files l.0 l.1) refl ends
-known command answer files before after (Err (early.TooLong limit)) status l reason ends =
-    agreeing answer (file_names command) files before after _ status (ap (λ (a : Answer). a.status) l.0) (ap (λ (a : Answer). a.text) l.0) (ap (λ (a : Answer). a.machine) l.0) (early_left answer (early.TooLong limit) files after.shelf.files l.0 l.1) refl ends
-known command answer files before after (Err (early.ShelfFault name)) status l reason (inl n) = record {
+    → Concludes Took (conclusion_of ran) status before.out after.out → Known answer (file_names command) files before after status
+known Took command answer files before after (Ok reply) status l reason ends =
+    agreeing Took answer (file_names command) files before after _ status (ap (λ (a : Answer). a.status) l.0) (ap (λ (a : Answer). a.text) l.0) (ap (λ (a : Answer). a.machine) l.0) l.1 (plain_verdict reply.verdict) ends
+known Took command answer files before after (Err (early.Missing name)) status l reason ends =
+    agreeing Took answer (file_names command) files before after _ status (ap (λ (a : Answer). a.status) l.0) (ap (λ (a : Answer). a.text) l.0) (ap (λ (a : Answer). a.machine) l.0) (early_left answer (early.Missing name) files after.shelf.files l.0 l.1) refl ends
+known Took command answer files before after (Err (early.TooLong limit)) status l reason ends =
+    agreeing Took answer (file_names command) files before after _ status (ap (λ (a : Answer). a.status) l.0) (ap (λ (a : Answer). a.text) l.0) (ap (λ (a : Answer). a.machine) l.0) (early_left answer (early.TooLong limit) files after.shelf.files l.0 l.1) refl ends
+known Took command answer files before after (Err (early.ShelfFault name)) status l reason (inl n) = record {
   answers = λ h1 h2 h3. absurd (h3 n.ends);
   files_at_10 = λ h. l;
   files_at_11 = λ h. absurd (let e : SinkFault ≡ OutOfMemory = sym h ∙ n.ends in cc);
-  files_at_14 = λ h. inr (inr (l, (reason.0, reason.1, reason.2.1)));
+  files_at_14 = λ h. inr (inr (l, (reason.0, reason.1, reason.2.1, tt)));
   text = λ h. inl (nothing_printed before.out.taken after.out.taken answer.text n.text);
 }
-known command answer files before after (Err (early.ShelfFault name)) status l reason (inr (inl p)) = record {
+known Took command answer files before after (Err (early.ShelfFault name)) status l reason (inr (inl p)) = record {
   answers = λ h1 h2 h3. absurd (h1 p.ends);
   files_at_10 = λ h. l;
   files_at_11 = λ h. absurd (let e : SinkFault ≡ ShelfFault = sym h ∙ p.ends in cc);
   files_at_14 = λ h. absurd (let e : OutOfMemory ≡ ShelfFault = sym h ∙ p.ends in cc);
   text = λ h. absurd (⊎_elim (λ (e : status ≡ SinkFault). let f : SinkFault ≡ ShelfFault = sym e ∙ p.ends in cc) (λ e. let f : OutOfMemory ≡ ShelfFault = sym e ∙ p.ends in cc) h);
 }
-known command answer files before after (Err (early.ShelfFault name)) status l reason (inr (inr s)) = record {
+known Took command answer files before after (Err (early.ShelfFault name)) status l reason (inr (inr s)) = record {
   answers = λ h1 h2 h3. absurd (⊎_elim (λ failed. h2 failed.0) (λ memory. h3 memory) s.cause);
   files_at_10 = λ h. l;
-  files_at_11 = λ h. inr (l, (reason.0, reason.1, reason.2.1));
-  files_at_14 = λ h. inr (inr (l, (reason.0, reason.1, reason.2.1)));
+  files_at_11 = λ h. inr (l, (reason.0, reason.1, reason.2.1, tt));
+  files_at_14 = λ h. inr (inr (l, (reason.0, reason.1, reason.2.1, tt)));
   text = λ h. inr (reason.0, reason.1, reason.2.1, subst (λ (n : List ℕ). PrefixAppended before.out.taken after.out.taken (end_line (early.ShelfFault n))) reason.2.0 s.text);
 }
-known command answer files before after (Err early.OutOfMemory) status l reason (inl n) = record {
+known Took command answer files before after (Err early.OutOfMemory) status l reason (inl n) = record {
   answers = λ h1 h2 h3. absurd (h3 n.ends);
   files_at_10 = λ h. absurd (let e : ShelfFault ≡ OutOfMemory = sym h ∙ n.ends in cc);
   files_at_11 = λ h. absurd (let e : SinkFault ≡ OutOfMemory = sym h ∙ n.ends in cc);
   files_at_14 = λ h. l;
   text = λ h. inl (nothing_printed before.out.taken after.out.taken answer.text n.text);
 }
-known command answer files before after (Err early.OutOfMemory) status l reason (inr none) = absurd none
+known Took command answer files before after (Err early.OutOfMemory) status l reason (inr none) = absurd none
 
 -- 3. Causes.
 
-record Caused (command : Option Command) (watches : List Watching) (before after : World) (status : Status) : Type 0 where
-  pub missing : status ≡ Missing → RoseAndPrinted (λ c. c.absences) (λ name. end_line (early.Missing name)) (input_names command) before after
-  pub shelf_fault : status ≡ ShelfFault → RoseAndPrinted (λ c. c.faults) (λ name. end_line (early.ShelfFault name)) (file_names command) before after
+record Caused {S K : Type 0} (devices : Devices S K) (command : Option Command) (watches : List Watching) (before after : World) (status : Status) : Type 0 where
+  pub missing : status ≡ Missing → RoseAt (λ c. c.absences) (input_names command) before.shelf after.shelf (λ name. after.out.taken ≡ appended before.out.taken (end_line (early.Missing name)))
+  pub shelf_fault : status ≡ ShelfFault → RoseAt (λ c. c.faults) (file_names command) before.shelf after.shelf (λ name. after.out.taken ≡ appended before.out.taken (end_line (early.ShelfFault name)))
   pub sink_fault : status ≡ SinkFault → Rose before.out.faults after.out.faults
-  pub too_long : status ≡ Size → RoseAt (λ c. c.overruns) (input_names command) before after ⊎ SizePrinted command watches before after
+  pub replies : status ≢ Missing → status ≢ ShelfFault → status ≢ SinkFault → status ≢ OutOfMemory → IsTooLong command before after status ⊎ Replies devices command watches before after status
   pub kept : ¬ (RunsImage command × IsRunEnd status) → after.out.kept ≡ before.out.kept
 
-not_begun : (command : Option Command) (watches : List Watching) (before after : World) (status : Status) → NotBegun status before.out after.out → Caused command watches before after status
-not_begun command watches before after status n = record {
+not_begun : {S K : Type 0} (devices : Devices S K) (command : Option Command) (watches : List Watching) (before after : World) (status : Status) → NotBegun status before.out after.out → Caused devices command watches before after status
+not_begun devices command watches before after status n = record {
   missing = λ h. absurd (let e : Missing ≡ OutOfMemory = sym h ∙ n.ends in cc);
   shelf_fault = λ h. absurd (let e : ShelfFault ≡ OutOfMemory = sym h ∙ n.ends in cc);
   sink_fault = λ h. absurd (let e : SinkFault ≡ OutOfMemory = sym h ∙ n.ends in cc);
-  too_long = λ h. absurd (let e : Size ≡ OutOfMemory = sym h ∙ n.ends in cc);
+  replies = λ h1 h2 h3 h4. absurd (h4 n.ends);
   kept = λ h. n.machine;
 }
 
-stopped : (command : Option Command) (watches : List Watching) (before after : World) (c : Conclusion) (status : Status) → Stopped c status before.out after.out → Caused command watches before after status
-stopped command watches before after c status s = record {
+stopped : {S K : Type 0} (devices : Devices S K) (command : Option Command) (watches : List Watching) (before after : World) (c : Conclusion) (status : Status) → Stopped c status before.out after.out → Caused devices command watches before after status
+stopped devices command watches before after c status s = record {
   missing = λ h. absurd (other Missing refl h);
   shelf_fault = λ h. absurd (⊎_elim (λ failed. let e : ShelfFault ≡ SinkFault = sym h ∙ failed.0 in cc) (λ memory. let e : ShelfFault ≡ OutOfMemory = sym h ∙ memory in cc) s.cause);
   sink_fault = λ h. ⊎_elim (λ failed. failed.1) (λ memory. absurd (let e : SinkFault ≡ OutOfMemory = sym h ∙ memory in cc)) s.cause;
-  too_long = λ h. absurd (other Size refl h);
+  replies = λ h1 h2 h3 h4. absurd (⊎_elim (λ failed. h3 failed.0) (λ memory. h4 memory) s.cause);
   kept = λ h. s.machine;
 }
   where
     other : (t : Status) → is_plain t ≡ true → status ≡ t → ⊥
     other t plain h = ⊎_elim (λ (failed : (status ≡ SinkFault) × Rose before.out.faults after.out.faults). apart is_plain t SinkFault plain refl (sym h ∙ failed.0)) (λ memory. apart is_plain t OutOfMemory plain refl (sym h ∙ memory)) s.cause
 
--- a reply was printed whose verdict is a size
-sized : (command : Option Command) (watches : List Watching) (before after : World) (reply : Reply) (v : Verdict) → reply.verdict ≡ v → status_of v ≡ Size → IsReplyTo command watches reply
-    → after.out.taken ≡ appended before.out.taken (reply.said ++ verdict_line reply.verdict) → SizePrinted command watches before after
-sized command watches before after reply (verdict.Size of need) is size to printed = size_printed command watches before after reply of need to is printed
-sized command watches before after reply verdict.Done is size to printed = absurd cc
-sized command watches before after reply v is size to printed = absurd cc
+-- the reply is one to some texts
+to_some : {S K : Type 0} (devices : Devices S K) (command : Option Command) (watches : List Watching) (reply : ReplyOf)
+    → IsReplyTo devices.gave devices.got devices.shelf_before devices.shelf_after command watches reply → RepliesToSome command watches reply
+to_some devices None watches reply to = to.0
+to_some devices (Some c) watches reply to = (to.texts, to.is)
 
-caused : (command : Option Command) (watches : List Watching) (before after : World) (ran : Result Reply EarlyEnd) (status : Status)
-    → IfErr ran (HasReason before.shelf.counts after.shelf.counts command) → IfOk ran (IsReplyTo command watches)
-    → Concludes (conclusion_of ran) status before.out after.out → Caused command watches before after status
-caused command watches before after ran status reason to (inl n) = not_begun command watches before after status n
-caused command watches before after (Ok reply) status reason to (inr (inr s)) = stopped command watches before after _ status s
-caused command watches before after (Ok reply) status reason to (inr (inl p)) = record {
+caused : {S K : Type 0} (devices : Devices S K) (command : Option Command) (watches : List Watching) (before after : World) (ran : Result Reply EarlyEnd) (status : Status)
+    → IfErr ran (HasReason before.shelf.counts after.shelf.counts command) → IfOk ran (λ reply. IsReplyTo devices.gave devices.got devices.shelf_before devices.shelf_after command watches (reply_of reply))
+    → Concludes (TookLines devices.took devices.out_before devices.out_after) (conclusion_of ran) status before.out after.out → Caused devices command watches before after status
+caused devices command watches before after ran status reason to (inl n) = not_begun devices command watches before after status n
+caused devices command watches before after (Ok reply) status reason to (inr (inr s)) = stopped devices command watches before after _ status s
+caused devices command watches before after (Ok reply) status reason to (inr (inl p)) = record {
   missing = λ h. absurd (apart is_own (status_of reply.verdict) Missing (own_verdict reply.verdict) refl (sym p.ends ∙ h));
   shelf_fault = λ h. absurd (apart is_own (status_of reply.verdict) ShelfFault (own_verdict reply.verdict) refl (sym p.ends ∙ h));
   sink_fault = λ h. absurd (apart is_own (status_of reply.verdict) SinkFault (own_verdict reply.verdict) refl (sym p.ends ∙ h));
-  too_long = λ h. inr (sized command watches before after reply reply.verdict refl (sym p.ends ∙ h) to p.text);
-  kept = λ none. unchanged reply.machine p.machine (only_runs command watches reply to (λ run. none (run.0, subst IsRunEnd (sym p.ends) run.1)));
+  replies = λ h1 h2 h3 h4. inr (record {
+    reply = reply_of reply;
+    is = to;
+    ends = p.ends;
+    printed = p.text;
+    lines = p.took;
+    machine = holds_machine before.out.kept after.out.kept reply.machine (option_map (λ (m : MachineOf). m.state) reply.machine) p.machine refl;
+    sized = λ h. has_sizes command watches reply (to_some devices command watches (reply_of reply) to) (sym p.ends ∙ h);
+  });
+  kept = λ none. unchanged reply.machine p.machine (only_runs command watches reply (to_some devices command watches (reply_of reply) to) (λ run. none (run.0, subst IsRunEnd (sym p.ends) run.1)));
 }
   where
     unchanged : (machine : Option MachineOf) → after.out.kept ≡ machine_kept before.out.kept machine → option_map (λ (m : MachineOf). m.state) machine ≡ None → after.out.kept ≡ before.out.kept
     unchanged None kept none = kept
     unchanged (Some m) kept none = absurd cc
-caused command watches before after (Err (early.Missing name)) status reason to (inr (inr s)) = stopped command watches before after _ status s
-caused command watches before after (Err (early.Missing name)) status reason to (inr (inl p)) = record {
+caused devices command watches before after (Err (early.Missing name)) status reason to (inr (inr s)) = stopped devices command watches before after _ status s
+caused devices command watches before after (Err (early.Missing name)) status reason to (inr (inl p)) = record {
   missing = λ h. (reason.0, reason.1, reason.2.1, p.text ∙ ap (λ (n : List ℕ). appended before.out.taken (end_line (early.Missing n))) reason.2.0);
   shelf_fault = λ h. absurd (let e : ShelfFault ≡ Missing = sym h ∙ p.ends in cc);
   sink_fault = λ h. absurd (let e : SinkFault ≡ Missing = sym h ∙ p.ends in cc);
-  too_long = λ h. absurd (let e : Size ≡ Missing = sym h ∙ p.ends in cc);
+  replies = λ h1 h2 h3 h4. absurd (h1 p.ends);
   kept = λ h. p.machine;
 }
-caused command watches before after (Err (early.TooLong limit)) status reason to (inr (inr s)) = stopped command watches before after _ status s
-caused command watches before after (Err (early.TooLong limit)) status reason to (inr (inl p)) = record {
+caused devices command watches before after (Err (early.TooLong limit)) status reason to (inr (inr s)) = stopped devices command watches before after _ status s
+caused devices command watches before after (Err (early.TooLong limit)) status reason to (inr (inl p)) = record {
   missing = λ h. absurd (let e : Missing ≡ Size = sym h ∙ p.ends in cc);
   shelf_fault = λ h. absurd (let e : ShelfFault ≡ Size = sym h ∙ p.ends in cc);
   sink_fault = λ h. absurd (let e : SinkFault ≡ Size = sym h ∙ p.ends in cc);
-  too_long = λ h. inl reason;
+  replies = λ h1 h2 h3 h4. inl (p.ends, (reason.0, reason.1, reason.2, tt));
   kept = λ h. p.machine;
 }
-caused command watches before after (Err (early.ShelfFault name)) status reason to (inr (inr s)) = stopped command watches before after _ status s
-caused command watches before after (Err (early.ShelfFault name)) status reason to (inr (inl p)) = record {
+caused devices command watches before after (Err (early.ShelfFault name)) status reason to (inr (inr s)) = stopped devices command watches before after _ status s
+caused devices command watches before after (Err (early.ShelfFault name)) status reason to (inr (inl p)) = record {
   missing = λ h. absurd (let e : Missing ≡ ShelfFault = sym h ∙ p.ends in cc);
   shelf_fault = λ h. (reason.0, reason.1, reason.2.1, p.text ∙ ap (λ (n : List ℕ). appended before.out.taken (end_line (early.ShelfFault n))) reason.2.0);
   sink_fault = λ h. absurd (let e : SinkFault ≡ ShelfFault = sym h ∙ p.ends in cc);
-  too_long = λ h. absurd (let e : Size ≡ ShelfFault = sym h ∙ p.ends in cc);
+  replies = λ h1 h2 h3 h4. absurd (h2 p.ends);
   kept = λ h. p.machine;
 }
-caused command watches before after (Err early.OutOfMemory) status reason to (inr none) = absurd none
+caused devices command watches before after (Err early.OutOfMemory) status reason to (inr none) = absurd none
 
 -- 4. The words were read.
 
-ends_after_words : (c : Conclusion) (status : Status) (before after : World) → is_after_words c.status ≡ true → Concludes (Some c) status before.out after.out → status ≢ NoWords
-ends_after_words c status before after own (inl n) = λ h. apart is_after_words OutOfMemory NoWords refl refl (sym n.ends ∙ h)
-ends_after_words c status before after own (inr (inl p)) = λ h. apart is_after_words c.status NoWords own refl (sym p.ends ∙ h)
-ends_after_words c status before after own (inr (inr s)) = λ h.
+ends_after_words : (Took : List ℕ → Type 0) (c : Conclusion) (status : Status) (before after : World) → is_after_words c.status ≡ true → Concludes Took (Some c) status before.out after.out → status ≢ NoWords
+ends_after_words Took c status before after own (inl n) = λ h. apart is_after_words OutOfMemory NoWords refl refl (sym n.ends ∙ h)
+ends_after_words Took c status before after own (inr (inl p)) = λ h. apart is_after_words c.status NoWords own refl (sym p.ends ∙ h)
+ends_after_words Took c status before after own (inr (inr s)) = λ h.
     ⊎_elim (λ (failed : (status ≡ SinkFault) × Rose before.out.faults after.out.faults). apart is_after_words SinkFault NoWords refl refl (sym failed.0 ∙ h)) (λ memory. apart is_after_words OutOfMemory NoWords refl refl (sym memory ∙ h)) s.cause
 
-words_read : (ran : Result Reply EarlyEnd) (status : Status) (before after : World) → Concludes (conclusion_of ran) status before.out after.out → status ≢ NoWords
-words_read (Ok reply) status before after ends = ends_after_words _ status before after (verdict_after_words reply.verdict) ends
-words_read (Err early.OutOfMemory) status before after (inl n) = λ h. apart is_after_words OutOfMemory NoWords refl refl (sym n.ends ∙ h)
-words_read (Err early.OutOfMemory) status before after (inr none) = absurd none
-words_read (Err e) status before after ends = ends_after_words _ status before after (end_after_words e) ends
+words_read : (Took : List ℕ → Type 0) (ran : Result Reply EarlyEnd) (status : Status) (before after : World) → Concludes Took (conclusion_of ran) status before.out after.out → status ≢ NoWords
+words_read Took (Ok reply) status before after ends = ends_after_words Took _ status before after (verdict_after_words reply.verdict) ends
+words_read Took (Err early.OutOfMemory) status before after (inl n) = λ h. apart is_after_words OutOfMemory NoWords refl refl (sym n.ends ∙ h)
+words_read Took (Err early.OutOfMemory) status before after (inr none) = absurd none
+words_read Took (Err e) status before after ends = ends_after_words Took _ status before after (end_after_words e) ends
 
 -- 5. Together.
 
@@ -270,43 +272,30 @@ if_known : (o : Option Files) (P Q : Files → Type 0) → ((files : Files) → 
 if_known None P Q go p = tt
 if_known (Some files) P Q go p = go files p
 
-pub promises : (command : Option Command) (watches : List Watching) (before after : World) (ran : Result Reply EarlyEnd) (status : Status)
+pub promises : {S K : Type 0} (devices : Devices S K) (command : Option Command) (watches : List Watching) (before after : World) (ran : Result Reply EarlyEnd) (status : Status)
     → IfSome before.shelf.files (λ files. Leaves command watches files before.shelf after.shelf ran)
-    → IfErr ran (HasReason before.shelf.counts after.shelf.counts command) → IfOk ran (IsReplyTo command watches)
-    → Concludes (conclusion_of ran) status before.out after.out
-    → IfSome before.shelf.files (λ files. Compiles command files (answer_by command watches files).output)
-    → IfSome before.shelf.files (λ files. Tells command files (answer_by command watches files))
-    → IfSome before.shelf.files (λ files. Means command files (answer_by command watches files))
-    → IfSome before.shelf.files (λ files. Links command files (answer_by command watches files).output)
-    → IfSome before.shelf.files (λ files. Assembles command files (answer_by command watches files).output)
-    → IfSome before.shelf.files (λ files. Needs command files (answer_by command watches files))
-    → IfSome before.shelf.files (λ files. LowersPrograms command files (answer_by command watches files))
-    → PromisesOf command watches (answer_by command watches) before after status
-promises command watches before after ran status leaves reason to ends implements tells means links assembles needs lowers =
-    let all : IfSome before.shelf.files (λ files. Known (answer_by command watches files) (file_names command) files before after status) =
-    if_known before.shelf.files (λ files. Leaves command watches files before.shelf after.shelf ran) (λ files. Known (answer_by command watches files) (file_names command) files before after status)
-    (λ files l. known command (answer_by command watches files) files before after ran status l reason ends) leaves in
-    let causes = caused command watches before after ran status reason to ends in
-    let agrees : IfSome before.shelf.files (λ files. status ≢ ShelfFault → status ≢ SinkFault → status ≢ OutOfMemory → Agrees (answer_by command watches files) files before after status) =
-    if_known before.shelf.files (λ files. Known (answer_by command watches files) (file_names command) files before after status) _ (λ files k. k.answers) all in
+    → IfErr ran (HasReason before.shelf.counts after.shelf.counts command) → IfOk ran (λ reply. IsReplyTo devices.gave devices.got devices.shelf_before devices.shelf_after command watches (reply_of reply))
+    → Concludes (TookLines devices.took devices.out_before devices.out_after) (conclusion_of ran) status before.out after.out
+    → ((files : Files) → IfSome command (λ c. TellsMeanings c files (answer_to c watches files)))
+    → KeepsPromises devices command watches before after status
+promises devices command watches before after ran status leaves reason to ends tells =
+    let causes = caused devices command watches before after ran status reason to ends in
     record {
-      answers = agrees;
-      implements = implements;
-      tells = tells;
-      means = means;
-      links = links;
-      assembles = assembles;
-      needs = needs;
-      lowers = lowers;
-      completes = completes watches before after status command before.shelf.files agrees causes.shelf_fault causes.sink_fault tells;
-      words_read = words_read ran status before after ends;
+      known = if_known before.shelf.files (λ files. Leaves command watches files before.shelf after.shelf ran) (λ files. KeepsWithFiles command (answer_by command watches files) files before after status)
+          (λ files l.
+          let k = known (TookLines devices.took devices.out_before devices.out_after) command (answer_by command watches files) files before after ran status l reason ends in
+          record {
+            answers = k.answers;
+            completes = completes watches before after status command files k.answers causes.shelf_fault causes.sink_fault (tells files);
+            files_at_10 = k.files_at_10;
+            files_at_11 = k.files_at_11;
+            files_at_14 = k.files_at_14;
+            text = k.text;
+          }) leaves;
+      replies = causes.replies;
+      words_read = words_read (TookLines devices.took devices.out_before devices.out_after) ran status before after ends;
       missing = causes.missing;
       shelf_fault = causes.shelf_fault;
       sink_fault = causes.sink_fault;
-      too_long = causes.too_long;
-      files_at_10 = if_known before.shelf.files (λ files. Known (answer_by command watches files) (file_names command) files before after status) _ (λ files k. k.files_at_10) all;
-      files_at_11 = if_known before.shelf.files (λ files. Known (answer_by command watches files) (file_names command) files before after status) _ (λ files k. k.files_at_11) all;
-      files_at_14 = if_known before.shelf.files (λ files. Known (answer_by command watches files) (file_names command) files before after status) _ (λ files k. k.files_at_14) all;
-      text = if_known before.shelf.files (λ files. Known (answer_by command watches files) (file_names command) files before after status) _ (λ files k. k.text) all;
       kept = causes.kept;
     }

@@ -1,5 +1,5 @@
 -- Where a certificate is enough, no run of the source sets spaceerror.
-use Rattle.std.proofs.Common.{◌≡◌, ◌≤◌, ◌∷◌, [], ◌++◌, ℕ, suc, List, Bool, true, false, Option, Some, None, IfSome, Result, Ok, Err, length, get_or, refl, sym, ap, ◌∙◌, subst, arith, append-nil}
+use Rattle.std.proofs.Common.{◌≡◌, ◌≤◌, ◌∷◌, [], ◌++◌, ℕ, suc, List, Bool, true, false, Option, Some, Result, Ok, Err, length, get_or, refl, sym, ap, ◌∙◌, subst, arith, append-nil}
 use Rattle.std.specs.Prelude.{◌^◌, codes}
 use Rattle.std.specs.Result.{MatchResult}
 use Rattle.stack_text.specs.Lines.{line}
@@ -8,7 +8,8 @@ use Rattle.stack_text.specs.Values.{ValueOf}
 use Rattle.stack_shelf.specs.Files.{Files}
 use Rattle.stack_shelf.specs.Shelf.{fetched}
 use Rattle.fm_machine.specs.State.{Fm}
-use Rattle.fm_machine.specs.Run.{RunOutcome, IsFirst, IsOutcome, outcome}
+use Rattle.fm_machine.specs.Run.{IsFirst}
+use Rattle.fm_machine.specs.Outcome.{RunOutcome, IsOutcome, outcome}
 use Rattle.fm_machine.specs.declared.processor.Run.{Run}
 use Rattle.fm_machine.specs.declared.processor.Run.TheVariants as run
 use Rattle.fm_machine.proofs.RunLaws.{outcome_is}
@@ -60,7 +61,7 @@ use Rattle.stack_commands.specs.Commands.SourceText.{build_verdict, unless_refus
 use Rattle.stack_commands.specs.Commands.Need.{bounds_stored, bounds_reply, certified_stored, certified_reply, need_stored_by, need_reply_by}
 use Rattle.stack_commands.specs.Commands.Cert.{yes_or_no, judged_reply, certificate_reply, cert_reply_by}
 use Rattle.stack_commands.specs.Prepared.{stored_by, reply_by}
-use Rattle.cli_stack.specs.Answer.{Answer, set_file, answer_with, answer_on, answer_by}
+use Rattle.cli_stack.specs.Answer.{Answer, set_file, answer_with, answer_on, answer_to}
 use Rattle.cli_stack.specs.FilesAndSizes.{IsReadable}
 use Rattle.cli_stack.specs.Needs.{TellsOther, GoesOther, HasRoom, TellsNeed, Needs}
 use Rattle.cli_stack.proofs.GoLaws.{first_once, early_done, build_done, go_done}
@@ -239,13 +240,8 @@ module _ (implement : BuiltImplements) (take : BuiltTakesValues) (watches : List
 
 -- 5. All commands.
 
-needs_by : BuiltImplements → BuiltTakesValues → (c : Option Command) (watches : List Watching) (files : Files) → Needs c files (answer_by c watches files)
+pub needs : BuiltImplements → BuiltTakesValues → (c : Command) (watches : List Watching) (files : Files) → Needs c files (answer_to c watches files)
 unfolding inputs_of need_on
-needs_by implement take (Some (command.Need source certificate)) watches files = need_tells implement take watches files source certificate _ refl
-needs_by implement take (Some (command.Cert source certificate control temporary)) watches files = λ h. cert_says implement take watches files source certificate control temporary _ _ refl h
-needs_by implement take c watches files = tt
-
--- whatever the command and the files are
-pub needs : BuiltImplements → BuiltTakesValues → (c : Option Command) (watches : List Watching) (o : Option Files) → IfSome o (λ files. Needs c files (answer_by c watches files))
-needs implement take c watches None = tt
-needs implement take c watches (Some files) = needs_by implement take c watches files
+needs implement take (command.Need source certificate) watches files = need_tells implement take watches files source certificate _ refl
+needs implement take (command.Cert source certificate control temporary) watches files = λ h. cert_says implement take watches files source certificate control temporary _ _ refl h
+needs implement take c watches files = tt

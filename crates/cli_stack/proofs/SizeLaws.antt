@@ -1,7 +1,7 @@
 -- Refused sizes are those of commands that take sizes.
-use Rattle.std.proofs.Common.{◌≡◌, inl, inr, ℕ, List, ◌++◌, Bool, true, false, Option, Some, None, Result, Ok, Err, IfErr, refl, sym, ap, ◌∙◌}
-use Rattle.std.specs.Prelude.{if◌then◌else◌}
-use Rattle.fm_machine.specs.Run.{RunOutcome, outcome}
+use Rattle.std.proofs.Common.{◌≡◌, inl, inr, ℕ, List, Bool, true, false, Option, Some, None, Result, Ok, Err, IfErr, refl, sym, ap, ◌∙◌}
+use Rattle.std.specs.Prelude.{if◌then◌else◌, IsSomeAnd}
+use Rattle.fm_machine.specs.Outcome.{RunOutcome, outcome}
 use Rattle.fm_machine.specs.State.{Fm}
 use Rattle.fm_machine.specs.declared.processor.Run.{Run}
 use Rattle.fm_machine.specs.declared.processor.Run.TheVariants as run
@@ -36,18 +36,17 @@ use Rattle.piton_machine.specs.Seen.StateView.{Ran, state_run, opening}
 use Rattle.piton_machine.specs.Seen.StateView.{Seen as PitonSeen}
 use Rattle.gypsy_space.specs.Needs.{StackSizes as StackWords, stack_sizes}
 use Rattle.level_debuggers.specs.Tallies.{Watching}
-use Rattle.stack_shelf.specs.Shelf.{appended}
 use Rattle.stack_build.specs.Build.{source_in, reading_fault, accepted_unless, accepted_by}
 use Rattle.command_line.specs.declared.command.Command.{Command}
 use Rattle.command_line.specs.declared.command.Command.TheVariants as command
 use Rattle.command_line.specs.declared.role.Role.TheVariants as role
+use Rattle.command_line.specs.declared.status.Status.TheVariants.{Size, Usage}
 use Rattle.command_line.specs.Gathered.{Texts, text_of}
 use Rattle.command_line.specs.CommandFiles.{output_of}
 use Rattle.stack_commands.specs.declared.reply.Reply.{Reply}
-use Rattle.stack_commands.specs.declared.reply.SizeOf.{SizeOf}
 use Rattle.stack_commands.specs.declared.reply.Verdict.{Verdict}
 use Rattle.stack_commands.specs.declared.reply.Verdict.TheVariants as verdict
-use Rattle.stack_commands.specs.Replies.{ReplyOf, verdict_alone, judgement_reply, reply_text, verdict_line}
+use Rattle.stack_commands.specs.Replies.{ReplyOf, reply_of, status_of, verdict_alone, judgement_reply}
 use Rattle.stack_commands.specs.Prepared.{reply_by}
 use Rattle.stack_commands.specs.Commands.Run.{end_reply, run_reply, values_reply, image_reply}
 use Rattle.stack_commands.specs.Commands.Show.{listing_reply}
@@ -61,9 +60,8 @@ use Rattle.stack_commands.specs.Commands.Prun.{run_end_reply, checked_run_reply,
 use Rattle.stack_commands.specs.Commands.SourceText.{build_verdict, unless_refused, accepted_in}
 use Rattle.stack_commands.specs.Commands.Pit.{written_reply}
 use Rattle.stack_commands.specs.Commands.PitonText.{piton_verdict, checked_unless, checked_by, checked_in}
-use Rattle.cli_stack.specs.World.{World}
-use Rattle.cli_stack.specs.Causes.{HasSizes, SizePrinted}
-use Rattle.cli_stack.specs.Scaffold.Driver.{IsReplyTo}
+use Rattle.cli_stack.specs.Causes.{HasSizes}
+use Rattle.cli_stack.proofs.MachineLaws.{RepliesToSome}
 
 abbrev is_size : Verdict → Bool
 is_size (verdict.Size of need) = true
@@ -185,7 +183,7 @@ checked_run_no_size (Err verdict) limit none = none
 -- 2. All commands.
 
 abbrev Sizes : Command → ReplyOf → Type 0
-Sizes c reply = is_size reply.verdict ≡ true → HasSizes (Some c)
+Sizes c reply = is_size reply.verdict ≡ true → HasSizes c
 
 no_sizes : (c : Command) (reply : ReplyOf) → is_size reply.verdict ≡ false → Sizes c reply
 no_sizes c reply none size = absurd (let e : false ≡ true = sym none ∙ size in cc)
@@ -218,12 +216,14 @@ sizes_by (command.Big number procedures) watches texts = λ size. inl refl
 sizes_by (command.Mini program source) watches texts =
     no_sizes (command.Mini program source) (reply_by (command.Mini program source) watches texts) (lowered_no_size source (lowering_of (text_of role.Infix texts)))
 
--- where a size is refused, it is in the command's own reply to some texts, and that is what is printed
-pub size_printed : (c : Option Command) (watches : List Watching) (before after : World) (reply : Reply) (of : SizeOf) (need : ℕ) → IsReplyTo c watches reply → reply.verdict ≡ verdict.Size of need
-    → after.out.taken ≡ appended before.out.taken (reply.said ++ verdict_line reply.verdict) → SizePrinted c watches before after
-size_printed None watches before after reply of need is size printed =
-    let e : verdict.Usage ≡ verdict.Size of need = ap (λ (r : ReplyOf). r.verdict) (sym is) ∙ size in
+-- where a size is refused, the command has sizes
+pub has_sizes : (c : Option Command) (watches : List Watching) (reply : Reply) → RepliesToSome c watches (reply_of reply) → status_of reply.verdict ≡ Size → IsSomeAnd c HasSizes
+has_sizes None watches reply is size =
+    let e : Usage ≡ Size = ap (λ (r : ReplyOf). status_of r.verdict) (sym is) ∙ size in
     absurd cc
-size_printed (Some c) watches before after reply of need (texts, is) size printed =
-    let refused : (reply_by c watches texts).verdict ≡ verdict.Size of need = ap (λ (r : ReplyOf). r.verdict) (sym is) ∙ size in
-    (sizes_by c watches texts (ap is_size refused), texts, of, need, refused, printed ∙ ap (λ (r : ReplyOf). appended before.out.taken (reply_text r)) is)
+has_sizes (Some c) watches reply to size = sizes_by c watches to.0 (is_size_by (reply_by c watches to.0).verdict (ap (λ (r : ReplyOf). status_of r.verdict) (sym to.1) ∙ size))
+  where
+    is_size_by : (v : Verdict) → status_of v ≡ Size → is_size v ≡ true
+    is_size_by (verdict.Size of need) h = refl
+    is_size_by verdict.Done h = absurd cc
+    is_size_by v h = absurd cc

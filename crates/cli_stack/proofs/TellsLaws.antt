@@ -1,10 +1,10 @@
 -- What a command prints is what its source means.
-use Rattle.std.proofs.Common.{◌≡◌, ◌≤◌, inl, inr, ℕ, zero, suc, List, [], ◌∷◌, ◌++◌, append-nil, false, Option, Some, None, IfSome, Result, Ok, length, refl, sym, ap, ◌∙◌, subst, arith}
+use Rattle.std.proofs.Common.{◌≡◌, ◌≤◌, inl, inr, ℕ, zero, suc, List, [], ◌∷◌, ◌++◌, append-nil, false, Option, Some, None, Result, Ok, length, refl, sym, ap, ◌∙◌, subst, arith}
 use Rattle.std.specs.Prelude.{◌^◌, Contains, nat_lt}
 use Rattle.std.proofs.lemmas.Bool.{le-ltb}
 use Rattle.stack_shelf.specs.Files.{Files}
 use Rattle.stack_shelf.specs.Shelf.{fetched, within}
-use Rattle.fm_machine.specs.Run.{RunOutcome, outcome}
+use Rattle.fm_machine.specs.Outcome.{RunOutcome, outcome}
 use Rattle.fm_machine.specs.declared.processor.Run.TheVariants.{Ended}
 use Rattle.fm_machine.proofs.RunLaws.{outcome_only}
 use Rattle.fm_image.specs.Image.{ImageOf}
@@ -36,8 +36,8 @@ use Rattle.stack_commands.specs.Replies.{ReplyOf, status_of, verdict_line}
 use Rattle.stack_commands.specs.Commands.Go.{go_reply}
 use Rattle.stack_commands.specs.Commands.Run.{outcome_reply, run_reply, image_file_reply}
 use Rattle.stack_commands.specs.Prepared.{reply_by}
-use Rattle.cli_stack.specs.Answer.{answer_with, answer_on, answer_to, answer_by}
-use Rattle.cli_stack.specs.Tells.{IsBuilt, IsRead, TellsMeaning, HasImage, TellsMeanings, Tells}
+use Rattle.cli_stack.specs.Answer.{answer_with, answer_on, answer_to}
+use Rattle.cli_stack.specs.Tells.{IsBuilt, IsRead, TellsMeaning, HasImage, TellsMeanings}
 use Rattle.cli_stack.specs.FilesAndSizes.{IsReadable}
 use Rattle.cli_stack.proofs.RoleLaws.{only_role, both_roles}
 
@@ -80,7 +80,7 @@ both_there files first second text other there there' = rw (is_there files first
 
 module _ (files : Files) (sizes : StackSizes) (source : SourceOf) (image : ImageOf) (values_text : List ℕ) (values finals : List ValueOf) (way : CurrentCondition) (count budget : ℕ)
     (watches : List Watching) (gives : values_in image.slots values_text ≡ Ok values) (done : Finishes source sizes values finals way count) (enough : count ≤ budget) where
-  go_tells : BuiltImplements → BuiltTakesValues → (source_name values_name image_name : List ℕ) (control temporary : ℕ) → stack_sizes control temporary ≡ sizes
+  pub go_tells : BuiltImplements → BuiltTakesValues → (source_name values_name image_name : List ℕ) (control temporary : ℕ) → stack_sizes control temporary ≡ sizes
       → IsBuilt files source_name sizes source image → IsReadable files Values values_name values_text
       → TellsMeaning source image finals way count (answer_to (command.Go source_name values_name control temporary budget image_name) watches files)
   unfolding inputs_of reply_by
@@ -144,41 +144,35 @@ debug_has_none level source_name values_file control temporary script (inl (name
 debug_has_none level source_name values_file control temporary script (inl (name, (suc (suc (suc i)), lt, is))) = omega (arith, lt)
 debug_has_none level source_name values_file control temporary script (inr (name, is)) = let e : None ≡ Some (Image, name) = is in cc
 
-tells_by : BuiltImplements → BuiltTakesValues → (c : Command) (watches : List Watching) (files : Files) → TellsMeanings c files (answer_to c watches files)
+pub tells : BuiltImplements → BuiltTakesValues → (c : Command) (watches : List Watching) (files : Files) → TellsMeanings c files (answer_to c watches files)
 unfolding inputs_of
-tells_by implement take (command.Check source_name) watches files = λ name reads has. absurd (only_role Values Source source_name name (λ e. cc) reads)
-tells_by implement take (command.Mean source_name values_file control temporary limit) watches files = λ name reads has. absurd (mean_has_none source_name values_file control temporary limit has)
-tells_by implement take (command.Pit source_name control temporary piton_name) watches files = λ name reads has. absurd (only_role Values Source source_name name (λ e. cc) reads)
-tells_by implement take (command.Build source_name control temporary image_name) watches files = λ name reads has. absurd (only_role Values Source source_name name (λ e. cc) reads)
-tells_by implement take (command.Pcheck piton_name) watches files = λ name reads has. absurd (only_role Values Piton piton_name name (λ e. cc) reads)
-tells_by implement take (command.Prun piton_name limit) watches files = λ name reads has. absurd (only_role Values Piton piton_name name (λ e. cc) reads)
-tells_by implement take (command.Pbuild piton_name image_name) watches files = λ name reads has. absurd (only_role Values Piton piton_name name (λ e. cc) reads)
-tells_by implement take (command.Run image_name values_file budget) watches files = λ name reads has. (
+tells implement take (command.Check source_name) watches files = λ name reads has. absurd (only_role Values Source source_name name (λ e. cc) reads)
+tells implement take (command.Mean source_name values_file control temporary limit) watches files = λ name reads has. absurd (mean_has_none source_name values_file control temporary limit has)
+tells implement take (command.Pit source_name control temporary piton_name) watches files = λ name reads has. absurd (only_role Values Source source_name name (λ e. cc) reads)
+tells implement take (command.Build source_name control temporary image_name) watches files = λ name reads has. absurd (only_role Values Source source_name name (λ e. cc) reads)
+tells implement take (command.Pcheck piton_name) watches files = λ name reads has. absurd (only_role Values Piton piton_name name (λ e. cc) reads)
+tells implement take (command.Prun piton_name limit) watches files = λ name reads has. absurd (only_role Values Piton piton_name name (λ e. cc) reads)
+tells implement take (command.Pbuild piton_name image_name) watches files = λ name reads has. absurd (only_role Values Piton piton_name name (λ e. cc) reads)
+tells implement take (command.Run image_name values_file budget) watches files = λ name reads has. (
   values_name Image image_name values_file name (λ e. cc) reads,
   λ sizes source image values_text values finals way count found there gives done enough.
       read_tells files sizes source image values_text values finals way count budget watches gives done enough image_name values_file found there,
 )
-tells_by implement take (command.Go source_name values_file control temporary budget image_name) watches files = λ name reads has. (
+tells implement take (command.Go source_name values_file control temporary budget image_name) watches files = λ name reads has. (
   values_name Source source_name values_file name (λ e. cc) reads,
   λ sizes source image values_text values finals way count program there gives done enough.
       go_tells files sizes source image values_text values finals way count budget watches gives done enough implement take source_name values_file image_name control temporary program.0 program.1 there,
 )
-tells_by implement take (command.Show image_name) watches files = λ name reads has. absurd (only_role Values Image image_name name (λ e. cc) reads)
-tells_by implement take (command.Migrate image_name output) watches files = λ name reads has. absurd (only_role Values Image image_name name (λ e. cc) reads)
-tells_by implement take (command.Asm assembly image_name) watches files = λ name reads has. absurd (only_role Values Assembly assembly name (λ e. cc) reads)
-tells_by implement take (command.Unasm image_name assembly) watches files = λ name reads has. absurd (only_role Values Image image_name name (λ e. cc) reads)
-tells_by implement take (command.Need source_name certificate) watches files = λ name reads has. absurd (only_role Values Source source_name name (λ e. cc) reads)
-tells_by implement take (command.Cert source_name certificate control temporary) watches files = λ name reads has. absurd (both_roles Values Source Certificate source_name certificate name (λ e. cc) (λ e. cc) reads)
-tells_by implement take (command.Debug level source_name values_file control temporary script) watches files = λ name reads has. absurd (debug_has_none level source_name values_file control temporary script has)
-tells_by implement take (command.Turns turn budget control temporary tasks) watches files = λ name reads has. absurd (tasks_no_values tasks name reads)
-tells_by implement take (command.Mini program stored) watches files = λ name reads has. absurd (only_role Values Infix program name (λ e. cc) reads)
-tells_by implement take c watches files = λ name reads has. absurd (nothing name reads)
+tells implement take (command.Show image_name) watches files = λ name reads has. absurd (only_role Values Image image_name name (λ e. cc) reads)
+tells implement take (command.Migrate image_name output) watches files = λ name reads has. absurd (only_role Values Image image_name name (λ e. cc) reads)
+tells implement take (command.Asm assembly image_name) watches files = λ name reads has. absurd (only_role Values Assembly assembly name (λ e. cc) reads)
+tells implement take (command.Unasm image_name assembly) watches files = λ name reads has. absurd (only_role Values Image image_name name (λ e. cc) reads)
+tells implement take (command.Need source_name certificate) watches files = λ name reads has. absurd (only_role Values Source source_name name (λ e. cc) reads)
+tells implement take (command.Cert source_name certificate control temporary) watches files = λ name reads has. absurd (both_roles Values Source Certificate source_name certificate name (λ e. cc) (λ e. cc) reads)
+tells implement take (command.Debug level source_name values_file control temporary script) watches files = λ name reads has. absurd (debug_has_none level source_name values_file control temporary script has)
+tells implement take (command.Turns turn budget control temporary tasks) watches files = λ name reads has. absurd (tasks_no_values tasks name reads)
+tells implement take (command.Mini program stored) watches files = λ name reads has. absurd (only_role Values Infix program name (λ e. cc) reads)
+tells implement take c watches files = λ name reads has. absurd (nothing name reads)
   where
     nothing : (name : List ℕ) → Contains {X = Role × List ℕ} [] (Values, name) → ⊥
     nothing name (i, lt, is) = omega arith
-
--- whatever the command and the files are
-pub tells : BuiltImplements → BuiltTakesValues → (c : Option Command) (watches : List Watching) (o : Option Files) → IfSome o (λ files. Tells c files (answer_by c watches files))
-tells implement take c watches None = tt
-tells implement take None watches (Some files) = tt
-tells implement take (Some c) watches (Some files) = tells_by implement take c watches files

@@ -1,6 +1,6 @@
 -- That the image which is stored of an assembly text is the one that it spells, and that an assembly text which is stored of an image
 -- spells it.
-use Rattle.std.specs.Prelude.{◌≡◌, ◌≤◌, ◌<◌, ℕ, List, length, Option, Some, None, Ok, All, IsTrue}
+use Rattle.std.specs.Prelude.{◌≡◌, ◌≤◌, ◌<◌, ℕ, List, length, Option, Some, Ok, All, IsTrue}
 use Rattle.stack_shelf.specs.Files.{Files, file_at}
 use Rattle.fm_image.specs.Image.{ImageOf}
 use Rattle.fm_image.specs.Reading.{read_of}
@@ -49,10 +49,6 @@ StoresAssembly command files output =
     → output ≡ Some (stored, written) → HoldsAssembly files image written
 
 -- both
-pub record AssemblesBoth (command : Command) (files : Files) (output : Option (List ℕ × List ℕ)) : Type 0 where
+pub record Assembles (command : Command) (files : Files) (output : Option (List ℕ × List ℕ)) : Type 0 where
   pub images : StoresAssembled command files output
   pub texts : StoresAssembly command files output
-
-abbrev pub Assembles : Option Command → Files → Option (List ℕ × List ℕ) → Type 0
-Assembles None files output = Unit {0}
-Assembles (Some command) files output = AssemblesBoth command files output

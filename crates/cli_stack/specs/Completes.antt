@@ -1,5 +1,5 @@
 -- That a command does all that it is for, where nothing is wrong with its files and its sizes and no device fails.
-use Rattle.std.specs.Prelude.{◌≡◌, ◌≤◌, ◌⊎◌, ℕ, List, [], ◌∷◌, Option, Some, None, Ok, Contains, IsSomeAnd}
+use Rattle.std.specs.Prelude.{◌≡◌, ◌≤◌, ◌⊎◌, ℕ, List, [], ◌∷◌, Some, Ok, Contains, IsSomeAnd}
 use Rattle.fm_words.specs.WindowLimit.{most_window}
 use Rattle.stack_text.specs.Values.{ValueOf}
 use Rattle.fm_image.specs.Spelling.{spelling}
@@ -71,7 +71,3 @@ CompletesCommand command files before after status =
     (source values image : List ℕ) → inputs_of command ≡ (Source, source) ∷ (Values, values) ∷ [] → StoresFile command Image image
     → IsSomeAnd (sizes_of command) (λ sizes. IsSomeAnd (planned_run command) (λ run.
     CompletesRun command files source values image sizes run.budget before after status))
-
-abbrev pub Completes : Option Command → Files → World → World → Status → Type 0
-Completes None files before after status = Unit {0}
-Completes (Some command) files before after status = CompletesCommand command files before after status

@@ -1,5 +1,5 @@
 -- That what a command stores does as its source means.
-use Rattle.std.specs.Prelude.{◌≡◌, ◌≤◌, ℕ, List, length, Option, Some, None, Ok, IsSomeAnd}
+use Rattle.std.specs.Prelude.{◌≡◌, ◌≤◌, ℕ, List, length, Option, Some, Ok, IsSomeAnd}
 use Rattle.fm_image.specs.Image.{ImageOf}
 use Rattle.fm_image.specs.Spelling.{Spelled}
 use Rattle.stack_shelf.specs.Files.{Files, file_at}
@@ -7,17 +7,18 @@ use Rattle.gypsy_syntax.specs.Sources.{SourceOf}
 use Rattle.gypsy_space.specs.Needs.{StackSizes}
 use Rattle.stack_build.specs.Build.{source_in}
 use Rattle.stack_build.specs.Implements.{Implements}
-use Rattle.stack_build.specs.Moments.{KeepsMoments, StaysUnfinished}
+use Rattle.stack_build.specs.Moments.{KeepsMoments}
+use Rattle.stack_build.specs.StaysUnfinished.{StaysUnfinished}
 use Rattle.command_line.specs.declared.command.Command.{Command}
 use Rattle.command_line.specs.declared.role.Role.TheVariants.{Source, Image}
 use Rattle.command_line.specs.Roles.{limit_of}
+use Rattle.command_line.specs.Gathered.{Texts, text_of}
+use Rattle.stack_commands.specs.Prepared.{stored_by}
 use Rattle.cli_stack.specs.FilesAndSizes.{ReadsFile, StoresFile, sizes_of}
 
--- the bytes are an image file that can be read again, and its image implements the source in a file, for stacks of these sizes, and
+-- the bytes are an image file that can be read again, and its image implements the source in a text, for stacks of these sizes, and
 -- keeps to it at every moment
-pub record HoldsImplementation (files : Files) (name : List ℕ) (sizes : StackSizes) (bytes : List ℕ) : Type 0 where
-  pub text : List ℕ
-  pub there : file_at files name ≡ Some text
+pub record IsImplementation (text : List ℕ) (sizes : StackSizes) (bytes : List ℕ) : Type 0 where
   pub source : SourceOf
   pub read : source_in text ≡ Ok source
   pub image : ImageOf
@@ -27,6 +28,12 @@ pub record HoldsImplementation (files : Files) (name : List ℕ) (sizes : StackS
   pub moments : KeepsMoments image source sizes
   pub unfinished : StaysUnfinished image source sizes
 
+-- the same of the source in a file
+pub record HoldsImplementation (files : Files) (name : List ℕ) (sizes : StackSizes) (bytes : List ℕ) : Type 0 where
+  pub text : List ℕ
+  pub there : file_at files name ≡ Some text
+  pub is : IsImplementation text sizes bytes
+
 -- who reads a source and stores an image has sizes of stacks, and stores an implementation of the source for them
 abbrev pub StoresImplementation : Command → Files → Option (List ℕ × List ℕ) → Type 0
 StoresImplementation command files output =
@@ -34,6 +41,9 @@ StoresImplementation command files output =
     → output ≡ Some (stored, bytes)
     → IsSomeAnd (sizes_of command) (λ sizes. HoldsImplementation files source sizes bytes)
 
-abbrev pub Compiles : Option Command → Files → Option (List ℕ × List ℕ) → Type 0
-Compiles None files output = Unit {0}
-Compiles (Some command) files output = StoresImplementation command files output
+-- the same of the texts of its files, as any shelf gives them
+abbrev pub StoresImplementationOf : Command → Texts → Type 0
+StoresImplementationOf command texts =
+    (source image bytes : List ℕ) → ReadsFile command Source source → StoresFile command Image image
+    → stored_by command texts ≡ Some bytes
+    → IsSomeAnd (sizes_of command) (λ sizes. IsImplementation (text_of Source texts) sizes bytes)

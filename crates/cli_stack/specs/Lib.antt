@@ -1,9 +1,11 @@
 -- what the program promises, and what that speaks of
 pub mod Promises
-pub mod Answers
+pub mod AnswerMeans
+pub mod Agrees
 pub mod Causes
 pub mod Remains
 pub mod Kept
+pub mod RepliesTo
 pub mod Tells
 pub mod FilesAndSizes
 pub mod Implements
@@ -13,10 +15,15 @@ pub mod Completes
 pub mod Assembles
 pub mod Needs
 pub mod Lowers
-pub mod Endless
+pub mod Decides
 pub mod Explains
 pub mod Turns
 pub mod Answer
 pub mod World
+-- laws of commands in a row
+pub mod InARow
+pub mod Again
+pub mod OneResult
+pub mod PitAndPbuild
 -- In a folder: scaffold.
 pub mod Scaffold

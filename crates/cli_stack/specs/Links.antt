@@ -1,5 +1,5 @@
 -- That the image which is stored of a Piton text does on the processor what the system does on Piton's machine.
-use Rattle.std.specs.Prelude.{◌≡◌, ◌≤◌, ℕ, List, [], length, Option, Some, None, Ok, codes, ◌++◌}
+use Rattle.std.specs.Prelude.{◌≡◌, ◌≤◌, ℕ, List, [], length, Option, Some, Ok, codes, ◌++◌}
 use Rattle.std.specs.Fmt.{decimal}
 use Rattle.stack_shelf.specs.Files.{Files, file_at}
 use Rattle.fm_image.specs.Image.{ImageOf}
@@ -70,7 +70,3 @@ abbrev pub StoresLinked : Command → Files → Option (List ℕ × List ℕ) �
 StoresLinked command files output =
     (piton image stored bytes : List ℕ) → ReadsFile command Piton piton → StoresFile command Image image
     → output ≡ Some (stored, bytes) → HoldsLinked files piton bytes
-
-abbrev pub Links : Option Command → Files → Option (List ℕ × List ℕ) → Type 0
-Links None files output = Unit {0}
-Links (Some command) files output = StoresLinked command files output

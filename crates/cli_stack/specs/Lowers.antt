@@ -1,42 +1,54 @@
 -- That the source which is stored of an infix program means what the program does, so that the images which are built of it carry the
 -- program's runs to memory, and `go` tells them.
-use Rattle.std.specs.Prelude.{◌≡◌, ◌≤◌, ℕ, ◌+◌, ◌*◌, List, length, Option, Some, None, Ok}
+use Rattle.std.specs.Prelude.{◌≡◌, ◌≤◌, ◌<◌, ℕ, ◌+◌, ◌*◌, List, length, map, Option, Some, None, Ok}
+use Rattle.stack_text.specs.declared.shape.Shape.{Shape}
 use Rattle.stack_text.specs.Values.{ValueOf}
 use Rattle.stack_shelf.specs.Files.{Files, file_at}
 use Rattle.fm_image.specs.Image.{ImageOf}
 use Rattle.fm_image.specs.Spelling.{Spelled}
-use Rattle.fm_loader.specs.Values.{values_in}
-use Rattle.gypsy_syntax.specs.Resolved.{program_of}
+use Rattle.gypsy_syntax.specs.declared.literal.Decl.{Decl}
+use Rattle.gypsy_syntax.specs.Resolved.{program_of, shape_of}
 use Rattle.gypsy_syntax.specs.Sources.{SourceOf}
 use Rattle.gypsy_meaning.specs.Calls.{CurrentCondition}
-use Rattle.gypsy_meaning.specs.Meaning.{Done as RunDone}
+use Rattle.gypsy_space.specs.Needs.{StackSizes, stack_sizes}
+use Rattle.gypsy_meaning.specs.Meaning.{Done as RunDone, Unfinished as RunUnfinished}
 use Rattle.stack_build.specs.Build.{source_in}
-use Rattle.stack_build.specs.Formals.{shown_names}
-use Rattle.stack_build.specs.Image.{formal_slots}
-use Rattle.stack_build.specs.Implements.{meaning_shown, FitsFormals, ComesTo}
+use Rattle.stack_build.specs.Formals.{shown_formals}
+use Rattle.stack_build.specs.Implements.{meaning_shown, FitsFormals, Finishes}
+use Rattle.stack_build.specs.ComesTo.{ComesTo}
 use Rattle.mini_syntax.specs.MiniReading.{IsFault, IsFaultless}
-use Rattle.mini_syntax.specs.Breaches.{body_of, declared_of, names_of}
+use Rattle.mini_syntax.specs.Breaches.{body_of, declared_of}
+use Rattle.mini_syntax.specs.declared.program.Declared.{Declared}
 use Rattle.mini_syntax.specs.Grammar.{InfixProgram}
+use Rattle.mini_gypsy.specs.Lowered.{kind_of}
 use Rattle.mini_gypsy.specs.Meant.{program_run}
 use Rattle.mini_texts.specs.Stored.{MeansAlways}
 use Rattle.command_line.specs.declared.command.Command.{Command}
 use Rattle.command_line.specs.declared.command.Command.TheVariants.{Go, Mini}
-use Rattle.command_line.specs.declared.role.Role.TheVariants.{Infix, Source, Values, Image}
+use Rattle.command_line.specs.declared.role.Role.TheVariants.{Infix, Source, Image}
 use Rattle.command_line.specs.declared.status.Status.TheVariants.{Done, Refused}
 use Rattle.stack_commands.specs.declared.reply.RuleLetter.TheVariants.{Y}
 use Rattle.stack_commands.specs.declared.reply.Verdict.TheVariants as verdict
 use Rattle.stack_commands.specs.Replies.{verdict_line}
 use Rattle.cli_stack.specs.Answer.{Answer}
 use Rattle.cli_stack.specs.Tells.{TellsMeaning}
+use Rattle.cli_stack.specs.Decides.{IsReadyToRun, TellsUnfinished}
 use Rattle.cli_stack.specs.FilesAndSizes.{ReadsFile, StoresFile, IsReadable}
 
 -- 1. What is stored of a program.
 
--- the text is read as a source that is accepted, has the program's variables, and means what the program does
+-- a formal of main and a declared variable, with the type of its values
+abbrev pub formal_type : Decl → List ℕ × Shape
+formal_type d = (d.name.name, shape_of d.shape)
+
+abbrev pub declared_type : Declared → List ℕ × Shape
+declared_type d = (d.name, record { kind = kind_of d.sort; length = 0 })
+
+-- the text is read as a source that is accepted, has the program's variables with their types, and means what the program does
 pub record MeansProgram (text : List ℕ) (program : InfixProgram) : Type 0 where
   pub source : SourceOf
   pub read : source_in text ≡ Ok source
-  pub names : shown_names source ≡ names_of (declared_of program)
+  pub variables : map formal_type (shown_formals source) ≡ map declared_type (declared_of program)
   pub means : MeansAlways (program_of source) (body_of program)
 
 -- a file has a program that breaks no rule, and what is stored under this name is a source that means what the program does
@@ -89,33 +101,31 @@ StoresRuns command files output =
     → output ≡ Some (stored, bytes) → file_at files source ≡ Some text → (means : MeansProgram text program)
     → HoldsRuns bytes means.source program
 
--- the answer is the report of these variables and this condition, after some number of instructions
-pub record TellsEnd (source : SourceOf) (finals : List ValueOf) (way : CurrentCondition) (answer : Answer) : Type 0 where
-  pub image : ImageOf
+-- from a count of instructions on the answer tells this end, and below it `unfinished`
+pub record TellsFrom (source : SourceOf) (sizes : StackSizes) (image : ImageOf) (values finals : List ValueOf) (way : CurrentCondition)
+    (budget : ℕ) (answer : Answer) : Type 0 where
   pub count : ℕ
-  pub tells : TellsMeaning source image finals way count answer
+  pub meant : Finishes source sizes values finals way count
+  pub within : count ≤ budget → TellsMeaning source image finals way count answer
+  pub beyond : budget < count → TellsUnfinished budget answer
 
--- where all goes well with such a source and values on which the program's run is done, what is told is how the run ended
-abbrev pub TellsRuns : Files → List ℕ → List ℕ → Answer → Type 0
-TellsRuns files source values answer =
-    (text values_text : List ℕ) (program : InfixProgram) (means : MeansProgram text program) (x finals : List ValueOf)
-    (way : CurrentCondition)
-    → IsReadable files Source source text → IsReadable files Values values values_text
-    → values_in (formal_slots means.source) values_text ≡ Ok x → RunEnds program x finals way
-    → answer.status ≡ Done → TellsEnd means.source finals way answer
+-- where the program's run is done, how it ended is told so; and where it is done at no bound, the answer is `unfinished`
+pub record TellsRuns (program : InfixProgram) (source : SourceOf) (sizes : StackSizes) (image : ImageOf) (values : List ValueOf)
+    (budget : ℕ) (answer : Answer) : Type 0 where
+  pub ends : (finals : List ValueOf) (way : CurrentCondition) → RunEnds program values finals way
+      → TellsFrom source sizes image values finals way budget answer
+  pub endless : ((n : ℕ) → program_run (body_of program) values n ≡ RunUnfinished) → TellsUnfinished budget answer
 
 -- 3. All commands.
 
--- `go` tells runs so, and `mini` stores or tells a fault so
+-- `go`, where all is ready and the source means what a program does, tells runs so; and `mini` stores or tells a fault so
 abbrev pub TellsOwn : Command → Files → Answer → Type 0
-TellsOwn (Go source values control temporary budget image) files answer = TellsRuns files source values answer
+TellsOwn (Go source values control temporary budget image) files answer =
+    (is : IsReadyToRun files source values (stack_sizes control temporary)) (program : InfixProgram) → MeansProgram is.built.text program
+    → TellsRuns program is.source (stack_sizes control temporary) is.image is.values budget answer
 TellsOwn (Mini program source) files answer = TellsMini files program source answer
 TellsOwn command files answer = Unit {0}
 
-pub record LowersCommand (command : Command) (files : Files) (answer : Answer) : Type 0 where
+pub record LowersPrograms (command : Command) (files : Files) (answer : Answer) : Type 0 where
   pub own : TellsOwn command files answer
   pub images : StoresRuns command files answer.output
-
-abbrev pub LowersPrograms : Option Command → Files → Answer → Type 0
-LowersPrograms None files answer = Unit {0}
-LowersPrograms (Some command) files answer = LowersCommand command files answer

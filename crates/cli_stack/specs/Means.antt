@@ -44,7 +44,7 @@ meaning_text source stage steps count =
 
 -- the meaning of the source is done, with these values and this condition, and so many instructions counted, within a bound of
 -- one more than the steps
-pub record IsMeant (source : SourceOf) (sizes : StackSizes) (values finals : List ValueOf) (way : CurrentCondition)
+pub record MeansInSteps (source : SourceOf) (sizes : StackSizes) (values finals : List ValueOf) (way : CurrentCondition)
     (steps count : ℕ) : Type 0 where
   pub meaning_is : meaning (program_of source) sizes values (suc steps) ≡ MeaningDone finals way
   pub counted : instruction_count (program_of source) sizes values (suc steps) ≡ Some count
@@ -54,7 +54,7 @@ pub record TellsSteps (source : SourceOf) (sizes : StackSizes) (values finals : 
     (answer : Answer) : Type 0 where
   pub steps : ℕ
   pub count : ℕ
-  pub meant : IsMeant source sizes values finals way steps count
+  pub meant : MeansInSteps source sizes values finals way steps count
   pub status : answer.status ≡ Done
   pub text : answer.text ≡ meaning_text source (Finished finals way) steps count
 
@@ -81,7 +81,3 @@ abbrev pub FollowsMeanings : Command → Files → Answer → Type 0
 FollowsMeanings command files answer =
     (source values : List ℕ) → inputs_of command ≡ (Source, source) ∷ (Values, values) ∷ [] → output_of command ≡ None
     → IsSomeAnd (follow_of command) (λ follow. (follow.source ≡ source) × (follow.values ≡ values) × FollowsFiles follow files answer)
-
-abbrev pub Means : Option Command → Files → Answer → Type 0
-Means None files answer = Unit {0}
-Means (Some command) files answer = FollowsMeanings command files answer

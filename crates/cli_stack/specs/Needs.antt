@@ -1,5 +1,5 @@
 -- That calls have room at the sizes that `need` tells, and at those at which `cert` says yes: no run of the source sets spaceerror.
-use Rattle.std.specs.Prelude.{◌≡◌, ◌≢◌, ℕ, List, [], get_or, Option, Some, None, Ok, codes}
+use Rattle.std.specs.Prelude.{◌≡◌, ◌≢◌, ℕ, List, [], get_or, Some, None, Ok, codes}
 use Rattle.stack_text.specs.Lines.{line}
 use Rattle.stack_text.specs.Values.{ValueOf}
 use Rattle.stack_shelf.specs.Files.{Files}
@@ -77,8 +77,8 @@ pub record TellsNeed (files : Files) (name certificate : List ℕ) (answer : Ans
   pub recursive : answer.status ≡ Recursive → TellsRecursive files name answer
 
 -- so `need` answers; and where `cert` says yes, calls have room at its sizes
-abbrev pub Needs : Option Command → Files → Answer → Type 0
-Needs (Some (Need source certificate)) files answer = TellsNeed files source certificate answer
-Needs (Some (Cert source certificate control temporary)) files answer =
+abbrev pub Needs : Command → Files → Answer → Type 0
+Needs (Need source certificate) files answer = TellsNeed files source certificate answer
+Needs (Cert source certificate control temporary) files answer =
     answer.text ≡ line (codes "yes") → HasRoom files source (stack_sizes control temporary)
 Needs command files answer = Unit {0}

@@ -83,7 +83,3 @@ abbrev pub TellsMeanings : Command → Files → Answer → Type 0
 TellsMeanings command files answer =
     (values : List ℕ) → ReadsFile command Values values → HasImage command
     → IsSomeAnd (planned_run command) (λ run. (run.values ≡ values) × TellsRun run files answer)
-
-abbrev pub Tells : Option Command → Files → Answer → Type 0
-Tells None files answer = Unit {0}
-Tells (Some command) files answer = TellsMeanings command files answer

@@ -1,40 +1,37 @@
--- That what is told of sources whose images take turns is what each of them means.
-use Rattle.std.specs.Prelude.{◌≡◌, ◌≤◌, ℕ, ◌+◌, List, [], ◌∷◌, ◌++◌, Option, Some, None, Ok, length, map}
+-- That what is told of sources whose images take turns is, of each of them, what its meaning is, or that this isn't done within the budget.
+use Rattle.std.specs.Prelude.{◌≡◌, ◌≤◌, ◌⊎◌, ℕ, ◌+◌, List, [], ◌∷◌, ◌++◌, Ok, All, map}
 use Rattle.std.specs.Int.{div_ceil}
 use Rattle.fm_words.specs.WindowLimit.{most_window}
 use Rattle.stack_text.specs.Values.{ValueOf}
 use Rattle.stack_shelf.specs.Files.{Files}
 use Rattle.fm_image.specs.Image.{ImageOf}
 use Rattle.fm_loader.specs.Values.{values_in}
-use Rattle.display_maps.specs.Report.{report_text}
 use Rattle.gypsy_syntax.specs.Sources.{SourceOf}
 use Rattle.gypsy_space.specs.Needs.{StackSizes, stack_sizes}
 use Rattle.gypsy_meaning.specs.Calls.{CurrentCondition}
 use Rattle.stack_build.specs.Build.{BuiltOf, built, source_in}
-use Rattle.stack_build.specs.Implements.{meaning_shown, Finishes}
-use Rattle.level_debuggers.specs.Tallies.{Watching}
+use Rattle.stack_build.specs.Implements.{Finishes}
 use Rattle.command_line.specs.declared.command.Command.{Command}
 use Rattle.command_line.specs.declared.command.Command.TheVariants.{Turns}
 use Rattle.command_line.specs.declared.command.TaskFiles.{TaskFiles}
 use Rattle.command_line.specs.declared.role.Role.TheVariants.{TaskSource, TaskValues}
-use Rattle.command_line.specs.declared.status.Status.TheVariants.{Done}
-use Rattle.command_line.specs.CommandRows.{command_of}
-use Rattle.cli_stack.specs.Answer.{Answer, answer}
+use Rattle.command_line.specs.declared.status.Status.TheVariants.{Done, Unfinished}
+use Rattle.cli_stack.specs.Answer.{Answer}
+use Rattle.cli_stack.specs.Decides.{IsDone, IsNotDone}
 use Rattle.cli_stack.specs.FilesAndSizes.{IsReadable}
+use Rattle.cli_stack.specs.Kept.{IsRunEnd}
 use Rattle.stack_commands.specs.Commands.Turns.{word_count, round_line}
 
--- what a task means: the image of its source, and with which values of main's formals, with which condition and after how many
--- counted instructions its meaning is done
-pub record TaskMeaning : Type 0 where
+-- 1. The tasks.
+
+-- a source, its image, and the values of main's formals
+pub record TaskOf : Type 0 where
   pub source : SourceOf
   pub image : ImageOf
-  pub finals : List ValueOf
-  pub way : CurrentCondition
-  pub count : ℕ
+  pub values : List ValueOf
 
--- The files of a task are there, its source is built for stacks of these sizes and a window from this base on, the values fit, and
--- the meaning is done within the budget.
-pub record MeansTask (files : Files) (sizes : StackSizes) (budget base : ℕ) (names : TaskFiles) (task : TaskMeaning) : Type 0 where
+-- its files are there, the source is built for stacks of these sizes and a window from this base on, and the values fit
+pub record IsTask (files : Files) (sizes : StackSizes) (base : ℕ) (names : TaskFiles) (task : TaskOf) : Type 0 where
   pub text : List ℕ
   pub there : IsReadable files TaskSource names.source text
   pub read : source_in text ≡ Ok task.source
@@ -43,40 +40,60 @@ pub record MeansTask (files : Files) (sizes : StackSizes) (budget base : ℕ) (n
   pub same : found.image ≡ task.image
   pub values_text : List ℕ
   pub values_there : IsReadable files TaskValues names.values values_text
-  pub values : List ValueOf
-  pub gives : values_in task.image.slots values_text ≡ Ok values
-  pub done : Finishes task.source sizes values task.finals task.way task.count
-  pub within : task.count ≤ budget
+  pub gives : values_in task.image.slots values_text ≡ Ok task.values
 
 -- so it is of each task, in windows that lie side by side
-abbrev pub MeanTasks : Files → StackSizes → ℕ → ℕ → List TaskFiles → List TaskMeaning → Type 0
-MeanTasks files sizes budget base [] [] = Unit {0}
-MeanTasks files sizes budget base [] (task ∷ tasks) = ⊥
-MeanTasks files sizes budget base (names ∷ others) [] = ⊥
-MeanTasks files sizes budget base (names ∷ others) (task ∷ tasks) =
-    MeansTask files sizes budget base names task × MeanTasks files sizes budget (base + task.image.size) others tasks
+abbrev pub AreTasks : Files → StackSizes → ℕ → List TaskFiles → List TaskOf → Type 0
+AreTasks files sizes base [] [] = Unit {0}
+AreTasks files sizes base (names ∷ others) (task ∷ tasks) =
+    IsTask files sizes base names task × AreTasks files sizes (base + task.image.size) others tasks
+AreTasks files sizes base names tasks = ⊥
 
--- the round of each task, counted from i, and the report of its meaning, in order
-abbrev pub meanings_text : ℕ → ℕ → List TaskMeaning → List ℕ
-meanings_text turn i [] = []
-meanings_text turn i (task ∷ tasks) =
-    (round_line i (div_ceil task.count turn) ++ report_text task.image (meaning_shown task.source task.finals task.way) task.count)
-    ++ meanings_text turn (i + 1) tasks
+-- 2. What is told of them.
 
--- the answer is that all went well, and tells these meanings
-pub record TellsTasks (turn : ℕ) (tasks : List TaskMeaning) (answer : Answer) : Type 0 where
-  pub status : answer.status ≡ Done
-  pub text : answer.text ≡ meanings_text turn 0 tasks
+-- the round in which it is over, by the instructions that it makes, and then what `run` answers of it alone: its meaning, or `unfinished`
+pub record TellsTask (sizes : StackSizes) (turn budget i : ℕ) (task : TaskOf) (text : List ℕ) : Type 0 where
+  pub alone : Answer
+  pub made : ℕ
+  pub told : text ≡ round_line i (div_ceil made turn) ++ alone.text
+  pub either : ((done : IsDone task.source sizes task.image task.values budget alone) × (made ≡ done.count))
+      ⊎ (IsNotDone task.source sizes task.values budget alone × (made ≡ budget))
 
--- where there are 1 to 8 tasks, as the words have them, and their windows have at most 2^20 words together
-abbrev pub TellsEach : Option Command → Files → Answer → Type 0
-TellsEach (Some (Turns turn budget control temporary names)) files answer =
-    (tasks : List TaskMeaning) → 1 ≤ length names → length names ≤ 8 → MeanTasks files (stack_sizes control temporary) budget 0 names tasks
-    → word_count (map (λ task. task.image) tasks) ≤ most_window
-    → TellsTasks turn tasks answer
+-- tasks that are counted from i, one after the other
+abbrev pub TellsInTurn : StackSizes → ℕ → ℕ → ℕ → List TaskOf → List ℕ → Type 0
+TellsInTurn sizes turn budget i [] text = text ≡ []
+TellsInTurn sizes turn budget i (task ∷ tasks) text =
+    (first : List ℕ) × (others : List ℕ) × (text ≡ first ++ others)
+    × TellsTask sizes turn budget i task first × TellsInTurn sizes turn budget (i + 1) tasks others
+
+-- the meaning of the task is done within the budget
+pub record IsDoneWithin (sizes : StackSizes) (budget : ℕ) (task : TaskOf) : Type 0 where
+  pub finals : List ValueOf
+  pub way : CurrentCondition
+  pub count : ℕ
+  pub meant : Finishes task.source sizes task.values finals way count
+  pub within : count ≤ budget
+
+-- the status is 0 where all tasks are done within the budget, and else 5
+pub record TellsTasks (sizes : StackSizes) (turn budget : ℕ) (tasks : List TaskOf) (answer : Answer) : Type 0 where
+  pub text : TellsInTurn sizes turn budget 0 tasks answer.text
+  pub ends : (answer.status ≡ Done) ⊎ (answer.status ≡ Unfinished)
+  pub done : answer.status ≡ Done → All (IsDoneWithin sizes budget) tasks
+  pub all : All (IsDoneWithin sizes budget) tasks → answer.status ≡ Done
+
+-- the files are those of tasks, whose windows have at most 2^20 words together
+pub record HasTasks (files : Files) (sizes : StackSizes) (names : List TaskFiles) : Type 0 where
+  pub tasks : List TaskOf
+  pub are : AreTasks files sizes 0 names tasks
+  pub fit : word_count (map (λ task. task.image) tasks) ≤ most_window
+
+pub record TellsTurns (files : Files) (sizes : StackSizes) (turn budget : ℕ) (names : List TaskFiles) (answer : Answer) : Type 0 where
+  -- at status 0, 5 or 6 all were ready
+  pub ready : IsRunEnd answer.status → HasTasks files sizes names
+  -- where all are ready, they are told so, and the status is 0 or 5
+  pub told : (is : HasTasks files sizes names) → TellsTasks sizes turn budget is.tasks answer
+
+abbrev pub TellsEach : Command → Files → Answer → Type 0
+TellsEach (Turns turn budget control temporary names) files answer =
+    TellsTurns files (stack_sizes control temporary) turn budget names answer
 TellsEach _ files answer = Unit {0}
-
--- so is the answer to these words, where the files are known
-abbrev pub EachTaskIsTold : List (List ℕ) → List Watching → Option Files → Type 0
-EachTaskIsTold words watches None = Unit {0}
-EachTaskIsTold words watches (Some files) = TellsEach (command_of words) files (answer words watches files)

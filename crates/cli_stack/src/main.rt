@@ -2,6 +2,7 @@
 #![tactic(auto)]
 
 mod driver;
+mod laws;
 mod program;
 #[cfg(test)]
 mod tests;

@@ -2,17 +2,16 @@
 ghost use Rattle.std.specs.Prelude.{map};
 ghost use Rattle.level_debuggers.specs.Tallies.{watching};
 ghost use Rattle.command_line.specs.CommandWords.{spelled};
-ghost use Rattle.cli_stack.specs.Turns.{EachTaskIsTold};
-ghost use Rattle.cli_stack.specs.Endless.{EndlessStaysOn};
-ghost use Rattle.cli_stack.specs.Explains.{Explains};
+ghost use Rattle.cli_stack.specs.AnswerMeans.{AnswersMean};
 ghost use Rattle.cli_stack.specs.World.{world};
 ghost use Rattle.cli_stack.specs.Promises.{Promises};
+ghost use Rattle.cli_stack.specs.RepliesTo.{devices_of};
 
 use crate::driver::{conclude, run_words};
 use debug_moments::moments_are_said;
 use fm_machine::Machine;
-use level_debuggers::{Watch, scripts_walk};
-use stack_build::{builds_implement, placed_are_words};
+use level_debuggers::{Watch, runs_walk, scripts_walk};
+use stack_build::{builds_implement, placed_are_words, runs_are_meant};
 use stack_shelf::{Shelf, Sink};
 use std::alloc::Global;
 
@@ -24,8 +23,8 @@ use std::alloc::Global;
 /// and is as it was in every other case. `watches` are those that a debug session may attach; no other command looks at
 /// them.
 ///
-/// `Status` lists the exit statuses, and `docs/cli.md` when each of them occurs. `specs/Promises.antt` has the promises
-/// one by one, under the names of its fields.
+/// `Status` lists the exit statuses, and `docs/cli.md` when each of them occurs. `specs/Promises.antt` has what the program
+/// does with its devices, and `specs/AnswerMeans.antt` what its answers mean, each one by one, under the names of its fields.
 pub fn cli<S: Shelf, K: Sink>(
     alloc: Global,
     words: &[String],
@@ -34,23 +33,21 @@ pub fn cli<S: Shelf, K: Sink>(
     kept: &mut Option<Machine>,
     watches: Vec<Box<dyn Watch>>,
 ) -> u8
-    ensures promises { Promises (spelled words.now) (map (λ w. watching (rule_of w) (tally_of w)) watches.items)
+    // It does with its devices what is answered, and what a failure of theirs leaves is told.
+    ensures promises { Promises
+        (devices_of S.gave S.got K.took shelf.old shelf.new out.old out.new)
+        (spelled words.now) (map (λ w. watching (rule_of w) (tally_of w)) watches.items)
         (world (S.files shelf.old) (S.counts shelf.old) (K.taken out.old) (K.faults out.old) kept.old)
         (world (S.files shelf.new) (S.counts shelf.new) (K.taken out.new) (K.faults out.new) kept.new)
         result }
-    // Where a source never ends, the answer is `unfinished`, whatever the budget.
-    ensures endless { EndlessStaysOn (spelled words.now) (map (λ w. watching (rule_of w) (tally_of w)) watches.items)
-        (S.files shelf.old) }
-    // Where the source's step machine comes to a state, a session says it.
-    ensures explains { Explains (spelled words.now) (map (λ w. watching (rule_of w) (tally_of w)) watches.items)
-        (S.files shelf.old) }
-    // Sources whose images take turns are told each as it is alone.
-    ensures turns { EachTaskIsTold (spelled words.now) (map (λ w. watching (rule_of w) (tally_of w)) watches.items)
-        (S.files shelf.old) }
+    // What is answered means what the texts of the files mean, whatever these are.
+    ensures means { AnswersMean (spelled words.now) (map (λ w. watching (rule_of w) (tally_of w)) watches.items) }
 {
     builds_implement();
+    runs_are_meant();
     placed_are_words();
     scripts_walk();
+    runs_walk();
     moments_are_said();
     let ran = run_words(alloc, words, shelf, watches);
     conclude(alloc, ran, out, kept).code()

@@ -1,14 +1,15 @@
 -- Why a command ended early, over several files.
-use Rattle.std.proofs.Common.{◌≡◌, ◌≤◌, ◌<◌, ℕ, List, length, get_or, map, arith, ◌∙◌, ap, sym}
+use Rattle.std.proofs.Common.{◌≡◌, ◌≤◌, ◌<◌, ◌++◌, ℕ, List, [], length, get_or, map, drop, arith, ◌∙◌, ap, sym, append-nil}
 use Rattle.std.specs.Prelude.{Contains}
-use Rattle.std.proofs.lemmas.List.{length-map, get_or-map}
+use Rattle.std.proofs.lemmas.List.{length-map, get_or-map, drop_all}
 use Rattle.stack_shelf.specs.Causes.{Counts, Rose, NoneFell}
 use Rattle.command_line.specs.declared.early_end.EarlyEnd.{EarlyEnd}
 use Rattle.command_line.specs.declared.early_end.EarlyEnd.TheVariants.{Missing, TooLong, ShelfFault, OutOfMemory}
 use Rattle.command_line.specs.declared.role.Role.{Role}
 use Rattle.command_line.specs.declared.role.RoleFile.{RoleFile}
 use Rattle.command_line.specs.CommandFiles.{names_of}
-use Rattle.command_line.specs.Devices.{EndsAt, EndsAtOne}
+use Rattle.command_line.specs.Devices.{EndsAt, EndsAtOne, gave_each}
+use Rattle.command_line.specs.Gathered.{Texts}
 
 pub rose_from : (before mid after : ℕ) → before ≤ mid → Rose mid after → Rose before after
 rose_from before mid after le rose = omega arith
@@ -31,3 +32,13 @@ ends_at_input before mid after inputs i input name end fell lt is named ends =
     let at : get_or (map second (map pair inputs)) i name ≡ name =
     get_or-map second (map pair inputs) i (pair input) name lt' ∙ ap second (get_or-map pair inputs i input (pair input) lt) ∙ ap (λ (i : RoleFile). i.name.now) (sym is) ∙ sym named in
     among before mid after _ name end fell (i, rw length-map lt', at) ends
+
+-- where no file is left, the shelf is what it is after it gave all texts
+pub gave_all : {S : Type 0} (gave : S → List ℕ → List ℕ → S) (before now : S) (inputs : List RoleFile) (i : ℕ) (texts : Texts) → length inputs ≤ i
+    → ((more : Texts) → gave_each gave before (map (λ (input : RoleFile). (input.role, input.name.now)) inputs) (texts ++ more)
+    ≡ gave_each gave now (map (λ (input : RoleFile). (input.role, input.name.now)) (drop i inputs)) more)
+    → now ≡ gave_each gave before (map (λ (input : RoleFile). (input.role, input.name.now)) inputs) texts
+gave_all gave before now inputs i texts le so_far =
+    let pair : RoleFile → Role × List ℕ = λ f. (f.role, f.name.now) in
+    sym (ap (λ (left : List RoleFile). gave_each gave now (map pair left) []) (drop_all i inputs le)) ∙ sym (so_far [])
+    ∙ ap (gave_each gave before (map pair inputs)) (append-nil texts)

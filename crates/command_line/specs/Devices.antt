@@ -5,6 +5,8 @@ use Rattle.stack_shelf.specs.Causes.{Counts, Rose}
 use Rattle.stack_shelf.specs.Shelf.{PartlyStored}
 use Rattle.command_line.specs.declared.early_end.EarlyEnd.{EarlyEnd}
 use Rattle.command_line.specs.declared.early_end.EarlyEnd.TheVariants.{Missing, TooLong, ShelfFault, OutOfMemory}
+use Rattle.command_line.specs.declared.role.Role.{Role}
+use Rattle.command_line.specs.Gathered.{Texts}
 
 -- what a call returned, seen by view, is what the definition gives, unless the shelf failed or memory ran out
 abbrev pub GivesOrEndsEarly : {X Y : Type 0} → (X → Y) → Result X EarlyEnd → Result Y EarlyEnd → Type 0
@@ -25,6 +27,12 @@ EndsAt before after name OutOfMemory = Unit {0}
 abbrev pub EndsAtOne : Counts → Counts → List (List ℕ) → EarlyEnd → Type 0
 EndsAtOne before after names OutOfMemory = Unit {0}
 EndsAtOne before after names end = (name : List ℕ) × Contains names name × EndsAt before after name end
+
+-- what a shelf is after it gave these texts for these files, each by a fetch of its own
+abbrev pub gave_each : {S : Type 0} → (S → List ℕ → List ℕ → S) → S → List (Role × List ℕ) → Texts → S
+gave_each gave shelf [] texts = shelf
+gave_each gave shelf (file ∷ files) [] = shelf
+gave_each gave shelf (file ∷ files) (text ∷ texts) = gave_each gave (gave shelf file.1 text.1) files texts
 
 -- what a store that failed, or whose fault could not be named, leaves
 abbrev pub LeavesPart : Option Files → Option Files → Counts → Counts → List ℕ → List ℕ → Type 0

@@ -1,5 +1,5 @@
 -- The texts that a command reads, where all files are known and no device fails.
-use Rattle.std.specs.Prelude.{◌≡◌, ◌≤◌, ℕ, List, [], ◌∷◌, length, Some, Result, Ok, Err, if◌then◌else◌}
+use Rattle.std.specs.Prelude.{◌≡◌, ◌≤◌, ℕ, List, [], ◌∷◌, length, map, All, Some, Result, Ok, Err, if◌then◌else◌}
 use Rattle.stack_text.specs.Results.{◌>>=◌}
 use Rattle.stack_shelf.specs.Files.{Files, file_at}
 use Rattle.stack_shelf.specs.Shelf.{Refusal, Missing, TooLong, fetched}
@@ -27,6 +27,14 @@ AreRead files role [] [] = Unit {0}
 AreRead files role (name ∷ names) (text ∷ texts) =
     (file_at files name ≡ Some text) × (length text ≤ limit_of role) × AreRead files role names texts
 AreRead files role names texts = ⊥
+
+-- the roles of files, or of their texts
+abbrev pub roles_of : List (Role × List ℕ) → List Role
+roles_of files = map (λ (file : Role × List ℕ). file.0) files
+
+-- each is within the limit of its role
+abbrev pub AreShort : Texts → Type 0
+AreShort texts = All (λ (text : Role × List ℕ). length text.1 ≤ limit_of text.0) texts
 
 -- a file that can't be fetched ends the command
 abbrev pub text_or_end : Role × List ℕ → Result (List ℕ) Refusal → Result (List ℕ) EarlyEnd

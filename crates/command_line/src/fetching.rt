@@ -3,9 +3,9 @@ ghost use Rattle.std.specs.Prelude.{◌≡◌, ◌≤◌, IfErr, IfOk, IfSome, l
 ghost use Rattle.stack_shelf.specs.Causes.{NoneFell};
 ghost use Rattle.stack_shelf.specs.Shelf.{fetched};
 ghost use Rattle.command_line.specs.Roles.{limit_of};
-ghost use Rattle.command_line.specs.Gathered.{text_or_end, gathered};
+ghost use Rattle.command_line.specs.Gathered.{AreShort, roles_of, text_or_end, gathered};
 ghost use Rattle.command_line.specs.CommandFiles.{names_of};
-ghost use Rattle.command_line.specs.Devices.{GivesOrEndsEarly, EndsAt, EndsAtOne};
+ghost use Rattle.command_line.specs.Devices.{GivesOrEndsEarly, EndsAt, EndsAtOne, gave_each};
 
 use crate::early_end::EarlyEnd;
 use crate::role::{Role, RoleFile};
@@ -20,6 +20,7 @@ fn fetch<S: Shelf>(alloc: Global, shelf: &mut S, role: Role, name: &str) -> Resu
         GivesOrEndsEarly (λ text. text) result
         (text_or_end (role, name.now) (fetched files name.now (limit_of role)))) }
     ensures within { IfOk result (λ text. length text ≤ limit_of role) }
+    ensures gave { IfOk result (λ text. shelf.new ≡ S.gave shelf.old name.now text) }
     ensures cause { IfErr result (EndsAt (S.counts shelf.old) (S.counts shelf.new) name.now) }
     ensures files { S.files shelf.new ≡ S.files shelf.old }
     ensures counts { NoneFell (S.counts shelf.old) (S.counts shelf.new) }
@@ -51,6 +52,11 @@ pub fn gather<S: Shelf>(
 ) -> Result<Texts, EarlyEnd>
     ensures texts { IfSome (S.files shelf.old) (λ files. GivesOrEndsEarly (λ texts. texts) result
         (gathered files (map (λ input. (input.role, input.name.now)) inputs.now))) }
+    ensures roles { IfOk result (λ texts.
+        roles_of texts ≡ roles_of (map (λ input. (input.role, input.name.now)) inputs.now)) }
+    ensures short { IfOk result AreShort }
+    ensures gave { IfOk result (λ texts. shelf.new ≡ gave_each S.gave shelf.old
+        (map (λ input. (input.role, input.name.now)) inputs.now) texts) }
     ensures cause { IfErr result (EndsAtOne (S.counts shelf.old) (S.counts shelf.new)
         (names_of (map (λ input. (input.role, input.name.now)) inputs.now))) }
     ensures files { S.files shelf.new ≡ S.files shelf.old }

@@ -1,5 +1,5 @@
 //! Commands and what is around them: the words of a command line, the files that a command reads and writes, printing, and exit
-//! statuses. It knows of no language; what a command makes of its texts is `cli_stack`'s.
+//! statuses. It knows of no language; what a command makes of its texts is `stack_commands`'.
 #![tactic(auto)]
 
 mod command;

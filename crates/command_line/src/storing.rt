@@ -20,6 +20,7 @@ pub fn save<S: Shelf>(
     bytes: &[u8],
 ) -> Result<(), EarlyEnd>
     ensures ok { OnOk result (S.files shelf.new ≡ stored (S.files shelf.old) name.now bytes.now) }
+    ensures got { OnOk result (shelf.new ≡ S.got shelf.old name.now bytes.now) }
     ensures err { IfErr result (λ _. LeavesPart (S.files shelf.old) (S.files shelf.new)
         (S.counts shelf.old) (S.counts shelf.new) name.now bytes.now) }
     ensures cause { IfErr result (IsFaultAt (S.counts shelf.old) (S.counts shelf.new) name.now) }

@@ -16,12 +16,11 @@ use Rattle.piton_machine.specs.Addresses.{Addresses, numbers, word_number}
 use Rattle.piton_machine.specs.Placed.{address_of_place, addresses_of, areas_start}
 use Rattle.piton_machine.specs.State.{PitonState, element, locals_of}
 use Rattle.gypsy_syntax.specs.Effects.{value_at}
-use Rattle.gypsy_syntax.specs.ProgramFits.{ValueFits}
+use Rattle.gypsy_syntax.specs.ValuesFit.{ValueFits, VarsFit}
 use Rattle.gypsy_syntax.specs.Programs.{Program, proc_at, shapes_of}
 use Rattle.gypsy_syntax.specs.Resolved.{program_of}
 use Rattle.gypsy_syntax.specs.Sources.{SourceOf}
 use Rattle.gypsy_space.specs.Needs.{StackSizes}
-use Rattle.gypsy_meaning.specs.Kept.{VarsFit}
 use Rattle.gypsy_meaning.specs.Machine.{Frame, Item}
 use Rattle.gypsy_meaning.specs.Seen.RunView.{top_way}
 use Rattle.gypsy_meaning.proofs.EffectLaws.{value_fits}
@@ -65,14 +64,18 @@ first_word start n =
     let zero_on : start - start ≡ 0 = omega arith in
     ap (λ (b : Bool). if b then None else slice_get (n ∷ []) (start - start)) (le-ltb start start (omega arith)) ∙ ap (slice_get (n ∷ [])) zero_on
 
+-- the word of the one area with this word
+pub condition_at : (s : SystemView) (a : PitonState) (n : ℕ) → a.areas ≡ (Nat n ∷ []) ∷ [] → area_number s a (areas_start s) ≡ Some n
+condition_at s a n is =
+    ap (λ (areas : List (List Word)). word_at (areas_start s) (numbers (addresses_of s) (flat_map (λ area. area) areas)) (areas_start s)) is
+    ∙ first_word (areas_start s) n
+
 module _ (q : Program) (s : SystemView) (a : PitonState) (p : ℕ) (x : List ValueOf) (w : List Item) (fs : List Frame) (reads : ReadsAs q a p x w fs) where
   address_is : (piton_at s a).address ≡ address_of_place s p (mark_of q p w)
   address_is = ap (λ (i : ℕ). address_of_place s i a.place) reads.program ∙ ap (address_of_place s p) reads.place
 
   condition_is : area_number s a (areas_start s) ≡ Some (number_of_way (top_way w))
-  condition_is =
-      ap (λ (areas : List (List Word)). word_at (areas_start s) (numbers (addresses_of s) (flat_map (λ area. area) areas)) (areas_start s)) reads.condition
-      ∙ first_word (areas_start s) (number_of_way (top_way w))
+  condition_is = condition_at s a (number_of_way (top_way w)) reads.condition
 
   variable_is : (b : ℕ) (v : ValueOf) → ValueFits v → VariableStands q a p b v → ShowsVariable (piton_at s a) (offset q p b) v
   variable_is b v fits var = record {

@@ -1,9 +1,10 @@
 -- What a session's `up` says where the step machine of the source has come to a state.
-use Rattle.std.specs.Prelude.{◌≡◌, ℕ, List, IsTrue, Ok}
+use Rattle.std.specs.Prelude.{◌≡◌, ◌≤◌, ℕ, List, IsTrue, Ok}
 use Rattle.stack_text.specs.Values.{ValueOf}
 use Rattle.fm_image.specs.Image.{ImageOf}
 use Rattle.fm_loader.specs.Loaded.{loaded}
 use Rattle.display_maps.specs.ReadingAt.{reading_at_text}
+use Rattle.display_maps.specs.Report.{lines_of_reading}
 use Rattle.piton_check.specs.PitonChecking.{CheckedOf}
 use Rattle.piton_machine.specs.Fits.{system_in}
 use Rattle.piton_machine.specs.Seen.StateView.{opening}
@@ -11,19 +12,22 @@ use Rattle.gypsy_syntax.specs.Resolved.{program_of}
 use Rattle.gypsy_syntax.specs.Sources.{SourceOf}
 use Rattle.gypsy_check.specs.Accepted.{IsAccepted}
 use Rattle.gypsy_space.specs.Needs.{StackSizes}
-use Rattle.gypsy_meaning.specs.Machine.{State, At, Next}
+use Rattle.gypsy_space.specs.Costs.{Tally}
+use Rattle.gypsy_meaning.specs.Calls.{CurrentCondition}
+use Rattle.gypsy_meaning.specs.Machine.{State, At, Next, Ended}
 use Rattle.gypsy_meaning.specs.Seen.RunView.{spent_at}
 use Rattle.gypsy_codegen.specs.Generated.{generated_view}
 use Rattle.gypsy_codegen.specs.Moments.{moment_from}
 use Rattle.gypsy_codegen.specs.Whole.{SizesFit}
 use Rattle.stack_build.specs.Build.{BuiltOf, source_built}
 use Rattle.stack_build.specs.Image.{image_of, places_fit}
-use Rattle.stack_build.specs.Implements.{FitsFormals}
+use Rattle.stack_build.specs.Implements.{FitsFormals, meaning_shown}
 use Rattle.stack_build.specs.Moments.{KeepsMoments}
 use Rattle.stack_build.specs.SourceMoments.{moment_shown}
 use Rattle.stack_build.specs.Starts.{main_words}
-use Rattle.level_debuggers.specs.Levels.{LevelOf, Piton, Fm}
+use Rattle.level_debuggers.specs.Levels.{LevelOf, Piton, Fm, up_text}
 use Rattle.level_debuggers.specs.ScriptSteps.{SaysAfter}
+use Rattle.level_debuggers.specs.Walks.{walk}
 
 -- the steps of Piton to a state; those of the processor are `spent_at`
 abbrev pub steps_at : State → ℕ
@@ -76,3 +80,12 @@ BuiltSaysMoments =
     (source : SourceOf) (sizes : StackSizes) (j : ℕ) (built : BuiltOf) (values : List ValueOf) (g : State) → IsAccepted source →
     IsTrue (places_fit (program_of source)) → FitsFormals source values → source_built source sizes 0 ≡ Ok built →
     KeepsMoments built.image source sizes → moment_from (program_of source) sizes values j ≡ Next g → BothSay source built values g
+
+-- Where the step machine comes to its end, the run of the source's system says the meaning, after the counted steps and after any more.
+abbrev pub BuiltSaysEnds : Type 0
+BuiltSaysEnds =
+    (source : SourceOf) (sizes : StackSizes) (j n : ℕ) (built : BuiltOf) (values finals : List ValueOf) (way : CurrentCondition)
+    (spent : Tally) → IsAccepted source → FitsFormals source values → source_built source sizes 0 ≡ Ok built →
+    moment_from (program_of source) sizes values j ≡ Ended finals way spent → spent.steps ≤ n →
+    up_text (walk n (system_run source built.piton built.image values)).level
+    ≡ lines_of_reading built.image (meaning_shown source finals way)

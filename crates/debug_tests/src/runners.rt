@@ -6,7 +6,7 @@ ghost use Rattle.piton_machine.specs.Placed.{placed};
 ghost use Rattle.level_debuggers.specs.Levels.{IsRunner};
 
 use fm_image::{Image, read_image};
-use fm_loader::{load, read_values};
+use fm_loader::{load, read_image_values};
 use fm_machine::Machine;
 use gypsy_check::{Accepted, check as check_source};
 use gypsy_meaning::Meaning;
@@ -91,7 +91,7 @@ fn machine_of(alloc: Global, image: &Image, values: &[u8]) -> Result<Machine, Fa
     if values.len() > 1 << 31 {
         return Err(Fail::from("too long"));
     }
-    let values = read_values(alloc, values, &image.slots)?;
+    let values = read_image_values(alloc, values, image)?;
     Ok(load(alloc, image, &values)?)
 }
 

@@ -23,13 +23,13 @@ use Rattle.gypsy_syntax.specs.declared.slot.Form.TheVariants.{Simple, Array, Lit
 use Rattle.gypsy_syntax.specs.declared.slot.Slot.{Slot}
 use Rattle.gypsy_syntax.specs.Predefined.{slots_of, shared, integer_slot, predef_effect, predef_cost, predef_temp, predef_ctrl}
 use Rattle.gypsy_syntax.specs.Programs.{Routine, Arg, Var, Lit, Program, proc_at, body_of, shapes_of, simple, Apply}
-use Rattle.gypsy_syntax.specs.ProgramFits.{ArgFits, ArgsFit, ValueFits, slot_kind}
+use Rattle.gypsy_syntax.specs.ProgramFits.{ArgFits, ArgsFit, slot_kind}
+use Rattle.gypsy_syntax.specs.ValuesFit.{ValueFits, VarsFit}
 use Rattle.gypsy_syntax.specs.Effects.{Effect, Normal, Fault, Beyond, value_at, no_value}
 use Rattle.gypsy_space.specs.Costs.{Tally, spend, predef_spend}
 use Rattle.gypsy_space.specs.Needs.{StackSizes, temp_need, ctrl_need}
 use Rattle.gypsy_meaning.specs.Calls.{value_of, values_of, target_of}
 use Rattle.gypsy_meaning.specs.Machine.{Item, Do, Frame, apply_step, settle, raise}
-use Rattle.gypsy_meaning.specs.Kept.{VarsFit}
 use Rattle.gypsy_meaning.proofs.EffectLaws.{value_fits, apply_fits}
 use Rattle.gypsy_predef.specs.Bodies.{lengths_of}
 use Rattle.gypsy_predef.specs.Runs as runs

@@ -13,13 +13,14 @@ use Rattle.piton_machine.specs.State as piton
 use Rattle.gypsy_syntax.specs.Programs.{ConditionOf, Leave, Routine, Space, Declared, Program, proc_at, body_of, shapes_of, conds_of, Call}
 use Rattle.gypsy_syntax.specs.ProgramFits.{CallFits}
 use Rattle.gypsy_syntax.specs.Effects.{value_at}
+use Rattle.gypsy_syntax.specs.ValuesFit.{VarsFit}
 use Rattle.gypsy_space.specs.Costs.{Tally, spend, out_spend, main_spend}
 use Rattle.gypsy_space.specs.Needs.{StackSizes, temp_need, local_words, vars_of, with_call, call_need, has_temp_room, has_ctrl_room, lack_of, call_spend}
 use Rattle.gypsy_space.specs.declared.need.Lack.{Lack}
 use Rattle.gypsy_space.specs.declared.need.Lack.TheVariants.{Nothing, Temporary, Control}
 use Rattle.gypsy_meaning.specs.Calls.{CurrentCondition, copied_in, copied_out, is_passed_on, matching, main_way, main_formals}
 use Rattle.gypsy_meaning.specs.Machine.{Item, Do, Frame, Held, At, open_on, settle, raise, used}
-use Rattle.gypsy_meaning.specs.Kept.{VarsFit, in_loop, WorkFits}
+use Rattle.gypsy_meaning.specs.Kept.{in_loop, WorkFits}
 use Rattle.gypsy_meaning.specs.Room.{HasWords, CoversWork}
 use Rattle.gypsy_predef.specs.Runs.{push_all}
 use Rattle.gypsy_codegen.specs.WordsOf.{words_of_values, starts, local_shapes, number_of, number_of_way}

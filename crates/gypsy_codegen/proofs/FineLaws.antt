@@ -29,7 +29,9 @@ use Rattle.gypsy_syntax.specs.Predefined.{predefs, slots_of, predef_temp, predef
 use Rattle.gypsy_syntax.specs.Effects.{item_of_value}
 use Rattle.gypsy_syntax.specs.Programs.{ConditionOf, Leave, Routine, Space, Declared, Arg, Var, Lit, Proc, Program, simple, proc_at, body_of, shapes_of, conds_of, words_of}
 use Rattle.gypsy_syntax.specs.Programs.{Stmt, Skip, NoOp, Signal, Seq, Loop, If, Begin, Call, Apply}
-use Rattle.gypsy_syntax.specs.ProgramFits.{Each, is_in_range, ValueFits, CondFits, ActualsFit, ArgFits, ArgsFit, slot_kind, StmtFits, ProgramFits}
+use Rattle.gypsy_syntax.specs.ProgramFits.{Each, CondFits, ActualsFit, ArgFits, ArgsFit, slot_kind, StmtFits, ProgramFits}
+use Rattle.gypsy_syntax.specs.Ranges.{is_in_range}
+use Rattle.gypsy_syntax.specs.ValuesFit.{ValueFits}
 use Rattle.gypsy_space.specs.Needs.{greatest, statement_temp, statement_ctrl, local_words, vars_of, call_need}
 use Rattle.gypsy_space.proofs.SmallLaws.{length-words_of, item_count-positive, words_of-append}
 use Rattle.gypsy_meaning.specs.Calls.{has_cond, is_leave, is_passed_on}

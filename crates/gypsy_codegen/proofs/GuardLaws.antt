@@ -21,10 +21,10 @@ use Rattle.piton_machine.specs.Step.{piton_step, piton_run, cost_of, cost_from, 
 use Rattle.piton_machine.specs.Law.{Steps, none, more}
 use Rattle.piton_machine.proofs.RowLaws.{step_is, does_push, does_test_and_jump, does_apply}
 use Rattle.gypsy_syntax.specs.Programs.{Program, proc_at, shapes_of}
+use Rattle.gypsy_syntax.specs.ValuesFit.{VarsFit}
 use Rattle.gypsy_space.specs.Costs.{Tally, spend}
 use Rattle.gypsy_space.specs.Needs.{StackSizes, temp_need}
 use Rattle.gypsy_meaning.specs.Machine as machine
-use Rattle.gypsy_meaning.specs.Kept.{VarsFit}
 use Rattle.gypsy_codegen.specs.Guard.{below_code, temp_guard, ctrl_guard, guard_code}
 use Rattle.gypsy_codegen.specs.Showing.{HasAt}
 use Rattle.gypsy_codegen.specs.Generated.{generated_view, code_of}

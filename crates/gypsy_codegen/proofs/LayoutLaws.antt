@@ -12,12 +12,13 @@ use Rattle.piton_words.specs.declared.word.Word.TheVariants.{Nat}
 use Rattle.piton_machine.specs.State as piton
 use Rattle.piton_machine.specs.State.{element, ctrl_used}
 use Rattle.gypsy_syntax.specs.Programs.{Program, Proc, proc_at, shapes_of, words_of}
-use Rattle.gypsy_syntax.specs.ProgramFits.{ProgramFits, ValueFits}
+use Rattle.gypsy_syntax.specs.ProgramFits.{ProgramFits}
+use Rattle.gypsy_syntax.specs.ValuesFit.{ValueFits, VarsFit}
 use Rattle.gypsy_syntax.specs.Effects.{value_at, no_value}
 use Rattle.gypsy_space.specs.Needs.{main_used, with_call, vars_of}
 use Rattle.gypsy_meaning.specs.Calls.{copied_out}
 use Rattle.gypsy_meaning.specs.Machine.{Frame, Held, used}
-use Rattle.gypsy_meaning.specs.Kept.{VarsFit, FramesFit}
+use Rattle.gypsy_meaning.specs.Kept.{FramesFit}
 use Rattle.gypsy_meaning.proofs.EffectLaws.{value_fits}
 use Rattle.gypsy_predef.specs.Runs.{words_of_value, push_all, with_elements}
 use Rattle.gypsy_codegen.specs.WordsOf.{words_of_values, words_before, starts, local_shapes}

@@ -11,6 +11,7 @@ pub mod RowLaws
 pub mod RowCaseLaws
 pub mod RunLaws
 pub mod MomentLaws
+pub mod TraceLaws
 pub mod MarkLaws
 pub mod MarkOrderLaws
 pub mod MarkingLaws

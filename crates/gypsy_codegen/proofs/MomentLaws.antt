@@ -17,6 +17,7 @@ use Rattle.gypsy_syntax.specs.ProgramFits.{ProgramFits}
 use Rattle.gypsy_syntax.proofs.PredefLaws.{costs_some}
 use Rattle.gypsy_syntax.specs.Predefined.{predef_effect}
 use Rattle.gypsy_syntax.specs.Effects.{Effect, Normal, Fault, Beyond, value_at, is_true_value}
+use Rattle.gypsy_syntax.specs.ValuesFit.{VarsFit}
 use Rattle.gypsy_space.specs.Costs.{Tally, spend, predef_spend, out_spend, main_spend}
 use Rattle.gypsy_space.specs.Needs.{StackSizes, vars_of, lack_of, call_spend}
 use Rattle.gypsy_space.specs.declared.need.Lack.{Lack}
@@ -25,7 +26,7 @@ use Rattle.gypsy_meaning.specs.Calls.{CurrentCondition, has_cond, is_leave, is_p
 use Rattle.gypsy_meaning.specs.Machine.{Item, Do, Back, JoinThen, JoinOne, Guard, Out, Frame, Held, State, At, Move, Next, Ended}
 use Rattle.gypsy_meaning.specs.Machine.{opens, settle, open_on, stop_if, raise, either_move, apply_step, call_step, do_step}
 use Rattle.gypsy_meaning.specs.Machine.{gypsy_step, used, Ending, Over, Going, run, go_on, start}
-use Rattle.gypsy_meaning.specs.Kept.{VarsFit, FramesFit, StateFits, MoveFits}
+use Rattle.gypsy_meaning.specs.Kept.{FramesFit, StateFits, MoveFits}
 use Rattle.gypsy_meaning.specs.Seen.RunView.{spent_at, top_way}
 use Rattle.gypsy_meaning.proofs.Keeping.{step_keeps, start_fits}
 use Rattle.gypsy_meaning.proofs.Runs.{agree}
@@ -47,7 +48,7 @@ use Rattle.gypsy_codegen.proofs.RunLaws.{counts, counted_runs, each_is_shown, pl
 
 module _ (q : Program) (sizes : StackSizes) where
   -- a state at which it stands is reached
-  moment_reached : (j : ℕ) (g h : State) → moment q sizes j g ≡ Next h → Reached q sizes g h
+  pub moment_reached : (j : ℕ) (g h : State) → moment q sizes j g ≡ Next h → Reached q sizes g h
   moment_reached zero g h e = let is : g ≡ h = cc in subst (λ (k : State). Reached q sizes g k) is same
   moment_reached (suc j) g h e = by_move (gypsy_step q sizes g) refl e (λ k f. moment_reached j k h f)
     where
@@ -94,7 +95,7 @@ locals_number p = length-map p.locals (λ (v : ValueOf). v.shape)
 
 module _ (q : Program) where
   -- the newest frame has a local for each variable
-  frame_number : (p : ℕ) (fs : List Frame) → FramesFit q p fs → length (index_words (frame_of q p fs)) ≡ vars_of (proc_at q p)
+  pub frame_number : (p : ℕ) (fs : List Frame) → FramesFit q p fs → length (index_words (frame_of q p fs)) ≡ vars_of (proc_at q p)
   frame_number p [] g =
       let d = proc_at q p in
       omega (arith, length-map (starts 0 (shapes_of d)) (λ n. Nat n), starts-length 0 (shapes_of d), length-append d.formals (local_shapes d), locals_number d)

@@ -13,10 +13,11 @@ use Rattle.piton_machine.specs.State as piton
 use Rattle.piton_machine.specs.State.{locals_of}
 use Rattle.gypsy_syntax.specs.Programs.{Program, proc_at, shapes_of, words_of, Arg, Var, Lit}
 use Rattle.gypsy_syntax.specs.ProgramFits.{ProgramFits}
+use Rattle.gypsy_syntax.specs.ValuesFit.{VarsFit}
 use Rattle.gypsy_space.specs.Costs.{Tally, spend}
 use Rattle.gypsy_space.specs.Needs.{StackSizes, temp_need, ctrl_need}
 use Rattle.gypsy_meaning.specs.Machine.{Frame, Held, used}
-use Rattle.gypsy_meaning.specs.Kept.{VarsFit, FramesFit}
+use Rattle.gypsy_meaning.specs.Kept.{FramesFit}
 use Rattle.gypsy_meaning.specs.Room.{HasWords, HaveWords}
 use Rattle.gypsy_predef.specs.Runs.{push_all}
 use Rattle.gypsy_predef.specs.Calls.{PredefCallRuns, ArgumentsHold, ValuesKept}

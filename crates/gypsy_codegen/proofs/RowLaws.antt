@@ -15,7 +15,8 @@ use Rattle.piton_machine.specs.State as piton
 use Rattle.piton_machine.specs.State.{PitonState, element}
 use Rattle.gypsy_syntax.specs.Programs.{ConditionOf, Program, proc_at, body_of, shapes_of, conds_of, simple}
 use Rattle.gypsy_syntax.specs.Programs.{Stmt, Skip, NoOp, Signal, Seq, Loop, If, Begin, Call, Apply}
-use Rattle.gypsy_syntax.specs.ProgramFits.{StmtFits, ValueFits}
+use Rattle.gypsy_syntax.specs.ProgramFits.{StmtFits}
+use Rattle.gypsy_syntax.specs.ValuesFit.{ValueFits, VarsFit}
 use Rattle.gypsy_syntax.specs.Predefined.{predef_effect}
 use Rattle.gypsy_syntax.specs.Effects.{value_at, is_true_value, item_of_value}
 use Rattle.gypsy_space.specs.Costs.{Tally, spend}
@@ -24,7 +25,7 @@ use Rattle.gypsy_space.specs.declared.need.Lack.{Lack}
 use Rattle.gypsy_space.specs.declared.need.Lack.TheVariants.{Nothing, Temporary, Control}
 use Rattle.gypsy_meaning.specs.Calls.{values_of}
 use Rattle.gypsy_meaning.specs.Machine.{Item, Do, Back, JoinThen, JoinOne, Guard, Out, Frame, Held, State, At, Next, open_on, settle, either_move, call_step, used, do_step, end_step, out_step, gypsy_step}
-use Rattle.gypsy_meaning.specs.Kept.{VarsFit, in_loop, WorkFits}
+use Rattle.gypsy_meaning.specs.Kept.{in_loop, WorkFits}
 use Rattle.gypsy_meaning.specs.Room.{Covers, CoversWork}
 use Rattle.gypsy_meaning.proofs.EffectLaws.{value_fits}
 use Rattle.gypsy_predef.specs.Runs.{word_of_item, words_of_value}

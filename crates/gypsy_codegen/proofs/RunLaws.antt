@@ -18,7 +18,7 @@ use Rattle.gypsy_space.specs.Costs.{Tally, spend, start_tally}
 use Rattle.gypsy_space.specs.Needs.{StackSizes}
 use Rattle.gypsy_meaning.specs.Calls.{CurrentCondition, main_start}
 use Rattle.gypsy_meaning.specs.Machine.{Item, Do, Back, JoinThen, JoinOne, Guard, Out, Frame, State, At, Move, Next, Ended, Ending, Over, Going, go_on, run, gypsy_step, start, open_on}
-use Rattle.gypsy_meaning.specs.Kept.{VarsFit, StateFits, MoveFits}
+use Rattle.gypsy_meaning.specs.Kept.{StateFits, MoveFits}
 use Rattle.gypsy_meaning.specs.Room.{StateRoom, MoveRoom}
 use Rattle.gypsy_meaning.specs.Counted.{counted_meaning}
 use Rattle.gypsy_meaning.proofs.CountLaws.{meaning-uncounted}
@@ -38,6 +38,7 @@ use Rattle.std.proofs.lemmas.Bool.{lt-ltb}
 use Rattle.piton_words.specs.declared.word.Word.{Word}
 use Rattle.gypsy_syntax.specs.Programs.{ConditionOf}
 use Rattle.gypsy_syntax.specs.Effects.{value_at}
+use Rattle.gypsy_syntax.specs.ValuesFit.{VarsFit}
 use Rattle.gypsy_meaning.specs.Calls.{copied_out}
 use Rattle.gypsy_meaning.specs.Machine.{Held, used}
 use Rattle.gypsy_meaning.specs.Kept.{FramesFit}
@@ -193,7 +194,7 @@ variables_stand q a p x w fs t b shape sf sh e h u g =
 
 -- Activations that wait.
 
-stack_grows : (q : Program) (p c : ℕ) (x y : List ValueOf) (w : List Item) (xs : List ℕ) (cs : List ConditionOf) (fs : List Frame) (j : ℕ) → j < length (stack_of q c (copied_out xs y x) fs) → element (stack_of q p y (Held c x w xs cs ∷ fs)) j ≡ element (stack_of q c (copied_out xs y x) fs) j
+pub stack_grows : (q : Program) (p c : ℕ) (x y : List ValueOf) (w : List Item) (xs : List ℕ) (cs : List ConditionOf) (fs : List Frame) (j : ℕ) → j < length (stack_of q c (copied_out xs y x) fs) → element (stack_of q p y (Held c x w xs cs ∷ fs)) j ≡ element (stack_of q c (copied_out xs y x) fs) j
 stack_grows q p c x y w xs cs fs j h = below_pushed (words_of_values (drop (length (proc_at q p).formals) y)) (stack_of q c (copied_out xs y x) fs) j h
 
 waiting_stand : (q : Program) (fs : List Frame) (p : ℕ) (y : List ValueOf) (stack : List Word) → VarsFit (shapes_of (proc_at q p)) y → FramesFit q p fs → ((j : ℕ) → j < length (stack_of q p y fs) → element stack j ≡ element (stack_of q p y fs) j) → WaitingStand q stack fs

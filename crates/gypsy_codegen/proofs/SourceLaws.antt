@@ -18,9 +18,9 @@ use Rattle.gypsy_syntax.specs.Keywords.{keyword_name, form_named, predef_named}
 use Rattle.gypsy_syntax.specs.Sources.{LocalOf, ProcOf, SourceOf}
 use Rattle.gypsy_syntax.specs.Programs.{Program}
 use Rattle.gypsy_syntax.specs.Predefined.{predefs, predef_name}
-use Rattle.gypsy_syntax.specs.Resolved.{variable_names, variable_types, procedure_names}
+use Rattle.gypsy_syntax.specs.Resolved.{variable_names, variable_types, procedure_names, procedure_named}
 use Rattle.gypsy_syntax.specs.ProgramFits.{Each}
-use Rattle.gypsy_check.specs.Declarations.{procedure_named, is_predefined, variables_of, repeats}
+use Rattle.gypsy_check.specs.Declarations.{is_predefined, variables_of, repeats}
 use Rattle.gypsy_check.specs.Rules.{type_breaches, local_breaches, condition_name_breaches, size_breaches, statement_breaches}
 use Rattle.gypsy_check.specs.Rules.{variable_breaches, procedure_breaches, name_breaches, main_breaches, violations}
 use Rattle.gypsy_check.proofs.CleanLaws.{three, four}

@@ -9,9 +9,8 @@ use Rattle.piton_words.specs.declared.word.Word.{Word}
 use Rattle.piton_machine.specs.State.{element, with_element}
 use Rattle.piton_machine.proofs.ElementLaws.{element_top, element_below, with_element_top, with_element_below}
 use Rattle.gypsy_syntax.specs.Programs.{words_of}
-use Rattle.gypsy_syntax.specs.ProgramFits.{ValueFits}
+use Rattle.gypsy_syntax.specs.ValuesFit.{ValueFits, VarsFit}
 use Rattle.gypsy_syntax.specs.Effects.{value_at}
-use Rattle.gypsy_meaning.specs.Kept.{VarsFit}
 use Rattle.gypsy_predef.specs.Runs.{word_of_item, words_of_value, push_all, with_elements}
 use Rattle.gypsy_codegen.specs.WordsOf.{words_of_values, words_before, starts}
 

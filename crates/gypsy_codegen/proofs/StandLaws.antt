@@ -20,10 +20,10 @@ use Rattle.gypsy_space.specs.Costs.{Tally, spend}
 use Rattle.gypsy_space.specs.Needs.{StackSizes, temp_need, local_words, call_need}
 use Rattle.gypsy_meaning.specs.Calls.{has_cond, is_leave}
 use Rattle.gypsy_meaning.specs.Machine.{Item, Do, Back, JoinThen, JoinOne, Guard, Out, Frame, State, At, opens, open_on, settle, stop_if, raise}
-use Rattle.gypsy_meaning.specs.Kept.{VarsFit}
 use Rattle.gypsy_codegen.specs.WordsOf.{number_of, words_of_values, local_shapes}
 use Rattle.gypsy_predef.specs.Bodies.{lengths_of}
 use Rattle.gypsy_syntax.specs.Predefined.{can_fail}
+use Rattle.gypsy_syntax.specs.ValuesFit.{VarsFit}
 use Rattle.gypsy_predef.specs.Calls.{test_code}
 use Rattle.gypsy_codegen.specs.Guard.{guard_code, guard_size}
 use Rattle.gypsy_codegen.specs.Generated.{Scope, InLoop, InBegin, target, raise_code, back_code, raises, after_size, after_code, push_words, push_indices, push_actuals, push_args, before_size, length_code, predef_position, test_size, size, gen, tail_code, code_of, generated_view}

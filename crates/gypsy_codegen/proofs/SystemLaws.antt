@@ -27,7 +27,9 @@ use Rattle.gypsy_syntax.specs.Sources.{ProcOf, SourceOf}
 use Rattle.gypsy_syntax.specs.Predefined.{predefs, predef_name}
 use Rattle.gypsy_syntax.specs.Programs.{Program, proc_at, shapes_of, words_of}
 use Rattle.gypsy_syntax.specs.Resolved.{procedure_of, program_of, procedure_names}
-use Rattle.gypsy_syntax.specs.ProgramFits.{Each, is_in_range, ValueFits, ProgramFits}
+use Rattle.gypsy_syntax.specs.ProgramFits.{Each, ProgramFits}
+use Rattle.gypsy_syntax.specs.Ranges.{is_in_range}
+use Rattle.gypsy_syntax.specs.ValuesFit.{ValueFits}
 use Rattle.gypsy_space.specs.Needs.{StackSizes, vars_of, frame_of, temp_need, ctrl_need, main_used, main_need}
 use Rattle.gypsy_check.specs.Rules.{procedure_breaches, violations as source_violations}
 use Rattle.gypsy_check.proofs.CleanLaws.{at_place}

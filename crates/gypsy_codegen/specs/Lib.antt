@@ -14,6 +14,7 @@ pub mod Law
 pub mod StepRows
 pub mod Whole
 pub mod Moments
+pub mod Traces
 pub mod Marks
 pub mod Sizes
 pub mod Acceptable

@@ -7,8 +7,8 @@ use Rattle.piton_machine.specs.Fits.{IsPlace}
 use Rattle.gypsy_syntax.specs.Programs.{Program, proc_at, body_of}
 use Rattle.gypsy_syntax.specs.Programs.{Stmt, Skip, NoOp, Signal, Seq, Loop, If, Begin, Call, Apply}
 use Rattle.gypsy_syntax.specs.ProgramFits.{Each, ProgramFits}
+use Rattle.gypsy_syntax.specs.ValuesFit.{VarsFit}
 use Rattle.gypsy_space.specs.Needs.{StackSizes}
-use Rattle.gypsy_meaning.specs.Kept.{VarsFit}
 use Rattle.gypsy_meaning.specs.Machine.{State, At, Next, place_of}
 use Rattle.gypsy_codegen.specs.declared.marking.MarkAt.{MarkAt}
 use Rattle.gypsy_codegen.specs.Generated.{size, count_from, generated_view}

@@ -10,9 +10,9 @@ use Rattle.piton_machine.specs.Law.{Steps}
 use Rattle.gypsy_syntax.specs.Programs.{Program, proc_at, shapes_of}
 use Rattle.gypsy_syntax.specs.ProgramFits.{ProgramFits}
 use Rattle.gypsy_syntax.specs.Effects.{value_at}
+use Rattle.gypsy_syntax.specs.ValuesFit.{VarsFit}
 use Rattle.gypsy_space.specs.Costs.{Tally}
 use Rattle.gypsy_space.specs.Needs.{StackSizes, vars_of}
-use Rattle.gypsy_meaning.specs.Kept.{VarsFit}
 use Rattle.gypsy_meaning.specs.Machine.{Item, Frame, Held, State, At, Move, Next, Ended, gypsy_step}
 pub use Rattle.gypsy_meaning.specs.Seen.Moments.{moment, moment_from, moved_on}
 use Rattle.gypsy_meaning.specs.Seen.RunView.{spent_at, top_way}
@@ -22,13 +22,7 @@ use Rattle.gypsy_codegen.specs.Generated.{offset, generated_view}
 use Rattle.gypsy_codegen.specs.Showing.{mark_of}
 use Rattle.gypsy_codegen.specs.Whole.{SizesFit, RunsTo, opened}
 
--- 1. The step machine.
-
--- it goes on for ever
-abbrev pub NeverEnds : Program → StackSizes → List ValueOf → Type 0
-NeverEnds q sizes v = (j : ℕ) → (g : State) × (moment_from q sizes v j ≡ Next g)
-
--- 2. The generated system.
+-- 1. The generated system.
 
 -- the frames, the newest first: one for each activation and no more, each with a local for each variable of its procedure
 abbrev pub AreActivations : Program → ℕ → List Frame → List piton.Frame → Type 0
@@ -72,7 +66,7 @@ EachMomentIsReached = (q : Program) (sizes : StackSizes) (base : ℕ) (v : List 
     VarsFit (proc_at q q.main).formals v →
     HasMoment q (generated_view q sizes base) (opened q sizes base v) (moment_from q sizes v j)
 
--- 3. Counts.
+-- 2. Counts.
 
 -- it costs an instruction at least
 abbrev pub CostsSome : State → Move → Type 0

@@ -14,6 +14,7 @@ use Rattle.piton_machine.specs.Law.{Steps, advanced}
 use Rattle.gypsy_syntax.specs.Programs.{ConditionOf, Program, proc_at, shapes_of, body_of}
 use Rattle.gypsy_syntax.specs.ProgramFits.{ProgramFits, Misses}
 use Rattle.gypsy_syntax.specs.Effects.{value_at}
+use Rattle.gypsy_syntax.specs.ValuesFit.{VarsFit}
 use Rattle.gypsy_space.specs.Costs.{Tally}
 use Rattle.gypsy_space.specs.Needs.{StackSizes}
 use Rattle.gypsy_meaning.specs.Seen.Belongs.{Suffices}
@@ -21,7 +22,7 @@ use Rattle.gypsy_meaning.specs.Calls.{CurrentCondition, main_start}
 use Rattle.gypsy_meaning.specs.Meaning.{Done, meaning}
 use Rattle.gypsy_meaning.specs.Counted.{CountedDone, counted_meaning}
 use Rattle.gypsy_meaning.specs.Machine.{Item, Frame, Held, State, At, Next, raise, gypsy_step, start}
-use Rattle.gypsy_meaning.specs.Kept.{VarsFit, StateFits}
+use Rattle.gypsy_meaning.specs.Kept.{StateFits}
 use Rattle.gypsy_meaning.specs.Room.{HaveWords}
 use Rattle.gypsy_meaning.specs.Kept.{FramesFit}
 use Rattle.gypsy_codegen.specs.WordsOf.{words_of_values, number_of, number_of_way}

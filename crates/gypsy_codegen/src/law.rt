@@ -10,6 +10,7 @@ ghost use Rattle.gypsy_codegen.specs.Moments.{EachMomentIsReached, EachStepCosts
 ghost use Rattle.gypsy_codegen.specs.StepRows.{NoOpRow, SignalRow, LoopRow, BackRow, ThenRow, ElseRow, JoinThenRow, JoinOneRow};
 ghost use Rattle.gypsy_codegen.specs.StepRows.{GuardRow, CallRow, LackTemporaryRow, LackControlRow, WriteRow, FaultRow, BeyondRow, ReturnRow, OutRow, EndRow, MainOutRow};
 ghost use Rattle.gypsy_codegen.specs.Sizes.{ProceduresTakeWords};
+ghost use Rattle.gypsy_codegen.specs.Traces.{EachMomentHasFrames};
 ghost use Rattle.gypsy_codegen.specs.TextExamples.{TextsAre};
 ghost use Rattle.gypsy_codegen.specs.Whole.{StartShows, EachIsShown, CountedRuns, MeaningRuns, LimitedRunHalts, RaiseFollows};
 ghost use Rattle.gypsy_codegen.specs.Whole.{PlaceIsMark, VariablesStand, WaitingVariablesStand, ActualsShare};
@@ -100,6 +101,14 @@ pub fn meaning_runs()
 /// has ended, the system has halted with the same, at the last of these steps.
 pub fn moments_are_reached()
     ensures { EachMomentIsReached }
+{
+    gypsy_predef::predefs_run();
+}
+
+/// At every moment the frames are those of all activations, also of those that wait: each has the indices of its variables, and the
+/// stack has there what the activation would get back now.
+pub fn moments_have_frames()
+    ensures { EachMomentHasFrames }
 {
     gypsy_predef::predefs_run();
 }

@@ -22,7 +22,8 @@ pub use fault::GenFault;
 pub use generating::{generate, generate_with};
 pub use law::{
     examples_compute, generated_is_acceptable, guards_tell_room, meaning_runs, moments_are_marked,
-    moments_are_reached, procedures_take_words, raise_follows, rows_follow, shown_states_read,
-    source_runs, states_are_shown, steps_cost, steps_follow, variables_keep_names,
+    moments_are_reached, moments_have_frames, procedures_take_words, raise_follows, rows_follow,
+    shown_states_read, source_runs, states_are_shown, steps_cost, steps_follow,
+    variables_keep_names,
 };
 pub use marking::{MarkAt, marks, marks_with};

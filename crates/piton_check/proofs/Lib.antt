@@ -7,3 +7,4 @@ pub mod SoundLaws
 pub mod SoundUseLaws
 pub mod SmallLaws
 pub mod CheckedLaws
+pub mod PlacesLaws

@@ -7,5 +7,6 @@ pub mod WordOperations
 pub mod Instruction
 pub mod Sound
 pub mod PitonChecking
+pub mod Places
 -- In folders: scaffold.
 pub mod Scaffold

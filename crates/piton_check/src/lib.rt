@@ -6,6 +6,7 @@
 mod argument;
 mod checked;
 mod fault;
+mod law;
 mod names;
 mod piece;
 mod program;
@@ -16,6 +17,7 @@ mod word_names;
 
 pub use checked::{Checked, check};
 pub use fault::CheckFault;
+pub use law::places_change_nothing;
 pub use piece::Piece;
 pub use resolved::{Resolved, ResolvedArg, ResolvedInstr, ResolvedProgram};
 pub use word_names::word_operation;

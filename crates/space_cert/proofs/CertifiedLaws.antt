@@ -111,7 +111,7 @@ module _ (q : Program) where
       ap (λ v. greatest_taken q taken ps (greater w (call_bound q p v))) (h p (contains_first p ps))
       ∙ greatest_same taken bs ps (greater w (call_words q bs p)) (λ r k. h r (contains_later p ps r k))
 
-  greatest_least : (taken : ℕ → StackSizes) (ps : List ℕ) (w v : StackSizes) → IsAtMost w v → ((r : ℕ) → Contains ps r → IsAtMost (call_bound q r (taken r)) v) → IsAtMost (greatest_taken q taken ps w) v
+  pub greatest_least : (taken : ℕ → StackSizes) (ps : List ℕ) (w v : StackSizes) → IsAtMost w v → ((r : ℕ) → Contains ps r → IsAtMost (call_bound q r (taken r)) v) → IsAtMost (greatest_taken q taken ps w) v
   unfolding greatest_taken
   greatest_least taken [] w v h each = h
   greatest_least taken (p ∷ ps) w v h each =

@@ -100,12 +100,12 @@ module _ (q : Program) where
   many_words [] = omega arith
   many_words (s ∷ shapes) = omega (arith, one_item s, many_words shapes)
 
-  small_words : (p : Proc) → ProcFits q p → local_words p + vars_of p ≤ 131072
+  pub small_words : (p : Proc) → ProcFits q p → local_words p + vars_of p ≤ 131072
   small_words p h =
       let shapes = map (λ (v : ValueOf). v.shape) p.locals in
       omega (arith, h.words, words_of-append p.formals shapes, many_words p.formals, many_words shapes, length-map p.locals (λ (v : ValueOf). v.shape))
 
-  greatest_within : (each : ℕ) (f : Predef → ℕ) (n : ℕ) → each ≤ n → ((r : Predef) → f r ≤ n) → (s : Stmt) → greatest each f s ≤ n
+  pub greatest_within : (each : ℕ) (f : Predef → ℕ) (n : ℕ) → each ≤ n → ((r : Predef) → f r ≤ n) → (s : Stmt) → greatest each f s ≤ n
   greatest_within each f n k h Skip = omega arith
   greatest_within each f n k h (NoOp place) = omega arith
   greatest_within each f n k h (Signal place c) = omega arith
@@ -116,11 +116,11 @@ module _ (q : Program) where
   greatest_within each f n k h (Call place p xs cs) = k
   greatest_within each f n k h (Apply place r args) = h r
 
-  temp_small : (r : Predef) → predef_temp r ≤ 4
+  pub temp_small : (r : Predef) → predef_temp r ≤ 4
   temp_small row.MgSimpleVariableAssignment = omega arith
   temp_small _ = omega arith
 
-  ctrl_small : (r : Predef) → predef_ctrl r ≤ 10
+  pub ctrl_small : (r : Predef) → predef_ctrl r ≤ 10
   ctrl_small row.MgSimpleVariableAssignment = omega arith
   ctrl_small _ = omega arith
 

@@ -4,6 +4,7 @@ mod OmitLaws
 mod StepLaws
 mod MeaningLaws
 pub mod NeverLaws
+pub mod LargerLaws
 mod ContainsLaws
 pub mod LeastLaws
 mod SearchLaws
@@ -20,3 +21,4 @@ mod ReadAgainLaws
 mod PrintedLaws
 mod ReachLaws
 pub mod CertifiedLaws
+pub mod CertAgainLaws

@@ -2,12 +2,14 @@
 -- and how it is found.
 pub mod Covers
 pub mod Never
+pub mod Larger
 pub mod CoveredStates
 pub mod Reaches
 pub mod Least
 pub mod Bounded
 pub mod CertText
 pub mod Certified
+pub mod CertAgain
 pub mod Order
 pub mod Accepting
 -- In folders: scaffold.

@@ -10,7 +10,9 @@ ghost use Rattle.gypsy_meaning.specs.Machine.{State, Next, gypsy_step, start};
 ghost use Rattle.space_cert.specs.Covers.{Bounds, Covers, IsAtMost, IsCertificate, sizes_for};
 ghost use Rattle.space_cert.specs.CoveredStates.{StateCovered};
 ghost use Rattle.space_cert.specs.Accepting.{is_covered};
+ghost use Rattle.space_cert.specs.CertAgain.{CertificatesAreReadAgain};
 ghost use Rattle.space_cert.specs.Certified.{certified};
+ghost use Rattle.space_cert.specs.Larger.{CoveredRunsAreTheSame, LargerStacksChangeNothing};
 ghost use Rattle.space_cert.specs.Least.{IsFirstRecursive, IsLeast};
 ghost use Rattle.space_cert.specs.Never.{HasCallRoom, NeverSpaceError};
 ghost use Rattle.space_cert.specs.Reaches.{IsRecursive};
@@ -48,4 +50,16 @@ pub fn computed_as_defined()
     ensures certified { (q : Program) → ProgramFits q → MatchResult (certified q) (IsLeast q) (IsFirstRecursive q) }
     ensures covered { (q : Program) (bs : Bounds) (sizes : StackSizes) → ProgramFits q →
         IsTrue (is_covered q bs sizes) ↔ Covers q bs sizes }
+{}
+
+/// Larger stacks change no run in which `spaceerror` is never raised: it is the same at every moment, and ends with the same after
+/// the same costs. So all sizes from those that a certificate covers have one run.
+pub fn larger_stacks_change_nothing()
+    ensures never { LargerStacksChangeNothing }
+    ensures covered { CoveredRunsAreTheSame }
+{}
+
+/// The text of a source's least certificate is read as that certificate again.
+pub fn certificates_are_read_again()
+    ensures { CertificatesAreReadAgain }
 {}

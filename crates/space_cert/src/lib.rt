@@ -16,6 +16,9 @@ mod search;
 pub use accepting::{accepts, sizes_for};
 pub use certificate::Certificate;
 pub use certifying::{CertFault, certify};
-pub use laws::{certificates_hold, computed_as_defined, least_at_main, recursion_has_none};
+pub use laws::{
+    certificates_are_read_again, certificates_hold, computed_as_defined,
+    larger_stacks_change_nothing, least_at_main, recursion_has_none,
+};
 pub use printing::print_certificate;
 pub use reading::{CertTextFault, read_certificate};

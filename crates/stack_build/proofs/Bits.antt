@@ -3,7 +3,7 @@ use Rattle.std.proofs.Common.{◌≡◌, ℕ, suc, Bool, true, false, ◌||◌, 
 use Rattle.std.proofs.lemmas.Bool.{eqb-true}
 use Rattle.std.specs.Prelude.{pos}
 use Rattle.stack_text.specs.declared.shape.Kind.TheVariants.{Boolean}
-use Rattle.gypsy_syntax.specs.ProgramFits.{is_in_range}
+use Rattle.gypsy_syntax.specs.Ranges.{is_in_range}
 
 -- is less than 2
 pub no_bit : (n : ℕ) → is_in_range Boolean (pos (suc (suc n))) ≡ true → ⊥

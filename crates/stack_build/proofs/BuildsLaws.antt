@@ -2,7 +2,8 @@
 use Rattle.std.proofs.Common.{◌≡◌, ◌≤◌, ℕ, List, Bool, true, false, cond, Option, Some, None, Result, Ok, Err, IfOk, refl, sym, ap, subst, ◌∙◌}
 use Rattle.std.specs.Prelude.{◌^◌, IsTrue, nat_lt}
 use Rattle.std.proofs.lemmas.Bool.{ltb-false}
-use Rattle.fm_image.specs.Image.{ImageOf, is_image}
+use Rattle.fm_image.specs.Image.{ImageOf}
+use Rattle.fm_image.specs.Limits.{is_image}
 use Rattle.fm_loader.specs.Values.{values_in}
 use Rattle.fm_image.specs.Spelling.{spelling}
 use Rattle.piton_syntax.specs.Systems.{SystemOf}

@@ -8,12 +8,13 @@ use Rattle.display_maps.specs.declared.shown.Shown.TheVariants as shown
 use Rattle.display_maps.specs.Reading.{named_or_odd, condition_of, space_name}
 use Rattle.gypsy_syntax.specs.Programs.{Leave, Routine, Space, Declared, Program, proc_at}
 use Rattle.gypsy_syntax.specs.ProgramFits.{ProgramFits}
+use Rattle.gypsy_syntax.specs.ValuesFit.{VarsFit}
 use Rattle.gypsy_space.specs.Costs.{Tally}
 use Rattle.gypsy_space.specs.Needs.{StackSizes}
 use Rattle.gypsy_meaning.specs.Calls.{CurrentCondition}
 use Rattle.gypsy_meaning.specs.Counted.{CountedDone, counted_meaning}
 use Rattle.gypsy_meaning.specs.Machine.{State, Move, Next, Ended, gypsy_step, Ending, Over, go_on, run, start}
-use Rattle.gypsy_meaning.specs.Kept.{VarsFit, StateFits, EndFits, MoveFits}
+use Rattle.gypsy_meaning.specs.Kept.{StateFits, EndFits, MoveFits}
 use Rattle.gypsy_meaning.proofs.Keeping.{step_keeps, start_fits}
 use Rattle.gypsy_meaning.proofs.Runs.{agree}
 use Rattle.gypsy_codegen.specs.WordsOf.{number_of_way}

@@ -7,7 +7,9 @@ use Rattle.stack_text.specs.Names.{is_name}
 use Rattle.stack_text.proofs.SharedLaws.{name_few}
 use Rattle.fm_image.specs.declared.slot.Slot.{Slot}
 use Rattle.fm_image.specs.declared.window.Window.{Window}
-use Rattle.fm_image.specs.Image.{ImageOf, Tables, tables_of, window_of, is_new, is_condition, is_slot, is_slot_address, are_tables, all_after, is_image}
+use Rattle.fm_image.specs.Image.{ImageOf}
+use Rattle.fm_image.specs.Limits.{Tables, tables_of, window_of, is_new, is_condition, is_slot, is_slot_address, are_tables, all_after}
+use Rattle.fm_image.specs.Limits.{is_image}
 use Rattle.fm_image.specs.Spelling.{number_bytes, numbers_bytes, name_bytes, counted_bytes, shape_bytes, slot_bytes, opening_bytes, window_bytes, flags_bytes, condition_address_bytes, tables_bytes, spelling, Spelled}
 use Rattle.fm_image.proofs.LimitLaws.{limits_of, sixteen, condition_count, slot_count, word_count}
 use Rattle.piton_check.specs.Instruction.{SystemView}

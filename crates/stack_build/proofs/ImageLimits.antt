@@ -13,7 +13,8 @@ use Rattle.stack_text.specs.declared.shape.Shape.{Shape}
 use Rattle.stack_text.specs.Values.{ValueOf, item_count}
 use Rattle.fm_image.specs.declared.slot.Slot.{Slot}
 use Rattle.fm_image.specs.declared.window.Window.{Window}
-use Rattle.fm_image.specs.Image.{ImageOf, Tables, window_of, is_size, is_inside, are_tables, is_slot_address, all_after, is_image}
+use Rattle.fm_image.specs.Image.{ImageOf}
+use Rattle.fm_image.specs.Limits.{Tables, window_of, is_size, is_inside, are_tables, is_slot_address, all_after, is_image}
 use Rattle.fm_image.proofs.LimitLaws.{from_limits}
 use Rattle.fm_image.proofs.NameLaws.{fits_window, slots_fit, conditions_fit}
 use Rattle.display_maps.specs.Reading.{space_name}
@@ -30,7 +31,6 @@ use Rattle.gypsy_syntax.specs.Resolved.{shape_of, program_of}
 use Rattle.gypsy_check.specs.Accepted.{IsAccepted}
 use Rattle.gypsy_check.specs.Declarations.{variables_of, conditions_of, repeats}
 use Rattle.gypsy_check.specs.Rules.{type_breaches, local_breaches, is_reserved, condition_breaches, variable_breaches, condition_name_breaches, size_breaches, statement_breaches, procedure_breaches}
-use Rattle.gypsy_syntax.specs.Resolved.{variable_types}
 use Rattle.gypsy_check.proofs.CleanLaws.{three, four}
 use Rattle.gypsy_space.specs.Needs.{StackSizes}
 use Rattle.gypsy_codegen.specs.WordsOf.{words_of_values, zero_value}
@@ -40,6 +40,7 @@ use Rattle.gypsy_meaning.proofs.Keeping.{vars_join, locals_fit}
 use Rattle.stack_text.specs.Grammar.Parts.{IsNamed}
 use Rattle.stack_text.proofs.SharedLaws.{rule_fails, append_none, bytes_apart}
 use Rattle.gypsy_syntax.specs.Fits.{FitsDecl}
+use Rattle.gypsy_syntax.specs.Resolved.{variable_types}
 use Rattle.piton_linker.specs.Layouts.{trimmed}
 use Rattle.gypsy_codegen.proofs.StackLaws.{values_words}
 use Rattle.stack_build.specs.Formals.{formals_in, conditions_in, shown_formals, shown_conditions}

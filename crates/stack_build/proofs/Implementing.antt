@@ -6,7 +6,7 @@ use Rattle.std.proofs.lemmas.List.{length-map}
 use Rattle.stack_text.specs.declared.name.Named.{Named}
 use Rattle.stack_text.specs.declared.shape.Shape.{Shape}
 use Rattle.stack_text.specs.Values.{ValueOf}
-use Rattle.fm_image.specs.Image.{Tables}
+use Rattle.fm_image.specs.Limits.{Tables}
 use Rattle.piton_check.specs.Instruction.{SystemView}
 use Rattle.piton_check.specs.Sound.{IsSound}
 use Rattle.piton_machine.specs.Seen.StateView.{started}
@@ -15,20 +15,21 @@ use Rattle.gypsy_syntax.specs.declared.literal.Decl.{Decl}
 use Rattle.gypsy_syntax.specs.Sources.{ProcOf, SourceOf}
 use Rattle.gypsy_syntax.specs.Programs.{Proc, Program, proc_at}
 use Rattle.gypsy_syntax.specs.Resolved.{program_of}
+use Rattle.gypsy_syntax.specs.ValuesFit.{VarsFit}
 use Rattle.gypsy_check.specs.Accepted.{IsAccepted}
 use Rattle.gypsy_space.specs.Costs.{Tally}
 use Rattle.gypsy_space.specs.Needs.{StackSizes}
 use Rattle.gypsy_meaning.specs.Calls.{CurrentCondition, main_start}
 use Rattle.gypsy_meaning.specs.Meaning.{Done, meaning}
 use Rattle.gypsy_meaning.specs.Counted.{CountedOutcome, CountedDone, counted_meaning, tally_of}
-use Rattle.gypsy_meaning.specs.Kept.{VarsFit}
 use Rattle.gypsy_codegen.specs.WordsOf.{words_of_values, zero_value}
 use Rattle.gypsy_codegen.specs.Generated.{generated_view}
 use Rattle.gypsy_codegen.specs.Whole.{RunsTo, MeaningRuns}
 use Rattle.gypsy_codegen.specs.Acceptable.{GeneratedIsAcceptable}
 use Rattle.stack_build.specs.Formals.{formals_in, formal_conditions_in, conditions_in, main_of}
 use Rattle.stack_build.specs.Image.{image_with, source_tables, image_of}
-use Rattle.stack_build.specs.Implements.{variable_shown, way_shown, ComesTo, Implements}
+use Rattle.stack_build.specs.Implements.{variable_shown, way_shown, Implements}
+use Rattle.stack_build.specs.ComesTo.{ComesTo}
 use Rattle.stack_build.specs.Joined.{GeneratedImageImplements}
 use Rattle.stack_build.specs.Scaffold.Showing.{shapes_in}
 use Rattle.stack_build.proofs.Ending.{ends_well, way_read}

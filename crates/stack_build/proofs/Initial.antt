@@ -9,8 +9,8 @@ use Rattle.piton_words.specs.declared.word.Word.TheVariants as word
 use Rattle.piton_check.specs.Instruction.{SystemView}
 use Rattle.piton_check.specs.Sound.{Exists}
 use Rattle.piton_machine.specs.Fits.{IsInitialStack}
-use Rattle.gypsy_syntax.specs.ProgramFits.{Each, ValueFits}
-use Rattle.gypsy_meaning.specs.Kept.{VarsFit}
+use Rattle.gypsy_syntax.specs.ProgramFits.{Each}
+use Rattle.gypsy_syntax.specs.ValuesFit.{ValueFits, VarsFit}
 use Rattle.gypsy_codegen.specs.WordsOf.{words_of_values}
 use Rattle.gypsy_meaning.proofs.Keeping.{vars_join, locals_fit}
 use Rattle.gypsy_codegen.proofs.CopyLaws.{each_both}

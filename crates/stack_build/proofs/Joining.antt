@@ -10,7 +10,7 @@ use Rattle.fm_machine.specs.State.{Fm}
 use Rattle.fm_machine.specs.Run.{IsFirst}
 use Rattle.fm_code.specs.Areas.{joined}
 use Rattle.fm_code.specs.Execution.{Holds}
-use Rattle.fm_image.specs.Image.{Tables}
+use Rattle.fm_image.specs.Limits.{Tables}
 use Rattle.display_maps.specs.Reading.{word_or_zero, variable_of, condition_of}
 use Rattle.piton_words.specs.declared.word.Word.{Word}
 use Rattle.piton_check.specs.Instruction.{SystemView}
@@ -22,14 +22,15 @@ use Rattle.piton_machine.proofs.RunLaws.{steps_run, steps_cost}
 use Rattle.piton_machine.proofs.SoundLaws.{known}
 use Rattle.piton_linker.specs.Theorem.{ComesToStand, RunsOnProcessor}
 use Rattle.gypsy_syntax.specs.declared.literal.Decl.{Decl}
-use Rattle.gypsy_syntax.specs.ProgramFits.{Each, ValueFits}
+use Rattle.gypsy_syntax.specs.ProgramFits.{Each}
+use Rattle.gypsy_syntax.specs.ValuesFit.{ValueFits, VarsFit}
 use Rattle.gypsy_space.specs.Costs.{Tally}
 use Rattle.gypsy_meaning.specs.Calls.{CurrentCondition}
-use Rattle.gypsy_meaning.specs.Kept.{VarsFit}
 use Rattle.gypsy_codegen.specs.WordsOf.{words_of_values, number_of_way}
 use Rattle.gypsy_codegen.specs.Whole.{RunsTo}
 use Rattle.stack_build.specs.Image.{slots_from, image_with}
-use Rattle.stack_build.specs.Implements.{variable_shown, way_shown, ComesTo}
+use Rattle.stack_build.specs.Implements.{variable_shown, way_shown}
+use Rattle.stack_build.specs.ComesTo.{ComesTo}
 use Rattle.stack_build.proofs.Laying.{map-reversed, reversed_append, Holds-reversed}
 use Rattle.stack_build.proofs.Storing.{items_words}
 use Rattle.stack_build.specs.Scaffold.Showing.{shapes_in}

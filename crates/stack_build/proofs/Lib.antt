@@ -22,6 +22,10 @@ pub mod KnownLaws
 pub mod TakesLaws
 pub mod BuildsLaws
 pub mod InsideLaws
+pub mod MeantLaws
+pub mod ReadMomentsLaws
+pub mod StandingLaws
+pub mod TraceLaws
 pub mod StartLaws
 pub mod TableLaws
 pub mod ListingLaws

@@ -11,7 +11,7 @@ use Rattle.std.proofs.lemmas.List.Elements.{All-head, All-tail}
 use Rattle.stack_text.proofs.Loops.{drop-item}
 use Rattle.fm_image.specs.declared.procedure.Mark.{Mark}
 use Rattle.fm_image.specs.declared.procedure.VarInfo.{VarInfo}
-use Rattle.fm_image.specs.Image.{Tables, no_tables, is_place}
+use Rattle.fm_image.specs.Limits.{Tables, no_tables, is_place}
 use Rattle.fm_image.specs.Procedure.{ProcedureOf}
 use Rattle.display_maps.specs.Reading.{space_name}
 use Rattle.piton_check.specs.Instruction.{Instruction, ProgramView, SystemView}

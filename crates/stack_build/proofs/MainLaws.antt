@@ -9,14 +9,13 @@ use Rattle.stack_text.specs.Values.{item_count}
 use Rattle.stack_text.proofs.SharedLaws.{append_none}
 use Rattle.gypsy_syntax.specs.Sources.{ProcOf, SourceOf}
 use Rattle.gypsy_syntax.specs.Programs.{no_proc, proc_at}
-use Rattle.gypsy_syntax.specs.Resolved.{place_among, procedure_names, procedure_of, program_of}
+use Rattle.gypsy_syntax.specs.Resolved.{place_among, procedure_names, procedure_of, program_of, procedure_at}
 use Rattle.gypsy_syntax.specs.ProgramFits.{Each}
 use Rattle.gypsy_syntax.specs.Fits.{FitsProcedure}
+use Rattle.gypsy_syntax.specs.ValuesFit.{VarsFit}
 use Rattle.gypsy_syntax.proofs.FitsLaws.{keeps_fits}
 use Rattle.gypsy_check.specs.Accepted.{IsAccepted}
-use Rattle.gypsy_check.specs.Declarations.{procedure_at}
 use Rattle.gypsy_check.specs.Rules.{procedure_breaches}
-use Rattle.gypsy_meaning.specs.Kept.{VarsFit}
 use Rattle.gypsy_codegen.specs.WordsOf.{zero_value}
 use Rattle.gypsy_codegen.proofs.SourceLaws.{kept}
 use Rattle.gypsy_codegen.proofs.SystemLaws.{zeros_in_range}

@@ -10,7 +10,8 @@ use Rattle.stack_text.specs.Values.{ValueOf}
 use Rattle.stack_text.proofs.SharedLaws.{get_front, get_after, get_map}
 use Rattle.fm_words.specs.Word.{word_of_int}
 use Rattle.fm_machine.specs.State.{Fm, word_at}
-use Rattle.fm_machine.specs.Run.{fm_run, pc_of, Avoids, IsOutcome, outcome, RunOutcome}
+use Rattle.fm_machine.specs.Run.{fm_run, pc_of, Avoids}
+use Rattle.fm_machine.specs.Outcome.{IsOutcome, outcome, RunOutcome}
 use Rattle.fm_machine.specs.Step as machine_step
 use Rattle.fm_machine.specs.declared.fault.Outside.{Outside}
 use Rattle.fm_machine.specs.declared.processor.Run.TheVariants as run
@@ -37,7 +38,8 @@ use Rattle.piton_machine.proofs.RunLaws.{steps_run, steps_cost}
 use Rattle.piton_machine.proofs.SoundLaws.{known}
 use Rattle.piton_linker.specs.Theorem.{ComesToStand, RunsOnProcessor}
 use Rattle.gypsy_syntax.specs.Programs.{Proc, Program, proc_at, shapes_of}
-use Rattle.gypsy_syntax.specs.ProgramFits.{ValueFits, is_in_range}
+use Rattle.gypsy_syntax.specs.Ranges.{is_in_range}
+use Rattle.gypsy_syntax.specs.ValuesFit.{ValueFits, VarsFit}
 use Rattle.gypsy_syntax.specs.Effects.{value_at}
 use Rattle.gypsy_syntax.specs.Resolved.{program_of}
 use Rattle.gypsy_syntax.specs.Sources.{ProcOf, SourceOf}
@@ -46,7 +48,6 @@ use Rattle.gypsy_space.specs.Costs.{Tally}
 use Rattle.gypsy_space.specs.Needs.{StackSizes, vars_of}
 use Rattle.gypsy_meaning.specs.Calls.{CurrentCondition, main_start}
 use Rattle.gypsy_meaning.specs.Counted.{CountedOutcome, CountedDone, counted_meaning, uncounted, tally_of}
-use Rattle.gypsy_meaning.specs.Kept.{VarsFit}
 use Rattle.gypsy_meaning.specs.Machine.{Item, Frame, Held, State, At, Move, Next, Ended, start}
 use Rattle.gypsy_meaning.specs.Seen.RunView.{top_way}
 use Rattle.gypsy_meaning.proofs.CountLaws.{meaning-uncounted}
@@ -61,8 +62,10 @@ use Rattle.gypsy_codegen.specs.Moments.{moment_from, AreActivations, VariableSta
 use Rattle.gypsy_codegen.proofs.MomentLaws.{moment_over, moment_fits, counts_grow}
 use Rattle.stack_build.specs.Formals.{formals_in, conditions_in}
 use Rattle.stack_build.specs.Image.{image_with, source_tables, image_of}
-use Rattle.stack_build.specs.Implements.{Implements, meaning_shown, ComesTo}
-use Rattle.stack_build.specs.Moments.{HoldsVariable, HoldsFrames, MemoryReads, ArrivesAtMark, ArrivesAtEnd, ArrivesAt, KeepsMoments, StaysUnfinished}
+use Rattle.stack_build.specs.Implements.{Implements, meaning_shown}
+use Rattle.stack_build.specs.ComesTo.{ComesTo}
+use Rattle.stack_build.specs.Moments.{HoldsVariable, HoldsFrames, MemoryReads, ArrivesAtMark, ArrivesAtEnd, ArrivesAt, KeepsMoments}
+use Rattle.stack_build.specs.StaysUnfinished.{StaysUnfinished}
 use Rattle.stack_build.specs.Scaffold.Showing.{shapes_in}
 use Rattle.stack_build.proofs.Initial.{is_initial}
 use Rattle.stack_build.proofs.Loading.{image_loaded}
@@ -72,7 +75,7 @@ use Rattle.stack_build.proofs.Numbers.{item_number}
 -- ---- runs
 
 -- a run that is made is made up to each count
-run_up_to : (k n : ℕ) (m t : Fm) → k ≤ n → fm_run n m ≡ Ok t → (u : Fm) × (fm_run k m ≡ Ok u)
+pub run_up_to : (k n : ℕ) (m t : Fm) → k ≤ n → fm_run n m ≡ Ok t → (u : Fm) × (fm_run k m ≡ Ok u)
 run_up_to k n m t le h = by_part (fm_run k m) refl (sym (run_add k (n - k) m) ∙ ap (λ j. fm_run j m) (omega arith) ∙ h)
   where
     by_part : (r : Result Fm Outside) → fm_run k m ≡ r → machine_step.then_on r (fm_run (n - k)) ≡ Ok t → (u : Fm) × (fm_run k m ≡ Ok u)
@@ -98,14 +101,14 @@ final_avoided m state pc n before last runs i u le e =
 
 -- ---- a machine that stands for a state
 
-Holds-behind : (b : ℕ) (m : List ℕ) (p : ℕ) (xs ys : List ℕ) → Holds b m p (xs ++ ys) → Holds b m (p + length xs) ys
+pub Holds-behind : (b : ℕ) (m : List ℕ) (p : ℕ) (xs ys : List ℕ) → Holds b m p (xs ++ ys) → Holds b m (p + length xs) ys
 Holds-behind b m p [] ys h = let e : p ≡ p + 0 = omega arith in subst (λ (a : ℕ). Holds b m a ys) e h
 Holds-behind b m p (x ∷ xs) ys h =
     let e : p + 1 + length xs ≡ p + length (x ∷ xs) = omega arith in
     subst (λ (a : ℕ). Holds b m a ys) e (Holds-behind b m (p + 1) xs ys h.1)
 
 -- the element at a position, from the last word downwards
-element_held : (A : Addresses) (b : ℕ) (m : List ℕ) (t k : ℕ) (stack : List Word) (w : Word) → Holds b m t (numbers A stack) → t + length (numbers A stack) ≡ A.end → element stack k ≡ Some w →
+pub element_held : (A : Addresses) (b : ℕ) (m : List ℕ) (t k : ℕ) (stack : List Word) (w : Word) → Holds b m t (numbers A stack) → t + length (numbers A stack) ≡ A.end → element stack k ≡ Some w →
     word_at b m (A.end - 1 - k) ≡ Some (word_number A w)
 element_held A b m t k stack w h long e = by_side (nat_lt k (length stack)) refl e
   where
@@ -119,7 +122,7 @@ element_held A b m t k stack w h long e = by_side (nat_lt k (length stack)) refl
     by_side false is f = absurd cc
 
 -- the local at an offset of the newest frame
-local_held : (A : Addresses) (b : ℕ) (m : List ℕ) (c k i : ℕ) (frames : List piton.Frame) → Holds b m c (frame_words A frames) → slice_get (locals_of frames) k ≡ Some (Nat i) → word_at b m (c + k) ≡ Some i
+pub local_held : (A : Addresses) (b : ℕ) (m : List ℕ) (c k i : ℕ) (frames : List piton.Frame) → Holds b m c (frame_words A frames) → slice_get (locals_of frames) k ≡ Some (Nat i) → word_at b m (c + k) ≡ Some i
 local_held A b m c k i [] h e = absurd cc
 local_held A b m c k i (f ∷ fs) h e =
     let rest = pointer_to A fs (frame_words A fs) ∷ return_address A f fs ∷ frame_words A fs in
@@ -132,7 +135,7 @@ none_active q p (Held c x w xs cs ∷ fs) h = h
 
 module _ (q : Program) (A : Addresses) (m : Fm) where
   -- the word behind the locals
-  pointer_held : (c n : ℕ) (f : piton.Frame) (fs : List piton.Frame) → length f.locals ≡ n → Holds m.base m.memory c (frame_words A (f ∷ fs)) →
+  pub pointer_held : (c n : ℕ) (f : piton.Frame) (fs : List piton.Frame) → length f.locals ≡ n → Holds m.base m.memory c (frame_words A (f ∷ fs)) →
       word_in m (c + n) ≡ Some (pointer_to A fs (frame_words A fs))
   pointer_held c n f fs e h =
       let words = numbers A f.locals in
@@ -172,7 +175,7 @@ pub going : (q : Program) (p : ℕ) (fs : List Frame) (frames : List piton.Frame
 going q p fs [] a = absurd (none_active q p fs a)
 going q p fs (f ∷ rest) a = (f, rest, refl)
 
-item_in_range : (k : Kind) (items : List ℤ) (h : ℕ) (z : ℤ) → list_all (is_in_range k) items ≡ true → slice_get items h ≡ Some z → is_in_range k z ≡ true
+pub item_in_range : (k : Kind) (items : List ℤ) (h : ℕ) (z : ℤ) → list_all (is_in_range k) items ≡ true → slice_get items h ≡ Some z → is_in_range k z ≡ true
 item_in_range k [] h z all e = absurd cc
 item_in_range k (y ∷ items) zero z all e =
     let same : y ≡ z = cc in
@@ -247,7 +250,7 @@ MomentsAsMeant q sizes system =
 module _ (s : SourceOf) (sizes : StackSizes) (base : ℕ) (accepted : IsAccepted s) (sound : IsSound (generated_view (program_of s) sizes base))
     (theorem : RunsOnProcessor (generated_view (program_of s) sizes base)) (below_32 : end_of (generated_view (program_of s) sizes base) < 2 ^ 32) where
   -- the machine that is loaded is the placed one with these words on its stack
-  loaded_is : (v : List ValueOf) → VarsFit (proc_at (program_of s) (program_of s).main).formals v →
+  pub loaded_is : (v : List ValueOf) → VarsFit (proc_at (program_of s) (program_of s).main).formals v →
       loader.loaded (image_of s sizes base) v ≡ loaded (generated_view (program_of s) sizes base) (words_of_values (main_start (program_of s) v))
   unfolding image_of main_start
   loaded_is v fits =
@@ -266,7 +269,7 @@ module _ (s : SourceOf) (sizes : StackSizes) (base : ℕ) (accepted : IsAccepted
       (sym main.found) whole
 
   -- it comes to stand for each state that the system comes to
-  stands_for : (v : List ValueOf) → VarsFit (proc_at (program_of s) (program_of s).main).formals v → (steps count : ℕ) (a : PitonState) →
+  pub stands_for : (v : List ValueOf) → VarsFit (proc_at (program_of s) (program_of s).main).formals v → (steps count : ℕ) (a : PitonState) →
       Steps (generated_view (program_of s) sizes base) steps count (started (generated_view (program_of s) sizes base) (words_of_values (main_start (program_of s) v))) a →
       ComesToStand (generated_view (program_of s) sizes base) (loaded (generated_view (program_of s) sizes base) (words_of_values (main_start (program_of s) v))) count a
   unfolding main_start
@@ -281,7 +284,7 @@ module _ (s : SourceOf) (sizes : StackSizes) (base : ℕ) (accepted : IsAccepted
       subst (λ (n : ℕ). ComesToStand S (loaded S (words_of_values (v ++ locals))) n a) (steps_cost S steps count first a runs)
       (theorem (words_of_values (v ++ locals)) steps a initial (steps_run S steps count first a runs))
 
-  last_is : (image_of s sizes base).base + (image_of s sizes base).size ≡ end_of (generated_view (program_of s) sizes base)
+  pub last_is : (image_of s sizes base).base + (image_of s sizes base).size ≡ end_of (generated_view (program_of s) sizes base)
   unfolding image_of
   last_is = omega arith
 

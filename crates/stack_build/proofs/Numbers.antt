@@ -9,8 +9,9 @@ use Rattle.stack_text.specs.declared.shape.Shape.{Shape}
 use Rattle.stack_text.specs.Values.{ValueOf}
 use Rattle.fm_words.specs.Word.{word_of_int}
 use Rattle.piton_machine.specs.Addresses.{Addresses, word_number, numbers}
-use Rattle.gypsy_syntax.specs.ProgramFits.{Each, ValueFits, is_in_range}
-use Rattle.gypsy_meaning.specs.Kept.{VarsFit}
+use Rattle.gypsy_syntax.specs.ProgramFits.{Each}
+use Rattle.gypsy_syntax.specs.Ranges.{is_in_range}
+use Rattle.gypsy_syntax.specs.ValuesFit.{ValueFits, VarsFit}
 use Rattle.gypsy_predef.specs.Runs.{word_of_item, words_of_value}
 use Rattle.gypsy_codegen.specs.WordsOf.{words_of_values}
 use Rattle.stack_build.proofs.Bits.{no_bit}

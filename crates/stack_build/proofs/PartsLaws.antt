@@ -2,7 +2,8 @@
 use Rattle.std.proofs.Common.{◌≡◌, ◌<◌, ◌≤◌, ◌-◌, ℕ, List, Some, true, sym, ap, subst, ◌∙◌, arith}
 use Rattle.std.specs.Prelude.{◌^◌, IsTrue}
 use Rattle.fm_image.specs.declared.slot.Slot.{Slot}
-use Rattle.fm_image.specs.Image.{ImageOf, Tables, are_tables, is_image}
+use Rattle.fm_image.specs.Image.{ImageOf}
+use Rattle.fm_image.specs.Limits.{Tables, are_tables, is_image}
 use Rattle.piton_check.specs.PitonChecking.{CheckedOf, IsChecked}
 use Rattle.piton_machine.specs.Fits.{system_in}
 use Rattle.piton_machine.specs.Placed.{placed, areas_start, end_of}

@@ -15,9 +15,9 @@ use Rattle.fm_image.specs.declared.slot.Slot.{Slot}
 use Rattle.display_maps.specs.Reading.{word_or_zero, words_down, variable_of}
 use Rattle.display_maps.proofs.ItemLaws.{slot_read}
 use Rattle.gypsy_syntax.specs.declared.literal.Decl.{Decl}
-use Rattle.gypsy_syntax.specs.ProgramFits.{is_in_range}
+use Rattle.gypsy_syntax.specs.Ranges.{is_in_range}
 use Rattle.gypsy_syntax.specs.Resolved.{shape_of}
-use Rattle.gypsy_meaning.specs.Kept.{VarsFit}
+use Rattle.gypsy_syntax.specs.ValuesFit.{VarsFit}
 use Rattle.stack_build.specs.Image.{slots_from}
 use Rattle.stack_build.specs.Implements.{variable_shown}
 use Rattle.stack_build.proofs.Bits.{no_bit}

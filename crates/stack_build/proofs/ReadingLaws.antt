@@ -12,7 +12,7 @@ use Rattle.stack_text.proofs.SharedLaws.{get_some}
 use Rattle.fm_words.specs.Word.{word_of_int}
 use Rattle.fm_machine.specs.State.{Fm}
 use Rattle.fm_image.specs.declared.procedure.Mark.{Mark}
-use Rattle.fm_image.specs.Image.{Tables, no_tables}
+use Rattle.fm_image.specs.Limits.{Tables, no_tables}
 use Rattle.fm_image.specs.Procedure.{ProcedureOf}
 use Rattle.display_maps.specs.declared.shown.Shown.{Shown}
 use Rattle.display_maps.specs.Reading.{word_in, condition_of, item_of, space_name}
@@ -24,7 +24,8 @@ use Rattle.piton_check.specs.Instruction.{SystemView}
 use Rattle.piton_machine.specs.Placed.{address_of_place, areas_start}
 use Rattle.piton_machine.proofs.AddressLaws.{same_places}
 use Rattle.gypsy_syntax.specs.Programs.{Leave, Routine, Space, Declared, Proc, Program, no_proc, proc_at, shapes_of, conds_of}
-use Rattle.gypsy_syntax.specs.ProgramFits.{Each, ValueFits}
+use Rattle.gypsy_syntax.specs.ProgramFits.{Each}
+use Rattle.gypsy_syntax.specs.ValuesFit.{ValueFits, VarsFit}
 use Rattle.gypsy_syntax.specs.Effects.{value_at}
 use Rattle.gypsy_syntax.specs.Resolved.{shape_of, local_value, condition_names, procedure_names, procedure_of, program_of, variable_names}
 use Rattle.gypsy_syntax.specs.Sources.{LocalOf, ProcOf, SourceOf}
@@ -32,7 +33,7 @@ use Rattle.gypsy_syntax.specs.declared.literal.Decl.{Decl}
 use Rattle.gypsy_check.specs.Accepted.{IsAccepted}
 use Rattle.gypsy_check.proofs.CleanLaws.{get_or_map}
 use Rattle.gypsy_space.specs.Needs.{StackSizes}
-use Rattle.gypsy_meaning.specs.Kept.{VarsFit, WorkFits, StateFits}
+use Rattle.gypsy_meaning.specs.Kept.{WorkFits, StateFits}
 use Rattle.gypsy_meaning.specs.Machine.{Item, Do, Back, JoinThen, JoinOne, Guard, Out, State, At, Next, place_of}
 use Rattle.gypsy_meaning.specs.Seen.RunView.{top_way}
 use Rattle.gypsy_meaning.specs.Seen.Shown.{conditions_at, variables_at}

@@ -18,7 +18,8 @@ use Rattle.stack_text.specs.Grammar.Judged.{Judged}
 use Rattle.stack_text.proofs.FaultLaws.{no_fault_has_tree}
 use Rattle.stack_text.proofs.TreeInLaws.{tree_in-TreeOf}
 use Rattle.fm_image.specs.declared.procedure.Mark.{Mark}
-use Rattle.fm_image.specs.Image.{ImageOf, Tables, no_tables, tables_of, is_place}
+use Rattle.fm_image.specs.Image.{ImageOf}
+use Rattle.fm_image.specs.Limits.{Tables, no_tables, tables_of, is_place}
 use Rattle.fm_image.specs.Spelling.{number_bytes, shape_bytes, name_bytes, counted_bytes, variable_bytes, procedure_bytes, mark_bytes, tables_bytes, spelling}
 use Rattle.display_maps.specs.Reading.{space_name}
 use Rattle.piton_check.specs.Instruction.{SystemView}

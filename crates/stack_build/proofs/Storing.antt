@@ -11,7 +11,7 @@ use Rattle.fm_machine.specs.State.{with_word}
 use Rattle.fm_loader.specs.Loaded.{with_items, with_values}
 use Rattle.gypsy_syntax.specs.declared.literal.Decl.{Decl}
 use Rattle.gypsy_syntax.specs.Resolved.{shape_of}
-use Rattle.gypsy_meaning.specs.Kept.{VarsFit}
+use Rattle.gypsy_syntax.specs.ValuesFit.{VarsFit}
 use Rattle.stack_build.specs.Image.{slots_from}
 use Rattle.stack_build.specs.Scaffold.Showing.{shapes_in}
 use Rattle.stack_build.proofs.Laying.{reversed_append, reversed_front}

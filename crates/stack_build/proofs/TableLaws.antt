@@ -15,7 +15,7 @@ use Rattle.stack_text.proofs.SharedLaws.{append_none}
 use Rattle.fm_image.specs.declared.procedure.Mark.{Mark}
 use Rattle.fm_image.specs.declared.procedure.VarInfo.{VarInfo}
 use Rattle.fm_image.specs.declared.window.Window.{Window}
-use Rattle.fm_image.specs.Image.{Tables, no_tables, is_place, is_inside, are_tables, all_after}
+use Rattle.fm_image.specs.Limits.{Tables, no_tables, is_place, is_inside, are_tables, all_after}
 use Rattle.fm_image.specs.Procedure.{ProcedureOf}
 use Rattle.fm_image.proofs.MarkLaws.{Climbing, fits_mark, marks_fit, marks_few}
 use Rattle.fm_image.proofs.NameLaws.{conditions_fit, fits_frame, variables_fit, fits_lists, procedures_fit}
@@ -28,15 +28,16 @@ use Rattle.piton_machine.specs.Placed.{placed, instructions_size, program_size, 
 use Rattle.piton_machine.proofs.AddressLaws.{offset_of, sum_below, programs_offset, length_at, program_there}
 use Rattle.gypsy_syntax.specs.declared.literal.Decl.{Decl}
 use Rattle.gypsy_syntax.specs.Fits.{FitsDecl, FitsLocal, FitsProcedure}
-use Rattle.gypsy_syntax.specs.ProgramFits.{Each, ValueFits}
+use Rattle.gypsy_syntax.specs.ProgramFits.{Each}
+use Rattle.gypsy_syntax.specs.ValuesFit.{ValueFits}
 use Rattle.gypsy_syntax.specs.Programs.{Proc, Program, no_proc, proc_at, shapes_of}
 use Rattle.gypsy_syntax.specs.Resolved.{condition_names, local_value, procedure_of, program_of, shape_of, variable_names}
 use Rattle.gypsy_syntax.specs.Sources.{LocalOf, ProcOf, SourceOf}
+use Rattle.gypsy_syntax.specs.Resolved.{variable_types}
 use Rattle.gypsy_syntax.proofs.FitsLaws.{keeps_fits}
 use Rattle.gypsy_check.specs.Accepted.{IsAccepted}
 use Rattle.gypsy_check.specs.Declarations.{variables_of, conditions_of, repeats}
 use Rattle.gypsy_check.specs.Rules.{type_breaches, local_breaches, main_breaches, name_breaches, condition_breaches, variable_breaches, condition_name_breaches, size_breaches, statement_breaches, procedure_breaches, violations}
-use Rattle.gypsy_syntax.specs.Resolved.{variable_types}
 use Rattle.gypsy_check.proofs.CleanLaws.{three, four, get_or_map}
 use Rattle.gypsy_space.specs.Needs.{StackSizes}
 use Rattle.gypsy_codegen.specs.declared.marking.MarkAt.{MarkAt}

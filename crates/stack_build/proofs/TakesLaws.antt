@@ -10,7 +10,7 @@ use Rattle.stack_text.specs.declared.shape.Shape.{Shape}
 use Rattle.stack_text.specs.Values.{ValueOf, item_count, is_item, is_value}
 use Rattle.fm_words.specs.Word.{is_int}
 use Rattle.fm_image.specs.declared.slot.Slot.{Slot}
-use Rattle.fm_image.specs.Image.{is_image}
+use Rattle.fm_image.specs.Limits.{is_image}
 use Rattle.fm_loader.specs.declared.fault.ValuesFault.{ValuesFault}
 use Rattle.fm_loader.specs.Rules.{GivesValues}
 use Rattle.fm_loader.specs.Values.{values_in, HaveOwnNames}
@@ -19,11 +19,12 @@ use Rattle.fm_loader.proofs.ValuesLaws.{values_fit, values_are, values_have_32_b
 use Rattle.gypsy_syntax.specs.declared.literal.Decl.{Decl}
 use Rattle.gypsy_syntax.specs.Sources.{ProcOf, SourceOf}
 use Rattle.gypsy_syntax.specs.Programs.{Proc, proc_at}
-use Rattle.gypsy_syntax.specs.ProgramFits.{Each, ValueFits, is_in_range}
+use Rattle.gypsy_syntax.specs.ProgramFits.{Each}
+use Rattle.gypsy_syntax.specs.Ranges.{is_in_range}
+use Rattle.gypsy_syntax.specs.ValuesFit.{ValueFits, VarsFit}
 use Rattle.gypsy_syntax.specs.Resolved.{shape_of, program_of}
 use Rattle.gypsy_check.specs.Accepted.{IsAccepted}
 use Rattle.gypsy_space.specs.Needs.{StackSizes, stack_sizes}
-use Rattle.gypsy_meaning.specs.Kept.{VarsFit}
 use Rattle.gypsy_codegen.specs.Generated.{generated_view}
 use Rattle.stack_build.specs.Formals.{formals_in, shown_formals, shown_conditions}
 use Rattle.stack_build.specs.Image.{slots_from, formal_slots, image_of}

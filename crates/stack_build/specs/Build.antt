@@ -32,7 +32,8 @@ use Rattle.stack_build.specs.declared.fault.BuildFault.TheVariants.{Text, Form, 
 use Rattle.stack_build.specs.declared.fault.BuildFault.TheVariants.{Words as TooManyWords, Memory}
 use Rattle.stack_build.specs.Image.{image_of, places_fit}
 use Rattle.stack_build.specs.Implements.{Implements}
-use Rattle.stack_build.specs.Moments.{KeepsMoments, StaysUnfinished}
+use Rattle.stack_build.specs.Moments.{KeepsMoments}
+use Rattle.stack_build.specs.StaysUnfinished.{StaysUnfinished}
 
 -- a checked Piton system, an image, and the bytes of its file
 pub record BuiltOf : Type 0 where

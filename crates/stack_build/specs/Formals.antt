@@ -3,7 +3,7 @@ use Rattle.std.specs.Prelude.{ℕ, List, [], ◌∷◌, map, Option, Some, None}
 use Rattle.display_maps.specs.Reading.{space_name}
 use Rattle.gypsy_syntax.specs.declared.literal.Decl.{Decl}
 use Rattle.gypsy_syntax.specs.Sources.{ProcOf, SourceOf}
-use Rattle.gypsy_check.specs.Declarations.{procedure_named}
+use Rattle.gypsy_syntax.specs.Resolved.{procedure_named}
 
 -- the formals of a procedure, and the names of its formal conditions; none where there is no procedure
 abbrev pub formals_in : Option ProcOf → List Decl

@@ -2,23 +2,21 @@
 use Rattle.std.specs.Prelude.{◌≡◌, ℕ, List, [], map, get_or, Some, None}
 use Rattle.std.specs.List.{zip}
 use Rattle.stack_text.specs.Values.{ValueOf}
-use Rattle.fm_machine.specs.State.{Fm}
-use Rattle.fm_machine.specs.Run.{IsFirst}
 use Rattle.fm_image.specs.Image.{ImageOf}
-use Rattle.fm_loader.specs.Loaded.{loaded}
 use Rattle.display_maps.specs.declared.shown.Shown.{Shown}
 use Rattle.display_maps.specs.declared.shown.Shown.TheVariants as shown
-use Rattle.display_maps.specs.Reading.{ReadingOf, reading, space_name}
+use Rattle.display_maps.specs.Reading.{ReadingOf, space_name}
 use Rattle.display_maps.specs.ValueReading.{value_shown}
 use Rattle.gypsy_syntax.specs.Sources.{SourceOf}
 use Rattle.gypsy_syntax.specs.Programs.{Leave, Routine, Space, Declared, proc_at}
 use Rattle.gypsy_syntax.specs.Resolved.{program_of}
+use Rattle.gypsy_syntax.specs.ValuesFit.{VarsFit}
 use Rattle.gypsy_space.specs.Needs.{StackSizes}
 use Rattle.gypsy_meaning.specs.Calls.{CurrentCondition}
 use Rattle.gypsy_meaning.specs.Meaning.{Done, meaning}
 use Rattle.gypsy_meaning.specs.Counted.{instruction_count}
-use Rattle.gypsy_meaning.specs.Kept.{VarsFit}
 use Rattle.stack_build.specs.Formals.{shown_names, formal_conditions}
+use Rattle.stack_build.specs.ComesTo.{ComesTo}
 
 -- what a run ends with, as the word of its number is read: spaceerror has its name, and each declared condition its own among these
 abbrev pub way_shown : List (List ℕ) → CurrentCondition → Shown
@@ -48,13 +46,6 @@ pub record Finishes (source : SourceOf) (sizes : StackSizes) (values finals : Li
   pub bound : ℕ
   pub done : meaning (program_of source) sizes values bound ≡ Done finals way
   pub counted : instruction_count (program_of source) sizes values bound ≡ Some count
-
--- The machine that is loaded with the values comes to the image's final program counter first after so many
--- instructions, and its memory is read as this there.
-pub record ComesTo (image : ImageOf) (values : List ValueOf) (count : ℕ) (read : ReadingOf) : Type 0 where
-  pub state : Fm
-  pub first : IsFirst (loaded image values) image.final_pc count state
-  pub reads : reading image state ≡ read
 
 -- The image implements the source, for stacks of these sizes: on all values that fit main's formals, where the meaning is done, the
 -- loaded machine comes to the end after exactly the counted instructions, and memory shows the meaning there.

@@ -1,8 +1,14 @@
 -- what is promised
 pub mod Formals
+pub mod ComesTo
 pub mod Implements
 pub mod Moments
+pub mod StaysUnfinished
 pub mod SourceMoments
+pub mod Meant
+pub mod ReadMoments
+pub mod StandsForPiton
+pub mod Traces
 pub mod Image
 pub mod PlacedWords
 pub mod Build

@@ -5,8 +5,7 @@ use Rattle.stack_text.specs.declared.shape.Shape.{Shape}
 use Rattle.stack_text.specs.Values.{ValueOf}
 use Rattle.fm_words.specs.Word.{word_of_int}
 use Rattle.fm_machine.specs.State.{Fm}
-use Rattle.fm_machine.specs.Run.{fm_run, pc_of, outcome}
-use Rattle.fm_machine.specs.declared.processor.Run.TheVariants as run
+use Rattle.fm_machine.specs.Run.{fm_run, pc_of}
 use Rattle.fm_image.specs.Image.{ImageOf}
 use Rattle.fm_loader.specs.Loaded.{loaded}
 use Rattle.display_maps.specs.Reading.{word_in}
@@ -23,8 +22,9 @@ use Rattle.gypsy_meaning.specs.Seen.RunView.{top_way}
 use Rattle.gypsy_codegen.specs.WordsOf.{number_of_way}
 use Rattle.gypsy_codegen.specs.Generated.{offset, generated_view}
 use Rattle.gypsy_codegen.specs.Showing.{mark_of}
-use Rattle.gypsy_codegen.specs.Moments.{moment_from, NeverEnds}
-use Rattle.stack_build.specs.Implements.{FitsFormals, ComesTo, meaning_shown}
+use Rattle.gypsy_codegen.specs.Moments.{moment_from}
+use Rattle.stack_build.specs.Implements.{FitsFormals, meaning_shown}
+use Rattle.stack_build.specs.ComesTo.{ComesTo}
 
 -- the frame at r0 has the index of variable b, and item h of its value is the word that lies the index and h below the window's last
 pub record HoldsVariable (q : Program) (image : ImageOf) (m : Fm) (p b : ℕ) (v : ValueOf) : Type 0 where
@@ -75,9 +75,3 @@ abbrev pub KeepsMoments : ImageOf → SourceOf → StackSizes → Type 0
 KeepsMoments image source sizes =
     (values : List ValueOf) (j : ℕ) → FitsFormals source values →
     ArrivesAt source sizes image values (moment_from (program_of source) sizes values j)
-
--- Where the source never ends on some values, a run of the image is unfinished at every budget.
-abbrev pub StaysUnfinished : ImageOf → SourceOf → StackSizes → Type 0
-StaysUnfinished image source sizes =
-    (values : List ValueOf) (budget : ℕ) → FitsFormals source values → NeverEnds (program_of source) sizes values →
-    (outcome budget image.final_pc (loaded image values)).run ≡ run.Spent

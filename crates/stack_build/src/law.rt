@@ -3,6 +3,10 @@
 ghost use Rattle.stack_build.specs.Inside.{BuiltAtBase, BuiltRunsInside};
 ghost use Rattle.stack_build.specs.Joined.{GeneratedImageImplements, BuiltImplements, BuiltTakesValues};
 ghost use Rattle.stack_build.specs.PlacedWords.{PlacedAreWords};
+ghost use Rattle.stack_build.specs.Meant.{KeptMeansOnly};
+ghost use Rattle.stack_build.specs.ReadMoments.{KeptMomentsAreSaid};
+ghost use Rattle.stack_build.specs.StandsForPiton.{GeneratedImageStandsForPiton};
+ghost use Rattle.stack_build.specs.Traces.{GeneratedImageKeepsTraces};
 ghost use Rattle.stack_build.specs.SourceMoments.{MomentsAreRead, ShownMomentsAreRead};
 
 /// The image of each accepted source, at sizes and a base within the limits, does what the source means: loaded with
@@ -47,4 +51,33 @@ pub fn builds_stay_inside()
     ensures inside { BuiltRunsInside }
 {
     builds_implement();
+}
+
+/// What a run of an image that keeps to its source at every moment ends with is what the source means; no such run needs an address
+/// outside the window; and where the meaning is done at no bound, none comes to an end.
+pub fn runs_are_meant()
+    ensures { KeptMeansOnly }
+{}
+
+/// After each number of steps of a source's step machine memory is read, by the image's own tables, as that state; and at the end as
+/// the meaning.
+pub fn images_say_moments()
+    ensures { KeptMomentsAreSaid }
+{}
+
+/// At every step of Piton's machine, also between two moments of a source, the processor that is loaded with the source's image and
+/// values stands for it, in the instructions that the steps cost.
+pub fn images_stand_for_piton()
+    ensures { GeneratedImageStandsForPiton }
+{
+    gypsy_codegen::generated_is_acceptable();
+}
+
+/// At every moment memory has all activations of the step machine, from the frame at r0 on: also those that wait, each with the variables
+/// that it would get back now.
+pub fn images_keep_traces()
+    ensures { GeneratedImageKeepsTraces }
+{
+    gypsy_codegen::moments_have_frames();
+    gypsy_codegen::generated_is_acceptable();
 }

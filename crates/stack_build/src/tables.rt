@@ -3,7 +3,7 @@
 ghost use Rattle.std.specs.Prelude.{◌≡◌, ◌<◌, ◌≤◌, ◌+◌, ◌^◌, ◌∷◌, ◌++◌, [], length, map, slice_get, IfOk, OnOk};
 ghost use Rattle.std.specs.List.{list_all};
 ghost use Rattle.std.specs.Option.{option_map};
-ghost use Rattle.fm_image.specs.Image.{is_place};
+ghost use Rattle.fm_image.specs.Limits.{is_place};
 ghost use Rattle.display_maps.specs.Reading.{space_name};
 ghost use Rattle.piton_check.specs.Instruction.{SystemView};
 ghost use Rattle.piton_linker.specs.Layouts.{places_of};

@@ -2,7 +2,7 @@
 use Rattle.std.proofs.Common.{◌≡◌, ◌≤◌, ℕ, length, Some, None, true, false, refl, arith}
 use Rattle.std.specs.Prelude.{◌^◌, IsTrue}
 use Rattle.std.proofs.lemmas.Bool.{and_from, le-leb, le-ltb, lt-ltb}
-use Rattle.fm_image.specs.Image.{all_after, is_image}
+use Rattle.fm_image.specs.Limits.{all_after, is_image}
 use Rattle.fm_image.specs.Spelling.{spelling, Spelled}
 use Rattle.fm_image.proofs.LimitLaws.{from_limits}
 use Rattle.piton_check.specs.PitonChecking.{CheckedOf, IsChecked}

@@ -1,6 +1,6 @@
 //! The command `migrate`.
 ghost use Rattle.std.specs.Prelude.{◌≡◌, Some, IfOk};
-ghost use Rattle.fm_image.specs.Image.{in_version_2};
+ghost use Rattle.fm_image.specs.Limits.{in_version_2};
 ghost use Rattle.fm_image.specs.Spelling.{spelling};
 ghost use Rattle.stack_commands.specs.Commands.Migrate.{migrate_stored, migrate_reply};
 ghost use Rattle.stack_commands.specs.Commands.Pit.{written_reply};

@@ -10,7 +10,7 @@ use crate::plan::{Pending, Plan};
 use crate::reply::{Reply, Verdict};
 use display_maps::{read_up, report};
 use fm_image::{Image, ImageFault, read_image};
-use fm_loader::{ValuesFault, load, read_values};
+use fm_loader::{ValuesFault, load, read_image_values};
 use fm_machine::{Machine, Run};
 use stack_text::{Memory, Seq};
 use std::alloc::Global;
@@ -39,7 +39,7 @@ pub fn begin(alloc: Global, image: Image, values: &[u8], budget: u64) -> Result<
     ensures { IfOk result (λ pending.
         pending_reply pending ≡ values_reply image budget (values_in image.slots values.now)) }
 {
-    match read_values(alloc, values, &image.slots) {
+    match read_image_values(alloc, values, &image) {
         Ok(values) => Ok(Pending::Run(ImageRun {
             image,
             values: Seq::from_vec(values),

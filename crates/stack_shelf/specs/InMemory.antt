@@ -59,6 +59,14 @@ after_put sink bytes (Err putting.Failed) =
     }
 after_put sink bytes (Err putting.Memory) = record sink { calls = saturating_increment sink.calls }
 
+-- a shelf after a fetch that gave bytes
+abbrev pub given_by : MemoryShelfOf → List ℕ → List ℕ → MemoryShelfOf
+given_by shelf name bytes = record shelf { calls = saturating_increment shelf.calls }
+
+-- a shelf after a store of these bytes under this name that succeeded
+abbrev pub filed_by : MemoryShelfOf → List ℕ → List ℕ → MemoryShelfOf
+filed_by shelf name bytes = record shelf { files = put_file shelf.files name bytes; calls = saturating_increment shelf.calls }
+
 -- a shelf after a fetch with this result
 abbrev pub after_fetch : {X : Type 0} → MemoryShelfOf → Result X FetchFault → MemoryShelfOf
 after_fetch shelf (Err fetching.Failed) =
@@ -71,8 +79,7 @@ after_fetch shelf _ = record shelf { calls = saturating_increment shelf.calls }
 
 -- a shelf after a store with this result
 abbrev pub after_store : {X : Type 0} → MemoryShelfOf → List ℕ → List ℕ → Result X StoreFault → MemoryShelfOf
-after_store shelf name bytes (Ok _) =
-    record shelf { files = put_file shelf.files name bytes; calls = saturating_increment shelf.calls }
+after_store shelf name bytes (Ok _) = filed_by shelf name bytes
 after_store shelf name bytes (Err storing.Failed) =
     record shelf {
       files = put_file shelf.files name (kept_prefix shelf.failing shelf.calls bytes);

@@ -61,6 +61,10 @@ impl<R: Files + Drop> Shelf for FolderShelf<R> {
 
     ghost counts = { for_each_name };
 
+    ghost gave = { λ s _ _. s };
+
+    ghost got = { λ s _ _. s };
+
     fn fetch(&mut self, alloc: Global, name: &str, limit: u64) -> Result<Vec<u8>, FetchFault>
         ensures length { IfOk result (λ bytes. length bytes.items ≤ limit) }
         ensures counts { NoneFell (for_each_name self.old) (for_each_name self.new) }

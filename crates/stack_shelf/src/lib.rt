@@ -14,6 +14,9 @@
 //! each fault of its kind. Code that holds a shelf only by its trait can't raise a count except by
 //! a call, so a count that rose is evidence that a call of the shelf raised it.
 //!
+//! `gave`, `got` and `took` say what a device is after a call that went well. By them a caller's clause tells which calls it
+//! made, in which order and with what, over every device.
+//!
 //! # The edge
 //!
 //! `FolderShelf` and `StdoutSink` open a stream and hand it to a function that is generic over `Read`
@@ -32,7 +35,8 @@
 //! 3. Say in a clause of your own what the value is after each answer, as `after` does in the four
 //!    of this crate. Such clauses replace the trait's and have to imply them. Repeat
 //!    `counts` (of a sink, `faults`), since a model doesn't show that a count fits a `u64`.
-//! 4. `files`, where they are told, is a list: a file that is stored again keeps its place, and a new
+//! 4. `gave` and `got` are what that value is after such a call: the shelf itself where it is as before.
+//! 5. `files`, where they are told, is a list: a file that is stored again keeps its place, and a new
 //!    name comes last.
 #![tactic(auto)]
 

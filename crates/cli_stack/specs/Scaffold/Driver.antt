@@ -12,16 +12,14 @@ use Rattle.command_line.specs.declared.status.Status.{Status}
 use Rattle.command_line.specs.declared.status.Status.TheVariants as exit
 use Rattle.command_line.specs.Devices.{EndsAtOne}
 use Rattle.command_line.specs.Ends.{end_status, end_line}
-use Rattle.command_line.specs.Gathered.{Texts}
 use Rattle.command_line.specs.CommandFiles.{input_names, file_names}
 use Rattle.cli_stack.specs.declared.driver.conclude.Conclusion.{Conclusion}
 use Rattle.stack_commands.specs.declared.reply.Reply.{Reply}
-use Rattle.stack_commands.specs.declared.reply.Verdict.TheVariants.{Usage}
-use Rattle.stack_commands.specs.Replies.{status_of, verdict_line, reply_of, verdict_alone}
-use Rattle.stack_commands.specs.Prepared.{reply_by}
+use Rattle.stack_commands.specs.Replies.{status_of, verdict_line, reply_of}
 use Rattle.cli_stack.specs.Answer.{Answer, answer_with, early_answer, answer_by, files_after}
 use Rattle.cli_stack.specs.World.{ShelfOf, OutOf}
-use Rattle.cli_stack.specs.Remains.{HoldsPart, FaultRose}
+use Rattle.cli_stack.specs.Remains.{HoldsPart}
+use Rattle.cli_stack.specs.Causes.{RoseAt}
 
 -- 1. Performing a command.
 
@@ -30,11 +28,6 @@ abbrev pub HasReason : Counts → Counts → Option Command → EarlyEnd → Typ
 HasReason before after command (Missing name) = EndsAtOne before after (input_names command) (Missing name)
 HasReason before after command (TooLong limit) = EndsAtOne before after (input_names command) (TooLong limit)
 HasReason before after command end = EndsAtOne before after (file_names command) end
-
--- the reply is the command's to some texts
-abbrev pub IsReplyTo : Option Command → List Watching → Reply → Type 0
-IsReplyTo None watches reply = reply_of reply ≡ verdict_alone Usage
-IsReplyTo (Some command) watches reply = (texts : Texts) × (reply_of reply ≡ reply_by command watches texts)
 
 -- the files and the end of a command with these file names and this answer over known files
 abbrev pub LeavesAs : Answer → List (List ℕ) → Files → ShelfOf → ShelfOf → Result Reply EarlyEnd → Type 0
@@ -47,7 +40,7 @@ LeavesAs answer names files before after (Err (TooLong limit)) =
 LeavesAs answer names files before after (Err (ShelfFault name)) = HoldsPart (Some files) after.files answer.output
 LeavesAs answer names files before after (Err OutOfMemory) =
     (after.files ≡ Some files) ⊎ ((after.files ≡ Some (files_after answer.output files))
-    ⊎ (HoldsPart (Some files) after.files answer.output × FaultRose names before.counts after.counts))
+    ⊎ (HoldsPart (Some files) after.files answer.output × RoseAt (λ c. c.faults) names before after (λ name. Unit {0})))
 
 abbrev pub Leaves : Option Command → List Watching → Files → ShelfOf → ShelfOf → Result Reply EarlyEnd → Type 0
 Leaves command watches files before after ran = LeavesAs (answer_by command watches files) (file_names command) files before after ran
@@ -66,10 +59,11 @@ conclusion_of (Ok reply) =
 conclusion_of (Err OutOfMemory) = None
 conclusion_of (Err end) = Some (record { text = end_line end; status = end_status end; machine = None })
 
--- all was printed, and the machine is kept
-pub record Printed (conclusion : Conclusion) (status : Status) (before after : OutOf) : Type 0 where
+-- all was printed, so the sink took it as `Took` says, and the machine is kept
+pub record Printed (Took : List ℕ → Type 0) (conclusion : Conclusion) (status : Status) (before after : OutOf) : Type 0 where
   pub ends : status ≡ conclusion.status
   pub text : after.taken ≡ appended before.taken conclusion.text
+  pub took : Took conclusion.text
   pub machine : after.kept ≡ machine_kept before.kept conclusion.machine
 
 -- printing stopped before its end: the sink failed, or memory ran out
@@ -84,7 +78,7 @@ pub record NotBegun (status : Status) (before after : OutOf) : Type 0 where
   pub text : after.taken ≡ before.taken
   pub machine : after.kept ≡ before.kept
 
-abbrev pub Concludes : Option Conclusion → Status → OutOf → OutOf → Type 0
-Concludes found status before after =
+abbrev pub Concludes : (List ℕ → Type 0) → Option Conclusion → Status → OutOf → OutOf → Type 0
+Concludes Took found status before after =
     NotBegun status before after
-    ⊎ IsSomeAnd found (λ conclusion. Printed conclusion status before after ⊎ Stopped conclusion status before after)
+    ⊎ IsSomeAnd found (λ conclusion. Printed Took conclusion status before after ⊎ Stopped conclusion status before after)

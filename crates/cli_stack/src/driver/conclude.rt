@@ -1,6 +1,7 @@
 //! Prints how a command ended, and keeps its machine.
 ghost use Rattle.std.specs.Prelude.{◌≡◌, IfOk, Some};
 ghost use Rattle.cli_stack.specs.World.{out_of};
+ghost use Rattle.cli_stack.specs.RepliesTo.{TookLines};
 ghost use Rattle.cli_stack.specs.Scaffold.Driver.{machine_kept, conclusion_of, Concludes};
 
 use command_line::{EarlyEnd, Status, print};
@@ -65,7 +66,8 @@ fn print_conclusion<K: Sink>(
     out: &mut K,
     kept: &mut Option<Machine>,
 ) -> Status
-    ensures { Concludes (Some conclusion) result (out_of (K.taken out.old) (K.faults out.old) kept.old)
+    ensures { Concludes (TookLines K.took out.old out.new) (Some conclusion) result
+        (out_of (K.taken out.old) (K.faults out.old) kept.old)
         (out_of (K.taken out.new) (K.faults out.new) kept.new) }
 {
     let Conclusion {
@@ -90,7 +92,8 @@ pub fn conclude<K: Sink>(
     out: &mut K,
     kept: &mut Option<Machine>,
 ) -> Status
-    ensures { Concludes (conclusion_of ran) result (out_of (K.taken out.old) (K.faults out.old) kept.old)
+    ensures { Concludes (TookLines K.took out.old out.new) (conclusion_of ran) result
+        (out_of (K.taken out.old) (K.faults out.old) kept.old)
         (out_of (K.taken out.new) (K.faults out.new) kept.new) }
 {
     match conclusion_of(alloc, ran) {

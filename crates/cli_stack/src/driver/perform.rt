@@ -5,7 +5,9 @@ ghost use Rattle.stack_shelf.specs.Causes.{NoneFell};
 ghost use Rattle.command_line.specs.CommandWords.{spelled};
 ghost use Rattle.command_line.specs.CommandRows.{command_of};
 ghost use Rattle.cli_stack.specs.World.{shelf_of};
-ghost use Rattle.cli_stack.specs.Scaffold.Driver.{Leaves, HasReason, IsReplyTo};
+ghost use Rattle.stack_commands.specs.Replies.{reply_of};
+ghost use Rattle.cli_stack.specs.RepliesTo.{IsReplyTo};
+ghost use Rattle.cli_stack.specs.Scaffold.Driver.{Leaves, HasReason};
 
 use command_line::{Command, EarlyEnd, WordsFault, command_of, gather, save};
 use level_debuggers::Watch;
@@ -25,8 +27,8 @@ fn perform<S: Shelf>(
         (shelf_of (S.files shelf.old) (S.counts shelf.old))
         (shelf_of (S.files shelf.new) (S.counts shelf.new)) result) }
     ensures reason { IfErr result (HasReason (S.counts shelf.old) (S.counts shelf.new) (Some command.now)) }
-    ensures reply { IfOk result (IsReplyTo (Some command.now)
-        (map (λ w. watching (rule_of w) (tally_of w)) watches.items)) }
+    ensures reply { IfOk result (λ reply. IsReplyTo S.gave S.got shelf.old shelf.new (Some command.now)
+        (map (λ w. watching (rule_of w) (tally_of w)) watches.items) (reply_of reply)) }
     ensures counts { NoneFell (S.counts shelf.old) (S.counts shelf.new) }
 {
     let texts = gather(alloc, shelf, &command.inputs(alloc)?)?;
@@ -50,8 +52,9 @@ pub fn run_words<S: Shelf>(
         (shelf_of (S.files shelf.new) (S.counts shelf.new)) result) }
     ensures reason { IfErr result
         (HasReason (S.counts shelf.old) (S.counts shelf.new) (command_of (spelled words.now))) }
-    ensures reply { IfOk result (IsReplyTo (command_of (spelled words.now))
-        (map (λ w. watching (rule_of w) (tally_of w)) watches.items)) }
+    ensures reply { IfOk result (λ reply. IsReplyTo S.gave S.got shelf.old shelf.new
+        (command_of (spelled words.now))
+        (map (λ w. watching (rule_of w) (tally_of w)) watches.items) (reply_of reply)) }
     ensures counts { NoneFell (S.counts shelf.old) (S.counts shelf.new) }
 {
     match command_of(alloc, words) {

@@ -2,7 +2,7 @@
 use Rattle.std.specs.Prelude.{◌≡◌, ◌≤◌, ℕ, List, length, map, true}
 use Rattle.std.specs.List.{list_all, IsDistinct}
 use Rattle.std.specs.Str.{bytes_eq}
-use Rattle.fm_image.specs.Image.{most_marked_conditions}
+use Rattle.fm_image.specs.Limits.{most_marked_conditions}
 use Rattle.stack_text.specs.SharedLimits.{most_array, most_declared}
 use Rattle.stack_text.specs.Names.{is_name}
 use Rattle.stack_text.specs.declared.shape.Shape.{Shape}

@@ -1,6 +1,7 @@
 -- The command `migrate`.
 use Rattle.std.specs.Prelude.{ℕ, List, Option, Some, None, Result, Ok, Err}
-use Rattle.fm_image.specs.Image.{ImageOf, in_version_2}
+use Rattle.fm_image.specs.Image.{ImageOf}
+use Rattle.fm_image.specs.Limits.{in_version_2}
 use Rattle.fm_image.specs.Reading.{read_of}
 use Rattle.fm_image.specs.Spelling.{spelling}
 use Rattle.stack_commands.specs.declared.reply.Verdict.TheVariants.{Image}

@@ -1,7 +1,7 @@
 -- A run of an image on values, and the command `run`.
 use Rattle.std.specs.Prelude.{ℕ, List, [], Some, Result, Ok, Err}
 use Rattle.stack_text.specs.Values.{ValueOf}
-use Rattle.fm_machine.specs.Run.{RunOutcome, outcome}
+use Rattle.fm_machine.specs.Outcome.{RunOutcome, outcome}
 use Rattle.fm_machine.specs.State.{Fm}
 use Rattle.fm_machine.specs.declared.processor.Run.{Run}
 use Rattle.fm_machine.specs.declared.processor.Run.TheVariants as run

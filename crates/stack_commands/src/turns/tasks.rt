@@ -12,7 +12,7 @@ ghost use Rattle.stack_commands.specs.Scaffold.Tasks.{fault_of, AreReady};
 use crate::reply::Verdict;
 use crate::source_text::verdict_of;
 use fm_image::Image;
-use fm_loader::{ValuesFault, read_values};
+use fm_loader::{ValuesFault, read_image_values};
 use fm_words::MOST_WINDOW;
 use stack_build::{build, builds_implement, builds_stay_inside};
 use stack_text::{MOST_TASKS, Memory, Value};
@@ -155,7 +155,7 @@ fn read_task(alloc: Global, i: u32, image: &Image, text: &[u8]) -> Result<Vec<Va
         (values_or_fault i (values_in image.now.slots text.now)) }
     ensures fits { IfOk result (λ values. Fits image.now.slots values.items) }
 {
-    match read_values(alloc, text, &image.slots) {
+    match read_image_values(alloc, text, image) {
         Ok(values) => Ok(values),
         Err(ValuesFault::Refused { rule, place }) => Err(TasksFault::Refused {
             number: i + 1,

@@ -1,5 +1,5 @@
 use Rattle.std.proofs.Common.{◌≡◌, ◌≤◌, ◌^◌, ◌-◌, ◌∙◌, ap, subst, sym, true, ℕ, List, ◌∷◌, arith}
-use Rattle.fm_image.specs.Image.{are_tables}
+use Rattle.fm_image.specs.Limits.{are_tables}
 use Rattle.display_maps.specs.Reading.{space_name}
 use Rattle.piton_check.specs.Instruction.{SystemView}
 use Rattle.piton_check.specs.Sound.{IsSound}

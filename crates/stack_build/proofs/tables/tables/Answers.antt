@@ -1,6 +1,6 @@
 use Rattle.std.proofs.Common.{◌≡◌, ◌∙◌, List, true, map, sym, ap, subst, rules}
 use Rattle.std.specs.List.{list_all}
-use Rattle.fm_image.specs.Image.{is_place}
+use Rattle.fm_image.specs.Limits.{is_place}
 use Rattle.gypsy_syntax.specs.declared.proc.Proc.{Proc}
 use Rattle.gypsy_syntax.specs.declared.proc.Source.{Source}
 use Rattle.gypsy_syntax.specs.Seen.SourceView.{proc_of, source_of}

@@ -1,5 +1,0 @@
-use Rattle.fm_loader.proofs.ImageLaws.{own_names}
-use Rattle.stack_commands.proofs.run.begin.Goals as goal
-
-pub read_values-requires-clause-names : goal.read_values-requires-clause-names
-read_values-requires-clause-names c = rw c.deref.ensures.value (own_names _ c.image.invariant)
