@@ -1,0 +1,29 @@
+#!/usr/bin/env bash
+# The processor's Verilog text: its pictures are current, simulators do with it what the machine does, also on the built program's images,
+# and Yosys proves its netlist equal to it. Where a tool isn't installed, a line says what wasn't seen, and the check passes. --all takes
+# more of everything.
+set -u
+export STACK_EXPLAIN=0 PYTHONDONTWRITEBYTECODE=1
+top=$(cd "$(dirname "${BASH_SOURCE[0]}")/../.." && pwd)
+tools=$top/.ci/tools
+failed=0
+
+# look WHAT COMMAND ..: says what a command says. Status 2 is that a tool isn't there.
+look() {
+    local told status
+    told=$("${@:2}" 2>&1)
+    status=$?
+    [ "$status" = 2 ] && told="not seen: $1. $told"
+    [ "$status" = 0 ] || [ "$status" = 2 ] || failed=1
+    [ -z "$told" ] || echo "circuit: ${told//$'\n'/$'\n'circuit: }"
+}
+
+# Without words the program only says how it is used. So it is built where it isn't built yet.
+"$top/stack" >/dev/null
+program=$top/crates/cli_stack/out/cli_stack
+look "the pictures" python3 "$tools/circuit_pictures.py" --check
+look "the circuit in Icarus Verilog" python3 "$tools/circuit.py" "$program" --simulator icarus "$@"
+look "the circuit in Verilator" python3 "$tools/circuit.py" "$program" --simulator verilator "$@"
+look "the circuit beside its netlist" python3 "$tools/same_circuit.py" "$@"
+[ "$failed" = 0 ] && echo "circuit: ok"
+exit "$failed"

@@ -1,0 +1,2 @@
+pub mod LoadedLaws
+pub mod BoardLaws

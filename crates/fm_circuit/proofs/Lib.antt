@@ -1,0 +1,12 @@
+pub mod SettledLaws
+pub mod AdderLaws
+pub mod PhaseLaws
+pub mod ResultLaws
+pub mod WordFields
+pub mod ExecuteLaws
+pub mod PassLaws
+pub mod WordsLaws
+pub mod StageLaws
+pub mod FollowLaws
+pub mod RunningLaws
+pub mod SizeLaws

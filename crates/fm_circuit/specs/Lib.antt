@@ -1,0 +1,9 @@
+pub mod Widths
+pub mod Phases
+pub mod Rows
+pub mod Processor
+pub mod Circuit
+pub mod Board
+pub mod Following
+pub mod Sizes
+pub mod Laws

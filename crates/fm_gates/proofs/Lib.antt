@@ -1,0 +1,4 @@
+pub mod BitLaws
+pub mod GateLaws
+pub mod WordLaws
+pub mod NetLaws

@@ -1,0 +1,2 @@
+pub mod WireNames
+pub mod VerilogText

@@ -1,0 +1,8 @@
+//! The processor's circuit as Verilog.
+#![tactic(auto)]
+
+mod text;
+mod wire_name;
+
+pub use text::verilog;
+pub use wire_name::name;
