@@ -1,0 +1,10 @@
+pub mod TableLaws
+pub mod CountedTableLaws
+pub mod WrittenLaws
+pub mod Rules
+pub mod PredefinedRules
+pub mod NumberFacts
+pub mod CountedRules
+pub mod EndlessRules
+pub mod LoopRules
+pub mod ItemFacts

@@ -1,0 +1,130 @@
+-- What is proved of a program, in the memory of its image.
+use Rattle.std.proofs.Common.{◌≡◌, ℕ, suc, List, Option, Some, None, Ok, refl, sym, ap, ◌∙◌, subst}
+use Rattle.std.specs.Prelude.{option_map}
+use Rattle.stack_text.specs.declared.breach.Breach.{Breach}
+use Rattle.stack_text.specs.Breaches.{least}
+use Rattle.stack_text.specs.Values.{ValueOf}
+use Rattle.fm_image.specs.Image.{ImageOf}
+use Rattle.gypsy_syntax.specs.GypsyReading.{gypsy_in}
+use Rattle.gypsy_syntax.specs.Programs.{Program, proc_at}
+use Rattle.gypsy_syntax.specs.Resolved.{program_of}
+use Rattle.gypsy_syntax.specs.Sources.{SourceOf}
+use Rattle.gypsy_syntax.specs.ValuesFit.{VarsFit}
+use Rattle.gypsy_check.specs.Rules.{violations}
+use Rattle.gypsy_space.specs.Costs.{Tally}
+use Rattle.gypsy_space.specs.Needs.{StackSizes, stack_sizes}
+use Rattle.gypsy_meaning.specs.Calls.{CurrentCondition}
+use Rattle.gypsy_meaning.specs.Meaning.{Done, Unfinished, meaning}
+use Rattle.gypsy_meaning.specs.Counted.{CountedOutcome, CountedDone, CountedUnfinished, uncounted, tally_of, counted_meaning}
+use Rattle.gypsy_meaning.proofs.CountLaws.{meaning-uncounted}
+use Rattle.gypsy_meaning.specs.Machine.{State, Move, Next, Ended, start}
+use Rattle.gypsy_meaning.specs.Seen.Moments.{moment_from, NeverEnds}
+use Rattle.gypsy_meaning.proofs.Runs.{agree}
+use Rattle.gypsy_logic.specs.Counts.{MeansAfter, IsAfter}
+use Rattle.gypsy_logic.specs.Endless.{IsEndless}
+use Rattle.gypsy_logic.specs.Ends.{Means, Is}
+use Rattle.gypsy_codegen.proofs.MomentLaws.{moment_over}
+use Rattle.stack_build.specs.Build.{accepted_unless, accepted_by, source_in, BuiltOf, BuildsText}
+use Rattle.stack_build.specs.Formals.{shown_names, formal_conditions}
+use Rattle.stack_build.specs.Implements.{Finishes, Implements, FitsFormals, meaning_shown}
+use Rattle.stack_build.specs.ComesTo.{ComesTo}
+use Rattle.stack_build.specs.StaysUnfinished.{StaysUnfinished}
+use Rattle.program_images.specs.Shows.{Shows, RunsOn}
+use Rattle.display_maps.specs.Reading.{ReadingOf}
+use Rattle.program_images.specs.TextPrograms.{source_of_text, IsText, reading_of}
+
+module _ (source : SourceOf) (sizes : StackSizes) (values finals : List ValueOf) (way : CurrentCondition) (n : ℕ) where
+  -- a meaning that is done has a count
+  counted : (o : CountedOutcome) → counted_meaning (program_of source) sizes values n ≡ o → meaning (program_of source) sizes values n ≡ Done finals way → (count : ℕ) × Finishes source sizes values finals way count
+  counted (CountedDone x c t) e done =
+      (t.count, record { bound = n; done = done; counted = ap (λ (o : CountedOutcome). option_map (λ (t : Tally). t.count) (tally_of o)) e })
+  counted CountedUnfinished e done =
+      absurd (let same : Unfinished ≡ Done finals way = sym (ap uncounted e) ∙ meaning-uncounted (program_of source) sizes values n ∙ done in cc)
+
+pub means_shown : (image : ImageOf) (source : SourceOf) (sizes : StackSizes) (values finals : List ValueOf) (way : CurrentCondition) → Implements image source sizes → FitsFormals source values → Means (program_of source) sizes values (Is finals way) → Shows image values (meaning_shown source finals way)
+means_shown image source sizes values finals way implements fits m =
+    let done : meaning (program_of source) sizes values m.bound ≡ Done finals way = m.done ∙ ap (λ (x : List ValueOf). Done x m.way) m.holds.0 ∙ ap (Done finals) m.holds.1 in
+    let f = counted source sizes values finals way m.bound (counted_meaning (program_of source) sizes values m.bound) refl done in
+    record { count = f.0; comes = implements values finals way f.0 fits f.1 }
+
+pub means_shown_after : (image : ImageOf) (source : SourceOf) (sizes : StackSizes) (values finals : List ValueOf) (way : CurrentCondition) (count : ℕ) → Implements image source sizes → FitsFormals source values → MeansAfter (program_of source) sizes values (IsAfter finals way count) → ComesTo image values count (meaning_shown source finals way)
+means_shown_after image source sizes values finals way count implements fits m =
+    let done : meaning (program_of source) sizes values m.bound ≡ Done finals way =
+    sym (meaning-uncounted (program_of source) sizes values m.bound) ∙ ap uncounted m.done ∙ ap (λ (x : List ValueOf). Done x m.way) m.holds.0 ∙ ap (Done finals) m.holds.1 in
+    let counted = ap (λ (o : CountedOutcome). option_map (λ (t : Tally). t.count) (tally_of o)) m.done ∙ ap Some m.holds.2 in
+    implements values finals way count fits record { bound = m.bound; done = done; counted = counted }
+
+-- ---- programs that never end
+
+never_ends : (q : Program) (sizes : StackSizes) (v : List ValueOf) → IsEndless q sizes v → NeverEnds q sizes v
+never_ends q sizes v endless j = pick (moment_from q sizes v j) refl
+  where
+    pick : (m : Move) → moment_from q sizes v j ≡ m → (g : State) × (m ≡ Next g)
+    pick (Next g) e = (g, refl)
+    pick (Ended x c t) e =
+        let over = (agree q sizes v).ended j x c t (moment_over q sizes j (start q v) x c t e) in
+        absurd (let f : Unfinished ≡ Done x c = sym (endless.unfinished (suc j)) ∙ sym (meaning-uncounted q sizes v (suc j)) ∙ ap uncounted over in cc)
+
+pub never_ends_unfinished : (image : ImageOf) (source : SourceOf) (sizes : StackSizes) (values : List ValueOf) → StaysUnfinished image source sizes → FitsFormals source values → IsEndless (program_of source) sizes values → RunsOn image values
+never_ends_unfinished image source sizes values stays fits endless budget =
+    stays values budget fits (never_ends (program_of source) sizes values endless)
+
+-- ---- from a text
+
+accepted_is : (s t : SourceOf) (breach : Option Breach) → accepted_unless s breach ≡ Ok t → t ≡ s
+accepted_is s t None e = cc
+accepted_is s t (Some b) e = cc
+
+pub one_source : (text : List ℕ) (s t : SourceOf) → gypsy_in text ≡ Ok s → source_in text ≡ Ok t → t ≡ s
+unfolding source_in
+one_source text s t form read = accepted_is s t (least (violations s)) (sym (ap accepted_by form) ∙ read)
+
+-- the source of a text that was built, with a program, the names and the conditions that the text has
+record SourceOfText (q : Program) (names conditions : List (List ℕ)) (sizes : StackSizes) (image : ImageOf) (values : List ValueOf) : Type 0 where
+  source : SourceOf
+  resolves : program_of source ≡ q
+  names_are : shown_names source ≡ names
+  conditions_are : formal_conditions source ≡ conditions
+  implements : Implements image source sizes
+  unfinished : StaysUnfinished image source sizes
+  fits : FitsFormals source values
+
+of_text : {text : List ℕ} {q : Program} {names conditions : List (List ℕ)} {ctrl temp : ℕ} {built : BuiltOf} {values : List ValueOf} → IsText text q names conditions → BuildsText text ctrl temp built → VarsFit (proc_at q q.main).formals values → SourceOfText q names conditions (stack_sizes ctrl temp) built.image values
+of_text {text = text} {q = q} {ctrl = ctrl} {temp = temp} {built = built} {values = values} is builds fits =
+    let same = one_source text (source_of_text text) builds.source is.reads builds.read in
+    record {
+      source = source_of_text text;
+      resolves = is.resolves;
+      names_are = is.names_are;
+      conditions_are = is.conditions_are;
+      implements = subst (λ (s : SourceOf). Implements built.image s (stack_sizes ctrl temp)) same builds.builds.implements;
+      unfinished = subst (λ (s : SourceOf). StaysUnfinished built.image s (stack_sizes ctrl temp)) same builds.builds.unfinished;
+      fits = subst (λ (p : Program). VarsFit (proc_at p p.main).formals values) (sym is.resolves) fits;
+    }
+
+module _ {q : Program} {names conditions : List (List ℕ)} {sizes : StackSizes} {image : ImageOf} {values : List ValueOf} where
+  -- what is read of memory, by these names and conditions
+  by_names : (o : SourceOfText q names conditions sizes image values) (finals : List ValueOf) (way : CurrentCondition) (P : ReadingOf → Type 0) → P (meaning_shown o.source finals way) → P (reading_of names conditions finals way)
+  by_names o finals way P h =
+      subst (λ (ns : List (List ℕ)). P (reading_of ns conditions finals way)) o.names_are
+      (subst (λ (cs : List (List ℕ)). P (reading_of (shown_names o.source) cs finals way)) o.conditions_are h)
+
+-- What is built of a text whose program means this: its memory shows it, whatever the sizes and the window.
+pub shown_by : {text : List ℕ} {q : Program} {names conditions : List (List ℕ)} {ctrl temp : ℕ} {built : BuiltOf} {values finals : List ValueOf} {way : CurrentCondition} → IsText text q names conditions → BuildsText text ctrl temp built → VarsFit (proc_at q q.main).formals values → Means q (stack_sizes ctrl temp) values (Is finals way) → Shows built.image values (reading_of names conditions finals way)
+shown_by {ctrl = ctrl} {temp = temp} {built = built} {values = values} {finals = finals} {way = way} is builds fits means =
+    let o = of_text is builds fits in
+    by_names o finals way (Shows built.image values)
+    (means_shown built.image o.source (stack_sizes ctrl temp) values finals way o.implements o.fits (subst (λ (p : Program). Means p (stack_sizes ctrl temp) values (Is finals way)) (sym o.resolves) means))
+
+-- the same with the number of instructions
+pub shown_after_by : {text : List ℕ} {q : Program} {names conditions : List (List ℕ)} {ctrl temp : ℕ} {built : BuiltOf} {values finals : List ValueOf} {way : CurrentCondition} {count : ℕ} → IsText text q names conditions → BuildsText text ctrl temp built → VarsFit (proc_at q q.main).formals values → MeansAfter q (stack_sizes ctrl temp) values (IsAfter finals way count) → ComesTo built.image values count (reading_of names conditions finals way)
+shown_after_by {ctrl = ctrl} {temp = temp} {built = built} {values = values} {finals = finals} {way = way} {count = count} is builds fits means =
+    let o = of_text is builds fits in
+    by_names o finals way (ComesTo built.image values count)
+    (means_shown_after built.image o.source (stack_sizes ctrl temp) values finals way count o.implements o.fits (subst (λ (p : Program). MeansAfter p (stack_sizes ctrl temp) values (IsAfter finals way count)) (sym o.resolves) means))
+
+-- What is built of a text whose program never ends on the values: it is unfinished at every budget.
+pub runs_on_by : {text : List ℕ} {q : Program} {names conditions : List (List ℕ)} {ctrl temp : ℕ} {built : BuiltOf} {values : List ValueOf} → IsText text q names conditions → BuildsText text ctrl temp built → VarsFit (proc_at q q.main).formals values → IsEndless q (stack_sizes ctrl temp) values → RunsOn built.image values
+runs_on_by {ctrl = ctrl} {temp = temp} {built = built} {values = values} is builds fits endless =
+    let o = of_text is builds fits in
+    never_ends_unfinished built.image o.source (stack_sizes ctrl temp) values o.unfinished o.fits (subst (λ (p : Program). IsEndless p (stack_sizes ctrl temp) values) (sym o.resolves) endless)

@@ -1,0 +1,8 @@
+//! From what is proved of a program to what the memory of its image shows, or that a run of it doesn't end.
+//!
+//! The rules are `shown_by`, `shown_after_by` and `runs_on_by` of `proofs/ImageRules`. What they rest on is said here.
+#![tactic(auto)]
+
+mod law;
+
+pub use law::{counts_are_shown, endless_runs_on, means_are_shown, text_has_one_source};

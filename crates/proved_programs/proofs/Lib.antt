@@ -1,0 +1,16 @@
+pub mod TextLaws
+pub mod SumLaws
+pub mod SortLaws
+pub mod IncLaws
+pub mod DownLaws
+pub mod ExclusiveOr
+pub mod NimGameLaws
+pub mod NimLaws
+pub mod ClockLaws
+pub mod BitReading
+pub mod PilesRules
+pub mod PilesLaws
+pub mod GcdRuns
+pub mod InfixRules
+pub mod FaultlessLaws
+pub mod GcdLaws

@@ -1,0 +1,11 @@
+//! Examples that are proved to meet their specifications.
+#![tactic(auto)]
+
+mod building;
+mod law;
+
+pub use building::build_sum;
+pub use law::{
+    clock_goes_round, down_counts, gcd_is_found, inc_increments, nim_is_decided, nim_plays,
+    piles_play, sort_sorts, sum_sums_up,
+};
