@@ -6,13 +6,15 @@ from pathlib import Path
 GUIDE = Path(__file__).resolve().parent
 
 # A row of words, as `go SRC VALS CTRL TEMP BUDGET IMG`. `stores` is the word of the file that it stores, or nothing; `ends` are its
-# statuses beside those of all commands; its examples are lines.
-Command = namedtuple("Command", "name words does prints stores ends examples")
+# statuses beside those of all commands; its examples are lines; `also` are words that others have for it.
+Command = namedtuple("Command", "name words does prints stores ends examples also")
+# A word of the script that is no command of the program, with its row.
+Own = namedtuple("Own", "name row does examples")
 # What a word of a row stands for. Of a number `low` and `high` are its bounds; of a file `limit` is the most bytes that are read, where
 # there is such a limit, and `endings` are those that its name usually has.
 Word = namedtuple("Word", "kind range low high means limit endings")
 Status = namedtuple("Status", "number line means more")
-Catalog = namedtuple("Catalog", "commands words variables statuses")
+Catalog = namedtuple("Catalog", "commands words variables statuses own")
 
 MOST_TASKS = 8
 
@@ -50,23 +52,25 @@ def word_of(kind, fields):
 
 def read_catalog(text=None, waiting=False):
     """The catalog of commands.txt. Commands that wait for the program to have them are in it only where this is asked for."""
-    commands, words, variables, statuses = {}, {}, {}, []
+    commands, words, variables, statuses, own = {}, {}, {}, [], {}
     for fields in blocks(text or (GUIDE / "commands.txt").read_text(encoding="utf-8")):
         kind, (value, *_) = next(iter(fields.items()))
         if kind == "command":
             if waiting or "waits" not in fields:
                 name, *names = value.split()
-                does, prints, stores, ends = (fields.get(it, [""])[0] for it in ("does", "prints", "stores", "ends"))
-                commands[name] = Command(name, names, does, prints, stores, [int(it) for it in ends.split()], fields["example"])
+                does, prints, stores, ends, also = (fields.get(it, [""])[0] for it in ("does", "prints", "stores", "ends", "also"))
+                commands[name] = Command(name, names, does, prints, stores, [int(it) for it in ends.split()], fields["example"], also.split())
         elif kind == "status":
             more = "".join(filter(None, (part_of(it, commands) for it in fields.get("more", []))))
             statuses.append(Status(int(value), fields["line"][0], fields["means"][0], more))
+        elif kind == "own":
+            own[value.split()[0]] = Own(value.split()[0], value, fields["does"][0], fields["example"])
         elif kind == "variable":
             variables[value] = fields["means"][0]
         else:
             for name in value.split(", "):
                 words[name] = word_of(kind, fields)
-    return Catalog(commands, words, variables, statuses)
+    return Catalog(commands, words, variables, statuses, own)
 
 
 def expected(command, count):

@@ -29,10 +29,11 @@ _stack_files() {
 _stack() {
     local word=${COMP_WORDS[COMP_CWORD]} row name
     if [ "$COMP_CWORD" = 1 ] || { [ "$COMP_CWORD" = 2 ] && [ "${COMP_WORDS[1]}" = help ]; }; then
-        mapfile -t COMPREPLY < <(compgen -W "help $(_stack_fields command "" command | cut -d ' ' -f 1 | paste -sd ' ')" -- "$word")
+        mapfile -t COMPREPLY < <(compgen -W "$({ _stack_fields command "" command; _stack_fields own "" own; } | cut -d ' ' -f 1)" -- "$word")
         return
     fi
     read -r -a row <<<"$(_stack_fields command "${COMP_WORDS[1]}" command)"
+    [ "${#row[@]}" -gt 0 ] || read -r -a row <<<"$(_stack_fields own "${COMP_WORDS[1]}" own)"
     COMPREPLY=()
     [ "${#row[@]}" -gt 0 ] || return
     name=${row[COMP_CWORD - 1]-}

@@ -12,6 +12,8 @@ import textwrap
 from collections import namedtuple
 
 import help as usage
+import infix
+import sources
 from catalog import GUIDE, expected, plain, read_catalog
 
 PAGE = GUIDE.parent / "docs/ERRORS.md"
@@ -27,7 +29,7 @@ RAISED = {"size control": ("CTRL",), "size temporary": ("TEMP",), "unfinished": 
 # The fields of an image that are always at the same place.
 FIELDS = {0: "magic", 4: "version", 8: "base", 12: "size", 16: "final pc", 84: "flags", 88: "condition address", 92: "number of conditions"}
 FIELDS.update({20 + 4 * it: f"r{it}" for it in range(16)})
-TOKEN = re.compile(rb";[^\n]*|[()]|[^\s();]+")
+TOKEN = sources.TOKEN
 
 # A last line of the page, as a pattern with a group for each word in capitals, or else its status; and what is said of it.
 Ending = namedtuple("Ending", "pattern status says next")
@@ -68,7 +70,7 @@ class Line:
 
     def lines(self, index, note=""):
         """The command line with a caret under one word."""
-        before = " ".join(["./stack", *map(quoted, self.words[:index])]) + " "
+        before = " ".join([usage.SELF, *map(quoted, self.words[:index])]) + " "
         yield "    " + before + " ".join(map(quoted, self.words[index:]))
         yield " " * (4 + len(before)) + f"^ {note}".rstrip()
 
@@ -83,11 +85,15 @@ class Line:
 
     def pasted(self, found):
         command = re.sub(r"\b[A-Z]+\b", lambda it: quoted(self.words[self.index(it.group())]), found.group(1))
-        return command.replace(" ", UNBROKEN)
+        return usage.own(command).replace(" ", UNBROKEN)
 
 
 def quoted(word):
-    return shlex.quote(usage.shown(word))
+    """A word as a shell takes it, on one line."""
+    if word.isprintable():
+        return shlex.quote(word)
+    escaped = "".join(it if it.isprintable() and it not in "'\\" else "".join(f"\\x{byte:02x}" for byte in os.fsencode(it)) for it in word)
+    return f"$'{escaped}'"
 
 
 def wrapped(text, head=""):
@@ -95,6 +101,18 @@ def wrapped(text, head=""):
     first = "" if head.startswith("stack") else "    "
     how = {"initial_indent": first, "subsequent_indent": "    ", "break_long_words": False, "break_on_hyphens": False}
     return textwrap.fill(head + plain(text), 100, **how).replace(UNBROKEN, " ")
+
+
+def is_coloured():
+    """Whether places are told in colours: on a terminal, unless NO_COLOR is set."""
+    return sys.stderr.isatty() and not os.environ.get("NO_COLOR") and os.environ.get("TERM", "dumb") != "dumb"
+
+
+def coloured(line):
+    """A line for a terminal: a place in bold, a caret in red."""
+    if re.fullmatch(r" *\^.*", line):
+        return f"\033[1;31m{line}\033[0m"
+    return re.sub(r"^(\S+:\d+:(?:\d+:)?|\S.*: byte \d+[^:]*:)", "\033[1m\\1\033[0m", line)
 
 
 def text_lines(line, column):
@@ -114,12 +132,17 @@ def byte_lines(data, place):
     yield " " * (14 + 3 * (place - start)) + "^"
 
 
+def headed(head, said):
+    """What is said of a place, in lines that begin with it."""
+    return textwrap.fill(head + plain(said), 100, subsequent_indent="    ", break_long_words=False, break_on_hyphens=False)
+
+
 def is_text(line):
     return all(it.isprintable() or it == "\t" for it in line)
 
 
-def placed(name, data, place):
-    """Where a place of a text is, by line and column, and what stands there."""
+def placed(name, data, place, said):
+    """Where a place of a text is, as FILE:LINE:COLUMN, what is said of it, and what stands there."""
     start = data.rfind(b"\n", 0, place) + 1
     end = data.find(b"\n", place)
     line = data[start:len(data) if end < 0 else end].rstrip(b"\r")
@@ -128,25 +151,25 @@ def placed(name, data, place):
         column, text = len(data[start:place].decode()), line.decode()
     except UnicodeDecodeError:
         pass
-    yield f"stack: {name}, line {number}, column {column + 1}:"
+    yield headed(f"{name}:{number}:{column + 1}: ", said)
     yield from text_lines(text, column) if text is not None and is_text(text) else byte_lines(data, place)
 
 
-def image_placed(name, data, place):
-    """Where a place of an image is, and what stands there."""
+def image_placed(name, data, place, said):
+    """Where a place of an image is, what is said of it, and what stands there."""
     field = f", {FIELDS[place]}" if place in FIELDS else ""
-    yield f"stack: {name}, byte {place}{field}:"
+    yield headed(f"{name}: byte {place}{field}: ", said)
     yield from byte_lines(data, place)
 
 
-def script_placed(name, data, number):
-    """A line of a script. What is no text in it is shown as bytes."""
+def script_placed(name, data, number, said):
+    """A line of a script, and what is said of it. What is no text in it is shown as bytes."""
     start = 0
     for _ in range(number - 1):
         start = data.find(b"\n", start) + 1
     line = data[start:].split(b"\n")[0]
     strange = next((it for it, byte in enumerate(line) if not 32 <= byte < 127), None)
-    yield f"stack: {name}, line {number}:"
+    yield headed(f"{name}:{number}: ", said)
     yield from text_lines(line.decode(), 0) if strange is None else byte_lines(data, start + strange)
 
 
@@ -168,14 +191,17 @@ def breach_lines(line, found, task, rules):
     path = line.words[index] if index is not None else ""
     data = None if is_replaced(line, path) else read(path)
     name, place = usage.shown(path), int(place)
+    said = f"{rule}: {rules.get(rule, '')}".rstrip()
     if data is None or (not by_line and place > len(data)):
-        yield f"stack: {name}: its text can't be shown again, since it was replaced or is no file."
+        yield headed(f"{name}: ", said)
+        yield wrapped("Its text can't be shown again, since it was replaced or is no file.")
     elif by_line:
-        yield from script_placed(name, data, place)
+        yield from script_placed(name, data, place, said)
     else:
-        yield from image_placed(name, data, place) if kind == "image" else placed(name, data, place)
-    if rule in rules:
-        yield wrapped(rules[rule], f"{rule}: ")
+        yield from image_placed(name, data, place, said) if kind == "image" else placed(name, data, place, said)
+    if data is not None and kind == "refused" and line.names[index] == "SRC":
+        hints = infix.wanted(rule, data, place) if line.words[0] == "mini" else sources.wanted(rule, data, place)
+        yield from map(wrapped, hints)
     names = without_entry(line, task) if rule == "V4" else []
     if names:
         yield wrapped(f"Without an entry: {', '.join(names)}.")
@@ -236,13 +262,13 @@ def instruction_at(data, program, place):
     return None
 
 
-def error_lines(line, groups):
+def error_lines(line, groups, said):
     """The instruction of a Piton text that is an error."""
     index = line.index("PIT")
     data = read(line.words[index]) if index else None
     place = instruction_at(data, groups["PROGRAM"].encode(), int(groups["PLACE"])) if data else None
     if place is not None:
-        yield from placed(usage.shown(line.words[index]), data, place)
+        yield from placed(usage.shown(line.words[index]), data, place, said)
 
 
 def file_lines(line, path):
@@ -275,7 +301,7 @@ def long_files(line, limit):
 def detail_lines(line, text, groups):
     """The place that a last line speaks of: in a file, or on the command line."""
     if text.startswith("error"):
-        yield from error_lines(line, groups)
+        yield from error_lines(line, groups, text)
     elif text.startswith(("missing", "shelf fault")):
         yield from file_lines(line, groups["NAME"])
     elif text.startswith("size file"):
@@ -321,8 +347,10 @@ def lines_of(status, end, words):
 
 
 def main(status, end, *words):
-    lines = lines_of(int(status), end, list(words))
-    print("\n".join(lines), file=sys.stderr, end="\n" if lines else "")
+    lines = "\n".join(lines_of(int(status), end, list(words)))
+    if is_coloured():
+        lines = "\n".join(map(coloured, lines.split("\n")))
+    print(lines, file=sys.stderr, end="\n" if lines else "")
 
 
 if __name__ == "__main__":

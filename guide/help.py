@@ -1,10 +1,9 @@
 """Says how the program is used, and what is wrong with words that fit no command.
 
-    help.py help [COMMAND]    the help, or that of one command
-    help.py words WORD..      what is wrong with these words; the status is 64 then, and 0 where they fit a command
-
-All of it goes to standard error.
+    help.py help [COMMAND]    the help, or that of one command, on standard output: it was asked for
+    help.py words WORD..      what is wrong with these words, on standard error; the status is 64 then, and 0 where they fit a command
 """
+import os
 import sys
 import textwrap
 
@@ -12,6 +11,21 @@ from catalog import expected, plain, read_catalog, row
 
 WIDTH = 100
 MISFIT = 64
+# How the script was called.
+SELF = os.environ.get("STACK_SELF") or "./stack"
+
+
+def own(text):
+    """A text of a page with the script as it was called, in what can be pasted."""
+    return text.replace("./stack ", f"{SELF} ")
+
+
+# What a command that prints the report prints.
+REPORT = (
+    "The report of a run that came to its end is `finished K`, after K instructions, `condition C`, how main ended, and `NAME = VALUE` for each "
+    "formal of main. Else it is the one line of the status."
+)
+
 
 def wrapped(text, indent, first=None):
     """The text in lines, set in; the first line may begin with something else."""
@@ -36,7 +50,7 @@ def status_lines(catalog, numbers=None):
 
 def page(catalog):
     """The help: all commands, words and statuses."""
-    yield "./stack COMMAND WORD..    ./stack help COMMAND tells more of one command, with an example"
+    yield f"{SELF} COMMAND WORD..    {SELF} help COMMAND tells more of one command, with an example"
     yield ""
     for command in catalog.commands.values():
         yield f"    {row(command)}"
@@ -50,17 +64,22 @@ def page(catalog):
     yield ""
     yield "Variables of the environment:"
     for name, means in catalog.variables.items():
-        yield wrapped(f"{name}: {means}", " " * 12, "    ")
+        yield wrapped(own(f"{name}: {means}"), " " * 12, "    ")
     yield ""
-    yield "An example:"
-    yield from (f"    {it}" for it in catalog.commands["go"].examples)
+    yield "Words of the script:"
+    for it in catalog.own.values():
+        yield f"    {it.row}"
+        yield wrapped(own(it.does), " " * 12)
     yield ""
-    yield "docs/cli.md has it all; docs/ERRORS.md explains each refusal."
+    yield "Two examples:"
+    yield from (f"    {own(it)}" for it in catalog.own["try"].examples + catalog.commands["go"].examples)
+    yield ""
+    yield "docs/cli.md has it all; docs/ERRORS.md explains each refusal; docs/page.md is on pages."
 
 
 def command_page(catalog, command):
     """The help of one command."""
-    yield f"./stack {row(command)}"
+    yield f"{SELF} {row(command)}"
     yield wrapped(command.does, "    ")
     yield ""
     yield from word_lines(catalog, dict.fromkeys(it for it in command.words if it != ".."), command.stores)
@@ -68,13 +87,24 @@ def command_page(catalog, command):
         yield wrapped("one to eight pairs of SRC and VALS", " " * 12, "    ..      ")
     yield ""
     yield wrapped(f"It prints {command.prints}.", "    ", "")
+    if "report" in command.prints:
+        yield wrapped(REPORT, "    ")
     if command.ends:
         yield ""
-        yield "Statuses beside those of all commands (./stack help has them):"
+        yield f"Statuses beside those of all commands ({SELF} help has them):"
         yield from status_lines(catalog, command.ends)
     yield ""
     yield "An example:"
-    yield from (f"    {it}" for it in command.examples)
+    yield from (f"    {own(it)}" for it in command.examples)
+
+
+def own_page(it):
+    """The help of a word of the script."""
+    yield f"{SELF} {it.row}"
+    yield wrapped(own(it.does), "    ")
+    yield ""
+    yield "An example:"
+    yield from (f"    {own(line)}" for line in it.examples)
 
 
 def number_fault(name, word, given):
@@ -120,11 +150,14 @@ def compared(catalog, command, given):
 
 
 def similar(catalog, name):
-    """The commands whose names are like this one, the likest first."""
+    """The rows of the commands that do what others call so, or else of those whose names are like this one, the likest first."""
     from difflib import get_close_matches
 
-    begins = [it for it in catalog.commands if name and it.startswith(name.lower())]
-    return begins + [it for it in get_close_matches(name.lower(), catalog.commands, 3, 0.5) if it not in begins]
+    known = {it.name: row(it) for it in catalog.commands.values()} | {it.name: it.row for it in catalog.own.values()}
+    meant = [it.name for it in catalog.commands.values() if name.lower() in it.also]
+    if not meant:
+        meant = [it for it in known if name and it.startswith(name.lower())] + get_close_matches(name.lower(), known, 3, 0.5)
+    return [known[it] for it in dict.fromkeys(meant)]
 
 
 def misfit(catalog, words):
@@ -134,13 +167,13 @@ def misfit(catalog, words):
     name, *given = words
     if name in catalog.commands:
         lines, wrong = compared(catalog, catalog.commands[name], given)
-        head = [f"stack: ./stack {row(catalog.commands[name])}"]
-        return head + lines + [f"    ./stack help {name} has an example"] if wrong else []
+        head = [f"stack: {SELF} {row(catalog.commands[name])}"]
+        return head + lines + [f"    {SELF} help {name} has an example"] if wrong else []
     meant = similar(catalog, name)
     head = f"stack: {shown(name)} is no command."
     if not meant:
-        return [wrapped(f"{head} The commands are {', '.join(catalog.commands)}. ./stack help has their words", "    ", "")]
-    return [f"{head} Was one of these meant?"] + [f"    ./stack {row(catalog.commands[it])}" for it in meant]
+        return [wrapped(f"{head} The commands are {', '.join(catalog.commands)}. {SELF} help has their words", "    ", "")]
+    return [f"{head} Was one of these meant?"] + [f"    {SELF} {it}" for it in meant]
 
 
 def help_of(catalog, words):
@@ -150,13 +183,19 @@ def help_of(catalog, words):
         return list(page(catalog))
     if name in catalog.commands:
         return list(command_page(catalog, catalog.commands[name]))
+    if name in catalog.own:
+        return list(own_page(catalog.own[name]))
     return misfit(catalog, words[:1])
 
 
 def main(what, *words):
     catalog = read_catalog()
     lines = help_of(catalog, words) if what == "help" else misfit(catalog, words)
-    print("\n".join(lines), file=sys.stderr, end="\n" if lines else "")
+    try:
+        print("\n".join(lines), file=sys.stdout if what == "help" else sys.stderr, end="\n" if lines else "", flush=True)
+    except BrokenPipeError:
+        # Who reads a pipe may stop where he likes.
+        os.dup2(os.open(os.devnull, os.O_WRONLY), 1)
     return MISFIT if lines and what == "words" else 0
 
 

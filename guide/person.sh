@@ -8,6 +8,7 @@ guide() {
         [ -x "$python" ] && { "$python" -S -E -s -B "$here/guide/$1.py" "${@:2}"; return; }
     done
     say "this needs Python 3, which isn't there. docs/cli.md and docs/ERRORS.md have the same"
+    return 70
 }
 
 # What the program does on words that fit no command.
@@ -17,13 +18,10 @@ print_usage() {
     return 1
 }
 
-# Gives the help that was asked for, which is no command of the program, and ends as the program does.
+# Gives the help that was asked for, which is no command of the program: so it is the output.
 give_help() {
-    local status
-    print_usage "$@"
-    status=$?
-    guide help help "${@:2}"
-    exit "$status"
+    guide help help "$@"
+    exit
 }
 
 # Says what is wrong with words that fit no command, and ends as the program does: they are no reason to prove anything.
@@ -35,15 +33,31 @@ judge_words() {
     exit $?
 }
 
-# What the command on these words reads and stores: sets `output`, which is empty where it stores nothing, and `inputs`.
+# What the words of a command are, one a line: `reads` a file, `stores` one, or neither. Nothing for words that are no row of commands.txt.
+roles_of() {
+    awk -v RS= -v FS='\n' -v name="${1-}" -v count=$# '
+        { split($1, word, " ") }
+        word[1] == "file" { is_file[word[2]] = 1 }
+        word[1] == "command" && word[2] == name && !/\nwaits / {
+            size = split($1, row, " ")
+            for (i = 2; i <= NF; i++) if ($i ~ "^stores ") stored = substr($i, 8)
+        }
+        END { if (size == count + 1) for (i = 3; i <= size; i++) print row[i] == stored ? "stores" : row[i] in is_file ? "reads" : "neither" }
+    ' "$here/guide/commands.txt"
+}
+
+# What the command on these words reads and stores: sets `output`, which is empty where it stores nothing, with its number among the words, and
+# `inputs`.
 find_files() {
-    output= inputs=("${2-}")
-    case ${1-}:$# in
-    go:7) inputs+=("$3") ;;
-    build:5 | pit:5 | pbuild:3 | migrate:3 | asm:3 | unasm:3 | need:3 | mini:3) ;;
-    *) return ;;
-    esac
-    output=${*: -1}
+    local role number=0
+    output= output_at= inputs=()
+    while IFS= read -r role; do
+        number=$((number + 1))
+        case $role in
+        stores) output=${*:number + 1:1} output_at=$number ;;
+        reads) inputs+=("${*:number + 1:1}") ;;
+        esac
+    done < <(roles_of "$@")
 }
 
 # Whether a file begins as what the command stores.
@@ -77,21 +91,75 @@ guard_output() {
 
 # Says what was stored.
 tell_stored() {
-    case $2:$1 in *:0 | go:3 | go:5 | go:6) ;; *) return 0 ;; esac
+    case ${2-}:$1 in *:0 | go:3 | go:5 | go:6) ;; *) return 0 ;; esac
     find_files "${@:2}"
     [ -z "$output" ] || [ ! -f "$output" ] || say "$output is stored, $(($(wc -c <"$output"))) bytes"
 }
 
-# Says on a terminal how long the program runs, after two seconds, until its first line comes, which is handed on.
+# The words of a short run of the same command, with SHORT for its length, what it is counted in, and the length of the whole run: sets `sample`,
+# `unit` and `whole`. Without a way to take a sample `sample` is empty. Of `go` it is a run of the image, once that is stored.
+find_sample() {
+    unit=instructions whole=0 sample=()
+    case ${1-}:$# in
+    run:4) whole=$4 sample=(run "$2" "$3" SHORT) ;;
+    go:7) whole=$6 sample=(run "$7" "$3" SHORT) ;;
+    turns:*) whole=$3 sample=(turns "$2" SHORT "${@:4}") ;;
+    mean:6) unit=steps whole=$6 sample=("${@:1:5}" SHORT) ;;
+    prun:3) unit=steps whole=$3 sample=(prun "$2" SHORT) ;;
+    debug:7)
+        unit=steps whole=$(awk '$1 == "step" { sum += $2 } END { printf "%.0f", sum }' "$7" 2>/dev/null)
+        sample=("${@:1:6}" /dev/stdin)
+        ;;
+    esac
+    [ "${whole:-0}" -gt 5000000 ] 2>/dev/null || sample=()
+}
+
+# Prints how many steps or instructions the program makes in a second, and after how many it was seen not to be at its end, by a short run, and a
+# longer one where that takes no time; nothing where a run came to its end, can't be made, or takes more than so many seconds.
+take_sample() {
+    local short seconds said= TIMEFORMAT=%3R
+    [ "${#sample[@]}" -gt 0 ] || return
+    for short in 50000 5000000; do
+        seconds=$({ time timeout "$1" "$program" "${sample[@]/#SHORT/$short}" <<<"step $short" 2>/dev/null; } 2>&1 | tail -n 2)
+        [[ $seconds == "unfinished $short"$'\n'* || $seconds == "stepped $short"$'\n'* ]] || break
+        seconds=${seconds##*$'\n'}
+        said=$(awk -v short="$short" -v seconds="$seconds" 'BEGIN { printf "%.0f %s", short / (seconds + 0.001), short }')
+        [[ $seconds == 0.0* ]] || break
+    done
+    [ -z "$said" ] || echo "$said"
+}
+
+# A number with commas, and of one over a million the millions.
+grouped() { sed -E ':a; s/^([0-9]+)([0-9]{3})/\1,\2/; ta' <<<"$1"; }
+rough() { [ "$1" -ge 1000000 ] && echo "$(($1 / 1000000)) million" || grouped "$1"; }
+
+# How much of the run is done after so many seconds at this speed: 12.3 %.
+share() { awk -v made="$(($1 * $2))" -v whole="$whole" 'BEGIN { share = 100 * made / whole; printf "%.1f %%", (share > 100 ? 100 : share) }'; }
+
+# Sets `speed`, where the short run that was started for it has ended. Of `go` it is tried again, since the image may not be stored yet.
+read_speed() {
+    [ -n "$sampled" ] && [ -z "$speed" ] && read -r -t 0 -u "$sampled" || return 0
+    read -r speed _ <&"$sampled" && return
+    exec {sampled}<&-
+    sampled=
+    [ "$1" != go ] || exec {sampled}< <(sleep 2; take_sample 20)
+}
+
+# Says on a terminal how long the program runs, after two seconds, until its first line comes, which is handed on. How far it is it doesn't say
+# itself: that is reckoned by a short run of the same.
 hand_on_first_line() {
-    local line= part status ticks=0 drawn=
+    local line= part status ticks=0 drawn= said speed= sampled= sample unit whole
     while IFS= read -r -t 1 part; status=$?; [ "$status" -gt 128 ]; do
         line+=$part ticks=$((ticks + 1))
         [ "$ticks" -ge 2 ] || continue
-        redraw "$1 runs, $SECONDS seconds so far. Ctrl-C ends it"
+        [ "$ticks" != 2 ] || { find_sample "$@"; exec {sampled}< <(take_sample 20); }
+        read_speed "$@"
+        said="$1 runs, $SECONDS seconds so far"
+        [ -z "$speed" ] && said+=". Ctrl-C ends it" || said+=": about $(share "$SECONDS" "$speed"), $(rough "$speed") $unit a second"
+        redraw "$said"
         drawn=$rewind
         # Where no line can be drawn anew, one is enough for half a minute.
-        [ -n "$rewind" ] || [ $((ticks % 30)) != 2 ] || say "$1 runs, $SECONDS seconds so far. Ctrl-C ends it"
+        [ -n "$rewind" ] || [ $((ticks % 30)) != 2 ] || say "$said"
     done
     printf '%s' "$drawn" >&2
     line+=$part
@@ -101,10 +169,33 @@ hand_on_first_line() {
 
 # Hands on what the program prints, to standard output and to the descriptor `copy`.
 hand_on() {
-    case $1 in
-    run | go | prun | mean | big | turns) [ ! -t 2 ] || hand_on_first_line "$1" || return ;;
+    case ${1-} in
+    run | go | prun | mean | debug | big | turns) [ ! -t 2 ] || hand_on_first_line "$@" || return ;;
     esac
     tee "/dev/fd/$copy" 2>/dev/null
+}
+
+# Hands on to a terminal what can't move its cursor. Elsewhere the output is the program's byte by byte.
+hand_on_shown() {
+    if [ -t 1 ]; then
+        hand_on "$@" | LC_ALL=C tr '\001-\010\013-\037\177' '?'
+    else
+        hand_on "$@"
+    fi
+}
+
+# Says how far a run was that was stopped, as far as it can be known from outside, and ends as what was stopped does.
+tell_stopped() {
+    local sample unit whole speed= short
+    trap - INT
+    if [ "$SECONDS" -ge 2 ]; then
+        find_sample "$@"
+        read -r speed short < <(take_sample 3)
+        say "stopped after $SECONDS seconds. The program prints at its end alone, so what memory held is not known"
+        [ -z "$speed" ] || tell_stored 5 "$@"
+        [ -z "$speed" ] || say "about $(grouped $((SECONDS * speed))) of $(grouped "$whole") $unit were made ($(share "$SECONDS" "$speed")), reckoned from a short run: $(grouped "$speed") a second. After $(grouped "$short") it wasn't at its end"
+    fi
+    kill -INT $$
 }
 
 # Runs the program, and then explains how it ended. The status is the program's: 11 where standard output can't be written, as it is then.
@@ -114,10 +205,20 @@ attend_program() {
     [ -t 1 ] || [ -f /dev/stdout ] || [ -p /dev/stdout ] || [ /dev/stdout -ef /dev/null ] || exec "$program" "$@"
     SECONDS=0
     exec {out}>&1
-    end=$(set -o pipefail; "$program" "$@" {out}>&- | { hand_on "${1-}" {copy}>&1 >&"$out" || exit 11; } | tail -c 4096)
+    trap 'tell_stopped "$@"' INT
+    end=$(set -o pipefail; "$program" "$@" {out}>&- | { hand_on_shown "$@" {copy}>&1 >&"$out" || exit 11; } | tail -c 4096)
     status=$?
     # Who reads a pipe may stop where he likes.
     [ "$status" = 0 ] || [ "$status" -gt 64 ] || { [ "$status" = 11 ] && [ -p /dev/stdout ]; } || guide explain "$status" "$end" "$@"
+    [[ $status != 0 || $end != *" = (#"* ]] || guide texts "$end"
     tell_stored "$status" "$@"
     exit "$status"
+}
+
+# Runs a source with values that the words give, or prints these: guide/trying.py. Where nothing is built yet this script is the program.
+be_trying() {
+    [ -n "$built" ] || export STACK_EXPLAIN=0 STACK_UNPROVED=1
+    [ -n "$built" ] || program=$here/stack
+    guide trying "$program" "$@"
+    exit
 }

@@ -6,6 +6,7 @@ export STACK_EXPLAIN=0
 top=$(cd "$(dirname "${BASH_SOURCE[0]}")/../.." && pwd)
 folder=$(mktemp -d) || exit 1
 trap 'rm -rf "$folder"' EXIT
+"$top/stack" prove || exit 1
 cp -r "$top/examples" "$folder/"
 cd "$folder" || exit 1
 failed=0

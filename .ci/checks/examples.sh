@@ -1,13 +1,13 @@
 #!/usr/bin/env bash
 # Each example with the line that runs it, and the answers of the course: what the documents show as transcripts is run. No file stands
-# twice.
+# twice, and the texts of which something is proved are those of their files.
 set -u
 export STACK_EXPLAIN=0
 cd "$(dirname "${BASH_SOURCE[0]}")/../.." || exit 1
 status=0
 
-# Without words the program only says how it is used. So it is built where it isn't built yet.
-./stack >/dev/null
+# It is proved and built where that isn't done yet.
+./stack prove || exit 1
 mapfile -t documents < <(git grep -l '^```console$' -- '*.md')
 python3 .ci/tools/transcripts.py crates/cli_stack/out/cli_stack "${documents[@]}" || status=1
 
@@ -16,5 +16,6 @@ for file in $(git ls-files examples ':!*.md'); do
 done
 twice=$(git ls-files -z examples crates/cli_stack/data | xargs -0 sha256sum | sort | uniq -w 64 -D)
 [ -z "$twice" ] || { echo "the same file stands twice:"; echo "$twice"; status=1; }
+python3 .ci/tools/texts.py || status=1
 [ "$status" = 0 ] && echo "examples: ok"
 exit "$status"

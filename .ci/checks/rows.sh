@@ -8,25 +8,16 @@ folder=$(mktemp -d) || exit 1
 trap 'rm -rf "$folder"' EXIT
 command -v cc >/dev/null || { echo "rows: FAILED, not run: there is no C compiler"; exit 1; }
 
-# Without words the program only says how it is used. So it is built where it isn't built yet.
-"$top/stack" >/dev/null
+# It is proved and built where that isn't done yet.
+"$top/stack" prove || exit 1
 export PROGRAM=$top/crates/cli_stack/out/cli_stack
 failed=0
 "$top/conformance/run" "$PROGRAM" || failed=1
 
-# A program whose replies to one command are edited.
-cat >"$folder/mistaken" <<'END'
-#!/usr/bin/env bash
-[ "${1-}" = "$COMMAND" ] || exec "$PROGRAM" "$@"
-"$PROGRAM" "$@" | sed "$MISTAKE"
-exit "${PIPESTATUS[0]}"
-END
-chmod +x "$folder/mistaken"
-
 # tells COMMAND MISTAKE FILE ROW: the program with this mistake fails in that file of rows, and a line tells the row.
 tells() {
     local told status
-    told=$(COMMAND=$1 MISTAKE=$2 "$top/conformance/run" "$folder/mistaken" "$3")
+    told=$(COMMAND=$1 MISTAKE=$2 "$top/conformance/run" "$top/.ci/tools/mistaken" "$3")
     status=$?
     if [ "$status" != 1 ] || ! grep -q "^$3:$4: " <<<"$told"; then
         echo "rows: $1 with the mistake $2 ends with status $status, and $3 doesn't tell $4:"

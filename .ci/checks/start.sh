@@ -8,7 +8,7 @@ trap 'rm -rf "$folder"' EXIT
 copy=$folder/copy
 caller=$folder/caller
 export STUB=$folder/stub TMPDIR=$folder/tmp
-unset RATTLE_KIT STACK_TRIAL STACK_EXPLAIN
+unset RATTLE_KIT STACK_TRIAL STACK_PROVE STACK_EXPLAIN
 mkdir -p "$copy" "$folder/kit/bin" "$folder/empty"
 (cd "$top" && git ls-files -z stack guide docs/ERRORS.md crates.txt crates examples | xargs -0 cp --parents -t "$copy") || exit 1
 cp "$top/.ci/tools/stub_kit.sh" "$folder/kit/bin/rt"
@@ -39,10 +39,15 @@ starts() {
     status=$?
 }
 
-# ends STATUS OUT: so the script ended and so it printed; the caller's files are as before, and no temporary file is left.
+# ends STATUS OUT [STORED]: so the script ended and so it printed; the caller's files are as before but for the one that the trial stored, and no
+# temporary file is left.
 ends() {
     [ "$status" = "$1" ] || says "status $status, wanted $1"
     [ "$(<"$folder/out")" = "$2" ] || says "printed $(<"$folder/out"), wanted $2"
+    if [ -n "${3-}" ]; then
+        [ "$(cat "$caller/$3")" = "stored by the trial" ] || says "$3 isn't stored"
+        rm -f "${caller:?}/$3"
+    fi
     find "$caller" -type f -exec cksum {} + | sort | cmp -s - "$folder/before" || says "the caller's files were changed"
     [ -z "$(ls -A "$TMPDIR")" ] || says "temporary files are left: $(ls -A "$TMPDIR")"
 }
@@ -51,13 +56,14 @@ ends() {
 errs() {
     local said
     said=$(sed -E 's/[0-9]+ (seconds|min)/N \1/g; s/[0-9]+ at a time/N at a time/; s/[0-9]+ minutes/N minutes/' "$folder/err")
+    said=${said//"$copy/stack"/SELF}
     [ "$said" = "$1" ] || { says "the messages differ, < is wanted:"; diff <(echo "$1") <(echo "$said"); }
 }
 
 # calls LINE..: the kit was called so, and not otherwise.
 calls() {
     local called
-    called=$(sed -E 's/--jobs [0-9]+/--jobs N/; s/=[^ ]*/=FILE/g' "$STUB/calls" 2>/dev/null)
+    called=$(sed -E 's/--jobs [0-9]+/--jobs N/; s/=[^ ]*/=FILE/g; s:/tmp\.[^/]*/stored:/ROOM/stored:' "$STUB/calls" 2>/dev/null)
     [ "$called" = "$(printf '%s\n' "$@")" ] || says "the kit was called otherwise:"$'\n'"$called"
 }
 
@@ -66,7 +72,7 @@ handed() { [ "$(cat "$STUB/handed/$1" 2>&1)" = "$2" ] || says "handed in as $1: 
 
 # proves [CRATE]: what the proof says, where all crates are proved but this one.
 proves() {
-    echo "stack: proves all $crates crates, N at a time, with rattle-kit-13f of the check. README.md says how long this takes. It may be stopped, and goes on at the next start"
+    echo "stack: proves all $crates crates, N at a time, with rattle-kit-13f logic 0123456789abcdef. README.md says how long this takes. It may be stopped, and goes on at the next start"
     sed -n 's/^\([a-z0-9_]*\):.*/\1/p' "$copy/crates.txt" | grep -vx "${1-}" | while read -r crate; do
         left=$((${left:-$crates} - 1))
         echo "stack: $crate is proved, $left of $crates are left, N min so far"
@@ -74,14 +80,18 @@ proves() {
 }
 
 proof=$(proves)
-compiled=$'stack: all crates are proved; the program is compiled\nstack: the program is built after N minutes, and runs'
-tried="stack: the program isn't built yet, or was changed since. First comes a trial, which takes a minute or two: the program runs unproved on copies of the files. Nothing is stored, and nothing is proved yet"
+compiled=$'stack: all crates are proved; the program is compiled\nstack: the program is built after N minutes'
+tried="stack: the program isn't built yet, or was changed since. This is a trial, which takes a minute or two: the program runs unproved, on copies of the files"
+unproved="stack: this was a trial, after N seconds: nothing of it is proved. SELF prove proves and builds the program, once, and then a run takes no time"
 proof_calls=("all check --jobs N" run)
 
 begins "without words, before the program is built"
 starts
 ends 1 usage
-errs "$(grep -o '"the program isn.t built yet, or was changed since. Words.*"\|"    ./stack go .*"' "$copy/stack" | tr -d '"' | sed 's/^/stack: /')"
+errs "stack: the program isn't built yet, or was changed since. Words are tried without a proof, as these in this script's folder:
+stack:     SELF go examples/first/seven.gypsy examples/first/nine.values 100 100 1000000 seven.image
+stack: and this proves and builds it:
+stack:     SELF prove"
 calls ""
 
 begins "without a kit"
@@ -96,7 +106,14 @@ done
 
 # Help needs neither the program nor the kit, and words that fit no command are no reason to prove anything.
 begins "help, before the program is built"
-for words in help --help "help go" "chekc a.gypsy" "check" ""; do
+for words in help --help "help go"; do
+    # shellcheck disable=SC2086
+    (cd "$caller" && PATH=$bare_path RATTLE_KIT=$folder/empty "$copy/stack" $words) >"$folder/out" 2>"$folder/err" </dev/null
+    status=$?
+    ends 0 "$(<"$folder/out")"
+    grep -q "check SRC\|go SRC" "$folder/out" || says "no help on $words: $(<"$folder/err")"
+done
+for words in "chekc a.gypsy" "check" ""; do
     # shellcheck disable=SC2086
     (cd "$caller" && STACK_EXPLAIN=1 PATH=$bare_path RATTLE_KIT=$folder/empty "$copy/stack" $words) >"$folder/out" 2>"$folder/err" </dev/null
     status=$?
@@ -110,8 +127,30 @@ begins "with the kit of RATTLE_KIT, and without a trial"
 (cd "$caller" && STACK_TRIAL=0 PATH=$bare_path RATTLE_KIT=$folder/kit "$copy/stack" check a.gypsy) >"$folder/out" 2>"$folder/err"
 status=$?
 ends 7 "printed by the program: check a.gypsy"
+errs "$proof"$'\n'"$compiled, and runs"
+calls "${proof_calls[@]}"
+
+begins "the words that prove"
+starts prove
+ends 0 ""
 errs "$proof"$'\n'"$compiled"
 calls "${proof_calls[@]}"
+starts prove
+ends 0 ""
+errs ""
+STACK_EXPLAIN=1 starts prove
+ends 0 ""
+errs "stack: the program is proved and built: SELF --version tells how"
+calls "${proof_calls[@]}"
+starts --version
+ends 0 "$(<"$folder/out")"
+for line in "commit " "kit rattle-kit-13f" "logic 0123456789abcdef" "proved on 20" "crates $crates" "sha256 "; do
+    grep -q "^$line" "$folder/out" || says "the version has no line $line: $(<"$folder/out")"
+done
+echo "# changed" >>"$copy/crates/cli_stack/out/cli_stack"
+starts --version
+[ "$status" = 70 ] || says "status $status for another program"
+sed -i '$ d' "$copy/crates/cli_stack/out/cli_stack"
 
 begins "what is built" built
 starts check a.gypsy
@@ -126,8 +165,8 @@ STACK_EXPLAIN=1 starts check a.gypsy
 ends 7 "printed by the program: check a.gypsy"
 errs ""
 starts help
-ends 7 "printed by the program: help"
-grep -q "check SRC" "$folder/err" || says "no help"
+ends 0 "$(<"$folder/out")"
+grep -q "check SRC" "$folder/out" || says "no help"
 STACK_EXPLAIN=1 starts
 ends 1 usage
 grep -q "check SRC" "$folder/err" || says "no help"
@@ -139,40 +178,65 @@ starts
 ends 1 usage
 calls ""
 starts check a.gypsy
-calls "try --data word-1.file=FILE -- check word-1.file" "${proof_calls[@]}"
+ends 5 "printed by the trial: check a.gypsy"
+calls "try --data word-1.file=FILE -- check word-1.file"
+starts --version
+ends 0 "$(<"$folder/out")"
+grep -q "isn't built yet, or was changed since" "$folder/out" || says "the version of what was changed: $(<"$folder/out")"
 
-begins "a trial, and then the proof"
+begins "a trial"
 starts go a.gypsy below/a.values 100 7 28 "$caller/below/a.image"
-ends 7 "printed by the program: go a.gypsy below/a.values 100 7 28 $caller/below/a.image"
+ends 5 "printed by the trial: go a.gypsy below/a.values 100 7 28 $caller/below/a.image" below/a.image
 errs "$tried
-trial: printed by the trial: go a.gypsy below/a.values 100 7 28 $caller/below/a.image
-stack: the trial ended with status 5 after N seconds. It proves nothing
-$proof
-$compiled"
-calls "try --data word-1.file=FILE --data word-2.file=FILE --data 100=FILE -- go word-1.file word-2.file 100 7 28 word-6.file" "${proof_calls[@]}"
+$unproved"
+calls "try --data word-1.file=FILE --data word-2.file=FILE --data 100=FILE -- go word-1.file word-2.file 100 7 28 $TMPDIR/ROOM/stored"
 handed word-1.file source
 handed word-2.file values
 handed 100 number
+starts build a.gypsy 7 3 none/a.image
+ends 5 "printed by the trial: build a.gypsy 7 3 none/a.image"
+# As root any folder can be written to; a file that can't be written is a folder's name here.
+starts build a.gypsy 7 3 /dev/full
+ends 10 "shelf fault /dev/full"
+
+begins "a trial, and then the proof"
+STACK_PROVE=1 starts check a.gypsy
+ends 7 "printed by the program: check a.gypsy"
+errs "$tried
+trial: printed by the trial: check a.gypsy
+stack: the trial ended with status 5 after N seconds. It proves nothing
+$proof
+$compiled, and runs"
+calls "try --data word-1.file=FILE -- check word-1.file" "${proof_calls[@]}"
 
 # Names that lead out of the folder, that are the kit's own, that aren't there, whose folder isn't there, or that are a folder's.
 begins "the names that a trial gets"
 starts debug piton ../copy/crates.txt stdout src/main.rt none/a.image below
-calls "try --data word-2.file=FILE --data word-6.file/nothing=FILE -- debug piton word-2.file word-3.file nowhere/word-4.file nowhere/word-5.file word-6.file" "${proof_calls[@]}"
+ends 5 "printed by the trial: debug piton ../copy/crates.txt stdout src/main.rt none/a.image below"
+calls "try --data word-2.file=FILE --data word-6.file/nothing=FILE -- debug piton word-2.file word-3.file nowhere/word-4.file nowhere/word-5.file word-6.file"
 handed word-2.file "$(<"$copy/crates.txt")"
-grep -qx "trial: printed by the trial: debug piton ../copy/crates.txt stdout src/main.rt none/a.image below" "$folder/err" || says "other names are shown"
 
 begins "a trial without an answer"
 touch "$STUB/silent"
 starts check a.gypsy
-ends 7 "printed by the program: check a.gypsy"
+ends 70 ""
 errs "$tried
-stack: the trial found no answer (run=none proved=no). The proof goes on without it
-$proof
-$compiled"
+stack: the trial found no answer: run=none proved=no"
+calls "try --data word-1.file=FILE -- check word-1.file"
+STACK_PROVE=1 starts check a.gypsy
+ends 7 "printed by the program: check a.gypsy"
+
+begins "a trial that meets a limit of the kit's"
+touch "$STUB/endless"
+starts check a.gypsy
+ends 70 ""
+errs "$tried
+stack: the trial found no answer: checked: no-answer: the program did not end within the time limit
+stack: this is a limit of the kit's trial: no run of one takes longer. A proved program has none: SELF prove"
 
 begins "a crate that isn't proved"
 echo fm_show >"$STUB/fails"
-starts check a.gypsy
+STACK_PROVE=1 starts check a.gypsy
 ends 70 ""
 errs "$tried
 trial: printed by the trial: check a.gypsy
@@ -182,7 +246,7 @@ stack: not proved: fm_show. The end of the log:
 $(seq -f 'line %g of fm_show' 11 30)"
 calls "try --data word-1.file=FILE -- check word-1.file" "all check --jobs N"
 rm "$STUB/fails" "$STUB/calls"
-starts check a.gypsy
+STACK_PROVE=1 starts check a.gypsy
 ends 7 "printed by the program: check a.gypsy"
 
 # Starts a program in a process group of its own, in which no signal is ignored.
@@ -197,7 +261,7 @@ os.execv(sys.argv[1], sys.argv[1:])'
 stops() {
     local process held
     echo "$3" >"$STUB/holds"
-    (cd "$caller" && PATH=$folder/kit/bin:$PATH exec python3 -c "$in_a_group" "$copy/stack" check a.gypsy) >"$folder/out" 2>"$folder/err" </dev/null &
+    (cd "$caller" && STACK_PROVE=1 PATH=$folder/kit/bin:$PATH exec python3 -c "$in_a_group" "$copy/stack" check a.gypsy) >"$folder/out" 2>"$folder/err" </dev/null &
     process=$!
     for _ in $(seq 100); do
         [ ! -s "$STUB/held" ] || break
@@ -220,23 +284,47 @@ stops() {
 begins "stopped by Ctrl-C in the proof, and started again"
 stops INT group fm_show
 ends 130 ""
-[ "$(tail -n 1 "$folder/err")" = "stack: stopped. What was proved is kept, and the next start goes on from there" ] || says "said $(tail -n 1 "$folder/err")"
+[ "$(tail -n 1 "$folder/err")" = "stack: stopped. What was proved is kept, and the next proof goes on from there" ] || says "said $(tail -n 1 "$folder/err")"
 grep -q "stack: fm_loader is proved" "$folder/err" || says "nothing was proved before"
 ! grep -q "stack: fm_show is proved" "$folder/err" || says "said to be proved: the crate that the kit was at"
 rm "$STUB/calls"
-starts check a.gypsy
-ends 7 "printed by the program: check a.gypsy"
-errs "$tried
-trial: printed by the trial: check a.gypsy
-stack: the trial ended with status 5 after N seconds. It proves nothing
-$proof
+starts prove
+ends 0 ""
+errs "$proof
 $compiled"
+
+begins "two builds at once"
+echo fm_show >"$STUB/holds"
+starts_alone() {
+    (cd "$caller" && PATH=$folder/kit/bin:$PATH exec "$copy/stack" prove) >/dev/null 2>"$folder/$1" </dev/null
+    echo "$?" >"$folder/$1.status"
+}
+waits_for() {
+    for _ in $(seq 100); do
+        ! "$@" 2>/dev/null || return
+        sleep 0.2
+    done
+    says "this didn't come: $*"
+}
+starts_alone first &
+waits_for [ -s "$STUB/held" ]
+starts_alone second &
+waits_for grep -q "another build of this checkout runs" "$folder/second"
+rm "$STUB/holds"
+kill "$(sed -n 2p "$STUB/held")"
+wait
+rm "$STUB/held"
+for one in first second; do
+    [ "$(<"$folder/$one.status")" = 0 ] || says "the $one build ended with status $(<"$folder/$one.status")"
+done
+[ "$(head -n 1 "$folder/second")" = "stack: another build of this checkout runs. This one waits for it, and goes on where that one ends" ] || says "the second said $(head -n 1 "$folder/second")"
+calls "all check --jobs N" run "all check --jobs N" run
 
 begins "ended in the trial"
 stops TERM alone try
 ends 143 ""
 [ "$(<"$folder/err")" = "$tried
-stack: stopped. What was proved is kept, and the next start goes on from there" ] || says "said $(<"$folder/err")"
+stack: stopped. What was proved is kept, and the next proof goes on from there" ] || says "said $(<"$folder/err")"
 
 begins "ended while the program is compiled"
 stops HUP alone run
@@ -250,7 +338,7 @@ calls "${proof_calls[@]}"
 # On a terminal the progress is one line, which is written anew.
 begins "on a terminal"
 spawn='import os, pty, sys; sys.exit(os.WEXITSTATUS(pty.spawn(sys.argv[1:])))'
-(cd "$caller" && TERM=xterm PATH=$folder/kit/bin:$PATH python3 -c "$spawn" bash -c '"$0" check a.gypsy >"$1"' "$copy/stack" "$folder/out" </dev/null) >"$folder/err"
+(cd "$caller" && STACK_PROVE=1 TERM=xterm PATH=$folder/kit/bin:$PATH python3 -c "$spawn" bash -c '"$0" check a.gypsy >"$1"' "$copy/stack" "$folder/out" </dev/null) >"$folder/err"
 status=$?
 ends 7 "printed by the program: check a.gypsy"
 ! grep -q " is proved, " "$folder/err" || says "each crate has a line"

@@ -9,6 +9,8 @@ import re
 import sys
 from pathlib import Path
 
+from arguments import parser_of
+
 CRATES = Path("crates.txt")
 PAGE = Path("docs/ARCHITECTURE.md")
 HEAD = "| Crate | What it does | Stands on | Page |"
@@ -114,10 +116,16 @@ def write():
     PAGE.write_text("\n".join(lines) + "\n")
 
 
-if __name__ == "__main__":
-    if "--write" in sys.argv[1:]:
+def main():
+    parser = parser_of(__doc__)
+    parser.add_argument("--write", action="store_true", help="write the column anew")
+    if parser.parse_args().write:
         write()
     found = findings()
     for finding in found:
         print(finding)
-    sys.exit(1 if found else 0)
+    return 1 if found else 0
+
+
+if __name__ == "__main__":
+    sys.exit(main())

@@ -2,9 +2,7 @@
 """Damaged files: every truncation of a file, and the file with each of its bytes changed to 0, to 255 and to its two neighbours, is read by
 each command that reads such a file.
 
-    python3 .ci/tools/damage.py PROGRAM
-
-PROGRAM is `cli_stack`. The files are five sources of `examples/` with their values, a script, an assembly text, the infix programs, a text of
+The files are five sources of `examples/` with their values, a script, an assembly text, the infix programs, a text of
 Piton, the images of the assembly text, of the text of Piton and of one source, and a certificate. No command ends by a signal, or with a status
 that isn't among those of its texts; none takes over a second of processor time, or 64 MB.
 """
@@ -16,6 +14,10 @@ import shutil
 import sys
 import tempfile
 from pathlib import Path
+
+from arguments import parser_of
+from arguments import program as executable
+from tried import statuses
 
 SECONDS, KILOBYTES = 1.0, 64 * 1024
 # In how many parts the damaged files of one file are tried, so that all processors have work to the end.
@@ -34,29 +36,9 @@ SOURCES = {
 }
 PITON = "(piton main 2 2 0 ((g (nat 4) (nat 5))) () (main () () (push-global g) (add1-nat) (pop-global g) (ret)))"
 
-# The statuses of a command whose files are there: what reading its texts and running them can end with. Memory isn't short here.
-REFUSED, VALUES, IMAGE, UNFINISHED, OUTSIDE, ERROR, SIZE, SCRIPT = 2, 3, 4, 5, 6, 8, 12, 13
-NOT_PLAIN, RECURSIVE, CERTIFICATE = 16, 17, 18
-STATUSES = {
-    "check": {0, REFUSED},
-    "mean": {0, REFUSED, VALUES, UNFINISHED, SIZE},
-    "pit": {0, REFUSED, SIZE},
-    "build": {0, REFUSED, SIZE},
-    "pcheck": {0, REFUSED},
-    "prun": {0, REFUSED, UNFINISHED, ERROR},
-    "pbuild": {0, REFUSED, SIZE},
-    "run": {0, VALUES, IMAGE, UNFINISHED, OUTSIDE},
-    "go": {0, REFUSED, VALUES, UNFINISHED, SIZE},
-    "show": {0, IMAGE},
-    "migrate": {0, IMAGE},
-    "asm": {0, REFUSED},
-    "unasm": {0, IMAGE, NOT_PLAIN},
-    "need": {0, REFUSED, RECURSIVE},
-    "cert": {0, REFUSED, CERTIFICATE},
-    "debug": {0, REFUSED, VALUES, SIZE, SCRIPT},
-    "turns": {0, REFUSED, VALUES, UNFINISHED, SIZE},
-    "mini": {0, REFUSED},
-}
+# What a command on damaged files can't end with: by a promise `go` has no such end, and a session of a source's program none.
+NEVER = {"go": {6}, "debug": {6, 8}}
+STATUSES = {name: ends - NEVER.get(name, set()) for name, ends in statuses().items()}
 
 # What reads a file of each kind: DAMAGED is the damaged one, and VALUES, SOURCE the whole ones beside it.
 READERS = {
@@ -148,15 +130,21 @@ def whole_files(program, folder):
     return files + [("assembly", "sum.asm", {}), ("plain image", "sum.image", {})]
 
 
-def main(program):
-    program = str(Path(program).resolve())
+def main():
+    parser = parser_of(__doc__)
+    parser.add_argument("program", type=executable, help="cli_stack")
+    parser.add_argument("--only", choices=READERS, help="damage files of this kind alone")
+    words = parser.parse_args()
+    program = str(words.program)
     with tempfile.TemporaryDirectory(dir=FOLDERS) as folder:
         os.chdir(folder)
         jobs = []
         for kind, name, beside in whole_files(program, folder):
+            if words.only not in (None, kind):
+                continue
             for row in READERS[kind]:
-                words = [{"DAMAGED": "damaged", **beside}.get(word, word) for word in row.split()]
-                jobs += [(program, folder, kind, name, words, part) for part in range(PARTS)]
+                line = [{"DAMAGED": "damaged", **beside}.get(word, word) for word in row.split()]
+                jobs += [(program, folder, kind, name, line, part) for part in range(PARTS)]
         jobs.sort(key=lambda job: -Path(folder, job[3]).stat().st_size)
         with multiprocessing.Pool(len(os.sched_getaffinity(0))) as pool:
             found = pool.map(judge, jobs, chunksize=1)
@@ -169,6 +157,4 @@ def main(program):
 
 if __name__ == "__main__":
     resource.setrlimit(resource.RLIMIT_CORE, (0, 0))
-    if len(sys.argv) != 2:
-        sys.exit(__doc__)
-    sys.exit(main(sys.argv[1]))
+    sys.exit(main())

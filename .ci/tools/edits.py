@@ -1,13 +1,20 @@
 #!/usr/bin/env python3
 """Tries the edits of .ci/edits, which the gate leaves out: each must be refused, as those in the crates' folders must-fail.
 
-    python3 .ci/tools/edits.py [NAME ..]
+    python3 .ci/tools/edits.py [CRATE ..]
+    python3 .ci/tools/edits.py CRATE EDIT
 
-Without names it tries those of all crates. It works on a copy of the repository, in which a crate's folder must-fail has these edits alone,
+With a crate and the name of one of its edits, which may be one of the gate's too, it makes that edit in a copy of the repository and has the
+function that it changes checked, by `rt check --only`. What the prover says is printed whole, with its counterexample where it has one. Crates
+below that this checkout has proved aren't proved again. The status is 0 where the edit was refused.
+
+Without an edit it tries those of the crates, or of all. It works on a copy of the repository, in which a crate's folder must-fail has these edits alone,
 and lets the kit try them by `rt ci` with the crates' names. So what the gate proved on this machine isn't proved again, the edits of several
 crates are tried at a time, and those of a crate that were tried once are kept: a run that is stopped goes on there (`rattle-kit-13b` has no
 `rt ci` with names). It prints the kit's line for each edit, and then the edits that weren't refused; its status is 0 where there are none.
 """
+import argparse
+import re
 import shutil
 import subprocess
 import sys
@@ -51,8 +58,86 @@ def try_edits(names):
         return lines
 
 
-def main(words):
-    known = crates_with_edits()
+def find_edit(crate, name):
+    """The file of an edit of a crate."""
+    folders = EDITS / crate, TOP / "crates" / crate / "must-fail"
+    there = {path.stem: path for folder in folders if folder.is_dir() for path in folder.glob("*.edit")}
+    if name.removesuffix(".edit") not in there:
+        sys.exit(f"{crate} has no edit {name}; there are {', '.join(sorted(there)) or 'none'}")
+    return there[name.removesuffix(".edit")]
+
+
+def changes_of(edit):
+    """The file that an edit changes, and its pairs of an old and a new text."""
+    lines = edit.read_text().splitlines()
+    path = next(line.removeprefix("file:").strip() for line in lines if line.startswith("file:"))
+    old = [line.removeprefix("old:").removeprefix(" ") for line in lines if line.startswith("old:")]
+    new = [line.removeprefix("new:").removeprefix(" ") for line in lines if line.startswith("new:")]
+    return path, list(zip(old, new))
+
+
+def function_at(text, place, path):
+    """The path of the function round a place of a file, as `rt check --only` takes it; of a file of specs or proofs nothing."""
+    if not path.startswith("src/"):
+        return ""
+    parts = [it for it in Path(path).relative_to("src").with_suffix("").parts if it not in ("lib", "main", "mod")]
+    function = re.findall(r"^ *(?:pub(?:\([a-z]+\))? )?(?:const )?fn (\w+)", text[:place], re.M)
+    return "::".join([*parts, *function[-1:]])
+
+
+def crates_below(crate):
+    """The crates on which one stands, itself among them."""
+    lines = (line.split("#")[0] for line in (TOP / "crates.txt").read_text().splitlines())
+    uses = {name.split()[0]: rest.split() for name, colon, rest in (line.partition(":") for line in lines) if colon}
+    found, waiting = set(), [crate]
+    while waiting:
+        name = waiting.pop()
+        if name in uses and name not in found:
+            found.add(name)
+            waiting += uses[name]
+    return found
+
+
+def make_edit(crate_folder, edit):
+    """Makes an edit in a copy of its crate, and returns the path of the function that it changes."""
+    path, changes = changes_of(edit)
+    file = crate_folder / path
+    text = file.read_text()
+    only = function_at(text, text.index(changes[0][0]), path)
+    for old, new in changes:
+        if text.count(old) != 1:
+            sys.exit(f"{edit.name}: this stands {text.count(old)} times in {path}: {old}")
+        text = text.replace(old, new)
+    file.write_text(text)
+    return only
+
+
+def try_one(crate, edit):
+    """Makes one edit in a copy, and lets the prover say what is wrong with it."""
+    needed = crates_below(crate)
+
+    def left_out(folder, names):
+        return [it for it in names if it == "must-fail" or (it == "out" and Path(folder).name not in needed)]
+
+    with tempfile.TemporaryDirectory(prefix="stack-edit-") as room:
+        copy = Path(room)
+        for name in ("crates.txt", "HANDLES"):
+            shutil.copy2(TOP / name, copy / name)
+        shutil.copytree(TOP / "crates", copy / "crates", symlinks=True, ignore=left_out)
+        only = make_edit(copy / "crates" / crate, edit)
+        words = ["rt", "check", *(["--only", only] if only else [])]
+        print(f"{edit.relative_to(TOP)}: {' '.join(words)}", flush=True)
+        status = subprocess.run(words, cwd=copy / "crates" / crate, check=False).returncode
+    print(f"{edit.stem}: {'refused, as it must be' if status else 'NOT refused'}")
+    return 0 if status else 1
+
+
+def main(words=None):
+    parser = argparse.ArgumentParser(description=__doc__, formatter_class=argparse.RawDescriptionHelpFormatter)
+    parser.add_argument("names", nargs="*", metavar="NAME", help="crates, or a crate and one of its edits")
+    words, known = parser.parse_args(words).names, crates_with_edits()
+    if len(words) == 2 and words[1] not in known:
+        return try_one(words[0], find_edit(*words))
     unknown = [word for word in words if word not in known]
     if unknown:
         sys.exit(f"no edits of {', '.join(unknown)}; there are those of {', '.join(known)}")
@@ -69,4 +154,4 @@ def main(words):
 
 
 if __name__ == "__main__":
-    sys.exit(main(sys.argv[1:]))
+    sys.exit(main())

@@ -4,10 +4,12 @@ import re
 import subprocess
 import sys
 from collections import Counter, defaultdict
+from itertools import combinations
 from pathlib import Path
 
 import crate_table
-from believe import files_below, length
+from arguments import parser_of
+from believe import Walk
 
 SPEC_WIDTH = 140
 CLAUSE_WIDTH = 120
@@ -27,10 +29,12 @@ GROUPS = {
     "Commands": re.compile(r"-- a page for each command\b", re.I),
 }
 SCAFFOLD = re.compile(r"^ *(?:pub )?(?:ghost )?use Rattle\.(\w+)\.specs\.Scaffold\.", re.M)
-ENDING = re.compile(r"(ings|ing|ed|es|e|s|er)$")
+ENDINGS = ("ings", "ing", "ed", "es", "e", "s", "er")
 # Lemmas that stand for themselves: DECISIONS 16.
 KEPT_LEMMAS = {"outcome_is"}
-THEOREM = Path("crates/stack_build/specs/Implements.antt")
+# Pages of rules for whoever proves a program: a rule that is public may be one that no example needs.
+PAGES_OF_RULES = re.compile(r"crates/gypsy_logic/proofs/\w*Rules\.antt$")
+THEOREM = "stack_build.Implements.Implements"
 README = Path("README.md")
 README_WORDS = 1300
 LIMITS = Path("docs/LIMITS.md")
@@ -44,6 +48,7 @@ DECISION_NEAR = re.compile(r"\((\d+)\)")
 # What is promised, and what has to be read to know what the theorem says.
 PROMISES = Path("docs/PROMISES.md")
 READING_ROW = re.compile(r"\|[^|]*\|([^|]*/specs/[^|]*)\| ([\d,]+) \|$")
+FIGURES_ROW = re.compile(r"\| `(\w+\.[\w.]+\.\w+)` \|.*\| ([\d,]+) \| ([\d,]+) \| ([\d,]+) \|$")
 
 findings = []
 
@@ -71,6 +76,11 @@ def check_specs():
             say(f"crates/{crate}/specs", f"{name} is defined at {', '.join(places)}; give each its own name, or keep one")
 
 
+def fronts(name):
+    """A name, as it is and without each ending that it has."""
+    return {name} | {name.removesuffix(ending) for ending in ENDINGS}
+
+
 def is_modules(path):
     """Whether a page only names the pages of a folder."""
     return all(re.match(r"--|pub mod |\s*$", line) for line in path.read_text().splitlines())
@@ -89,12 +99,9 @@ def check_folders():
         for path in files:
             if len(files) <= PAGES_IN_ONE_FOLDER and path.parent != lib.parent:
                 say(path, f"a folder in a crate of {len(files)} pages; move it to {lib.parent}")
-        stems = defaultdict(list)
-        for path in files:
-            stems[path.parent, ENDING.sub("", path.stem)].append(path.stem)
-        for (folder, _), names in stems.items():
-            if len(names) > 1:
-                say(folder, f"{' and '.join(names)} differ by an ending; give them names that say what they hold")
+        for path, other in combinations(files, 2):
+            if path.parent == other.parent and fronts(path.stem) & fronts(other.stem):
+                say(path.parent, f"{path.stem} and {other.stem} differ by an ending; give them names that say what they hold")
     for path in tracked("crates/*.antt", "crates/*.rt"):
         for crate in SCAFFOLD.findall(path.read_text()):
             below = path.is_relative_to(Path("crates", crate, "specs/Scaffold"))
@@ -170,8 +177,9 @@ def files_of_row(names):
 
 def check_reading_list():
     """Two pages say how much the theorem rests on, and the reading list has each of these files, and the lines of each row."""
-    files = files_below(THEOREM)
-    whole = f"{len(files)} files of {sum(map(length, files)):,} lines"
+    walk = Walk(THEOREM)
+    reached = {Path("crates") / path: lines for path, lines in walk.lines().items()}
+    whole = f"{sum(reached.values()):,} lines of definitions in {len(reached)} files"
     for page in (README, PROMISES):
         if whole not in page.read_text():
             say(page, f"the theorem rests on {whole}; write that")
@@ -182,11 +190,26 @@ def check_reading_list():
             continue
         row_files = list(files_of_row(row.group(1)))
         listed += row_files
-        lines = sum(length(file) for file in row_files if file.is_file())
+        lines = sum(reached.get(file, 0) for file in row_files)
         if f"{lines:,}" != row.group(2):
-            say(f"{PROMISES}:{number}", f"the files of this row have {lines:,} lines; write that")
-    for file in sorted(set(files) ^ set(listed)):
-        say(PROMISES, f"{file} {'is missing from' if file in files else 'does not belong in'} the reading list")
+            say(f"{PROMISES}:{number}", f"the theorem reaches {lines:,} lines of the files of this row; write that")
+    for file in sorted(set(reached) ^ set(listed)):
+        say(PROMISES, f"{file} {'is missing from' if file in reached else 'does not belong in'} the reading list")
+
+
+def check_figures():
+    """Rows that say how much a statement rests on have its lines of definitions, their files, and the lines of enums and structs."""
+    for path in tracked("docs/*.md"):
+        for number, line in enumerate(path.read_text().splitlines(), 1):
+            row = FIGURES_ROW.match(line)
+            if not row:
+                continue
+            walk = Walk(row.group(1))
+            figures = " | ".join(f"{figure:,}" for figure in walk.figures())
+            if f"| {figures} |" not in line:
+                say(f"{path}:{number}", f"{row.group(1)} rests on | {figures} |; write that")
+            for finding in walk.findings():
+                say(".ci/tools/believe.py", finding)
 
 
 def check_readme():
@@ -300,7 +323,8 @@ def check_lemma_names():
         lines = text.splitlines()
         for start, end, name in lemmas_of(lines):
             own = TOKEN.findall("\n".join(lines[start:end])).count(name)
-            if uses[name] == own and name not in KEPT_LEMMAS:
+            is_rule = PAGES_OF_RULES.match(str(path)) and lines[start].lstrip().startswith("pub ")
+            if uses[name] == own and name not in KEPT_LEMMAS and not is_rule:
                 say(f"{path}:{start + 1}", f"nothing uses {name}; remove it")
 
 
@@ -317,17 +341,24 @@ def check_imports():
                     say(path, f"it imports {name} and doesn't use it")
 
 
-check_specs()
-check_folders()
-check_clauses()
-check_documents()
-check_reading_list()
-check_readme()
-check_limits()
-check_decisions()
-check_crates()
-check_lemmas()
-check_imports()
-for finding in findings:
-    print(finding)
-sys.exit(1 if findings else 0)
+def main():
+    parser_of(__doc__).parse_args()
+    check_specs()
+    check_folders()
+    check_clauses()
+    check_documents()
+    check_reading_list()
+    check_figures()
+    check_readme()
+    check_limits()
+    check_decisions()
+    check_crates()
+    check_lemmas()
+    check_imports()
+    for finding in findings:
+        print(finding)
+    return 1 if findings else 0
+
+
+if __name__ == "__main__":
+    sys.exit(main())

@@ -1,10 +1,9 @@
 #!/usr/bin/env python3
 """Compares the tables of docs/cli.md, and docs/stack.1, with guide/commands.txt, of which they are made. Prints a line for each difference.
 
-    python3 .ci/tools/help_pages.py [--write]
-
 With --write the two pages are written anew. The exit status is 1 where there is a difference that --write doesn't mend.
 """
+import argparse
 import re
 import sys
 from itertools import groupby
@@ -16,6 +15,12 @@ sys.path.insert(0, str(TOP / "guide"))
 from catalog import plain, read_catalog, row  # noqa: E402
 
 CLI, MANUAL = TOP / "docs/cli.md", TOP / "docs/stack.1"
+# Beside the script.
+FILES = [
+    ("PROVED", "of a release: which commit it is, and how its program was proved."),
+    ("guide/completion.bash", "completes the words in bash."),
+    ("crates/cli_stack/out/cli_stack", "the program."),
+]
 MEND = "run  python3 .ci/tools/help_pages.py --write"
 
 
@@ -31,6 +36,7 @@ def tables_of(catalog):
     words = [f"| {', '.join(name for name, _ in group)} | {the_range} | {means} |" for (the_range, means), group in grouped]
     statuses = [f"| {it.number} | {it.line} | {it.means}{it.more} |".replace("|  |", "| |") for it in catalog.statuses]
     yield table("| Words | What it does | What it prints at status 0 |", commands)
+    yield table("| Words of the script | What it does |", [f"| `{it.row}` | {it.does} |" for it in catalog.own.values()])
     yield table("| Word | Range | What it is |", words)
     yield table("| Status | Last line | Where |", statuses)
 
@@ -53,14 +59,6 @@ def limits(page, catalog):
             yield f"docs/cli.md: the limit of {name} is {word.limit:,} in guide/commands.txt, and {', '.join(shown)} in the table of roles"
 
 
-def stored():
-    """Commands of which the script doesn't know that they store a file, or the reverse."""
-    known = set(re.findall(r"\b([a-z]+):(\d)\b", (TOP / "guide/person.sh").read_text().split("find_files() {")[1].split("\n}")[0]))
-    commands = read_catalog(waiting=True).commands.values()
-    for name, count in sorted(known ^ {(it.name, str(len(it.words) + 1)) for it in commands if it.stores}):
-        yield f"guide/person.sh: `find_files` and guide/commands.txt differ on {name} with {count} words"
-
-
 def roff(text):
     """A text in the language of manual pages."""
     return re.sub(r"^([.'])", r"\\&\1", plain(text).replace("\\", "\\e").replace("-", "\\-"), flags=re.M)
@@ -79,20 +77,26 @@ def manual(catalog):
     lines = ['.\\" Made of guide/commands.txt by .ci/tools/help_pages.py', ".TH STACK 1", ".SH NAME"]
     lines += ["stack \\- compiles, links, runs and shows programs of the verified short stack", ".SH SYNOPSIS"]
     lines += [".B ./stack", ".I COMMAND WORD ..", ".br", ".B ./stack help", ".RI [ COMMAND ]", ".SH DESCRIPTION"]
-    lines += ["The script starts the proved program in the current folder, and proves and builds it first where that isn't done yet."]
+    lines += ["The script starts the proved program in the current folder. What isn't built yet runs unproved, as a trial, and"]
+    lines += [".B ./stack prove", "proves and builds it."]
     lines += ["Standard output and the status are the program's. On a terminal standard error says more: what a refusal means and"]
-    lines += ["where it is, what was stored, that a run goes on, and that a file would be lost.", ".SH COMMANDS"]
+    lines += ["where it is, what was stored, how far a run is, and that a file would be lost.", ".SH COMMANDS"]
     lines += entries((row(it), it.does + ".") for it in catalog.commands.values())
+    lines += [".SH WORDS OF THE SCRIPT", *entries((it.row, it.does + ".") for it in catalog.own.values())]
     lines += [".SH WORDS", *entries(words), ".SH EXIT STATUS", *entries(statuses), ".SH ENVIRONMENT", *entries(catalog.variables.items())]
-    lines += [".SH EXAMPLES", ".nf", *map(roff, examples), ".fi", ".SH SEE ALSO", "docs/cli.md, docs/ERRORS.md, README.md"]
+    lines += [".SH FILES", *entries(FILES), ".SH EXAMPLES", ".nf", *map(roff, examples), ".fi"]
+    lines += [".SH SEE ALSO", "docs/cli.md, docs/ERRORS.md, README.md"]
     return "\n".join(lines) + "\n"
 
 
-def main(write):
+def main(words=None):
+    parser = argparse.ArgumentParser(description=__doc__, formatter_class=argparse.RawDescriptionHelpFormatter)
+    parser.add_argument("--write", action="store_true", help="write the two pages anew")
+    write = parser.parse_args(words).write
     catalog = read_catalog()
     page = CLI.read_text()
     made = {CLI: with_tables(page, catalog), MANUAL: manual(catalog)}
-    findings = [*limits(page, catalog), *stored()]
+    findings = list(limits(page, catalog))
     for path, text in made.items():
         if not path.exists() or path.read_text() != text:
             if write:
@@ -104,4 +108,4 @@ def main(write):
 
 
 if __name__ == "__main__":
-    sys.exit(main("--write" in sys.argv[1:]))
+    sys.exit(main())

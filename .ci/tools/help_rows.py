@@ -1,16 +1,18 @@
 #!/usr/bin/env python3
 """Tries what the script `stack` tells a person, with the built program: the sentence of each rule and of each other last line, the help,
-the slips that lose a file, long runs, and the transcript of docs/ERRORS.md. What is told changes no byte of standard output, and no status.
-
-    python3 .ci/tools/help_rows.py STACK
+the slips that lose a file, long runs, mistakes of beginners, what may come in an infix program, runs with few words, and the transcript of
+docs/ERRORS.md. What is told changes no byte of standard output, and no status.
 
 Prints a line for each row that fails, and how many rows there were of each theme. The exit status is 1 where one failed.
 """
+import argparse
 import os
 import pty
+import random
 import re
 import select
 import shutil
+import signal
 import subprocess
 import sys
 import tempfile
@@ -24,6 +26,7 @@ sys.path[:0] = [str(TOP / "guide"), str(TOP / "conformance")]
 
 import explain  # noqa: E402
 import help as usage  # noqa: E402
+import infix  # noqa: E402
 from catalog import plain, read_catalog  # noqa: E402
 from rows import bytes_of, rows_of  # noqa: E402
 
@@ -85,16 +88,19 @@ class Folder:
     """A folder with the examples of the repository, in which commands are run."""
 
     def __init__(self, stack, room):
-        self.stack, self.path = stack, Path(tempfile.mkdtemp(dir=room))
+        self.path = Path(tempfile.mkdtemp(dir=room))
+        # So what can be pasted begins with ./stack, as on the page.
+        self.stack = "./stack"
+        (self.path / "stack").symlink_to(stack)
         shutil.copytree(TOP / "examples", self.path / "examples")
 
     def run(self, words, explains="1", starts=None, **how):
         """How the script, or what else is started, ends on these words."""
-        kept = {it: value for it, value in os.environ.items() if it != "STACK_EXPLAIN"}
+        kept = {it: value for it, value in os.environ.items() if it not in ("STACK_EXPLAIN", "STACK_SELF")}
         environment = kept | ({"STACK_EXPLAIN": explains} if explains else {})
-        streams = {"stdin": subprocess.DEVNULL, "stdout": subprocess.PIPE, "stderr": subprocess.PIPE} | how
+        streams = {"stdin": subprocess.DEVNULL, "stdout": subprocess.PIPE, "stderr": subprocess.PIPE, "cwd": self.path, "env": environment} | how
         words = words.split() if isinstance(words, str) else words
-        ran = subprocess.run([starts or self.stack, *words], cwd=self.path, env=environment, check=False, **streams)
+        ran = subprocess.run([starts or self.stack, *words], check=False, **streams)
         return Ending(ran.returncode, ran.stdout or b"", (ran.stderr or b"").decode())
 
     def store(self, files):
@@ -102,23 +108,28 @@ class Folder:
             (self.path / name).write_bytes(content.encode() if isinstance(content, str) else content)
         return self
 
-    def on_terminal(self, words, keys, awaited):
+    def on_terminal(self, words, keys="", awaited=None, more=None):
         """Runs on a terminal, where these keys are pressed once this text is there: the status, negative for a signal, and what is seen."""
         process, terminal = pty.fork()
         if process == 0:
+            # A gate in the background ignores the interrupt, and what it starts would, too.
+            signal.signal(signal.SIGINT, signal.SIG_DFL)
             os.chdir(self.path)
             os.environ.update({"TERM": "xterm"})
             os.environ.pop("STACK_EXPLAIN", None)
+            os.environ.update(more or {})
             os.execv(self.stack, [self.stack, *words.split()])
-        seen, pressed, late = b"", False, time.monotonic() + 30
-        while time.monotonic() < late and select.select([terminal], [], [], 30)[0]:
+        seen, pressed, late = b"", False, time.monotonic() + 60
+        while time.monotonic() < late and select.select([terminal], [], [], 60)[0]:
             try:
                 seen += os.read(terminal, 4096)
             except OSError:
                 break
-            if not pressed and awaited in seen.decode(errors="replace"):
+            if not pressed and awaited is not None and awaited in seen.decode(errors="replace"):
                 os.write(terminal, keys)
                 pressed = True
+        if time.monotonic() >= late:
+            os.killpg(process, signal.SIGKILL)
         return os.waitstatus_to_exitcode(os.waitpid(process, 0)[1]), seen.decode(errors="replace")
 
 
@@ -200,10 +211,16 @@ class Rows:
         with ThreadPoolExecutor(4) as pool:
             for command, wrong in zip(self.catalog.commands.values(), pool.map(self.example, self.catalog.commands.values())):
                 self.note("help", not wrong, command.name, wrong)
-        for words in ("help", "--help", ""):
-            ending = self.folder().run(words)
-            holds = (ending.status, ending.printed) == (1, b"usage\n") and all(it in ending.told for it in self.catalog.commands)
-            self.note("help", holds, words, ending)
+        for words in ("help", "--help", "-h"):
+            ending = self.folder().run(words, explains="0")
+            known = [*self.catalog.commands, *self.catalog.own]
+            self.note("help", ending.status == 0 and not ending.told and all(f"    {it}" in ending.printed.decode() for it in known), words, ending)
+        ending = self.folder().run("")
+        holds = (ending.status, ending.printed) == (1, b"usage\n") and all(it in ending.told for it in self.catalog.commands)
+        self.note("help", holds, "", ending)
+        for it in (it for it in self.catalog.own.values() if it.name != "help"):
+            ending = self.folder().run(["help", it.name])
+            self.note("help", ending.status == 0 and f"./stack {it.row}\n".encode() in ending.printed, it.name, ending)
         for words, told in MISFITS:
             ending = self.folder().run(words)
             self.note("words", (ending.status, ending.printed) == (1, b"usage\n") and told in one_line(ending.told), words, ending)
@@ -211,10 +228,10 @@ class Rows:
     def example(self, command):
         """What is wrong with the help of a command: it has the row, and the example can be pasted."""
         folder = self.folder()
-        told = folder.run(["help", command.name])
+        told = folder.run(["help", command.name]).printed.decode()
         ran = [folder.run(it.split()[1:]) for it in command.examples]
         names = [command.name] == [it.split()[1] for it in command.examples][-1:]
-        holds = f"./stack {' '.join([command.name, *command.words])}" in told.told and command.examples[-1] in told.told
+        holds = f"./stack {' '.join([command.name, *command.words])}" in told and command.examples[-1] in told
         return [] if holds and names and all(it.status == 0 for it in ran) else [told, ran]
 
     def slips(self):
@@ -244,8 +261,78 @@ class Rows:
             self.note("streams", ending.status == 9 and "There is no file nowhere" in ending.told, "> /dev/null", ending)
         folder.run("asm loop.asm loop.image")
         folder.store({"none.values": "()"})
-        ended, seen = folder.on_terminal("run loop.image none.values 1099511627776", b"\x03", "seconds so far")
-        self.note("streams", ended == -2 and re.search("run runs, [23] seconds so far", seen), "a long run", (ended, seen))
+        ended, seen = folder.on_terminal("run loop.image none.values 1099511627776", b"\x03", "instructions a second")
+        says = ("run runs, [23] seconds so far", "so far: about [0-9.]+ %, [0-9,]+( million)? instructions a second", "stack: stopped after [0-9]+ seconds",
+                "about [0-9,]+ of 1,099,511,627,776 instructions were made")
+        self.note("streams", ended == -2 and all(re.search(it, seen) for it in says), "a long run", (ended, seen))
+        ended, seen = folder.on_terminal("check no\x1b[31mfile")
+        self.note("streams", ended == 9 and "\x1b[31mfile" not in seen and "no?[31mfile" in seen, "bytes that move the cursor", seen)
+        folder.store({"t": "(())"})
+        for more, wanted in ({}, True), ({"NO_COLOR": "1"}, False), ({"NO_COLOR": ""}, True), ({"TERM": "dumb"}, False):
+            ended, seen = folder.on_terminal("check t", more=more)
+            self.note("streams", ended == 2 and ("\x1b[1mt:1:1:\x1b[0m M1" in seen) == wanted and ("\x1b[1;31m" in seen) == wanted, more, seen)
+
+    def names(self):
+        """What is told can be pasted, whatever names there are, and however the script was called."""
+        name = "n\n'l"
+        folder = self.folder({name: SEVEN, "v": "((x 0))"})
+        for words, told in (["check", ""], "./stack check ''"), (["go", name, "v", "6", "3", "100", "i"], "./stack need $'n\\x0a\\x27l' sizes.cert"):
+            ending = folder.run(words)
+            self.note("names", told in ending.told, words, ending)
+        pasted = subprocess.run(["bash", "-c", "./stack need $'n\\x0a\\x27l' sizes.cert"], cwd=folder.path, capture_output=True, check=False)
+        self.note("names", pasted.returncode == 0, "pasted", pasted)
+        (folder.path / "below").mkdir()
+        (folder.path / "a folder").symlink_to(".")
+        for called, self_told in ("../stack", "../stack check nowhere"), ("../a folder/stack", "../a\\ folder/stack check nowhere"):
+            ending = folder.run(["check", "nowhere"], starts=called, cwd=folder.path / "below")
+            self.note("names", self_told in ending.told, called, ending)
+        ending = folder.run(["check", "nowhere"], starts="stack", cwd=folder.path / "below", env={"PATH": f"{folder.path}:{os.environ['PATH']}", "STACK_EXPLAIN": "1"})
+        self.note("names", "    stack check nowhere" in ending.told, "on the PATH", ending)
+
+    def texts(self):
+        """An array of characters is told as a text too."""
+        source = "(program main (proc main ((word (array character 4)) (x integer)) () () () (no-op)))"
+        folder = self.folder({"t": source, "v": "((word (#72 #105 #34 #10)) (x 1))"})
+        for explains, told in ("1", 'stack: as a text word = "Hi\\"\\x0a"\n'), ("", ""):
+            ending = folder.run("mean t v 100 100 100", explains)
+            self.note("texts", ending.status == 0 and ending.told == told, explains, ending)
+
+    def mistakes(self):
+        """What is told of a mistake has the words that lead to its mend."""
+        text = (TOP / ".ci/tools/mistakes.txt").read_text()
+        for block in text.split("== ")[1:]:
+            title, _, body = block.partition("\n")
+            source, _, told = body.partition("--\n")
+            ending = self.folder({"t": source}).run("mini t o" if title.startswith("infix") else "check t")
+            missing = [it for it in told.splitlines() if one_line(it) not in one_line(ending.told)]
+            self.note("mistakes", ending.status == 2 and told and not missing, title, (missing, ending))
+
+    def expected(self):
+        """What may come in an infix program is what the program takes."""
+        folder, drawn = self.folder(), random.Random(1)
+        for _ in range(200):
+            stack, text = infix.START, ""
+            for _ in range(drawn.randrange(24)):
+                kind = drawn.choice(infix.may_come(stack) or [""])
+                if kind:
+                    stack, text = infix.after(stack, kind), text + f"{NAMED.get(kind, kind)} "
+            kind = drawn.choice(infix.KINDS)
+            (folder.path / "t").write_text(text + NAMED.get(kind, kind))
+            alone = folder.run("mini t o", explains="", starts=PROGRAM)
+            refused = alone.printed == f"refused Y2 at {len(text)}\n".encode()
+            self.note("expected", refused == (kind not in infix.may_come(stack)), text + kind, alone)
+
+    def few_words(self):
+        """Runs with few words, and the values that they make: the lines that they tell do the same."""
+        for words, status, printed, told in FEW:
+            folder = self.folder({"wrong.gypsy": "(())", "wrong.mini": "int x; x < 3;"})
+            ending = folder.run(words, explains="")
+            holds = (ending.status, ending.printed.decode()) == (status, printed) and one_line(told) in one_line(ending.told)
+            self.note("few words", holds, words, ending)
+            lines = re.findall(r"^    (\./stack .*)$", ending.told, re.M) if status == 0 else []
+            for line in lines:
+                again = subprocess.run(["bash", "-c", line], cwd=folder.path, capture_output=True, check=False)
+            self.note("few words", not lines or again.stdout == ending.printed, lines, again if lines else "")
 
     def transcript(self):
         """The inputs of the page, with what a person sees."""
@@ -267,8 +354,8 @@ def holds_rule(row, told, alone):
     rule, sentence, example, last = row
     kind, place = last.split()[0], int(last.split()[-1])
     before = example[:place].decode("latin-1")
-    where = f"line {before.count(chr(10)) + 1}, column {len(before.rpartition(chr(10))[2]) + 1}:"
-    where = {"image": f", byte {place}", "script": f", line {place}:"}.get(kind, where)
+    where = f"t:{before.count(chr(10)) + 1}:{len(before.rpartition(chr(10))[2]) + 1}: {rule}: "
+    where = {"image": f"t: byte {place}", "script": f"t:{place}: {rule}: "}.get(kind, where)
     same = (told.status, told.printed) == (alone.status, alone.printed) and not alone.told
     text = one_line(told.told)
     return same and told.printed.decode().splitlines()[-1:] == [last] and where in text and one_line(plain(f"{rule}: {sentence}")) in text
@@ -279,7 +366,7 @@ SEVEN_IMAGE = "build examples/first/seven.gypsy 7 3 i"
 ENDINGS = [
     ("unfinished N", 5, [SEVEN_IMAGE, "run i examples/first/nine.values 27"], {}, "27 instructions were made, all that BUDGET allows"),
     ("outside ADDRESS after K", 6, ["asm t i", "run i v 9"], {"t": AFTER_ITS_WINDOW, "v": "()"}, "needs the word at 00000001"),
-    ("error temp-empty at PROGRAM PLACE after J", 8, ["prun t 9"], {"t": ONE_WORD}, "t, line 1, column 61:"),
+    ("error temp-empty at PROGRAM PLACE after J", 8, ["prun t 9"], {"t": ONE_WORD}, "t:1:61: error temp-empty at main 1"),
     ("error tag at PROGRAM PLACE after J", 8, ["prun t 9"], {"t": WRONG_TAG}, "Instruction 1 of main, counted from 0, takes words"),
     ("error range at PROGRAM PLACE after J", 8, ["prun t 9"], {"t": BELOW_ZERO}, "would give a word outside its range"),
     ("error temp-full at PROGRAM PLACE after J", 8, ["prun t 9"], {"t": FULL}, "the temporary stack has no room"),
@@ -295,8 +382,32 @@ ENDINGS = [
     ("nothing", 19, [["check", b"\xff"]], {}, "A word of the command line is no text in UTF-8."),
 ]
 
+# Kinds of tokens with one of them.
+NAMED = {"a name": "x", "a number": "3"}
+
+# Words with few sizes and files, the status, what is printed, and what is told.
+SUM = "examples/arrays/sum.gypsy"
+FEW = [
+    (f"try {SUM} a=(3,1,4,1,5)", 0, "finished 1276\ncondition normal\na = (3 1 4 1 5)\nsum = 14\n", "sum.values 15 14 1000000000 sum.image"),
+    (f"try {SUM}", 0, "finished 1276\ncondition normal\na = (0 0 0 0 0)\nsum = 0\n", f"./stack values {SUM} >sum.values"),
+    (["try", SUM, "a=3 1 4 1 5"], 0, "finished 1276\ncondition normal\na = (3 1 4 1 5)\nsum = 14\n", f"./stack values {SUM} 'a=3 1 4 1 5' >sum.values"),
+    ("try examples/calls/down.gypsy n=0", 0, "finished 105\ncondition normal\nn = 0\n", "down.values 1000 1000 1000000000 down.image"),
+    ("try examples/infix/gcd.mini x=12 y=18", 0, "finished 940\ncondition normal\nx = 6\ny = 6\n", "./stack mini examples/infix/gcd.mini gcd.gypsy"),
+    (f"try {SUM} a=(1,2)", 3, "values V6 at 1\n", "VALS:1:2: V6:"),
+    (f"try {SUM} b=3", 1, "", "b names no formal of main. These can be given: a=, sum="),
+    ("try wrong.gypsy", 2, "refused M1 at 0\n", "wrong.gypsy:1:1: M1:"),
+    ("try wrong.mini", 2, "refused Y1 at 9\n", "wrong.mini:1:10: Y1:"),
+    ("try nowhere", 9, "missing nowhere\n", "There is no file nowhere."),
+    ("try", 1, "", "wanted is ./stack try SRC"),
+    (f"values {SUM} sum=7", 0, "((a (0 0 0 0 0))\n (sum 7))\n", ""),
+    ("values examples/infix/gcd.mini y=2", 0, "((x 0)\n (y 2))\n", ""),
+]
+
 # Words that fit no command, and what is told.
 MISFITS = [
+    ("compile s", "Was one of these meant? ./stack build SRC CTRL TEMP IMG"),
+    ("simulate s", "Was one of these meant? ./stack run IMG VALS BUDGET"),
+    ("disassemble i", "Was one of these meant? ./stack show IMG"),
     ("chekc t", "chekc is no command. Was one of these meant? ./stack check SRC"),
     ("GO", "./stack go SRC VALS CTRL TEMP BUDGET IMG"),
     ("go s v 0 3 28 i", "CTRL 0 CTRL is 1 to 65,536"),
@@ -320,14 +431,18 @@ SLIPS = [
 ]
 
 
-def main(stack):
+def main(words=None):
+    parser = argparse.ArgumentParser(description=__doc__, formatter_class=argparse.RawDescriptionHelpFormatter)
+    parser.add_argument("stack", type=Path, help="the script `stack` of a checkout in which the program is built")
+    stack = parser.parse_args(words).stack.resolve()
     with tempfile.TemporaryDirectory() as room:
         rows = Rows(stack, room)
-        for theme in (rows.rules, rows.endings, rows.words, rows.slips, rows.streams, rows.transcript):
+        themes = (rows.rules, rows.endings, rows.words, rows.slips, rows.streams, rows.names, rows.texts, rows.mistakes, rows.expected, rows.few_words, rows.transcript)
+        for theme in themes:
             theme()
     print(", ".join(f"{theme}: {count}" for theme, count in rows.counts.items()))
     return 1 if rows.failed else 0
 
 
 if __name__ == "__main__":
-    sys.exit(main(sys.argv[1]))
+    sys.exit(main())

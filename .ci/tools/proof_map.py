@@ -5,6 +5,8 @@ import subprocess
 from collections import defaultdict
 from pathlib import Path
 
+from arguments import parser_of
+
 HEAD = """# Map of the proofs
 
 Printed by `.ci/tools/proof_map.py`, and checked to be current by `.ci/checks/form.sh`. The proof of a function `f` of `src/a.rt` is in `proofs/a/f/`.
@@ -49,6 +51,7 @@ def header(path):
 
 
 def main():
+    parser_of(__doc__).parse_args()
     serves = citers()
     print(HEAD)
     crates = defaultdict(list)
@@ -68,4 +71,5 @@ def main():
         print()
 
 
-main()
+if __name__ == "__main__":
+    main()

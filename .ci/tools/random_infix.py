@@ -5,14 +5,15 @@ Each seed makes a program that breaks no rule, and values for its variables. `mi
 that source have to tell the variables and the condition with which the evaluator ends, and the same count. Programs that run too long are thrown
 away. Then each program is damaged a few times, by a token or a byte; `mini` has to store it or to refuse it as the reader does, which goes by the
 rules Y1 to Y9 of docs/mini.md.
-
-usage: random_infix.py PROGRAM [FIRST_SEED [HOW_MANY]]"""
+"""
 import subprocess
 import sys
 import tempfile
 from dataclasses import dataclass
 from pathlib import Path
 from random import Random
+
+from arguments import seeds_of
 
 LEAST, GREATEST = -2**31, 2**31 - 1
 MOST_NUMBER, MOST_NAME, MOST_NESTED, MOST_OPERATORS, MOST_VARIABLES = GREATEST, 60, 40, 40, 100
@@ -345,8 +346,9 @@ def compared(program: str, folder: str, text: str, values: dict, wanted: str) ->
     return [] if means[0] == 0 and "".join(rest) == wanted and told else [("mean", means), ("go", goes), ("wanted", wanted)]
 
 
-def main(program: str, first: int = 1, how_many: int = 60) -> int:
-    program = str(Path(program).resolve())
+def main() -> int:
+    words = seeds_of(__doc__)
+    program, first, how_many = str(words.program), words.first, words.how_many
     tried, faults, texts, refused, wrong = 0, 0, 0, 0, 0
     with tempfile.TemporaryDirectory() as folder:
         for seed in range(first, first + how_many):
@@ -377,4 +379,4 @@ def main(program: str, first: int = 1, how_many: int = 60) -> int:
 
 
 if __name__ == "__main__":
-    sys.exit(main(sys.argv[1], *map(int, sys.argv[2:])) if len(sys.argv) > 1 else __doc__)
+    sys.exit(main())

@@ -3,13 +3,14 @@
 
 A source has 66 products, each of variables of its own and in a handler of its own, so that one that doesn't fit leaves its variable as it was.
 `go` has to print each product, and the sum of their instructions. Half of the factors are edges, or next to one.
-
-usage: random_products.py PROGRAM [HOW_MANY [SEED]]"""
+"""
 import subprocess
 import sys
 import tempfile
 from pathlib import Path
 from random import Random
+
+from arguments import drawn_of
 
 LEAST, GREATEST = -2**31, 2**31 - 1
 EDGES = [edge + by for edge in (LEAST, -2**16, -46341, 0, 46341, 2**16, GREATEST) for by in (-1, 0, 1) if LEAST <= edge + by <= GREATEST]
@@ -47,8 +48,10 @@ def printed(program: str, factors: list[tuple[int, int]]) -> str:
     return ran.stdout
 
 
-def main(program: str, how_many: str = "2000", seed: str = "1") -> int:
-    rng, left, failed = Random(int(seed)), int(how_many), 0
+def main() -> int:
+    words = drawn_of(__doc__, 2000)
+    program, how_many = str(words.program), words.how_many
+    rng, left, failed = Random(words.seed), how_many, 0
     while left > 0:
         factors = [(factor(rng), factor(rng)) for _ in range(min(EACH, left))]
         left -= len(factors)
@@ -60,4 +63,4 @@ def main(program: str, how_many: str = "2000", seed: str = "1") -> int:
 
 
 if __name__ == "__main__":
-    sys.exit(main(str(Path(sys.argv[1]).resolve()), *sys.argv[2:]) if 2 <= len(sys.argv) <= 4 else __doc__)
+    sys.exit(main())

@@ -4,8 +4,7 @@
 Each seed makes a source that breaks no static rule, values for main's formals, and sizes of the two stacks. The evaluator goes by
 the tables of docs/GYPSY.md and docs/step-machine.md, statement by statement, and makes no code. `check`, `mean`, `go`, `run`, `pit`, `prun` and `debug` have
 to print what follows from it; a seed where one of them doesn't is told in a line. Sources that run too long are thrown away.
-
-usage: random_sources.py PROGRAM [FIRST_SEED [HOW_MANY]]"""
+"""
 import subprocess
 import sys
 import tempfile
@@ -14,6 +13,8 @@ from dataclasses import dataclass, field
 from functools import cached_property
 from pathlib import Path
 from random import Random
+
+from arguments import seeds_of
 
 LEAST, GREATEST = -2**31, 2**31 - 1
 MOST_WORDS = 65536      # of a stack
@@ -616,17 +617,17 @@ def difference(program: str, seed: int) -> str:
     return ""
 
 
-def main(program: str, first: str = "1", how_many: str = "60") -> int:
-    agreeing = 0
-    for seed in range(int(first), int(first) + int(how_many)):
-        found = difference(str(Path(program).resolve()), seed)
+def main() -> int:
+    words, agreeing = seeds_of(__doc__), 0
+    for seed in range(words.first, words.first + words.how_many):
+        found = difference(str(words.program), seed)
         if found:
             print(found, flush=True)
         else:
             agreeing += 1
     print(f"{agreeing} sources agree")
-    return 0 if agreeing == int(how_many) else 1
+    return 0 if agreeing == words.how_many else 1
 
 
 if __name__ == "__main__":
-    sys.exit(main(*sys.argv[1:]) if 2 <= len(sys.argv) <= 4 else __doc__)
+    sys.exit(main())

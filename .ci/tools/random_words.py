@@ -3,14 +3,15 @@
 
 `unasm` prints each word as its instruction, where that has no other spelling, and else as `.word`; `asm` has to give each word back. Half of
 the words have no bit set that an instruction passes over, so that both kinds of lines come.
-
-usage: random_words.py PROGRAM [HOW_MANY [SEED]]"""
+"""
 import struct
 import subprocess
 import sys
 import tempfile
 from pathlib import Path
 from random import Random
+
+from arguments import drawn_of
 
 NO_ADDRESS = 0xFFFFFFFF
 IGNORED = 0xF00001C0    # bits of a word that an instruction passes over, where its first operand is no immediate
@@ -34,10 +35,11 @@ def run(program: str, folder: str, words: str) -> str:
     return subprocess.run([program, *words.split()], cwd=folder, stdout=subprocess.PIPE, text=True, check=False).stdout
 
 
-def main(program: str, how_many: int = 1_000_000, seed: int = 1) -> int:
+def main() -> int:
+    chosen = drawn_of(__doc__, 1_000_000)
+    program, how_many, seed = str(chosen.program), chosen.how_many, chosen.seed
     rng = Random(seed)
     words = [word(rng) for _ in range(how_many - 1)] + [1]
-    program = str(Path(program).resolve())
     with tempfile.TemporaryDirectory() as folder:
         image, text, again = (Path(folder, name) for name in ("image", "text", "again"))
         image.write_bytes(plain_image(words))
@@ -55,4 +57,4 @@ def main(program: str, how_many: int = 1_000_000, seed: int = 1) -> int:
 
 
 if __name__ == "__main__":
-    sys.exit(main(sys.argv[1], *map(int, sys.argv[2:])) if len(sys.argv) > 1 else __doc__)
+    sys.exit(main())

@@ -1,14 +1,14 @@
 #!/usr/bin/env bash
 # Plays the kit's command `rt` for .ci/checks/start.sh, in the folder STUB: it proves nothing, and takes no time.
 # STUB/calls has a line for each call but `version`. STUB/proved has a file for each crate that was "proved".
-# Further files tell it what to do: `silent`, the trial finds no answer; `fails`, the crate named in it isn't proved; `holds`, it waits in what
+# Further files tell it what to do: `silent`, the trial finds no answer; `endless`, it meets a limit; `fails`, the crate named in it isn't proved; `holds`, it waits in what
 # is named in it, a crate or `try` or `run`, until it is ended.
 set -u
 
 # What the program prints on these words: the check looks for it. Without words it is `usage`.
 program='[ $# -gt 0 ] || { echo usage; exit 1; }; echo "printed by the program: $*"; exit 7'
 
-# A trial on the words: keeps what each file handed in has, spoils the file itself, and prints the words.
+# A trial on the words: keeps what each file handed in has, spoils the file itself, stores the file that the script wants, and prints the words.
 play_try() {
     local name file
     while [ "$1" != -- ]; do
@@ -19,6 +19,11 @@ play_try() {
     shift
     hold_at try
     [ ! -e "$STUB/silent" ] || { echo "run=none proved=no" >&2; exit 6; }
+    if [ -e "$STUB/endless" ]; then
+        printf '%s\n' "checked: no-answer: the program did not end within the time limit" "run=no-answer proved=no" >&2
+        exit 6
+    fi
+    [[ ${*: -1} != */stored ]] || echo "stored by the trial" >"${*: -1}"
     echo "printed by the trial: $*"
     echo "run=ended status=5 runners=1 proved=no" >&2
     exit 5
@@ -62,7 +67,7 @@ play_run() {
 }
 
 if [ "$1" = version ]; then
-    echo "rattle-kit-13f of the check"
+    echo "rattle-kit-13f logic 0123456789abcdef"
     exit
 fi
 echo "$*" >>"$STUB/calls"

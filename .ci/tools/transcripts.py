@@ -1,10 +1,8 @@
 #!/usr/bin/env python3
 """Runs what documents show as transcripts, and compares what is printed with what they show.
 
-    python3 .ci/tools/transcripts.py PROGRAM [--write] DOCUMENT ..
-
 A transcript is a block that begins with ```console: a line that begins with `$ ` is a command, and the lines up to the next one are what it
-prints. The transcripts of one document are run one after the other in one folder, which has `examples`, and `stack`, which is PROGRAM. Prints
+prints. The transcripts of one document are run one after the other in one folder, which has `examples`, and `stack`, which is the program. Prints
 a line for each command that prints something else, and how many commands there were. The exit status is 1 where there was such a one. With
 `--write` the document gets what was printed.
 """
@@ -15,6 +13,9 @@ import subprocess
 import sys
 import tempfile
 from pathlib import Path
+
+from arguments import file, parser_of
+from arguments import program as executable
 
 TOP = Path(__file__).resolve().parents[2]
 BLOCK = re.compile(r"^```console\n(.*?)^```$", re.M | re.S)
@@ -56,10 +57,14 @@ class Player:
             return BLOCK.sub(lambda found: self.block(found.group(1), document, folder), document.read_text())
 
 
-def main(program, documents):
-    player = Player(Path(program).resolve())
-    is_written = "--write" in documents
-    for document in map(Path, (it for it in documents if it != "--write")):
+def main():
+    parser = parser_of(__doc__)
+    parser.add_argument("program", type=executable, help="cli_stack")
+    parser.add_argument("documents", type=file, nargs="+", metavar="DOCUMENT")
+    parser.add_argument("--write", action="store_true", help="write what was printed into the documents")
+    words = parser.parse_args()
+    player, is_written = Player(words.program), words.write
+    for document in (it.relative_to(Path.cwd()) for it in words.documents):
         played = player.play(document)
         if is_written:
             document.write_text(played)
@@ -70,6 +75,4 @@ def main(program, documents):
 
 
 if __name__ == "__main__":
-    if len(sys.argv) < 3:
-        sys.exit(__doc__)
-    sys.exit(main(sys.argv[1], sys.argv[2:]))
+    sys.exit(main())

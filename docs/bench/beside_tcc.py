@@ -1,12 +1,13 @@
-"""Times the largest source beside tcc: `beside_tcc.py PROGRAM FOLDER [TURNS]` writes the source and a C file that does the same into the
-folder, and prints what `build`, `check` and `tcc -c` take, turn by turn, the first two with large pages too. `tcc` has to be on the PATH."""
+#!/usr/bin/env python3
+"""Times the largest source beside tcc: writes the source and a C file that does the same into a folder, and prints what `build`, `check` and
+`tcc -c` take, turn by turn, the first two with large pages too. `tcc` has to be on the PATH."""
 
 import os
 import pathlib
 import statistics
 import subprocess
-import sys
 
+from measure import program_parser
 from programs import c_of, largest_source
 
 LARGE_PAGES = {"GLIBC_TUNABLES": "glibc.malloc.hugetlb=1"}
@@ -21,9 +22,13 @@ def taken(words, more):
     return usage.ru_utime + usage.ru_stime, usage.ru_stime, usage.ru_minflt, usage.ru_maxrss / 1024
 
 
-def main(program, folder, turns=70):
-    program = pathlib.Path(program).resolve()
-    os.chdir(folder)
+def main():
+    parser = program_parser(__doc__)
+    parser.add_argument("folder", type=pathlib.Path, help="where the files are written")
+    parser.add_argument("turns", type=int, nargs="?", default=70, help="how many (%(default)s)")
+    words = parser.parse_args()
+    program, turns = words.program, words.turns
+    os.chdir(words.folder)
     pathlib.Path("program.gypsy").write_text(largest_source(1 << 20))
     pathlib.Path("program.c").write_text(c_of(1 << 20))
     build, check = [program, "build", "program.gypsy", "64", "64", "program.image"], [program, "check", "program.gypsy"]
@@ -35,7 +40,7 @@ def main(program, folder, turns=70):
         "tcc": (["tcc", "-c", "-o", "program.o", "program.c"], {}),
     }
     runs = {name: [] for name in commands}
-    for _ in range(int(turns)):
+    for _ in range(turns):
         for name, (words, more) in commands.items():
             runs[name].append(taken(words, more))
     times = {name: [run[0] for run in those] for name, those in runs.items()}
@@ -50,6 +55,4 @@ def main(program, folder, turns=70):
 
 
 if __name__ == "__main__":
-    if len(sys.argv) not in (3, 4):
-        sys.exit(__doc__)
-    main(*sys.argv[1:])
+    main()

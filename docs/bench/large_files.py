@@ -1,8 +1,6 @@
 #!/usr/bin/env python3
 """Times the built program on large images, assembly texts and certificates.
 
-    python3 docs/bench/large_files.py PROGRAM
-
 Sources of so many statements, built: each has a mark in the image. Images of version 2 with so many words, each with a mark: listed,
 migrated and run for one instruction. The same words, without marks, as assembly text and back; its lines are padded so that the largest
 text has nearly the 33,554,432 bytes that `asm` takes. A source of 1,000 procedures, each of which calls the next 50 times: its least
@@ -16,7 +14,7 @@ import tempfile
 from pathlib import Path
 
 sys.dont_write_bytecode = True
-from measure import start, taken
+from measure import program_parser, start, taken
 
 NO_ADDRESS = 0xFFFFFFFF
 NO_OPERATION = 0x00EE0000    # MOVE r0,r0
@@ -77,7 +75,6 @@ def write(number, folder):
 
 
 def main(program):
-    program = str(Path(program).resolve())
     print("| File | Command | Bytes | Status | Time | Memory |\n|---|---|---|---|---|---|")
     with tempfile.TemporaryDirectory() as folder:
         for number, (what, words, name, _) in enumerate(rows()):
@@ -88,4 +85,4 @@ def main(program):
 
 
 if __name__ == "__main__":
-    start(__doc__, write, main)
+    start(program_parser(__doc__), write, main)

@@ -1,9 +1,7 @@
 #!/usr/bin/env python3
 """Times the built program on the texts at the limits of each layer and on the long runs of conformance/made/large.py.
 
-    python3 docs/bench/limits.py PROGRAM [LAYER]
-
-A layer is `trees`, `piton`, `gypsy` or `meaning`; without one all are timed. For each row: the bytes of its text, what is printed, the least
+For each row: the bytes of its text, what is printed, the least
 time of some turns, the whole process's own and the system's, and the most memory that it had.
 """
 import subprocess
@@ -15,7 +13,9 @@ sys.dont_write_bytecode = True
 CONFORMANCE = Path(__file__).resolve().parents[2] / "conformance"
 sys.path[:0] = [str(CONFORMANCE), str(CONFORMANCE / "made")]
 import large
-from measure import start, taken
+from measure import program_parser, start, taken
+
+LAYERS = ["trees", "piton", "gypsy", "meaning"]
 
 
 def write(number, folder):
@@ -27,8 +27,7 @@ def write(number, folder):
     Path(folder, "v").write_text("" if is_text else row[4])
 
 
-def main(program, layer=None):
-    program = str(Path(program).resolve())
+def main(program, layer):
     print("| Text | Command | Bytes | Printed | Time | Memory |\n|---|---|---|---|---|---|")
     for number, row in enumerate(large.TEXTS + large.RUNS):
         of, name, words = row[:3]
@@ -41,4 +40,6 @@ def main(program, layer=None):
 
 
 if __name__ == "__main__":
-    start(__doc__, write, main)
+    parser = program_parser(__doc__)
+    parser.add_argument("layer", nargs="?", choices=LAYERS, help="without one all are timed")
+    start(parser, write, main)

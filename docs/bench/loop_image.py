@@ -1,12 +1,13 @@
 #!/usr/bin/env python3
 """Writes loop.image: the loop of four instructions, with 50,000,000 rounds, which are 200 million steps.
 
-docs/image-file.md has the fields. Run it in this folder; another number of rounds can be given.
+docs/image-file.md has the fields. Run it in this folder.
 """
 import struct
-import sys
 
-ROUNDS = int(sys.argv[1]) if len(sys.argv) > 1 else 50_000_000
+from measure import parser_of
+
+ROUNDS = 50_000_000
 
 WORDS = [
     0x03E04C01,  # 0: ADD (r3),r1
@@ -19,9 +20,17 @@ WORDS = [
 ]
 
 BASE, SIZE, FINAL, NO_CONDITION = 0, len(WORDS), 5, 0xFFFFFFFF
-REGISTERS = [0, ROUNDS, 0, 6] + [0] * 12
 FLAGS, CONDITIONS, SLOTS = 0, 0, 0
 
-numbers = [1, BASE, SIZE, FINAL, *REGISTERS, FLAGS, NO_CONDITION, CONDITIONS, SLOTS, len(WORDS), *WORDS]
-with open("loop.image", "wb") as file:
-    file.write(b"FM91" + struct.pack(f">{len(numbers)}I", *numbers))
+
+def main():
+    parser = parser_of(__doc__)
+    parser.add_argument("rounds", type=int, nargs="?", default=ROUNDS, help="how many rounds (%(default)s)")
+    registers = [0, parser.parse_args().rounds, 0, 6] + [0] * 12
+    numbers = [1, BASE, SIZE, FINAL, *registers, FLAGS, NO_CONDITION, CONDITIONS, SLOTS, len(WORDS), *WORDS]
+    with open("loop.image", "wb") as file:
+        file.write(b"FM91" + struct.pack(f">{len(numbers)}I", *numbers))
+
+
+if __name__ == "__main__":
+    main()

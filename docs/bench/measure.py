@@ -1,7 +1,12 @@
-"""What a command of the program takes."""
+"""What a command of the program takes, and the words of the scripts that measure it."""
 import os
 import subprocess
 import sys
+from pathlib import Path
+
+sys.path.append(str(Path(__file__).resolve().parents[2] / ".ci/tools"))
+from arguments import parser_of  # noqa: E402
+from arguments import program as executable  # noqa: E402
 
 TURNS = 5
 
@@ -18,11 +23,16 @@ def taken(program, words, folder, is_read=True):
     return min(turns)
 
 
-def start(doc, write, main):
+def program_parser(doc):
+    """A parser whose first word is the built program."""
+    parser = parser_of(doc)
+    parser.add_argument("program", type=executable, help="cli_stack")
+    return parser
+
+
+def start(parser, write, main):
     """Starts a script that measures: it calls itself with `--write` where a file is to be written by a process of its own."""
-    if len(sys.argv) < 2:
-        sys.exit(doc)
-    if sys.argv[1] == "--write":
+    if sys.argv[1:2] == ["--write"]:
         write(*sys.argv[2:])
     else:
-        main(*sys.argv[1:])
+        main(**vars(parser.parse_args()))

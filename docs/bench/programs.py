@@ -1,10 +1,12 @@
-"""Times the stack beside a C compiler: `programs.py FOLDER` writes sources of 64 KiB to 1 MiB there, and C files of the same sizes
-that do the same, and prints what checking, compiling and running them takes. `stack`, `gcc` and `tcc` have to be on the PATH."""
+#!/usr/bin/env python3
+"""Times the stack beside a C compiler: writes sources of 64 KiB to 1 MiB to a folder, and C files of the same sizes that do the same, and prints
+what checking, compiling and running them takes. `stack`, `gcc` and `tcc` have to be on the PATH."""
 
 import os
 import pathlib
 import subprocess
-import sys
+
+from measure import parser_of
 
 SIZES = [1 << n for n in range(16, 21)]
 TURNS = 5
@@ -75,8 +77,9 @@ def taken(words):
 
 
 def main():
-    folder = pathlib.Path(sys.argv[1])
-    os.chdir(folder)
+    parser = parser_of(__doc__)
+    parser.add_argument("folder", type=pathlib.Path, help="where the files are written")
+    os.chdir(parser.parse_args().folder)
     pathlib.Path("one.values").write_text("((x 1))")
     for size in SIZES:
         text, c = largest_source(size), c_of(size)

@@ -1,17 +1,16 @@
 #!/usr/bin/env python3
 """Times `run` on loop.image beside another interpreter of the processor, and shows the memory that large windows take.
 
-    python3 docs/bench/running.py PROGRAM [INTERPRETER]
-
-INTERPRETER takes an image of version 1 and a budget. Each is run nine times, the two by turns: user time of the whole process. Memory is the
+Each is run nine times, the two by turns: user time of the whole process. Memory is the
 most that the process had, of `run` on images of nothing but a window; GNU time tells it, since a process begins with the most of its parent.
 """
 import os
 import struct
 import subprocess
-import sys
 import tempfile
 from pathlib import Path
+
+from measure import executable, program_parser
 
 HERE = Path(__file__).resolve().parent
 TURNS = 9
@@ -43,13 +42,16 @@ def megabytes(words, folder):
     return int(ran.stderr) / 1024
 
 
-def main(program, *interpreters):
-    program = str(Path(program).resolve())
+def main():
+    parser = program_parser(__doc__)
+    parser.add_argument("interpreter", type=executable, nargs="*", help="takes an image of version 1 and a budget")
+    words = parser.parse_args()
+    program, interpreters = str(words.program), words.interpreter
     with tempfile.TemporaryDirectory(prefix="running-") as room:
         folder = Path(room)
         (folder / "none.values").write_text("()")
         run = [program, "run", str(HERE / "loop.image"), "none.values", str(BUDGET)]
-        others = [[str(Path(it).resolve()), str(HERE / "loop.image"), str(BUDGET)] for it in interpreters]
+        others = [[str(it), str(HERE / "loop.image"), str(BUDGET)] for it in interpreters]
         for words, times in zip([run, *others], by_turns([run, *others], folder)):
             best, median = times[0], times[TURNS // 2]
             print(f"{Path(words[0]).name}: best {STEPS / best / 1e6:.1f}, median {STEPS / median / 1e6:.1f} million steps a second")
@@ -59,4 +61,4 @@ def main(program, *interpreters):
 
 
 if __name__ == "__main__":
-    main(*sys.argv[1:])
+    main()

@@ -1,8 +1,6 @@
 #!/usr/bin/env python3
 """Times eight tasks of a long loop that take turns, beside the same eight runs alone.
 
-    python3 docs/bench/turns.py PROGRAM
-
 The source is the first long run of conformance/made/large.py. For each length of a turn, and for `go` eight times: the instructions, the rounds,
 and the least time of some trials, the processes' own and the system's.
 """
@@ -17,6 +15,7 @@ sys.dont_write_bytecode = True
 CONFORMANCE = Path(__file__).resolve().parents[2] / "conformance"
 sys.path[:0] = [str(CONFORMANCE), str(CONFORMANCE / "made")]
 import large
+from measure import program_parser
 
 TRIALS = 3
 TASKS = 8
@@ -37,8 +36,8 @@ def taken(program, lines, folder):
     return min(trials)
 
 
-def main(program):
-    program = str(Path(program).resolve())
+def main():
+    program = program_parser(__doc__).parse_args().program
     _, _, _, source, values, _ = large.RUNS[0]
     runs = [("alone", [f"go s v 100 100 {BUDGET} i"] * TASKS)]
     runs += [(f"{turn:,}", [f"turns {turn} {BUDGET} 100 100" + " s v" * TASKS]) for turn in (1, 10, 1_000, 1_000_000)]
@@ -54,6 +53,4 @@ def main(program):
 
 
 if __name__ == "__main__":
-    if len(sys.argv) != 2:
-        sys.exit(__doc__)
-    main(sys.argv[1])
+    main()

@@ -1,0 +1,180 @@
+"""What belongs at a place of a source of Micro-Gypsy that is refused, as far as the rule, what stands there and docs/GYPSY.md tell."""
+import re
+from difflib import get_close_matches
+from functools import cache
+
+from catalog import GUIDE
+
+LANGUAGE = GUIDE.parent / "docs/GYPSY.md"
+TOKEN = re.compile(rb";[^\n]*|[()]|[^\s();]+")
+TYPES = {"int": "integer", "bool": "boolean", "char": "character", "string": "(array character LENGTH)", "real": "integer", "float": "integer"}
+WHILE = "A while is a loop that is left: (loop (seq (mg-integer-le b y x) (if b (signal leave) (no-op)) ..)) goes on while x < y."
+ASSIGNED = "x := 7 is (mg-simple-constant-assignment x 7), and x := y is (mg-simple-variable-assignment x y)."
+PRINTED = "Nothing is printed on the way: at the end each formal of main is."
+# What other languages have, by the word with which they begin it.
+ELSEWHERE = {
+    **dict.fromkeys(("while", "for", "repeat", "until", "do"), WHILE),
+    **dict.fromkeys(("set", "set!", "setq", "let", "assign", ":=", "=", "move"), ASSIGNED),
+    **dict.fromkeys(("print", "write", "display", "printf", "read"), PRINTED),
+    **dict.fromkeys(("break", "leave", "exit"), "A loop is left by (signal leave)."),
+    **dict.fromkeys(("return",), "A procedure ends where its statement ends, or by (signal CONDITION) with one of its formal conditions."),
+    **dict.fromkeys(("skip", "nop", "pass"), "What does nothing is (no-op)."),
+    **dict.fromkeys(("throw", "raise"), "A condition is raised by (signal CONDITION)."),
+    **dict.fromkeys(("begin", "progn", "block"), "Statements one after the other are (seq STATEMENT+)."),
+    "+": "x := y + z is (mg-integer-add x y z).", "-": "x := y - z is (mg-integer-subtract x y z).", "*": "x := y * z is (mg-integer-multiply x y z).",
+}
+
+
+@cache
+def forms():
+    """The form of each statement, and what each predefined procedure takes, by their first words."""
+    known = {}
+    for line in LANGUAGE.read_text(encoding="utf-8").splitlines():
+        form = re.match(r"(?:statement)? +(\((no-op|signal|seq|loop|if|begin|call)\b.*\))$", line)
+        row = re.match(r"\| (`mg-[^|]*) \| (`[^|]*) \| ([^|]*) \|", line)
+        if form:
+            known.setdefault(form.group(2), form.group(1))
+        elif row:
+            literal = "; every argument is a variable" if row.group(3) == "none" else f"; {row.group(3)} is a literal"
+            for name in re.findall(r"`(mg-[a-z-]+)`", row.group(1)):
+                known.setdefault(name, f"({name} {row.group(2).split('`')[1]}){row.group(2).split('`', 2)[2]}{literal}")
+    return known
+
+
+def list_round(data, place, within=False):
+    """The items of the list that begins at a place or is the innermost round it, each with where it begins, as its token, or `(` for a list; none
+    where there is no such list. With `within` it is the innermost round it alone."""
+    opened = []
+    for found in TOKEN.finditer(data):
+        token, at = found.group(), found.start()
+        if token.startswith(b";"):
+            continue
+        if token == b")":
+            if not opened:
+                return []
+            start, items = opened.pop()
+            if start < place <= at or (start == place and not within):
+                return items
+            continue
+        if opened:
+            opened[-1][1].append((token.decode(errors="replace"), at))
+        if token == b"(":
+            opened.append((at, []))
+    return []
+
+
+def variables_at(data, place):
+    """The names of the variables of the procedure round a place of a source that breaks no rule of form."""
+    start = max(found.start() for found in re.finditer(rb"\(\s*proc\b", data[:place]))
+    depth, item, before, names = 0, 0, b"", []
+    for token in (found.group() for found in TOKEN.finditer(data, start)):
+        if token == b"(":
+            depth += 1
+            # The lists of a procedure are its formals, conditions, locals and conditions.
+            item += depth == 2
+        elif token == b")":
+            depth -= 1
+            if depth == 0:
+                break
+        elif depth == 3 and item in (1, 3) and before == b"(":
+            names.append(token.decode(errors="replace"))
+        before = token
+    return names
+
+
+def character_of(token):
+    """A character as other languages write it, as here, or nothing."""
+    found = re.fullmatch(r"['\"](.)['\"]?", token)
+    return f"{token} is #{ord(found.group(1))}: a character is # and its code." if found and ord(found.group(1)) < 128 else ""
+
+
+def form_lines(rule, head, items, token):
+    """Of rules that speak of the form of one statement."""
+    if head in forms():
+        yield f"Wanted is {forms()[head]}."
+        if rule == "M10":
+            yield f"It has {len(items) - 1} items after {head}."
+    if rule == "S23" and re.match(r"-?\d|#\d|true|false", token):
+        yield "A local variable can have this value: among the locals (NAME TYPE VALUE), as (one integer 1)."
+    if rule == "S23" and head in ("mg-simple-variable-assignment", "mg-simple-constant-assignment", "mg-simple-variable-eq"):
+        yield "An array is assigned and compared item by item: mg-index-array reads one, mg-array-element-assignment sets one."
+
+
+def procedure_lines(items):
+    """Of a procedure with other items than it has to have."""
+    if items and items[0][0] == "proc" and len(items) != 7:
+        more = ": several statements want a (seq ..) round them" if len(items) > 7 else ": where a list is empty () stands for it"
+        yield f"This one has {len(items)} items, and 7 belong{more}."
+
+
+def statement_lines(head):
+    """Of a list that is no statement."""
+    meant = get_close_matches(head, forms(), 3, 0.7)
+    if head in ELSEWHERE:
+        yield ELSEWHERE[head]
+    elif meant:
+        yield f"Was {' or '.join(meant)} meant?"
+    yield "docs/GYPSY.md, How to write, has loops, expressions and ifs of other languages."
+
+
+def condition_lines(head, token):
+    """Of an if whose first item is no Boolean variable."""
+    if head == "if" and token == "(":
+        yield "An if takes a Boolean variable, and no expression: compute it first, as (seq (mg-integer-le b x y) (if b .. ..)) with a local (b boolean false)."
+    elif head == "if" and token in ("true", "false"):
+        yield "An if takes a Boolean variable, and no literal: a local (b boolean true) has it."
+
+
+def type_lines(token):
+    """Of a type that isn't there."""
+    meant = [TYPES[token]] if token in TYPES else get_close_matches(token, ["integer", "boolean", "character", "array"], 1, 0.6)
+    if meant:
+        yield f"Was {meant[0]} meant?"
+
+
+def missing_value(name, kind):
+    """Of a local without a value."""
+    value = {"boolean": "false", "character": "#0"}.get(kind[0], "0")
+    return f"Here the value is missing, as in ({name[0]} {'TYPE' if kind[0] == '(' else kind[0]} {value})."
+
+
+def variable_lines(data, place, token):
+    """Of a variable that isn't declared."""
+    names = variables_at(data, place)
+    meant = get_close_matches(token, names, 2, 0.6)
+    yield f"The procedure has {', '.join(names) if names else 'no variable'}.{' Was ' + ' or '.join(meant) + ' meant?' if meant else ''}"
+    yield "A variable is declared among the formals (NAME TYPE), or among the locals (NAME TYPE VALUE)."
+
+
+def wanted(rule, data, place):
+    """What belongs at a place, in sentences."""
+    items = list_round(data, place)
+    head = items[0][0] if items else ""
+    found = TOKEN.match(data, place)
+    token = found.group().decode(errors="replace") if found else ""
+    if rule in ("M10", "S22", "S23"):
+        yield from form_lines(rule, head, items, token)
+    elif rule == "M2":
+        yield from procedure_lines(items)
+    elif rule == "M3":
+        yield from condition_lines((list_round(data, place, within=True) or [("", 0)])[0][0], token)
+    elif rule == "M6" and len(items) == 2:
+        yield missing_value(*items)
+    elif rule == "M7":
+        yield from type_lines(token)
+    elif rule == "M8" and character_of(token):
+        yield character_of(token)
+    elif rule == "M9":
+        yield from statement_lines(head)
+    elif rule == "G5" and re.match(rb"\s*(#|//|--)", data):
+        yield "A comment begins with a ; and ends with its line."
+    elif rule in ("S10", "S12"):
+        yield "A sum, a difference or a product that doesn't fit, and an index outside an array, set routineerror."
+    elif rule == "S11":
+        yield "To end a procedure from within, signal one of its formal conditions."
+    elif rule == "S14":
+        yield from variable_lines(data, place, token)
+    elif rule == "S15":
+        yield "A comparison makes a Boolean: (seq (mg-simple-constant-eq b x 0) (if b .. ..)) with a local (b boolean false)."
+    elif rule == "S16" and token in forms():
+        yield f"Wanted is {forms()[token]}."
