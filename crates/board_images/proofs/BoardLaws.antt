@@ -21,11 +21,11 @@ use Rattle.gypsy_syntax.specs.Sources.{SourceOf}
 use Rattle.gypsy_syntax.specs.Resolved.{program_of}
 use Rattle.gypsy_space.specs.Costs.{Tally}
 use Rattle.gypsy_space.specs.Needs.{StackSizes, stack_sizes}
-use Rattle.gypsy_meaning.specs.Calls.{CurrentCondition}
-use Rattle.gypsy_meaning.specs.Counted.{CountedOutcome, CountedDone, CountedUnfinished, counted_meaning, uncounted, tally_of}
-use Rattle.gypsy_meaning.specs.Machine.{At, Move, Next, Ended}
-use Rattle.gypsy_meaning.specs.Meaning.{Done, meaning}
-use Rattle.gypsy_meaning.proofs.CountLaws.{meaning-uncounted}
+use Rattle.gypsy_semantics.specs.Calls.{CurrentCondition}
+use Rattle.gypsy_semantics.specs.Counted.{CountedOutcome, CountedDone, CountedUnfinished, counted_meaning, uncounted, tally_of}
+use Rattle.gypsy_semantics.specs.Machine.{At, Move, Next, Ended}
+use Rattle.gypsy_semantics.specs.Meaning.{Done, meaning}
+use Rattle.gypsy_semantics.proofs.CountLaws.{meaning-uncounted}
 use Rattle.gypsy_codegen.specs.Moments.{moment_from}
 use Rattle.stack_build.specs.Implements.{FitsFormals, Finishes}
 use Rattle.stack_build.specs.ComesTo.{ComesTo}

@@ -11,11 +11,11 @@ use Rattle.display_maps.specs.Reading.{ReadingOf, reading}
 use Rattle.gypsy_syntax.specs.Sources.{SourceOf}
 use Rattle.gypsy_syntax.specs.Resolved.{program_of}
 use Rattle.gypsy_space.specs.Needs.{StackSizes, stack_sizes}
-use Rattle.gypsy_meaning.specs.Calls.{CurrentCondition}
-use Rattle.gypsy_meaning.specs.Machine.{Item, Frame, At, Move, Next, Ended}
-use Rattle.gypsy_meaning.specs.Meaning.{Done}
+use Rattle.gypsy_semantics.specs.Calls.{CurrentCondition}
+use Rattle.gypsy_semantics.specs.Machine.{Item, Frame, At, Move, Next, Ended}
+use Rattle.gypsy_semantics.specs.Meaning.{Done}
 use Rattle.gypsy_codegen.specs.Moments.{moment_from}
-use Rattle.gypsy_meaning.specs.Seen.Moments.{NeverEnds}
+use Rattle.gypsy_semantics.specs.Seen.Moments.{NeverEnds}
 use Rattle.stack_build.specs.Implements.{FitsFormals, Finishes, Implements, meaning_shown}
 use Rattle.stack_build.specs.Moments.{MemoryReads, KeepsMoments}
 use Rattle.stack_build.specs.StaysUnfinished.{StaysUnfinished}

@@ -29,11 +29,11 @@ use Rattle.piton_machine.proofs.SeenLaws.{stays}
 use Rattle.piton_syntax.specs.Systems.{SystemOf}
 use Rattle.gypsy_syntax.specs.Sources.{SourceOf}
 use Rattle.gypsy_space.specs.Needs.{StackSizes, stack_sizes}
-use Rattle.gypsy_meaning.specs.declared.answers.MeanRun.{MeanRun}
-use Rattle.gypsy_meaning.specs.declared.answers.MeanRun.TheVariants as mean_run
-use Rattle.gypsy_meaning.specs.declared.answers.Moved.{Moved}
-use Rattle.gypsy_meaning.specs.declared.answers.Moved.TheVariants as moved
-use Rattle.gypsy_meaning.specs.Seen.RunView.{Seen, Stage, Running, Finished, answer_from, answer_of, end_by, left_from, left_of, meaning_run, ran_on}
+use Rattle.gypsy_semantics.specs.declared.answers.MeanRun.{MeanRun}
+use Rattle.gypsy_semantics.specs.declared.answers.MeanRun.TheVariants as mean_run
+use Rattle.gypsy_semantics.specs.declared.answers.Moved.{Moved}
+use Rattle.gypsy_semantics.specs.declared.answers.Moved.TheVariants as moved
+use Rattle.gypsy_semantics.specs.Seen.RunView.{Seen, Stage, Running, Finished, answer_from, answer_of, end_by, left_from, left_of, meaning_run, ran_on}
 use Rattle.stack_build.specs.Starts.{gypsy_start}
 use Rattle.stack_build.specs.declared.start_fault.StartFault.{StartFault}
 use Rattle.stack_build.specs.declared.fault.BuildFault.{BuildFault}

@@ -18,10 +18,10 @@ use Rattle.gypsy_syntax.specs.Sources.{SourceOf}
 use Rattle.gypsy_check.specs.Accepted.{IsAccepted}
 use Rattle.gypsy_space.specs.Needs.{StackSizes, stack_sizes}
 use Rattle.gypsy_space.specs.Costs.{Tally}
-use Rattle.gypsy_meaning.specs.Calls.{CurrentCondition}
-use Rattle.gypsy_meaning.specs.Machine.{State, Move, Next, Ended}
-use Rattle.gypsy_meaning.specs.Seen.Moments.{moment_from}
-use Rattle.gypsy_meaning.specs.Seen.RunView.{Seen, spent_at}
+use Rattle.gypsy_semantics.specs.Calls.{CurrentCondition}
+use Rattle.gypsy_semantics.specs.Machine.{State, Move, Next, Ended}
+use Rattle.gypsy_semantics.specs.Seen.Moments.{moment_from}
+use Rattle.gypsy_semantics.specs.Seen.RunView.{Seen, spent_at}
 use Rattle.stack_build.specs.Build.{BuiltOf, BuildsText, built, source_built, source_in}
 use Rattle.stack_build.specs.declared.fault.BuildFault.{BuildFault}
 use Rattle.stack_build.specs.Image.{places_fit}

@@ -15,10 +15,10 @@ use Rattle.gypsy_syntax.specs.Resolved.{place_among, program_of}
 use Rattle.gypsy_syntax.specs.Sources.{ProcOf, SourceOf}
 use Rattle.gypsy_space.specs.Costs.{Tally}
 use Rattle.gypsy_space.specs.Needs.{StackSizes, stack_sizes}
-use Rattle.gypsy_meaning.specs.Calls.{CurrentCondition}
-use Rattle.gypsy_meaning.specs.Counted.{CountedOutcome, CountedDone, CountedUnfinished, counted_meaning, uncounted, tally_of}
-use Rattle.gypsy_meaning.specs.Meaning.{Done as RunDone, meaning}
-use Rattle.gypsy_meaning.proofs.CountLaws.{meaning-uncounted}
+use Rattle.gypsy_semantics.specs.Calls.{CurrentCondition}
+use Rattle.gypsy_semantics.specs.Counted.{CountedOutcome, CountedDone, CountedUnfinished, counted_meaning, uncounted, tally_of}
+use Rattle.gypsy_semantics.specs.Meaning.{Done as RunDone, meaning}
+use Rattle.gypsy_semantics.proofs.CountLaws.{meaning-uncounted}
 use Rattle.mini_syntax.specs.MiniReading.{IsFaultless}
 use Rattle.mini_syntax.specs.Breaches.{body_of, declared_of}
 use Rattle.mini_syntax.specs.declared.program.Declared.{Declared}

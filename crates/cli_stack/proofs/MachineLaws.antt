@@ -29,9 +29,9 @@ use Rattle.space_cert.specs.Certified.{certified}
 use Rattle.space_cert.specs.CertText.{bounds_in}
 use Rattle.space_cert.specs.Covers.{Bounds}
 use Rattle.gypsy_space.specs.Needs.{StackSizes as StackWords, stack_sizes}
-use Rattle.gypsy_meaning.specs.declared.answers.MeanRun.{MeanRun}
-use Rattle.gypsy_meaning.specs.declared.answers.MeanRun.TheVariants as mean_run
-use Rattle.gypsy_meaning.specs.Seen.RunView.{Seen as MeanSeen, Ran as MeanRan, meaning_run as mean_run_of}
+use Rattle.gypsy_semantics.specs.declared.answers.MeanRun.{MeanRun}
+use Rattle.gypsy_semantics.specs.declared.answers.MeanRun.TheVariants as mean_run
+use Rattle.gypsy_semantics.specs.Seen.RunView.{Seen as MeanSeen, Ran as MeanRan, meaning_run as mean_run_of}
 use Rattle.gypsy_gen.specs.Large.{large_of}
 use Rattle.debug_script.specs.declared.fault.ScriptFault.{ScriptFault}
 use Rattle.debug_script.specs.declared.reading.Line.{Line}

@@ -10,20 +10,20 @@ use Rattle.gypsy_syntax.specs.Sources.{SourceOf}
 use Rattle.gypsy_syntax.specs.Programs.{Program}
 use Rattle.gypsy_syntax.specs.Resolved.{program_of}
 use Rattle.gypsy_space.specs.Needs.{StackSizes, stack_sizes, main_need}
-use Rattle.gypsy_meaning.specs.declared.answers.MeanRun.{MeanRun}
-use Rattle.gypsy_meaning.specs.declared.answers.MeanRun.TheVariants as run
-use Rattle.gypsy_meaning.specs.declared.answers.Moved.{Moved}
-use Rattle.gypsy_meaning.specs.declared.answers.Moved.TheVariants as moved
-use Rattle.gypsy_meaning.specs.Seen.RunAgrees.{MeansEnd, EndAgrees, RunAgrees}
-use Rattle.gypsy_meaning.specs.Seen.Belongs.{Suffices}
-use Rattle.gypsy_meaning.specs.Calls.{CurrentCondition}
-use Rattle.gypsy_meaning.specs.Counted.{instruction_count}
-use Rattle.gypsy_meaning.specs.Meaning.{Done as MeaningDone, meaning}
-use Rattle.gypsy_meaning.specs.Seen.RunView.{Seen, Ran, Stage, Running, Finished, IsOfRun, IsEnd, answer_from, answer_of, end_by, left_from, left_of, opening, ran_on, meaning_run, values_at}
-use Rattle.gypsy_meaning.specs.Seen.Shown.{condition_at, names_at}
-use Rattle.gypsy_meaning.proofs.ReachLaws.{opening_reached, completes}
-use Rattle.gypsy_meaning.proofs.RunLaws.{run_agrees}
-use Rattle.gypsy_meaning.proofs.SeenLaws.{run_same}
+use Rattle.gypsy_semantics.specs.declared.answers.MeanRun.{MeanRun}
+use Rattle.gypsy_semantics.specs.declared.answers.MeanRun.TheVariants as run
+use Rattle.gypsy_semantics.specs.declared.answers.Moved.{Moved}
+use Rattle.gypsy_semantics.specs.declared.answers.Moved.TheVariants as moved
+use Rattle.gypsy_semantics.specs.Seen.RunAgrees.{MeansEnd, EndAgrees, RunAgrees}
+use Rattle.gypsy_semantics.specs.Room.{Suffices}
+use Rattle.gypsy_semantics.specs.Calls.{CurrentCondition}
+use Rattle.gypsy_semantics.specs.Counted.{instruction_count}
+use Rattle.gypsy_semantics.specs.Meaning.{Done as MeaningDone, meaning}
+use Rattle.gypsy_semantics.specs.Seen.RunView.{Seen, Ran, Stage, Running, Finished, IsOfRun, IsEnd, answer_from, answer_of, end_by, left_from, left_of, opening, ran_on, meaning_run, values_at}
+use Rattle.gypsy_semantics.specs.Seen.Shown.{condition_at, names_at}
+use Rattle.gypsy_semantics.proofs.ReachLaws.{opening_reached, completes}
+use Rattle.gypsy_semantics.proofs.RunLaws.{run_agrees}
+use Rattle.gypsy_semantics.proofs.SeenLaws.{run_same}
 use Rattle.level_debuggers.specs.Tallies.{Watching}
 use Rattle.stack_build.specs.declared.start_fault.StartFault.{StartFault}
 use Rattle.stack_build.specs.Starts.{or_values, shortage_of, unless_short, gypsy_start}

@@ -25,11 +25,11 @@ use Rattle.gypsy_syntax.specs.Resolved.{program_of, shape_of}
 use Rattle.gypsy_syntax.specs.Sources.{SourceOf}
 use Rattle.gypsy_space.specs.Costs.{Tally}
 use Rattle.gypsy_space.specs.Needs.{StackSizes}
-use Rattle.gypsy_meaning.specs.Calls.{CurrentCondition}
-use Rattle.gypsy_meaning.specs.Counted.{CountedOutcome, uncounted, tally_of}
-use Rattle.gypsy_meaning.specs.Machine.{At, Move, Next, Ended, start}
-use Rattle.gypsy_meaning.proofs.CountLaws.{meaning-uncounted}
-use Rattle.gypsy_meaning.proofs.Runs.{agree}
+use Rattle.gypsy_semantics.specs.Calls.{CurrentCondition}
+use Rattle.gypsy_semantics.specs.Counted.{CountedOutcome, uncounted, tally_of}
+use Rattle.gypsy_semantics.specs.Machine.{At, Move, Next, Ended, start}
+use Rattle.gypsy_semantics.proofs.CountLaws.{meaning-uncounted}
+use Rattle.gypsy_semantics.proofs.Runs.{agree}
 use Rattle.gypsy_codegen.specs.Moments.{moment_from}
 use Rattle.gypsy_codegen.proofs.MomentLaws.{moment_over, counts_grow}
 use Rattle.space_cert.specs.Covers.{Covers}

@@ -16,7 +16,7 @@ use Rattle.display_maps.specs.Report.{report_text}
 use Rattle.level_debuggers.specs.Tallies.{Watching}
 use Rattle.gypsy_syntax.specs.Sources.{SourceOf}
 use Rattle.gypsy_space.specs.Needs.{StackSizes, stack_sizes}
-use Rattle.gypsy_meaning.specs.Calls.{CurrentCondition}
+use Rattle.gypsy_semantics.specs.Calls.{CurrentCondition}
 use Rattle.stack_build.specs.Build.{built, BuildsText}
 use Rattle.stack_build.specs.Implements.{meaning_shown, FitsFormals, Finishes, Implements}
 use Rattle.stack_build.specs.Joined.{BuiltImplements, BuiltTakesValues}

@@ -11,7 +11,7 @@ use Rattle.stack_shelf.specs.Shelf.{appended}
 use Rattle.gypsy_syntax.specs.Sources.{SourceOf}
 use Rattle.gypsy_syntax.specs.Resolved.{program_of}
 use Rattle.gypsy_space.specs.Needs.{StackSizes}
-use Rattle.gypsy_meaning.specs.Calls.{CurrentCondition}
+use Rattle.gypsy_semantics.specs.Calls.{CurrentCondition}
 use Rattle.gypsy_codegen.specs.Acceptable.{LimitsFit}
 use Rattle.stack_build.specs.Build.{source_in, placed_size}
 use Rattle.stack_build.specs.Image.{formal_slots, image_of}

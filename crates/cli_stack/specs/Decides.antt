@@ -7,8 +7,8 @@ use Rattle.stack_shelf.specs.Files.{Files}
 use Rattle.gypsy_syntax.specs.Resolved.{program_of}
 use Rattle.gypsy_syntax.specs.Sources.{SourceOf}
 use Rattle.gypsy_space.specs.Needs.{StackSizes, stack_sizes}
-use Rattle.gypsy_meaning.specs.Calls.{CurrentCondition}
-use Rattle.gypsy_meaning.specs.Meaning.{Unfinished as MeaningUnfinished, meaning}
+use Rattle.gypsy_semantics.specs.Calls.{CurrentCondition}
+use Rattle.gypsy_semantics.specs.Meaning.{Unfinished as MeaningUnfinished, meaning}
 use Rattle.stack_build.specs.Implements.{Finishes}
 use Rattle.stack_build.specs.Moments.{KeepsMoments}
 use Rattle.command_line.specs.declared.command.Command.{Command}

@@ -6,10 +6,10 @@ use Rattle.display_maps.specs.Report.{lines_of_reading}
 use Rattle.gypsy_syntax.specs.Resolved.{program_of}
 use Rattle.gypsy_space.specs.Costs.{Tally}
 use Rattle.gypsy_space.specs.Needs.{StackSizes, stack_sizes}
-use Rattle.gypsy_meaning.specs.Calls.{CurrentCondition}
-use Rattle.gypsy_meaning.specs.Machine.{State, Next, Ended}
-use Rattle.gypsy_meaning.specs.Seen.Moments.{moment_from}
-use Rattle.gypsy_meaning.specs.Seen.RunView.{spent_at}
+use Rattle.gypsy_semantics.specs.Calls.{CurrentCondition}
+use Rattle.gypsy_semantics.specs.Machine.{State, Next, Ended}
+use Rattle.gypsy_semantics.specs.Seen.Moments.{moment_from}
+use Rattle.gypsy_semantics.specs.Seen.RunView.{spent_at}
 use Rattle.stack_build.specs.Implements.{meaning_shown}
 use Rattle.debug_script.specs.declared.reading.Line.{Line}
 use Rattle.debug_script.specs.Scripts.{script_of}

@@ -9,9 +9,9 @@ use Rattle.fm_image.specs.Spelling.{Spelled}
 use Rattle.gypsy_syntax.specs.declared.literal.Decl.{Decl}
 use Rattle.gypsy_syntax.specs.Resolved.{program_of, shape_of}
 use Rattle.gypsy_syntax.specs.Sources.{SourceOf}
-use Rattle.gypsy_meaning.specs.Calls.{CurrentCondition}
+use Rattle.gypsy_semantics.specs.Calls.{CurrentCondition}
 use Rattle.gypsy_space.specs.Needs.{StackSizes, stack_sizes}
-use Rattle.gypsy_meaning.specs.Meaning.{Done as RunDone, Unfinished as RunUnfinished}
+use Rattle.gypsy_semantics.specs.Meaning.{Done as RunDone, Unfinished as RunUnfinished}
 use Rattle.stack_build.specs.Build.{source_in}
 use Rattle.stack_build.specs.Formals.{shown_formals}
 use Rattle.stack_build.specs.Implements.{meaning_shown, FitsFormals, Finishes}

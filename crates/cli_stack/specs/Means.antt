@@ -6,12 +6,12 @@ use Rattle.fm_loader.specs.Values.{values_in}
 use Rattle.gypsy_syntax.specs.Sources.{SourceOf}
 use Rattle.gypsy_syntax.specs.Resolved.{program_of}
 use Rattle.gypsy_space.specs.Needs.{StackSizes, stack_sizes}
-use Rattle.gypsy_meaning.specs.Seen.Belongs.{Suffices}
-use Rattle.gypsy_meaning.specs.Calls.{CurrentCondition}
-use Rattle.gypsy_meaning.specs.Counted.{instruction_count}
-use Rattle.gypsy_meaning.specs.Meaning.{Done as MeaningDone, meaning}
-use Rattle.gypsy_meaning.specs.Seen.RunView.{Stage, Finished, IsEnd, opening, meaning_run, values_at}
-use Rattle.gypsy_meaning.specs.Seen.Shown.{condition_at, names_at}
+use Rattle.gypsy_semantics.specs.Room.{Suffices}
+use Rattle.gypsy_semantics.specs.Calls.{CurrentCondition}
+use Rattle.gypsy_semantics.specs.Counted.{instruction_count}
+use Rattle.gypsy_semantics.specs.Meaning.{Done as MeaningDone, meaning}
+use Rattle.gypsy_semantics.specs.Seen.RunView.{Stage, Finished, IsEnd, opening, meaning_run, values_at}
+use Rattle.gypsy_semantics.specs.Seen.Shown.{condition_at, names_at}
 use Rattle.piton_machine.specs.Seen.StateView.{saturated}
 use Rattle.stack_build.specs.Build.{source_in}
 use Rattle.stack_build.specs.Image.{formal_slots}

@@ -9,7 +9,7 @@ use Rattle.gypsy_syntax.specs.Programs.{Space}
 use Rattle.gypsy_syntax.specs.Resolved.{procedure_names, program_of}
 use Rattle.gypsy_syntax.specs.Sources.{SourceOf}
 use Rattle.gypsy_space.specs.Needs.{StackSizes, stack_sizes}
-use Rattle.gypsy_meaning.specs.Calls.{CurrentCondition}
+use Rattle.gypsy_semantics.specs.Calls.{CurrentCondition}
 use Rattle.space_cert.specs.CertText.{certificate_text}
 use Rattle.space_cert.specs.Covers.{Bounds, sizes_for}
 use Rattle.space_cert.specs.Least.{IsLeast, IsFirstRecursive}

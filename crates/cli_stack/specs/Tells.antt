@@ -8,7 +8,7 @@ use Rattle.display_maps.specs.Report.{report_text}
 use Rattle.stack_shelf.specs.Files.{Files}
 use Rattle.gypsy_syntax.specs.Sources.{SourceOf}
 use Rattle.gypsy_space.specs.Needs.{StackSizes, stack_sizes}
-use Rattle.gypsy_meaning.specs.Calls.{CurrentCondition}
+use Rattle.gypsy_semantics.specs.Calls.{CurrentCondition}
 use Rattle.stack_build.specs.Build.{BuiltOf, built, source_in}
 use Rattle.stack_build.specs.Implements.{meaning_shown, FitsFormals, Finishes, Implements}
 use Rattle.command_line.specs.declared.command.Command.{Command}

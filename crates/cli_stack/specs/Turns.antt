@@ -8,7 +8,7 @@ use Rattle.fm_image.specs.Image.{ImageOf}
 use Rattle.fm_loader.specs.Values.{values_in}
 use Rattle.gypsy_syntax.specs.Sources.{SourceOf}
 use Rattle.gypsy_space.specs.Needs.{StackSizes, stack_sizes}
-use Rattle.gypsy_meaning.specs.Calls.{CurrentCondition}
+use Rattle.gypsy_semantics.specs.Calls.{CurrentCondition}
 use Rattle.stack_build.specs.Build.{BuiltOf, built, source_in}
 use Rattle.stack_build.specs.Implements.{Finishes}
 use Rattle.command_line.specs.declared.command.Command.{Command}

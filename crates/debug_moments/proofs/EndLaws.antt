@@ -34,11 +34,11 @@ use Rattle.gypsy_syntax.specs.Resolved.{program_of, shape_of}
 use Rattle.gypsy_syntax.specs.Sources.{ProcOf, SourceOf}
 use Rattle.gypsy_check.specs.Accepted.{IsAccepted}
 use Rattle.gypsy_space.specs.Needs.{StackSizes, ctrl_need, frame_of, main_need, main_used, temp_need}
-use Rattle.gypsy_meaning.specs.Calls.{CurrentCondition}
-use Rattle.gypsy_meaning.specs.Counted.{CountedDone, counted_meaning}
+use Rattle.gypsy_semantics.specs.Calls.{CurrentCondition}
+use Rattle.gypsy_semantics.specs.Counted.{CountedDone, counted_meaning}
 use Rattle.gypsy_syntax.specs.ValuesFit.{VarsFit}
-use Rattle.gypsy_meaning.specs.Machine.{Move, start}
-use Rattle.gypsy_meaning.proofs.Runs.{agree}
+use Rattle.gypsy_semantics.specs.Machine.{Move, start}
+use Rattle.gypsy_semantics.proofs.Runs.{agree}
 use Rattle.gypsy_codegen.specs.Acceptable.{GeneratedIsAcceptable}
 use Rattle.gypsy_codegen.specs.Generated.{generated_view}
 use Rattle.gypsy_codegen.specs.Moments.{EachMomentIsReached, HasMoment}

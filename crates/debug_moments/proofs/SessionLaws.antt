@@ -19,8 +19,8 @@ use Rattle.piton_machine.specs.Seen.StateView.{Seen, opening, seen_step, started
 use Rattle.piton_machine.specs.State as piton
 use Rattle.gypsy_syntax.specs.Programs.{Program}
 use Rattle.gypsy_syntax.specs.Resolved.{program_of}
-use Rattle.gypsy_meaning.specs.Machine.{At, Move}
-use Rattle.gypsy_meaning.specs.Seen.RunView.{spent_at}
+use Rattle.gypsy_semantics.specs.Machine.{At, Move}
+use Rattle.gypsy_semantics.specs.Seen.RunView.{spent_at}
 use Rattle.gypsy_codegen.specs.Acceptable.{GeneratedIsAcceptable}
 use Rattle.gypsy_codegen.specs.Generated.{generated_view}
 use Rattle.gypsy_codegen.specs.Moments.{ComesToMark, EachMomentIsReached, HasMoment}

@@ -13,9 +13,9 @@ use Rattle.gypsy_syntax.specs.Sources.{SourceOf}
 use Rattle.gypsy_check.specs.Accepted.{IsAccepted}
 use Rattle.gypsy_space.specs.Needs.{StackSizes}
 use Rattle.gypsy_space.specs.Costs.{Tally}
-use Rattle.gypsy_meaning.specs.Calls.{CurrentCondition}
-use Rattle.gypsy_meaning.specs.Machine.{State, At, Next, Ended}
-use Rattle.gypsy_meaning.specs.Seen.RunView.{spent_at}
+use Rattle.gypsy_semantics.specs.Calls.{CurrentCondition}
+use Rattle.gypsy_semantics.specs.Machine.{State, At, Next, Ended}
+use Rattle.gypsy_semantics.specs.Seen.RunView.{spent_at}
 use Rattle.gypsy_codegen.specs.Generated.{generated_view}
 use Rattle.gypsy_codegen.specs.Moments.{moment_from}
 use Rattle.gypsy_codegen.specs.Whole.{SizesFit}

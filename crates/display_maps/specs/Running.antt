@@ -3,8 +3,8 @@ use Rattle.std.specs.Prelude.{ℕ, List, [], ◌∷◌, ◌++◌, map, Some}
 use Rattle.std.specs.List.{flat_map}
 use Rattle.stack_text.specs.Values.{ValueOf}
 use Rattle.fm_words.specs.Word.{word_of_int}
-use Rattle.gypsy_meaning.specs.declared.conditions.Current.{Current}
-use Rattle.gypsy_meaning.specs.declared.conditions.Current.TheVariants as current
+use Rattle.gypsy_semantics.specs.declared.conditions.Current.{Current}
+use Rattle.gypsy_semantics.specs.declared.conditions.Current.TheVariants as current
 use Rattle.display_maps.specs.declared.shown.Shown.{Shown}
 use Rattle.display_maps.specs.declared.shown.Shown.TheVariants as shown
 use Rattle.display_maps.specs.Reading.{item_of, space_name}

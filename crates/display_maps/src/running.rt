@@ -10,7 +10,7 @@ ghost use Rattle.display_maps.specs.Running.{condition_shown, variable_shown, va
 use crate::printing::{Variable, push_lines};
 use crate::shown::{Shown, item_of};
 use fm_words::word_of_int;
-use gypsy_meaning::Current;
+use gypsy_semantics::Current;
 use stack_text::{Kind, Memory, Name, Named, Value};
 use std::alloc::Global;
 

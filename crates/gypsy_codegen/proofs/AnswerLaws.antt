@@ -20,7 +20,7 @@ use Rattle.gypsy_space.specs.declared.need.Need.{Need}
 use Rattle.gypsy_space.specs.Events.{AreNeeds, need_at, need_of}
 use Rattle.gypsy_space.specs.Needs.{StackSizes, code_words, main_need}
 use Rattle.gypsy_space.proofs.SmallLaws.{code_modest}
-use Rattle.gypsy_meaning.specs.Calls.{main_start}
+use Rattle.gypsy_semantics.specs.Calls.{main_start}
 use Rattle.gypsy_codegen.specs.declared.fault.GenFault.{GenFault}
 use Rattle.gypsy_codegen.specs.declared.fault.GenFault.TheVariants.{Control, Temporary, Size, Words as TooManyWords}
 use Rattle.gypsy_codegen.specs.Acceptable.{code_words_of, total_words, LimitsFit, GeneratedIsAcceptable, SourceRuns}

@@ -28,9 +28,9 @@ use Rattle.gypsy_syntax.specs.ValuesFit.{ValueFits, VarsFit}
 use Rattle.gypsy_syntax.specs.Effects.{Effect, Normal, Fault, Beyond, value_at, no_value}
 use Rattle.gypsy_space.specs.Costs.{Tally, spend, predef_spend}
 use Rattle.gypsy_space.specs.Needs.{StackSizes, temp_need, ctrl_need}
-use Rattle.gypsy_meaning.specs.Calls.{value_of, values_of, target_of}
-use Rattle.gypsy_meaning.specs.Machine.{Item, Do, Frame, apply_step, settle, raise}
-use Rattle.gypsy_meaning.proofs.EffectLaws.{value_fits, apply_fits}
+use Rattle.gypsy_semantics.specs.Calls.{value_of, values_of, target_of}
+use Rattle.gypsy_semantics.specs.Machine.{Item, Do, Frame, apply_step, settle, raise}
+use Rattle.gypsy_semantics.proofs.EffectLaws.{value_fits, apply_fits}
 use Rattle.gypsy_predef.specs.Bodies.{lengths_of}
 use Rattle.gypsy_predef.specs.Runs as runs
 use Rattle.gypsy_predef.specs.Runs.{Argument, length_words, words_of_value, with_elements}

@@ -18,10 +18,10 @@ use Rattle.gypsy_space.specs.Costs.{Tally, spend, out_spend, main_spend}
 use Rattle.gypsy_space.specs.Needs.{StackSizes, temp_need, local_words, vars_of, with_call, call_need, has_temp_room, has_ctrl_room, lack_of, call_spend}
 use Rattle.gypsy_space.specs.declared.need.Lack.{Lack}
 use Rattle.gypsy_space.specs.declared.need.Lack.TheVariants.{Nothing, Temporary, Control}
-use Rattle.gypsy_meaning.specs.Calls.{CurrentCondition, copied_in, copied_out, is_passed_on, matching, main_way, main_formals}
-use Rattle.gypsy_meaning.specs.Machine.{Item, Do, Frame, Held, At, open_on, settle, raise, used}
-use Rattle.gypsy_meaning.specs.Kept.{in_loop, WorkFits}
-use Rattle.gypsy_meaning.specs.Room.{HasWords, CoversWork}
+use Rattle.gypsy_semantics.specs.Calls.{CurrentCondition, copied_in, copied_out, is_passed_on, matching, main_way, main_formals}
+use Rattle.gypsy_semantics.specs.Machine.{Item, Do, Frame, Held, At, open_on, settle, raise, used}
+use Rattle.gypsy_semantics.specs.Kept.{in_loop, WorkFits}
+use Rattle.gypsy_semantics.specs.Room.{HasWords, CoversWork}
 use Rattle.gypsy_predef.specs.Runs.{push_all}
 use Rattle.gypsy_codegen.specs.WordsOf.{words_of_values, starts, local_shapes, number_of, number_of_way}
 use Rattle.gypsy_codegen.specs.Guard.{guard_code, guard_size}
@@ -29,8 +29,8 @@ use Rattle.gypsy_codegen.specs.Generated.{Scope, out_place, raise_code, raises, 
 use Rattle.gypsy_codegen.specs.Memory.{stack_of, base_of, index_of, index_words}
 use Rattle.gypsy_codegen.specs.Showing.{HasAt, IsBehindCall, gen_in, Stands, Waits, frame_with}
 use Rattle.gypsy_codegen.specs.Law.{Halts}
-use Rattle.gypsy_meaning.proofs.Keeping.{locals_fit}
-use Rattle.gypsy_meaning.proofs.ReadyLaws.{actuals_length}
+use Rattle.gypsy_semantics.proofs.Keeping.{locals_fit}
+use Rattle.gypsy_semantics.proofs.LendingLaws.{actuals_length}
 use Rattle.gypsy_codegen.proofs.CopyLaws.{copied_back, actuals_below}
 use Rattle.gypsy_codegen.proofs.StackLaws.{push_all-length, push_all-append, values_words, starts-length}
 use Rattle.gypsy_codegen.proofs.LayoutLaws.{if_no, height, low_fits, ctrl_is, newest}

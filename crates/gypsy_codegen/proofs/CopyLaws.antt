@@ -8,7 +8,7 @@ use Rattle.stack_text.proofs.SharedLaws.{get_below}
 use Rattle.gypsy_syntax.specs.ProgramFits.{Misses, Distinct, ActualsFit, Each}
 use Rattle.gypsy_syntax.specs.Effects.{value_at, no_value}
 use Rattle.gypsy_syntax.specs.ValuesFit.{VarsFit}
-use Rattle.gypsy_meaning.specs.Calls.{copied_out}
+use Rattle.gypsy_semantics.specs.Calls.{copied_out}
 
 -- each is below n
 abbrev pub Below : ℕ → List ℕ → Type 0

@@ -34,7 +34,7 @@ use Rattle.gypsy_syntax.specs.Ranges.{is_in_range}
 use Rattle.gypsy_syntax.specs.ValuesFit.{ValueFits}
 use Rattle.gypsy_space.specs.Needs.{greatest, statement_temp, statement_ctrl, local_words, vars_of, call_need}
 use Rattle.gypsy_space.proofs.SmallLaws.{length-words_of, item_count-positive, words_of-append}
-use Rattle.gypsy_meaning.specs.Calls.{has_cond, is_leave, is_passed_on}
+use Rattle.gypsy_semantics.specs.Calls.{has_cond, is_leave, is_passed_on}
 use Rattle.gypsy_predef.specs.Runs.{word_of_item, words_of_value}
 use Rattle.gypsy_codegen.specs.WordsOf.{words_of_values, local_shapes, number_of}
 use Rattle.gypsy_codegen.specs.Guard.{guard_code}
@@ -43,7 +43,7 @@ use Rattle.gypsy_codegen.specs.Generated.{arg_length, offset}
 use Rattle.gypsy_codegen.specs.Written.{Line, Plain, Marked}
 use Rattle.gypsy_codegen.specs.Lines.{labels, label_to, unmarked, marked_raises, raise_labels}
 use Rattle.gypsy_codegen.specs.Lines.{before_code, after_lines, apply_code, lines, tail_lines, lines_of}
-use Rattle.gypsy_meaning.proofs.Keeping.{locals_fit}
+use Rattle.gypsy_semantics.proofs.Keeping.{locals_fit}
 use Rattle.gypsy_codegen.proofs.CopyLaws.{each_both}
 use Rattle.gypsy_codegen.proofs.StackLaws.{values_words}
 use Rattle.gypsy_codegen.proofs.InstructionLaws.{InRange, Known, Fine}

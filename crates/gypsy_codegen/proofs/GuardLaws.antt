@@ -24,7 +24,7 @@ use Rattle.gypsy_syntax.specs.Programs.{Program, proc_at, shapes_of}
 use Rattle.gypsy_syntax.specs.ValuesFit.{VarsFit}
 use Rattle.gypsy_space.specs.Costs.{Tally, spend}
 use Rattle.gypsy_space.specs.Needs.{StackSizes, temp_need}
-use Rattle.gypsy_meaning.specs.Machine as machine
+use Rattle.gypsy_semantics.specs.Machine as machine
 use Rattle.gypsy_codegen.specs.Guard.{below_code, temp_guard, ctrl_guard, guard_code}
 use Rattle.gypsy_codegen.specs.Showing.{HasAt}
 use Rattle.gypsy_codegen.specs.Generated.{generated_view, code_of}

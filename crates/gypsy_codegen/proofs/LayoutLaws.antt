@@ -16,18 +16,18 @@ use Rattle.gypsy_syntax.specs.ProgramFits.{ProgramFits}
 use Rattle.gypsy_syntax.specs.ValuesFit.{ValueFits, VarsFit}
 use Rattle.gypsy_syntax.specs.Effects.{value_at, no_value}
 use Rattle.gypsy_space.specs.Needs.{main_used, with_call, vars_of}
-use Rattle.gypsy_meaning.specs.Calls.{copied_out}
-use Rattle.gypsy_meaning.specs.Machine.{Frame, Held, used}
-use Rattle.gypsy_meaning.specs.Kept.{FramesFit}
-use Rattle.gypsy_meaning.proofs.EffectLaws.{value_fits}
+use Rattle.gypsy_semantics.specs.Calls.{copied_out}
+use Rattle.gypsy_semantics.specs.Machine.{Frame, Held, used}
+use Rattle.gypsy_semantics.specs.Kept.{FramesFit}
+use Rattle.gypsy_semantics.proofs.EffectLaws.{value_fits}
 use Rattle.gypsy_predef.specs.Runs.{words_of_value, push_all, with_elements}
 use Rattle.gypsy_codegen.specs.WordsOf.{words_of_values, words_before, starts, local_shapes}
 use Rattle.gypsy_codegen.specs.Generated.{offset}
 use Rattle.gypsy_codegen.specs.Memory.{stack_of, base_of, index_of, frame_of, index_words}
 use Rattle.gypsy_codegen.specs.Showing.{Waits, frame_with}
 use Rattle.gypsy_codegen.proofs.CopyLaws.{copied_at, copied_set, copied_past, actuals_below, actual_shape, vars_number, vars_behind}
-use Rattle.gypsy_meaning.proofs.Keeping.{copies_back}
-use Rattle.gypsy_meaning.proofs.ReadyLaws.{actuals_length}
+use Rattle.gypsy_semantics.proofs.Keeping.{copies_back}
+use Rattle.gypsy_semantics.proofs.LendingLaws.{actuals_length}
 use Rattle.gypsy_codegen.proofs.StackLaws.{push_all-length, below_pushed, element_of, words_below, words_from, value_words, values_words, read_word, write_words, words_fit, starts_at, starts-length}
 
 pub if_yes : {A : Type 0} (b : Bool) (x y : A) → b ≡ true → (if b then x else y) ≡ x
@@ -61,7 +61,7 @@ module _ (q : Program) where
   call_temp p c fs = refl
 
   -- the variables of the activation below, with the formals' values
-  pub low_fits : (p c : ℕ) (x y : List ValueOf) (w : List Rattle.gypsy_meaning.specs.Machine.Item) (xs : List ℕ) (cs : List Rattle.gypsy_syntax.specs.Programs.ConditionOf) (fs : List Frame) → VarsFit (shapes_of (proc_at q p)) y → FramesFit q p (Held c x w xs cs ∷ fs) → VarsFit (shapes_of (proc_at q c)) (copied_out xs y x)
+  pub low_fits : (p c : ℕ) (x y : List ValueOf) (w : List Rattle.gypsy_semantics.specs.Machine.Item) (xs : List ℕ) (cs : List Rattle.gypsy_syntax.specs.Programs.ConditionOf) (fs : List Frame) → VarsFit (shapes_of (proc_at q p)) y → FramesFit q p (Held c x w xs cs ∷ fs) → VarsFit (shapes_of (proc_at q c)) (copied_out xs y x)
   low_fits p c x y w xs cs fs v g =
       copies_back (shapes_of (proc_at q c)) (proc_at q p).formals (local_shapes (proc_at q p)) xs y x g.0.actuals v g.1
 

@@ -2,7 +2,7 @@
 use Rattle.std.proofs.Common.{refl}
 use Rattle.gypsy_space.specs.Costs.{spend, predef_spend}
 use Rattle.gypsy_syntax.specs.Predefined.{predef_cost, predef_effect}
-use Rattle.gypsy_meaning.specs.Calls.{main_start, main_formals, values_of, target_of}
+use Rattle.gypsy_semantics.specs.Calls.{main_start, main_formals, values_of, target_of}
 use Rattle.gypsy_codegen.specs.MarkExamples.{MarksAre}
 
 pub marks_are : MarksAre

@@ -22,15 +22,15 @@ use Rattle.gypsy_space.specs.Costs.{Tally, spend, predef_spend, out_spend, main_
 use Rattle.gypsy_space.specs.Needs.{StackSizes, vars_of, lack_of, call_spend}
 use Rattle.gypsy_space.specs.declared.need.Lack.{Lack}
 use Rattle.gypsy_space.specs.declared.need.Lack.TheVariants.{Nothing, Temporary, Control}
-use Rattle.gypsy_meaning.specs.Calls.{CurrentCondition, has_cond, is_leave, is_passed_on, matching, values_of, copied_out}
-use Rattle.gypsy_meaning.specs.Machine.{Item, Do, Back, JoinThen, JoinOne, Guard, Out, Frame, Held, State, At, Move, Next, Ended}
-use Rattle.gypsy_meaning.specs.Machine.{opens, settle, open_on, stop_if, raise, either_move, apply_step, call_step, do_step}
-use Rattle.gypsy_meaning.specs.Machine.{gypsy_step, used, Ending, Over, Going, run, go_on, start}
-use Rattle.gypsy_meaning.specs.Kept.{FramesFit, StateFits, MoveFits}
-use Rattle.gypsy_meaning.specs.Seen.RunView.{spent_at, top_way}
-use Rattle.gypsy_meaning.proofs.Keeping.{step_keeps, start_fits}
-use Rattle.gypsy_meaning.proofs.Runs.{agree}
-use Rattle.gypsy_meaning.proofs.ReadyLaws.{actuals_length}
+use Rattle.gypsy_semantics.specs.Calls.{CurrentCondition, has_cond, is_leave, is_passed_on, matching, values_of, copied_out}
+use Rattle.gypsy_semantics.specs.Machine.{Item, Do, Back, JoinThen, JoinOne, Guard, Out, Frame, Held, State, At, Move, Next, Ended}
+use Rattle.gypsy_semantics.specs.Machine.{opens, settle, open_on, stop_if, raise, either_move, apply_step, call_step, do_step}
+use Rattle.gypsy_semantics.specs.Machine.{gypsy_step, used, Ending, Over, Going, run, go_on, start}
+use Rattle.gypsy_semantics.specs.Kept.{FramesFit, StateFits, MoveFits}
+use Rattle.gypsy_semantics.specs.Seen.RunView.{spent_at, top_way}
+use Rattle.gypsy_semantics.proofs.Keeping.{step_keeps, start_fits}
+use Rattle.gypsy_semantics.proofs.Runs.{agree}
+use Rattle.gypsy_semantics.proofs.LendingLaws.{actuals_length}
 use Rattle.gypsy_codegen.specs.WordsOf.{starts, local_shapes, number_of_way}
 use Rattle.gypsy_codegen.specs.Generated.{offset, generated_view}
 use Rattle.gypsy_codegen.specs.Memory.{base_of, index_of, frame_of, index_words}

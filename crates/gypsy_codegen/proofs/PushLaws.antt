@@ -16,9 +16,9 @@ use Rattle.gypsy_syntax.specs.ProgramFits.{ProgramFits}
 use Rattle.gypsy_syntax.specs.ValuesFit.{VarsFit}
 use Rattle.gypsy_space.specs.Costs.{Tally, spend}
 use Rattle.gypsy_space.specs.Needs.{StackSizes, temp_need, ctrl_need}
-use Rattle.gypsy_meaning.specs.Machine.{Frame, Held, used}
-use Rattle.gypsy_meaning.specs.Kept.{FramesFit}
-use Rattle.gypsy_meaning.specs.Room.{HasWords, HaveWords}
+use Rattle.gypsy_semantics.specs.Machine.{Frame, Held, used}
+use Rattle.gypsy_semantics.specs.Kept.{FramesFit}
+use Rattle.gypsy_semantics.specs.Room.{HasWords, HaveWords}
 use Rattle.gypsy_predef.specs.Runs.{push_all}
 use Rattle.gypsy_predef.specs.Calls.{PredefCallRuns, ArgumentsHold, ValuesKept}
 use Rattle.gypsy_codegen.specs.WordsOf.{starts}

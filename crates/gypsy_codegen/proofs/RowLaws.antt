@@ -23,11 +23,11 @@ use Rattle.gypsy_space.specs.Costs.{Tally, spend}
 use Rattle.gypsy_space.specs.Needs.{StackSizes, lack_of}
 use Rattle.gypsy_space.specs.declared.need.Lack.{Lack}
 use Rattle.gypsy_space.specs.declared.need.Lack.TheVariants.{Nothing, Temporary, Control}
-use Rattle.gypsy_meaning.specs.Calls.{values_of}
-use Rattle.gypsy_meaning.specs.Machine.{Item, Do, Back, JoinThen, JoinOne, Guard, Out, Frame, Held, State, At, Next, open_on, settle, either_move, call_step, used, do_step, end_step, out_step, gypsy_step}
-use Rattle.gypsy_meaning.specs.Kept.{in_loop, WorkFits}
-use Rattle.gypsy_meaning.specs.Room.{Covers, CoversWork}
-use Rattle.gypsy_meaning.proofs.EffectLaws.{value_fits}
+use Rattle.gypsy_semantics.specs.Calls.{values_of}
+use Rattle.gypsy_semantics.specs.Machine.{Item, Do, Back, JoinThen, JoinOne, Guard, Out, Frame, Held, State, At, Next, open_on, settle, either_move, call_step, used, do_step, end_step, out_step, gypsy_step}
+use Rattle.gypsy_semantics.specs.Kept.{in_loop, WorkFits}
+use Rattle.gypsy_semantics.specs.Room.{Covers, CoversWork}
+use Rattle.gypsy_semantics.proofs.EffectLaws.{value_fits}
 use Rattle.gypsy_predef.specs.Runs.{word_of_item, words_of_value}
 use Rattle.gypsy_codegen.specs.WordsOf.{number_of}
 use Rattle.gypsy_codegen.specs.Generated.{Scope, InLoop, back_code, size, code_of, generated_view}

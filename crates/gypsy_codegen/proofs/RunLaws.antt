@@ -16,15 +16,15 @@ use Rattle.gypsy_syntax.specs.Programs.{Program, proc_at, body_of, shapes_of}
 use Rattle.gypsy_syntax.specs.ProgramFits.{ProgramFits}
 use Rattle.gypsy_space.specs.Costs.{Tally, spend, start_tally}
 use Rattle.gypsy_space.specs.Needs.{StackSizes}
-use Rattle.gypsy_meaning.specs.Calls.{CurrentCondition, main_start}
-use Rattle.gypsy_meaning.specs.Machine.{Item, Do, Back, JoinThen, JoinOne, Guard, Out, Frame, State, At, Move, Next, Ended, Ending, Over, Going, go_on, run, gypsy_step, start, open_on}
-use Rattle.gypsy_meaning.specs.Kept.{StateFits, MoveFits}
-use Rattle.gypsy_meaning.specs.Room.{StateRoom, MoveRoom}
-use Rattle.gypsy_meaning.specs.Counted.{counted_meaning}
-use Rattle.gypsy_meaning.proofs.CountLaws.{meaning-uncounted}
-use Rattle.gypsy_meaning.proofs.Runs.{agree}
-use Rattle.gypsy_meaning.proofs.Keeping.{step_keeps, start_fits}
-use Rattle.gypsy_meaning.proofs.Rooms.{step_room, start_room}
+use Rattle.gypsy_semantics.specs.Calls.{CurrentCondition, main_start}
+use Rattle.gypsy_semantics.specs.Machine.{Item, Do, Back, JoinThen, JoinOne, Guard, Out, Frame, State, At, Move, Next, Ended, Ending, Over, Going, go_on, run, gypsy_step, start, open_on}
+use Rattle.gypsy_semantics.specs.Kept.{StateFits, MoveFits}
+use Rattle.gypsy_semantics.specs.Room.{StateRoom, MoveRoom}
+use Rattle.gypsy_semantics.specs.Counted.{counted_meaning}
+use Rattle.gypsy_semantics.proofs.CountLaws.{meaning-uncounted}
+use Rattle.gypsy_semantics.proofs.Runs.{agree}
+use Rattle.gypsy_semantics.proofs.Keeping.{step_keeps, start_fits}
+use Rattle.gypsy_semantics.proofs.Rooms.{step_room, start_room}
 use Rattle.gypsy_codegen.specs.WordsOf.{words_of_values, starts}
 use Rattle.gypsy_codegen.specs.Generated.{Scope, size, generated_view}
 use Rattle.gypsy_codegen.specs.Memory.{stack_of, index_of}
@@ -39,11 +39,11 @@ use Rattle.piton_words.specs.declared.word.Word.{Word}
 use Rattle.gypsy_syntax.specs.Programs.{ConditionOf}
 use Rattle.gypsy_syntax.specs.Effects.{value_at}
 use Rattle.gypsy_syntax.specs.ValuesFit.{VarsFit}
-use Rattle.gypsy_meaning.specs.Calls.{copied_out}
-use Rattle.gypsy_meaning.specs.Machine.{Held, used}
-use Rattle.gypsy_meaning.specs.Kept.{FramesFit}
-use Rattle.gypsy_meaning.proofs.EffectLaws.{value_fits}
-use Rattle.gypsy_meaning.proofs.ReachLaws.{counted_too}
+use Rattle.gypsy_semantics.specs.Calls.{copied_out}
+use Rattle.gypsy_semantics.specs.Machine.{Held, used}
+use Rattle.gypsy_semantics.specs.Kept.{FramesFit}
+use Rattle.gypsy_semantics.proofs.EffectLaws.{value_fits}
+use Rattle.gypsy_semantics.proofs.ReachLaws.{counted_too}
 use Rattle.gypsy_predef.specs.Runs.{words_of_value}
 use Rattle.gypsy_codegen.specs.WordsOf.{words_before, local_shapes}
 use Rattle.gypsy_codegen.specs.Memory.{base_of}

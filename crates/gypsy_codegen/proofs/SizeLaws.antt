@@ -21,8 +21,8 @@ use Rattle.gypsy_codegen.specs.Guard.{guard_code, guard_size}
 use Rattle.gypsy_codegen.specs.Generated.{Scope, InLoop, InBegin, target, raise_code, back_code, raises, raise_places, after_code, push_words, push_indices, push_actuals, push_args, before_size, length_code, predef_position, size, gen, tail_code}
 use Rattle.gypsy_predef.specs.Calls.{test_code}
 use Rattle.gypsy_codegen.specs.Sizes.{ProceduresTakeWords}
-use Rattle.gypsy_meaning.proofs.Keeping.{locals_fit}
-use Rattle.gypsy_meaning.proofs.ReadyLaws.{actuals_length}
+use Rattle.gypsy_semantics.proofs.Keeping.{locals_fit}
+use Rattle.gypsy_semantics.proofs.LendingLaws.{actuals_length}
 use Rattle.gypsy_codegen.proofs.StackLaws.{values_words, starts-length}
 use Rattle.gypsy_codegen.proofs.StepLaws.{program_is}
 

@@ -18,8 +18,8 @@ use Rattle.gypsy_syntax.specs.Programs.{ConditionOf, Arg, Routine, Space, Progra
 use Rattle.gypsy_syntax.specs.Programs.{Stmt, Skip, NoOp, Signal, Seq, Loop, If, Begin, Call, Apply}
 use Rattle.gypsy_space.specs.Costs.{Tally, spend}
 use Rattle.gypsy_space.specs.Needs.{StackSizes, temp_need, local_words, call_need}
-use Rattle.gypsy_meaning.specs.Calls.{has_cond, is_leave}
-use Rattle.gypsy_meaning.specs.Machine.{Item, Do, Back, JoinThen, JoinOne, Guard, Out, Frame, State, At, opens, open_on, settle, stop_if, raise}
+use Rattle.gypsy_semantics.specs.Calls.{has_cond, is_leave}
+use Rattle.gypsy_semantics.specs.Machine.{Item, Do, Back, JoinThen, JoinOne, Guard, Out, Frame, State, At, opens, open_on, settle, stop_if, raise}
 use Rattle.gypsy_codegen.specs.WordsOf.{number_of, words_of_values, local_shapes}
 use Rattle.gypsy_predef.specs.Bodies.{lengths_of}
 use Rattle.gypsy_syntax.specs.Predefined.{can_fail}

@@ -3,7 +3,7 @@ use Rattle.std.proofs.Common.{refl}
 use Rattle.std.specs.Fmt.{digits}
 use Rattle.gypsy_syntax.specs.Resolved.{place_among}
 use Rattle.gypsy_space.specs.Needs.{call_need}
-use Rattle.gypsy_meaning.specs.Calls.{is_passed_on}
+use Rattle.gypsy_semantics.specs.Calls.{is_passed_on}
 use Rattle.gypsy_codegen.specs.Written.{label_text}
 use Rattle.gypsy_codegen.specs.TextExamples.{TextsAre}
 

@@ -12,11 +12,11 @@ use Rattle.piton_machine.specs.Law.{Steps}
 use Rattle.gypsy_syntax.specs.Programs.{Program, proc_at, shapes_of}
 use Rattle.gypsy_syntax.specs.Effects.{value_at}
 use Rattle.gypsy_syntax.specs.ValuesFit.{VarsFit}
-use Rattle.gypsy_meaning.specs.Calls.{copied_out}
-use Rattle.gypsy_meaning.specs.Kept.{FramesFit}
-use Rattle.gypsy_meaning.specs.Machine.{Frame, Held, At, Move, Next, Ended, start, used}
-use Rattle.gypsy_meaning.specs.Seen.RunView.{handed_back}
-use Rattle.gypsy_meaning.proofs.EffectLaws.{value_fits}
+use Rattle.gypsy_semantics.specs.Calls.{copied_out}
+use Rattle.gypsy_semantics.specs.Kept.{FramesFit}
+use Rattle.gypsy_semantics.specs.Machine.{Frame, Held, At, Move, Next, Ended, start, used}
+use Rattle.gypsy_semantics.specs.Seen.RunView.{handed_back}
+use Rattle.gypsy_semantics.proofs.EffectLaws.{value_fits}
 use Rattle.gypsy_predef.specs.Runs.{Holds, words_of_value}
 use Rattle.gypsy_codegen.specs.Generated.{generated_view}
 use Rattle.gypsy_codegen.specs.Law.{Leads, tally_of}

@@ -16,9 +16,9 @@ use Rattle.gypsy_syntax.specs.ValuesFit.{VarsFit}
 use Rattle.gypsy_check.specs.Accepted.{IsAccepted}
 use Rattle.gypsy_space.specs.Costs.{Tally}
 use Rattle.gypsy_space.specs.Needs.{StackSizes, code_words}
-use Rattle.gypsy_meaning.specs.Calls.{CurrentCondition, main_start}
-use Rattle.gypsy_meaning.specs.Meaning.{Done, meaning}
-use Rattle.gypsy_meaning.specs.Counted.{CountedDone, counted_meaning}
+use Rattle.gypsy_semantics.specs.Calls.{CurrentCondition, main_start}
+use Rattle.gypsy_semantics.specs.Meaning.{Done, meaning}
+use Rattle.gypsy_semantics.specs.Counted.{CountedDone, counted_meaning}
 use Rattle.gypsy_codegen.specs.Generated.{generated_view, count_from, offset}
 use Rattle.gypsy_codegen.specs.Text.{frame_texts, generated}
 use Rattle.gypsy_codegen.specs.WordsOf.{words_of_values}

@@ -15,7 +15,7 @@ use Rattle.gypsy_syntax.specs.Programs.{ConditionOf, Routine, Space, Arg, Var, L
 use Rattle.gypsy_syntax.specs.Programs.{Stmt, Skip, NoOp, Signal, Seq, Loop, If, Begin, Call, Apply}
 use Rattle.gypsy_syntax.specs.Effects.{item_of_value}
 use Rattle.gypsy_space.specs.Needs.{StackSizes, local_words, vars_of, call_need}
-use Rattle.gypsy_meaning.specs.Calls.{has_cond, is_leave, is_passed_on}
+use Rattle.gypsy_semantics.specs.Calls.{has_cond, is_leave, is_passed_on}
 use Rattle.gypsy_syntax.specs.Predefined.{predef_number, can_fail}
 use Rattle.gypsy_predef.specs.Bodies.{bodies, lengths_of}
 use Rattle.gypsy_predef.specs.Runs.{word_of_item}

@@ -18,9 +18,9 @@ use Rattle.gypsy_syntax.specs.Resolved.{program_of}
 use Rattle.gypsy_syntax.specs.ValuesFit.{VarsFit}
 use Rattle.gypsy_space.specs.Costs.{Tally}
 use Rattle.gypsy_space.specs.Needs.{StackSizes, code_words, main_need}
-use Rattle.gypsy_meaning.specs.Calls.{CurrentCondition, main_start}
-use Rattle.gypsy_meaning.specs.Meaning.{Done, meaning}
-use Rattle.gypsy_meaning.specs.Counted.{CountedDone, counted_meaning}
+use Rattle.gypsy_semantics.specs.Calls.{CurrentCondition, main_start}
+use Rattle.gypsy_semantics.specs.Meaning.{Done, meaning}
+use Rattle.gypsy_semantics.specs.Counted.{CountedDone, counted_meaning}
 use Rattle.gypsy_codegen.specs.declared.fault.GenFault.{GenFault}
 use Rattle.gypsy_codegen.specs.declared.fault.GenFault.TheVariants.{Control, Temporary, Size, Words as TooManyWords, Memory}
 use Rattle.gypsy_codegen.specs.WordsOf.{words_of_values}

@@ -12,10 +12,10 @@ use Rattle.stack_text.specs.Values.{ValueOf}
 use Rattle.gypsy_syntax.specs.Programs.{ConditionOf, Program, Call}
 use Rattle.gypsy_space.specs.Costs.{Tally}
 use Rattle.gypsy_space.specs.Needs.{StackSizes}
-use Rattle.gypsy_meaning.specs.Machine as machine
-use Rattle.gypsy_meaning.specs.Machine.{Item, Do, State, At}
-use Rattle.gypsy_meaning.specs.Kept.{StateFits}
-use Rattle.gypsy_meaning.specs.Room.{StateRoom}
+use Rattle.gypsy_semantics.specs.Machine as machine
+use Rattle.gypsy_semantics.specs.Machine.{Item, Do, State, At}
+use Rattle.gypsy_semantics.specs.Kept.{StateFits}
+use Rattle.gypsy_semantics.specs.Room.{StateRoom}
 use Rattle.gypsy_codegen.specs.Guard.{guard_code, guard_size}
 use Rattle.gypsy_codegen.specs.Showing.{HasAt, Shows}
 

@@ -11,10 +11,10 @@ use Rattle.gypsy_syntax.specs.Programs.{Program}
 use Rattle.gypsy_syntax.specs.ProgramFits.{ProgramFits}
 use Rattle.gypsy_space.specs.Costs.{Tally, spend}
 use Rattle.gypsy_space.specs.Needs.{StackSizes}
-use Rattle.gypsy_meaning.specs.Calls.{CurrentCondition}
-use Rattle.gypsy_meaning.specs.Machine.{State, At, Move, Next, Ended, gypsy_step}
-use Rattle.gypsy_meaning.specs.Kept.{StateFits}
-use Rattle.gypsy_meaning.specs.Room.{StateRoom}
+use Rattle.gypsy_semantics.specs.Calls.{CurrentCondition}
+use Rattle.gypsy_semantics.specs.Machine.{State, At, Move, Next, Ended, gypsy_step}
+use Rattle.gypsy_semantics.specs.Kept.{StateFits}
+use Rattle.gypsy_semantics.specs.Room.{StateRoom}
 use Rattle.gypsy_codegen.specs.WordsOf.{words_of_values, number_of_way}
 use Rattle.gypsy_codegen.specs.Generated.{generated_view}
 use Rattle.gypsy_codegen.specs.Showing.{Shows}

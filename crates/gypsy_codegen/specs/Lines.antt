@@ -8,7 +8,7 @@ use Rattle.piton_check.specs.Instruction.{Instruction}
 use Rattle.gypsy_syntax.specs.Programs.{ConditionOf, Routine, Space, Program, proc_at, body_of, shapes_of}
 use Rattle.gypsy_syntax.specs.Programs.{Stmt, Skip, NoOp, Signal, Seq, Loop, If, Begin, Call, Apply}
 use Rattle.gypsy_space.specs.Needs.{local_words, call_need}
-use Rattle.gypsy_meaning.specs.Calls.{has_cond, is_leave, is_passed_on}
+use Rattle.gypsy_semantics.specs.Calls.{has_cond, is_leave, is_passed_on}
 use Rattle.gypsy_predef.specs.Calls.{test_code}
 use Rattle.gypsy_codegen.specs.WordsOf.{words_of_values, local_shapes, number_of, number_of_way}
 use Rattle.gypsy_codegen.specs.Guard.{guard_code}

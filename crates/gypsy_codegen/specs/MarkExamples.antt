@@ -6,7 +6,7 @@ use Rattle.gypsy_syntax.specs.declared.predef.Predef.TheVariants as row
 use Rattle.gypsy_syntax.specs.Programs.{Leave, Routine, Var, Lit, Program, simple}
 use Rattle.gypsy_syntax.specs.Programs.{NoOp, Signal, Seq, Loop, If, Begin, Call, Apply}
 use Rattle.gypsy_syntax.specs.Effects.{integer_value}
-use Rattle.gypsy_meaning.specs.Machine.{At, Next, Ended}
+use Rattle.gypsy_semantics.specs.Machine.{At, Next, Ended}
 use Rattle.gypsy_codegen.specs.declared.marking.MarkAt.{MarkAt}
 use Rattle.gypsy_codegen.specs.Examples.{ample}
 use Rattle.gypsy_codegen.specs.Generated.{generated_view}

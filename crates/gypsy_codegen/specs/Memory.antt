@@ -4,8 +4,8 @@ use Rattle.stack_text.specs.Values.{ValueOf}
 use Rattle.piton_words.specs.declared.word.Word.{Word}
 use Rattle.piton_words.specs.declared.word.Word.TheVariants.{Nat}
 use Rattle.gypsy_syntax.specs.Programs.{Program, proc_at, shapes_of}
-use Rattle.gypsy_meaning.specs.Calls.{copied_out}
-use Rattle.gypsy_meaning.specs.Machine.{Frame, Held, used}
+use Rattle.gypsy_semantics.specs.Calls.{copied_out}
+use Rattle.gypsy_semantics.specs.Machine.{Frame, Held, used}
 use Rattle.gypsy_predef.specs.Runs.{push_all}
 use Rattle.gypsy_codegen.specs.WordsOf.{words_of_values, words_before, starts, local_shapes}
 

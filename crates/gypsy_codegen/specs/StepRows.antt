@@ -12,11 +12,11 @@ use Rattle.gypsy_syntax.specs.Effects.{Normal, Fault, Beyond, value_at, is_true_
 use Rattle.gypsy_space.specs.Costs.{Tally, spend, predef_spend, out_spend, main_spend}
 use Rattle.gypsy_space.specs.Needs.{StackSizes, has_room, lack_of, call_spend}
 use Rattle.gypsy_space.specs.declared.need.Lack.TheVariants.{Temporary, Control}
-use Rattle.gypsy_meaning.specs.Calls.{is_passed_on, matching, main_way, main_formals, values_of, target_of, copied_in, copied_out}
-use Rattle.gypsy_meaning.specs.Machine.{Item, Do, Back, JoinThen, JoinOne, Guard, Out, Frame, Held, State, At}
-use Rattle.gypsy_meaning.specs.Machine.{open_on, settle, raise, used}
-use Rattle.gypsy_meaning.specs.Kept.{StateFits}
-use Rattle.gypsy_meaning.specs.Room.{StateRoom}
+use Rattle.gypsy_semantics.specs.Calls.{is_passed_on, matching, main_way, main_formals, values_of, target_of, copied_in, copied_out}
+use Rattle.gypsy_semantics.specs.Machine.{Item, Do, Back, JoinThen, JoinOne, Guard, Out, Frame, Held, State, At}
+use Rattle.gypsy_semantics.specs.Machine.{open_on, settle, raise, used}
+use Rattle.gypsy_semantics.specs.Kept.{StateFits}
+use Rattle.gypsy_semantics.specs.Room.{StateRoom}
 use Rattle.gypsy_codegen.specs.Generated.{generated_view}
 use Rattle.gypsy_codegen.specs.Showing.{Shows}
 use Rattle.gypsy_codegen.specs.Law.{Leads, Halts}

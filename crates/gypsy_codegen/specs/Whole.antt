@@ -17,14 +17,14 @@ use Rattle.gypsy_syntax.specs.Effects.{value_at}
 use Rattle.gypsy_syntax.specs.ValuesFit.{VarsFit}
 use Rattle.gypsy_space.specs.Costs.{Tally}
 use Rattle.gypsy_space.specs.Needs.{StackSizes}
-use Rattle.gypsy_meaning.specs.Seen.Belongs.{Suffices}
-use Rattle.gypsy_meaning.specs.Calls.{CurrentCondition, main_start}
-use Rattle.gypsy_meaning.specs.Meaning.{Done, meaning}
-use Rattle.gypsy_meaning.specs.Counted.{CountedDone, counted_meaning}
-use Rattle.gypsy_meaning.specs.Machine.{Item, Frame, Held, State, At, Next, raise, gypsy_step, start}
-use Rattle.gypsy_meaning.specs.Kept.{StateFits}
-use Rattle.gypsy_meaning.specs.Room.{HaveWords}
-use Rattle.gypsy_meaning.specs.Kept.{FramesFit}
+use Rattle.gypsy_semantics.specs.Room.{Suffices}
+use Rattle.gypsy_semantics.specs.Calls.{CurrentCondition, main_start}
+use Rattle.gypsy_semantics.specs.Meaning.{Done, meaning}
+use Rattle.gypsy_semantics.specs.Counted.{CountedDone, counted_meaning}
+use Rattle.gypsy_semantics.specs.Machine.{Item, Frame, Held, State, At, Next, raise, gypsy_step, start}
+use Rattle.gypsy_semantics.specs.Kept.{StateFits}
+use Rattle.gypsy_semantics.specs.Room.{HaveWords}
+use Rattle.gypsy_semantics.specs.Kept.{FramesFit}
 use Rattle.gypsy_codegen.specs.WordsOf.{words_of_values, number_of, number_of_way}
 use Rattle.gypsy_codegen.specs.Generated.{Scope, target, size, generated_view}
 use Rattle.gypsy_codegen.specs.Memory.{stack_of, index_of}

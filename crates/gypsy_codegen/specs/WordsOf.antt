@@ -4,7 +4,7 @@ use Rattle.stack_text.specs.declared.shape.Shape.{Shape}
 use Rattle.stack_text.specs.Values.{ValueOf, item_count}
 use Rattle.piton_words.specs.declared.word.Word.{Word}
 use Rattle.gypsy_syntax.specs.Programs.{ConditionOf, Leave, Routine, Space, Declared, Proc, words_of}
-use Rattle.gypsy_meaning.specs.Calls.{CurrentCondition}
+use Rattle.gypsy_semantics.specs.Calls.{CurrentCondition}
 use Rattle.gypsy_predef.specs.Runs.{words_of_value}
 
 -- the words of values, one after the other

@@ -11,7 +11,7 @@ ghost use Rattle.gypsy_codegen.specs.Scaffold.Views.{env, IsReady, program_in};
 ghost use Rattle.gypsy_codegen.specs.WordsOf.{number_of};
 
 use crate::handled::Handled;
-use gypsy_meaning::{is_leave, is_passed_on};
+use gypsy_semantics::{is_leave, is_passed_on};
 use gypsy_space::{Condition, Needs, Procedure, Program};
 use stack_text::{Kind, Name, Shape};
 

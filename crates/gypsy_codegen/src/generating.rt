@@ -22,7 +22,7 @@ use crate::law::{
 use crate::system::system;
 use fm_words::MOST_WINDOW;
 use gypsy_check::Accepted;
-use gypsy_meaning::{control_need, temporary_need};
+use gypsy_semantics::{control_need, temporary_need};
 use gypsy_space::{Need, Needs, Program, resolve};
 use piton_check::{CheckFault, Checked, check};
 use piton_syntax::System;

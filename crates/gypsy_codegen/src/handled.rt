@@ -3,7 +3,7 @@
 ghost use Rattle.std.specs.Prelude.{◌≡◌, ◌==◌, ◌<◌, ◌^◌, ℕ, map, get_or, false, OnOk, IfOk, if◌then◌else◌, true};
 ghost use Rattle.gypsy_syntax.specs.Programs.{ConditionOf};
 ghost use Rattle.gypsy_space.specs.Nodes.{seen_cond};
-ghost use Rattle.gypsy_meaning.specs.Calls.{has_cond};
+ghost use Rattle.gypsy_semantics.specs.Calls.{has_cond};
 ghost use Rattle.gypsy_codegen.specs.WordsOf.{number_of};
 
 use crate::context::number_of;

@@ -12,10 +12,10 @@ use Rattle.gypsy_syntax.specs.Effects.{Effect, Normal, Fault, Beyond, no_value, 
 use Rattle.gypsy_space.specs.Costs.{Tally, spend, start_tally, main_spend}
 use Rattle.gypsy_space.specs.Needs.{StackSizes, main_used, with_call, has_temp_room, has_ctrl_room, has_room, lack_of}
 use Rattle.gypsy_space.specs.declared.need.Lack.TheVariants.{Nothing, Temporary, Control}
-use Rattle.gypsy_meaning.specs.Calls.{CurrentCondition, has_cond, is_passed_on, values_of, target_of, copied_in, copied_out, main_start, main_formals, main_way}
-use Rattle.gypsy_meaning.specs.Meaning.{Done, Unfinished, applied, evaluate}
-use Rattle.gypsy_meaning.specs.Counted.{CountedDone, uncounted, counted_main_end, counted_meaning}
-use Rattle.gypsy_meaning.proofs.CountLaws.{meaning-uncounted}
+use Rattle.gypsy_semantics.specs.Calls.{CurrentCondition, has_cond, is_passed_on, values_of, target_of, copied_in, copied_out, main_start, main_formals, main_way}
+use Rattle.gypsy_semantics.specs.Meaning.{Done, Unfinished, applied, evaluate}
+use Rattle.gypsy_semantics.specs.Counted.{CountedDone, uncounted, counted_main_end, counted_meaning}
+use Rattle.gypsy_semantics.proofs.CountLaws.{meaning-uncounted}
 use Rattle.gypsy_logic.specs.Ends.{Ends, Either, Given, opened, formals_of, passed, Means}
 use Rattle.gypsy_logic.specs.Counts.{RunsAfter, joined, call_count, return_count, end_count, predef_count, CountedCondition, CountedExit, EndsAfter, ThenAfter, JoinedAfter, HandledAfter, RoundAfter, AgainAfter, StandsAfter, PaidAfter, ReturnedAfter, CountedOutcomeOf, MeetsAfter, GivesAfter, MainEndsAfter, MeansAfter}
 use Rattle.gypsy_logic.proofs.CountedTableLaws.{takes_counts}

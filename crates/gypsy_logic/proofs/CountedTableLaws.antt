@@ -11,8 +11,8 @@ use Rattle.gypsy_space.specs.Costs.{Tally, spend, start_tally, predef_spend, out
 use Rattle.gypsy_space.specs.Needs.{StackSizes, with_call, lack_of, call_spend}
 use Rattle.gypsy_space.specs.declared.need.Lack.{Lack}
 use Rattle.gypsy_space.specs.declared.need.Lack.TheVariants.{Nothing, Temporary, Control}
-use Rattle.gypsy_meaning.specs.Calls.{CurrentCondition, has_cond, is_leave, is_passed_on, matching, values_of, target_of, copied_in, copied_out}
-use Rattle.gypsy_meaning.specs.Counted.{CountedOutcome, CountedDone, counted_then, counted_part, counted_either, counted_caught, counted_round_end, counted_applied, counted_returned, counted_if_room, counted_evaluate}
+use Rattle.gypsy_semantics.specs.Calls.{CurrentCondition, has_cond, is_leave, is_passed_on, matching, values_of, target_of, copied_in, copied_out}
+use Rattle.gypsy_semantics.specs.Counted.{CountedOutcome, CountedDone, counted_then, counted_part, counted_either, counted_caught, counted_round_end, counted_applied, counted_returned, counted_if_room, counted_evaluate}
 use Rattle.gypsy_logic.specs.Ends.{passed}
 use Rattle.gypsy_logic.specs.Counts.{RunsAfter, joined, call_count, return_count, predef_count}
 use Rattle.gypsy_logic.specs.CountedTable.{TakesCounts}

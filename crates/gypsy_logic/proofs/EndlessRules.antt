@@ -6,9 +6,9 @@ use Rattle.gypsy_syntax.specs.Programs.{ConditionOf, Leave, Routine, Space, Decl
 use Rattle.gypsy_syntax.specs.Programs.{Stmt, Seq, Loop, If, Begin, Call}
 use Rattle.gypsy_syntax.specs.Effects.{value_at, is_true_value}
 use Rattle.gypsy_space.specs.Needs.{StackSizes, main_used, with_call, has_room}
-use Rattle.gypsy_meaning.specs.Calls.{CurrentCondition, copied_in, main_start}
-use Rattle.gypsy_meaning.specs.Meaning.{MeaningOutcome, Done, Unfinished, then_do, either_way, caught, round_end, returned, if_room, evaluate, main_end}
-use Rattle.gypsy_meaning.proofs.LongerLaws.{ends_once}
+use Rattle.gypsy_semantics.specs.Calls.{CurrentCondition, copied_in, main_start}
+use Rattle.gypsy_semantics.specs.Meaning.{MeaningOutcome, Done, Unfinished, then_do, either_way, caught, round_end, returned, if_room, evaluate, main_end}
+use Rattle.gypsy_semantics.proofs.LongerLaws.{ends_once}
 use Rattle.gypsy_logic.specs.Runs.{Runs}
 use Rattle.gypsy_logic.specs.Ends.{Condition, Ends, Then, Round, opened}
 use Rattle.gypsy_logic.specs.Endless.{Endless, IsEndless, NoExit}

@@ -9,7 +9,7 @@ use Rattle.gypsy_syntax.specs.Programs.{Leave, Routine, Space, Declared, Var, Li
 use Rattle.gypsy_syntax.specs.Programs.{Stmt, NoOp, Signal, Seq, Loop, If, Apply}
 use Rattle.gypsy_syntax.specs.Effects.{value_at, is_true_value, integer_value, truth_value, are_same}
 use Rattle.gypsy_space.specs.Needs.{StackSizes}
-use Rattle.gypsy_meaning.specs.Calls.{CurrentCondition}
+use Rattle.gypsy_semantics.specs.Calls.{CurrentCondition}
 use Rattle.gypsy_logic.specs.Ends.{Exit, Ends, Round, Again, Stands}
 use Rattle.gypsy_logic.specs.Counts.{CountedExit, EndsAfter, RoundAfter, AgainAfter, StandsAfter}
 use Rattle.gypsy_logic.proofs.Rules.{◌▸◌, no_op_rule, signal_rule, seq_rule, if_true, if_false, loop_over, weaker}

@@ -10,7 +10,7 @@ use Rattle.gypsy_syntax.specs.Predefined.{predef_effect, effect_by}
 use Rattle.gypsy_syntax.specs.Ranges.{is_in_range}
 use Rattle.gypsy_syntax.specs.Effects.{Normal, Fault, Beyond, value_at, item_of_value, is_true_value, integer_value, truth_value, are_same, number_effect, indexed, stored}
 use Rattle.gypsy_space.specs.Needs.{StackSizes}
-use Rattle.gypsy_meaning.specs.Calls.{values_of, target_of}
+use Rattle.gypsy_semantics.specs.Calls.{values_of, target_of}
 use Rattle.gypsy_logic.specs.Ends.{Exit, Ends, Applied}
 use Rattle.gypsy_logic.proofs.Rules.{apply_rule}
 

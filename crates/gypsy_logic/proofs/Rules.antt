@@ -10,8 +10,8 @@ use Rattle.gypsy_syntax.specs.Programs.{Stmt, Skip, NoOp, Signal, Seq, Loop, If,
 use Rattle.gypsy_syntax.specs.Predefined.{predef_effect}
 use Rattle.gypsy_syntax.specs.Effects.{Effect, Normal, Fault, Beyond, value_at, is_true_value}
 use Rattle.gypsy_space.specs.Needs.{StackSizes, main_used, with_call, call_need, has_room}
-use Rattle.gypsy_meaning.specs.Calls.{CurrentCondition, has_cond, is_passed_on, matching, values_of, target_of, copied_in, copied_out, main_start, main_formals, main_way}
-use Rattle.gypsy_meaning.specs.Meaning.{MeaningOutcome, Done, main_end, meaning}
+use Rattle.gypsy_semantics.specs.Calls.{CurrentCondition, has_cond, is_passed_on, matching, values_of, target_of, copied_in, copied_out, main_start, main_formals, main_way}
+use Rattle.gypsy_semantics.specs.Meaning.{MeaningOutcome, Done, main_end, meaning}
 use Rattle.gypsy_logic.specs.Runs.{Runs}
 use Rattle.gypsy_logic.specs.Written.{written, KeepsOthers}
 use Rattle.gypsy_logic.specs.Ends.{Condition, Exit, Ends, Then, Either, Handled, Round, Again, Stands, passed, Returned, Applied, Entry, Outcome, Meets, Given, Gives, opened, formals_of, ended, MainEnds, Means}

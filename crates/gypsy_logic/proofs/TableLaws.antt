@@ -7,9 +7,9 @@ use Rattle.gypsy_syntax.specs.Programs.{Stmt, Seq, Loop, If, Begin, Call, Apply}
 use Rattle.gypsy_syntax.specs.Predefined.{predef_effect}
 use Rattle.gypsy_syntax.specs.Effects.{Effect, Normal, Fault, Beyond, value_at, is_true_value}
 use Rattle.gypsy_space.specs.Needs.{StackSizes, with_call, has_room}
-use Rattle.gypsy_meaning.specs.Calls.{CurrentCondition, has_cond, is_leave, values_of, target_of, copied_in}
-use Rattle.gypsy_meaning.specs.Meaning.{MeaningOutcome, Done, then_do, either_way, caught, round_end, applied, returned, if_room, evaluate}
-use Rattle.gypsy_meaning.proofs.LongerLaws.{longer}
+use Rattle.gypsy_semantics.specs.Calls.{CurrentCondition, has_cond, is_leave, values_of, target_of, copied_in}
+use Rattle.gypsy_semantics.specs.Meaning.{MeaningOutcome, Done, then_do, either_way, caught, round_end, applied, returned, if_room, evaluate}
+use Rattle.gypsy_semantics.proofs.LongerLaws.{longer}
 use Rattle.gypsy_logic.specs.Runs.{Runs}
 use Rattle.gypsy_logic.specs.Table.{FollowsTable}
 

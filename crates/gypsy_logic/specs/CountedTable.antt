@@ -8,7 +8,7 @@ use Rattle.gypsy_syntax.specs.Predefined.{predef_effect}
 use Rattle.gypsy_syntax.specs.Effects.{Normal, Fault, Beyond, value_at, is_true_value}
 use Rattle.gypsy_space.specs.Needs.{StackSizes, with_call, lack_of}
 use Rattle.gypsy_space.specs.declared.need.Lack.TheVariants.{Nothing, Temporary, Control}
-use Rattle.gypsy_meaning.specs.Calls.{CurrentCondition, has_cond, is_leave, values_of, target_of, copied_in, copied_out}
+use Rattle.gypsy_semantics.specs.Calls.{CurrentCondition, has_cond, is_leave, values_of, target_of, copied_in, copied_out}
 use Rattle.gypsy_logic.specs.Ends.{passed}
 use Rattle.gypsy_logic.specs.Counts.{RunsAfter, joined, call_count, return_count, predef_count}
 

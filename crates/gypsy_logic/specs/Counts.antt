@@ -7,8 +7,8 @@ use Rattle.gypsy_syntax.specs.Predefined.{row_of}
 use Rattle.gypsy_syntax.specs.Effects.{Effect, Normal, Fault, Beyond, no_value}
 use Rattle.gypsy_space.specs.Costs.{Tally, spend, start_tally}
 use Rattle.gypsy_space.specs.Needs.{StackSizes, with_call, call_spend}
-use Rattle.gypsy_meaning.specs.Calls.{CurrentCondition, has_cond, copied_out}
-use Rattle.gypsy_meaning.specs.Counted.{CountedDone, counted_evaluate, counted_meaning}
+use Rattle.gypsy_semantics.specs.Calls.{CurrentCondition, has_cond, copied_out}
+use Rattle.gypsy_semantics.specs.Counted.{CountedDone, counted_evaluate, counted_meaning}
 use Rattle.gypsy_logic.specs.Ends.{Exit, Either, Entry, opened, formals_of, passed, ended}
 
 -- From the variables x, with u words of the two stacks in use, the statement s ends with the variables y and the condition c, after n

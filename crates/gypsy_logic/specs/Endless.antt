@@ -3,7 +3,7 @@ use Rattle.std.specs.Prelude.{◌≡◌, ℕ, List}
 use Rattle.stack_text.specs.Values.{ValueOf}
 use Rattle.gypsy_syntax.specs.Programs.{Program, Stmt}
 use Rattle.gypsy_space.specs.Needs.{StackSizes}
-use Rattle.gypsy_meaning.specs.Meaning.{Unfinished, evaluate, meaning}
+use Rattle.gypsy_semantics.specs.Meaning.{Unfinished, evaluate, meaning}
 use Rattle.gypsy_logic.specs.Ends.{Exit}
 
 -- From the variables x, with u words of the two stacks in use, the statement s is done within no bound.

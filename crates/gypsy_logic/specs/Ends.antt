@@ -5,8 +5,8 @@ use Rattle.stack_text.specs.Values.{ValueOf}
 use Rattle.gypsy_syntax.specs.Programs.{ConditionOf, Leave, Routine, Space, Declared, Arg, Program, Stmt, proc_at, body_of}
 use Rattle.gypsy_syntax.specs.Effects.{Effect, Normal, Fault, Beyond}
 use Rattle.gypsy_space.specs.Needs.{StackSizes, with_call}
-use Rattle.gypsy_meaning.specs.Calls.{CurrentCondition, has_cond, target_of, copied_out}
-use Rattle.gypsy_meaning.specs.Meaning.{Done, meaning}
+use Rattle.gypsy_semantics.specs.Calls.{CurrentCondition, has_cond, target_of, copied_out}
+use Rattle.gypsy_semantics.specs.Meaning.{Done, meaning}
 use Rattle.gypsy_logic.specs.Runs.{Runs}
 
 -- what is said of variables

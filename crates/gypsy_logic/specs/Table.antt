@@ -7,7 +7,7 @@ use Rattle.gypsy_syntax.specs.Programs.{Stmt, Skip, NoOp, Signal, Seq, Loop, If,
 use Rattle.gypsy_syntax.specs.Predefined.{predef_effect}
 use Rattle.gypsy_syntax.specs.Effects.{Normal, Fault, Beyond, value_at, is_true_value}
 use Rattle.gypsy_space.specs.Needs.{StackSizes, with_call, has_room}
-use Rattle.gypsy_meaning.specs.Calls.{CurrentCondition, has_cond, is_leave, matching, values_of, target_of, copied_in, copied_out}
+use Rattle.gypsy_semantics.specs.Calls.{CurrentCondition, has_cond, is_leave, matching, values_of, target_of, copied_in, copied_out}
 use Rattle.gypsy_logic.specs.Runs.{Runs}
 
 -- the rows of a program, for stacks of these sizes

@@ -4,7 +4,7 @@ use Rattle.stack_text.specs.Values.{ValueOf}
 use Rattle.gypsy_syntax.specs.Programs.{Stmt, Skip, NoOp, Signal, Seq, Loop, If, Begin, Call, Apply}
 use Rattle.gypsy_syntax.specs.ProgramFits.{Misses}
 use Rattle.gypsy_syntax.specs.Effects.{value_at}
-use Rattle.gypsy_meaning.specs.Calls.{target_of}
+use Rattle.gypsy_semantics.specs.Calls.{target_of}
 
 -- the variables that a statement may change, by their positions: a call those that it is given
 abbrev pub written : Stmt → List ℕ

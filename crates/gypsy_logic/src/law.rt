@@ -4,7 +4,7 @@ ghost use Rattle.std.specs.Prelude.{List};
 ghost use Rattle.stack_text.specs.Values.{ValueOf};
 ghost use Rattle.gypsy_syntax.specs.Programs.{Program, Stmt};
 ghost use Rattle.gypsy_space.specs.Needs.{StackSizes};
-ghost use Rattle.gypsy_meaning.specs.Calls.{CurrentCondition};
+ghost use Rattle.gypsy_semantics.specs.Calls.{CurrentCondition};
 ghost use Rattle.gypsy_logic.specs.Runs.{Runs};
 ghost use Rattle.gypsy_logic.specs.Table.{FollowsTable};
 ghost use Rattle.gypsy_logic.specs.CountedTable.{TakesCounts};

@@ -2,7 +2,7 @@
 //!
 //! The rules are the lemmas of `proofs/Rules`, for `Ends` of `specs/Ends`. What they rest on is said here: each row of the table
 //! of the language holds of its meaning, and what a statement doesn't write it keeps. That it has one end is a law of
-//! `gypsy_meaning`.
+//! `gypsy_semantics`.
 #![tactic(auto)]
 
 mod law;

@@ -13,7 +13,7 @@ use Rattle.gypsy_space.specs.declared.event.CostEvent.TheVariants as event
 use Rattle.gypsy_space.specs.declared.event.Outcome.{Outcome}
 use Rattle.gypsy_space.specs.declared.event.Outcome.TheVariants as outcome
 use Rattle.gypsy_space.specs.declared.program.Application.{Application}
-use Rattle.gypsy_meaning.specs.Machine.{Item, Frame, At, Next, settle, raise, apply_step}
+use Rattle.gypsy_semantics.specs.Machine.{Item, Frame, At, Next, settle, raise, apply_step}
 use Rattle.gypsy_meaning.specs.Seen.Work.{work_of, caught_spend}
 use Rattle.gypsy_meaning.specs.Scaffold.Turns.{IsPlain, GoesOn, RaisesOn}
 use Rattle.gypsy_meaning.specs.Scaffold.PredefinedSteps.{call_item, WritesOn, IsApplied}
@@ -23,7 +23,7 @@ use Rattle.gypsy_meaning.specs.declared.turn.Advance.{Advance}
 use Rattle.gypsy_syntax.specs.Effects.{value_at, no_value}
 use Rattle.gypsy_space.specs.declared.program.Argument.{Argument}
 use Rattle.gypsy_space.specs.Nodes.{seen_arg}
-use Rattle.gypsy_meaning.specs.Calls.{value_of, values_of, target_of}
+use Rattle.gypsy_semantics.specs.Calls.{value_of, values_of, target_of}
 use Rattle.gypsy_meaning.specs.Scaffold.PredefinedEffects.{applied_effect}
 
 pub value_listed : (x : List ValueOf) (args : List Arg) (i : ℕ) → value_of x (get_or args i (Lit no_value)) ≡ value_at (values_of x args) i

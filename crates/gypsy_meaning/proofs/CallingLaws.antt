@@ -21,21 +21,21 @@ use Rattle.gypsy_space.specs.declared.need.Need.{Need}
 use Rattle.gypsy_space.specs.declared.program.CallSite.{CallSite}
 use Rattle.gypsy_space.proofs.EventLaws.{call_table, lack_same}
 use Rattle.gypsy_meaning.specs.Scaffold.Entering.{RaisesSpace, Waits, call_top, with_words}
-use Rattle.gypsy_meaning.specs.Calls.{copied_in, copied_out}
+use Rattle.gypsy_semantics.specs.Calls.{copied_in, copied_out}
 use Rattle.gypsy_meaning.specs.Seen.Held.{AreActivations, IsActivation, IsHeld, Moves}
-use Rattle.gypsy_meaning.specs.Machine.{Item, At, call_step, gypsy_step, open_on, used}
-use Rattle.gypsy_meaning.specs.Machine as machine
+use Rattle.gypsy_semantics.specs.Machine.{Item, At, call_step, gypsy_step, open_on, used}
+use Rattle.gypsy_semantics.specs.Machine as machine
 use Rattle.gypsy_meaning.specs.Seen.Named.{variables_of}
 use Rattle.gypsy_meaning.specs.Seen.Running.{Goes, frames_in, frames_of, kept_frames, sizes_of, state_of, paid}
-use Rattle.gypsy_meaning.specs.Seen.RunView.{added, handed_back}
+use Rattle.gypsy_semantics.specs.Seen.RunView.{added, handed_back}
 use Rattle.gypsy_meaning.specs.Seen.Work.{work_of}
 use Rattle.gypsy_meaning.specs.declared.names.Names.{Names}
 use Rattle.gypsy_meaning.specs.declared.running.Frame.{Frame}
 use Rattle.gypsy_meaning.specs.declared.running.Meaning.{Meaning}
 use Rattle.gypsy_meaning.specs.declared.work.Work.{Work}
-use Rattle.gypsy_meaning.proofs.LendingLaws.{back_again, copied_again, length-copied_out, used_back}
+use Rattle.gypsy_semantics.proofs.LendingLaws.{back_again, copied_again, length-copied_out, used_back}
 use Rattle.gypsy_meaning.proofs.ReturningLaws.{kept_frames-push, same_state}
-use Rattle.gypsy_meaning.proofs.Rooms.{rooms}
+use Rattle.gypsy_semantics.proofs.Rooms.{rooms}
 
 module _ (m : Meaning) (ns : List Need) (site : CallSite) (below : List Item) (needs : AreNeeds (seen_program m.program) ns) (there : site.callee < length (seen_program m.program).procs)
     (turn : work_of m.work.value ≡ call_top site ∷ below) (counts : used (seen_program m.program) m.procedure (kept_frames m.waiting.items) ≡ stack_sizes m.used_ctrl m.used_temp) where

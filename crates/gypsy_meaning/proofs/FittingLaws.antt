@@ -14,7 +14,7 @@ use Rattle.gypsy_space.specs.Events.{AreNeeds, need_at, need_of}
 use Rattle.gypsy_space.specs.Needs.{StackSizes, main_need, main_used}
 use Rattle.gypsy_space.specs.declared.need.Need.{Need}
 use Rattle.gypsy_space.proofs.SmallLaws.{words_of-append}
-use Rattle.gypsy_meaning.specs.Seen.Fitting.{CanStart, are_as_many, are_values, can_start, is_value_of, same_shape, suffice}
+use Rattle.gypsy_semantics.specs.Seen.Fitting.{CanStart, are_as_many, are_values, can_start, is_value_of, same_shape, suffice}
 
 shapes_same : (a b : Shape) → same_shape a b ≡ true → a ≡ b
 shapes_same a b e =
@@ -61,32 +61,6 @@ are_those [] [] h = refl
 are_those [] (v ∷ x) h = absurd h
 are_those (s ∷ shapes) [] h = absurd h
 are_those (s ∷ shapes) (v ∷ x) h = and_from (is_value_of s v) (are_values shapes x) (value_of_shape s v h.0 h.1) (are_those shapes x h.2)
-
--- Main's own need.
-
-pub formals_small : (q : Program) → ProgramFits q → words_of (proc_at q q.main).formals ≤ 65536
-formals_small q fits =
-    let p = proc_at q q.main in
-    let locals = map (λ (v : ValueOf). v.shape) p.locals in
-    let all : words_of (p.formals ++ locals) ≤ 65536 = (fits.procs q.main).words in
-    let both : words_of (p.formals ++ locals) ≡ words_of p.formals + words_of locals = words_of-append p.formals locals in
-    omega (arith, all, both)
-
-pub temporary_is : (q : Program) (ns : List Need) (words : ℕ) → AreNeeds q ns → ProgramFits q → words ≡ words_of (proc_at q q.main).formals →
-    words + (need_at ns q.main).locals_words + (need_at ns q.main).temp ≡ (main_need q).temp
-unfolding main_need main_used
-temporary_is q ns words needs fits is =
-    let p = proc_at q q.main in
-    let locals = map (λ (v : ValueOf). v.shape) p.locals in
-    let exact : need_at ns q.main ≡ need_of q q.main = needs.each q.main fits.main in
-    let both : words_of (p.formals ++ locals) ≡ words_of p.formals + words_of locals = words_of-append p.formals locals in
-    ap₂ (λ (n : ℕ) (k : Need). n + k.locals_words + k.temp) is exact ∙ ap (λ (n : ℕ). n + (need_of q q.main).temp) (sym both)
-
-pub control_is : (q : Program) (ns : List Need) → AreNeeds q ns → ProgramFits q → 2 + (need_at ns q.main).vars + (need_at ns q.main).ctrl ≡ (main_need q).ctrl
-unfolding main_need main_used
-control_is q ns needs fits =
-    let exact : need_at ns q.main ≡ need_of q q.main = needs.each q.main fits.main in
-    ap (λ (k : Need). 2 + k.vars + k.ctrl) exact
 
 pub is_start : (q : Program) (x : List ValueOf) (sizes : StackSizes) → can_start q x sizes ≡ true → CanStart q x sizes
 is_start q x sizes e =

@@ -5,7 +5,7 @@ use Rattle.std.specs.declared.alloc.Global.{Global}
 use Rattle.gypsy_space.specs.declared.program.Node.{Node}
 use Rattle.gypsy_space.specs.Nodes.{seen_statement, seen_statements}
 use Rattle.gypsy_space.proofs.NodeLaws.{statements_at}
-use Rattle.gypsy_meaning.specs.Machine.{Item, Do, opens}
+use Rattle.gypsy_semantics.specs.Machine.{Item, Do, opens}
 
 -- the part at a position comes to the top
 pub part_opens : (ns : List (Rc Node Global)) (k : ℕ) (n : Rc Node Global) (w ws : List Item) → k < length ns → n ≡ get_or ns k n → opens (seen_statements (drop k ns)) w ws ≡ opens (seen_statement n.value) (Do (seen_statements (drop (suc k) ns)) ∷ w) (opens (seen_statements (drop (suc k) ns)) w ws)

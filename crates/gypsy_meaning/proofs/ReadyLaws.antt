@@ -17,25 +17,18 @@ use Rattle.gypsy_space.specs.declared.program.Argument.{Argument}
 use Rattle.gypsy_space.specs.declared.program.CallSite.{CallSite}
 use Rattle.gypsy_meaning.specs.Scaffold.PredefinedEffects.{Suits}
 use Rattle.gypsy_meaning.specs.Scaffold.Entering.{AreLent, call_top}
-use Rattle.gypsy_meaning.specs.Calls.{values_of}
-use Rattle.gypsy_meaning.specs.Kept.{WorkFits}
-use Rattle.gypsy_meaning.specs.Machine.{Item}
+use Rattle.gypsy_semantics.specs.Calls.{values_of}
+use Rattle.gypsy_semantics.specs.Kept.{WorkFits}
+use Rattle.gypsy_semantics.specs.Machine.{Item}
 use Rattle.gypsy_meaning.specs.Seen.Named.{variables_of}
 use Rattle.gypsy_meaning.specs.Scaffold.Stepping.{IsReady}
 use Rattle.gypsy_meaning.specs.Scaffold.Within.{WorkSuits}
 use Rattle.gypsy_meaning.specs.Seen.Work.{work_of}
 use Rattle.gypsy_meaning.specs.declared.running.Meaning.{Meaning}
 use Rattle.gypsy_meaning.proofs.ApplyLaws.{value_listed}
-use Rattle.gypsy_meaning.proofs.EffectLaws.{stored_item}
-use Rattle.gypsy_meaning.proofs.LendingLaws.{actuals_there, as_many}
+use Rattle.gypsy_semantics.proofs.EffectLaws.{stored_item}
+use Rattle.gypsy_semantics.proofs.LendingLaws.{actuals_length, actuals_there, as_many}
 use Rattle.gypsy_syntax.proofs.RangeLaws.{range_item}
-
--- as many actuals as formals
-pub actuals_length : (shapes formals : List Shape) (xs : List ℕ) → ActualsFit shapes formals xs → length xs ≡ length formals
-actuals_length shapes [] [] f = refl
-actuals_length shapes [] (x ∷ xs) f = absurd f
-actuals_length shapes (s ∷ formals) [] f = absurd f
-actuals_length shapes (s ∷ formals) (x ∷ xs) f = let e : length xs ≡ length formals = actuals_length shapes formals xs f.1 in omega (arith, e)
 
 -- a call has the names of its callee's variables
 pub call_sized : (ns : List Need) (m : Meaning) (site : CallSite) (below : List Item) → IsReady ns m → work_of m.work.value ≡ call_top site ∷ below →

@@ -10,20 +10,20 @@ use Rattle.gypsy_space.specs.Nodes.{seen_cond, seen_program}
 use Rattle.gypsy_space.specs.Events.{event_count}
 use Rattle.gypsy_space.specs.declared.event.CostEvent.TheVariants as event
 use Rattle.gypsy_space.specs.declared.need.Need.{Need}
-use Rattle.gypsy_meaning.specs.Calls.{copied_out, is_passed_on, matching}
+use Rattle.gypsy_semantics.specs.Calls.{copied_out, is_passed_on, matching}
 use Rattle.gypsy_meaning.specs.Seen.Held.{AreActivations, IsActivation, IsHeld, Keeps, Moves}
-use Rattle.gypsy_meaning.specs.Machine.{Item, Out, State, At, Next, gypsy_step, settle, raise, used}
-use Rattle.gypsy_meaning.specs.Machine as machine
+use Rattle.gypsy_semantics.specs.Machine.{Item, Out, State, At, Next, gypsy_step, settle, raise, used}
+use Rattle.gypsy_semantics.specs.Machine as machine
 use Rattle.gypsy_meaning.specs.Seen.Named.{variables_of}
 use Rattle.gypsy_meaning.specs.Scaffold.Returning.{HasResumed, IsLast, RaisesTo, Resumes, out_price}
 use Rattle.gypsy_meaning.specs.Seen.Running.{frame_of, frames_in, frames_of, kept_frames, sizes_of, state_of, paid}
-use Rattle.gypsy_meaning.specs.Seen.RunView.{added, bare, handed_back}
+use Rattle.gypsy_semantics.specs.Seen.RunView.{added, bare, handed_back}
 use Rattle.gypsy_meaning.specs.Seen.Work.{caught_spend, work_of}
 use Rattle.gypsy_meaning.specs.declared.names.Names.{Names}
 use Rattle.gypsy_meaning.specs.declared.running.Frame.{Frame}
 use Rattle.gypsy_meaning.specs.declared.running.Meaning.{Meaning}
 use Rattle.gypsy_meaning.specs.declared.work.Work.{Work}
-use Rattle.gypsy_meaning.proofs.LendingLaws.{back_again, copied_again}
+use Rattle.gypsy_semantics.proofs.LendingLaws.{back_again, copied_again}
 
 all_but_last : (fs : List Frame) (n : ℕ) (f : Frame) → suc n ≡ length fs → Some f ≡ slice_get fs n → fs ≡ take n fs ++ f ∷ []
 all_but_last [] n f e h = absurd (omega (arith, e))

@@ -16,18 +16,19 @@ use Rattle.gypsy_space.specs.Needs.{main_used, stack_sizes}
 use Rattle.gypsy_space.specs.Nodes.{seen_program}
 use Rattle.gypsy_space.specs.declared.need.Need.{Need}
 use Rattle.gypsy_space.specs.declared.program.Program.{Program as Code}
-use Rattle.gypsy_meaning.specs.Seen.Belongs.{BelongsTo, IsKept, Suffices}
-use Rattle.gypsy_meaning.specs.Calls.{main_start}
+use Rattle.gypsy_meaning.specs.Seen.Belongs.{BelongsTo, IsKept}
+use Rattle.gypsy_semantics.specs.Room.{Suffices}
+use Rattle.gypsy_semantics.specs.Calls.{main_start}
 use Rattle.gypsy_meaning.specs.Seen.Held.{AreActivations, IsHeld}
-use Rattle.gypsy_meaning.specs.Machine.{At, Frame, Item, open_on, start, used}
+use Rattle.gypsy_semantics.specs.Machine.{At, Frame, Item, open_on, start, used}
 use Rattle.gypsy_meaning.specs.Seen.Named.{proc_names, seen_names, unnamed, variables_of}
 use Rattle.gypsy_meaning.specs.Seen.Running.{frames_in, frames_of, kept_frames, seen, sizes_of, stage_by}
-use Rattle.gypsy_meaning.specs.Seen.RunView.{Running, after, opening}
+use Rattle.gypsy_semantics.specs.Seen.RunView.{Running, after, opening}
 use Rattle.gypsy_meaning.specs.Seen.Work.{work_of}
 use Rattle.gypsy_meaning.specs.declared.names.Names.{Names}
 use Rattle.gypsy_meaning.specs.declared.running.Frame.{Frame as Waiting}
 use Rattle.gypsy_meaning.specs.declared.running.Meaning.{Meaning}
-use Rattle.gypsy_meaning.proofs.Keeping.{start_fits}
+use Rattle.gypsy_semantics.proofs.Keeping.{start_fits}
 use Rattle.gypsy_meaning.proofs.NamedLaws.{number_same, variables_same, variables_sized}
 
 shapes_are : (shapes : List Shape) (x : List ValueOf) → VarsFit shapes x → map (λ v. v.shape) x ≡ shapes

@@ -6,7 +6,7 @@ use Rattle.stack_text.specs.Values.{ValueOf}
 use Rattle.gypsy_syntax.specs.Programs.{Stmt}
 use Rattle.gypsy_space.specs.declared.program.Node.{Node}
 use Rattle.gypsy_space.specs.Nodes.{seen_statements}
-use Rattle.gypsy_meaning.specs.Machine.{Item, Do, open_on}
+use Rattle.gypsy_semantics.specs.Machine.{Item, Do, open_on}
 use Rattle.gypsy_meaning.specs.Scaffold.Turns.{OpensTo, GoesOn}
 use Rattle.gypsy_meaning.specs.declared.turn.Advance.{Advance}
 

@@ -4,7 +4,7 @@ use Rattle.std.specs.List.{list_all}
 use Rattle.std.proofs.lemmas.Bool.{and_parts, and_from}
 use Rattle.stack_text.specs.declared.shape.Shape.{Shape}
 use Rattle.stack_text.specs.Values.{is_item, is_value, item_count}
-use Rattle.gypsy_meaning.proofs.EffectLaws.{set_holds}
+use Rattle.gypsy_semantics.proofs.EffectLaws.{set_holds}
 
 -- with another item of the kind
 pub set_is_value : (s : Shape) (items : List ℤ) (i : ℕ) (z : ℤ) → is_value s items ≡ true → is_item s.kind z ≡ true → is_value s (slice_set items i z) ≡ true

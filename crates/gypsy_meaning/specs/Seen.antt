@@ -1,11 +1,6 @@
--- How clauses see a run of the step machine: what belongs together, what a run shows, its steps, and the agreement.
-pub mod RunView
-pub mod Moments
-pub mod Shown
-pub mod RunAgrees
+-- How clauses see the step machine as the code keeps it, and what belongs together.
 pub mod Work
 pub mod Named
 pub mod Running
 pub mod Held
 pub mod Belongs
-pub mod Fitting

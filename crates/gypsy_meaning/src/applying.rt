@@ -2,7 +2,7 @@
 
 ghost use Rattle.std.specs.Prelude.{◌≡◌, IfOk, map};
 ghost use Rattle.gypsy_space.specs.Nodes.{seen_arg};
-ghost use Rattle.gypsy_meaning.specs.Calls.{target_of};
+ghost use Rattle.gypsy_semantics.specs.Calls.{target_of};
 ghost use Rattle.gypsy_meaning.specs.Seen.Work.{work_of};
 ghost use Rattle.gypsy_meaning.specs.Scaffold.Turns.{RaisesOn};
 ghost use Rattle.gypsy_meaning.specs.Scaffold.PredefinedSteps.{IsApplied};
@@ -27,7 +27,7 @@ pub enum Applied {
 }
 
 /// The variable that a predefined call writes.
-#[tactic(auto, unfolding(crate::specs::Calls::target_of))]
+#[tactic(auto, unfolding(gypsy_semantics::specs::Calls::target_of))]
 fn target(args: &[Argument]) -> u32
     ensures { result ≡ target_of (map seen_arg args.now) }
 {

@@ -8,7 +8,7 @@ ghost use Rattle.gypsy_space.specs.Nodes.{seen_program};
 ghost use Rattle.gypsy_space.specs.declared.need.Lack.TheVariants as lack;
 ghost use Rattle.gypsy_meaning.specs.Scaffold.Entering.{AreLent, IsUnchanged, RaisesSpace, Waits, call_top, with_words};
 ghost use Rattle.gypsy_meaning.specs.Seen.Held.{IsHeld, Moves};
-ghost use Rattle.gypsy_meaning.specs.Machine.{open_on};
+ghost use Rattle.gypsy_semantics.specs.Machine.{open_on};
 ghost use Rattle.gypsy_meaning.specs.Seen.Named.{variables_of};
 ghost use Rattle.gypsy_meaning.specs.Scaffold.Turns.{IsPlain};
 ghost use Rattle.gypsy_meaning.specs.Seen.Work.{work_of};

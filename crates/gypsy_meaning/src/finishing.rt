@@ -4,14 +4,14 @@ ghost use Rattle.std.specs.Prelude.{◌≡◌, [], length};
 ghost use Rattle.gypsy_syntax.specs.Programs.{proc_at};
 ghost use Rattle.gypsy_space.specs.Events.{AreSmall};
 ghost use Rattle.gypsy_space.specs.Nodes.{seen_cond, seen_program};
-ghost use Rattle.gypsy_meaning.specs.Calls.{main_way};
+ghost use Rattle.gypsy_semantics.specs.Calls.{main_way};
 ghost use Rattle.gypsy_meaning.specs.Scaffold.Finishing.{IsFinished, end_price};
 ghost use Rattle.gypsy_meaning.specs.Seen.Held.{EndsRun};
 ghost use Rattle.gypsy_meaning.specs.Scaffold.Returning.{Leaves};
 ghost use Rattle.gypsy_meaning.specs.Seen.Work.{work_of};
 
-use crate::returning::is_passed_on;
 use crate::running::{Ending, Meaning};
+use gypsy_semantics::is_passed_on;
 use gypsy_space::{Condition, CostEvent, Needs, Program};
 
 /// How many formals main has.
@@ -25,7 +25,7 @@ fn formal_count(program: &Program) -> usize
 }
 
 /// With what main ends where this condition leaves it.
-#[tactic(auto, unfolding(crate::specs::Calls::main_way))]
+#[tactic(auto, unfolding(gypsy_semantics::specs::Calls::main_way))]
 fn main_condition(program: &Program, cond: Condition) -> Condition
     ensures { seen_cond result ≡ main_way (seen_program program.now) (seen_cond cond) }
 {
@@ -51,7 +51,7 @@ fn end_price(needs: &Needs, passed: bool) -> u64
 
 impl Meaning {
     /// Makes the step that ends the run in this way and at this cost. Of the variables main's formals are left.
-    #[tactic(auto, unfolding(crate::specs::Calls::main_formals))]
+    #[tactic(auto, unfolding(gypsy_semantics::specs::Calls::main_formals))]
     fn finish(&mut self, ending: Ending, cost: u64)
         ensures { IsFinished ending cost self.old self.new }
     {

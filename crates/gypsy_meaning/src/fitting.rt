@@ -1,15 +1,15 @@
 //! Whether values and sizes suit the start of a run.
 
-ghost use Rattle.std.specs.Prelude.{◌≡◌, ◌≤◌, map};
+ghost use Rattle.std.specs.Prelude.{◌≡◌, map};
 ghost use Rattle.std.specs.List.{list_all};
 ghost use Rattle.gypsy_syntax.specs.ProgramFits.{ProgramFits};
 ghost use Rattle.gypsy_syntax.specs.Ranges.{is_in_range};
-ghost use Rattle.gypsy_syntax.specs.Programs.{proc_at, words_of};
 ghost use Rattle.gypsy_space.specs.Events.{AreNeeds, AreSmall};
 ghost use Rattle.gypsy_space.specs.Needs.{main_need, stack_sizes};
 ghost use Rattle.gypsy_space.specs.Nodes.{seen_program};
-ghost use Rattle.gypsy_meaning.specs.Seen.Fitting.{are_as_many, are_values, can_start, is_value_of, same_shape, suffice};
+ghost use Rattle.gypsy_semantics.specs.Seen.Fitting.{are_as_many, are_values, can_start, is_value_of, same_shape, suffice};
 
+use gypsy_semantics::{control_need, main_formals, temporary_need};
 use gypsy_space::{Needs, Program};
 use stack_text::{Kind, MOST_ARRAY, Name, Shape, Value};
 
@@ -46,7 +46,7 @@ fn same_shape(left: Shape, right: Shape) -> bool
 }
 
 /// Whether a value is one of the shape.
-#[tactic(auto, unfolding(crate::specs::Seen::Fitting::is_value_of))]
+#[tactic(auto, unfolding(gypsy_semantics::specs::Seen::Fitting::is_value_of))]
 fn is_value_of(shape: Shape, value: &Value) -> bool
     ensures { result ≡ is_value_of shape value.now }
 {
@@ -72,51 +72,6 @@ fn are_values(formals: &[(Name, Shape)], values: &[Value]) -> bool
         }
     }
     rest.is_empty()
-}
-
-/// Main's formals.
-fn main_formals(program: &Program) -> &[(Name, Shape)]
-    ensures { let q = seen_program program.now in map (λ f. f.1) result.now ≡ (proc_at q q.main).formals }
-{
-    match program.procedures.get(program.main as usize) {
-        Some(main) => main.formals.as_slice(),
-        None => &[],
-    }
-}
-
-/// The words that formals take.
-fn formal_words(formals: &[(Name, Shape)]) -> u64
-    requires { words_of (map (λ f. f.1) formals.now) ≤ 65536 }
-    ensures { result ≡ words_of (map (λ f. f.1) formals.now) }
-{
-    let mut words = 0;
-    for (_, shape) in formals {
-        words += shape.item_count() as u64;
-    }
-    words
-}
-
-/// The words of the temporary stack that main itself needs.
-pub fn temporary_need(program: &Program, needs: &Needs) -> u64
-    requires needs { AreNeeds (seen_program program.now) needs.now.procedures.items }
-    requires small { AreSmall needs.now.procedures.items }
-    requires fits { ProgramFits (seen_program program.now) }
-    ensures { result ≡ (main_need (seen_program program.now)).temp }
-{
-    let words = formal_words(main_formals(program));
-    let need = needs.need_of(program.main);
-    words + need.locals_words + need.temp
-}
-
-/// The words of the control stack that main itself needs.
-pub fn control_need(program: &Program, needs: &Needs) -> u64
-    requires needs { AreNeeds (seen_program program.now) needs.now.procedures.items }
-    requires small { AreSmall needs.now.procedures.items }
-    requires fits { ProgramFits (seen_program program.now) }
-    ensures { result ≡ (main_need (seen_program program.now)).ctrl }
-{
-    let need = needs.need_of(program.main);
-    2 + need.vars + need.ctrl
 }
 
 /// Whether sizes are at least main's own need.

@@ -4,7 +4,7 @@ ghost use Rattle.std.specs.Prelude.{◌≡◌, ◌++◌, IfOk, OnOk, map};
 ghost use Rattle.gypsy_syntax.specs.Seen.SourceView.{local_of, proc_of, source_of};
 ghost use Rattle.gypsy_meaning.specs.Seen.Named.{proc_names, seen_names, shown_names, unnamed};
 
-use crate::conditions::Current;
+use gypsy_semantics::Current;
 use gypsy_syntax::{Decl, Local, Proc, Source};
 use stack_text::{Name, Named};
 use std::alloc::{AllocError, Global};

@@ -4,8 +4,8 @@ ghost use Rattle.std.specs.Prelude.{◌≡◌, [], get_or, map, IfErr, IfOk, IfS
 ghost use Rattle.gypsy_space.specs.Events.{AreSmall};
 ghost use Rattle.gypsy_syntax.specs.Programs.{Routine};
 ghost use Rattle.gypsy_space.specs.Nodes.{seen_cond, seen_program};
-ghost use Rattle.gypsy_meaning.specs.Calls.{is_passed_on, matching};
-ghost use Rattle.gypsy_meaning.specs.Machine.{settle};
+ghost use Rattle.gypsy_semantics.specs.Calls.{matching};
+ghost use Rattle.gypsy_semantics.specs.Machine.{settle};
 ghost use Rattle.gypsy_meaning.specs.Scaffold.Returning.{HasResumed, IsLast, Leaves, RaisesTo, out_price};
 ghost use Rattle.gypsy_meaning.specs.Seen.Held.{Moves};
 ghost use Rattle.gypsy_meaning.specs.Seen.Running.{paid};
@@ -14,6 +14,7 @@ ghost use Rattle.gypsy_meaning.specs.Seen.Work.{work_of};
 use crate::copying::copy_out;
 use crate::running::{Frame, Meaning};
 use crate::work::{Raised, Work, raise, settled};
+use gypsy_semantics::is_passed_on;
 use gypsy_space::{Condition, CostEvent, Needs, Program};
 use std::alloc::{AllocError, Global};
 use std::mem;
@@ -31,20 +32,8 @@ fn waiting_work(alloc: Global, waiting: &[Frame]) -> Result<Option<Rc<Work>>, Al
     }
 }
 
-/// Whether a condition is passed on where it leaves a procedure: one of its formal ones, or spaceerror.
-#[tactic(auto, unfolding(crate::specs::Calls::is_passed_on))]
-pub fn is_passed_on(program: &Program, procedure: u32, cond: Condition) -> bool
-    ensures { result ≡ is_passed_on (seen_program program.now) procedure (seen_cond cond) }
-{
-    match (cond, program.procedures.get(procedure as usize)) {
-        (Condition::Space, _) => true,
-        (Condition::Declared(number), Some(procedure)) => (number as usize) < procedure.conds.len(),
-        _ => false,
-    }
-}
-
 /// The condition of the caller: the matching actual of a formal condition, spaceerror itself, and else routineerror.
-#[tactic(auto, unfolding(crate::specs::Calls::matching, crate::specs::Calls::is_passed_on))]
+#[tactic(auto, unfolding(gypsy_semantics::specs::Calls::matching, gypsy_semantics::specs::Calls::is_passed_on))]
 fn matching(program: &Program, procedure: u32, conds: &[Condition], cond: Condition) -> Condition
     ensures { let actuals = map seen_cond conds.now in
         seen_cond result ≡ matching (seen_program program.now) procedure actuals (seen_cond cond) }

@@ -3,8 +3,8 @@
 ghost use Rattle.std.specs.Prelude.{◌≡◌, ◌+◌, ◌++◌, ◌<◌, ◌≤◌, [], IfOk, length, map, take};
 ghost use Rattle.gypsy_syntax.specs.Programs.{body_of, proc_at, words_of};
 ghost use Rattle.gypsy_space.specs.Nodes.{seen_program, seen_statement};
-ghost use Rattle.gypsy_meaning.specs.Calls.{main_start};
-ghost use Rattle.gypsy_meaning.specs.Machine.{open_on};
+ghost use Rattle.gypsy_semantics.specs.Calls.{main_start};
+ghost use Rattle.gypsy_semantics.specs.Machine.{open_on};
 ghost use Rattle.gypsy_meaning.specs.Seen.Named.{variables_of};
 ghost use Rattle.gypsy_meaning.specs.Seen.Work.{work_of};
 
@@ -89,7 +89,7 @@ pub fn body_at(program: &Program, procedure: u32) -> &Rc<Node>
 }
 
 /// Main at its start, with these values of its formals, and its body to be done.
-#[tactic(auto, unfolding(crate::specs::Calls::main_start))]
+#[tactic(auto, unfolding(gypsy_semantics::specs::Calls::main_start))]
 pub fn main_activation(
     alloc: Global,
     program: &Program,

@@ -7,9 +7,9 @@ ghost use Rattle.gypsy_meaning.specs.Scaffold.Returning.{Leaves};
 ghost use Rattle.gypsy_meaning.specs.Scaffold.Stepping.{Does, IsReady};
 ghost use Rattle.gypsy_meaning.specs.Seen.Work.{work_of};
 
-use crate::answers::Moved;
 use crate::running::{Crossing, Meaning};
 use crate::work::Work;
+use gypsy_semantics::Moved;
 use gypsy_space::{CallSite, Condition, Needs};
 use std::alloc::{AllocError, Global};
 use std::rc::Rc;

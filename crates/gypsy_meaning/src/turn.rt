@@ -5,7 +5,7 @@ ghost use Rattle.stack_text.specs.Values.{ValueOf};
 ghost use Rattle.gypsy_syntax.specs.Programs as program;
 ghost use Rattle.gypsy_syntax.specs.Effects.{item_of_value, is_true_value, value_at};
 ghost use Rattle.gypsy_space.specs.Nodes.{seen_statement, seen_cond};
-ghost use Rattle.gypsy_meaning.specs.Machine as machine;
+ghost use Rattle.gypsy_semantics.specs.Machine as machine;
 ghost use Rattle.gypsy_meaning.specs.Seen.Work.{work_of};
 ghost use Rattle.gypsy_meaning.specs.Scaffold.Turns.{GoesOn, IsTurn};
 

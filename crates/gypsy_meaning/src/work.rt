@@ -3,12 +3,12 @@
 ghost use Rattle.std.specs.Prelude.{◌≡◌, [], ◌∷◌, List, IfOk, ℕ, drop, map};
 ghost use Rattle.stack_text.specs.Values.{ValueOf};
 ghost use Rattle.gypsy_space.specs.Costs.{Tally};
-ghost use Rattle.gypsy_meaning.specs.Machine as machine;
-ghost use Rattle.gypsy_meaning.specs.Machine.{opens, open_on, settle, raise, Frame};
+ghost use Rattle.gypsy_semantics.specs.Machine as machine;
+ghost use Rattle.gypsy_semantics.specs.Machine.{opens, open_on, settle, raise, Frame};
 ghost use Rattle.gypsy_space.specs.Nodes.{seen_cond, seen_statement, seen_statements};
 ghost use Rattle.gypsy_meaning.specs.Seen.Work.{item_of, work_of, work_or, caught_spend};
 
-use crate::cond::{is_among, is_leave};
+use gypsy_semantics::{is_among, is_leave};
 use gypsy_space::{Condition, Node};
 use std::alloc::{AllocError, Global};
 use std::rc::Rc;

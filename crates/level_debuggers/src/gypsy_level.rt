@@ -4,7 +4,8 @@ use crate::advance::Advance;
 use crate::watch::Event;
 use display_maps::push_run;
 use gypsy_check::Accepted;
-use gypsy_meaning::{Current, Meaning};
+use gypsy_meaning::Meaning;
+use gypsy_semantics::Current;
 use gypsy_space::Needs;
 use stack_text::{Memory, Name, Value};
 use std::alloc::Global;
@@ -19,8 +20,8 @@ pub(crate) struct GypsyLevel {
 
 impl GypsyLevel {
     ghost use Rattle.std.specs.Prelude.{◌≡◌, ◌++◌, map, IfOk, OnOk, OnErr};
-    ghost use Rattle.gypsy_meaning.specs.Seen.RunView.{depth_at, values_at};
-    ghost use Rattle.gypsy_meaning.specs.Seen.Shown.{condition_at, names_at};
+    ghost use Rattle.gypsy_semantics.specs.Seen.RunView.{depth_at, values_at};
+    ghost use Rattle.gypsy_semantics.specs.Seen.Shown.{condition_at, names_at};
     ghost use Rattle.level_debuggers.specs.Steps.{IsAdvance};
     ghost use Rattle.level_debuggers.specs.GypsyLevels.{gypsy_listing, gypsy_next, gypsy_over, gypsy_place_line, gypsy_up};
     ghost use Rattle.level_debuggers.specs.Seen.Belonging.{Belongs, gypsy_of};

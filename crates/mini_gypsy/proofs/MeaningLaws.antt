@@ -18,8 +18,8 @@ use Rattle.gypsy_syntax.specs.Programs.{Program, Leave, Routine, Space, simple, 
 use Rattle.gypsy_syntax.specs.Programs as gypsy
 use Rattle.gypsy_syntax.specs.Resolved.{program_of, shape_of, truth_item, statement_of, local_value, place_among}
 use Rattle.gypsy_space.specs.Needs.{StackSizes, main_used}
-use Rattle.gypsy_meaning.specs.Calls.{main_start, main_formals, main_way, is_passed_on}
-use Rattle.gypsy_meaning.specs.Meaning.{MeaningOutcome, Done, Unfinished, evaluate, main_end, meaning}
+use Rattle.gypsy_semantics.specs.Calls.{main_start, main_formals, main_way, is_passed_on}
+use Rattle.gypsy_semantics.specs.Meaning.{MeaningOutcome, Done, Unfinished, evaluate, main_end, meaning}
 use Rattle.mini_syntax.specs.declared.program.Declared.{Declared}
 use Rattle.mini_syntax.specs.declared.sort.Sort.{Sort}
 use Rattle.mini_syntax.specs.declared.sort.Sort.TheVariants.{Int, Bool}

@@ -9,8 +9,8 @@ use Rattle.gypsy_syntax.specs.Effects.{Effect, Normal, integer_value, truth_valu
 use Rattle.gypsy_syntax.specs.Effects as effect
 use Rattle.gypsy_syntax.specs.Ranges.{is_in_range}
 use Rattle.gypsy_syntax.specs.Programs.{Arg, Var}
-use Rattle.gypsy_meaning.specs.Calls.{target_of}
-use Rattle.gypsy_meaning.specs.Meaning.{applied}
+use Rattle.gypsy_semantics.specs.Calls.{target_of}
+use Rattle.gypsy_semantics.specs.Meaning.{applied}
 use Rattle.mini_syntax.specs.declared.sort.Sort.TheVariants as sort
 use Rattle.mini_syntax.specs.declared.operator.Prefix.{Prefix}
 use Rattle.mini_syntax.specs.declared.operator.Prefix.TheVariants.{Not, Minus}

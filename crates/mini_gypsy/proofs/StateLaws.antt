@@ -7,7 +7,7 @@ use Rattle.gypsy_syntax.specs.Effects.{value_at, no_value}
 use Rattle.gypsy_syntax.specs.Programs.{Program}
 use Rattle.gypsy_syntax.specs.Programs as gypsy
 use Rattle.gypsy_space.specs.Needs.{StackSizes}
-use Rattle.gypsy_meaning.specs.Meaning.{MeaningOutcome, Done, Unfinished, evaluate, then_do}
+use Rattle.gypsy_semantics.specs.Meaning.{MeaningOutcome, Done, Unfinished, evaluate, then_do}
 use Rattle.mini_gypsy.specs.Steps.{in_turn}
 
 pub read_declared : (d t : List ValueOf) (i : ℕ) → i < length d → value_at (d ++ t) i ≡ value_at d i

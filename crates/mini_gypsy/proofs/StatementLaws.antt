@@ -8,8 +8,8 @@ use Rattle.gypsy_syntax.specs.Effects.{integer_value, truth_value, value_at, is_
 use Rattle.gypsy_syntax.specs.Programs.{Program, Leave, Routine, Space, Declared}
 use Rattle.gypsy_syntax.specs.Programs as gypsy
 use Rattle.gypsy_space.specs.Needs.{StackSizes}
-use Rattle.gypsy_meaning.specs.Calls.{CurrentCondition, values_of, target_of}
-use Rattle.gypsy_meaning.specs.Meaning.{MeaningOutcome, Done, Unfinished, evaluate, then_do, either_way, round_end}
+use Rattle.gypsy_semantics.specs.Calls.{CurrentCondition, values_of, target_of}
+use Rattle.gypsy_semantics.specs.Meaning.{MeaningOutcome, Done, Unfinished, evaluate, then_do, either_way, round_end}
 use Rattle.mini_syntax.specs.declared.sort.Sort.{Sort}
 use Rattle.mini_syntax.specs.declared.sort.Sort.TheVariants.{Bool}
 use Rattle.mini_syntax.specs.Language.{Exp, Stmt, Nothing, Then, Assign, While, If}

@@ -10,8 +10,8 @@ use Rattle.gypsy_syntax.specs.Effects.{Normal, integer_value, truth_value, value
 use Rattle.gypsy_syntax.specs.Programs.{Program, Arg, Var, Lit, Routine}
 use Rattle.gypsy_syntax.specs.Programs as gypsy
 use Rattle.gypsy_space.specs.Needs.{StackSizes}
-use Rattle.gypsy_meaning.specs.Calls.{values_of}
-use Rattle.gypsy_meaning.specs.Meaning.{MeaningOutcome, Done, evaluate, then_do, applied}
+use Rattle.gypsy_semantics.specs.Calls.{values_of}
+use Rattle.gypsy_semantics.specs.Meaning.{MeaningOutcome, Done, evaluate, then_do, applied}
 use Rattle.mini_syntax.specs.declared.sort.Sort.{Sort}
 use Rattle.mini_syntax.specs.declared.sort.Sort.TheVariants.{Int, Bool}
 use Rattle.mini_syntax.specs.declared.operator.Prefix.{Prefix}

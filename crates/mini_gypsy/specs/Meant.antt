@@ -7,7 +7,7 @@ use Rattle.stack_text.specs.Values.{ValueOf}
 use Rattle.gypsy_syntax.specs.Effects.{integer_value, truth_value, item_of_value, is_true_value, value_at}
 use Rattle.gypsy_syntax.specs.Ranges.{is_in_range}
 use Rattle.gypsy_syntax.specs.Programs.{Routine}
-use Rattle.gypsy_meaning.specs.Meaning.{MeaningOutcome, Done, Unfinished, then_do, either_way}
+use Rattle.gypsy_semantics.specs.Meaning.{MeaningOutcome, Done, Unfinished, then_do, either_way}
 use Rattle.mini_syntax.specs.declared.sort.Sort.{Sort}
 use Rattle.mini_syntax.specs.declared.sort.Sort.TheVariants as sort
 use Rattle.mini_syntax.specs.declared.operator.Prefix.{Prefix}

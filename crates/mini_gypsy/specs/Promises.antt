@@ -7,9 +7,9 @@ use Rattle.gypsy_syntax.specs.Programs as gypsy
 use Rattle.gypsy_syntax.specs.Resolved.{program_of}
 use Rattle.gypsy_syntax.specs.Sources.{SourceOf}
 use Rattle.gypsy_space.specs.Needs.{StackSizes}
-use Rattle.gypsy_meaning.specs.Calls.{CurrentCondition}
-use Rattle.gypsy_meaning.specs.Seen.Fitting.{CanStart}
-use Rattle.gypsy_meaning.specs.Meaning.{Done, meaning}
+use Rattle.gypsy_semantics.specs.Calls.{CurrentCondition}
+use Rattle.gypsy_semantics.specs.Seen.Fitting.{CanStart}
+use Rattle.gypsy_semantics.specs.Meaning.{Done, meaning}
 use Rattle.mini_syntax.specs.MiniReading.{IsFaultless}
 use Rattle.mini_syntax.specs.Breaches.{body_of, declared_of}
 use Rattle.mini_syntax.specs.Grammar.{InfixProgram}

@@ -9,8 +9,8 @@ use Rattle.gypsy_syntax.specs.Effects.{value_at, is_true_value}
 use Rattle.gypsy_syntax.specs.Programs.{ConditionOf, Leave, Routine, Space, Declared, Proc, Program, no_proc, proc_at, body_of, shapes_of, words_of}
 use Rattle.gypsy_syntax.specs.Programs.{Stmt, Skip, NoOp, Signal, Seq, Loop, If, Begin, Call, Apply}
 use Rattle.gypsy_space.specs.Needs.{StackSizes, greatest, temp_need, ctrl_need, local_words, frame_of, main_used, with_call, call_need, has_room}
-use Rattle.gypsy_meaning.specs.Calls.{is_passed_on, matching, main_way, copied_in, copied_out, main_start, main_formals}
-use Rattle.gypsy_meaning.specs.Meaning.{MeaningOutcome, Done, Unfinished, then_do, either_way, caught, round_end, returned, if_room, evaluate, main_end, meaning}
+use Rattle.gypsy_semantics.specs.Calls.{is_passed_on, matching, main_way, copied_in, copied_out, main_start, main_formals}
+use Rattle.gypsy_semantics.specs.Meaning.{MeaningOutcome, Done, Unfinished, then_do, either_way, caught, round_end, returned, if_room, evaluate, main_end, meaning}
 
 -- ---- a program with 0 in all its places
 

@@ -11,7 +11,7 @@ use Rattle.gypsy_syntax.specs.Sources.{SourceOf}
 use Rattle.gypsy_syntax.specs.ValuesFit.{VarsFit}
 use Rattle.gypsy_check.specs.Rules.{violations}
 use Rattle.gypsy_space.specs.Needs.{StackSizes}
-use Rattle.gypsy_meaning.specs.Meaning.{meaning}
+use Rattle.gypsy_semantics.specs.Meaning.{meaning}
 use Rattle.mini_syntax.specs.Breaches.{body_of}
 use Rattle.mini_syntax.specs.Grammar.{InfixProgram}
 use Rattle.mini_syntax.specs.Language.{Stmt}

@@ -13,13 +13,13 @@ use Rattle.gypsy_syntax.specs.ValuesFit.{VarsFit}
 use Rattle.gypsy_check.specs.Rules.{violations}
 use Rattle.gypsy_space.specs.Costs.{Tally}
 use Rattle.gypsy_space.specs.Needs.{StackSizes, stack_sizes}
-use Rattle.gypsy_meaning.specs.Calls.{CurrentCondition}
-use Rattle.gypsy_meaning.specs.Meaning.{Done, Unfinished, meaning}
-use Rattle.gypsy_meaning.specs.Counted.{CountedOutcome, CountedDone, CountedUnfinished, uncounted, tally_of, counted_meaning}
-use Rattle.gypsy_meaning.proofs.CountLaws.{meaning-uncounted}
-use Rattle.gypsy_meaning.specs.Machine.{State, Move, Next, Ended, start}
-use Rattle.gypsy_meaning.specs.Seen.Moments.{moment_from, NeverEnds}
-use Rattle.gypsy_meaning.proofs.Runs.{agree}
+use Rattle.gypsy_semantics.specs.Calls.{CurrentCondition}
+use Rattle.gypsy_semantics.specs.Meaning.{Done, Unfinished, meaning}
+use Rattle.gypsy_semantics.specs.Counted.{CountedOutcome, CountedDone, CountedUnfinished, uncounted, tally_of, counted_meaning}
+use Rattle.gypsy_semantics.proofs.CountLaws.{meaning-uncounted}
+use Rattle.gypsy_semantics.specs.Machine.{State, Move, Next, Ended, start}
+use Rattle.gypsy_semantics.specs.Seen.Moments.{moment_from, NeverEnds}
+use Rattle.gypsy_semantics.proofs.Runs.{agree}
 use Rattle.gypsy_logic.specs.Counts.{MeansAfter, IsAfter}
 use Rattle.gypsy_logic.specs.Endless.{IsEndless}
 use Rattle.gypsy_logic.specs.Ends.{Means, Is}

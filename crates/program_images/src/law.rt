@@ -7,7 +7,7 @@ ghost use Rattle.gypsy_syntax.specs.GypsyReading.{gypsy_in};
 ghost use Rattle.gypsy_syntax.specs.Sources.{SourceOf};
 ghost use Rattle.gypsy_syntax.specs.Resolved.{program_of};
 ghost use Rattle.gypsy_space.specs.Needs.{StackSizes};
-ghost use Rattle.gypsy_meaning.specs.Calls.{CurrentCondition};
+ghost use Rattle.gypsy_semantics.specs.Calls.{CurrentCondition};
 ghost use Rattle.gypsy_logic.specs.Counts.{MeansAfter, IsAfter};
 ghost use Rattle.gypsy_logic.specs.Endless.{IsEndless};
 ghost use Rattle.gypsy_logic.specs.Ends.{Means, Is};

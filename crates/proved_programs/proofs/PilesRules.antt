@@ -13,7 +13,7 @@ use Rattle.stack_text.specs.Values.{ValueOf}
 use Rattle.gypsy_syntax.specs.Programs.{Stmt, Skip, Seq, Call, Declared}
 use Rattle.gypsy_syntax.specs.Effects.{integer_value, truth_value, same_int, are_same}
 use Rattle.gypsy_space.specs.Needs.{StackSizes, main_used, with_call, call_need, has_room}
-use Rattle.gypsy_meaning.specs.Calls.{CurrentCondition}
+use Rattle.gypsy_semantics.specs.Calls.{CurrentCondition}
 use Rattle.gypsy_logic.specs.Ends.{Exit, Ends, Then, Round, Again, Stands, Outcome, Meets, Given, Gives, AnyRoom, MainEnds, Means, Is}
 use Rattle.gypsy_logic.proofs.Rules.{◌▸◌, skip_rule, no_op_rule, signal_rule, seq_rule, if_true, if_false, if_rule, loop_over, meets_rule, given_rule, main_rule, room_is}
 use Rattle.gypsy_logic.proofs.NumberFacts.{truth_is, same_true, same_false, natural_fits}

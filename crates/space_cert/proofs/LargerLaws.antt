@@ -7,10 +7,10 @@ use Rattle.gypsy_syntax.specs.Programs.{Stmt, Call}
 use Rattle.gypsy_space.specs.Costs.{Tally}
 use Rattle.gypsy_space.specs.Needs.{StackSizes, call_need, has_temp_room, has_ctrl_room, lack_of}
 use Rattle.gypsy_space.specs.declared.need.Lack.TheVariants.{Nothing, Temporary, Control}
-use Rattle.gypsy_meaning.specs.Calls.{CurrentCondition}
-use Rattle.gypsy_meaning.specs.Machine.{Item, Do, Frame, State, At, Move, Next, Ended, used, call_step, do_step, gypsy_step, go_on, run, start}
-use Rattle.gypsy_meaning.specs.Seen.Moments.{moved_on, moment}
-use Rattle.gypsy_meaning.proofs.Runs.{agree}
+use Rattle.gypsy_semantics.specs.Calls.{CurrentCondition}
+use Rattle.gypsy_semantics.specs.Machine.{Item, Do, Frame, State, At, Move, Next, Ended, used, call_step, do_step, gypsy_step, go_on, run, start}
+use Rattle.gypsy_semantics.specs.Seen.Moments.{moved_on, moment}
+use Rattle.gypsy_semantics.proofs.Runs.{agree}
 use Rattle.space_cert.specs.Covers.{IsAtMost}
 use Rattle.space_cert.specs.Larger.{EndsWith, LargerStacksChangeNothing, CoveredRunsAreTheSame}
 use Rattle.space_cert.specs.Never.{Visits, First, Later, HasCallRoom}

@@ -4,7 +4,7 @@ use Rattle.stack_text.specs.Values.{ValueOf}
 use Rattle.gypsy_syntax.specs.Programs.{Program, body_of}
 use Rattle.gypsy_syntax.specs.ProgramFits.{ProgramFits}
 use Rattle.gypsy_space.specs.Needs.{StackSizes}
-use Rattle.gypsy_meaning.specs.Machine.{State, Move, Next, Ended, Ending, Over, Going, gypsy_step, go_on, run, start}
+use Rattle.gypsy_semantics.specs.Machine.{State, Move, Next, Ended, Ending, Over, Going, gypsy_step, go_on, run, start}
 use Rattle.space_cert.specs.Covers.{Bounds, Covers}
 use Rattle.space_cert.specs.CoveredStates.{StateCovered}
 use Rattle.space_cert.specs.Never.{Visits, First, Later, NeverSpaceError}

@@ -10,8 +10,8 @@ use Rattle.gypsy_syntax.specs.Predefined.{predef_effect}
 use Rattle.gypsy_syntax.specs.Effects.{Effect, Normal, Fault, Beyond, value_at, is_true_value}
 use Rattle.gypsy_space.specs.Costs.{Tally, spend, predef_spend, out_spend}
 use Rattle.gypsy_space.specs.Needs.{StackSizes}
-use Rattle.gypsy_meaning.specs.Calls.{has_cond, is_leave, is_passed_on, main_way, matching, values_of, copied_out}
-use Rattle.gypsy_meaning.specs.Machine.{Item, Do, Back, JoinThen, JoinOne, Guard, Out, Frame, Held, State, At, Next, opens, open_on, settle, stop_if, raise, either_move, apply_step, call_step, do_step, end_step, out_step, gypsy_step}
+use Rattle.gypsy_semantics.specs.Calls.{has_cond, is_leave, is_passed_on, main_way, matching, values_of, copied_out}
+use Rattle.gypsy_semantics.specs.Machine.{Item, Do, Back, JoinThen, JoinOne, Guard, Out, Frame, Held, State, At, Next, opens, open_on, settle, stop_if, raise, either_move, apply_step, call_step, do_step, end_step, out_step, gypsy_step}
 use Rattle.space_cert.specs.Never.{HasCallRoom, raised, raised_for, raised_after}
 use Rattle.space_cert.specs.Scaffold.Omits.{IsOther, OmitsSpace, WorkOmitsSpace, WaitingOmitsSpace, StateOmitsSpace, MoveOmitsSpace}
 

@@ -11,8 +11,8 @@ use Rattle.gypsy_syntax.specs.Effects.{Effect, Normal, Fault, Beyond, value_at, 
 use Rattle.gypsy_space.specs.Costs.{Tally, spend, predef_spend, out_spend}
 use Rattle.gypsy_space.specs.Needs.{StackSizes, lack_of, with_call}
 use Rattle.gypsy_space.specs.declared.need.Lack.TheVariants.{Nothing}
-use Rattle.gypsy_meaning.specs.Calls.{has_cond, is_leave, is_passed_on, matching, values_of, copied_out}
-use Rattle.gypsy_meaning.specs.Machine.{Item, Do, Back, JoinThen, JoinOne, Guard, Out, Frame, Held, State, At, Move, Next, Ended, opens, open_on, settle, stop_if, raise, either_move, apply_step, used, call_step, do_step, end_step, out_step, gypsy_step, start}
+use Rattle.gypsy_semantics.specs.Calls.{has_cond, is_leave, is_passed_on, matching, values_of, copied_out}
+use Rattle.gypsy_semantics.specs.Machine.{Item, Do, Back, JoinThen, JoinOne, Guard, Out, Frame, Held, State, At, Move, Next, Ended, opens, open_on, settle, stop_if, raise, either_move, apply_step, used, call_step, do_step, end_step, out_step, gypsy_step, start}
 use Rattle.space_cert.specs.Covers.{Bounds, bound_at, callees, CoversCall, CoversCalls, IsCertificate, Covers}
 use Rattle.space_cert.specs.CoveredStates.{WorkCovered, ActivationCovered, WaitingCovered, StateCovered}
 use Rattle.space_cert.specs.Never.{HasCallRoom}

@@ -9,10 +9,10 @@ use Rattle.gypsy_space.specs.Costs.{Tally}
 use Rattle.gypsy_space.specs.Needs.{StackSizes, lack_of}
 use Rattle.gypsy_space.specs.declared.need.Lack.{Lack}
 use Rattle.gypsy_space.specs.declared.need.Lack.TheVariants.{Nothing, Temporary, Control}
-use Rattle.gypsy_meaning.specs.Calls.{matching, values_of}
-use Rattle.gypsy_meaning.specs.Machine.{Do, Out, Held, State, At, Next, Over}
-use Rattle.gypsy_meaning.specs.Machine.{gypsy_step, run, start, used}
-use Rattle.gypsy_meaning.specs.Meaning.{Done, meaning}
+use Rattle.gypsy_semantics.specs.Calls.{matching, values_of}
+use Rattle.gypsy_semantics.specs.Machine.{Do, Out, Held, State, At, Next, Over}
+use Rattle.gypsy_semantics.specs.Machine.{gypsy_step, run, start, used}
+use Rattle.gypsy_semantics.specs.Meaning.{Done, meaning}
 
 -- a run from these values comes to the state
 pub data Visits (q : Program) (sizes : StackSizes) (v : List ValueOf) : State → Type 0 where

@@ -6,7 +6,7 @@ ghost use Rattle.stack_text.specs.Values.{ValueOf};
 ghost use Rattle.gypsy_syntax.specs.ProgramFits.{ProgramFits};
 ghost use Rattle.gypsy_syntax.specs.Programs.{Program};
 ghost use Rattle.gypsy_space.specs.Needs.{StackSizes};
-ghost use Rattle.gypsy_meaning.specs.Machine.{State, Next, gypsy_step, start};
+ghost use Rattle.gypsy_semantics.specs.Machine.{State, Next, gypsy_step, start};
 ghost use Rattle.space_cert.specs.Covers.{Bounds, Covers, IsAtMost, IsCertificate, sizes_for};
 ghost use Rattle.space_cert.specs.CoveredStates.{StateCovered};
 ghost use Rattle.space_cert.specs.Accepting.{is_covered};

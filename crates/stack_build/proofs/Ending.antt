@@ -11,12 +11,12 @@ use Rattle.gypsy_syntax.specs.ProgramFits.{ProgramFits}
 use Rattle.gypsy_syntax.specs.ValuesFit.{VarsFit}
 use Rattle.gypsy_space.specs.Costs.{Tally}
 use Rattle.gypsy_space.specs.Needs.{StackSizes}
-use Rattle.gypsy_meaning.specs.Calls.{CurrentCondition}
-use Rattle.gypsy_meaning.specs.Counted.{CountedDone, counted_meaning}
-use Rattle.gypsy_meaning.specs.Machine.{State, Move, Next, Ended, gypsy_step, Ending, Over, go_on, run, start}
-use Rattle.gypsy_meaning.specs.Kept.{StateFits, EndFits, MoveFits}
-use Rattle.gypsy_meaning.proofs.Keeping.{step_keeps, start_fits}
-use Rattle.gypsy_meaning.proofs.Runs.{agree}
+use Rattle.gypsy_semantics.specs.Calls.{CurrentCondition}
+use Rattle.gypsy_semantics.specs.Counted.{CountedDone, counted_meaning}
+use Rattle.gypsy_semantics.specs.Machine.{State, Move, Next, Ended, gypsy_step, Ending, Over, go_on, run, start}
+use Rattle.gypsy_semantics.specs.Kept.{StateFits, EndFits, MoveFits}
+use Rattle.gypsy_semantics.proofs.Keeping.{step_keeps, start_fits}
+use Rattle.gypsy_semantics.proofs.Runs.{agree}
 use Rattle.gypsy_codegen.specs.WordsOf.{number_of_way}
 use Rattle.stack_build.specs.Implements.{way_shown}
 

@@ -36,7 +36,7 @@ use Rattle.gypsy_space.specs.Needs.{StackSizes}
 use Rattle.gypsy_codegen.specs.WordsOf.{words_of_values, zero_value}
 use Rattle.gypsy_codegen.specs.Generated.{generated_view}
 use Rattle.gypsy_codegen.proofs.DeclareLaws.{Unlike, Differ, differ_source}
-use Rattle.gypsy_meaning.proofs.Keeping.{vars_join, locals_fit}
+use Rattle.gypsy_semantics.proofs.Keeping.{vars_join, locals_fit}
 use Rattle.stack_text.specs.Grammar.Parts.{IsNamed}
 use Rattle.stack_text.proofs.SharedLaws.{rule_fails, append_none, bytes_apart}
 use Rattle.gypsy_syntax.specs.Fits.{FitsDecl}

@@ -19,9 +19,9 @@ use Rattle.gypsy_syntax.specs.ValuesFit.{VarsFit}
 use Rattle.gypsy_check.specs.Accepted.{IsAccepted}
 use Rattle.gypsy_space.specs.Costs.{Tally}
 use Rattle.gypsy_space.specs.Needs.{StackSizes}
-use Rattle.gypsy_meaning.specs.Calls.{CurrentCondition, main_start}
-use Rattle.gypsy_meaning.specs.Meaning.{Done, meaning}
-use Rattle.gypsy_meaning.specs.Counted.{CountedOutcome, CountedDone, counted_meaning, tally_of}
+use Rattle.gypsy_semantics.specs.Calls.{CurrentCondition, main_start}
+use Rattle.gypsy_semantics.specs.Meaning.{Done, meaning}
+use Rattle.gypsy_semantics.specs.Counted.{CountedOutcome, CountedDone, counted_meaning, tally_of}
 use Rattle.gypsy_codegen.specs.WordsOf.{words_of_values, zero_value}
 use Rattle.gypsy_codegen.specs.Generated.{generated_view}
 use Rattle.gypsy_codegen.specs.Whole.{RunsTo, MeaningRuns}

@@ -12,7 +12,7 @@ use Rattle.piton_machine.specs.Fits.{IsInitialStack}
 use Rattle.gypsy_syntax.specs.ProgramFits.{Each}
 use Rattle.gypsy_syntax.specs.ValuesFit.{ValueFits, VarsFit}
 use Rattle.gypsy_codegen.specs.WordsOf.{words_of_values}
-use Rattle.gypsy_meaning.proofs.Keeping.{vars_join, locals_fit}
+use Rattle.gypsy_semantics.proofs.Keeping.{vars_join, locals_fit}
 use Rattle.gypsy_codegen.proofs.CopyLaws.{each_both}
 use Rattle.gypsy_codegen.proofs.StackLaws.{values_words}
 use Rattle.gypsy_codegen.proofs.FineLaws.{values_in_range}

@@ -14,7 +14,7 @@ use Rattle.piton_syntax.specs.Systems.{SystemOf}
 use Rattle.gypsy_syntax.specs.Resolved.{program_of}
 use Rattle.gypsy_syntax.specs.Sources.{SourceOf}
 use Rattle.gypsy_space.specs.Needs.{StackSizes, stack_sizes}
-use Rattle.gypsy_meaning.specs.Machine.{At, Move, Next, Ended}
+use Rattle.gypsy_semantics.specs.Machine.{At, Move, Next, Ended}
 use Rattle.gypsy_codegen.specs.Generation.{generation}
 use Rattle.gypsy_codegen.specs.declared.fault.GenFault.{GenFault}
 use Rattle.gypsy_codegen.specs.Moments.{moment_from}

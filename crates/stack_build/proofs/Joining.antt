@@ -25,7 +25,7 @@ use Rattle.gypsy_syntax.specs.declared.literal.Decl.{Decl}
 use Rattle.gypsy_syntax.specs.ProgramFits.{Each}
 use Rattle.gypsy_syntax.specs.ValuesFit.{ValueFits, VarsFit}
 use Rattle.gypsy_space.specs.Costs.{Tally}
-use Rattle.gypsy_meaning.specs.Calls.{CurrentCondition}
+use Rattle.gypsy_semantics.specs.Calls.{CurrentCondition}
 use Rattle.gypsy_codegen.specs.WordsOf.{words_of_values, number_of_way}
 use Rattle.gypsy_codegen.specs.Whole.{RunsTo}
 use Rattle.stack_build.specs.Image.{slots_from, image_with}

@@ -16,12 +16,12 @@ use Rattle.gypsy_syntax.specs.Resolved.{program_of}
 use Rattle.gypsy_syntax.specs.Sources.{SourceOf}
 use Rattle.gypsy_space.specs.Costs.{Tally}
 use Rattle.gypsy_space.specs.Needs.{StackSizes}
-use Rattle.gypsy_meaning.specs.Calls.{CurrentCondition}
-use Rattle.gypsy_meaning.specs.Counted.{CountedOutcome, CountedDone, counted_meaning, uncounted, tally_of}
-use Rattle.gypsy_meaning.specs.Machine.{At, Move, Next, Ended, start}
-use Rattle.gypsy_meaning.specs.Meaning.{MeaningOutcome, Done, Unfinished, meaning}
-use Rattle.gypsy_meaning.proofs.CountLaws.{meaning-uncounted}
-use Rattle.gypsy_meaning.proofs.Runs.{agree}
+use Rattle.gypsy_semantics.specs.Calls.{CurrentCondition}
+use Rattle.gypsy_semantics.specs.Counted.{CountedOutcome, CountedDone, counted_meaning, uncounted, tally_of}
+use Rattle.gypsy_semantics.specs.Machine.{At, Move, Next, Ended, start}
+use Rattle.gypsy_semantics.specs.Meaning.{MeaningOutcome, Done, Unfinished, meaning}
+use Rattle.gypsy_semantics.proofs.CountLaws.{meaning-uncounted}
+use Rattle.gypsy_semantics.proofs.Runs.{agree}
 use Rattle.gypsy_codegen.specs.Moments.{moment_from}
 use Rattle.gypsy_codegen.proofs.MomentLaws.{moment_over, counts_grow}
 use Rattle.stack_build.specs.Implements.{meaning_shown, Finishes}

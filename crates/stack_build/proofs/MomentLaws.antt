@@ -46,13 +46,13 @@ use Rattle.gypsy_syntax.specs.Sources.{ProcOf, SourceOf}
 use Rattle.gypsy_check.specs.Accepted.{IsAccepted}
 use Rattle.gypsy_space.specs.Costs.{Tally}
 use Rattle.gypsy_space.specs.Needs.{StackSizes, vars_of}
-use Rattle.gypsy_meaning.specs.Calls.{CurrentCondition, main_start}
-use Rattle.gypsy_meaning.specs.Counted.{CountedOutcome, CountedDone, counted_meaning, uncounted, tally_of}
-use Rattle.gypsy_meaning.specs.Machine.{Item, Frame, Held, State, At, Move, Next, Ended, start}
-use Rattle.gypsy_meaning.specs.Seen.RunView.{top_way}
-use Rattle.gypsy_meaning.proofs.CountLaws.{meaning-uncounted}
-use Rattle.gypsy_meaning.proofs.EffectLaws.{value_fits}
-use Rattle.gypsy_meaning.proofs.Runs.{agree}
+use Rattle.gypsy_semantics.specs.Calls.{CurrentCondition, main_start}
+use Rattle.gypsy_semantics.specs.Counted.{CountedOutcome, CountedDone, counted_meaning, uncounted, tally_of}
+use Rattle.gypsy_semantics.specs.Machine.{Item, Frame, Held, State, At, Move, Next, Ended, start}
+use Rattle.gypsy_semantics.specs.Seen.RunView.{top_way}
+use Rattle.gypsy_semantics.proofs.CountLaws.{meaning-uncounted}
+use Rattle.gypsy_semantics.proofs.EffectLaws.{value_fits}
+use Rattle.gypsy_semantics.proofs.Runs.{agree}
 use Rattle.gypsy_predef.specs.Runs as stack
 use Rattle.gypsy_predef.specs.Runs.{word_of_item}
 use Rattle.gypsy_predef.proofs.StackLaws.{element_there}

@@ -1,7 +1,7 @@
 -- Every moment of a run, as memory is read by the image alone.
 use Rattle.std.proofs.Common.{◌≡◌, refl}
 use Rattle.gypsy_syntax.specs.Resolved.{program_of}
-use Rattle.gypsy_meaning.specs.Machine.{At, Move, Next, Ended}
+use Rattle.gypsy_semantics.specs.Machine.{At, Move, Next, Ended}
 use Rattle.gypsy_codegen.specs.Moments.{moment_from}
 use Rattle.stack_build.specs.Image.{image_of}
 use Rattle.stack_build.specs.Moments.{ArrivesAt}

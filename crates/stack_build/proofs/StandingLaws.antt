@@ -8,7 +8,7 @@ use Rattle.piton_linker.specs.Theorem.{ComesToStand, PitonRunsOnProcessor}
 use Rattle.gypsy_codegen.specs.Acceptable.{GeneratedIsAcceptable}
 use Rattle.gypsy_codegen.specs.Generated.{generated_view}
 use Rattle.gypsy_codegen.specs.WordsOf.{words_of_values, zero_value}
-use Rattle.gypsy_meaning.specs.Calls.{main_start}
+use Rattle.gypsy_semantics.specs.Calls.{main_start}
 use Rattle.gypsy_syntax.specs.Programs.{Program, proc_at}
 use Rattle.gypsy_syntax.specs.Resolved.{program_of}
 use Rattle.stack_build.specs.StandsForPiton.{opened_on, GeneratedImageStandsForPiton}

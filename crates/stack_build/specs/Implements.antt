@@ -12,9 +12,9 @@ use Rattle.gypsy_syntax.specs.Programs.{Leave, Routine, Space, Declared, proc_at
 use Rattle.gypsy_syntax.specs.Resolved.{program_of}
 use Rattle.gypsy_syntax.specs.ValuesFit.{VarsFit}
 use Rattle.gypsy_space.specs.Needs.{StackSizes}
-use Rattle.gypsy_meaning.specs.Calls.{CurrentCondition}
-use Rattle.gypsy_meaning.specs.Meaning.{Done, meaning}
-use Rattle.gypsy_meaning.specs.Counted.{instruction_count}
+use Rattle.gypsy_semantics.specs.Calls.{CurrentCondition}
+use Rattle.gypsy_semantics.specs.Meaning.{Done, meaning}
+use Rattle.gypsy_semantics.specs.Counted.{instruction_count}
 use Rattle.stack_build.specs.Formals.{shown_names, formal_conditions}
 use Rattle.stack_build.specs.ComesTo.{ComesTo}
 

@@ -11,8 +11,8 @@ use Rattle.display_maps.specs.Reading.{reading}
 use Rattle.gypsy_syntax.specs.Sources.{SourceOf}
 use Rattle.gypsy_syntax.specs.Resolved.{program_of}
 use Rattle.gypsy_space.specs.Needs.{StackSizes}
-use Rattle.gypsy_meaning.specs.Calls.{CurrentCondition}
-use Rattle.gypsy_meaning.specs.Meaning.{Unfinished, meaning}
+use Rattle.gypsy_semantics.specs.Calls.{CurrentCondition}
+use Rattle.gypsy_semantics.specs.Meaning.{Unfinished, meaning}
 use Rattle.stack_build.specs.Implements.{meaning_shown, FitsFormals, Finishes}
 use Rattle.stack_build.specs.Moments.{KeepsMoments}
 

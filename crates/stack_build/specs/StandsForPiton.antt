@@ -14,7 +14,7 @@ use Rattle.gypsy_check.specs.Accepted.{IsAccepted}
 use Rattle.gypsy_codegen.specs.Acceptable.{LimitsFit}
 use Rattle.gypsy_codegen.specs.Generated.{generated_view}
 use Rattle.gypsy_codegen.specs.WordsOf.{words_of_values}
-use Rattle.gypsy_meaning.specs.Calls.{main_start}
+use Rattle.gypsy_semantics.specs.Calls.{main_start}
 use Rattle.gypsy_space.specs.Needs.{StackSizes}
 use Rattle.gypsy_syntax.specs.Resolved.{program_of}
 use Rattle.gypsy_syntax.specs.Sources.{SourceOf}

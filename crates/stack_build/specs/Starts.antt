@@ -18,8 +18,8 @@ use Rattle.piton_machine.specs.Seen.StateView.{opening as piton_opening}
 use Rattle.gypsy_syntax.specs.Sources.{SourceOf}
 use Rattle.gypsy_syntax.specs.Resolved.{program_of}
 use Rattle.gypsy_space.specs.Needs.{StackSizes, main_need}
-use Rattle.gypsy_meaning.specs.Calls.{main_start}
-use Rattle.gypsy_meaning.specs.Seen.RunView.{Seen, opening}
+use Rattle.gypsy_semantics.specs.Calls.{main_start}
+use Rattle.gypsy_semantics.specs.Seen.RunView.{Seen, opening}
 use Rattle.gypsy_codegen.specs.WordsOf.{words_of_values}
 use Rattle.stack_build.specs.declared.fault.BuildFault.{BuildFault}
 use Rattle.stack_build.specs.declared.fault.BuildFault.TheVariants as build

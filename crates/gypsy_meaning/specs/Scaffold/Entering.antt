@@ -14,10 +14,10 @@ use Rattle.gypsy_space.specs.Nodes.{seen_cond, seen_program}
 use Rattle.gypsy_space.specs.declared.event.CostEvent.{CostEvent}
 use Rattle.gypsy_space.specs.declared.need.Need.{Need}
 use Rattle.gypsy_space.specs.declared.program.CallSite.{CallSite}
-use Rattle.gypsy_meaning.specs.Calls.{copied_out}
-use Rattle.gypsy_meaning.specs.Machine.{Item, Do, Next, gypsy_step, raise}
+use Rattle.gypsy_semantics.specs.Calls.{copied_out}
+use Rattle.gypsy_semantics.specs.Machine.{Item, Do, Next, gypsy_step, raise}
 use Rattle.gypsy_meaning.specs.Seen.Running.{frames_in, sizes_of, state_of}
-use Rattle.gypsy_meaning.specs.Seen.RunView.{added}
+use Rattle.gypsy_semantics.specs.Seen.RunView.{added}
 use Rattle.gypsy_meaning.specs.declared.running.Meaning.{Meaning}
 use Rattle.gypsy_meaning.specs.declared.work.Work.{Work}
 

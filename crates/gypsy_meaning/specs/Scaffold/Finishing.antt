@@ -2,7 +2,7 @@
 use Rattle.std.specs.Prelude.{◌≡◌, ℕ, map, length, take, Bool, true, false, Some}
 use Rattle.gypsy_syntax.specs.Programs.{proc_at}
 use Rattle.gypsy_space.specs.Nodes.{seen_program}
-use Rattle.gypsy_meaning.specs.Calls.{main_formals}
+use Rattle.gypsy_semantics.specs.Calls.{main_formals}
 use Rattle.gypsy_meaning.specs.Seen.Running.{paid}
 use Rattle.gypsy_meaning.specs.declared.running.Ending.{Ending}
 use Rattle.gypsy_meaning.specs.declared.running.Meaning.{Meaning}

@@ -9,7 +9,7 @@ use Rattle.gypsy_syntax.specs.declared.predef.Predef.TheVariants as row
 use Rattle.gypsy_syntax.specs.Effects as effect
 use Rattle.gypsy_space.specs.declared.program.Argument.{Argument}
 use Rattle.gypsy_space.specs.Nodes.{seen_arg}
-use Rattle.gypsy_meaning.specs.Calls.{value_of}
+use Rattle.gypsy_semantics.specs.Calls.{value_of}
 use Rattle.gypsy_meaning.specs.declared.effects.OwnedEffect.{OwnedEffect}
 use Rattle.gypsy_meaning.specs.declared.effects.OwnedEffect.TheVariants.{Normal, Fault, Beyond}
 

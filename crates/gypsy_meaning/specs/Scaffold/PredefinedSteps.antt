@@ -7,7 +7,7 @@ use Rattle.gypsy_space.specs.Nodes.{seen_arg}
 use Rattle.gypsy_space.specs.Costs.{Tally}
 use Rattle.gypsy_space.specs.Needs.{StackSizes}
 use Rattle.gypsy_space.specs.Events.{event_spend}
-use Rattle.gypsy_meaning.specs.Machine.{Item, Do, Frame, At, Next, gypsy_step}
+use Rattle.gypsy_semantics.specs.Machine.{Item, Do, Frame, At, Next, gypsy_step}
 use Rattle.gypsy_meaning.specs.Seen.Work.{work_of, caught_spend}
 use Rattle.gypsy_meaning.specs.Scaffold.Turns.{IsPlain, GoesOn}
 use Rattle.gypsy_meaning.specs.declared.turn.Advance.{Advance}

@@ -4,9 +4,9 @@ use Rattle.stack_text.specs.Values.{ValueOf}
 use Rattle.gypsy_syntax.specs.Programs.{ConditionOf, Program}
 use Rattle.gypsy_space.specs.Costs.{Tally}
 use Rattle.gypsy_space.specs.Nodes.{seen_cond}
-use Rattle.gypsy_meaning.specs.Calls.{copied_out, matching}
-use Rattle.gypsy_meaning.specs.Machine.{Item, Out, At, raise}
-use Rattle.gypsy_meaning.specs.Machine as machine
+use Rattle.gypsy_semantics.specs.Calls.{copied_out, matching}
+use Rattle.gypsy_semantics.specs.Machine.{Item, Out, At, raise}
+use Rattle.gypsy_semantics.specs.Machine as machine
 use Rattle.gypsy_meaning.specs.Seen.Work.{caught_spend, work_of}
 use Rattle.gypsy_meaning.specs.declared.running.Frame.{Frame}
 use Rattle.gypsy_meaning.specs.declared.running.Meaning.{Meaning}

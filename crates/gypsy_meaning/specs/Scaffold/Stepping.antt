@@ -5,11 +5,11 @@ use Rattle.gypsy_space.specs.Events.{AreNeeds, AreSmall}
 use Rattle.gypsy_space.specs.Nodes.{seen_program}
 use Rattle.gypsy_space.specs.declared.need.Need.{Need}
 use Rattle.gypsy_meaning.specs.Seen.Held.{EndsRun, IsHeld, Moves}
-use Rattle.gypsy_meaning.specs.Kept.{StateFits}
+use Rattle.gypsy_semantics.specs.Kept.{StateFits}
 use Rattle.gypsy_meaning.specs.Seen.Named.{variables_of}
 use Rattle.gypsy_meaning.specs.Seen.Running.{state_of}
-use Rattle.gypsy_meaning.specs.declared.answers.Moved.{Moved}
-use Rattle.gypsy_meaning.specs.declared.answers.Moved.TheVariants as moved
+use Rattle.gypsy_semantics.specs.declared.answers.Moved.{Moved}
+use Rattle.gypsy_semantics.specs.declared.answers.Moved.TheVariants as moved
 use Rattle.gypsy_meaning.specs.declared.running.Meaning.{Meaning}
 
 -- what a step of a run that isn't over wants

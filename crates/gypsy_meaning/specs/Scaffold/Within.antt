@@ -7,7 +7,7 @@ use Rattle.gypsy_meaning.specs.Scaffold.PredefinedSteps.{call_item}
 use Rattle.gypsy_meaning.specs.Scaffold.PredefinedEffects.{Suits}
 use Rattle.gypsy_meaning.specs.Scaffold.Entering.{call_top}
 use Rattle.gypsy_meaning.specs.Seen.Held.{Moves}
-use Rattle.gypsy_meaning.specs.Machine.{Item}
+use Rattle.gypsy_semantics.specs.Machine.{Item}
 use Rattle.gypsy_meaning.specs.Scaffold.Returning as returning
 use Rattle.gypsy_meaning.specs.Seen.Work.{work_of}
 use Rattle.gypsy_meaning.specs.declared.running.Crossing.{Crossing}

@@ -1,31 +1,20 @@
 -- What belongs together: an accepted source, its needs, and a run of it.
-use Rattle.std.specs.Prelude.{◌≡◌, ℕ, ◌≤◌, List, map, take, length, Option, Some, None}
+use Rattle.std.specs.Prelude.{◌≡◌, ℕ, List, map, take, length, Option, Some, None}
 use Rattle.gypsy_syntax.specs.Sources.{SourceOf}
-use Rattle.gypsy_syntax.specs.Programs.{Program, proc_at}
+use Rattle.gypsy_syntax.specs.Programs.{proc_at}
 use Rattle.gypsy_syntax.specs.Resolved.{program_of}
 use Rattle.gypsy_syntax.specs.ValuesFit.{VarsFit}
 use Rattle.gypsy_check.specs.Accepted.{IsAccepted}
 use Rattle.gypsy_space.specs.Events.{AreNeeds, AreSmall}
-use Rattle.gypsy_space.specs.Needs.{StackSizes, main_need}
 use Rattle.gypsy_space.specs.Nodes.{seen_program}
 use Rattle.gypsy_space.specs.declared.need.Need.{Need}
 use Rattle.gypsy_meaning.specs.Seen.Held.{IsHeld}
-use Rattle.gypsy_meaning.specs.Kept.{EndFits, StateFits}
+use Rattle.gypsy_semantics.specs.Room.{Suffices}
 use Rattle.gypsy_meaning.specs.Seen.Named.{proc_names, seen_names, unnamed, variables_of}
 use Rattle.gypsy_meaning.specs.Seen.Running.{seen, sizes_of}
-use Rattle.gypsy_meaning.specs.Seen.RunView.{Finished, Running, Stage, after, opening}
+use Rattle.gypsy_semantics.specs.Seen.RunView.{StageFits, after, opening}
 use Rattle.gypsy_meaning.specs.declared.running.Ending.{Ending}
 use Rattle.gypsy_meaning.specs.declared.running.Meaning.{Meaning}
-
--- the sizes of the stacks are at least main's own need
-pub record Suffices (q : Program) (sizes : StackSizes) : Type 0 where
-  pub temp : (main_need q).temp ≤ sizes.temp
-  pub ctrl : (main_need q).ctrl ≤ sizes.ctrl
-
--- a state that fits, or main's formals with their shapes and a condition that main may end with
-abbrev pub StageFits : Program → Stage → Type 0
-StageFits q (Running g) = StateFits q g
-StageFits q (Finished x c) = VarsFit (proc_at q q.main).formals x × EndFits q c
 
 -- the code's own: as long as the run goes on, and once it ended
 abbrev pub IsKept : Meaning → Option Ending → Type 0

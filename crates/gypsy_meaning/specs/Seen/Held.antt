@@ -6,10 +6,10 @@ use Rattle.gypsy_syntax.specs.Programs.{Program, proc_at}
 use Rattle.gypsy_space.specs.Costs.{Tally}
 use Rattle.gypsy_space.specs.Needs.{stack_sizes}
 use Rattle.gypsy_space.specs.Nodes.{seen_program}
-use Rattle.gypsy_meaning.specs.Machine.{Ended, gypsy_step, used}
-use Rattle.gypsy_meaning.specs.Machine as machine
+use Rattle.gypsy_semantics.specs.Machine.{Ended, gypsy_step, used}
+use Rattle.gypsy_semantics.specs.Machine as machine
 use Rattle.gypsy_meaning.specs.Seen.Named.{variables_of}
-use Rattle.gypsy_meaning.specs.Seen.RunView.{added}
+use Rattle.gypsy_semantics.specs.Seen.RunView.{added}
 use Rattle.gypsy_meaning.specs.Seen.Running.{Costs, Goes, frame_of, kept_frames, sizes_of, state_of, way_of}
 use Rattle.gypsy_meaning.specs.declared.names.Names.{Names}
 use Rattle.gypsy_meaning.specs.declared.running.Ending.{Ending}

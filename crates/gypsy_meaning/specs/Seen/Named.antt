@@ -2,8 +2,8 @@
 use Rattle.std.specs.Prelude.{ℕ, List, [], map, get_or, Option, Some, None}
 use Rattle.gypsy_syntax.specs.Sources.{ProcOf}
 use Rattle.gypsy_syntax.specs.Resolved.{condition_names, variable_names}
-use Rattle.gypsy_meaning.specs.declared.conditions.Current.{Current}
-use Rattle.gypsy_meaning.specs.declared.conditions.Current.TheVariants as current
+use Rattle.gypsy_semantics.specs.declared.conditions.Current.{Current}
+use Rattle.gypsy_semantics.specs.declared.conditions.Current.TheVariants as current
 use Rattle.gypsy_meaning.specs.declared.names.Names.{Names}
 use Rattle.gypsy_meaning.specs.declared.names.Unnamed.{Unnamed}
 

@@ -11,10 +11,10 @@ use Rattle.gypsy_space.specs.Needs.{StackSizes, stack_sizes}
 use Rattle.gypsy_space.specs.Events.{event_count}
 use Rattle.gypsy_space.specs.declared.event.CostEvent.{CostEvent}
 use Rattle.gypsy_space.specs.declared.need.Need.{Need}
-use Rattle.gypsy_meaning.specs.Calls.{CurrentCondition}
-use Rattle.gypsy_meaning.specs.Machine.{State, At, Held, Next, gypsy_step}
-use Rattle.gypsy_meaning.specs.Machine as machine
-use Rattle.gypsy_meaning.specs.Seen.RunView.{Seen, Stage, Running, Finished, added, bare, handed_back, spent_at}
+use Rattle.gypsy_semantics.specs.Calls.{CurrentCondition}
+use Rattle.gypsy_semantics.specs.Machine.{State, At, Held, Next, gypsy_step}
+use Rattle.gypsy_semantics.specs.Machine as machine
+use Rattle.gypsy_semantics.specs.Seen.RunView.{Seen, Stage, Running, Finished, added, bare, handed_back, spent_at}
 use Rattle.gypsy_meaning.specs.Seen.Work.{work_of}
 use Rattle.gypsy_meaning.specs.declared.turn.Advance.{Advance}
 use Rattle.gypsy_meaning.specs.declared.running.Ending.{Ending}

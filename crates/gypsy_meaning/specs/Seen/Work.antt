@@ -3,8 +3,8 @@ use Rattle.std.specs.Prelude.{List, [], ◌∷◌, map, drop, Option, Some, None
 use Rattle.std.specs.declared.rc.Rc.{Rc}
 use Rattle.std.specs.declared.alloc.Global.{Global}
 use Rattle.gypsy_space.specs.Costs.{Tally, spend}
-use Rattle.gypsy_meaning.specs.Machine.{Item}
-use Rattle.gypsy_meaning.specs.Machine as machine
+use Rattle.gypsy_semantics.specs.Machine.{Item}
+use Rattle.gypsy_semantics.specs.Machine as machine
 use Rattle.gypsy_space.specs.Nodes.{seen_cond, seen_statement, seen_statements}
 use Rattle.gypsy_meaning.specs.declared.work.Item.{Item as Kept}
 use Rattle.gypsy_meaning.specs.declared.work.Item.TheVariants.{Do, Parts, Back, JoinThen, JoinOne, Guard, Out}

@@ -4,11 +4,11 @@ use Rattle.std.specs.Fmt.{decimal}
 use Rattle.stack_text.specs.Values.{ValueOf}
 use Rattle.gypsy_syntax.specs.Sources.{SourceOf}
 use Rattle.gypsy_space.specs.Needs.{StackSizes, stack_sizes}
-use Rattle.gypsy_meaning.specs.declared.conditions.Current.{Current}
-use Rattle.gypsy_meaning.specs.declared.answers.MeanRun.{MeanRun}
-use Rattle.gypsy_meaning.specs.declared.answers.MeanRun.TheVariants as run
-use Rattle.gypsy_meaning.specs.Seen.RunView.{Seen, Ran, meaning_run, values_at}
-use Rattle.gypsy_meaning.specs.Seen.Shown.{condition_at, names_at}
+use Rattle.gypsy_semantics.specs.declared.conditions.Current.{Current}
+use Rattle.gypsy_semantics.specs.declared.answers.MeanRun.{MeanRun}
+use Rattle.gypsy_semantics.specs.declared.answers.MeanRun.TheVariants as run
+use Rattle.gypsy_semantics.specs.Seen.RunView.{Seen, Ran, meaning_run, values_at}
+use Rattle.gypsy_semantics.specs.Seen.Shown.{condition_at, names_at}
 use Rattle.display_maps.specs.Running.{run_lines}
 use Rattle.stack_build.specs.declared.start_fault.StartFault.{StartFault}
 use Rattle.stack_build.specs.Starts.{gypsy_start}

@@ -3,7 +3,7 @@ use Rattle.stack_text.specs.Values.{ValueOf}
 use Rattle.gypsy_space.specs.Nodes.{seen_arg}
 use Rattle.gypsy_space.specs.declared.event.CostEvent.TheVariants as event
 use Rattle.gypsy_space.specs.declared.event.Outcome.TheVariants as outcome
-use Rattle.gypsy_meaning.specs.Calls.{target_of}
+use Rattle.gypsy_semantics.specs.Calls.{target_of}
 use Rattle.gypsy_meaning.specs.Seen.Work.{work_of}
 use Rattle.gypsy_meaning.specs.Scaffold.PredefinedEffects.{effect_of, applied_effect}
 use Rattle.gypsy_meaning.specs.declared.turn.Advance.{Advance}

@@ -1,4 +1,4 @@
-use Rattle.gypsy_meaning.proofs.SeenLaws.{left_same, run_same}
+use Rattle.gypsy_semantics.proofs.SeenLaws.{left_same, run_same}
 use Rattle.gypsy_meaning.proofs.StepLaws.{is_run}
 use Rattle.gypsy_meaning.proofs.laws.runs_keep_their_source.Goals as goal
 

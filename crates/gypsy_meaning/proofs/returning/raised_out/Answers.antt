@@ -3,8 +3,8 @@ use Rattle.gypsy_syntax.specs.Programs.{ConditionOf}
 use Rattle.gypsy_space.specs.Nodes.{seen_cond, seen_program}
 use Rattle.gypsy_space.specs.declared.program.CallSite.{CallSite}
 use Rattle.gypsy_space.specs.declared.program.Condition.{Condition}
-use Rattle.gypsy_meaning.specs.Calls.{matching}
-use Rattle.gypsy_meaning.specs.Machine.{raise}
+use Rattle.gypsy_semantics.specs.Calls.{matching}
+use Rattle.gypsy_semantics.specs.Machine.{raise}
 use Rattle.gypsy_meaning.specs.Scaffold.Returning.{RaisesTo}
 use Rattle.gypsy_meaning.specs.Seen.Work.{work_of}
 use Rattle.gypsy_meaning.proofs.ReturningLaws.{last_is}

@@ -1,5 +1,5 @@
 use Rattle.std.proofs.Common.{◌≡◌}
-use Rattle.gypsy_meaning.specs.Machine.{settle}
+use Rattle.gypsy_semantics.specs.Machine.{settle}
 use Rattle.gypsy_meaning.specs.Seen.Work.{work_of}
 use Rattle.gypsy_meaning.proofs.ReturningLaws.{last_is}
 use Rattle.gypsy_meaning.proofs.returning.waiting_work.Goals as goal

@@ -1,7 +1,7 @@
 use Rattle.std.proofs.Common.{◌≡◌, List, ◌∷◌, map, drop, rules}
 use Rattle.stack_text.specs.Values.{ValueOf}
 use Rattle.gypsy_space.specs.Nodes.{seen_statement, seen_statements}
-use Rattle.gypsy_meaning.specs.Machine.{Item, Do, Back}
+use Rattle.gypsy_semantics.specs.Machine.{Item, Do, Back}
 use Rattle.gypsy_meaning.specs.Seen.Work.{work_of}
 use Rattle.gypsy_meaning.proofs.TurnLaws.{goes_from, parts_from}
 use Rattle.gypsy_meaning.proofs.turn.next_turn.Goals as goal

@@ -2,7 +2,7 @@ use Rattle.std.proofs.Common.{◌≡◌, ℕ, ◌∷◌, List, suc, drop, length
 use Rattle.std.specs.declared.rc.Rc.{Rc}
 use Rattle.std.specs.declared.alloc.Global.{Global}
 use Rattle.gypsy_space.specs.declared.program.Node.{Node}
-use Rattle.gypsy_meaning.specs.Machine.{Do, opens}
+use Rattle.gypsy_semantics.specs.Machine.{Do, opens}
 use Rattle.gypsy_space.specs.Nodes.{seen_statement, seen_statements}
 use Rattle.gypsy_meaning.specs.Seen.Work.{work_of, work_or}
 use Rattle.gypsy_space.proofs.NodeLaws.{seen_statement-seq}

@@ -1,6 +1,6 @@
 use Rattle.std.proofs.Common.{◌≡◌, List, drop}
-use Rattle.gypsy_meaning.specs.Machine as machine
-use Rattle.gypsy_meaning.specs.Machine.{opens}
+use Rattle.gypsy_semantics.specs.Machine as machine
+use Rattle.gypsy_semantics.specs.Machine.{opens}
 use Rattle.gypsy_space.specs.Nodes.{seen_statements}
 use Rattle.gypsy_meaning.specs.Seen.Work.{work_of}
 use Rattle.gypsy_meaning.proofs.work.+opening.Given as goal

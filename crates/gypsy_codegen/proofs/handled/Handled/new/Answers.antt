@@ -7,7 +7,7 @@ use Rattle.gypsy_syntax.specs.Programs.{ConditionOf, Leave, Routine, Space, Decl
 use Rattle.gypsy_space.specs.Nodes.{seen_cond}
 use Rattle.gypsy_space.specs.declared.program.Condition.{Condition}
 use Rattle.gypsy_space.specs.declared.program.Condition.TheVariants as condition
-use Rattle.gypsy_meaning.specs.Calls.{has_cond, same_cond}
+use Rattle.gypsy_semantics.specs.Calls.{has_cond, same_cond}
 use Rattle.gypsy_codegen.specs.WordsOf.{number_of}
 use Rattle.gypsy_codegen.proofs.handled.Handled.new.Goals as goal
 

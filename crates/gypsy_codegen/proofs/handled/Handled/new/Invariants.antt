@@ -2,7 +2,7 @@ use Rattle.std.proofs.Common.{◌≡◌, map, drop, get_or, true, false}
 use Rattle.std.specs.Prelude.{if◌then◌else◌}
 use Rattle.gypsy_syntax.specs.Programs.{ConditionOf}
 use Rattle.gypsy_space.specs.Nodes.{seen_cond}
-use Rattle.gypsy_meaning.specs.Calls.{has_cond}
+use Rattle.gypsy_semantics.specs.Calls.{has_cond}
 use Rattle.gypsy_codegen.specs.WordsOf.{number_of}
 use Rattle.gypsy_codegen.proofs.handled.Handled.new.Given as goal
 

@@ -1,6 +1,6 @@
 use Rattle.std.proofs.Common.{◌≡◌, ℕ, List, sym, subst}
 use Rattle.gypsy_meaning.specs.Seen.Held.{Moves}
-use Rattle.gypsy_meaning.specs.Machine.{settle}
+use Rattle.gypsy_semantics.specs.Machine.{settle}
 use Rattle.gypsy_meaning.specs.Scaffold.Returning.{IsLast}
 use Rattle.gypsy_meaning.specs.Seen.Running.{paid}
 use Rattle.gypsy_meaning.specs.Seen.Work.{work_of}

@@ -3,7 +3,7 @@ use Rattle.std.proofs.lemmas.List.{length-map}
 use Rattle.gypsy_syntax.specs.Programs.{body_of, proc_at}
 use Rattle.gypsy_space.specs.Nodes.{seen_proc, seen_program}
 use Rattle.gypsy_space.specs.declared.program.CallSite.{CallSite}
-use Rattle.gypsy_meaning.specs.Machine.{open_on}
+use Rattle.gypsy_semantics.specs.Machine.{open_on}
 use Rattle.gypsy_meaning.specs.Seen.Named.{variables_of}
 use Rattle.gypsy_meaning.specs.Seen.Running.{paid}
 use Rattle.gypsy_meaning.specs.Seen.Work.{work_of}

@@ -3,7 +3,7 @@ use Rattle.gypsy_space.specs.Costs.{start_tally}
 use Rattle.gypsy_space.specs.Events.{event_spend}
 use Rattle.gypsy_space.specs.Nodes.{seen_program}
 use Rattle.gypsy_meaning.specs.Seen.Held.{Moves}
-use Rattle.gypsy_meaning.specs.Machine.{Next}
+use Rattle.gypsy_semantics.specs.Machine.{Next}
 use Rattle.gypsy_meaning.specs.Seen.Running.{frames_in}
 use Rattle.gypsy_meaning.specs.declared.running.Meaning.{Meaning}
 use Rattle.gypsy_meaning.specs.declared.turn.Advance.{Advance}

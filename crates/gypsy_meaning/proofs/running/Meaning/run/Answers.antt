@@ -1,7 +1,7 @@
 use Rattle.gypsy_syntax.specs.Seen.SourceView.{source_of}
 use Rattle.gypsy_meaning.specs.Seen.Running.{seen}
-use Rattle.gypsy_meaning.proofs.ReachLaws.{completes}
-use Rattle.gypsy_meaning.proofs.RunLaws.{answer_agrees}
+use Rattle.gypsy_semantics.proofs.ReachLaws.{completes}
+use Rattle.gypsy_semantics.proofs.RunLaws.{answer_agrees}
 use Rattle.gypsy_meaning.proofs.StepLaws.{seen_reached}
 use Rattle.gypsy_meaning.proofs.running.Meaning.run.Goals as goal
 

@@ -4,7 +4,7 @@ use Rattle.stack_text.specs.declared.value.Value.{Value}
 use Rattle.std.specs.Global.{Vec}
 use Rattle.gypsy_syntax.specs.Effects.{value_at}
 use Rattle.gypsy_space.specs.declared.program.CallSite.{CallSite}
-use Rattle.gypsy_meaning.specs.Calls.{copied_out}
+use Rattle.gypsy_semantics.specs.Calls.{copied_out}
 use Rattle.gypsy_meaning.specs.declared.running.Frame.{Frame}
 use Rattle.gypsy_meaning.proofs.running.Meaning.wait.Goals as goal
 

@@ -1,5 +1,0 @@
-use Rattle.gypsy_meaning.proofs.LendingLaws.{step_lent}
-use Rattle.gypsy_meaning.proofs.laws.lending_changes_no_step.Goals as goal
-
-pub returns : goal.returns
-returns c = step_lent
