@@ -1,6 +1,6 @@
 #!/usr/bin/env bash
-# Random sources, products and infix programs: what the program says of them, beside what evaluators in Python say; and random words, as text
-# and back.
+# Random sources, products and infix programs: what the program says of them, beside what evaluators in Python say; random words, as text and
+# back; and random programs for the processor, which change their own code, beside an interpreter in C.
 set -u
 export STACK_EXPLAIN=0
 top=$(cd "$(dirname "${BASH_SOURCE[0]}")/../.." && pwd)
@@ -13,6 +13,7 @@ python3 "$top/.ci/tools/random_sources.py" "$PROGRAM" 1 60 || failed=1
 python3 "$top/.ci/tools/random_products.py" "$PROGRAM" 2000 || failed=1
 python3 "$top/.ci/tools/random_infix.py" "$PROGRAM" 1 60 || failed=1
 python3 "$top/.ci/tools/random_words.py" "$PROGRAM" || failed=1
+python3 "$top/.ci/tools/random_programs.py" "$PROGRAM" || failed=1
 
 # fails COMMAND MISTAKE SCRIPT WORD..: the script fails on the program with this mistake.
 fails() {
@@ -27,5 +28,6 @@ fails mean 's/^counted \(.*\)$/counted 1\1/' random_sources.py 1 1
 fails go 's/^condition normal$/condition leave/' random_products.py 66
 fails mini 's/^refused Y2 /refused Y1 /' random_infix.py 1 10
 fails asm 's/^built /build /' random_words.py 1000
+fails run 's/^finished \(.*\)$/finished 1\1/' random_programs.py 40
 [ "$failed" = 0 ] && echo "random: ok"
 exit "$failed"

@@ -1,7 +1,8 @@
 //! What an instruction does, and what it costs.
 
 ghost use Rattle.std.specs.Prelude.{◌≡◌, ◌==◌, ◌+◌, ◌^◌, ◌<◌, ◌≤◌, ℕ, IfErr, OnOk, OnErr, length};
-ghost use Rattle.piton_check.specs.Instruction.{system_view, instruction_view};
+ghost use Rattle.piton_check.specs.Instruction.{system_view};
+ghost use Rattle.piton_machine.specs.PitonInstr.{decoded_view};
 ghost use Rattle.piton_machine.specs.State.{variables_of};
 ghost use Rattle.piton_machine.specs.InstructionRows.{row_of};
 ghost use Rattle.piton_machine.specs.Step.{operation_cost, variables_on_top, cost_of};
@@ -9,24 +10,24 @@ ghost use Rattle.piton_machine.specs.Step.{operation_cost, variables_on_top, cos
 use crate::error_kind::ErrorKind;
 use crate::piton_instr::PitonInstr;
 use crate::state::State;
-use piton_check::{Resolved, ResolvedInstr};
+use piton_check::Resolved;
 use piton_words::{Word, WordOp};
 
 impl State {
     /// An instruction done.
-    pub(crate) fn act(&mut self, checked: &Resolved, instr: &ResolvedInstr) -> Result<(), ErrorKind>
+    pub(crate) fn act(&mut self, checked: &Resolved, instr: PitonInstr<'_>) -> Result<(), ErrorKind>
         requires next { self.old.state.place + 1 < 2 ^ 32 }
         requires temp { self.old.temp ≡ checked.now.temp }
         requires ctrl { self.old.ctrl ≡ checked.now.ctrl }
         requires few { (program : ℕ) → variables_of (system_view checked.now) program ≤ 400 }
         ensures ok { OnOk result
-            (row_of (system_view checked.now) self.old.state (instruction_view instr.now) ≡ Ok self.new.state) }
+            (row_of (system_view checked.now) self.old.state (decoded_view instr.entry) ≡ Ok self.new.state) }
         ensures err { IfErr result (λ e.
-            row_of (system_view checked.now) self.old.state (instruction_view instr.now) ≡ Err e) }
+            row_of (system_view checked.now) self.old.state (decoded_view instr.entry) ≡ Err e) }
         ensures rest { self.new ≡ record self.old { state = self.new.state } }
         ensures unchanged { OnErr result (self.new ≡ self.old) }
     {
-        match PitonInstr::decode(instr) {
+        match instr {
             PitonInstr::PushConstant(word) => self.push(word),
             PitonInstr::PushLocal(offset) => self.push_local(offset),
             PitonInstr::PopLocal(offset) => self.pop_local(offset),
@@ -77,11 +78,11 @@ impl State {
     }
 
     /// What an instruction costs.
-    pub(crate) fn cost(&self, checked: &Resolved, instr: &ResolvedInstr) -> u64
+    pub(crate) fn cost(&self, checked: &Resolved, instr: PitonInstr<'_>) -> u64
         requires { (program : ℕ) → variables_of (system_view checked.now) program ≤ 400 }
-        ensures value { result ≡ cost_of (system_view checked.now) self.now.state (instruction_view instr.now) }
+        ensures value { result ≡ cost_of (system_view checked.now) self.now.state (decoded_view instr.entry) }
     {
-        match PitonInstr::decode(instr) {
+        match instr {
             PitonInstr::PushConstant(_)
             | PitonInstr::Pop
             | PitonInstr::PopStar(_)

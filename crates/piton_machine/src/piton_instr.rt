@@ -78,6 +78,7 @@ pub enum PitonInstr<'a> {
 
 impl<'a> PitonInstr<'a> {
     /// What an operation and its arguments make.
+    #[inline(always)]
     pub fn decode(instr: &'a ResolvedInstr) -> PitonInstr<'a>
         ensures { decoded_view result ≡ instruction_view instr.now }
     {
@@ -89,6 +90,7 @@ impl<'a> PitonInstr<'a> {
 }
 
 /// A move, a jump, a call or a return with what it needs; none where that is missing.
+#[inline(always)]
 fn other_instr(op: PitonOp, args: &[ResolvedArg]) -> Option<PitonInstr<'_>>
     ensures { decoded_view (unwrap_or result PitonInstr.NoOp) ≡ other_instruction_of op args.now }
 {

@@ -12,6 +12,7 @@ ghost use Rattle.piton_machine.specs.Step.{step_cost};
 use crate::areas::Areas;
 use crate::error_kind::ErrorKind;
 use crate::frames::Frames;
+use crate::piton_instr::PitonInstr;
 use crate::stack::Stack;
 use crate::stepped::{PitonRun, Stepped};
 use piton_check::{Checked, Resolved, ResolvedInstr};
@@ -102,7 +103,7 @@ impl State {
             return 0;
         }
         match instruction(checked, self.program, self.place) {
-            Some(instr) => self.cost(checked, instr),
+            Some(instr) => self.cost(checked, PitonInstr::decode(instr)),
             None => 0,
         }
     }
@@ -147,8 +148,9 @@ impl State {
         let Some(instr) = instruction(checked, self.program, self.place) else {
             return Stepped::Error(ErrorKind::Range);
         };
-        let cost = self.cost(checked, instr);
-        if let Err(kind) = self.act(checked, instr) {
+        let next = PitonInstr::decode(instr);
+        let cost = self.cost(checked, next);
+        if let Err(kind) = self.act(checked, next) {
             return Stepped::Error(kind);
         }
         self.steps = self.steps.saturating_add(1);

@@ -18,7 +18,8 @@ returns-clause-fits c =
     sym c.instruction.ensures.instruction ∙ ap (option_map (λ i. instruction_view i.now)) c.in-Some.is in
     let at : instruction_at s v.state.program v.state.place ≡ Some instr =
     subst (λ (w : Seen). instruction_at s w.state.program w.state.place ≡ Some instr) seen here in
-    let row : row_of s v.state instr ≡ Ok c.act.new.self.state = c.in_default-act.ensures.ok in
+    let row : row_of s v.state instr ≡ Ok c.act.new.self.state =
+    subst (λ i. row_of s v.state i ≡ Ok c.act.new.self.state) c.decode-next.ensures c.in_default-act.ensures.ok in
     let kept : IsState s c.act.new.self.state =
     row_kept s v.state c.act.new.self.state instr c.requires.sound c.requires.fits.state (c.requires.sound.instructions v.state.program v.state.place instr at) row in
     record {
