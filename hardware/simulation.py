@@ -9,6 +9,7 @@ from images import Image, reading
 
 HERE = Path(__file__).resolve().parent
 PROCESSOR = HERE.parent / "crates/print_processor/stdout"   # what the proved program prints
+NETLIST = HERE.parent / "crates/print_netlist/stdout"       # the same of gates alone, as another proved program prints it
 PACKAGES = {"icarus": {"iverilog": "iverilog", "vvp": "iverilog"}, "verilator": {"verilator": "verilator", "g++": "g++", "make": "make"}}
 PHASES = ("fetch", "fetched", "read_a", "got_a", "read_b", "got_b", "execute", "stored", "fault")
 TRACE_HEAD = "cycle phase    address  given    outside stores data     r15      ir       a        b"

@@ -1,7 +1,7 @@
 #!/usr/bin/env bash
 # The processor's Verilog text: its pictures are current, simulators do with it what the machine does, also on the built program's images,
-# and Yosys proves its netlist equal to it. Where a tool isn't installed, a line says what wasn't seen, and the check passes. --all takes
-# more of everything.
+# expressions have the values of their definition, and Yosys proves that its own netlist of it and the printed one are the same circuit. Where a
+# tool isn't installed, a line says what wasn't seen, and the check passes. --all takes more of everything.
 set -u
 export STACK_EXPLAIN=0 PYTHONDONTWRITEBYTECODE=1
 top=$(cd "$(dirname "${BASH_SOURCE[0]}")/../.." && pwd)
@@ -24,6 +24,8 @@ program=$top/crates/cli_stack/out/cli_stack
 look "the pictures" python3 "$tools/circuit_pictures.py" --check
 look "the circuit in Icarus Verilog" python3 "$tools/circuit.py" "$program" --simulator icarus "$@"
 look "the circuit in Verilator" python3 "$tools/circuit.py" "$program" --simulator verilator "$@"
-look "the circuit beside its netlist" python3 "$tools/same_circuit.py" "$@"
+look "the values of Verilog's expressions" python3 "$tools/verilog_values.py" "$@"
+look "the circuit beside Yosys' netlist" python3 "$tools/same_circuit.py" "$@"
+look "the circuit beside the printed netlist" python3 "$tools/same_circuit.py" --printed
 [ "$failed" = 0 ] && echo "circuit: ok"
 exit "$failed"

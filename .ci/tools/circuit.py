@@ -8,6 +8,7 @@ PROGRAM is the built `cli_stack`, which says what a run gives; memory and cycles
 - random states, in Icarus: instructions of every operation, store condition and pair of modes, with addresses outside among them;
 - images: of all examples that have values, of generated sources, and of random words. Before the run the words, registers and variables
   that the board is loaded with are compared with what `show` and `debug` say of the image;
+- in Icarus, the printed netlist in the processor's place, on the images of the shortest examples;
 - wrong texts of the processor, in Icarus: the states have to tell each.
 
 --all takes more of each. The exit status is 1 where something differs, and 2 where the simulator is missing.
@@ -32,10 +33,11 @@ sys.path[:0] = [str(HARDWARE), str(TOP / ".ci/tools")]
 import random_sources
 from fm9001 import CONDITIONS, MASK, OPERATIONS, PC, SIGN, Machine, flag_letters
 from images import Image, Refused, loaded, read_image, read_values, reading
-from simulation import PROCESSOR, NotSimulated, Simulated, compiled, missing_packages, report, simulate, write_words
+from simulation import NETLIST, PROCESSOR, NotSimulated, Simulated, compiled, missing_packages, report, simulate, write_words
 
 STACK = 300             # words of each stack, of the examples
 BUDGET = 10**6          # instructions that no example comes to
+NETLIST_INSTRUCTIONS = 100      # the netlist takes Icarus ten times as long
 ICARUS_INSTRUCTIONS = 3000      # more of them take Icarus more than half a second
 WINDOW = 32             # words that a state has room for
 MODES = [*range(4), None]       # of A; None is an immediate
@@ -358,6 +360,19 @@ def check_images(arguments: argparse.Namespace, folder: Path) -> Iterator[str]:
           f"{seen['outside']} outside; {seen['instructions']} instructions, {seen['cycles']} cycles")
 
 
+def check_netlist(arguments: argparse.Namespace, folder: Path) -> Iterator[str]:
+    """The printed netlist on the examples that take few instructions."""
+    simulated = compiled("icarus", HARDWARE / "bench.v", folder, NETLIST)
+    program = Program(arguments.program.resolve(), folder)
+    seen: Counter = Counter()
+    for run in example_runs(program, NETLIST_INSTRUCTIONS * (30 if arguments.all else 1)):
+        if found := difference(simulated, program, run, seen):
+            yield f"the netlist on {run.name}: {found}"
+    if not seen["finished"]:
+        yield "no example takes so few instructions"
+    print(f"{seen['finished']} images on the netlist in icarus: {seen['instructions']} instructions, {seen['cycles']} cycles")
+
+
 def check_wrong_texts(arguments: argparse.Namespace, folder: Path) -> Iterator[str]:
     """Told by the states are all wires of the text, or every ninth one."""
     states = random_states(Random(2), 1)
@@ -382,7 +397,7 @@ def main() -> int:
         return 2
     findings = []
     with tempfile.TemporaryDirectory(prefix="circuit-") as room:
-        parts = [check_states, check_images, check_wrong_texts] if arguments.simulator == "icarus" else [check_images]
+        parts = [check_states, check_images, check_netlist, check_wrong_texts] if arguments.simulator == "icarus" else [check_images]
         for part in parts:
             findings += part(arguments, Path(room))
     for finding in findings[:20]:

@@ -1,13 +1,13 @@
 #!/usr/bin/env python3
 """Has Yosys prove that a netlist is the same circuit as the processor's Verilog text: one cycle, from any state and any inputs.
 
-    python3 .ci/tools/same_circuit.py [NETLIST] [--processor TEXT] [--all]
+    python3 .ci/tools/same_circuit.py [NETLIST] [--printed] [--processor TEXT] [--all]
 
-NETLIST is another text of the module fm9001; without one, Yosys synthesises the processor's text to gates, and that is compared. In both,
-each bit that is kept becomes an input, what it has, and an output, what it takes. A SAT solver then shows that no inputs make any two
-outputs differ. What is kept has the same name in both; a word of the register file may be `file[3]` or `file_3`. What it begins with
-isn't compared. --all shows too that a wrong text, which has an `|` for a `^`, isn't the same. The exit status is 1 where they differ,
-and 2 where Yosys is missing.
+NETLIST is another text of the module fm9001, and --printed takes the one that print_netlist prints. Without either, Yosys synthesises the
+processor's text to gates, and that is compared. In both, each bit that is kept becomes an input, what it has, and an output, what it takes.
+A SAT solver then shows that no inputs make any two outputs differ. What is kept has the same name in both; a word of the register file may
+be `file[3]` or `file_3`. What it begins with isn't compared. --all shows too that a wrong text, which has an `|` for a `^`, isn't the same.
+The exit status is 1 where they differ, and 2 where Yosys is missing.
 """
 import argparse
 import re
@@ -19,7 +19,7 @@ from pathlib import Path
 
 sys.dont_write_bytecode = True
 sys.path.insert(0, str(Path(__file__).resolve().parents[2] / "hardware"))
-from simulation import PROCESSOR
+from simulation import NETLIST, PROCESSOR
 
 SECONDS = 1800
 # Yosys would give the phases numbers of its own, and those couldn't be compared.
@@ -130,21 +130,23 @@ def wrong_text(processor: Path, folder: Path) -> Path:
 def main() -> int:
     parser = argparse.ArgumentParser(description="Has Yosys prove that a netlist is the processor's circuit.")
     parser.add_argument("netlist", type=Path, nargs="?")
+    parser.add_argument("--printed", action="store_true")
     parser.add_argument("--processor", type=Path, default=PROCESSOR)
     parser.add_argument("--all", action="store_true")
     arguments = parser.parse_args()
+    netlist = NETLIST if arguments.printed else arguments.netlist
     if not shutil.which("yosys"):
         print("yosys isn't there: apt-get install yosys")
         return 2
     with tempfile.TemporaryDirectory(prefix="same-") as room:
         try:
-            same, kept = is_same(arguments.processor, arguments.netlist, Path(room))
+            same, kept = is_same(arguments.processor, netlist, Path(room))
             if arguments.all and is_same(arguments.processor, wrong_text(arguments.processor, Path(room)), Path(room))[0]:
                 raise Failed("a wrong text is told to be the same")
         except (Failed, OSError, subprocess.TimeoutExpired) as fault:
             print(f"not compared: {fault}")
             return 1
-    what = arguments.netlist.name if arguments.netlist else "Yosys' netlist"
+    what = "the printed netlist" if arguments.printed else netlist.name if netlist else "Yosys' netlist"
     print(f"{what} and the text are {'the same circuit' if same else 'different'}: {kept} bits are kept")
     return 0 if same else 1
 

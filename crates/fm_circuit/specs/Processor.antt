@@ -7,7 +7,7 @@ use Rattle.fm_circuit.specs.declared.circuit.Driver.TheVariants.{Register, Input
 use Rattle.fm_circuit.specs.declared.circuit.Pin.TheVariants.{Whole, Bits, Constant}
 use Rattle.fm_circuit.specs.Phases.{fetch, fetched, read_a, got_a, read_b, got_b, execute, stored, fault}
 use Rattle.fm_circuit.specs.Rows.{by_phase, in_each_phase, by_mode, by_operation, for_each_operation, for_each_sum}
-use Rattle.fm_circuit.specs.Rows.{by_sum, in_each_sum, by_condition}
+use Rattle.fm_circuit.specs.Rows.{by_sum, in_each_sum, by_condition, by_mask}
 
 -- what drives a wire
 unfoldable pub driver_of : Wire → Driver
@@ -176,11 +176,11 @@ driver_of w.NextAt = by_phase (record (in_each_phase (Whole w.At)) {
   read_b = Whole w.Address;
   execute = Whole w.Address;
 })
-driver_of w.SetC = Two (Bits w.Ir 19 19) (Whole w.C ∷ Whole w.OutC ∷ [])
+driver_of w.SetC = by_mask (record { bit = 19; unasked = Whole w.C; asked = Whole w.OutC })
 driver_of w.NextC = by_phase (record (in_each_phase (Whole w.C)) { execute = Whole w.SetC })
-driver_of w.SetV = Two (Bits w.Ir 18 18) (Whole w.V ∷ Whole w.OutV ∷ [])
+driver_of w.SetV = by_mask (record { bit = 18; unasked = Whole w.V; asked = Whole w.OutV })
 driver_of w.NextV = by_phase (record (in_each_phase (Whole w.V)) { execute = Whole w.SetV })
-driver_of w.SetN = Two (Bits w.Ir 17 17) (Whole w.N ∷ Bits w.Out 31 31 ∷ [])
+driver_of w.SetN = by_mask (record { bit = 17; unasked = Whole w.N; asked = Bits w.Out 31 31 })
 driver_of w.NextN = by_phase (record (in_each_phase (Whole w.N)) { execute = Whole w.SetN })
-driver_of w.SetZ = Two (Bits w.Ir 16 16) (Whole w.Z ∷ Whole w.OutZ ∷ [])
+driver_of w.SetZ = by_mask (record { bit = 16; unasked = Whole w.Z; asked = Whole w.OutZ })
 driver_of w.NextZ = by_phase (record (in_each_phase (Whole w.Z)) { execute = Whole w.SetZ })

@@ -4,12 +4,13 @@ use Rattle.fm_circuit.specs.declared.wire.Wire.TheVariants as w
 use Rattle.fm_circuit.specs.declared.circuit.Pin.{Pin}
 use Rattle.fm_circuit.specs.declared.circuit.Pin.TheVariants.{Whole, Bits}
 use Rattle.fm_circuit.specs.declared.circuit.Driver.{Driver}
-use Rattle.fm_circuit.specs.declared.circuit.Driver.TheVariants.{Four, Eight, Sixteen}
+use Rattle.fm_circuit.specs.declared.circuit.Driver.TheVariants.{Two, Four, Eight, Sixteen}
 use Rattle.fm_circuit.specs.declared.rows.ByPhase.{ByPhase}
 use Rattle.fm_circuit.specs.declared.rows.ByMode.{ByMode}
 use Rattle.fm_circuit.specs.declared.rows.ByOperation.{ByOperation}
 use Rattle.fm_circuit.specs.declared.rows.BySum.{BySum}
 use Rattle.fm_circuit.specs.declared.rows.ByCondition.{ByCondition}
+use Rattle.fm_circuit.specs.declared.rows.ByMask.{ByMask}
 
 -- by the phase; seven numbers are no phase
 abbrev pub by_phase : ByPhase → Driver
@@ -74,3 +75,7 @@ by_condition row =
     Sixteen (Bits w.Ir 23 20)
     (row.cc ∷ row.cs ∷ row.vc ∷ row.vs ∷ row.nc ∷ row.ns ∷ row.zc ∷ row.zs ∷ row.hi ∷ row.ls ∷ row.ge ∷ row.lt ∷ row.gt ∷
     row.le ∷ row.al ∷ row.nv ∷ [])
+
+-- by a bit of the instruction's mask, which asks for a flag
+abbrev pub by_mask : ByMask → Driver
+by_mask row = Two (Bits w.Ir row.bit row.bit) (row.unasked ∷ row.asked ∷ [])

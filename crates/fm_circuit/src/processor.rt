@@ -6,8 +6,8 @@ ghost use Rattle.fm_circuit.specs.Processor.{driver_of};
 use crate::circuit::Driver;
 use crate::circuit::Pin::{Bits, Constant, Whole};
 use crate::rows::{
-    ByCondition, ByMode, ByOperation, ByPhase, BySum, by_condition, by_mode, by_operation,
-    by_phase, by_sum, for_each_operation, for_each_sum, in_each_phase, in_each_sum,
+    ByCondition, ByMask, ByMode, ByOperation, ByPhase, BySum, by_condition, by_mask, by_mode,
+    by_operation, by_phase, by_sum, for_each_operation, for_each_sum, in_each_phase, in_each_sum,
 };
 use crate::wire::Wire;
 
@@ -250,25 +250,38 @@ pub fn driver(wire: Wire) -> Driver
             execute: Whole(Wire::Address),
             ..in_each_phase(Whole(Wire::At))
         }),
-        Wire::SetC => Driver::Two(Bits(Wire::Ir, 19, 19), [Whole(Wire::C), Whole(Wire::OutC)]),
+        Wire::SetC => by_mask(ByMask {
+            bit: 19,
+            unasked: Whole(Wire::C),
+            asked: Whole(Wire::OutC),
+        }),
         Wire::NextC => by_phase(ByPhase {
             execute: Whole(Wire::SetC),
             ..in_each_phase(Whole(Wire::C))
         }),
-        Wire::SetV => Driver::Two(Bits(Wire::Ir, 18, 18), [Whole(Wire::V), Whole(Wire::OutV)]),
+        Wire::SetV => by_mask(ByMask {
+            bit: 18,
+            unasked: Whole(Wire::V),
+            asked: Whole(Wire::OutV),
+        }),
         Wire::NextV => by_phase(ByPhase {
             execute: Whole(Wire::SetV),
             ..in_each_phase(Whole(Wire::V))
         }),
-        Wire::SetN => Driver::Two(
-            Bits(Wire::Ir, 17, 17),
-            [Whole(Wire::N), Bits(Wire::Out, 31, 31)],
-        ),
+        Wire::SetN => by_mask(ByMask {
+            bit: 17,
+            unasked: Whole(Wire::N),
+            asked: Bits(Wire::Out, 31, 31),
+        }),
         Wire::NextN => by_phase(ByPhase {
             execute: Whole(Wire::SetN),
             ..in_each_phase(Whole(Wire::N))
         }),
-        Wire::SetZ => Driver::Two(Bits(Wire::Ir, 16, 16), [Whole(Wire::Z), Whole(Wire::OutZ)]),
+        Wire::SetZ => by_mask(ByMask {
+            bit: 16,
+            unasked: Whole(Wire::Z),
+            asked: Whole(Wire::OutZ),
+        }),
         Wire::NextZ => by_phase(ByPhase {
             execute: Whole(Wire::SetZ),
             ..in_each_phase(Whole(Wire::Z))

@@ -1,7 +1,7 @@
 //! Choices whose rows stand by their names.
 
 ghost use Rattle.std.specs.Prelude.{◌≡◌};
-ghost use Rattle.fm_circuit.specs.Rows.{by_phase, in_each_phase, by_mode, by_operation, for_each_operation, for_each_sum, by_sum, in_each_sum, by_condition};
+ghost use Rattle.fm_circuit.specs.Rows.{by_phase, in_each_phase, by_mode, by_operation, for_each_operation, for_each_sum, by_sum, in_each_sum, by_condition, by_mask};
 
 use crate::circuit::Pin::{Bits, Whole};
 use crate::circuit::{Driver, Pin};
@@ -138,6 +138,17 @@ pub struct ByCondition {
     pub al: Pin,
     /// Never.
     pub nv: Pin,
+}
+
+/// What a flag becomes by its bit of the instruction's mask.
+#[derive(Clone, Copy)]
+pub struct ByMask {
+    /// The bit of the instruction, 16 to 19.
+    pub bit: u8,
+    /// Where the instruction doesn't ask for the flag.
+    pub unasked: Pin,
+    /// Where it does.
+    pub asked: Pin,
 }
 
 /// A choice by the phase. Seven of its sixteen numbers are no phase.
@@ -292,4 +303,11 @@ pub fn by_condition(row: ByCondition) -> Driver
             row.lt, row.gt, row.le, row.al, row.nv,
         ],
     )
+}
+
+/// A choice by a bit of the instruction's mask, which asks for a flag.
+pub fn by_mask(row: ByMask) -> Driver
+    ensures { result ≡ by_mask row }
+{
+    Driver::Two(Bits(Wire::Ir, row.bit, row.bit), [row.unasked, row.asked])
 }

@@ -1,0 +1,2 @@
+pub mod BelowLaws
+pub mod PieceLaws

@@ -1,0 +1,2 @@
+pub mod NetlistText
+pub mod Pieces

@@ -1,0 +1,4 @@
+pub mod Syntax
+pub mod Meaning
+pub mod ProcessorModule
+pub mod Laws
