@@ -1,16 +1,24 @@
-/* Makes calls of devices fail: loaded before the C library, it counts the files that a program opens and the lines that it writes to
+/* Makes calls of devices fail: loaded before the C library, it counts the files that a program reads or makes and the lines that it writes to
  * standard output, both from 0. FAILING_FILE=2:5 lets all reads and writes of the file number 2 fail, FAILING_LINE=2:5 the write of the line
- * number 2. A write that fails writes the first bytes all the same, at most as many as stand after the colon. */
+ * number 2. A write that fails writes the first bytes all the same, at most as many as stand after the colon. A file that is there and opened to be
+ * written, and not made, has the number of the next one. FAILING_CALL=rename:16 lets each such call fail with that error, so also fchmod and fsync;
+ * FAILING_CALL=rename:kill ends the program there by a signal, so also fchmod, fsync and the write of a file, of which half is written. */
 #define _GNU_SOURCE
 #include <dlfcn.h>
 #include <errno.h>
 #include <fcntl.h>
+#include <signal.h>
 #include <stdarg.h>
+#include <stdio.h>
 #include <stdlib.h>
+#include <string.h>
+#include <sys/stat.h>
 #include <unistd.h>
 
+#define MOST 64
+
 static long files, lines;
-static int failing = -1;
+static int failing[MOST];
 static size_t kept_of_file;
 
 /* Whether the call of this number is to fail, and how many bytes it writes all the same. */
@@ -24,6 +32,11 @@ static int fails(const char *variable, long number, size_t *kept)
     return 1;
 }
 
+static int is_failing(int file)
+{
+    return file >= 0 && file < MOST && failing[file];
+}
+
 int open(const char *name, int flags, ...)
 {
     static int (*next)(const char *, int, ...);
@@ -34,9 +47,34 @@ int open(const char *name, int flags, ...)
     va_start(more, flags);
     made = next(name, flags, va_arg(more, int));
     va_end(more);
-    if (fails("FAILING_FILE", files++, &kept_of_file))
-        failing = made;
+    if (made >= 0 && made < MOST)
+        failing[made] = fails("FAILING_FILE", files, &kept_of_file);
+    if ((flags & O_ACCMODE) == O_RDONLY || (flags & O_CREAT))
+        files++;
     return made;
+}
+
+/* What is said of the calls of this name: the text behind the colon, or none. */
+static const char *said_of(const char *name)
+{
+    const char *text = getenv("FAILING_CALL");
+    size_t length = strlen(name);
+    return text != NULL && strncmp(text, name, length) == 0 && text[length] == ':' ? text + length + 1 : NULL;
+}
+
+static int ends_at(const char *name)
+{
+    const char *said = said_of(name);
+    return said != NULL && strcmp(said, "kill") == 0;
+}
+
+/* The error with which a call of this name is to fail, or 0; or the program is ended. */
+static int error_of(const char *name)
+{
+    const char *said = said_of(name);
+    if (ends_at(name))
+        raise(SIGKILL);
+    return said != NULL ? atoi(said) : 0;
 }
 
 ssize_t read(int file, void *bytes, size_t length)
@@ -44,7 +82,7 @@ ssize_t read(int file, void *bytes, size_t length)
     static ssize_t (*next)(int, void *, size_t);
     if (next == NULL)
         next = (ssize_t (*)(int, void *, size_t))dlsym(RTLD_NEXT, "read");
-    if (file == failing) {
+    if (is_failing(file)) {
         errno = EIO;
         return -1;
     }
@@ -57,10 +95,14 @@ ssize_t write(int file, const void *bytes, size_t length)
     size_t kept = kept_of_file;
     if (next == NULL)
         next = (ssize_t (*)(int, const void *, size_t))dlsym(RTLD_NEXT, "write");
-    if (file == failing || (file == STDOUT_FILENO && fails("FAILING_LINE", lines++, &kept))) {
+    if (is_failing(file) || (file == STDOUT_FILENO && fails("FAILING_LINE", lines++, &kept))) {
         next(file, bytes, kept < length ? kept : length);
         errno = EIO;
         return -1;
+    }
+    if (file > STDERR_FILENO && ends_at("write")) {
+        next(file, bytes, length / 2);
+        raise(SIGKILL);
     }
     return next(file, bytes, length);
 }
@@ -75,7 +117,34 @@ int close(int file)
     static int (*next)(int);
     if (next == NULL)
         next = (int (*)(int))dlsym(RTLD_NEXT, "close");
-    if (file == failing)
-        failing = -1;
+    if (is_failing(file))
+        failing[file] = 0;
     return next(file);
+}
+
+int rename(const char *from, const char *to)
+{
+    static int (*next)(const char *, const char *);
+    if (next == NULL)
+        next = (int (*)(const char *, const char *))dlsym(RTLD_NEXT, "rename");
+    errno = error_of("rename");
+    return errno ? -1 : next(from, to);
+}
+
+int fchmod(int file, mode_t mode)
+{
+    static int (*next)(int, mode_t);
+    if (next == NULL)
+        next = (int (*)(int, mode_t))dlsym(RTLD_NEXT, "fchmod");
+    errno = error_of("fchmod");
+    return errno ? -1 : next(file, mode);
+}
+
+int fsync(int file)
+{
+    static int (*next)(int);
+    if (next == NULL)
+        next = (int (*)(int))dlsym(RTLD_NEXT, "fsync");
+    errno = error_of("fsync");
+    return errno ? -1 : next(file);
 }

@@ -1,12 +1,14 @@
 #!/usr/bin/env python3
-"""Tries the program where the system gives little: a small stack, a limit for the length of files, and an end by a signal while a file is stored.
+"""Tries the program where the system gives little: a small stack, a limit for the length of files, an end by a signal while a file is stored, and files
+that can't give way to new ones.
 
 The least stack, in KB, is that of docs/LIMITS.md: with it the deepest texts of each language end as with a large one. Prints a line for each row
-that fails, and how many rows there were. The exit status is 1 where one failed.
+that fails, and how many rows there were. The exit status is 1 where one failed. Where it runs as root, what rights forbid is tried as nobody.
 """
 import os
 import re
 import resource
+import shutil
 import signal
 import subprocess
 import sys
@@ -21,7 +23,9 @@ TOP = Path(__file__).resolve().parents[2]
 ROW = re.compile(r"^\| (\d+) KB \|", re.M)
 AMPLE = 8192
 NESTED = 196
-KILLS = 20
+KILLS = 40
+NOBODY = 65534
+OLD = b"FM91 of old"
 
 
 def gypsy(front, behind):
@@ -76,7 +80,7 @@ class Rows:
             print(f"system: {row!r:.200}\n    {seen!r:.300}")
 
     def run(self, files, words, before, stdout=subprocess.PIPE):
-        """The status of a command, what it printed, and the file `o`."""
+        """The status of a command, what it printed, and the file `o`, where there is one."""
         with tempfile.TemporaryDirectory() as folder:
             for name, content in (BESIDE | files).items():
                 Path(folder, name).write_text(content)
@@ -97,39 +101,141 @@ class Rows:
             self.note(whole == small and whole[0] >= 0, (name, words, size), small[0])
 
     def file_limits(self):
-        """A file is stored as far as the system lets it be, and the end is a signal, or a status where that is ignored."""
-        files = {"s": SOURCES["loop"]}
-        whole = self.run(files, "build s 2000 2000 o", None)[2]
+        """A file that would be too long isn't stored, and an old one stays: the end is a signal, or a status where that is ignored."""
+        files, build = {"s": SOURCES["loop"]}, "build s 2000 2000 o"
         for size in 0, 1024:
             for ignored, status in ((), -signal.SIGXFSZ), ((signal.SIGXFSZ,), 10):
-                ended = self.run(files, "build s 2000 2000 o", limited(resource.RLIMIT_FSIZE, size, ignored))
-                self.note(ended[0] == status and ended[2] == whole[:size], ("build", size, status), (ended[0], len(ended[2] or b"")))
+                for old in {}, {"o": OLD.decode()}:
+                    ended = self.run(files | old, build, limited(resource.RLIMIT_FSIZE, size, ignored))
+                    self.note(ended[0] == status and ended[2] == (OLD if old else None), ("build", size, status, old), ended)
         for ignored, status in ((), -signal.SIGXFSZ), ((signal.SIGXFSZ,), 11):
             with tempfile.TemporaryFile() as out:
                 ended = self.run(files, "check s", limited(resource.RLIMIT_FSIZE, 0, ignored), out)
                 self.note(ended[0] == status, ("check", status), ended[0])
 
     def kills(self):
-        """A command that is ended while it stores leaves what was there, or a prefix of the content."""
-        seen = set()
-        with tempfile.TemporaryDirectory() as folder:
-            Path(folder, "s").write_text(SOURCES["loop"])
-            build = [self.program, *"build s 65536 65536 o".split()]
-            image = Path(folder, "o")
-            subprocess.run(build, cwd=folder, stdout=subprocess.DEVNULL, check=True)
-            whole, old = image.read_bytes(), b"FM91 of old"
+        """A command that is ended while it stores leaves the old file or the whole new one, and perhaps a part under a name of its own."""
+        seen = dict.fromkeys(("old", "whole", "part"), 0)
+        with Room(self.program) as room:
+            Path(room.folder, "p").write_text(PITON)
+            build = [room.build[0], "pbuild", "p", "o"]
+            image, part = Path(room.folder, "o"), Path(room.folder, "partly-stored-1")
+            subprocess.run(build, cwd=room.folder, stdout=subprocess.DEVNULL, check=True)
+            whole = image.read_bytes()
             for number in range(KILLS):
-                image.write_bytes(old)
-                running = subprocess.Popen(build, cwd=folder, stdout=subprocess.DEVNULL)
-                while running.poll() is None and image.stat().st_size == len(old):
+                image.write_bytes(OLD)
+                running = subprocess.Popen(build, cwd=room.folder, stdout=subprocess.DEVNULL)
+                while running.poll() is None and not part.exists() and image.stat().st_size == len(OLD):
                     pass
-                time.sleep(number * 0.0001)
+                time.sleep(number // 3 * 0.0001)
                 running.send_signal(signal.SIGKILL if number % 2 else signal.SIGINT)
                 running.wait()
-                left = image.read_bytes()
-                seen.add("old" if left == old else "whole" if left == whole else "empty" if not left else "prefix")
-                self.note(left == old or whole.startswith(left), ("killed", number), len(left))
+                left, rest = image.read_bytes(), room.parts()
+                seen["old"] += left == OLD
+                seen["whole"] += left == whole
+                seen["part"] += len(rest)
+                holds = left in (OLD, whole) and len(rest) <= 1 and all(whole.startswith(it) for it in rest)
+                self.note(holds, ("killed", number), (len(left), rest))
+                part.unlink(missing_ok=True)
         return seen
+
+    def kept(self):
+        """What a store keeps of the file that it replaces: its rights; and what it doesn't replace: links, second names, and what is no file."""
+        with Room(self.program) as room:
+            whole, image = room.stored("first"), Path(room.folder, "o")
+            for mode in 0o600, 0o640, 0o644, 0o755, 0o666:
+                image.write_bytes(OLD)
+                image.chmod(mode)
+                self.note(room.stored("o") == whole and image.stat().st_mode & 0o7777 == mode, ("rights", oct(mode)), oct(image.stat().st_mode))
+            for make, name in (lambda old, new: new.symlink_to(old.name), "link"), (lambda old, new: new.hardlink_to(old), "second"):
+                image.write_bytes(OLD)
+                other = Path(room.folder, name)
+                make(image, other)
+                before = image.stat().st_ino, other.is_symlink()
+                self.note(room.stored(name) == whole == image.read_bytes(), name, image.read_bytes())
+                self.note(before == (image.stat().st_ino, other.is_symlink()), (name, "stays"), before)
+                other.unlink()
+            Path(room.folder, "far").symlink_to("away")
+            self.note(room.stored("far") == whole == Path(room.folder, "away").read_bytes(), "a link to no file", room.parts())
+            for name in "/dev/null", "a" * 255, "/dev/full", "none/o", ".":
+                ended = room.run(name)
+                self.note(ended.returncode == (10 if name in ("/dev/full", "none/o", ".") else 0), name[:9], ended)
+            ended = room.run("/dev/stdout", stdout=subprocess.PIPE)
+            self.note(ended.stdout.startswith(whole), "/dev/stdout", ended.stdout[-20:])
+            os.mkfifo(Path(room.folder, "pipe"))
+            running = subprocess.Popen([*room.build, "2000", "2000", "pipe"], cwd=room.folder, stdout=subprocess.DEVNULL)
+            taken = Path(room.folder, "pipe").read_bytes()
+            self.note(taken == whole and running.wait() == 0, "a pipe with a name", len(taken))
+            self.note(room.parts() == [], "nothing is left", room.parts())
+            Path(room.folder, "partly-stored-1").write_bytes(OLD)
+            self.note(room.stored("o") == whole and room.parts() == [OLD], "an older part stays", room.parts())
+
+    def forbidden(self):
+        """What rights forbid: a file that may not be written stays, and one whose folder may not be is written in place."""
+        with Room(self.program, NOBODY if os.geteuid() == 0 else None) as room:
+            whole, image, folder = room.stored("first"), Path(room.folder, "o"), Path(room.folder)
+            image.write_bytes(OLD)
+            image.chmod(0o444)
+            room.give(image)
+            self.note(room.run("o").returncode == 10 and image.read_bytes() == OLD, "a file that isn't to be written", image.read_bytes()[:20])
+            image.chmod(0o644)
+            folder.chmod(0o555)
+            before = image.stat().st_ino
+            self.note(room.stored("o") == whole and image.stat().st_ino == before, "a folder that isn't to be written", image.stat())
+            self.note(room.run("new").returncode == 10 and not Path(folder, "new").exists(), "no new file there", None)
+            folder.chmod(0o755)
+            if os.geteuid() == 0:
+                image.write_bytes(OLD)
+                os.chown(image, 0, 0)
+                image.chmod(0o666)
+                before = image.stat().st_ino
+                room.give(folder)
+                self.note(room.stored("o") == whole and (image.stat().st_ino, image.stat().st_uid) == (before, 0), "a file of another's", image.stat())
+            self.note(room.parts() == [], "nothing is left", room.parts())
+
+    def together(self):
+        """Commands that store under one name at once: one of them is there, whole."""
+        with Room(self.program) as room:
+            whole = {size: room.stored("o", size) for size in (2000, 3000, 4000)}
+            for _ in range(10):
+                running = [subprocess.Popen([*room.build, str(it), str(it), "o"], cwd=room.folder, stdout=subprocess.DEVNULL) for it in whole]
+                ended = [it.wait() for it in running]
+                left = Path(room.folder, "o").read_bytes()
+                self.note(ended == [0, 0, 0] and left in whole.values() and not room.parts(), "three at once", (ended, len(left), room.parts()))
+
+
+class Room:
+    """A folder with a source, in which the program builds it; as another user, where one is given."""
+
+    def __init__(self, program, user=None):
+        self.user, self.held = user, tempfile.TemporaryDirectory()
+        self.folder = self.held.name
+        own = shutil.copy(program, Path(self.folder, "program"))
+        Path(self.folder, "s").write_text(SOURCES["loop"])
+        self.build = [own, "build", "s"]
+        self.give(self.folder)
+
+    def __enter__(self):
+        return self
+
+    def __exit__(self, *_):
+        self.held.cleanup()
+
+    def give(self, path):
+        if self.user is not None:
+            os.chown(path, self.user, self.user)
+
+    def run(self, name, size=2000, stdout=subprocess.DEVNULL):
+        words = [*self.build, str(size), str(size), name]
+        return subprocess.run(words, cwd=self.folder, stdout=stdout, check=False, user=self.user, group=self.user)
+
+    def stored(self, name, size=2000):
+        """The file of a name, after a build into it that ends well; otherwise nothing."""
+        ended = self.run(name, size)
+        return None if ended.returncode else Path(self.folder, name).read_bytes()
+
+    def parts(self):
+        return [it.read_bytes() for it in sorted(Path(self.folder).glob("partly-stored-*"))]
 
 
 def main():
@@ -144,8 +250,12 @@ def main():
         return 0
     rows.stacks(int(ROW.search((TOP / "docs/LIMITS.md").read_text()).group(1)))
     rows.file_limits()
+    rows.kept()
+    rows.forbidden()
+    rows.together()
     seen = rows.kills()
-    print(f"{rows.count:5} rows: system, {rows.failed} failed; killed while it stored, the file was {', '.join(sorted(seen))}")
+    told = f"of {KILLS} commands killed {seen['old']} left the old file, {seen['whole']} the new one, and {seen['part']} a part beside it"
+    print(f"{rows.count:5} rows: system, {rows.failed} failed; {told}")
     return 1 if rows.failed else 0
 
 

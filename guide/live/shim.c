@@ -66,6 +66,22 @@ int open(const char *path, int flags, ...) {
     return file;
 }
 
+/* The page's files are no ordinary ones, so each is written in place, and none of the other calls is made. */
+int statx(int file, const char *path, int flags, unsigned wanted, unsigned char *found) {
+    __builtin_memset(found, 0, 256);
+    *(unsigned short *)(found + 28) = 0020666;
+    return 0;
+}
+
+static int refused(void) { error = 1; return -1; }
+int ftruncate(int file, long size) { return refused(); }
+int fchmod(int file, unsigned mode) { return refused(); }
+int fsync(int file) { return refused(); }
+int fdatasync(int file) { return refused(); }
+int flock(int file, int how) { return refused(); }
+int rename(const char *from, const char *to) { return refused(); }
+int unlink(const char *path) { return refused(); }
+
 /* At its start a program asks whether the processor has what it was compiled for. This machine has other instructions, and needs none of that. */
 static const unsigned has[8] = {~0u, ~0u, ~0u, ~0u, ~0u, ~0u, ~0u, ~0u};
 const unsigned *__x86_get_cpuid_feature_leaf(unsigned leaf) { return has; }

@@ -1,8 +1,9 @@
 -- What is read from a stream and written to one.
-use Rattle.std.specs.Prelude.{◌≡◌, ◌≤◌, ◌<◌, ℕ, List, length, Option, IfSome, Result, Ok, Err}
+use Rattle.std.specs.Prelude.{◌≡◌, ◌≤◌, ◌<◌, ℕ, Bool, true, false, List, length, Option, IfSome, Result, Ok, Err}
 use Rattle.std.specs.Global.{Vec}
 use Rattle.std.specs.declared.io.ErrorKind.{ErrorKind}
-use Rattle.std.specs.declared.io.ErrorKind.TheVariants.{NotFound}
+use Rattle.std.specs.declared.io.ErrorKind.TheVariants.{NotFound, PermissionDenied, ReadOnlyFilesystem, InvalidFilename}
+use Rattle.std.specs.declared.io.ErrorKind.TheVariants.{ResourceBusy, Unsupported}
 use Rattle.stack_shelf.specs.declared.fault.FetchFault.{FetchFault}
 use Rattle.stack_shelf.specs.declared.fault.FetchFault.TheVariants.{Missing, TooLong, Failed, Memory}
 
@@ -30,3 +31,12 @@ WithWriter (Err e) new P = ⊥
 abbrev pub WithWriterIfAny : {W E : Type 0} → Result W E → Result W E → (W → W → Type 0) → Type 0
 WithWriterIfAny (Ok old) new P = WithWriter (Ok old) new P
 WithWriterIfAny (Err e) new P = new ≡ Err e
+
+-- whether an error says that the system doesn't allow another file beside one, and not that a device failed
+abbrev pub is_refusal : ErrorKind → Bool
+is_refusal PermissionDenied = true
+is_refusal ReadOnlyFilesystem = true
+is_refusal InvalidFilename = true
+is_refusal ResourceBusy = true
+is_refusal Unsupported = true
+is_refusal kind = false

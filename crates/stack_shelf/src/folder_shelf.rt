@@ -3,7 +3,8 @@ ghost use Rattle.std.specs.Prelude.{◌≡◌, ◌≤◌, length, IfOk};
 ghost use Rattle.stack_shelf.specs.Causes.{NoneFell};
 ghost use Rattle.stack_shelf.specs.System.{for_each_name, folder_after_fetch, folder_after_store};
 
-use crate::streams::{fetch_from, store_into};
+use crate::replacing::store_at;
+use crate::streams::fetch_from;
 use crate::{FetchFault, Shelf, StoreFault};
 use std::alloc::Global;
 use std::fs;
@@ -17,8 +18,9 @@ use std::rt::Files;
 /// the files, since other programs may change them. The shelf keeps one count of each kind for all names
 /// together, and adds one at each `Err` of that kind, up to `u64::MAX`.
 ///
-/// A failing `store` may leave a prefix of the bytes: the file is written in place. Reads and writes that
-/// were interrupted are tried again.
+/// A `store` that fails, or during which the program is ended, leaves an ordinary file as it was, and perhaps a file `partly-stored-1` or
+/// the like beside it. What it has to write in place may be left with a prefix of the bytes. Reads and writes that were interrupted are tried
+/// again.
 #[derive(Drop)]
 pub struct FolderShelf<R: Files + Drop> {
     rt: R,
@@ -86,8 +88,8 @@ impl<R: Files + Drop> Shelf for FolderShelf<R> {
         ensures after { self.new ≡ folder_after_store self.old result }
     {
         let path = self.folder.join(self.alloc, name)?;
-        let stored = store_into(&mut fs::create(&self.rt, path.as_path()), bytes);
-        if stored.is_err() {
+        let stored = store_at(self.alloc, &self.rt, path.as_path(), bytes);
+        if stored == Err(StoreFault::Failed) {
             self.faults = self.faults.saturating_add(1);
         }
         stored

@@ -23,7 +23,8 @@
 //! or `Write`, whose contract names the bytes: which fault an error of opening or writing is, and that all
 //! bytes are read or written, is proved there. That a read which breaks is a fault is tested, since std's
 //! `Read` doesn't say when a read fails. What is left to trust is that the stream is opened at the right path and that the
-//! call's own arguments are handed on.
+//! call's own arguments are handed on. A store of the folder first writes a file of another name, and renames it: that it has
+//! all bytes by then is proved, and what the calls between do is tested.
 //!
 //! # Another shelf
 //!
@@ -45,6 +46,7 @@ mod fault;
 mod folder_shelf;
 mod memory_shelf;
 mod memory_sink;
+mod replacing;
 mod shelf;
 mod sink;
 mod stdout_sink;

@@ -93,7 +93,7 @@ fn read_within<R: Read>(alloc: Global, reader: &mut R, limit: u64) -> Result<Vec
 
 /// Writes all the bytes, in as many writes as it takes. If the writer takes none of what is left,
 /// that is a `WriteZero`.
-fn write_whole<W: Write>(writer: &mut W, bytes: &[u8]) -> io::Result<()>
+pub fn write_whole<W: Write>(writer: &mut W, bytes: &[u8]) -> io::Result<()>
     ensures all { OnOk result (Appends (W.contents writer.old) (W.contents writer.new) bytes.now) }
     ensures prefix { OnErr result ((count : ℕ) ×
         Appends (W.contents writer.old) (W.contents writer.new) (take count bytes.now)) }

@@ -83,15 +83,15 @@ impl Seek for Trickle {
 
 impl OpenFile for Trickle {
     fn metadata(&self) -> io::Result<Metadata> {
-        unasked()
+        Ok(Metadata::of_file(0))
     }
 
     fn set_len(&self, _size: u64) -> io::Result<()> {
-        unasked()
+        Ok(())
     }
 
     fn sync_all(&self) -> io::Result<()> {
-        unasked()
+        Ok(())
     }
 
     fn sync_data(&self) -> io::Result<()> {
@@ -99,10 +99,11 @@ impl OpenFile for Trickle {
     }
 }
 
-/// A system whose files are all one stream.
+/// A system whose files are all one stream, and are there, or are to be made first.
 #[derive(Drop)]
 struct OneFile {
     file: Trickle,
+    is_there: bool,
 }
 
 impl Files for OneFile {
@@ -110,8 +111,12 @@ impl Files for OneFile {
 
     type Dir = Trickle;
 
-    fn open_file(&self, _how: &OpenOptions, _path: &str) -> io::Result<Trickle> {
-        Ok(self.file)
+    fn open_file(&self, how: &OpenOptions, _path: &str) -> io::Result<Trickle> {
+        if self.is_there || how.asks_create_new() {
+            Ok(self.file)
+        } else {
+            Err(ErrorKind::NotFound.into())
+        }
     }
 
     fn open_dir(&self, _path: &str) -> io::Result<Trickle> {
@@ -123,7 +128,11 @@ impl Files for OneFile {
     }
 
     fn symlink_metadata(&self, _path: &str) -> io::Result<Metadata> {
-        unasked()
+        if self.is_there {
+            Ok(Metadata::of_file(0))
+        } else {
+            Err(ErrorKind::NotFound.into())
+        }
     }
 
     fn copy(&self, _from: &str, _to: &str) -> io::Result<u64> {
@@ -131,11 +140,11 @@ impl Files for OneFile {
     }
 
     fn rename(&self, _from: &str, _to: &str) -> io::Result<()> {
-        unasked()
+        Ok(())
     }
 
     fn remove_file(&self, _path: &str) -> io::Result<()> {
-        unasked()
+        Ok(())
     }
 
     fn create_dir(&self, _path: &str) -> io::Result<()> {
@@ -180,13 +189,17 @@ impl Print for OneOutput {
 
 /// How many bytes are fetched of a file that is such a stream, where at most three are asked for.
 fn fetched(alloc: Global, file: Trickle) -> Result<usize, FetchFault> {
-    let mut shelf = FolderShelf::new(alloc, OneFile { file }, PathBuf::new(alloc));
+    let system = OneFile {
+        file,
+        is_there: true,
+    };
+    let mut shelf = FolderShelf::new(alloc, system, PathBuf::new(alloc));
     Ok(shelf.fetch(alloc, "file", 3)?.len())
 }
 
-/// Stores three bytes in such a file.
-fn stored(alloc: Global, file: Trickle) -> Result<(), StoreFault> {
-    let mut shelf = FolderShelf::new(alloc, OneFile { file }, PathBuf::new(alloc));
+/// Stores three bytes in such a file, in place or as a new one.
+fn stored(alloc: Global, file: Trickle, is_there: bool) -> Result<(), StoreFault> {
+    let mut shelf = FolderShelf::new(alloc, OneFile { file, is_there }, PathBuf::new(alloc));
     shelf.store("file", b"abc")
 }
 
@@ -213,8 +226,13 @@ fn a_stream_is_read_to_its_end_and_written_whole(rt: HostRuntime) {
         let stream = Trickle::new(left, is_broken);
         assert!(rt; fetched(alloc, stream) == read, "{left} {is_broken}");
         assert!(rt; put(stream) == written, "{left} {is_broken}");
-        let is_stored = stored(alloc, stream).is_ok();
-        assert!(rt; is_stored == written.is_ok(), "{left} {is_broken}");
+        for is_there in [true, false] {
+            let is_stored = stored(alloc, stream, is_there).is_ok();
+            assert!(rt;
+                is_stored == written.is_ok(),
+                "{left} {is_broken} {is_there}"
+            );
+        }
     }
     let beyond = fetched(alloc, Trickle::new(4, false));
     assert!(rt; beyond == Err(FetchFault::TooLong));
