@@ -26,6 +26,7 @@ use Rattle.stack_build.specs.Implements.{FitsFormals, Implements}
 use Rattle.stack_build.specs.Meant.{KeptMeansOnly}
 use Rattle.stack_build.specs.Moments.{KeepsMoments}
 use Rattle.stack_build.specs.Joined.{BuiltImplements, BuiltTakesValues}
+use Rattle.stack_build.proofs.MeantLaws.{not_within}
 use Rattle.command_line.specs.declared.command.Command.{Command}
 use Rattle.command_line.specs.declared.command.Command.TheVariants as command
 use Rattle.command_line.specs.declared.command.TaskFiles.{TaskFiles}
@@ -42,7 +43,7 @@ use Rattle.stack_commands.specs.Commands.Run.{run_reply}
 use Rattle.stack_commands.specs.Prepared.{reply_by}
 use Rattle.cli_stack.specs.Answer.{answer_with, answer_on, answer_to}
 use Rattle.cli_stack.specs.Turns.{TaskOf, IsTask, AreTasks, TellsTask, TellsInTurn, IsDoneWithin, TellsTasks, TellsEach}
-use Rattle.cli_stack.proofs.DecidesLaws.{done, not_within, spent_told}
+use Rattle.cli_stack.proofs.DecidesLaws.{done, spent_told}
 use Rattle.cli_stack.proofs.TaskCountLaws.{HasFew}
 use Rattle.stack_commands.specs.Commands.Turns.{few_enough, image_or_fault, images_from, word_count, small_enough, values_or_fault, tasks_from, tasks_of, last_round, round_line, task_text, tasks_text, is_end, tasks_verdict, tasks_reply, turns_by, turns_reply}
 use Rattle.cli_stack.proofs.TasksReadyLaws.{tasks_ready, text_behind}
@@ -105,7 +106,7 @@ module _ (implement : BuiltImplements) (take : BuiltTakesValues) (meant : KeptMe
           told = ap (λ (r : Run). round_line i (last_round turn budget r) ++ reply_text reply) spent;
           either = inr (
             record {
-              beyond = not_within meant t.image t.source sizes is.implements is.moments t.values is.fits budget None reply refl spent;
+              beyond = not_within t.image t.source sizes is.implements t.values is.fits budget spent;
               tells = spent_told meant t.image t.source sizes is.implements is.moments t.values is.fits budget None reply refl spent;
             },
             refl,

@@ -46,7 +46,7 @@ use Rattle.cli_stack.specs.Causes.{RoseAt}
 use Rattle.cli_stack.specs.Agrees.{Agrees}
 use Rattle.cli_stack.specs.World.{World}
 use Rattle.cli_stack.proofs.MeansLaws.{first_name, others}
-use Rattle.cli_stack.proofs.SlotLaws.{image_takes}
+use Rattle.stack_build.proofs.SlotLaws.{image_takes}
 use Rattle.cli_stack.proofs.TellsLaws.{both_there}
 
 -- 1. What is within the limits is built.

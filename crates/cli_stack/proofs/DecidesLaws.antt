@@ -1,7 +1,6 @@
 -- What `go` decides, by the image that it runs.
 use Rattle.std.proofs.Common.{◌≡◌, ◌≤◌, inl, inr, ⊎_elim, ℕ, List, [], ◌∷◌, ◌++◌, Option, Result, Ok, Err, IfOk, length, refl, sym, ap, ◌∙◌, subst, arith}
-use Rattle.std.specs.Prelude.{◌<◌, ◌^◌}
-use Rattle.std.proofs.lemmas.Bool.{cases_lt}
+use Rattle.std.specs.Prelude.{◌^◌}
 use Rattle.stack_text.specs.Results.{◌>>=◌}
 use Rattle.stack_text.specs.Values.{ValueOf}
 use Rattle.stack_shelf.specs.Files.{Files}
@@ -9,7 +8,7 @@ use Rattle.stack_shelf.specs.Shelf.{fetched}
 use Rattle.fm_machine.specs.Outcome.{RunOutcome, IsOutcome, outcome}
 use Rattle.fm_machine.specs.declared.processor.Run.{Run}
 use Rattle.fm_machine.specs.declared.processor.Run.TheVariants as run
-use Rattle.fm_machine.proofs.RunLaws.{outcome_is, outcome_only}
+use Rattle.fm_machine.proofs.RunLaws.{outcome_is}
 use Rattle.fm_image.specs.Image.{ImageOf}
 use Rattle.fm_image.proofs.ImageLaws.{spelled_reads}
 use Rattle.fm_loader.specs.Loaded.{loaded}
@@ -17,14 +16,14 @@ use Rattle.fm_loader.specs.Values.{values_in}
 use Rattle.level_debuggers.specs.Tallies.{Watching}
 use Rattle.gypsy_syntax.specs.Sources.{SourceOf}
 use Rattle.gypsy_space.specs.Needs.{StackSizes, stack_sizes}
-use Rattle.gypsy_semantics.specs.Calls.{CurrentCondition}
 use Rattle.stack_build.specs.declared.fault.BuildFault.{BuildFault}
 use Rattle.stack_build.specs.declared.fault.BuildFault.TheVariants as fault
 use Rattle.stack_build.specs.Build.{BuiltOf, BuildsText, built}
-use Rattle.stack_build.specs.Implements.{FitsFormals, Finishes, Implements}
+use Rattle.stack_build.specs.Implements.{FitsFormals, Implements}
 use Rattle.stack_build.specs.Joined.{BuiltImplements, BuiltTakesValues}
 use Rattle.stack_build.specs.Meant.{KeptMeansOnly, IsMeant}
 use Rattle.stack_build.specs.Moments.{KeepsMoments}
+use Rattle.stack_build.proofs.MeantLaws.{not_within}
 use Rattle.command_line.proofs.FileLaws.{was_short}
 use Rattle.command_line.specs.declared.command.Command.{Command}
 use Rattle.command_line.specs.declared.command.Command.TheVariants as command
@@ -77,18 +76,9 @@ module _ (meant : KeptMeansOnly) (image : ImageOf) (source : SourceOf) (sizes : 
       let said : reply.said ≡ [] = ap (λ (r : ReplyOf). r.said) is ∙ ap (λ (r : Run). (end_reply image budget r o.state).said) spent in
       record { status = ap status_of verdict; text = λ i. said i ++ verdict_line (verdict i) }
 
-  pub not_within : (outcome budget image.final_pc (loaded image values)).run ≡ run.Spent → (finals : List ValueOf) (way : CurrentCondition) (count : ℕ) → Finishes source sizes values finals way count → budget < count
-  not_within spent finals way count fin =
-      ⊎_elim (λ beyond. beyond) (λ within.
-      let end = does values finals way count fits fin in
-      let ended : (outcome budget image.final_pc (loaded image values)).run ≡ run.Ended count =
-      ap (λ (o : RunOutcome). o.run) (outcome_only (loaded image values) image.final_pc budget (run.Ended count) end.state (within, end.first)) in
-      let both : run.Spent ≡ run.Ended count = sym spent ∙ ended in
-      absurd cc) (cases_lt budget count)
-
   pub reply_decided : Decided source sizes image values budget (answer_with output reply)
   reply_decided = record {
-    either = ⊎_elim (λ ended. inl (done ended.0 ended.1 ended.2).0) (λ spent. inr (record { beyond = not_within spent; tells = spent_told spent })) ((meant image source sizes keeps).inside values budget fits);
+    either = ⊎_elim (λ ended. inl (done ended.0 ended.1 ended.2).0) (λ spent. inr (record { beyond = not_within image source sizes does values fits budget spent; tells = spent_told spent })) ((meant image source sizes keeps).inside values budget fits);
     endless = λ never. spent_told ((meant image source sizes keeps).endless values budget fits never);
   }
 

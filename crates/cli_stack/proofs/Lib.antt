@@ -24,7 +24,6 @@ pub mod PutLaws
 pub mod RoleLaws
 pub mod RoomLaws
 pub mod SizeLaws
-pub mod SlotLaws
 pub mod TaskCountLaws
 pub mod TasksReadyLaws
 pub mod TellsLaws

@@ -62,7 +62,7 @@ use Rattle.cli_stack.specs.OneResult.{TellsAlso, GoAlike, LargerStacksTellTheSam
 use Rattle.cli_stack.specs.Tells.{IsBuilt, TellsMeaning}
 use Rattle.cli_stack.proofs.GoLaws.{first_once, early_done, build_done, go_done}
 use Rattle.cli_stack.proofs.RoomLaws.{needs}
-use Rattle.cli_stack.proofs.SlotLaws.{image_takes}
+use Rattle.stack_build.proofs.SlotLaws.{image_takes}
 use Rattle.cli_stack.proofs.TellsLaws.{is_there, go_tells}
 
 -- 1. A report says nothing of the sizes.

@@ -1,5 +1,5 @@
 -- Items of variables.
-use Rattle.std.proofs.Common.{◌≡◌, ◌<◌, ◌+◌, ◌-◌, ◌⊎◌, ◌||◌, ◌∙◌, ℕ, suc, pos, negsuc, Bool, true, false, eqb, List, [], ◌∷◌, length, map, refl, sym, ap, subst, inl, inr, true≢false, arith}
+use Rattle.std.proofs.Common.{◌≡◌, ◌<◌, ◌+◌, ◌-◌, ◌⊎◌, ◌||◌, ◌∙◌, ℕ, suc, pos, negsuc, Bool, true, false, eqb, List, [], ◌∷◌, length, map, refl, sym, ap, subst, inl, inr, true≢false, Vec, Global, find, bytes_eq, option_map, Option, arith}
 use Rattle.std.specs.Prelude.{ℤ}
 use Rattle.std.specs.List.{list_all}
 use Rattle.std.proofs.lemmas.Bool.{eqb-true, and_parts}
@@ -7,13 +7,14 @@ use Rattle.stack_text.specs.declared.shape.Kind.{Kind}
 use Rattle.stack_text.specs.declared.shape.Kind.TheVariants.{Integer, Boolean, Character}
 use Rattle.stack_text.specs.declared.shape.Shape.{Shape}
 use Rattle.stack_text.specs.Values.{ValueOf, item_count, is_item, is_value}
+use Rattle.stack_text.proofs.SharedLaws.{find_map}
 use Rattle.fm_words.specs.Word.{is_int, word_of_int}
 use Rattle.fm_words.proofs.WordLaws.{signed_of-word_of_int}
 use Rattle.fm_machine.specs.State.{Fm}
 use Rattle.fm_image.specs.declared.slot.Slot.{Slot}
 use Rattle.display_maps.specs.declared.shown.Shown.{Shown}
 use Rattle.display_maps.specs.declared.shown.Shown.TheVariants.{Number}
-use Rattle.display_maps.specs.Reading.{word_or_zero, item_of, words_down, variable_of}
+use Rattle.display_maps.specs.Reading.{word_or_zero, item_of, items_named, words_down, variable_of}
 use Rattle.display_maps.specs.ValueReading.{item_shown, value_shown}
 
 -- one of them, and those below it
@@ -59,3 +60,13 @@ slot_read s slot value same is fit held =
     ap (λ (shape : Shape). (slot.name, map (item_of shape.kind) (words_down s slot.address (item_count shape)))) same
     ∙ ap (λ (words : List ℕ). (slot.name, map (item_of value.shape.kind) words)) held
     ∙ ap (λ (shown : List Shown). (slot.name, shown)) (items_read value.shape.kind value.items p.1 fit)
+
+-- the items of the first variable of a name, as vectors have them
+pub items_found : (name : List ℕ) (variables : List (List ℕ × Vec Shown Global)) (shown : List (List ℕ × List Shown)) (found : Option (List ℕ × Vec Shown Global))
+    → map (λ (v : List ℕ × Vec Shown Global). (v.0, v.1.items)) variables ≡ shown → found ≡ find (λ (v : List ℕ × Vec Shown Global). bytes_eq v.0 name) variables
+    → option_map (λ (v : List ℕ × Vec Shown Global). v.1.items) found ≡ items_named name shown
+unfolding items_named
+items_found name variables shown found view is =
+    ap (λ (o : Option (List ℕ × Vec Shown Global)). option_map (λ (v : List ℕ × Vec Shown Global). v.1.items) o) is
+    ∙ sym (find_map (λ (v : List ℕ × Vec Shown Global). (v.0, v.1.items)) (λ (v : List ℕ × List Shown). bytes_eq v.0 name) (λ (v : List ℕ × List Shown). v.1) variables)
+    ∙ ap (λ (vs : List (List ℕ × List Shown)). option_map (λ (v : List ℕ × List Shown). v.1) (find (λ (v : List ℕ × List Shown). bytes_eq v.0 name) vs)) view

@@ -1,5 +1,6 @@
 -- what is promised
 pub mod Reading
+pub mod Endings
 pub mod ReadingAt
 pub mod Report
 pub mod ValueReading

@@ -1,7 +1,9 @@
 -- Memory read as a condition and variables.
 use Rattle.std.specs.Prelude.{ℕ, zero, suc, ◌-◌, List, [], ◌∷◌, map, Option, Some, None}
 use Rattle.std.specs.Prelude.{true, false, ◌==◌, nat_le, if◌then◌else◌, slice_get, unwrap_or, codes}
+use Rattle.std.specs.List.{find}
 use Rattle.std.specs.Option.{option_map}
+use Rattle.std.specs.Str.{bytes_eq}
 use Rattle.stack_text.specs.declared.shape.Kind.{Kind}
 use Rattle.stack_text.specs.declared.shape.Kind.TheVariants.{Integer, Boolean, Character}
 use Rattle.stack_text.specs.Values.{item_count}
@@ -62,3 +64,7 @@ reading image s =
       condition = option_map (λ address. condition_of image.conditions (word_or_zero s address)) image.condition_address;
       items = map (variable_of s) image.slots;
     }
+
+-- the items of the first variable of a name
+unfoldable pub items_named : List ℕ → List (List ℕ × List Shown) → Option (List Shown)
+items_named name variables = option_map (λ variable. variable.1) (find (λ variable. bytes_eq variable.0 name) variables)

@@ -1,7 +1,9 @@
 //! Memory read as a condition and variables.
 
 ghost use Rattle.std.specs.Prelude.{◌≡◌, map, IfOk};
+ghost use Rattle.std.specs.List.{find};
 ghost use Rattle.std.specs.Option.{option_map};
+ghost use Rattle.std.specs.Str.{bytes_eq};
 ghost use Rattle.stack_text.specs.Values.{item_count};
 ghost use Rattle.display_maps.specs.Reading.{word_or_zero, condition_of, item_of, words_down, variable_of, reading};
 
@@ -30,6 +32,35 @@ impl Model for Reading {
     ghost Value = { ReadingOf };
 
     ghost view = { λ r. record { condition = r.condition; items = map (λ item. (item.0, item.1.items)) r.items.items } };
+}
+
+impl Reading {
+    ghost use Rattle.std.specs.Prelude.{◌≡◌};
+    ghost use Rattle.std.specs.Option.{option_map};
+    ghost use Rattle.display_maps.specs.Reading.{items_named};
+
+    /// The items of the variable of a name, where there is one: a single item, or as many as an array has.
+    pub fn items_of(&self, name: &str) -> Option<&[Shown]>
+        ensures { option_map (λ items. items.now) result ≡ items_named name.now self.now.items }
+    {
+        match first_named(&self.items, name) {
+            Some((_, items)) => Some(items.as_slice()),
+            None => None,
+        }
+    }
+}
+
+/// The first variable of a name.
+fn first_named<'a>(
+    variables: &'a [(Name, Vec<Shown>)],
+    name: &str,
+) -> Option<&'a (Name, Vec<Shown>)>
+    ensures { option_map (λ variable. variable.now) result
+        ≡ find (λ variable. bytes_eq variable.0 name.now) variables.now }
+{
+    variables
+        .iter()
+        .find(|variable| variable.0.bytes() == name.as_bytes())
 }
 
 /// The word at an address, or 0 outside the window.

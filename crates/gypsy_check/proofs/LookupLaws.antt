@@ -6,6 +6,7 @@ use Rattle.std.proofs.lemmas.Bool.{cases_lt}
 use Rattle.gypsy_syntax.specs.declared.literal.TypeText.{TypeText}
 use Rattle.gypsy_syntax.specs.Resolved.{place_among, condition_names, procedure_at}
 use Rattle.stack_text.specs.declared.name.Named.{Named}
+use Rattle.stack_text.proofs.SharedLaws.{find_map}
 use Rattle.gypsy_syntax.specs.declared.literal.Decl.{Decl}
 use Rattle.gypsy_syntax.specs.declared.literal.Local.{Local}
 use Rattle.gypsy_syntax.specs.declared.proc.Proc.{Proc}
@@ -74,14 +75,6 @@ any_two key name [] (y ∷ ys) = ap (λ b. bytes_eq name (key y) || b) (any_two 
 any_two key name (x ∷ xs) ys = pick (bytes_eq name (key x)) (any_two key name xs ys)
   where
     pick : (b : Bool) → list_any (bytes_eq name) (map key xs ++ map key ys) ≡ (list_any (λ x. bytes_eq name (key x)) xs || list_any (λ y. bytes_eq name (key y)) ys) → (b || list_any (bytes_eq name) (map key xs ++ map key ys)) ≡ (b || list_any (λ x. bytes_eq name (key x)) xs || list_any (λ y. bytes_eq name (key y)) ys)
-    pick true e = refl
-    pick false e = e
-
-find_map : {X Y Z : Type 0} (g : X → Y) (p : Y → Bool) (type : Y → Z) (xs : List X) → option_map type (find p (map g xs)) ≡ option_map (λ x. type (g x)) (find (λ x. p (g x)) xs)
-find_map g p type [] = refl
-find_map g p type (x ∷ xs) = pick (p (g x)) (find_map g p type xs)
-  where
-    pick : (b : Bool) → option_map type (find p (map g xs)) ≡ option_map (λ x. type (g x)) (find (λ x. p (g x)) xs) → option_map type (cond b (Some (g x)) (find p (map g xs))) ≡ option_map (λ y. type (g y)) (cond b (Some x) (find (λ y. p (g y)) xs))
     pick true e = refl
     pick false e = e
 

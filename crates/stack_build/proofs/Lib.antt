@@ -31,3 +31,5 @@ pub mod TableLaws
 pub mod ListingLaws
 pub mod TextLaws
 pub mod ShortLaws
+pub mod SlotLaws
+pub mod SourceRunLaws

@@ -24,7 +24,7 @@ use Rattle.gypsy_semantics.proofs.CountLaws.{meaning-uncounted}
 use Rattle.gypsy_semantics.proofs.Runs.{agree}
 use Rattle.gypsy_codegen.specs.Moments.{moment_from}
 use Rattle.gypsy_codegen.proofs.MomentLaws.{moment_over, counts_grow}
-use Rattle.stack_build.specs.Implements.{meaning_shown, Finishes}
+use Rattle.stack_build.specs.Implements.{meaning_shown, FitsFormals, Finishes, Implements}
 use Rattle.stack_build.specs.ComesTo.{ComesTo}
 use Rattle.stack_build.specs.Moments.{ArrivesAt, KeepsMoments}
 use Rattle.stack_build.specs.Meant.{IsMeant, EndsAsMeant, NeverOutside, EndlessAsMeant, KeptMeansOnly}
@@ -111,6 +111,18 @@ module _ (image : ImageOf) (s : SourceOf) (sizes : StackSizes) (keeps : KeepsMom
     where
       no_end : (m : MeaningOutcome) (x : List ValueOf) (c : CurrentCondition) → m ≡ Unfinished → m ≡ Done x c → ⊥
       no_end m x c never done = let both : Unfinished ≡ Done x c = sym never ∙ done in absurd cc
+
+-- where the budget is spent, the meaning isn't done within it
+pub not_within : (image : ImageOf) (s : SourceOf) (sizes : StackSizes) → Implements image s sizes → (v : List ValueOf) → FitsFormals s v → (budget : ℕ)
+    → (outcome budget image.final_pc (loaded image v)).run ≡ run.Spent
+    → (finals : List ValueOf) (way : CurrentCondition) (count : ℕ) → Finishes s sizes v finals way count → budget < count
+not_within image s sizes does v fits budget spent finals way count fin =
+    ⊎_elim (λ beyond. beyond) (λ within.
+    let end = does v finals way count fits fin in
+    let ended : (outcome budget image.final_pc (loaded image v)).run ≡ run.Ended count =
+    ap (λ (o : RunOutcome). o.run) (outcome_only (loaded image v) image.final_pc budget (run.Ended count) end.state (within, end.first)) in
+    let both : run.Spent ≡ run.Ended count = sym spent ∙ ended in
+    absurd cc) (cases_lt budget count)
 
 pub means_only : KeptMeansOnly
 means_only image s sizes keeps = record { ends = ends image s sizes keeps; inside = inside image s sizes keeps; endless = endless image s sizes keeps }

@@ -15,5 +15,6 @@ pub mod Build
 pub mod Joined
 pub mod Inside
 pub mod Starts
+pub mod SourceRuns
 -- In folders: scaffold.
 pub mod Scaffold

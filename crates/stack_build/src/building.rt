@@ -38,6 +38,22 @@ impl Model for Built {
     ghost view = { λ b. record { piton = b.piton; image = b.image; bytes = b.bytes.items } };
 }
 
+impl Built {
+    ghost use Rattle.std.specs.Prelude.{◌≡◌};
+
+    /// The image alone.
+    pub fn into_image(self) -> Image
+        ensures { result ≡ self.image }
+    {
+        let Built {
+            image,
+            piton: _,
+            bytes: _,
+        } = self;
+        image
+    }
+}
+
 /// The accepted source of a text.
 ///
 /// # Errors

@@ -7,6 +7,7 @@ ghost use Rattle.stack_build.specs.Meant.{KeptMeansOnly};
 ghost use Rattle.stack_build.specs.ReadMoments.{KeptMomentsAreSaid};
 ghost use Rattle.stack_build.specs.StandsForPiton.{GeneratedImageStandsForPiton};
 ghost use Rattle.stack_build.specs.Traces.{GeneratedImageKeepsTraces};
+ghost use Rattle.stack_build.specs.SourceRuns.{SourceRunsTellMeaning};
 ghost use Rattle.stack_build.specs.SourceMoments.{MomentsAreRead, ShownMomentsAreRead};
 
 /// The image of each accepted source, at sizes and a base within the limits, does what the source means: loaded with
@@ -58,6 +59,16 @@ pub fn builds_stay_inside()
 pub fn runs_are_meant()
     ensures { KeptMeansOnly }
 {}
+
+/// What a run of the source in a text tells, on the values in a second text, is what the source means on them: the values and the
+/// condition that its meaning is done with, after exactly the counted instructions, or that it isn't done within the budget. So a
+/// program that calls `build` and then `run_on` of `display_maps` inherits the theorem.
+pub fn source_runs_tell_meaning()
+    ensures { SourceRunsTellMeaning }
+{
+    builds_implement();
+    runs_are_meant();
+}
 
 /// After each number of steps of a source's step machine memory is read, by the image's own tables, as that state; and at the end as
 /// the meaning.

@@ -25,6 +25,7 @@ pub use imaging::linked_image;
 pub use law::{
     builds_implement, builds_stay_inside, images_implement, images_keep_traces, images_say_moments,
     images_stand_for_piton, moments_are_read, placed_are_words, runs_are_meant,
+    source_runs_tell_meaning,
 };
 pub use meaning_starts::start_meaning;
 pub use start_fault::StartFault;

@@ -1,9 +1,10 @@
 -- Names and numerals are runs of atom bytes, so that they may be atoms; and a number's decimal digits are a numeral of it.
-use Rattle.std.proofs.Common.{◌≡◌, ◌≢◌, ℕ, suc, ◌<◌, ◌≤◌, ◌^◌, Bool, true, false, not, ◌&&◌, ◌||◌, cond, eqb, leb, ltb, List, [], ◌∷◌, length, Some, refl, ap, subst, ◌∙◌, arith}
+use Rattle.std.proofs.Common.{◌≡◌, ◌≢◌, ℕ, zero, suc, ◌<◌, ◌≤◌, ◌^◌, Bool, true, false, not, ◌&&◌, ◌||◌, cond, eqb, leb, ltb, List, [], ◌∷◌, length, Some, refl, ap, subst, ◌∙◌, arith}
 use Rattle.std.specs.Prelude.{ℤ, pos, negsuc, neg_ℤ}
 use Rattle.std.specs.List.{list_all}
 use Rattle.std.specs.Char.{is_ascii_digit, is_ascii_alphanumeric}
 use Rattle.std.specs.Fmt.{decimal, signed_decimal}
+use Rattle.std.specs.Str.{IsAscii}
 use Rattle.std.specs.Str.Parse.{AllDigits, IsNumeral, digits_value, starts_with_minus}
 use Rattle.std.proofs.lemmas.Bool.{and_parts, leb-true, ltb-true, lt-ltb, le-leb, eqb-true, ne_eqb}
 use Rattle.std.proofs.lemmas.Fmt.{decimal_is_IsNumeral_wide}
@@ -74,6 +75,31 @@ name_is_run bytes h =
     long : (bs : List ℕ) → begins_with_letter bs ≡ true → 0 < length bs
     long [] e = absurd cc
     long (b ∷ bs) e = omega arith
+
+-- its bytes are ASCII
+name_byte_is_low : (b : ℕ) → is_name_byte b ≡ true → b < 128
+name_byte_is_low b h =
+    either (b < 128) (is_ascii_alphanumeric b) (is_mark b) h
+    (λ u. either (b < 128) (is_ascii_digit b || (leb 65 b && leb b 90)) (leb 97 b && leb b 122) u
+    (λ v. either (b < 128) (is_ascii_digit b) (leb 65 b && leb b 90) v
+    (λ d. let r = digit_in_range b d in omega (arith, r.1)) (λ d. let r = in_range 65 90 b d in omega (arith, r.1)))
+    (λ d. let r = in_range 97 122 b d in omega (arith, r.1)))
+    (λ m. either (b < 128) ((eqb b 45 || eqb b 95) || eqb b 42) (eqb b 36) m
+    (λ u. either (b < 128) (eqb b 45 || eqb b 95) (eqb b 42) u
+    (λ v. either (b < 128) (eqb b 45) (eqb b 95) v (λ e. omega (arith, eqb-true b 45 e)) (λ e. omega (arith, eqb-true b 95 e)))
+    (λ e. omega (arith, eqb-true b 42 e)))
+    (λ e. omega (arith, eqb-true b 36 e)))
+
+name_bytes_ascii : (bytes : List ℕ) → list_all is_name_byte bytes ≡ true → IsAscii bytes
+name_bytes_ascii [] h i = omega arith
+name_bytes_ascii (b ∷ bs) h zero = name_byte_is_low b (and_parts (is_name_byte b) (list_all is_name_byte bs) h).0
+name_bytes_ascii (b ∷ bs) h (suc i) = name_bytes_ascii bs (and_parts (is_name_byte b) (list_all is_name_byte bs) h).1 i
+
+pub name_is_ascii : (bytes : List ℕ) → is_name bytes ≡ true → IsAscii bytes
+name_is_ascii bytes h =
+    let p = and_parts ((begins_with_letter bytes && list_all is_name_byte bytes) && leb (length bytes) 64) (not (is_truth_word bytes)) h in
+    let q = and_parts (begins_with_letter bytes && list_all is_name_byte bytes) (leb (length bytes) 64) p.0 in
+    name_bytes_ascii bytes (and_parts (begins_with_letter bytes) (list_all is_name_byte bytes) q.0).1
 
 -- ---- numerals
 

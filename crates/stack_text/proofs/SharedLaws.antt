@@ -1,5 +1,5 @@
 -- Lemmas on truth values, options, lists, names and kinds that several crates need.
-use Rattle.std.proofs.Common.{◌≡◌, Bool, true, false, refl, ◌&&◌, not, ℕ, [], Option, Some, None, is_none, List, ◌∷◌, ◌++◌, ◌+◌, ap, ◌∙◌, zero, suc, ◌<◌, length, arith, slice_get, map, get_or, take, ◌-◌, reverse, ℤ, pos, append_assoc, sym, Bor, ◌||◌, ◌≤◌}
+use Rattle.std.proofs.Common.{◌≡◌, Bool, true, false, refl, ◌&&◌, not, ℕ, [], Option, Some, None, is_none, List, ◌∷◌, ◌++◌, ◌+◌, ap, ◌∙◌, zero, suc, ◌<◌, length, arith, slice_get, map, get_or, take, ◌-◌, reverse, ℤ, pos, append_assoc, sym, Bor, ◌||◌, ◌≤◌, find, cond, option_map}
 use Rattle.std.specs.Prelude.{nat_le}
 use Rattle.std.proofs.lemmas.List.{reverse-append, map-append}
 use Rattle.std.specs.Str.{bytes_eq}
@@ -116,6 +116,17 @@ bytes_apart xs ys ne = by_test (bytes_eq ys xs) refl
 pub any_now : (name : List ℕ) (keys : List (Bor (List ℕ))) → list_any (λ key. bytes_eq name key.now) keys ≡ list_any (bytes_eq name) (map (λ key. key.now) keys)
 any_now name [] = refl
 any_now name (key ∷ keys) = ap (λ (b : Bool). bytes_eq name key.now || b) (any_now name keys)
+
+-- the first of what a list becomes is what the first of the list becomes
+pub find_map : {X Y Z : Type 0} (g : X → Y) (p : Y → Bool) (last : Y → Z) (xs : List X)
+    → option_map last (find p (map g xs)) ≡ option_map (λ x. last (g x)) (find (λ x. p (g x)) xs)
+find_map g p last [] = refl
+find_map g p last (x ∷ xs) = pick (p (g x)) (find_map g p last xs)
+  where
+    pick : (b : Bool) → option_map last (find p (map g xs)) ≡ option_map (λ x. last (g x)) (find (λ x. p (g x)) xs)
+        → option_map last (cond b (Some (g x)) (find p (map g xs))) ≡ option_map (λ y. last (g y)) (cond b (Some x) (find (λ y. p (g y)) xs))
+    pick true e = refl
+    pick false e = e
 
 -- a name among names that differ stands for the first time
 pub no_earlier : (names : List (List ℕ)) (i : ℕ) (name : List ℕ) → i < length names → name ≡ get_or names i name → IsDistinct bytes_eq names → list_any (bytes_eq name) (take i names) ≡ false

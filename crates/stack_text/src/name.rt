@@ -10,6 +10,7 @@ ghost use Rattle.stack_text.specs.Seen.NameView.{kept_bytes, FitsInPlace};
 use crate::Memory;
 use crate::limits::MOST_NAME_BYTES;
 use std::alloc::{AllocError, Global};
+use std::fmt;
 use std::hash::{Hash, Hasher};
 use std::marker::Model;
 
@@ -62,6 +63,16 @@ impl Name {
         }
     }
 
+    /// The same as text: each byte of a name is ASCII.
+    pub fn as_str(&self) -> &str
+        ensures { result.now ≡ self.now }
+    {
+        match str::from_utf8(self.bytes()) {
+            Ok(text) => text,
+            Err(_) => unreachable!(),
+        }
+    }
+
     /// The name, with 0 for its place.
     pub fn unplaced(&self) -> Result<Named, Memory>
         ensures { IfOk result (λ named. named ≡ unplaced self.now) }
@@ -87,6 +98,16 @@ impl Clone for Name {
             }
         };
         Ok(Name { kept })
+    }
+}
+
+impl fmt::Display for Name {
+    ghost use Rattle.std.specs.Prelude.{Some};
+
+    ghost output = { λ name. Some name };
+
+    fn fmt<W: fmt::Write>(&self, f: &mut fmt::Formatter<W>) -> fmt::Result {
+        f.write_str(self.as_str())
     }
 }
 
