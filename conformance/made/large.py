@@ -334,6 +334,26 @@ def large():
     yield "a long script", words, SEVEN, "((x 0))", 13, "script D6 at line 174763", "\nshow\r" * 174762
 
 
+def many_lines():
+    """Scripts with very many of each line, in sessions of a source of 20,000 statements."""
+    source = "(program main\n(proc main ((x integer)) () () ()\n(seq" + " (mg-simple-constant-assignment x 7)" * 20_000 + ")))\n"
+    first = source.index("(mg-simple")
+    listed = "condition normal\nx = 0"
+    said = {
+        "piton": {
+            "up": f"in main at {first}\n{listed}",
+            "show": "at main 0 frames 1\nx = (nat 0)\nstack (int 0)",
+            "step 0": "stepped 0",
+            "attach last\ndetach last": "attached last\nlast",
+        },
+        "fm9001": {"up": f"in main at {first}\n{listed}"},
+        "gypsy": {"up": "top", "show": f"at {first} depth 1\n{listed}"},
+    }
+    for level, lines in said.items():
+        for line, answer in lines.items():
+            yield f"{level}: {line!r} over and over", f"debug {level} t v 100 100 d", source, "((x 0))", 0, "\n".join([answer] * 30_000), f"{line}\n" * 30_000
+
+
 def run_of(words, status, printed):
     """A run that stores its last word where its command stores a file."""
     parts = words.split()
@@ -351,6 +371,6 @@ def rows():
         yield Row(f"large.py: {name}", {"t": lambda text=text: text().encode()}, [Run(words.encode(), printed.encode() + b"\n")])
     for _, name, words, text, values, printed in RUNS:
         yield Row(f"large.py: {name}", {"t": text.encode(), "v": values.encode()}, [run_of(words, 0, printed)])
-    for name, words, text, values, status, printed, *script in [*formals_at_the_end(), *large()]:
+    for name, words, text, values, status, printed, *script in [*formals_at_the_end(), *large(), *many_lines()]:
         files = {"t": text.encode(), "v": values.encode()} | ({"d": script[0].encode()} if script else {})
         yield Row(f"large.py: {name}", files, [run_of(words, status, printed)])

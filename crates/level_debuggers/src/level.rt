@@ -23,12 +23,13 @@ impl Level {
     ghost use Rattle.level_debuggers.specs.Seen.Belonging.{IsLevel, level_seen};
     ghost use Rattle.level_debuggers.specs.Steps.{IsAdvance, is_over};
 
-    pub(crate) fn new(runner: Runner) -> Level
+    /// The level of a runner. The only error is out of memory.
+    pub(crate) fn new(alloc: Global, runner: Runner) -> Result<Level, Memory>
         requires { IsRunner runner }
-        ensures seen { level_seen result ≡ level_of runner }
-        ensures is { IsLevel result }
+        ensures seen { IfOk result (λ level. level_seen level ≡ level_of runner) }
+        ensures is { IfOk result IsLevel }
     {
-        match runner {
+        Ok(match runner {
             Runner::Gypsy {
                 accepted,
                 needs,
@@ -42,9 +43,9 @@ impl Level {
                 checked,
                 image,
                 state,
-            } => Level::Piton(PitonLevel::new(checked, image, state)),
+            } => Level::Piton(PitonLevel::new(alloc, checked, image, state)?),
             Runner::Fm { image, machine } => Level::Fm(FmLevel::new(image, machine)),
-        }
+        })
     }
 
     /// The run as a session takes it.

@@ -10,7 +10,7 @@ use crate::watch::Event;
 use display_maps::{Reading, push_reading, read_from};
 use fm_image::Image;
 use piton_check::Checked;
-use piton_linker::{layout, word_numbers};
+use piton_linker::PlacedSystem;
 use piton_machine::{State, Stepped};
 use piton_show::program_name;
 use piton_words::Word;
@@ -18,35 +18,32 @@ use stack_text::{Memory, Name};
 use std::alloc::Global;
 use std::marker::Model;
 
-/// A state of a run of a system, and the image of the system.
+/// A state of a run of a system, and the image of the system. The system's addresses are made once, and serve each reading.
 #[derive(Drop)]
 pub(crate) struct PitonLevel {
-    checked: Checked,
+    placed: PlacedSystem,
     image: Image,
     state: State,
 }
 
 impl Model for PitonLevel {
     ghost use Rattle.piton_machine.specs.Fits.{system_in};
-    ghost use Rattle.std.specs.Prelude.{◌≤◌, ◌^◌};
     ghost use Rattle.piton_machine.specs.Seen.StateView.{IsSeen};
-    ghost use Rattle.piton_machine.specs.Placed.{placed};
     ghost use Rattle.level_debuggers.specs.PitonLevels.{PitonLevelOf};
 
     ghost Value = { PitonLevelOf };
 
-    ghost view = { λ level. record { checked = level.checked; image = level.image; seen = level.state } };
+    ghost view = { λ level. record { checked = level.placed; image = level.image; seen = level.state } };
 
-    ghost invariant = { λ level. IsSeen (system_in level.checked) level.state
-        × ((placed (system_in level.checked)).size ≤ 2 ^ 20) };
+    ghost invariant = { λ level. IsSeen (system_in level.placed) level.state };
 }
 
 impl PitonLevel {
-    ghost use Rattle.std.specs.Prelude.{◌≡◌, ◌≤◌, ◌^◌, IfOk};
+    ghost use Rattle.std.specs.Prelude.{◌≡◌, ◌≤◌, ◌^◌, IfOk, slice_get};
     ghost use Rattle.piton_machine.specs.Addresses.{numbers};
-    ghost use Rattle.piton_machine.specs.Fits.{system_in};
+    ghost use Rattle.piton_machine.specs.Fits.{Each, IsWordOf, system_in};
     ghost use Rattle.piton_machine.specs.Seen.StateView.{IsSeen};
-    ghost use Rattle.piton_machine.specs.Placed.{address_of_place, placed, addresses_of};
+    ghost use Rattle.piton_machine.specs.Placed.{address_of_place, placed, addresses_of, areas_start};
     ghost use Rattle.piton_machine.specs.State.{locals_of};
     ghost use Rattle.piton_show.specs.NamedWords.{program_name};
     ghost use Rattle.level_debuggers.specs.Steps.{IsAdvance};
@@ -55,16 +52,22 @@ impl PitonLevel {
     ghost use Rattle.level_debuggers.specs.PitonReadings.{area_words, element_numbers, is_covered, piton_at, piton_end, piton_reading_of, piton_up};
     ghost use Rattle.level_debuggers.specs.Scaffold.Standings.{standing_of};
 
-    pub(crate) fn new(checked: Checked, image: Image, state: State) -> PitonLevel
+    /// The level of a run, with its system's addresses. The only error is out of memory.
+    pub(crate) fn new(
+        alloc: Global,
+        checked: Checked,
+        image: Image,
+        state: State,
+    ) -> Result<PitonLevel, Memory>
         requires seen { IsSeen (system_in checked) state }
         requires small { (placed (system_in checked)).size ≤ 2 ^ 20 }
-        ensures { result ≡ record { checked = checked; image = image; seen = state } }
+        ensures { IfOk result (λ level. level ≡ record { checked = checked; image = image; seen = state }) }
     {
-        PitonLevel {
-            checked,
+        Ok(PitonLevel {
+            placed: PlacedSystem::new(alloc, checked)?,
             image,
             state,
-        }
+        })
     }
 
     /// The run as a session takes it.
@@ -73,7 +76,7 @@ impl PitonLevel {
         ensures is { IsRunner result }
     {
         Runner::Piton {
-            checked: self.checked,
+            checked: self.placed.into_checked(),
             image: self.image,
             state: self.state,
         }
@@ -95,8 +98,8 @@ impl PitonLevel {
             return Advance::Over;
         }
         let (program, place) = self.state.at();
-        let cost = self.state.step_cost(&self.checked);
-        match self.state.step(&self.checked) {
+        let cost = self.state.step_cost(self.placed.checked());
+        match self.state.step(self.placed.checked()) {
             Stepped::Error(kind) => Advance::Stops(Stop::Error {
                 kind,
                 program,
@@ -110,14 +113,14 @@ impl PitonLevel {
     pub(crate) fn program_name(&self, program: u32) -> &Name
         ensures { result.now ≡ program_name self.now.checked.system program }
     {
-        program_name(self.checked.system(), program)
+        program_name(self.placed.checked().system(), program)
     }
 
     /// The place, the locals of the newest frame, and the stack, as lines.
     pub(crate) fn show(&self, alloc: Global) -> Result<Vec<u8>, Memory>
         ensures { IfOk result (λ text. text.items ≡ piton_listing self.now.checked.system self.now.seen.state) }
     {
-        piton_listing(alloc, self.checked.system(), &self.state)
+        piton_listing(alloc, self.placed.checked().system(), &self.state)
     }
 
     /// The numbers of the stack's elements, from the bottom up.
@@ -125,7 +128,7 @@ impl PitonLevel {
         ensures { IfOk result (λ numbers. numbers.items
             ≡ element_numbers (system_in self.now.checked) self.now.seen.state) }
     {
-        word_numbers(alloc, &self.checked, self.state.stack())
+        self.placed.numbers(alloc, self.state.stack())
     }
 
     /// The numbers of the words of all areas, one area after the other.
@@ -134,8 +137,8 @@ impl PitonLevel {
         ensures { IfOk result (λ made. made.items
             ≡ numbers (addresses_of (system_in self.now.checked)) (area_words self.now.seen.state)) }
     {
-        let words = area_words(alloc, self.checked.resolved(), &self.state)?;
-        word_numbers(alloc, &self.checked, &words)
+        let words = area_words(alloc, self.placed.checked().resolved(), &self.state)?;
+        self.placed.numbers(alloc, &words)
     }
 
     /// Whether the stack has an element for each item of the image's slots.
@@ -143,7 +146,7 @@ impl PitonLevel {
         requires { elements.now ≡ element_numbers (system_in self.now.checked) self.now.seen.state }
         ensures { result ≡ is_covered self.now }
     {
-        covers_all(layout(&self.checked).end, elements, &self.image.slots)
+        covers_all(self.placed.layout().end, elements, &self.image.slots)
     }
 
     /// What the state says of the variables.
@@ -152,16 +155,16 @@ impl PitonLevel {
         ensures { IfOk result (λ read.
             read ≡ piton_reading_of (system_in self.now.checked) self.now.image self.now.seen.state) }
     {
-        let placed = layout(&self.checked);
+        let layout = self.placed.layout();
         let areas = self.area_numbers(alloc)?;
         Ok(Reading {
             condition: condition(
                 &self.image.conditions,
                 self.image.condition_address,
-                placed.areas_start,
+                layout.areas_start,
                 &areas,
             )?,
-            items: variables(alloc, placed.end, elements, &self.image.slots)?,
+            items: variables(alloc, layout.end, elements, &self.image.slots)?,
         })
     }
 
@@ -180,36 +183,52 @@ impl PitonLevel {
     }
 
     /// The address of the state's place.
-    fn address(&self, alloc: Global) -> Result<u32, Memory>
+    pub(crate) fn address(&self) -> u32
         ensures { let state = self.now.seen.state in
-            IfOk result (λ address. address ≡ address_of_place (system_in self.now.checked) state.program state.place) }
+            result ≡ address_of_place (system_in self.now.checked) state.program state.place }
     {
         let (program, place) = self.state.at();
-        let numbers = word_numbers(alloc, &self.checked, &[Word::Pc { program, place }])?;
-        match numbers.first() {
-            Some(address) => Ok(*address),
-            None => unreachable!(),
-        }
+        self.placed.number(Word::Pc { program, place })
     }
 
-    /// The numbers of the locals of the newest frame.
-    fn locals(&self, alloc: Global) -> Result<Vec<u32>, Memory>
-        ensures { IfOk result (λ made. made.items
-            ≡ numbers (addresses_of (system_in self.now.checked)) (locals_of self.now.seen.state.frames)) }
+    /// The address at which the areas begin.
+    pub(crate) fn areas_start(&self) -> u64
+        ensures { result ≡ areas_start (system_in self.now.checked) }
     {
-        word_numbers(alloc, &self.checked, self.state.locals())
+        self.placed.layout().areas_start
+    }
+
+    /// The number of the word at a place, where there is one.
+    fn number_at(&self, words: &[Word], place: u64) -> Option<u32>
+        requires { Each (IsWordOf (system_in self.now.checked)) words.now }
+        ensures { result ≡ slice_get (numbers (addresses_of (system_in self.now.checked)) words.now) place }
+    {
+        let word = words.get(place as usize)?;
+        Some(self.placed.number(*word))
+    }
+
+    /// The number of a local of the newest frame, where it has one at this offset.
+    pub(crate) fn local(&self, offset: u32) -> Option<u32>
+        ensures { let s = system_in self.now.checked in
+            result ≡ slice_get (numbers (addresses_of s) (locals_of self.now.seen.state.frames)) offset }
+    {
+        self.number_at(self.state.locals(), u64::from(offset))
+    }
+
+    /// The number of the stack's element at a place from the bottom, where there is one.
+    pub(crate) fn element(&self, place: u64) -> Option<u32>
+        ensures { result ≡ slice_get (element_numbers (system_in self.now.checked) self.now.seen.state) place }
+    {
+        self.number_at(self.state.stack(), place)
     }
 
     /// Where the state stands.
-    fn standing(&self, alloc: Global) -> Result<PitonAt, Memory>
+    fn standing<'a>(&'a self, alloc: Global) -> Result<PitonAt<'a>, Memory>
         ensures { IfOk result (λ run. standing_of run ≡ piton_at (system_in self.now.checked) self.now.seen.state) }
     {
         Ok(PitonAt {
-            address: self.address(alloc)?,
-            start: layout(&self.checked).areas_start,
+            level: self,
             areas: self.area_numbers(alloc)?,
-            locals: self.locals(alloc)?,
-            elements: self.elements(alloc)?,
         })
     }
 

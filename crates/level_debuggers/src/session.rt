@@ -67,7 +67,7 @@ impl Session {
     ghost use Rattle.level_debuggers.specs.Seen.Sessions.{IsSession, session_of};
 
     /// A session of a runner that has made no step, with these watches waiting. Room for all of them to be attached is
-    /// taken here.
+    /// taken here, and that of the addresses of a system of Piton.
     pub fn new(
         alloc: Global,
         runner: Runner,
@@ -85,7 +85,7 @@ impl Session {
     {
         let attached = Vec::with_capacity(alloc, watches.len())?;
         Ok(Session {
-            level: Level::new(runner),
+            level: Level::new(alloc, runner)?,
             steps: 0,
             waiting: watches,
             attached,

@@ -16,7 +16,7 @@ use piton_words::Word;
 use stack_text::Memory;
 
 /// The number of a word.
-fn number(table: &Table, checked: &Resolved, item: Word) -> u32
+pub(crate) fn number(table: &Table, checked: &Resolved, item: Word) -> u32
     requires table { table.now ≡ table_of (system_view checked.now) }
     requires fits { end_of (system_view checked.now) < 2 ^ 32 }
     requires there { IsWordOf (system_view checked.now) item }

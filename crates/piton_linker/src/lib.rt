@@ -17,6 +17,6 @@ mod words;
 
 pub use fault::LinkFault;
 pub use linking::{Linked, link};
-pub use numbering::word_numbers;
+pub use numbering::PlacedSystem;
 pub use placement::Layout;
 pub use sizes::{layout, layout_behind};

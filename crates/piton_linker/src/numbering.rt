@@ -1,30 +1,107 @@
-//! The numbers of words.
+//! Systems with the addresses of all their parts, and the numbers of their words.
 
-ghost use Rattle.std.specs.Prelude.{◌≡◌, ◌≤◌, ◌^◌, IfOk};
-ghost use Rattle.piton_machine.specs.Fits.{Each, IsWordOf, system_in};
-ghost use Rattle.piton_machine.specs.Addresses.{numbers};
-ghost use Rattle.piton_machine.specs.Placed.{addresses_of, placed};
-
-use crate::data::append_words;
+use crate::data::{append_words, number};
+use crate::placement::Layout;
 use crate::sizes::layout;
-use crate::table::tabulated;
+use crate::table::{Table, tabulated};
 use piton_check::Checked;
 use piton_words::Word;
 use stack_text::Memory;
 use std::alloc::Global;
+use std::marker::Model;
 
-/// The number that each word has in a placed system: that of an address is where the system's part stands.
+/// A checked system with the addresses of its programs, places and areas, so that each of its words has its number at once.
 ///
-/// The only error is out of memory.
-#[tactic(auto, using(crate::proofs::ProcessorLaws::checked_end))]
-pub fn word_numbers(alloc: Global, checked: &Checked, words: &[Word]) -> Result<Vec<u32>, Memory>
-    requires small { (placed (system_in checked.now)).size ≤ 2 ^ 20 }
-    requires there { Each (IsWordOf (system_in checked.now)) words.now }
-    ensures { IfOk result (λ made. made.items ≡ numbers (addresses_of (system_in checked.now)) words.now) }
-{
-    let resolved = checked.resolved();
-    let table = tabulated(alloc, resolved, layout(checked))?;
-    let mut made = Vec::new(alloc);
-    append_words(&mut made, &table, resolved, words)?;
-    Ok(made)
+/// Contracts see it as the checked system. Its placed words are at most 1,048,576, by the clause `small`.
+#[derive(Drop)]
+pub struct PlacedSystem {
+    checked: Checked,
+    layout: Layout,
+    table: Table,
+}
+
+impl Model for PlacedSystem {
+    ghost use Rattle.std.specs.Prelude.{◌≡◌, ◌≤◌, ◌^◌};
+    ghost use Rattle.piton_check.specs.PitonChecking.{CheckedOf};
+    ghost use Rattle.piton_machine.specs.Fits.{system_in};
+    ghost use Rattle.piton_machine.specs.Placed.{placed};
+    ghost use Rattle.piton_linker.specs.Layouts.{layout_of};
+    ghost use Rattle.piton_linker.specs.Tables.{table_of};
+
+    ghost Value = { CheckedOf };
+
+    ghost view = { λ p. p.checked };
+
+    ghost invariant = { λ p. ((placed (system_in p.checked)).size ≤ 2 ^ 20)
+        × (p.layout ≡ layout_of (system_in p.checked)) × (p.table ≡ table_of (system_in p.checked)) };
+}
+
+impl PlacedSystem {
+    ghost use Rattle.std.specs.Prelude.{◌≡◌, ◌≤◌, ◌^◌, IfOk};
+    ghost use Rattle.piton_machine.specs.Fits.{Each, IsWordOf, system_in};
+    ghost use Rattle.piton_machine.specs.Addresses.{numbers, word_number};
+    ghost use Rattle.piton_machine.specs.Placed.{addresses_of, placed};
+    ghost use Rattle.piton_linker.specs.Layouts.{layout_of};
+
+    /// A checked system with its addresses. The time is linear in the system's programs, instructions and areas.
+    ///
+    /// The only error is out of memory.
+    #[tactic(auto, using(crate::proofs::ProcessorLaws::checked_end))]
+    pub fn new(alloc: Global, checked: Checked) -> Result<PlacedSystem, Memory>
+        requires small { (placed (system_in checked)).size ≤ 2 ^ 20 }
+        ensures { IfOk result (λ made. made ≡ checked) }
+    {
+        let layout = layout(&checked);
+        let table = tabulated(alloc, checked.resolved(), layout)?;
+        Ok(PlacedSystem {
+            checked,
+            layout,
+            table,
+        })
+    }
+
+    /// The checked system.
+    pub fn checked(&self) -> &Checked
+        ensures value { result.now ≡ self.now }
+        ensures small { (placed (system_in self.now)).size ≤ 2 ^ 20 }
+    {
+        &self.checked
+    }
+
+    /// The checked system, without its addresses.
+    pub fn into_checked(self) -> Checked
+        ensures value { result ≡ self }
+        ensures small { (placed (system_in self)).size ≤ 2 ^ 20 }
+    {
+        self.checked
+    }
+
+    /// Where the parts of the placed system begin.
+    pub fn layout(&self) -> Layout
+        ensures { result ≡ layout_of (system_in self.now) }
+    {
+        self.layout
+    }
+
+    /// The number that a word has in the placed system: that of an address is where the system's part stands.
+    #[tactic(auto, using(crate::proofs::ProcessorLaws::checked_end))]
+    pub fn number(&self, word: Word) -> u32
+        requires there { IsWordOf (system_in self.now) word }
+        ensures { result ≡ word_number (addresses_of (system_in self.now)) word }
+    {
+        number(&self.table, self.checked.resolved(), word)
+    }
+
+    /// The number that each word has in the placed system.
+    ///
+    /// The only error is out of memory.
+    #[tactic(auto, using(crate::proofs::ProcessorLaws::checked_end))]
+    pub fn numbers(&self, alloc: Global, words: &[Word]) -> Result<Vec<u32>, Memory>
+        requires there { Each (IsWordOf (system_in self.now)) words.now }
+        ensures { IfOk result (λ made. made.items ≡ numbers (addresses_of (system_in self.now)) words.now) }
+    {
+        let mut made = Vec::new(alloc);
+        append_words(&mut made, &self.table, self.checked.resolved(), words)?;
+        Ok(made)
+    }
 }

@@ -9,16 +9,16 @@ use Rattle.level_debuggers.specs.PitonReadings.{area_words}
 use Rattle.level_debuggers.proofs.AreaLaws.{known_words}
 use Rattle.level_debuggers.proofs.piton_level.PitonLevel.area_numbers.Goals as goal
 
-pub word_numbers-requires-clause-there : goal.word_numbers-requires-clause-there
-word_numbers-requires-clause-there c =
+pub numbers-requires : goal.numbers-requires
+numbers-requires c =
     let words : c.deref.result.now ≡ area_words c.self.inside.state.state = c.deref.ensures.value ∙ c.in_ok-words.ensures in
-    let seen : IsSeen (system_in c.self.inside.checked) c.self.inside.state = search rules in
-    known_words (system_in c.self.inside.checked) c.self.inside.state c.deref.result.now words seen
+    let seen : IsSeen (system_in c.self.inside.placed) c.self.inside.state = search rules in
+    record { there = known_words (system_in c.self.inside.placed) c.self.inside.state c.deref.result.now words seen }
 
 pub returns : goal.returns
 returns c =
     let words : c.deref.result.now ≡ area_words c.args.self.now.seen.state = search rules in
-    let same : system_in c.self.inside.checked ≡ system_in c.args.self.now.checked = search rules in
-    subst (λ s. IfOk c.word_numbers.result (λ made. made.items ≡ numbers (addresses_of s) (area_words c.args.self.now.seen.state))) same
-    (subst (λ (ws : List Word). IfOk c.word_numbers.result (λ made. made.items ≡ numbers (addresses_of (system_in c.self.inside.checked)) ws)) words
-    c.word_numbers.ensures)
+    let same : system_in c.self.inside.placed ≡ system_in c.args.self.now.checked = search rules in
+    subst (λ s. IfOk c.numbers.result (λ made. made.items ≡ numbers (addresses_of s) (area_words c.args.self.now.seen.state))) same
+    (subst (λ (ws : List Word). IfOk c.numbers.result (λ made. made.items ≡ numbers (addresses_of (system_in c.self.inside.placed)) ws)) words
+    c.numbers.ensures)
