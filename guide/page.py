@@ -33,12 +33,13 @@ SLOT = 4096
 
 # ---- Memory after each instruction ----
 
-def field(number):
-    return number.to_bytes(4, "big")
+def fields(*numbers):
+    """Words as an image file has them."""
+    return struct.pack(f">{len(numbers)}I", *numbers)
 
 
 def signed(word):
-    return struct.unpack(">i", field(word))[0]
+    return struct.unpack(">i", fields(word))[0]
 
 
 def number_of(word):
@@ -61,6 +62,8 @@ class Memory:
         self.registers = [numbers[it:it + 16] for it in range(0, len(numbers), 16)]
         self.flags = [sum(FLAGS.get(it, 0) for it in flags) for flags in re.findall(r"^flags ([-cvnz]{4})$", machines, re.M)]
         self.parts = list(self.parts_of(program.sizes[0]))
+        self.slots = b"".join(fields(len(name)) + name.encode() + fields(0, size, first + size - 1) for name, first, size in self.parts)
+        self.code = fields(self.final + 1, *(self.words.get(it, 0) for it in range(self.final + 1)))
         bottom = re.findall(r"\((\w+) (\S+)\)", re.search(r"^stack( \(.*)?$", piton, re.M)[0])
         self.start = {self.size - 1 - n: number_of(it) for n, it in enumerate(bottom)}
 
@@ -86,11 +89,9 @@ class Memory:
             yield f"{name} = ({' '.join(map(str, items))})"
 
     def image(self, moment):
-        """The image of a moment whose run makes one instruction: docs/image-file.md, version 1."""
-        slots = [field(len(name)) + name.encode() + field(0) + field(size) + field(first + size - 1) for name, first, size in self.parts]
-        fields = [1, 0, self.size, self.registers[moment + 1][15], *self.registers[moment], self.flags[moment], NOWHERE, 0, len(slots)]
-        words = [self.words.get(it, 0) for it in range(self.final + 1)]
-        return b"".join([b"FM91", *map(field, fields), *slots, field(len(words)), *map(field, words)])
+        """The image of a moment whose run makes one instruction: docs/image-file.md, version 1. Its code is that of each moment."""
+        head = fields(1, 0, self.size, self.registers[moment + 1][15], *self.registers[moment], self.flags[moment], NOWHERE, 0, len(self.parts))
+        return b"FM91" + head + self.slots + self.code
 
     def writes(self, moment):
         """Whether the instruction of a moment can write memory: its target is no register."""

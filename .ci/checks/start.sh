@@ -13,7 +13,18 @@ mkdir -p "$copy" "$folder/kit/bin" "$folder/empty"
 (cd "$top" && git ls-files -z stack guide docs/ERRORS.md crates.txt crates examples | xargs -0 cp --parents -t "$copy") || exit 1
 cp "$top/.ci/tools/stub_kit.sh" "$folder/kit/bin/rt"
 bare_path=$(tr : '\n' <<<"$PATH" | while read -r one; do [ -x "$one/rt" ] || echo "$one"; done | paste -sd :)
-crates=$(grep -c '^[a-z]' "$copy/crates.txt")
+# The crates of the program, as the kit finds them: each behind those that it stands on.
+python3 - "$copy/crates.txt" >"$folder/needed" <<'END'
+import sys
+
+lines = (line.split("#")[0] for line in open(sys.argv[1]))
+below = {name: words.split() for name, _, words in (line.partition(":") for line in lines if line.strip())}
+taken = {"cli_stack"}
+for name in reversed(below):
+    taken |= set(below[name]) if name in taken else set()
+print(*(name for name in below if name in taken), sep="\n")
+END
+crates=$(wc -l <"$folder/needed")
 failed=0
 
 says() {
@@ -72,15 +83,15 @@ handed() { [ "$(cat "$STUB/handed/$1" 2>&1)" = "$2" ] || says "handed in as $1: 
 
 # proves [CRATE]: what the proof says, where all crates are proved but this one.
 proves() {
-    echo "stack: proves all $crates crates, N at a time, with rattle-kit-13f logic 0123456789abcdef. README.md says how long this takes. It may be stopped, and goes on at the next start"
-    sed -n 's/^\([a-z0-9_]*\):.*/\1/p' "$copy/crates.txt" | grep -vx "${1-}" | while read -r crate; do
+    echo "stack: proves the $crates crates of the program, N at a time, with rattle-kit-13f logic 0123456789abcdef. README.md says how long this takes. It may be stopped, and goes on at the next start"
+    grep -vx "${1-}" "$folder/needed" | while read -r crate; do
         left=$((${left:-$crates} - 1))
         echo "stack: $crate is proved, $left of $crates are left, N min so far"
     done
 }
 
 proof=$(proves)
-compiled=$'stack: all crates are proved; the program is compiled\nstack: the program is built after N minutes'
+compiled="stack: all $crates are proved; the program is compiled"$'\nstack: the program is built after N minutes'
 tried="stack: the program isn't built yet, or was changed since. This is a trial, which takes a minute or two: the program runs unproved, on copies of the files"
 unproved="stack: this was a trial, after N seconds: nothing of it is proved. SELF prove proves and builds the program, once, and then a run takes no time"
 proof_calls=("all check --jobs N" run)

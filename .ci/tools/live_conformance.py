@@ -77,6 +77,8 @@ def main():
     parser.add_argument("names", nargs="*")
     words = parser.parse_args()
     paths = [it for it in (*sorted(CONFORMANCE.glob("*.rows")), *sorted(CONFORMANCE.glob("made/*.py"))) if not words.names or it.name in words.names]
+    if missing := set(words.names) - {it.name for it in paths}:
+        parser.error(f"conformance has no {', '.join(sorted(missing))}")
     count = failed = 0
     with Chromium() as browser:
         browser.open(words.page.resolve().as_uri())

@@ -4,13 +4,15 @@
     python3 .ci/tools/page_rows.py PROGRAM
 
 Tried are also: that the keyboard is enough, that text has contrast enough in light and in dark, that a narrow page doesn't scroll sideways, that no
-script complains, and that a page whose answers don't fit one another shows nothing. Prints a line for each difference, and how much was compared.
-Where there is no Chromium the pages are written, and nothing is compared. The exit status is 1 where something differed.
+script complains, that a page whose answers don't fit one another shows nothing, and that a page of 3,000 moments takes at most ten seconds of a
+processor. Prints a line for each difference, and how much was compared. Where there is no Chromium the pages are written, and nothing is compared.
+The exit status is 1 where something differed.
 """
 import argparse
 import base64
 import gzip
 import json
+import os
 import re
 import subprocess
 import sys
@@ -29,6 +31,8 @@ RUNS = [
     ("arrays/sum.gypsy", "arrays/sum.values", 15, 14, 300, [184, 300]),
     ("infix/gcd.mini", "infix/gcd.values", 200, 200, 500, [0, 251, 500]),
 ]
+# A run of more than the 3,000 moments that a page has, and the most seconds of a processor that its page takes.
+LARGE, MOST_SECONDS = ("arrays/sort.gypsy", "arrays/sort.values", 100, 100, 100_000), 10
 # The statement of the infix program at these moments.
 INFIX = {0: "", 251: "y := y - x;", 500: "while not (x = y)"}
 CONTRAST = 4.5
@@ -280,24 +284,36 @@ def compare(program, browser, path):
             yield from (f"{source}: {it}" for it in faults(browser, path))
 
 
+def write_large(program, path):
+    """Writes the page of many moments, and says what it took, in seconds of a processor."""
+    before = os.times()
+    write_page(program, path, *LARGE)
+    after = os.times()
+    took = after.children_user + after.children_system - before.children_user - before.children_system
+    print(f"pages: one of 3,000 moments took {took:.1f} s of a processor, at most {MOST_SECONDS}")
+    return took <= MOST_SECONDS
+
+
 def main():
     parser = argparse.ArgumentParser(description="Compares what pages of runs show with what the program says.")
     parser.add_argument("program", type=lambda it: str(Path(it).resolve()))
     program = parser.parse_args().program
     with tempfile.TemporaryDirectory() as room:
         path = Path(room) / "page.html"
+        is_quick = write_large(program, path)
         if not Chromium.path():
             for run in RUNS:
                 write_page(program, path, *run[:5])
             print(f"pages: {len(RUNS)} were written. There is no Chromium (Debian: apt-get install chromium), so nothing was compared")
-            return 0
+            return 0 if is_quick else 1
         with Chromium() as browser:
-            found = list(compare(program, browser, path))
+            found = [f"{LARGE[0]}: {it}" for it in opened(browser, path)]
+            found += compare(program, browser, path)
     differing = [it for it in found if it]
     for it in differing:
         print(it)
     print(f"pages: {found.count(None)} moments of {len(RUNS)} runs compared in a browser, with keys, contrast, width and {len(CHANGES)} changed answers; {len(differing)} differed")
-    return 1 if differing else 0
+    return 1 if differing or not is_quick else 0
 
 
 if __name__ == "__main__":

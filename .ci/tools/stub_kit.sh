@@ -1,6 +1,6 @@
 #!/usr/bin/env bash
 # Plays the kit's command `rt` for .ci/checks/start.sh, in the folder STUB: it proves nothing, and takes no time.
-# STUB/calls has a line for each call but `version`. STUB/proved has a file for each crate that was "proved".
+# In the crate cli_stack it proves those that are named in the file `needed` beside STUB. STUB/calls has a line for each call but `version`. STUB/proved has a file for each crate that was "proved".
 # Further files tell it what to do: `silent`, the trial finds no answer; `endless`, it meets a limit; `fails`, the crate named in it isn't proved; `holds`, it waits in what
 # is named in it, a crate or `try` or `run`, until it is ended.
 set -u
@@ -40,8 +40,7 @@ hold_at() {
 
 play_check() {
     local crate failed=
-    while IFS=: read -r crate _; do
-        [[ $crate =~ ^[a-z] ]] || continue
+    while read -r crate; do
         hold_at "$crate"
         echo "== $crate"
         if [ "$crate" = "$(cat "$STUB/fails" 2>/dev/null)" ]; then
@@ -52,7 +51,7 @@ play_check() {
             echo "logic=proved functions=1"
             touch "$STUB/proved/$crate"
         fi
-    done <crates.txt
+    done <"$STUB/../needed"
     echo "== summary"
     [ -z "$failed" ] || { echo "$failed: failed (1)"; exit 1; }
 }
@@ -74,6 +73,6 @@ echo "$*" >>"$STUB/calls"
 mkdir -p "$STUB/proved"
 case "$1" in
 try) play_try "${@:2}" ;;
-all) play_check ;;
+all) [[ $PWD == */crates/cli_stack ]] && play_check ;;
 run) play_run ;;
 esac
