@@ -344,7 +344,6 @@ def many_lines():
             "up": f"in main at {first}\n{listed}",
             "show": "at main 0 frames 1\nx = (nat 0)\nstack (int 0)",
             "step 0": "stepped 0",
-            "attach last\ndetach last": "attached last\nlast",
         },
         "fm9001": {"up": f"in main at {first}\n{listed}"},
         "gypsy": {"up": "top", "show": f"at {first} depth 1\n{listed}"},
