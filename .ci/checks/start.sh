@@ -10,7 +10,7 @@ caller=$folder/caller
 export STUB=$folder/stub TMPDIR=$folder/tmp
 unset RATTLE_KIT STACK_TRIAL STACK_PROVE STACK_EXPLAIN
 mkdir -p "$copy" "$folder/kit/bin" "$folder/empty"
-(cd "$top" && git ls-files -z stack guide docs/ERRORS.md crates.txt crates examples | xargs -0 cp --parents -t "$copy") || exit 1
+(cd "$top" && git ls-files -z stack guide docs/ERRORS.md HANDLES crates.txt crates examples | xargs -0 cp --parents -t "$copy") || exit 1
 cp "$top/.ci/tools/stub_kit.sh" "$folder/kit/bin/rt"
 bare_path=$(tr : '\n' <<<"$PATH" | while read -r one; do [ -x "$one/rt" ] || echo "$one"; done | paste -sd :)
 # The crates of the program, as the kit finds them: each behind those that it stands on.
@@ -83,7 +83,7 @@ handed() { [ "$(cat "$STUB/handed/$1" 2>&1)" = "$2" ] || says "handed in as $1: 
 
 # proves [CRATE]: what the proof says, where all crates are proved but this one.
 proves() {
-    echo "stack: proves the $crates crates of the program, N at a time, with rattle-kit-13f logic 0123456789abcdef. README.md says how long this takes. It may be stopped, and goes on at the next start"
+    echo "stack: proves the $crates crates of the program, N at a time, with rattle-kit-13f logic 0123456789abcdef. README.md says how long this takes. Where it is stopped, what was proved is kept, and the next proof goes on from there"
     grep -vx "${1-}" "$folder/needed" | while read -r crate; do
         left=$((${left:-$crates} - 1))
         echo "stack: $crate is proved, $left of $crates are left, N min so far"
@@ -91,10 +91,10 @@ proves() {
 }
 
 proof=$(proves)
-compiled="stack: all $crates are proved; the program is compiled"$'\nstack: the program is built after N minutes'
+compiled="stack: all $crates are proved, and the program is built after N minutes"
 tried="stack: the program isn't built yet, or was changed since. This is a trial, which takes a minute or two: the program runs unproved, on copies of the files"
 unproved="stack: this was a trial, after N seconds: nothing of it is proved. SELF prove proves and builds the program, once, and then a run takes no time"
-proof_calls=("all check --jobs N" run)
+proof_calls=(ci)
 
 begins "without words, before the program is built"
 starts
@@ -255,7 +255,7 @@ stack: the trial ended with status 5 after N seconds. It proves nothing
 $(proves fm_show)
 stack: not proved: fm_show. The end of the log:
 $(seq -f 'line %g of fm_show' 11 30)"
-calls "try --data word-1.file=FILE -- check word-1.file" "all check --jobs N"
+calls "try --data word-1.file=FILE -- check word-1.file" ci
 rm "$STUB/fails" "$STUB/calls"
 STACK_PROVE=1 starts check a.gypsy
 ends 7 "printed by the program: check a.gypsy"
@@ -295,7 +295,7 @@ stops() {
 begins "stopped by Ctrl-C in the proof, and started again"
 stops INT group fm_show
 ends 130 ""
-[ "$(tail -n 1 "$folder/err")" = "stack: stopped. What was proved is kept, and the next proof goes on from there" ] || says "said $(tail -n 1 "$folder/err")"
+[ "$(tail -n 1 "$folder/err")" = "stack: stopped: what was proved is kept, and the next proof goes on from there" ] || says "said $(tail -n 1 "$folder/err")"
 grep -q "stack: fm_loader is proved" "$folder/err" || says "nothing was proved before"
 ! grep -q "stack: fm_show is proved" "$folder/err" || says "said to be proved: the crate that the kit was at"
 rm "$STUB/calls"
@@ -329,18 +329,18 @@ for one in first second; do
     [ "$(<"$folder/$one.status")" = 0 ] || says "the $one build ended with status $(<"$folder/$one.status")"
 done
 [ "$(head -n 1 "$folder/second")" = "stack: another build of this checkout runs. This one waits for it, and goes on where that one ends" ] || says "the second said $(head -n 1 "$folder/second")"
-calls "all check --jobs N" run "all check --jobs N" run
+calls ci ci
 
 begins "ended in the trial"
 stops TERM alone try
 ends 143 ""
 [ "$(<"$folder/err")" = "$tried
-stack: stopped. What was proved is kept, and the next proof goes on from there" ] || says "said $(<"$folder/err")"
+stack: stopped: what was proved is kept, and the next proof goes on from there" ] || says "said $(<"$folder/err")"
 
 begins "ended while the program is compiled"
-stops HUP alone run
+stops HUP alone program
 ends 129 ""
-[ -x "$copy/crates/cli_stack/out/cli_stack" ] || says "there is no part of a program"
+[ ! -e "$copy/crates/cli_stack/out/cli_stack" ] || says "there is a part of a program"
 rm "$STUB/calls"
 STACK_TRIAL=0 starts check a.gypsy
 ends 7 "printed by the program: check a.gypsy"
@@ -354,7 +354,7 @@ status=$?
 ends 7 "printed by the program: check a.gypsy"
 ! grep -q " is proved, " "$folder/err" || says "each crate has a line"
 grep -q $'\r\e\\[Kstack: [0-9]* of '"$crates crates are proved, [0-9]* are left, 0 min so far" "$folder/err" || says "no line is written anew"
-[ "$(wc -l <"$folder/err")" = 6 ] || says "$(wc -l <"$folder/err") lines, wanted 6"
+[ "$(wc -l <"$folder/err")" = 5 ] || says "$(wc -l <"$folder/err") lines, wanted 5"
 
 [ "$failed" = 0 ] && echo "start: ok"
 exit "$failed"

@@ -1,8 +1,8 @@
 #!/usr/bin/env bash
 # Plays the kit's command `rt` for .ci/checks/start.sh, in the folder STUB: it proves nothing, and takes no time.
-# In the crate cli_stack it proves those that are named in the file `needed` beside STUB. STUB/calls has a line for each call but `version`. STUB/proved has a file for each crate that was "proved".
-# Further files tell it what to do: `silent`, the trial finds no answer; `endless`, it meets a limit; `fails`, the crate named in it isn't proved; `holds`, it waits in what
-# is named in it, a crate or `try` or `run`, until it is ended.
+# As a gate it wants exactly the crates that are named in the file `needed` beside STUB. STUB/calls has a line for each call but `version`. STUB/proved has
+# a file for each crate that was "proved". Further files tell it what to do: `silent`, the trial finds no answer; `endless`, it meets a limit; `fails`, the
+# crate named in it isn't proved; `holds`, it waits in what is named in it, a crate or `try` or `program`, until it is ended.
 set -u
 
 # What the program prints on these words: the check looks for it. Without words it is `usage`.
@@ -38,31 +38,34 @@ hold_at() {
     wait
 }
 
-play_check() {
+play_ci() {
     local crate failed=
+    sed 's/:.*//' crates.txt | sort | cmp - <(sort "$STUB/../needed") || { echo "rt: other crates are there"; exit 1; }
+    [ -e HANDLES ] && [ ! -e crates/fm_machine/must-fail ] && [ -e crates/fm_machine/proofs ] || { echo "rt: not what the gate of the program has"; exit 1; }
     while read -r crate; do
         hold_at "$crate"
+        if [ -e "$STUB/proved/$crate" ]; then
+            echo "rt: $crate is kept: an earlier run on this machine proved the same files over the same libraries"
+            continue
+        fi
         echo "== $crate"
         if [ "$crate" = "$(cat "$STUB/fails" 2>/dev/null)" ]; then
             seq -f "line %g of $crate" 30
+            echo "rt: $crate NOT PROVED"
             failed=$crate
-        elif [ ! -e "$STUB/proved/$crate" ]; then
+        else
             echo "fn $crate::f: proved"
             echo "logic=proved functions=1"
+            echo "rt: $crate proved"
             touch "$STUB/proved/$crate"
         fi
     done <"$STUB/../needed"
-    echo "== summary"
-    [ -z "$failed" ] || { echo "$failed: failed (1)"; exit 1; }
-}
-
-play_run() {
-    mkdir -p out
-    { echo '#!/usr/bin/env bash'; echo "$program"; } >out/cli_stack
-    chmod +x out/cli_stack
-    hold_at run
-    echo "rt: running out/cli_stack" >&2
-    out/cli_stack
+    [ -z "$failed" ] || { echo "rt: FAILED: $failed"; echo "1 passed, 1 failed"; exit 1; }
+    mkdir -p crates/cli_stack/out
+    { echo '#!/usr/bin/env bash'; echo "$program"; } >crates/cli_stack/out/cli_stack
+    hold_at program
+    chmod +x crates/cli_stack/out/cli_stack
+    echo "1 passed, 0 failed"
 }
 
 if [ "$1" = version ]; then
@@ -73,6 +76,5 @@ echo "$*" >>"$STUB/calls"
 mkdir -p "$STUB/proved"
 case "$1" in
 try) play_try "${@:2}" ;;
-all) [[ $PWD == */crates/cli_stack ]] && play_check ;;
-run) play_run ;;
+ci) play_ci ;;
 esac
