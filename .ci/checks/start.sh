@@ -63,10 +63,10 @@ ends() {
     [ -z "$(ls -A "$TMPDIR")" ] || says "temporary files are left: $(ls -A "$TMPDIR")"
 }
 
-# errs TEXT: what was said on standard error is this. Runs of digits before "seconds" and "min" may differ, and how many are proved at a time.
+# errs TEXT: what was said on standard error is this. Runs of digits before "seconds" and "min" may differ.
 errs() {
     local said
-    said=$(sed -E 's/[0-9]+ (seconds|min)/N \1/g; s/[0-9]+ at a time/N at a time/; s/[0-9]+ minutes/N minutes/' "$folder/err")
+    said=$(sed -E 's/[0-9]+ (seconds|min)/N \1/g; s/[0-9]+ minutes/N minutes/' "$folder/err")
     said=${said//"$copy/stack"/SELF}
     [ "$said" = "$1" ] || { says "the messages differ, < is wanted:"; diff <(echo "$1") <(echo "$said"); }
 }
@@ -83,7 +83,7 @@ handed() { [ "$(cat "$STUB/handed/$1" 2>&1)" = "$2" ] || says "handed in as $1: 
 
 # proves [CRATE]: what the proof says, where all crates are proved but this one.
 proves() {
-    echo "stack: proves the $crates crates of the program, N at a time, with rattle-kit-13f logic 0123456789abcdef. README.md says how long this takes. Where it is stopped, what was proved is kept, and the next proof goes on from there"
+    echo "stack: proves the $crates crates of the program with rattle-kit-13f logic 0123456789abcdef. README.md says how long this takes. Where it is stopped, what was proved is kept, and the next proof goes on from there"
     grep -vx "${1-}" "$folder/needed" | while read -r crate; do
         left=$((${left:-$crates} - 1))
         echo "stack: $crate is proved, $left of $crates are left, N min so far"
