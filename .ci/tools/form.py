@@ -289,6 +289,8 @@ def check_lemmas():
             continue
         if not cited[path.parts[1], path.stem] - {path}:
             say(path, "no proof cites this lemma module; remove it, or put its law on a clause")
+        if not path.read_text().startswith("-- "):
+            say(path, "it has no sentence at its head, which proof_map.py prints; write what its lemmas say")
     check_lemma_names()
 
 

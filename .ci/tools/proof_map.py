@@ -1,5 +1,9 @@
 #!/usr/bin/env python3
-"""Prints docs/PROOFMAP.md: each crate's lemma modules, what they say, and which functions' clauses they serve."""
+"""Prints the map of the proofs: each crate's lemma modules, what they say, and which functions' clauses they serve.
+
+The proof of a function `f` of `src/a.rt` is in `proofs/a/f/`. A lemma module is `proofs/M.antt`; "serves" names the functions whose proofs
+cite it, and in italics the lemma modules that do. The map is printed and not kept; form.py refuses a module that serves nothing.
+"""
 import re
 import subprocess
 from collections import defaultdict
@@ -7,11 +11,6 @@ from pathlib import Path
 
 from arguments import parser_of
 
-HEAD = """# Map of the proofs
-
-Printed by `.ci/tools/proof_map.py`, and checked to be current by `.ci/checks/form.sh`. The proof of a function `f` of `src/a.rt` is in `proofs/a/f/`.
-A lemma module is `proofs/M.antt`; "serves" names the functions whose proofs cite it, and in italics the lemma modules that do.
-"""
 CITED = re.compile(r"(?:Rattle\.(\w+)\.proofs\.|crate::proofs::)([A-Z]\w*)")
 
 
@@ -50,15 +49,25 @@ def header(path):
     return " ".join(words).replace("|", "\\|")
 
 
-def main():
-    parser_of(__doc__).parse_args()
-    serves = citers()
-    print(HEAD)
+def modules():
+    """The lemma modules of each crate."""
     crates = defaultdict(list)
     for path in tracked("crates/*/proofs/*.antt"):
         if len(path.parts) == 4 and path.name != "Lib.antt":
             crates[path.parts[1]].append(path)
-    for crate in sorted(crates):
+    return crates
+
+
+def main():
+    crates = modules()
+    parser = parser_of(__doc__)
+    parser.add_argument("crates", metavar="CRATE", nargs="*", help="a crate whose lemma modules are printed (those of all)")
+    words = parser.parse_args()
+    for crate in words.crates:
+        if crate not in crates:
+            parser.error(f"{crate} is no crate with lemma modules")
+    serves = citers()
+    for crate in words.crates or sorted(crates):
         print(f"## {crate}\n")
         print("| Module | What it says | Serves |")
         print("|---|---|---|")
