@@ -1,0 +1,20 @@
+-- Why memory runs out, and what a call did where it did not.
+use Rattle.std.specs.Prelude.{ℕ, ◌+◌, ◌*◌, ◌≤◌, Result, Ok, Err}
+
+-- room is refused for some number of items, which is no more than that
+abbrev pub RefusesWithin : (ℕ → Type 0) → ℕ → Type 0
+RefusesWithin refuses most = (count : ℕ) × (count ≤ most) × refuses count
+
+-- the room that a list of so many items asks for, at most, to take one more
+abbrev pub room_after : ℕ → ℕ
+room_after count = 2 * count + 8
+
+-- the call did that, unless memory was refused
+abbrev pub OnOkUnless : {X E : Type 0} → Type 0 → Result X E → Type 0 → Type 0
+OnOkUnless refused (Ok _) did = did
+OnOkUnless refused (Err _) did = refused
+
+-- what the call returned is so, unless memory was refused
+abbrev pub IfOkUnless : {X E : Type 0} → Type 0 → Result X E → (X → Type 0) → Type 0
+IfOkUnless refused (Ok x) is = is x
+IfOkUnless refused (Err _) is = refused

@@ -1,0 +1,101 @@
+//! What takes memory.
+
+ghost use Rattle.std.specs.Prelude.{◌≡◌, ℕ, ◌+◌, ◌∷◌, [], ◌++◌, length, not, OnOk, OnErr, is_ok, if◌then◌else◌};
+ghost use Rattle.indexmap.specs.IndexSet.{contains, insert_key};
+ghost use Rattle.stack_heap.specs.Heaps.{IfOkUnless, RefusesWithin, room_after};
+
+use indexmap::IndexSet;
+use std::alloc::{AllocError, AllocFailed, Global};
+use std::hash::Hash;
+
+/// What takes memory: each method is one call of the library, and fails only where the heap may refuse.
+pub trait Heap: Copy {
+    /// The heap may refuse memory.
+    ghost may_refuse: { Self → Type 0 };
+
+    /// It may refuse room for so many items of one list.
+    ghost may_refuse_room: { Self → ℕ → Type 0 };
+
+    /// The library's handle, for what is empty yet, and for callees that say nothing of the heap.
+    fn handle(self) -> Global;
+
+    /// An empty vector with room for so many items.
+    fn with_room<T>(self, count: usize) -> Result<Vec<T>, AllocError>
+        ensures items { IfOkUnless (may_refuse self) result (λ made. made.items ≡ []) }
+        ensures room { OnErr result (RefusesWithin (may_refuse_room self) count) };
+
+    /// A vector of these items.
+    fn copied<T: Copy>(self, items: &[T]) -> Result<Vec<T>, AllocError>
+        ensures items { IfOkUnless (may_refuse self) result (λ made. made.items ≡ items.now) }
+        ensures room { OnErr result (RefusesWithin (may_refuse_room self) (length items.now)) };
+
+    /// Appends an item, or leaves the items as they were.
+    fn push<T>(self, items: &mut Vec<T>, item: T) -> Result<(), AllocFailed<T>>
+        ensures items { items.new.items ≡ (if is_ok result then items.old.items ++ item ∷ [] else items.old.items) }
+        ensures refused { OnErr result (may_refuse self) }
+        ensures room { OnErr result (RefusesWithin (may_refuse_room self) (room_after (length items.old.items))) };
+
+    /// Appends items, or leaves those that are there as they were.
+    fn extend_from_slice<T: Copy>(self, items: &mut Vec<T>, more: &[T]) -> Result<(), AllocError>
+        ensures items { items.new.items ≡ (if is_ok result then items.old.items ++ more.now else items.old.items) }
+        ensures refused { OnErr result (may_refuse self) }
+        ensures room { OnErr result
+            (RefusesWithin (may_refuse_room self) (room_after (length items.old.items + length more.now))) };
+
+    /// A value in a box.
+    fn boxed<T>(self, value: T) -> Result<Box<T>, AllocFailed<T>>
+        ensures value { IfOkUnless (may_refuse self) result (λ made. made.value ≡ value) };
+
+    /// Enters a value into a set, and says whether it is new.
+    fn insert<T: Eq + Hash + Drop>(
+        self,
+        set: &mut IndexSet<T>,
+        value: T,
+    ) -> Result<bool, AllocFailed<T>>
+        ensures new { IfOkUnless (may_refuse self) result (λ new. new ≡ not (contains T.eq set.old value)) }
+        ensures keys { OnOk result (set.new.keys ≡ insert_key T.eq set.old.keys value) };
+
+    /// Who may refuse room may refuse.
+    ghost refuses: { (heap : Self) (count : ℕ) → may_refuse_room heap count → may_refuse heap };
+}
+
+/// The heap of the C library, of which nothing says when it refuses.
+impl Heap for Global {
+    ghost may_refuse = { λ _. Unit {0} };
+
+    ghost may_refuse_room = { λ _ _. Unit {0} };
+
+    ghost refuses = { λ _ _ _. tt };
+
+    fn handle(self) -> Global {
+        self
+    }
+
+    fn with_room<T>(self, count: usize) -> Result<Vec<T>, AllocError> {
+        Vec::with_capacity(self, count)
+    }
+
+    fn copied<T: Copy>(self, items: &[T]) -> Result<Vec<T>, AllocError> {
+        Vec::from_slice(self, items)
+    }
+
+    fn push<T>(self, items: &mut Vec<T>, item: T) -> Result<(), AllocFailed<T>> {
+        items.push(item)
+    }
+
+    fn extend_from_slice<T: Copy>(self, items: &mut Vec<T>, more: &[T]) -> Result<(), AllocError> {
+        items.extend_from_slice(more)
+    }
+
+    fn boxed<T>(self, value: T) -> Result<Box<T>, AllocFailed<T>> {
+        Box::new(self, value)
+    }
+
+    fn insert<T: Eq + Hash + Drop>(
+        self,
+        set: &mut IndexSet<T>,
+        value: T,
+    ) -> Result<bool, AllocFailed<T>> {
+        set.insert(value)
+    }
+}
