@@ -262,14 +262,14 @@ class Mistake:
 
 MISTAKES = [
     # A body that gives up.
-    Mistake("crates/stack_text/src/reader.rt", "    let tree = read(alloc, text)?;", "    Err(TextFault::Memory)\n}\nfn more() {", "TextFault::Memory"),
+    Mistake("crates/stack_text/src/reader.rt", "    let tree = read(heap, text)?;", "    Err(TextFault::Memory)\n}\nfn more() {", "TextFault::Memory"),
     # One that gives up where much is asked for.
     Mistake("crates/fm_image/src/writing.rt", "    let name = name.bytes();", "    if name.is_long() { return Err(Memory); }", "Memory"),
     # The library's errors: by `?`, by a conversion, with a value, and in place of another error.
     Mistake("crates/fm_image/src/writing.rt", "    let name = name.bytes();", "    Err(AllocError)?;", "AllocError"),
     Mistake("crates/fm_image/src/writing.rt", "    let name = name.bytes();", "    return Err(Memory::from(AllocError));", "AllocError"),
     Mistake("crates/fm_image/src/writing.rt", "    let name = name.bytes();", "    Err(AllocFailed { value: 1 })?;", "AllocFailed"),
-    Mistake("crates/fm_image/src/writing.rt", "extend_from_slice(name)?", "extend_from_slice(name).map_err(|_| Memory)?", "Memory"),
+    Mistake("crates/fm_image/src/writing.rt", "extend_from_slice(bytes, name)?", "extend_from_slice(bytes, name).map_err(|_| Memory)?", "Memory"),
     # An arm of another fault, of any fault, of out of memory or another fault, and of a test of something else.
     Mistake("crates/stack_commands/src/show.rt", "Ok(Plan::verdict_alone(alloc, Verdict::Image { rule, place }))", "Err(Memory)", "Memory"),
     Mistake("crates/stack_commands/src/show.rt", "Err(ImageFault::Memory) =>", "Err(_) =>", "Err(Memory)"),

@@ -13,7 +13,7 @@ use Rattle.fm_image.specs.Limits.{Tables, tables_of, window_of, is_version, is_s
 use Rattle.fm_image.specs.Limits.{is_condition, is_count, most_conditions, is_slot, is_tables, all_after, is_image}
 use Rattle.fm_image.specs.Spelling.{number_bytes, numbers_bytes, name_bytes, counted_bytes, window_bytes, flags_bytes, condition_address_bytes, slot_bytes, opening_bytes, tables_bytes, spelling, are_words, Spelled}
 use Rattle.stack_text.specs.Results.{◌>>=◌}
-use Rattle.fm_image.specs.Rules.{Fault, GivesImage}
+use Rattle.fm_image.specs.Rules.{Fault, GivesImageUnless}
 use Rattle.fm_image.specs.Fields.{place, number_at}
 use Rattle.fm_image.specs.Reading.{opening_at, window_at, numbers_at, flags_at, condition_address_at, conditions_at, slot_at, slots_at, words_at, tables_at, image_at, read_of, error_of, ReportsFault}
 use Rattle.fm_image.proofs.LimitLaws.{Limits, limits_of, from_limits}
@@ -239,14 +239,14 @@ one_spelling a b image s t = s.fields ∙ sym t.fields
 pub limits_hold : (end : ℕ) (bytes : List ℕ) (image : ImageOf) → IsBytes bytes → image_at end bytes ≡ Ok image → IsTrue (is_image image)
 limits_hold end bytes image ok e = from_limits image (image_takes end bytes image ok e).limits
 
-pub is_found : (bytes : List ℕ) (r : Result ImageOf ImageFault) → IsBytes bytes → GivesImage (λ image. image) r (read_of bytes) → IfOk r (λ image. Spelled bytes image)
-is_found bytes (Ok image) ok given = read_spells bytes image ok given
-is_found bytes (Err e) ok given = tt
+pub is_found : (R : Type 0) (bytes : List ℕ) (r : Result ImageOf ImageFault) → IsBytes bytes → GivesImageUnless R (λ image. image) r (read_of bytes) → IfOk r (λ image. Spelled bytes image)
+is_found R bytes (Ok image) ok given = read_spells bytes image ok given
+is_found R bytes (Err e) ok given = tt
 
-pub tells : (bytes : List ℕ) (r : Result ImageOf ImageFault) → GivesImage (λ image. image) r (read_of bytes) → ReportsFault bytes r
-tells bytes (Ok image) given = ap error_of given
-tells bytes (Err (Refused rule place)) given = ap error_of given
-tells bytes (Err Memory) given = tt
+pub tells : (R : Type 0) (bytes : List ℕ) (r : Result ImageOf ImageFault) → GivesImageUnless R (λ image. image) r (read_of bytes) → ReportsFault bytes r
+tells R bytes (Ok image) given = ap error_of given
+tells R bytes (Err (Refused rule place)) given = ap error_of given
+tells R bytes (Err Memory) given = tt
 
 pub is_read_again : (image : ImageOf) → IsTrue (is_image image) → IsTrue (are_words image.registers) → IsTrue (are_words image.words) → read_of (spelling image) ≡ Ok image
 is_read_again image limits registers words = spelled_reads (spelling image) image (record { limits = limits; registers = registers; words = words; fields = refl })

@@ -2,7 +2,7 @@
 use Rattle.std.proofs.Common.{◌≡◌, ℕ, suc, ◌-◌, ◌+◌, ◌≤◌, ◌<◌, List, [], ◌∷◌, ◌++◌, Result, Ok, Err, refl, sym, ◌∙◌, arith}
 use Rattle.fm_image.specs.declared.fault.ImageFault.{ImageFault}
 use Rattle.fm_image.specs.declared.fault.ImageFault.TheVariants.{Refused, Memory}
-use Rattle.fm_image.specs.Rules.{Fault, Parser, Fails}
+use Rattle.fm_image.specs.Rules.{Fault, Parser, FailsUnless}
 use Rattle.fm_image.specs.Fields.{items_at}
 
 -- one item more
@@ -24,11 +24,11 @@ stops item earlier count i left fault all lt read so_far =
     sym so_far ∙ one
 
 -- an item is refused, or memory ran out
-pub ends : {A : Type 0} (e : ImageFault) (item : List A → Parser A) (earlier : List A) (count i : ℕ) (left : List ℕ) (all : Result (List A × List ℕ) Fault)
-    → i < count → Fails e (item earlier left) → items_at item (count - i) earlier left ≡ all → Fails e all
+pub ends : {A : Type 0} (R : Type 0) (e : ImageFault) (item : List A → Parser A) (earlier : List A) (count i : ℕ) (left : List ℕ) (all : Result (List A × List ℕ) Fault)
+    → i < count → FailsUnless R e (item earlier left) → items_at item (count - i) earlier left ≡ all → FailsUnless R e all
 unfolding items_at
-ends Memory item earlier count i left all lt read so_far = tt
-ends (Refused rule place) item earlier count i left all lt read so_far = stops item earlier count i left (rule, place) all lt read so_far
+ends R Memory item earlier count i left all lt read so_far = read
+ends R (Refused rule place) item earlier count i left all lt read so_far = stops item earlier count i left (rule, place) all lt read so_far
 
 -- no item is left
 pub is_done : {A : Type 0} (item : List A → Parser A) (earlier : List A) (count i : ℕ) (left : List ℕ) (all : Result (List A × List ℕ) Fault)

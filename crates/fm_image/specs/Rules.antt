@@ -38,9 +38,9 @@ abbrev pub fault_of : ImageFault → Option Fault
 fault_of (Refused rule place) = Some (rule, place)
 fault_of Memory = None
 
-abbrev pub Fails : {Y : Type 0} → ImageFault → Result Y Fault → Type 0
-Fails e read = common.Fails (fault_of e) read
+abbrev pub FailsUnless : {Y : Type 0} → Type 0 → ImageFault → Result Y Fault → Type 0
+FailsUnless refused e read = common.FailsUnless refused (fault_of e) read
 
--- the same for a call that may run out of memory, which is free
-abbrev pub GivesImage : {X Y : Type 0} → (X → Y) → Result X ImageFault → Result Y Fault → Type 0
-GivesImage view result read = common.Gives fault_of view result read
+-- the same for a call that may run out of memory, but only where memory was refused
+abbrev pub GivesImageUnless : {X Y : Type 0} → Type 0 → (X → Y) → Result X ImageFault → Result Y Fault → Type 0
+GivesImageUnless refused view result read = common.GivesUnless refused fault_of view result read

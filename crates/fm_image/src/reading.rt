@@ -1,10 +1,11 @@
 //! Reading images.
 
 ghost use Rattle.std.specs.Prelude.{◌≡◌, ◌∷◌, ◌++◌, [], map, IsTrue, IfOk, OnOk, Ok};
+ghost use Rattle.stack_heap.specs.Heaps.{IfOkUnless};
 ghost use Rattle.fm_image.specs.Image.{ImageOf};
 ghost use Rattle.fm_image.specs.Limits.{is_new, last_mark};
 ghost use Rattle.fm_image.specs.Spelling.{Spelled};
-ghost use Rattle.fm_image.specs.Rules.{GivesExactly, GivesImage};
+ghost use Rattle.fm_image.specs.Rules.{GivesExactly, GivesImageUnless};
 ghost use Rattle.fm_image.specs.Fields.{place, number_at, bytes_at, text_at};
 ghost use Rattle.fm_image.specs.Reading.{opening_at, window_at, numbers_at, flags_at, condition_address_at, name_at, new_name_at, count_at, conditions_at, kind_at, shape_at, slot_at, slots_at, words_at, variable_at, variables_at, procedure_at, procedures_at, mark_address_at, mark_at, marks_at, both_tables_at, tables_at, image_at, read_of, ReportsFault};
 
@@ -20,10 +21,10 @@ use crate::slot::Slot;
 use crate::window::Window;
 use fm_words::{Flags, MOST_WINDOW};
 use indexmap::IndexSet;
+use stack_heap::Heap;
 use stack_text::{
     Kind, MOST_ARRAY, MOST_DECLARED, MOST_PROCEDURES, MOST_TEXT, Memory, Name, Shape, read_name,
 };
-use std::alloc::Global;
 
 /// The last word of the longest frame.
 const MAX_OFFSET: u32 = 199;
@@ -94,19 +95,19 @@ fn window(end: usize, left: &[u8]) -> Result<(Window, &[u8]), Refusal>
 }
 
 /// So many numbers.
-fn numbers(
-    alloc: Global,
+fn numbers<H: Heap>(
+    heap: H,
     end: usize,
     count: u32,
     left: &[u8],
 ) -> Result<(Vec<u32>, &[u8]), ImageFault>
-    ensures { GivesImage (λ x. (x.0.items, x.1.now)) result (numbers_at end count left.now) }
+    ensures { GivesImageUnless (H.may_refuse heap) (λ x. (x.0.items, x.1.now)) result (numbers_at end count left.now) }
 {
-    let mut numbers = Vec::new(alloc);
+    let mut numbers = Vec::new(heap.handle());
     let mut rest = left;
     for _ in 0..count {
         let (next, after) = number(end, rest)?;
-        numbers.push(next)?;
+        heap.push(&mut numbers, next)?;
         rest = after;
     }
     Ok((numbers, rest))
@@ -149,45 +150,51 @@ fn text(end: usize, left: &[u8]) -> Result<(&[u8], &[u8]), Refusal>
 }
 
 /// A name, with its bytes in the file.
-fn name<'a>(
-    alloc: Global,
+fn name<'a, H: Heap>(
+    heap: H,
     end: usize,
     left: &'a [u8],
 ) -> Result<(Name, &'a [u8], &'a [u8]), ImageFault>
-    ensures name { GivesImage (λ x. (x.0, x.2.now)) result (name_at end left.now) }
+    ensures name { GivesImageUnless (H.may_refuse heap) (λ x. (x.0, x.2.now)) result (name_at end left.now) }
     ensures bytes { IfOk result (λ x. x.1.now ≡ x.0) }
 {
     let (text, rest) = text(end, left)?;
-    match read_name(alloc, text)? {
+    match read_name(heap, text)? {
         Some(name) => Ok((name, text, rest)),
         None => Err(refused(Rule::Name, end, left).into()),
     }
 }
 
 /// Enters a name, and says whether it is none of the earlier ones.
-fn enter<'a>(names: &mut IndexSet<&'a [u8]>, name: &'a [u8]) -> Result<bool, Memory>
-    ensures new { IfOk result (λ new. new ≡ is_new (map (λ key. key.now) names.old.keys) name.now) }
-    ensures entered { OnOk result (IsTrue (is_new (map (λ key. key.now) names.old.keys) name.now)
+fn enter<'a, H: Heap>(
+    heap: H,
+    names: &mut IndexSet<&'a [u8]>,
+    name: &'a [u8],
+) -> Result<bool, Memory>
+    ensures new { IfOkUnless (H.may_refuse heap) result
+        (λ new. new ≡ is_new (map (λ key. key.now) names.old.keys) name.now) }
+    ensures entered { OnOk result
+        (IsTrue (is_new (map (λ key. key.now) names.old.keys) name.now)
         → map (λ key. key.now) names.new.keys ≡ map (λ key. key.now) names.old.keys ++ name.now ∷ []) }
 {
-    let new = names.insert(name)?;
+    let new = heap.insert(names, name)?;
     Ok(new)
 }
 
 /// A name after the earlier ones of its list, which is entered among them.
-fn new_name<'a>(
-    alloc: Global,
+fn new_name<'a, H: Heap>(
+    heap: H,
     end: usize,
     names: &mut IndexSet<&'a [u8]>,
     left: &'a [u8],
 ) -> Result<(Name, &'a [u8]), ImageFault>
-    ensures name { GivesImage (λ x. (x.0, x.1.now)) result
+    ensures name { GivesImageUnless (H.may_refuse heap) (λ x. (x.0, x.1.now)) result
         (new_name_at end (map (λ key. key.now) names.old.keys) left.now) }
     ensures entered { IfOk result (λ x. map (λ key. key.now) names.new.keys
         ≡ map (λ key. key.now) names.old.keys ++ x.0 ∷ []) }
 {
-    let (name, bytes, rest) = name(alloc, end, left)?;
-    let new = enter(names, bytes)?;
+    let (name, bytes, rest) = name(heap, end, left)?;
+    let new = enter(heap, names, bytes)?;
     if !new {
         return Err(refused(Rule::Repeated, end, left).into());
     }
@@ -207,20 +214,21 @@ fn count(most: u32, end: usize, left: &[u8]) -> Result<(u32, &[u8]), Refusal>
 
 /// At most so many names of conditions.
 #[tactic(auto, unfolding(crate::specs::Reading::conditions_at))]
-fn conditions(
-    alloc: Global,
+fn conditions<H: Heap>(
+    heap: H,
     most: u32,
     end: usize,
     left: &[u8],
 ) -> Result<(Vec<Name>, &[u8]), ImageFault>
-    ensures { GivesImage (λ x. (x.0.items, x.1.now)) result (conditions_at most end left.now) }
+    ensures { GivesImageUnless (H.may_refuse heap) (λ x. (x.0.items, x.1.now)) result
+        (conditions_at most end left.now) }
 {
     let (count, mut rest) = count(most, end, left)?;
-    let mut names = IndexSet::new(alloc);
-    let mut conditions = Vec::new(alloc);
+    let mut names = IndexSet::new(heap.handle());
+    let mut conditions = Vec::new(heap.handle());
     for _ in 0..count {
-        let (next, after) = new_name(alloc, end, &mut names, rest)?;
-        conditions.push(next)?;
+        let (next, after) = new_name(heap, end, &mut names, rest)?;
+        heap.push(&mut conditions, next)?;
         rest = after;
     }
     Ok((conditions, rest))
@@ -249,19 +257,19 @@ fn shape(end: usize, left: &[u8]) -> Result<(Shape, &[u8]), Refusal>
 
 /// A slot, after those that were read before.
 #[tactic(auto, unfolding(crate::specs::Reading::slot_at))]
-fn slot<'a>(
-    alloc: Global,
+fn slot<'a, H: Heap>(
+    heap: H,
     end: usize,
     window: Window,
     names: &mut IndexSet<&'a [u8]>,
     left: &'a [u8],
 ) -> Result<(Slot, &'a [u8]), ImageFault>
-    ensures slot { GivesImage (λ x. (x.0, x.1.now)) result
+    ensures slot { GivesImageUnless (H.may_refuse heap) (λ x. (x.0, x.1.now)) result
         (slot_at end window (map (λ key. key.now) names.old.keys) left.now) }
     ensures entered { IfOk result (λ x. map (λ key. key.now) names.new.keys
         ≡ map (λ key. key.now) names.old.keys ++ x.0.name ∷ []) }
 {
-    let (name, left) = new_name(alloc, end, names, left)?;
+    let (name, left) = new_name(heap, end, names, left)?;
     let (shape, left) = shape(end, left)?;
     let (address, rest) = number(end, left)?;
     if !is_slot_address(window, shape, address) {
@@ -276,52 +284,52 @@ fn slot<'a>(
 }
 
 #[tactic(auto, unfolding(crate::specs::Reading::slots_at))]
-fn slots(
-    alloc: Global,
+fn slots<H: Heap>(
+    heap: H,
     end: usize,
     window: Window,
     left: &[u8],
 ) -> Result<(Vec<Slot>, &[u8]), ImageFault>
-    ensures { GivesImage (λ x. (x.0.items, x.1.now)) result (slots_at end window left.now) }
+    ensures { GivesImageUnless (H.may_refuse heap) (λ x. (x.0.items, x.1.now)) result (slots_at end window left.now) }
 {
     let (count, mut rest) = count(MOST_DECLARED as u32, end, left)?;
-    let mut names = IndexSet::new(alloc);
-    let mut slots = Vec::new(alloc);
+    let mut names = IndexSet::new(heap.handle());
+    let mut slots = Vec::new(heap.handle());
     for _ in 0..count {
-        let (next, after) = slot(alloc, end, window, &mut names, rest)?;
-        slots.push(next)?;
+        let (next, after) = slot(heap, end, window, &mut names, rest)?;
+        heap.push(&mut slots, next)?;
         rest = after;
     }
     Ok((slots, rest))
 }
 
 #[tactic(auto, unfolding(crate::specs::Reading::words_at))]
-fn words(
-    alloc: Global,
+fn words<H: Heap>(
+    heap: H,
     end: usize,
     window: Window,
     left: &[u8],
 ) -> Result<(Vec<u32>, &[u8]), ImageFault>
-    ensures { GivesImage (λ x. (x.0.items, x.1.now)) result (words_at end window left.now) }
+    ensures { GivesImageUnless (H.may_refuse heap) (λ x. (x.0.items, x.1.now)) result (words_at end window left.now) }
 {
     let (count, rest) = count(window.size, end, left)?;
-    numbers(alloc, end, count, rest)
+    numbers(heap, end, count, rest)
 }
 
 /// A variable, after those whose names were entered.
 #[tactic(auto, unfolding(crate::specs::Reading::variable_at))]
-fn variable<'a>(
-    alloc: Global,
+fn variable<'a, H: Heap>(
+    heap: H,
     end: usize,
     names: &mut IndexSet<&'a [u8]>,
     left: &'a [u8],
 ) -> Result<(VarInfo, &'a [u8]), ImageFault>
-    ensures variable { GivesImage (λ x. (x.0, x.1.now)) result
+    ensures variable { GivesImageUnless (H.may_refuse heap) (λ x. (x.0, x.1.now)) result
         (variable_at end (map (λ key. key.now) names.old.keys) left.now) }
     ensures entered { IfOk result (λ x. map (λ key. key.now) names.new.keys
         ≡ map (λ key. key.now) names.old.keys ++ x.0.name ∷ []) }
 {
-    let (name, left) = new_name(alloc, end, names, left)?;
+    let (name, left) = new_name(heap, end, names, left)?;
     let (shape, left) = shape(end, left)?;
     let (offset, rest) = number(end, left)?;
     if offset > MAX_OFFSET {
@@ -336,15 +344,15 @@ fn variable<'a>(
 }
 
 #[tactic(auto, unfolding(crate::specs::Reading::variables_at))]
-fn variables(alloc: Global, end: usize, left: &[u8]) -> Result<(Vec<VarInfo>, &[u8]), ImageFault>
-    ensures { GivesImage (λ x. (x.0.items, x.1.now)) result (variables_at end left.now) }
+fn variables<H: Heap>(heap: H, end: usize, left: &[u8]) -> Result<(Vec<VarInfo>, &[u8]), ImageFault>
+    ensures { GivesImageUnless (H.may_refuse heap) (λ x. (x.0.items, x.1.now)) result (variables_at end left.now) }
 {
     let (count, mut rest) = count(MOST_DECLARED as u32, end, left)?;
-    let mut names = IndexSet::new(alloc);
-    let mut variables = Vec::new(alloc);
+    let mut names = IndexSet::new(heap.handle());
+    let mut variables = Vec::new(heap.handle());
     for _ in 0..count {
-        let (next, after) = variable(alloc, end, &mut names, rest)?;
-        variables.push(next)?;
+        let (next, after) = variable(heap, end, &mut names, rest)?;
+        heap.push(&mut variables, next)?;
         rest = after;
     }
     Ok((variables, rest))
@@ -352,20 +360,20 @@ fn variables(alloc: Global, end: usize, left: &[u8]) -> Result<(Vec<VarInfo>, &[
 
 /// A procedure, after those whose names were entered.
 #[tactic(auto, unfolding(crate::specs::Reading::procedure_at))]
-fn procedure<'a>(
-    alloc: Global,
+fn procedure<'a, H: Heap>(
+    heap: H,
     end: usize,
     names: &mut IndexSet<&'a [u8]>,
     left: &'a [u8],
 ) -> Result<(ProcInfo, &'a [u8]), ImageFault>
-    ensures procedure { GivesImage (λ x. (x.0, x.1.now)) result
+    ensures procedure { GivesImageUnless (H.may_refuse heap) (λ x. (x.0, x.1.now)) result
         (procedure_at end (map (λ key. key.now) names.old.keys) left.now) }
     ensures entered { IfOk result (λ x. map (λ key. key.now) names.new.keys
         ≡ map (λ key. key.now) names.old.keys ++ x.0.name ∷ []) }
 {
-    let (name, left) = new_name(alloc, end, names, left)?;
-    let (conditions, left) = conditions(alloc, MOST_MARKED_CONDITIONS, end, left)?;
-    let (variables, rest) = variables(alloc, end, left)?;
+    let (name, left) = new_name(heap, end, names, left)?;
+    let (conditions, left) = conditions(heap, MOST_MARKED_CONDITIONS, end, left)?;
+    let (variables, rest) = variables(heap, end, left)?;
     let procedure = ProcInfo {
         name,
         conditions,
@@ -375,15 +383,19 @@ fn procedure<'a>(
 }
 
 #[tactic(auto, unfolding(crate::specs::Reading::procedures_at))]
-fn procedures(alloc: Global, end: usize, left: &[u8]) -> Result<(Vec<ProcInfo>, &[u8]), ImageFault>
-    ensures { GivesImage (λ x. (x.0.items, x.1.now)) result (procedures_at end left.now) }
+fn procedures<H: Heap>(
+    heap: H,
+    end: usize,
+    left: &[u8],
+) -> Result<(Vec<ProcInfo>, &[u8]), ImageFault>
+    ensures { GivesImageUnless (H.may_refuse heap) (λ x. (x.0.items, x.1.now)) result (procedures_at end left.now) }
 {
     let (count, mut rest) = count(MOST_PROCEDURES as u32, end, left)?;
-    let mut names = IndexSet::new(alloc);
-    let mut procedures = Vec::new(alloc);
+    let mut names = IndexSet::new(heap.handle());
+    let mut procedures = Vec::new(heap.handle());
     for _ in 0..count {
-        let (next, after) = procedure(alloc, end, &mut names, rest)?;
-        procedures.push(next)?;
+        let (next, after) = procedure(heap, end, &mut names, rest)?;
+        heap.push(&mut procedures, next)?;
         rest = after;
     }
     Ok((procedures, rest))
@@ -446,21 +458,22 @@ fn mark<'a>(
 }
 
 #[tactic(auto, unfolding(crate::specs::Reading::marks_at))]
-fn marks(
-    alloc: Global,
+fn marks<H: Heap>(
+    heap: H,
     end: usize,
     window: Window,
     procedures: u32,
     left: &[u8],
 ) -> Result<(Vec<Mark>, &[u8]), ImageFault>
-    ensures { GivesImage (λ x. (x.0.items, x.1.now)) result (marks_at end window procedures left.now) }
+    ensures { GivesImageUnless (H.may_refuse heap) (λ x. (x.0.items, x.1.now)) result
+        (marks_at end window procedures left.now) }
 {
     let (count, mut rest) = count(MOST_WINDOW, end, left)?;
-    let mut marks: Vec<Mark> = Vec::new(alloc);
+    let mut marks: Vec<Mark> = Vec::new(heap.handle());
     for _ in 0..count {
         let before = last_mark(&marks);
         let (next, after) = mark(end, window, procedures, before, rest)?;
-        marks.push(next)?;
+        heap.push(&mut marks, next)?;
         rest = after;
     }
     Ok((marks, rest))
@@ -468,52 +481,54 @@ fn marks(
 
 /// Procedures, and marks that name them by their numbers.
 #[tactic(auto, unfolding(crate::specs::Reading::both_tables_at))]
-fn both_tables(
-    alloc: Global,
+fn both_tables<H: Heap>(
+    heap: H,
     end: usize,
     window: Window,
     left: &[u8],
 ) -> Result<(Vec<ProcInfo>, Vec<Mark>, &[u8]), ImageFault>
-    ensures { GivesImage (λ x. (record { procedures = x.0.items; marks = x.1.items }, x.2.now)) result
+    ensures { GivesImageUnless (H.may_refuse heap)
+        (λ x. (record { procedures = x.0.items; marks = x.1.items }, x.2.now)) result
         (both_tables_at end window left.now) }
 {
-    let (procedures, left) = procedures(alloc, end, left)?;
-    let (marks, rest) = marks(alloc, end, window, procedures.len() as u32, left)?;
+    let (procedures, left) = procedures(heap, end, left)?;
+    let (marks, rest) = marks(heap, end, window, procedures.len() as u32, left)?;
     Ok((procedures, marks, rest))
 }
 
 /// The fields that only version 2 has.
 #[tactic(auto, unfolding(crate::specs::Reading::tables_at))]
-fn tables(
-    alloc: Global,
+fn tables<H: Heap>(
+    heap: H,
     version: u32,
     end: usize,
     window: Window,
     left: &[u8],
 ) -> Result<(Vec<ProcInfo>, Vec<Mark>, &[u8]), ImageFault>
-    ensures { GivesImage (λ x. (record { procedures = x.0.items; marks = x.1.items }, x.2.now)) result
+    ensures { GivesImageUnless (H.may_refuse heap)
+        (λ x. (record { procedures = x.0.items; marks = x.1.items }, x.2.now)) result
         (tables_at version end window left.now) }
 {
     if version == UNMARKED_VERSION {
-        return Ok((Vec::new(alloc), Vec::new(alloc), left));
+        return Ok((Vec::new(heap.handle()), Vec::new(heap.handle()), left));
     }
-    both_tables(alloc, end, window, left)
+    both_tables(heap, end, window, left)
 }
 
 /// The fields of its version, and nothing after them.
 #[tactic(auto, unfolding(crate::specs::Reading::image_at))]
-fn image(alloc: Global, end: usize, left: &[u8]) -> Result<Image, ImageFault>
-    ensures { GivesImage (λ image. image) result (image_at end left.now) }
+fn image<H: Heap>(heap: H, end: usize, left: &[u8]) -> Result<Image, ImageFault>
+    ensures { GivesImageUnless (H.may_refuse heap) (λ image. image) result (image_at end left.now) }
 {
     let (version, rest) = opening(end, left)?;
     let (window, rest) = window(end, rest)?;
-    let (registers, rest) = numbers(alloc, end, 16, rest)?;
+    let (registers, rest) = numbers(heap, end, 16, rest)?;
     let (flags, rest) = flags(end, rest)?;
     let (condition_address, rest) = condition_address(end, window, rest)?;
-    let (conditions, rest) = conditions(alloc, most_conditions(version), end, rest)?;
-    let (slots, rest) = slots(alloc, end, window, rest)?;
-    let (words, rest) = words(alloc, end, window, rest)?;
-    let (procedures, marks, rest) = tables(alloc, version, end, window, rest)?;
+    let (conditions, rest) = conditions(heap, most_conditions(version), end, rest)?;
+    let (slots, rest) = slots(heap, end, window, rest)?;
+    let (words, rest) = words(heap, end, window, rest)?;
+    let (procedures, marks, rest) = tables(heap, version, end, window, rest)?;
     if !rest.is_empty() {
         return Err(refused(Rule::Trailing, end, rest).into());
     }
@@ -541,14 +556,15 @@ fn image(alloc: Global, end: usize, left: &[u8]) -> Result<Image, ImageFault>
 ///
 /// The first rule of `docs/image-file.md` that the bytes break, read from left to right, and its place; or out
 /// of memory.
-pub fn read_image(alloc: Global, bytes: &[u8]) -> Result<Image, ImageFault>
+pub fn read_image<H: Heap>(heap: H, bytes: &[u8]) -> Result<Image, ImageFault>
     // What is read is spelled so, each byte of the file.
     ensures found { IfOk result (λ image. Spelled bytes.now image) }
-    // Where the bytes spell an image, that image is read, or memory runs out.
-    ensures only { (image : ImageOf) → Spelled bytes.now image → GivesImage (λ read. read) result (Ok image) }
+    // Where the bytes spell an image, that image is read, or memory runs out where the heap may refuse.
+    ensures only { (image : ImageOf) → Spelled bytes.now image →
+        GivesImageUnless (H.may_refuse heap) (λ read. read) result (Ok image) }
     // An error is the first fault of the file.
     ensures fault { ReportsFault bytes.now result }
-    ensures exact { GivesImage (λ image. image) result (read_of bytes.now) }
+    ensures exact { GivesImageUnless (H.may_refuse heap) (λ image. image) result (read_of bytes.now) }
 {
-    image(alloc, bytes.len(), bytes)
+    image(heap, bytes.len(), bytes)
 }

@@ -1,6 +1,7 @@
 //! Writing images.
 
-ghost use Rattle.std.specs.Prelude.{◌≡◌, ◌≤◌, ◌<◌, ◌^◌, ◌++◌, length, IfOk, OnOk, IsTrue};
+ghost use Rattle.std.specs.Prelude.{◌≡◌, ◌≤◌, ◌<◌, ◌^◌, ◌++◌, length, IsTrue};
+ghost use Rattle.stack_heap.specs.Heaps.{IfOkUnless, OnOkUnless};
 ghost use Rattle.std.specs.List.{list_all};
 ghost use Rattle.fm_image.specs.Limits.{Tables};
 ghost use Rattle.fm_image.specs.Spelling.{is_small};
@@ -11,139 +12,155 @@ use crate::image::Image;
 use crate::limit::{MAGIC, UNMARKED_VERSION};
 use crate::procedure::{Mark, ProcInfo, VarInfo};
 use crate::slot::Slot;
+use stack_heap::Heap;
 use stack_text::{Memory, Name};
-use std::alloc::Global;
 
-fn push_number(bytes: &mut Vec<u8>, number: u32) -> Result<(), Memory>
-    ensures { OnOk result (bytes.new.items ≡ bytes.old.items ++ number_bytes number) }
+fn push_number<H: Heap>(heap: H, bytes: &mut Vec<u8>, number: u32) -> Result<(), Memory>
+    ensures { OnOkUnless (H.may_refuse heap) result (bytes.new.items ≡ bytes.old.items ++ number_bytes number) }
 {
-    Ok(bytes.extend_from_slice(&number.to_be_bytes())?)
+    Ok(heap.extend_from_slice(bytes, &number.to_be_bytes())?)
 }
 
-fn push_numbers(bytes: &mut Vec<u8>, numbers: &[u32]) -> Result<(), Memory>
-    ensures { OnOk result (bytes.new.items ≡ bytes.old.items ++ numbers_bytes numbers.now) }
+fn push_numbers<H: Heap>(heap: H, bytes: &mut Vec<u8>, numbers: &[u32]) -> Result<(), Memory>
+    ensures { OnOkUnless (H.may_refuse heap) result (bytes.new.items ≡ bytes.old.items ++ numbers_bytes numbers.now) }
 {
     for number in numbers {
-        push_number(bytes, *number)?;
+        push_number(heap, bytes, *number)?;
     }
     Ok(())
 }
 
 /// A name by its length and its bytes.
-fn push_name(bytes: &mut Vec<u8>, name: &Name) -> Result<(), Memory>
-    ensures { OnOk result (bytes.new.items ≡ bytes.old.items ++ name_bytes name.now) }
+fn push_name<H: Heap>(heap: H, bytes: &mut Vec<u8>, name: &Name) -> Result<(), Memory>
+    ensures { OnOkUnless (H.may_refuse heap) result (bytes.new.items ≡ bytes.old.items ++ name_bytes name.now) }
 {
     let name = name.bytes();
-    push_number(bytes, name.len() as u32)?;
-    Ok(bytes.extend_from_slice(name)?)
+    push_number(heap, bytes, name.len() as u32)?;
+    Ok(heap.extend_from_slice(bytes, name)?)
 }
 
-fn push_conditions(bytes: &mut Vec<u8>, conditions: &[Name]) -> Result<(), Memory>
+fn push_conditions<H: Heap>(heap: H, bytes: &mut Vec<u8>, conditions: &[Name]) -> Result<(), Memory>
     requires { length conditions.now ≤ 201 }
-    ensures { OnOk result (bytes.new.items ≡ bytes.old.items ++ counted_bytes name_bytes conditions.now) }
+    ensures { OnOkUnless (H.may_refuse heap) result
+        (bytes.new.items ≡ bytes.old.items ++ counted_bytes name_bytes conditions.now) }
 {
-    push_number(bytes, conditions.len() as u32)?;
+    push_number(heap, bytes, conditions.len() as u32)?;
     for name in conditions {
-        push_name(bytes, name)?;
+        push_name(heap, bytes, name)?;
     }
     Ok(())
 }
 
 /// A slot by its name, the number of its kind, its length and its address.
-fn push_slot(bytes: &mut Vec<u8>, slot: &Slot) -> Result<(), Memory>
-    ensures { OnOk result (bytes.new.items ≡ bytes.old.items ++ slot_bytes slot.now) }
+fn push_slot<H: Heap>(heap: H, bytes: &mut Vec<u8>, slot: &Slot) -> Result<(), Memory>
+    ensures { OnOkUnless (H.may_refuse heap) result (bytes.new.items ≡ bytes.old.items ++ slot_bytes slot.now) }
 {
-    push_name(bytes, &slot.name)?;
-    push_number(bytes, kind_bits(slot.shape.kind))?;
-    push_number(bytes, slot.shape.length)?;
-    push_number(bytes, slot.address)
+    push_name(heap, bytes, &slot.name)?;
+    push_number(heap, bytes, kind_bits(slot.shape.kind))?;
+    push_number(heap, bytes, slot.shape.length)?;
+    push_number(heap, bytes, slot.address)
 }
 
-fn push_slots(bytes: &mut Vec<u8>, slots: &[Slot]) -> Result<(), Memory>
+fn push_slots<H: Heap>(heap: H, bytes: &mut Vec<u8>, slots: &[Slot]) -> Result<(), Memory>
     requires { length slots.now ≤ 200 }
-    ensures { OnOk result (bytes.new.items ≡ bytes.old.items ++ counted_bytes slot_bytes slots.now) }
+    ensures { OnOkUnless (H.may_refuse heap) result
+        (bytes.new.items ≡ bytes.old.items ++ counted_bytes slot_bytes slots.now) }
 {
-    push_number(bytes, slots.len() as u32)?;
+    push_number(heap, bytes, slots.len() as u32)?;
     for slot in slots {
-        push_slot(bytes, slot)?;
+        push_slot(heap, bytes, slot)?;
     }
     Ok(())
 }
 
-fn push_words(bytes: &mut Vec<u8>, words: &[u32]) -> Result<(), Memory>
+fn push_words<H: Heap>(heap: H, bytes: &mut Vec<u8>, words: &[u32]) -> Result<(), Memory>
     requires { length words.now ≤ 2 ^ 20 }
-    ensures { OnOk result (bytes.new.items ≡ bytes.old.items ++ counted_bytes number_bytes words.now) }
+    ensures { OnOkUnless (H.may_refuse heap) result
+        (bytes.new.items ≡ bytes.old.items ++ counted_bytes number_bytes words.now) }
 {
-    push_number(bytes, words.len() as u32)?;
-    push_numbers(bytes, words)
+    push_number(heap, bytes, words.len() as u32)?;
+    push_numbers(heap, bytes, words)
 }
 
 /// A variable by its name, the number of its kind, its length and its offset.
-fn push_variable(bytes: &mut Vec<u8>, variable: &VarInfo) -> Result<(), Memory>
-    ensures { OnOk result (bytes.new.items ≡ bytes.old.items ++ variable_bytes variable.now) }
+fn push_variable<H: Heap>(heap: H, bytes: &mut Vec<u8>, variable: &VarInfo) -> Result<(), Memory>
+    ensures { OnOkUnless (H.may_refuse heap) result (bytes.new.items ≡ bytes.old.items ++ variable_bytes variable.now) }
 {
-    push_name(bytes, &variable.name)?;
-    push_number(bytes, kind_bits(variable.shape.kind))?;
-    push_number(bytes, variable.shape.length)?;
-    push_number(bytes, variable.offset)
+    push_name(heap, bytes, &variable.name)?;
+    push_number(heap, bytes, kind_bits(variable.shape.kind))?;
+    push_number(heap, bytes, variable.shape.length)?;
+    push_number(heap, bytes, variable.offset)
 }
 
-fn push_variables(bytes: &mut Vec<u8>, variables: &[VarInfo]) -> Result<(), Memory>
+fn push_variables<H: Heap>(
+    heap: H,
+    bytes: &mut Vec<u8>,
+    variables: &[VarInfo],
+) -> Result<(), Memory>
     requires { length variables.now ≤ 200 }
-    ensures { OnOk result (bytes.new.items ≡ bytes.old.items ++ counted_bytes variable_bytes variables.now) }
+    ensures { OnOkUnless (H.may_refuse heap) result
+        (bytes.new.items ≡ bytes.old.items ++ counted_bytes variable_bytes variables.now) }
 {
-    push_number(bytes, variables.len() as u32)?;
+    push_number(heap, bytes, variables.len() as u32)?;
     for variable in variables {
-        push_variable(bytes, variable)?;
+        push_variable(heap, bytes, variable)?;
     }
     Ok(())
 }
 
 /// A procedure by its name, its conditions and its variables.
-fn push_procedure(bytes: &mut Vec<u8>, procedure: &ProcInfo) -> Result<(), Memory>
+fn push_procedure<H: Heap>(heap: H, bytes: &mut Vec<u8>, procedure: &ProcInfo) -> Result<(), Memory>
     requires conditions { length procedure.now.conditions ≤ 201 }
     requires variables { length procedure.now.variables ≤ 200 }
-    ensures { OnOk result (bytes.new.items ≡ bytes.old.items ++ procedure_bytes procedure.now) }
+    ensures { OnOkUnless (H.may_refuse heap) result
+        (bytes.new.items ≡ bytes.old.items ++ procedure_bytes procedure.now) }
 {
-    push_name(bytes, &procedure.name)?;
-    push_conditions(bytes, &procedure.conditions)?;
-    push_variables(bytes, &procedure.variables)
+    push_name(heap, bytes, &procedure.name)?;
+    push_conditions(heap, bytes, &procedure.conditions)?;
+    push_variables(heap, bytes, &procedure.variables)
 }
 
-fn push_procedures(bytes: &mut Vec<u8>, procedures: &[ProcInfo]) -> Result<(), Memory>
+fn push_procedures<H: Heap>(
+    heap: H,
+    bytes: &mut Vec<u8>,
+    procedures: &[ProcInfo],
+) -> Result<(), Memory>
     requires count { length procedures.now ≤ 1000 }
     requires small { IsTrue (list_all is_small procedures.now) }
-    ensures { OnOk result (bytes.new.items ≡ bytes.old.items ++ counted_bytes procedure_bytes procedures.now) }
+    ensures { OnOkUnless (H.may_refuse heap) result
+        (bytes.new.items ≡ bytes.old.items ++ counted_bytes procedure_bytes procedures.now) }
 {
-    push_number(bytes, procedures.len() as u32)?;
+    push_number(heap, bytes, procedures.len() as u32)?;
     for procedure in procedures {
-        push_procedure(bytes, procedure)?;
+        push_procedure(heap, bytes, procedure)?;
     }
     Ok(())
 }
 
 /// A mark by its address, its procedure and its place.
-fn push_mark(bytes: &mut Vec<u8>, mark: &Mark) -> Result<(), Memory>
-    ensures { OnOk result (bytes.new.items ≡ bytes.old.items ++ mark_bytes mark.now) }
+fn push_mark<H: Heap>(heap: H, bytes: &mut Vec<u8>, mark: &Mark) -> Result<(), Memory>
+    ensures { OnOkUnless (H.may_refuse heap) result (bytes.new.items ≡ bytes.old.items ++ mark_bytes mark.now) }
 {
-    push_number(bytes, mark.address)?;
-    push_number(bytes, mark.procedure)?;
-    push_number(bytes, mark.place)
+    push_number(heap, bytes, mark.address)?;
+    push_number(heap, bytes, mark.procedure)?;
+    push_number(heap, bytes, mark.place)
 }
 
-fn push_marks(bytes: &mut Vec<u8>, marks: &[Mark]) -> Result<(), Memory>
+fn push_marks<H: Heap>(heap: H, bytes: &mut Vec<u8>, marks: &[Mark]) -> Result<(), Memory>
     requires { length marks.now ≤ 2 ^ 20 }
-    ensures { OnOk result (bytes.new.items ≡ bytes.old.items ++ counted_bytes mark_bytes marks.now) }
+    ensures { OnOkUnless (H.may_refuse heap) result
+        (bytes.new.items ≡ bytes.old.items ++ counted_bytes mark_bytes marks.now) }
 {
-    push_number(bytes, marks.len() as u32)?;
+    push_number(heap, bytes, marks.len() as u32)?;
     for mark in marks {
-        push_mark(bytes, mark)?;
+        push_mark(heap, bytes, mark)?;
     }
     Ok(())
 }
 
 /// The fields that only version 2 has.
-fn push_tables(
+fn push_tables<H: Heap>(
+    heap: H,
     bytes: &mut Vec<u8>,
     version: u32,
     procedures: &[ProcInfo],
@@ -153,43 +170,49 @@ fn push_tables(
     requires small { IsTrue (list_all is_small procedures.now) }
     requires marks { length marks.now ≤ 2 ^ 20 }
     ensures { let tables : Tables = record { procedures = procedures.now; marks = marks.now } in
-        OnOk result (bytes.new.items ≡ bytes.old.items ++ tables_bytes version tables) }
+        OnOkUnless (H.may_refuse heap) result (bytes.new.items ≡ bytes.old.items ++ tables_bytes version tables) }
 {
     if version == UNMARKED_VERSION {
         return Ok(());
     }
-    push_procedures(bytes, procedures)?;
-    push_marks(bytes, marks)
+    push_procedures(heap, bytes, procedures)?;
+    push_marks(heap, bytes, marks)
 }
 
 /// The fields before the registers.
-fn opening(
-    alloc: Global,
+fn opening<H: Heap>(
+    heap: H,
     version: u32,
     base: u32,
     size: u32,
     final_pc: u32,
 ) -> Result<Vec<u8>, Memory>
-    ensures { IfOk result (λ bytes. bytes.items
+    ensures { IfOkUnless (H.may_refuse heap) result (λ bytes. bytes.items
         ≡ opening_bytes version ++ window_bytes (record { base = base; size = size; final_pc = final_pc })) }
 {
-    let mut bytes = Vec::from_slice(alloc, MAGIC)?;
-    push_numbers(&mut bytes, &[version, base, size, final_pc])?;
+    let mut bytes = heap.copied(MAGIC)?;
+    push_numbers(heap, &mut bytes, &[version, base, size, final_pc])?;
     Ok(bytes)
 }
 
 /// The bytes of an image file: the one spelling of the image.
 #[tactic(auto, unfolding(crate::specs::Spelling::spelling))]
-pub fn write_image(alloc: Global, image: &Image) -> Result<Vec<u8>, Memory>
-    ensures { IfOk result (λ bytes. bytes.items ≡ spelling image.now) }
+pub fn write_image<H: Heap>(heap: H, image: &Image) -> Result<Vec<u8>, Memory>
+    ensures { IfOkUnless (H.may_refuse heap) result (λ bytes. bytes.items ≡ spelling image.now) }
 {
-    let mut bytes = opening(alloc, image.version, image.base, image.size, image.final_pc)?;
-    push_numbers(&mut bytes, &image.registers)?;
-    push_number(&mut bytes, image.flags.bits())?;
-    push_number(&mut bytes, address_bits(image.condition_address))?;
-    push_conditions(&mut bytes, &image.conditions)?;
-    push_slots(&mut bytes, &image.slots)?;
-    push_words(&mut bytes, &image.words)?;
-    push_tables(&mut bytes, image.version, &image.procedures, &image.marks)?;
+    let mut bytes = opening(heap, image.version, image.base, image.size, image.final_pc)?;
+    push_numbers(heap, &mut bytes, &image.registers)?;
+    push_number(heap, &mut bytes, image.flags.bits())?;
+    push_number(heap, &mut bytes, address_bits(image.condition_address))?;
+    push_conditions(heap, &mut bytes, &image.conditions)?;
+    push_slots(heap, &mut bytes, &image.slots)?;
+    push_words(heap, &mut bytes, &image.words)?;
+    push_tables(
+        heap,
+        &mut bytes,
+        image.version,
+        &image.procedures,
+        &image.marks,
+    )?;
     Ok(bytes)
 }

@@ -43,9 +43,9 @@ pub some_parts : (place : ℕ) (ts : List TextTree) (ss : Vec Stmt Global) → l
 some_parts place [] ss ne e = absurd (ne refl)
 some_parts place (t ∷ ts) ss ne e = rw e (ap Ok (sym (seq_is_new place ss)))
 
-pub fault_in_parts : (e : FormFault) (place : ℕ) (ts : List TextTree) → length ts ≢ 0 → IsFirstFault e (statements_in (nodes_of ts)) → IsFirstFault e (form_in (Some word.Seq) place (nodes_of ts))
-fault_in_parts e place [] ne h = absurd (ne refl)
-fault_in_parts e place (t ∷ ts) ne h = first_of_value e (new_seq place) (Ok front ⊛ statement_in (node_of t) ⊛ statements_in (nodes_of ts)) h
+pub fault_in_parts : (R : Type 0) (e : FormFault) (place : ℕ) (ts : List TextTree) → length ts ≢ 0 → IsFirstFault R e (statements_in (nodes_of ts)) → IsFirstFault R e (form_in (Some word.Seq) place (nodes_of ts))
+fault_in_parts R e place [] ne h = absurd (ne refl)
+fault_in_parts R e place (t ∷ ts) ne h = first_of_value R e (new_seq place) (Ok front ⊛ statement_in (node_of t) ⊛ statements_in (nodes_of ts)) h
 
 -- a source by the word that it begins with, its main procedure's name, and what follows
 pub source_by_parts : (place : ℕ) (ts : List TextTree) (w main : TextTree) → 3 ≤ length ts → w ≡ get_or ts 0 w → main ≡ get_or ts 1 main

@@ -1,5 +1,5 @@
 -- The tree of a source has no more atoms and lists than its plain counts allow.
-use Rattle.std.proofs.Common.{◌≡◌, ◌≤◌, length, Option, Some, None, Bool, true, false, refl, arith}
+use Rattle.std.proofs.Common.{◌≡◌, ◌≤◌, Option, Some, None, Bool, true, false, refl, arith}
 use Rattle.std.specs.Prelude.{ℤ}
 use Rattle.stack_text.specs.declared.shape.Kind.{Kind}
 use Rattle.stack_text.specs.Trees.{node_count, node_counts}

@@ -48,9 +48,9 @@ abbrev pub fault_of : GypsyFault → Option GypsyFault
 fault_of Memory = None
 fault_of fault = Some fault
 
--- the call returned exactly what the definition gives, seen through the view; out of memory alone is free
-abbrev pub GivesGypsy : {X Y : Type 0} → (X → Y) → Result X GypsyFault → Result Y GypsyFault → Type 0
-GivesGypsy view result value = common.Gives fault_of view result value
+-- the call returned exactly what the definition gives, seen through the view; memory runs out only where it was refused
+abbrev pub GivesGypsyUnless : {X Y : Type 0} → Type 0 → (X → Y) → Result X GypsyFault → Result Y GypsyFault → Type 0
+GivesGypsyUnless refused view result value = common.GivesUnless refused fault_of view result value
 
 -- The source's tree has the form of a tree, and is that source but for places. Every source that was read keeps the
 -- form, and each that keeps it can be printed.

@@ -51,9 +51,9 @@ behind_items p (t ∷ []) gap e is q items gap_is ne = absurd (omega (arith, e))
 behind_items p (t ∷ u ∷ ts) gap e is q items gap_is ne = rw (sym is ∙ gap_is, node_of-list q items) (no_gap p (node_of t) q items.items (nodes_of ts) ne)
 
 -- the first fault of a labelled instruction whose operation is known
-pub fault_in_label : (e : FormFault) (p q : ℕ) (label : Node) (name : List ℕ) (o : PitonOp) (ts : Nodes) → operation_named name ≡ Some o → IsFirstFault e (named_of label)
-    → IsFirstFault e (called_of p (Ok Some ⊛ named_of label) (operation_named name) q ts)
-fault_in_label e p q label name o ts found h =
+pub fault_in_label : (R : Type 0) (e : FormFault) (p q : ℕ) (label : Node) (name : List ℕ) (o : PitonOp) (ts : Nodes) → operation_named name ≡ Some o → IsFirstFault R e (named_of label)
+    → IsFirstFault R e (called_of p (Ok Some ⊛ named_of label) (operation_named name) q ts)
+fault_in_label R e p q label name o ts found h =
     rw found
-    (first_of_parts e (Ok (new_instruction p o) ⊛ (Ok Some ⊛ named_of label)) (arguments_of (op_arguments o) q ts)
-    (first_of_value e (new_instruction p o) (Ok Some ⊛ named_of label) (first_of_value e Some (named_of label) h)))
+    (first_of_parts R e (Ok (new_instruction p o) ⊛ (Ok Some ⊛ named_of label)) (arguments_of (op_arguments o) q ts)
+    (first_of_value R e (new_instruction p o) (Ok Some ⊛ named_of label) (first_of_value R e Some (named_of label) h)))

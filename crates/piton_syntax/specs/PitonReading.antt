@@ -47,9 +47,9 @@ abbrev pub fault_of : PitonFault → Option PitonFault
 fault_of Memory = None
 fault_of fault = Some fault
 
--- the call returned exactly what the definition gives, seen through the view; out of memory alone is free
-abbrev pub GivesPiton : {X Y : Type 0} → (X → Y) → Result X PitonFault → Result Y PitonFault → Type 0
-GivesPiton view result value = common.Gives fault_of view result value
+-- the call returned exactly what the definition gives, seen through the view; memory runs out only where it was refused
+abbrev pub GivesPitonUnless : {X Y : Type 0} → Type 0 → (X → Y) → Result X PitonFault → Result Y PitonFault → Type 0
+GivesPitonUnless refused view result value = common.GivesUnless refused fault_of view result value
 
 -- The system's tree has the form of a tree, and is that system but for places. Every system that was read keeps the
 -- form, and each that keeps it can be printed.

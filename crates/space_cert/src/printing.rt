@@ -55,7 +55,7 @@ fn print_entries(
         let Some(bound) = bound_of(bounds, index) else {
             continue;
         };
-        separate(out, printed)?;
+        separate(*out.allocator(), out, printed)?;
         print_entry(out, &proc.name.name, bound)?;
         printed += 1;
     }

@@ -10,6 +10,7 @@ pub mod OpenListLaws
 pub mod TreeLaws
 pub mod FaultLaws
 pub mod ReadLaws
+pub mod HeapLaws
 pub mod TreeInLaws
 pub mod SpellingLaws
 pub mod PrintLaws

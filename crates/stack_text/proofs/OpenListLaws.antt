@@ -86,53 +86,53 @@ fault-deep after p end ts le = absurd (omega arith)
 
 -- ---- the steps
 
-steps_put : (old rest new : List OpenList) (tok : Token) (t : TextTree) (r : Result (Option TextTree) TextFault) → Puts rest t r new → opened old ++ as_kept tok ∷ [] ≡ opened rest ++ tokens_of (node_of t) →
-    ((end : ℕ) (ts : List Token) → first_fault end (context old) (tok ∷ ts) ≡ first_fault end (after_tree (context rest)) ts) → Steps old tok r new
-steps_put old rest new tok t (Ok None) h e f = (e ∙ sym h.0, λ end ts. f end ts ∙ ap (λ (s : Context). first_fault end s ts) (sym h.1))
-steps_put old rest new tok t (Ok (Some u)) h e f =
+steps_put : (R : Type 0) (old rest new : List OpenList) (tok : Token) (t : TextTree) (r : Result (Option TextTree) TextFault) → Puts R rest t r new → opened old ++ as_kept tok ∷ [] ≡ opened rest ++ tokens_of (node_of t) →
+    ((end : ℕ) (ts : List Token) → first_fault end (context old) (tok ∷ ts) ≡ first_fault end (after_tree (context rest)) ts) → Steps R old tok r new
+steps_put R old rest new tok t (Ok None) h e f = (e ∙ sym h.0, λ end ts. f end ts ∙ ap (λ (s : Context). first_fault end s ts) (sym h.1))
+steps_put R old rest new tok t (Ok (Some u)) h e f =
     (e ∙ ap (λ (os : List OpenList). opened os ++ tokens_of (node_of t)) h.0 ∙ ap (λ (x : TextTree). tokens_of (node_of x)) (sym h.1), λ end ts. f end ts ∙ ap (λ (os : List OpenList). first_fault end (after_tree (context os)) ts) h.0)
-steps_put old rest new tok t (Err (Fault r p)) h e f = absurd h
-steps_put old rest new tok t (Err Memory) h e f = tt
+steps_put R old rest new tok t (Err (Fault r p)) h e f = absurd h
+steps_put R old rest new tok t (Err Memory) h e f = h
 
-pub steps_atom : (old new : List OpenList) (p : ℕ) (w : List ℕ) (v : Bor (List ℕ)) (r : Result (Option TextTree) TextFault) → v.now ≡ w → Puts old (Atom p v) r new → Steps old (atom_at p w) r new
-steps_atom old new p w v r is h =
-    steps_put old old new (atom_at p w) (Atom p v) r h (ap (λ (x : List ℕ). opened old ++ atom_at p x ∷ []) (sym is) ∙ ap (λ (n : Node). opened old ++ tokens_of n) (sym (node_of-atom p v))) (λ end ts. fault-atom_at (context old) p w end ts (never_after before old (λ e. cc)))
+pub steps_atom : (R : Type 0) (old new : List OpenList) (p : ℕ) (w : List ℕ) (v : Bor (List ℕ)) (r : Result (Option TextTree) TextFault) → v.now ≡ w → Puts R old (Atom p v) r new → Steps R old (atom_at p w) r new
+steps_atom R old new p w v r is h =
+    steps_put R old old new (atom_at p w) (Atom p v) r h (ap (λ (x : List ℕ). opened old ++ atom_at p x ∷ []) (sym is) ∙ ap (λ (n : Node). opened old ++ tokens_of n) (sym (node_of-atom p v))) (λ end ts. fault-atom_at (context old) p w end ts (never_after before old (λ e. cc)))
 
-pub steps_close : (old rest new : List OpenList) (o : OpenList) (q : ℕ) (r : Result (Option TextTree) TextFault) → old ≡ rest ++ o ∷ [] → Puts rest (MadeList o.place o.items) r new → Steps old (closes_at q) r new
-steps_close old rest new o q r is h =
-    steps_put old rest new (closes_at q) (MadeList o.place o.items) r h
+pub steps_close : (R : Type 0) (old rest new : List OpenList) (o : OpenList) (q : ℕ) (r : Result (Option TextTree) TextFault) → old ≡ rest ++ o ∷ [] → Puts R rest (MadeList o.place o.items) r new → Steps R old (closes_at q) r new
+steps_close R old rest new o q r is h =
+    steps_put R old rest new (closes_at q) (MadeList o.place o.items) r h
     (ap (λ (os : List OpenList). opened os ++ closes_at 0 ∷ []) is ∙ ap (λ (ts : List Token). ts ++ closes_at 0 ∷ []) (opened-push rest o)
     ∙ append_assoc (opened rest) (opens_at o.place ∷ tokens_of_all (nodes_of o.items.items)) (closes_at 0 ∷ [])
     ∙ ap (λ (n : Node). opened rest ++ tokens_of n) (sym (node_of-list o.place o.items)))
     (λ end ts. ap (λ (s : Context). first_fault end s (closes_at q ∷ ts)) (ap context is ∙ context_from-push before rest o))
 
-pub steps_open : (old new : List OpenList) (p : ℕ) (v : Vec TextTree Global) → v.items ≡ [] → length old < 200 → new ≡ old ++ record { place = p; items = v } ∷ [] → Steps old (opens_at p) (Ok None) new
-steps_open old new p v none_yet lt is = (
+pub steps_open : (R : Type 0) (old new : List OpenList) (p : ℕ) (v : Vec TextTree Global) → v.items ≡ [] → length old < 200 → new ≡ old ++ record { place = p; items = v } ∷ [] → Steps R old (opens_at p) (Ok None) new
+steps_open R old new p v none_yet lt is = (
   sym (ap opened is ∙ opened-push old (record { place = p; items = v }) ∙ ap (λ (ts : List TextTree). opened old ++ (opens_at p ∷ tokens_of_all (nodes_of ts))) none_yet),
   λ end ts. fault-open (context old) p end ts (never_after before old (λ e. cc)) (omega (arith, open_lists-context_from before old))
       ∙ ap (λ (s : Context). first_fault end s ts) (sym (ap context is ∙ context_from-push before old (record { place = p; items = v }))),
 )
 
-pub steps_deep : (old new : List OpenList) (p : ℕ) → 200 ≤ length old → Steps old (opens_at p) (Err (Fault G4 p)) new
-steps_deep old new p le = λ end ts. fault-deep (context old) p end ts (omega (arith, open_lists-context_from before old))
+pub steps_deep : (R : Type 0) (old new : List OpenList) (p : ℕ) → 200 ≤ length old → Steps R old (opens_at p) (Err (Fault G4 p)) new
+steps_deep R old new p le = λ end ts. fault-deep (context old) p end ts (omega (arith, open_lists-context_from before old))
 
 -- ---- what a step says of the whole text
 
-pub text_ends : (text : List ℕ) (old new : List OpenList) (tok : Token) (e : TextFault) (ts : List Token) → Steps old tok (Err e) new → text_fault text ≡ first_fault (length text) (context old) (tok ∷ ts) → ReadsText node_of text (Err e)
-text_ends text old new tok (Fault r p) ts h is = is ∙ h (length text) ts
-text_ends text old new tok Memory ts h is = tt
+pub text_ends : (R : Type 0) (text : List ℕ) (old new : List OpenList) (tok : Token) (e : TextFault) (ts : List Token) → Steps R old tok (Err e) new → text_fault text ≡ first_fault (length text) (context old) (tok ∷ ts) → ReadsText R node_of text (Err e)
+text_ends R text old new tok (Fault r p) ts h is = is ∙ h (length text) ts
+text_ends R text old new tok Memory ts h is = h
 
-pub text_finishes : (text : List ℕ) (old new : List OpenList) (tok : Token) (t : TextTree) (ts : List Token) (r : Result TextTree TextFault) → Steps old tok (Ok (Some t)) new → ReturnsAlone (length text) t ts r →
-    map as_kept (tokens between 0 text) ≡ opened old ++ map as_kept (tok ∷ ts) → text_fault text ≡ first_fault (length text) (context old) (tok ∷ ts) → ReadsText node_of text r
-text_finishes text old new tok t ts (Ok u) h f kept_is fault_is = (
+pub text_finishes : (R : Type 0) (text : List ℕ) (old new : List OpenList) (tok : Token) (t : TextTree) (ts : List Token) (r : Result TextTree TextFault) → Steps R old tok (Ok (Some t)) new → ReturnsAlone (length text) t ts r →
+    map as_kept (tokens between 0 text) ≡ opened old ++ map as_kept (tok ∷ ts) → text_fault text ≡ first_fault (length text) (context old) (tok ∷ ts) → ReadsText R node_of text r
+text_finishes R text old new tok t ts (Ok u) h f kept_is fault_is = (
   fault_is ∙ h.1 (length text) ts ∙ ap (λ (us : List Token). first_fault (length text) after us) f.0,
   kept_is ∙ ap (λ (us : List Token). opened old ++ map as_kept (tok ∷ us)) f.0 ∙ h.0 ∙ ap (λ (x : TextTree). tokens_of (node_of x)) (sym f.1),
 )
-text_finishes text old new tok t ts (Err (Fault r p)) h f kept_is fault_is = fault_is ∙ h.1 (length text) ts ∙ f
-text_finishes text old new tok t ts (Err Memory) h f kept_is fault_is = absurd f
+text_finishes R text old new tok t ts (Err (Fault r p)) h f kept_is fault_is = fault_is ∙ h.1 (length text) ts ∙ f
+text_finishes R text old new tok t ts (Err Memory) h f kept_is fault_is = absurd f
 
-pub kept_goes_on : (all : List Token) (old new : List OpenList) (tok : Token) (ts : List Token) → Steps old tok (Ok None) new → all ≡ opened old ++ map as_kept (tok ∷ ts) → all ≡ opened new ++ map as_kept ts
-kept_goes_on all old new tok ts h is = is ∙ sym (append_assoc (opened old) (as_kept tok ∷ []) (map as_kept ts)) ∙ ap (λ (us : List Token). us ++ map as_kept ts) h.0
+pub kept_goes_on : (R : Type 0) (all : List Token) (old new : List OpenList) (tok : Token) (ts : List Token) → Steps R old tok (Ok None) new → all ≡ opened old ++ map as_kept (tok ∷ ts) → all ≡ opened new ++ map as_kept ts
+kept_goes_on R all old new tok ts h is = is ∙ sym (append_assoc (opened old) (as_kept tok ∷ []) (map as_kept ts)) ∙ ap (λ (us : List Token). us ++ map as_kept ts) h.0
 
 pub unfinished : (text : List ℕ) (os rest : List OpenList) (o : OpenList) → os ≡ rest ++ o ∷ [] → text_fault text ≡ first_fault (length text) (context os) [] → text_fault text ≡ Some (G2, o.place)
 unfinished text os rest o is h = h ∙ ap (λ (s : Context). first_fault (length text) s []) (ap context is ∙ context_from-push before rest o)

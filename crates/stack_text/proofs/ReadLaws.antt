@@ -105,7 +105,7 @@ short_begins between Closing at bytes = omega arith
 short_begins between AtomByte at bytes = omega arith
 short_begins between Invalid at bytes = omega arith
 
-few_tokens : (m : Mode) (at : ℕ) (bs : List ℕ) → length (tokens m at bs) ≤ length bs
+pub few_tokens : (m : Mode) (at : ℕ) (bs : List ℕ) → length (tokens m at bs) ≤ length bs
 unfolding tokens
 few_tokens m at [] = omega arith
 few_tokens m at (b ∷ bs) =

@@ -1,5 +1,5 @@
 -- Lemmas on truth values, options, lists, names and kinds that several crates need.
-use Rattle.std.proofs.Common.{◌≡◌, Bool, true, false, refl, ◌&&◌, not, ℕ, [], Option, Some, None, is_none, List, ◌∷◌, ◌++◌, ◌+◌, ap, ◌∙◌, zero, suc, ◌<◌, length, arith, slice_get, map, get_or, take, ◌-◌, reverse, ℤ, pos, append_assoc, sym, Bor, ◌||◌, ◌≤◌, find, cond, option_map}
+use Rattle.std.proofs.Common.{◌≡◌, Bool, true, false, refl, ◌&&◌, not, ℕ, [], Option, Some, None, is_none, List, ◌∷◌, ◌++◌, ◌+◌, ap, ◌∙◌, zero, suc, ◌<◌, length, arith, slice_get, map, get_or, take, reverse, ℤ, pos, append_assoc, sym, Bor, ◌||◌, ◌≤◌, find, cond, option_map}
 use Rattle.std.specs.Prelude.{nat_le}
 use Rattle.std.proofs.lemmas.List.{reverse-append, map-append}
 use Rattle.std.specs.Str.{bytes_eq}

@@ -1,13 +1,14 @@
 -- The tokens of a tree are put together to that tree.
-use Rattle.std.proofs.Common.{◌≡◌, ℕ, List, [], ◌∷◌, ◌++◌, map, Ok, Err, Result, refl, sym, ap, ◌∙◌, append_assoc}
+use Rattle.std.proofs.Common.{◌≡◌, ℕ, List, [], ◌∷◌, ◌++◌, map, Ok, Err, Result, IfErr, refl, sym, ap, ◌∙◌, append_assoc}
 use Rattle.std.proofs.lemmas.List.{append-nil}
 use Rattle.stack_text.specs.declared.text_fault.TextFault.{TextFault}
 use Rattle.stack_text.specs.declared.text_fault.TextFault.TheVariants.{Fault, Memory}
+use Rattle.stack_text.specs.declared.text_fault.TextRule.{TextRule}
 use Rattle.stack_text.specs.Tokens.{Token, opens_at, closes_at, atom_at, invalid_at, between, tokens}
 use Rattle.stack_text.specs.Trees.{Node, Nodes, atom, list, none, more, tokens_of, tokens_of_all, as_kept, TreeOf}
 use Rattle.stack_text.specs.Scaffold.OpenLists.{ReadsText}
 use Rattle.stack_text.proofs.TreeLaws.{tree_has_no_fault}
-use Rattle.stack_text.specs.TreeIn.{in_front, as_item, items_of, first_item, tree_in, GivesTree}
+use Rattle.stack_text.specs.TreeIn.{in_front, as_item, items_of, first_item, tree_in, GivesTreeUnless, ReadsExactly}
 
 -- trees put in front of the items of the innermost list
 abbrev all_in_front : Nodes → List Nodes → List Nodes
@@ -51,8 +52,17 @@ pub tree_in-TreeOf : (text : List ℕ) (t : Node) → TreeOf text t → tree_in 
 unfolding tree_in
 tree_in-TreeOf text t h = rw (tree_has_no_fault text t h) (ap (λ (u : Node). Ok u) (tree_in-tokens text t h.tokens_are))
 
-pub gives_tree : {T : Type 0} (seen : T → Node) (text : List ℕ) (result : Result T TextFault) → ReadsText seen text result → GivesTree seen result (tree_in text)
+pub gives_tree : {T : Type 0} (R : Type 0) (seen : T → Node) (text : List ℕ) (result : Result T TextFault) → ReadsText R seen text result
+    → GivesTreeUnless R seen result (tree_in text)
 unfolding tree_in
-gives_tree seen text (Ok t) h = rw h.0 (ap (λ (u : Node). Ok u) (tree_in-tokens text (seen t) h.1))
-gives_tree seen text (Err (Fault rule place)) h = rw h refl
-gives_tree seen text (Err Memory) h = tt
+gives_tree R seen text (Ok t) h = rw h.0 (ap (λ (u : Node). Ok u) (tree_in-tokens text (seen t) h.1))
+gives_tree R seen text (Err (Fault rule place)) h = rw h refl
+gives_tree R seen text (Err Memory) h = h
+
+-- where memory runs out for a reason that isn't there, reading is exact
+pub reads_exactly : {T : Type 0} (R : Type 0) (seen : T → Node) (Why : Type 0) (result : Result T TextFault)
+    (value : Result Node (TextRule × ℕ)) → ¬ Why → GivesTreeUnless R seen result value
+    → IfErr result (λ e. e ≡ Memory → Why) → ReadsExactly seen result value
+reads_exactly R seen Why (Ok t) value not h k = h
+reads_exactly R seen Why (Err (Fault rule place)) value not h k = h
+reads_exactly R seen Why (Err Memory) value not h k = absurd (not (k refl))

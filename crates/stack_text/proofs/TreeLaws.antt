@@ -129,21 +129,21 @@ one_tree text t u h k = (tokens_of-determines t u [] [] (append-nil (tokens_of t
 -- ---- the clauses of `read_tree`, by what clauses see of a tree
 
 module _ {T : Type 0} (seen : T → Node) (text : List ℕ) where
-  pub is_found : (r : Result T TextFault) → ReadsText seen text r → IfOk r (λ t. TreeOf text (seen t))
-  is_found (Ok t) h = tree_from_no_fault text (seen t) h.0 h.1
-  is_found (Err e) h = tt
+  pub is_found : (R : Type 0) (r : Result T TextFault) → ReadsText R seen text r → IfOk r (λ t. TreeOf text (seen t))
+  is_found R (Ok t) h = tree_from_no_fault text (seen t) h.0 h.1
+  is_found R (Err e) h = tt
 
-  pub is_only : (r : Result T TextFault) → ReadsText seen text r → (t : Node) → TreeOf text t → MatchResult r (λ u. seen u ≡ t) (λ e. e ≡ Memory)
-  is_only (Ok u) h t of = one_tree text (seen u) t (tree_from_no_fault text (seen u) h.0 h.1) of
-  is_only (Err (Fault r p)) h t of = let e = tree_has_no_fault text t of in absurd cc
-  is_only (Err Memory) h t of = refl
+  pub is_only : (R : Type 0) (r : Result T TextFault) → ReadsText R seen text r → (t : Node) → TreeOf text t → MatchResult r (λ u. seen u ≡ t) (λ e. e ≡ Memory)
+  is_only R (Ok u) h t of = one_tree text (seen u) t (tree_from_no_fault text (seen u) h.0 h.1) of
+  is_only R (Err (Fault r p)) h t of = let e = tree_has_no_fault text t of in absurd cc
+  is_only R (Err Memory) h t of = refl
 
   -- what holds of each tree of a text holds of what is read
-  pub is_kept : (P : Node → Type 0) (r : Result T TextFault) → ReadsText seen text r → ((t : Node) → TreeOf text t → P t) → IfOk r (λ t. P (seen t))
-  is_kept P (Ok t) h k = k (seen t) (tree_from_no_fault text (seen t) h.0 h.1)
-  is_kept P (Err e) h k = tt
+  pub is_kept : (R : Type 0) (P : Node → Type 0) (r : Result T TextFault) → ReadsText R seen text r → ((t : Node) → TreeOf text t → P t) → IfOk r (λ t. P (seen t))
+  is_kept R P (Ok t) h k = k (seen t) (tree_from_no_fault text (seen t) h.0 h.1)
+  is_kept R P (Err e) h k = tt
 
-  pub reports_fault : (r : Result T TextFault) → ReadsText seen text r → ReportsFault text r
-  reports_fault (Ok t) h = h.0
-  reports_fault (Err (Fault r p)) h = h
-  reports_fault (Err Memory) h = tt
+  pub reports_fault : (R : Type 0) (r : Result T TextFault) → ReadsText R seen text r → ReportsFault text r
+  reports_fault R (Ok t) h = h.0
+  reports_fault R (Err (Fault r p)) h = h
+  reports_fault R (Err Memory) h = tt

@@ -1,10 +1,10 @@
 -- The tree of a text as a function of the text: its tokens are put together from the last to the first.
-use Rattle.std.specs.Prelude.{ℕ, List, [], ◌∷◌, Option, Some, None, Result}
+use Rattle.std.specs.Prelude.{◌≡◌, ℕ, List, [], ◌∷◌, Option, Some, None, Result, Ok, Err}
 use Rattle.stack_text.specs.Results.{unless_fault}
 use Rattle.stack_text.specs.declared.text_fault.TextRule.{TextRule}
 use Rattle.stack_text.specs.declared.text_fault.TextFault.{TextFault}
 use Rattle.stack_text.specs.declared.text_fault.TextFault.TheVariants.{Fault, Memory}
-use Rattle.stack_text.specs.Gives.{Gives}
+use Rattle.stack_text.specs.Gives.{GivesUnless}
 use Rattle.stack_text.specs.Tokens.{Token, opens_at, closes_at, atom_at, invalid_at, between, tokens}
 use Rattle.stack_text.specs.Trees.{Node, Nodes, atom, list, none, more}
 use Rattle.stack_text.specs.TextFaults.{text_fault}
@@ -40,6 +40,16 @@ abbrev pub fault_of : TextFault → Option (TextRule × ℕ)
 fault_of (Fault rule place) = Some (rule, place)
 fault_of Memory = None
 
--- what reading a text gives, by that function, where `seen` is what clauses see of a tree; out of memory alone is free
+-- what reading a text gives, by that function, where `seen` is what clauses see of a tree
+abbrev pub GivesTreeUnless : {T : Type 0} → Type 0 → (T → Node) → Result T TextFault → Result Node (TextRule × ℕ) → Type 0
+GivesTreeUnless refused seen result value = GivesUnless refused fault_of seen result value
+
+-- the same of callers that pass the library's heap: out of memory is free
 abbrev pub GivesTree : {T : Type 0} → (T → Node) → Result T TextFault → Result Node (TextRule × ℕ) → Type 0
-GivesTree seen result value = Gives fault_of seen result value
+GivesTree seen result value = GivesTreeUnless (Unit {0}) seen result value
+
+-- what reading a text gives, exactly, and never out of memory
+abbrev pub ReadsExactly : {T : Type 0} → (T → Node) → Result T TextFault → Result Node (TextRule × ℕ) → Type 0
+ReadsExactly seen (Ok t) value = value ≡ Ok (seen t)
+ReadsExactly seen (Err (Fault rule place)) value = value ≡ Err (rule, place)
+ReadsExactly seen (Err Memory) value = ⊥

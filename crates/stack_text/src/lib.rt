@@ -32,7 +32,7 @@ pub use memory::Memory;
 pub use name::{Name, Named, is_name, read_name};
 pub use numeral::{is_digits, is_numeral, read_numeral};
 pub use printer::print_tree;
-pub use reader::{read_text_tree, read_tree};
+pub use reader::{read_in_plenty, read_text_tree, read_tree};
 pub use seq::Seq;
 pub use shape::{Kind, Shape};
 pub use text_fault::{TextFault, TextRule};

@@ -5,7 +5,8 @@ use thiserror::Error;
 
 /// An allocation failed.
 ///
-/// It is the only error that no contract rules out or asks for: where one answers `Memory`, the clauses leave the
+/// A call that takes a heap fails so only where that heap may refuse, as its clauses say. Of a call that takes the
+/// library's allocator no contract rules it out or asks for it: where one answers `Memory`, the clauses leave the
 /// result open.
 #[derive(Clone, Copy, Debug, PartialEq, Eq, Error)]
 #[error("out of memory")]

@@ -2,14 +2,16 @@
 
 ghost use Rattle.std.specs.Prelude.{◌≡◌, IfOk, IsTrue};
 ghost use Rattle.std.specs.List.{list_all};
-ghost use Rattle.stack_text.specs.Gives.{Returns};
+ghost use Rattle.stack_heap.specs.Heaps.{IfOkUnless};
+ghost use Rattle.stack_text.specs.Gives.{ReturnsUnless};
 ghost use Rattle.stack_text.specs.Grammar.Printed.{unplaced};
 ghost use Rattle.stack_text.specs.Names.{begins_with_letter, is_mark, is_name, is_name_byte, is_truth_word, name_of};
 ghost use Rattle.stack_text.specs.Seen.NameView.{kept_bytes, FitsInPlace};
 
 use crate::Memory;
 use crate::limits::MOST_NAME_BYTES;
-use std::alloc::{AllocError, Global};
+use stack_heap::Heap;
+use std::alloc::AllocError;
 use std::fmt;
 use std::hash::{Hash, Hasher};
 use std::marker::Model;
@@ -157,11 +159,11 @@ pub struct Named {
 
 impl Named {
     /// The name that the bytes are, with 0 for its place.
-    pub fn unplaced(alloc: Global, bytes: &[u8]) -> Result<Named, Memory>
+    pub fn unplaced<H: Heap>(heap: H, bytes: &[u8]) -> Result<Named, Memory>
         requires { IsTrue (is_name bytes.now) }
-        ensures { IfOk result (λ named. named ≡ unplaced bytes.now) }
+        ensures { IfOkUnless (H.may_refuse heap) result (λ named. named ≡ unplaced bytes.now) }
     {
-        let kept = keep_bytes(alloc, bytes)?;
+        let kept = keep_bytes(heap, bytes)?;
         Ok(Named {
             place: 0,
             name: Name { kept },
@@ -170,8 +172,8 @@ impl Named {
 }
 
 /// The bytes, in place where there is room for them.
-fn keep_bytes(alloc: Global, bytes: &[u8]) -> Result<NameBytes, Memory>
-    ensures bytes { IfOk result (λ kept. kept_bytes kept ≡ bytes.now) }
+fn keep_bytes<H: Heap>(heap: H, bytes: &[u8]) -> Result<NameBytes, Memory>
+    ensures bytes { IfOkUnless (H.may_refuse heap) result (λ kept. kept_bytes kept ≡ bytes.now) }
     ensures fits { IfOk result FitsInPlace }
 {
     let length = bytes.len();
@@ -183,7 +185,7 @@ fn keep_bytes(alloc: Global, bytes: &[u8]) -> Result<NameBytes, Memory>
             bytes: in_place,
         })
     } else {
-        Ok(NameBytes::InVector(Vec::from_slice(alloc, bytes)?))
+        Ok(NameBytes::InVector(heap.copied(bytes)?))
     }
 }
 
@@ -236,12 +238,12 @@ pub fn is_name(bytes: &[u8]) -> bool
 }
 
 /// The name that the bytes are: `None` exactly where they are not one.
-pub fn read_name(alloc: Global, bytes: &[u8]) -> Result<Option<Name>, Memory>
-    ensures { Returns (λ name. name) result (name_of bytes.now) }
+pub fn read_name<H: Heap>(heap: H, bytes: &[u8]) -> Result<Option<Name>, Memory>
+    ensures { ReturnsUnless (H.may_refuse heap) (λ name. name) result (name_of bytes.now) }
 {
     if !is_name(bytes) {
         return Ok(None);
     }
-    let kept = keep_bytes(alloc, bytes)?;
+    let kept = keep_bytes(heap, bytes)?;
     Ok(Some(Name { kept }))
 }

@@ -1,40 +1,42 @@
 //! Printing a tree.
 
-ghost use Rattle.std.specs.Prelude.{◌≡◌, ◌++◌, ◌==◌, ◌∷◌, [], if◌then◌else◌, OnOk, IfOk};
+ghost use Rattle.std.specs.Prelude.{◌≡◌, ◌++◌, ◌==◌, ◌∷◌, [], if◌then◌else◌, IfOk};
+ghost use Rattle.stack_heap.specs.Heaps.{IfOkUnless, OnOkUnless};
 ghost use Rattle.stack_text.specs.Trees.{IsWellFormed, ReadsAs};
 ghost use Rattle.stack_text.specs.TreeText.{tree_text};
 ghost use Rattle.stack_text.specs.Seen.TreeView.{owned_node};
 
 use crate::memory::Memory;
 use crate::tree::Tree;
-use std::alloc::Global;
+use stack_heap::Heap;
 
 /// A space before each item but the first.
-pub fn separate(out: &mut Vec<u8>, index: usize) -> Result<(), Memory>
-    ensures { OnOk result (out.new.items ≡ out.old.items ++ (if index == 0 then [] else 32 ∷ [])) }
+pub fn separate<H: Heap>(heap: H, out: &mut Vec<u8>, index: usize) -> Result<(), Memory>
+    ensures { OnOkUnless (H.may_refuse heap) result
+        (out.new.items ≡ out.old.items ++ (if index == 0 then [] else 32 ∷ [])) }
 {
     if index > 0 {
-        out.push(b' ')?;
+        heap.push(out, b' ')?;
     }
     Ok(())
 }
 
 /// Appends the tree's text.
-fn print_into(out: &mut Vec<u8>, tree: &Tree) -> Result<(), Memory>
-    ensures { OnOk result (out.new.items ≡ out.old.items ++ tree_text (owned_node tree.now)) }
+fn print_into<H: Heap>(heap: H, out: &mut Vec<u8>, tree: &Tree) -> Result<(), Memory>
+    ensures { OnOkUnless (H.may_refuse heap) result (out.new.items ≡ out.old.items ++ tree_text (owned_node tree.now)) }
 {
     match tree {
         Tree::Atom { place: _, text } => {
-            out.extend_from_slice(text)?;
+            heap.extend_from_slice(out, text)?;
             Ok(())
         }
         Tree::List { place: _, items } => {
-            out.push(b'(')?;
+            heap.push(out, b'(')?;
             for (index, item) in items.iter().enumerate() {
-                separate(out, index)?;
-                print_into(out, item)?;
+                separate(heap, out, index)?;
+                print_into(heap, out, item)?;
             }
-            out.push(b')')?;
+            heap.push(out, b')')?;
             Ok(())
         }
     }
@@ -46,12 +48,12 @@ fn print_into(out: &mut Vec<u8>, tree: &Tree) -> Result<(), Memory>
 /// read: atoms that are words, no more than 200 levels, no more than 2^31 atoms and lists. Printers that write line ends
 /// in place of some spaces rest on the law `spelled_is_read` of `proofs/SpellingLaws.antt`, which holds for any
 /// separators.
-pub fn print_tree(alloc: Global, tree: &Tree) -> Result<Vec<u8>, Memory>
+pub fn print_tree<H: Heap>(heap: H, tree: &Tree) -> Result<Vec<u8>, Memory>
     requires { IsWellFormed (owned_node tree.now) }
-    ensures exact { IfOk result (λ text. text.items ≡ tree_text (owned_node tree.now)) }
+    ensures exact { IfOkUnless (H.may_refuse heap) result (λ text. text.items ≡ tree_text (owned_node tree.now)) }
     ensures again { IfOk result (λ text. ReadsAs text.items (owned_node tree.now)) }
 {
-    let mut out = Vec::new(alloc);
-    print_into(&mut out, tree)?;
+    let mut out = Vec::new(heap.handle());
+    print_into(heap, &mut out, tree)?;
     Ok(out)
 }

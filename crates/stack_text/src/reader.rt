@@ -1,20 +1,21 @@
 //! Reading a tree.
 
-ghost use Rattle.std.specs.Prelude.{◌≡◌, ◌<◌, ◌≤◌, ◌^◌, length, drop, IfOk, MatchResult};
+ghost use Rattle.std.specs.Prelude.{◌≡◌, ◌<◌, ◌≤◌, ◌^◌, length, drop, IfOk, IfErr, MatchResult};
 ghost use Rattle.stack_text.specs.Tokens.{tokens, between};
 ghost use Rattle.stack_text.specs.Trees.{Node, TreeOf, IsWellFormed};
 ghost use Rattle.stack_text.specs.Seen.TreeView.{node_of, owned_node};
 ghost use Rattle.stack_text.specs.TextFaults.{ReportsFault};
-ghost use Rattle.stack_text.specs.TreeIn.{tree_in, GivesTree};
+ghost use Rattle.stack_text.specs.TreeIn.{tree_in, GivesTreeUnless, ReadsExactly};
 ghost use Rattle.stack_text.specs.PlaceOrder.{IsInOrder};
 ghost use Rattle.stack_text.specs.Scaffold.TokenSpans.{token_in};
-ghost use Rattle.stack_text.specs.Scaffold.OpenLists.{Puts, Steps, ReturnsAlone, ReadsText};
+ghost use Rattle.stack_heap.specs.Heaps.{RefusesWithin, room_after};
+ghost use Rattle.stack_text.specs.Scaffold.OpenLists.{opened, Puts, Steps, ReturnsAlone, ReadsText};
 ghost use Rattle.stack_text.specs.declared.text_fault.TextFault.TheVariants.{Fault, Memory};
 
 use crate::lexer::{TokenKind, TokenSpan, next_token};
 use crate::text_fault::{TextFault, TextRule};
 use crate::tree::{TextTree, Tree};
-use std::alloc::Global;
+use stack_heap::Heap;
 
 /// How many lists may lie in one another.
 const MOST_NESTING: usize = 200;
@@ -29,16 +30,19 @@ pub struct OpenList<'a> {
 }
 
 /// Puts a tree into the innermost list, or gives it back where none is open.
-fn put<'a>(
+fn put<'a, H: Heap>(
+    heap: H,
     stack: &mut Vec<OpenList<'a>>,
     tree: TextTree<'a>,
 ) -> Result<Option<TextTree<'a>>, TextFault>
-    ensures { Puts stack.old.items tree.entry result stack.new.items }
+    ensures value { Puts (H.may_refuse heap) stack.old.items tree.entry result stack.new.items }
+    ensures room { IfErr result (λ e. e ≡ Memory →
+        RefusesWithin (H.may_refuse_room heap) (room_after (length (opened stack.old.items)))) }
 {
     match stack.last_mut() {
         None => Ok(Some(tree)),
         Some(innermost) => {
-            innermost.items.push(tree)?;
+            heap.push(&mut innermost.items, tree)?;
             Ok(None)
         }
     }
@@ -56,8 +60,8 @@ fn fault_at(rule: TextRule, byte: usize) -> TextFault
 }
 
 /// Takes in the next token: the whole tree where it ends there, or the token's fault.
-fn step<'a>(
-    alloc: Global,
+fn step<'a, H: Heap>(
+    heap: H,
     stack: &mut Vec<OpenList<'a>>,
     text: &'a [u8],
     found: TokenSpan,
@@ -65,7 +69,9 @@ fn step<'a>(
     requires small { length text.now ≤ 2 ^ 31 }
     requires order { found.start < found.end }
     requires within { found.end ≤ length text.now }
-    ensures { Steps stack.old.items (token_in text.now found) result stack.new.items }
+    ensures value { Steps (H.may_refuse heap) stack.old.items (token_in text.now found) result stack.new.items }
+    ensures room { IfErr result (λ e. e ≡ Memory →
+        RefusesWithin (H.may_refuse_room heap) (room_after (length (opened stack.old.items)))) }
 {
     let place = found.start as u32;
     match found.kind {
@@ -74,17 +80,17 @@ fn step<'a>(
             if stack.len() >= MOST_NESTING {
                 return Err(fault_at(TextRule::G4, found.start));
             }
-            let items = Vec::new(alloc);
-            stack.push(OpenList { place, items })?;
+            let items = Vec::new(heap.handle());
+            heap.push(stack, OpenList { place, items })?;
             Ok(None)
         }
         TokenKind::Closing => match stack.pop() {
             None => Err(fault_at(TextRule::G3, found.start)),
-            Some(OpenList { place, items }) => put(stack, TextTree::List { place, items }),
+            Some(OpenList { place, items }) => put(heap, stack, TextTree::List { place, items }),
         },
         TokenKind::Atom => {
             let text = &text[found.start..found.end];
-            put(stack, TextTree::Atom { place, text })
+            put(heap, stack, TextTree::Atom { place, text })
         }
     }
 }
@@ -105,14 +111,16 @@ fn finish<'a>(text: &[u8], from: usize, tree: TextTree<'a>) -> Result<TextTree<'
 }
 
 /// Reads token by token, with the open lists on a stack.
-fn read<'a>(alloc: Global, text: &'a [u8]) -> Result<TextTree<'a>, TextFault>
+fn read<'a, H: Heap>(heap: H, text: &'a [u8]) -> Result<TextTree<'a>, TextFault>
     requires { length text.now ≤ 2 ^ 31 }
-    ensures { ReadsText node_of text.now result }
+    ensures value { ReadsText (H.may_refuse heap) node_of text.now result }
+    ensures room { IfErr result (λ e. e ≡ Memory →
+        RefusesWithin (H.may_refuse_room heap) (room_after (length text.now))) }
 {
-    let mut stack: Vec<OpenList<'a>> = Vec::new(alloc);
+    let mut stack: Vec<OpenList<'a>> = Vec::new(heap.handle());
     let mut at = 0;
     while let Some(found) = next_token(text, at) {
-        match step(alloc, &mut stack, text, found)? {
+        match step(heap, &mut stack, text, found)? {
             Some(tree) => return finish(text, found.end, tree),
             None => at = found.end,
         }
@@ -127,12 +135,12 @@ fn read<'a>(alloc: Global, text: &'a [u8]) -> Result<TextTree<'a>, TextFault>
 }
 
 /// Reads a tree with bytes of its own.
-fn read_owned(alloc: Global, text: &[u8]) -> Result<Tree, TextFault>
+fn read_owned<H: Heap>(heap: H, text: &[u8]) -> Result<Tree, TextFault>
     requires { length text.now ≤ 2 ^ 31 }
-    ensures { ReadsText owned_node text.now result }
+    ensures { ReadsText (H.may_refuse heap) owned_node text.now result }
 {
-    let tree = read(alloc, text)?;
-    Ok(tree.to_owned(alloc)?)
+    let tree = read(heap, text)?;
+    Ok(tree.to_owned(heap)?)
 }
 
 /// The tree of a text of at most 2^31 bytes, with the places of its atoms and lists.
@@ -141,7 +149,7 @@ fn read_owned(alloc: Global, text: &[u8]) -> Result<Tree, TextFault>
 ///
 /// The first thing from the left that is wrong with the text, and where; or out of memory. The time is linear in the
 /// text.
-pub fn read_tree(alloc: Global, text: &[u8]) -> Result<Tree, TextFault>
+pub fn read_tree<H: Heap>(heap: H, text: &[u8]) -> Result<Tree, TextFault>
     requires { length text.now ≤ 2 ^ 31 }
     // What is read is the tree of the text.
     ensures found { IfOk result (λ t. TreeOf text.now (owned_node t)) }
@@ -149,14 +157,14 @@ pub fn read_tree(alloc: Global, text: &[u8]) -> Result<Tree, TextFault>
     ensures only { (t : Node) → TreeOf text.now t → MatchResult result (λ u. owned_node u ≡ t) (λ e. e ≡ Memory) }
     // An error is the text's first fault.
     ensures fault { ReportsFault text.now result }
-    // All three in one: what is returned is a function of the text.
-    ensures value { GivesTree owned_node result (tree_in text.now) }
+    // All three in one: what is returned is a function of the text, and memory runs out only where the heap may refuse.
+    ensures value { GivesTreeUnless (H.may_refuse heap) owned_node result (tree_in text.now) }
 
     // What every tree that was read keeps.
     ensures well_formed { IfOk result (λ t. IsWellFormed (owned_node t)) }
     ensures order { IfOk result (λ t. IsInOrder (owned_node t)) }
 {
-    read_owned(alloc, text)
+    read_owned(heap, text)
 }
 
 /// The same tree, whose atoms are bytes of the text.
@@ -164,11 +172,23 @@ pub fn read_tree(alloc: Global, text: &[u8]) -> Result<Tree, TextFault>
 /// # Errors
 ///
 /// As `read_tree`.
-pub fn read_text_tree<'a>(alloc: Global, text: &'a [u8]) -> Result<TextTree<'a>, TextFault>
+pub fn read_text_tree<'a, H: Heap>(heap: H, text: &'a [u8]) -> Result<TextTree<'a>, TextFault>
     requires { length text.now ≤ 2 ^ 31 }
-    ensures value { GivesTree node_of result (tree_in text.now) }
+    ensures value { GivesTreeUnless (H.may_refuse heap) node_of result (tree_in text.now) }
     ensures well_formed { IfOk result (λ t. IsWellFormed (node_of t)) }
     ensures order { IfOk result (λ t. IsInOrder (node_of t)) }
+    ensures room { IfErr result (λ e. e ≡ Memory →
+        RefusesWithin (H.may_refuse_room heap) (room_after (length text.now))) }
 {
-    read(alloc, text)
+    read(heap, text)
+}
+
+/// Where the heap refuses no room for two items for each byte of the text and 8 more, reading gives the tree of the
+/// text or its first fault, and never runs out of memory.
+pub fn read_in_plenty<'a, H: Heap>(heap: H, text: &'a [u8]) -> Result<TextTree<'a>, TextFault>
+    requires small { length text.now ≤ 2 ^ 31 }
+    requires plenty { ¬ (RefusesWithin (H.may_refuse_room heap) (room_after (length text.now))) }
+    ensures { ReadsExactly node_of result (tree_in text.now) }
+{
+    read_text_tree(heap, text)
 }

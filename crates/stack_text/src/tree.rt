@@ -1,10 +1,12 @@
 //! Trees.
 
-ghost use Rattle.std.specs.Prelude.{◌≡◌, IfOk};
+ghost use Rattle.std.specs.Prelude.{◌≡◌};
+ghost use Rattle.stack_heap.specs.Heaps.{IfOkUnless};
 ghost use Rattle.stack_text.specs.Trees.{place_of};
 ghost use Rattle.stack_text.specs.Seen.TreeView.{node_of, owned_node};
 
-use std::alloc::{AllocError, Global};
+use stack_heap::Heap;
+use std::alloc::AllocError;
 
 /// What a text is: an atom, or a list of trees. Contracts see it through `owned_node`, which puts lists in place of the
 /// vectors at every level.
@@ -58,21 +60,21 @@ impl<'a> TextTree<'a> {
     }
 
     /// The same tree, with bytes of its own.
-    pub(crate) fn to_owned(&self, alloc: Global) -> Result<Tree, AllocError>
-        ensures { IfOk result (λ tree. owned_node tree ≡ node_of self.now) }
+    pub(crate) fn to_owned<H: Heap>(&self, heap: H) -> Result<Tree, AllocError>
+        ensures { IfOkUnless (H.may_refuse heap) result (λ tree. owned_node tree ≡ node_of self.now) }
     {
         match self {
             TextTree::Atom { place, text } => {
-                let text = Vec::from_slice(alloc, text)?;
+                let text = heap.copied(text)?;
                 Ok(Tree::Atom {
                     place: *place,
                     text,
                 })
             }
             TextTree::List { place, items } => {
-                let mut owned = Vec::with_capacity(alloc, items.len())?;
+                let mut owned = heap.with_room(items.len())?;
                 for item in items.iter() {
-                    owned.push(item.to_owned(alloc)?)?;
+                    heap.push(&mut owned, item.to_owned(heap)?)?;
                 }
                 Ok(Tree::List {
                     place: *place,

@@ -1,6 +1,7 @@
 //! Types and declarations.
 
-ghost use Rattle.std.specs.Prelude.{◌≡◌, ◌++◌, ◌∷◌, Some, map, OnOk};
+ghost use Rattle.std.specs.Prelude.{◌≡◌, ◌++◌, ◌∷◌, Some, map};
+ghost use Rattle.stack_heap.specs.Heaps.{OnOkUnless};
 ghost use Rattle.stack_text.specs.TreeText.{tree_text};
 ghost use Rattle.stack_text.specs.Grammar.Printed.{list_tree};
 ghost use Rattle.gypsy_syntax.specs.Printed.{local_tree, type_tree, type_tree_by};
@@ -8,42 +9,49 @@ ghost use Rattle.gypsy_syntax.specs.Seen.SourceView.{local_of};
 
 use crate::literal::{Decl, Local, TypeText};
 use crate::printing::literals::{print_literal, print_number};
+use stack_heap::Heap;
 use stack_text::Memory;
 use stack_text::grammar::{Print, print_items, print_name};
 
 /// Appends an array's type.
-fn print_array(out: &mut Vec<u8>, shape: TypeText, length: i128) -> Result<(), Memory>
-    ensures { OnOk result (out.new.items ≡ out.old.items ++ tree_text (type_tree_by shape.kind (Some length))) }
+fn print_array<H: Heap>(
+    heap: H,
+    out: &mut Vec<u8>,
+    shape: TypeText,
+    length: i128,
+) -> Result<(), Memory>
+    ensures { OnOkUnless (H.may_refuse heap) result
+        (out.new.items ≡ out.old.items ++ tree_text (type_tree_by shape.kind (Some length))) }
 {
-    out.extend_from_slice(b"(array ")?;
-    out.extend_from_slice(shape.kind.name().as_bytes())?;
-    out.push(b' ')?;
-    print_number(out, length)?;
-    out.push(b')')?;
+    heap.extend_from_slice(out, b"(array ")?;
+    heap.extend_from_slice(out, shape.kind.name().as_bytes())?;
+    heap.push(out, b' ')?;
+    print_number(heap, out, length)?;
+    heap.push(out, b')')?;
     Ok(())
 }
 
 /// Appends a type.
-fn print_type(out: &mut Vec<u8>, shape: TypeText) -> Result<(), Memory>
-    ensures { OnOk result (out.new.items ≡ out.old.items ++ tree_text (type_tree shape)) }
+fn print_type<H: Heap>(heap: H, out: &mut Vec<u8>, shape: TypeText) -> Result<(), Memory>
+    ensures { OnOkUnless (H.may_refuse heap) result (out.new.items ≡ out.old.items ++ tree_text (type_tree shape)) }
 {
     match shape.length {
         None => {
-            out.extend_from_slice(shape.kind.name().as_bytes())?;
+            heap.extend_from_slice(out, shape.kind.name().as_bytes())?;
             Ok(())
         }
-        Some(length) => print_array(out, shape, length),
+        Some(length) => print_array(heap, out, shape, length),
     }
 }
 
 /// Appends a name and a type.
-fn print_declared(out: &mut Vec<u8>, decl: &Decl) -> Result<(), Memory>
+fn print_declared<H: Heap>(heap: H, out: &mut Vec<u8>, decl: &Decl) -> Result<(), Memory>
     ensures { let text = decl.now.name.name ++ 32 ∷ tree_text (type_tree decl.now.shape) in
-        OnOk result (out.new.items ≡ out.old.items ++ text) }
+        OnOkUnless (H.may_refuse heap) result (out.new.items ≡ out.old.items ++ text) }
 {
-    print_name(out, &decl.name)?;
-    out.push(b' ')?;
-    print_type(out, decl.shape)
+    print_name(heap, out, &decl.name)?;
+    heap.push(out, b' ')?;
+    print_type(heap, out, decl.shape)
 }
 
 impl Print for Decl {
@@ -51,10 +59,10 @@ impl Print for Decl {
 
     ghost tree = { decl_tree };
 
-    fn print(&self, out: &mut Vec<u8>) -> Result<(), Memory> {
-        out.push(b'(')?;
-        print_declared(out, self)?;
-        out.push(b')')?;
+    fn print<H: Heap>(&self, heap: H, out: &mut Vec<u8>) -> Result<(), Memory> {
+        heap.push(out, b'(')?;
+        print_declared(heap, out, self)?;
+        heap.push(out, b')')?;
         Ok(())
     }
 }
@@ -65,31 +73,32 @@ impl Print for Local {
 
     ghost tree = { λ local. local_tree (local_of local) };
 
-    fn print(&self, out: &mut Vec<u8>) -> Result<(), Memory> {
-        out.push(b'(')?;
-        print_declared(out, &self.decl)?;
-        out.push(b' ')?;
-        print_literal(out, &self.value)?;
-        out.push(b')')?;
+    fn print<H: Heap>(&self, heap: H, out: &mut Vec<u8>) -> Result<(), Memory> {
+        heap.push(out, b'(')?;
+        print_declared(heap, out, &self.decl)?;
+        heap.push(out, b' ')?;
+        print_literal(heap, out, &self.value)?;
+        heap.push(out, b')')?;
         Ok(())
     }
 }
 
 /// Appends a space and a list.
-pub fn spaced_list<T: Print>(out: &mut Vec<u8>, items: &[T]) -> Result<(), Memory>
-    ensures { OnOk result (out.new.items ≡ out.old.items ++ 32 ∷ tree_text (list_tree T.tree items.now)) }
+pub fn spaced_list<T: Print, H: Heap>(heap: H, out: &mut Vec<u8>, items: &[T]) -> Result<(), Memory>
+    ensures { OnOkUnless (H.may_refuse heap) result
+        (out.new.items ≡ out.old.items ++ 32 ∷ tree_text (list_tree T.tree items.now)) }
 {
-    out.extend_from_slice(b" (")?;
-    print_items(out, items)?;
-    out.push(b')')?;
+    heap.extend_from_slice(out, b" (")?;
+    print_items(heap, out, items)?;
+    heap.push(out, b')')?;
     Ok(())
 }
 
 /// Appends a space and the list of local variables.
-pub fn spaced_locals(out: &mut Vec<u8>, locals: &[Local]) -> Result<(), Memory>
+pub fn spaced_locals<H: Heap>(heap: H, out: &mut Vec<u8>, locals: &[Local]) -> Result<(), Memory>
     ensures { let text = 32 ∷ tree_text (list_tree local_tree (map local_of locals.now)) in
-        OnOk result (out.new.items ≡ out.old.items ++ text) }
+        OnOkUnless (H.may_refuse heap) result (out.new.items ≡ out.old.items ++ text) }
 {
-    spaced_list(out, locals)?;
+    spaced_list(heap, out, locals)?;
     Ok(())
 }

@@ -1,6 +1,7 @@
 //! Statements.
 
-ghost use Rattle.std.specs.Prelude.{◌≡◌, ◌++◌, ◌∷◌, [], OnOk};
+ghost use Rattle.std.specs.Prelude.{◌≡◌, ◌++◌, ◌∷◌, []};
+ghost use Rattle.stack_heap.specs.Heaps.{OnOkUnless};
 ghost use Rattle.stack_text.specs.Grammar.Printed.{list_tree, name_tree};
 ghost use Rattle.stack_text.specs.TreeText.{spaced_text, tree_text};
 ghost use Rattle.stack_text.specs.Seen.TreeView.{nodes};
@@ -11,6 +12,7 @@ ghost use Rattle.gypsy_syntax.specs.Seen.SourceView.{parts_of_list, stmt_of};
 use crate::keyword::Keyword;
 use crate::printing::declaration::spaced_list;
 use crate::statement::Stmt;
+use stack_heap::Heap;
 use stack_text::grammar::{spaced_items, spaced_name};
 use stack_text::{Memory, Named};
 
@@ -31,66 +33,70 @@ fn keyword_of(stmt: &Stmt) -> Keyword
 }
 
 /// Appends `(` and the first word of a statement.
-fn open_statement(out: &mut Vec<u8>, keyword: Keyword) -> Result<(), Memory>
-    ensures { OnOk result (out.new.items ≡ out.old.items ++ 40 ∷ keyword_name keyword) }
+fn open_statement<H: Heap>(heap: H, out: &mut Vec<u8>, keyword: Keyword) -> Result<(), Memory>
+    ensures { OnOkUnless (H.may_refuse heap) result (out.new.items ≡ out.old.items ++ 40 ∷ keyword_name keyword) }
 {
-    out.push(b'(')?;
-    out.extend_from_slice(keyword.name().as_bytes())?;
+    heap.push(out, b'(')?;
+    heap.extend_from_slice(out, keyword.name().as_bytes())?;
     Ok(())
 }
 
 /// Appends a space and a statement.
 #[cycle(statements)]
-fn spaced_statement(out: &mut Vec<u8>, stmt: &Stmt) -> Result<(), Memory>
-    ensures { OnOk result (out.new.items ≡ out.old.items ++ 32 ∷ tree_text (stmt_tree (stmt_of stmt.now))) }
+fn spaced_statement<H: Heap>(heap: H, out: &mut Vec<u8>, stmt: &Stmt) -> Result<(), Memory>
+    ensures { OnOkUnless (H.may_refuse heap) result
+        (out.new.items ≡ out.old.items ++ 32 ∷ tree_text (stmt_tree (stmt_of stmt.now))) }
 {
-    out.push(b' ')?;
-    print_statement(out, stmt)
+    heap.push(out, b' ')?;
+    print_statement(heap, out, stmt)
 }
 
 /// Appends statements with a space before each.
 #[cycle(statements)]
-fn spaced_statements(out: &mut Vec<u8>, parts: &[Stmt]) -> Result<(), Memory>
-    ensures { OnOk result (out.new.items ≡ out.old.items ++ spaced_text (stmt_trees (parts_of_list parts.now))) }
+fn spaced_statements<H: Heap>(heap: H, out: &mut Vec<u8>, parts: &[Stmt]) -> Result<(), Memory>
+    ensures { OnOkUnless (H.may_refuse heap) result
+        (out.new.items ≡ out.old.items ++ spaced_text (stmt_trees (parts_of_list parts.now))) }
 {
     for part in parts {
-        spaced_statement(out, part)?;
+        spaced_statement(heap, out, part)?;
     }
     Ok(())
 }
 
 /// Appends what follows the first word of a call.
-fn spaced_call(
+fn spaced_call<H: Heap>(
+    heap: H,
     out: &mut Vec<u8>,
     callee: &Named,
     actuals: &[Named],
     conds: &[Named],
 ) -> Result<(), Memory>
     ensures { let parts = name_tree callee.now ∷ list_tree name_tree actuals.now ∷ list_tree name_tree conds.now ∷ [] in
-        OnOk result (out.new.items ≡ out.old.items ++ spaced_text (nodes parts)) }
+        OnOkUnless (H.may_refuse heap) result (out.new.items ≡ out.old.items ++ spaced_text (nodes parts)) }
 {
-    spaced_name(out, callee)?;
-    spaced_list(out, actuals)?;
-    spaced_list(out, conds)
+    spaced_name(heap, out, callee)?;
+    spaced_list(heap, out, actuals)?;
+    spaced_list(heap, out, conds)
 }
 
 /// Appends what follows the first word of a statement, with a space before each part.
 #[cycle(statements)]
-fn spaced_parts(out: &mut Vec<u8>, stmt: &Stmt) -> Result<(), Memory>
-    ensures { OnOk result (out.new.items ≡ out.old.items ++ spaced_text (stmt_parts (stmt_of stmt.now))) }
+fn spaced_parts<H: Heap>(heap: H, out: &mut Vec<u8>, stmt: &Stmt) -> Result<(), Memory>
+    ensures { OnOkUnless (H.may_refuse heap) result
+        (out.new.items ≡ out.old.items ++ spaced_text (stmt_parts (stmt_of stmt.now))) }
 {
     match stmt {
         Stmt::NoOp { .. } => Ok(()),
-        Stmt::Signal { cond, .. } => spaced_name(out, cond),
+        Stmt::Signal { cond, .. } => spaced_name(heap, out, cond),
         Stmt::Seq { parts, .. } => {
-            spaced_statements(out, parts.as_slice())?;
+            spaced_statements(heap, out, parts.as_slice())?;
             Ok(())
         }
-        Stmt::Loop { body, .. } => spaced_statement(out, body),
+        Stmt::Loop { body, .. } => spaced_statement(heap, out, body),
         Stmt::If { test, yes, no, .. } => {
-            spaced_name(out, test)?;
-            spaced_statement(out, yes)?;
-            spaced_statement(out, no)
+            spaced_name(heap, out, test)?;
+            spaced_statement(heap, out, yes)?;
+            spaced_statement(heap, out, no)
         }
         Stmt::Begin {
             body,
@@ -98,18 +104,18 @@ fn spaced_parts(out: &mut Vec<u8>, stmt: &Stmt) -> Result<(), Memory>
             arm,
             ..
         } => {
-            spaced_statement(out, body)?;
-            spaced_list(out, conds.as_slice())?;
-            spaced_statement(out, arm)
+            spaced_statement(heap, out, body)?;
+            spaced_list(heap, out, conds.as_slice())?;
+            spaced_statement(heap, out, arm)
         }
         Stmt::Call {
             callee,
             actuals,
             conds,
             ..
-        } => spaced_call(out, callee, actuals.as_slice(), conds.as_slice()),
+        } => spaced_call(heap, out, callee, actuals.as_slice(), conds.as_slice()),
         Stmt::Predef { args, .. } => {
-            spaced_items(out, args.as_slice())?;
+            spaced_items(heap, out, args.as_slice())?;
             Ok(())
         }
     }
@@ -117,11 +123,12 @@ fn spaced_parts(out: &mut Vec<u8>, stmt: &Stmt) -> Result<(), Memory>
 
 /// Appends a statement.
 #[cycle(statements)]
-pub fn print_statement(out: &mut Vec<u8>, stmt: &Stmt) -> Result<(), Memory>
-    ensures { OnOk result (out.new.items ≡ out.old.items ++ tree_text (stmt_tree (stmt_of stmt.now))) }
+pub fn print_statement<H: Heap>(heap: H, out: &mut Vec<u8>, stmt: &Stmt) -> Result<(), Memory>
+    ensures { OnOkUnless (H.may_refuse heap) result
+        (out.new.items ≡ out.old.items ++ tree_text (stmt_tree (stmt_of stmt.now))) }
 {
-    open_statement(out, keyword_of(stmt))?;
-    spaced_parts(out, stmt)?;
-    out.push(b')')?;
+    open_statement(heap, out, keyword_of(stmt))?;
+    spaced_parts(heap, out, stmt)?;
+    heap.push(out, b')')?;
     Ok(())
 }

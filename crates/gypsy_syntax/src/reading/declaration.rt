@@ -5,7 +5,7 @@ ghost use Rattle.stack_text.specs.Trees.{list};
 ghost use Rattle.stack_text.specs.Seen.TreeView.{node_of, nodes_of};
 ghost use Rattle.stack_text.specs.Grammar.Judged.{◌⊛◌};
 ghost use Rattle.stack_text.specs.Grammar.Parts.{list_or};
-ghost use Rattle.stack_text.specs.Grammar.Reading.{Finds, Reads};
+ghost use Rattle.stack_text.specs.Grammar.Reading.{Finds, ReadsUnless};
 ghost use Rattle.gypsy_syntax.specs.Grammar.{array_type, decl_in, literal_in, local_in, named_in, type_in};
 ghost use Rattle.gypsy_syntax.specs.Made.{new_decl, new_local};
 ghost use Rattle.gypsy_syntax.specs.Seen.SourceView.{local_of};
@@ -14,9 +14,9 @@ use crate::keyword::kind_named;
 use crate::literal::{Decl, Local, TypeText};
 use crate::reading::literals::literal;
 use crate::reading::word::{is_array_word, kind_in, named, number};
+use stack_heap::Heap;
 use stack_text::grammar::{FormFault, Part, each_in, is_numeral_atom};
 use stack_text::{Breach, Kind, TextTree};
-use std::alloc::Global;
 
 /// M7 at a type.
 fn no_type(place: u32) -> Breach
@@ -82,23 +82,23 @@ fn no_formal(place: u32) -> Breach
 }
 
 /// A declaration, of which the parts are given.
-fn decl_parts(alloc: Global, name: &TextTree, shape: &TextTree) -> Result<Decl, FormFault>
-    ensures { Reads (λ decl. decl) result
+fn decl_parts<H: Heap>(heap: H, name: &TextTree, shape: &TextTree) -> Result<Decl, FormFault>
+    ensures { ReadsUnless (H.may_refuse heap) (λ decl. decl) result
         (Ok new_decl ⊛ named_in (node_of name.now) ⊛ type_in (node_of shape.now)) }
 {
-    let name = named(alloc, name)?;
+    let name = named(heap, name)?;
     let shape = type_in(shape)?;
     Ok(Decl { name, shape })
 }
 
 /// The declaration that the items of a list are.
-fn decl_at(alloc: Global, place: u32, items: &[TextTree]) -> Result<Decl, FormFault>
-    ensures { Reads (λ decl. decl) result (decl_in (list place (nodes_of items.now))) }
+fn decl_at<H: Heap>(heap: H, place: u32, items: &[TextTree]) -> Result<Decl, FormFault>
+    ensures { ReadsUnless (H.may_refuse heap) (λ decl. decl) result (decl_in (list place (nodes_of items.now))) }
 {
     if items.len() != 2 {
         return Err(no_formal(place).into());
     }
-    decl_parts(alloc, &items[0], &items[1])
+    decl_parts(heap, &items[0], &items[1])
 }
 
 impl Part for Decl {
@@ -111,19 +111,19 @@ impl Part for Decl {
 
     ghost part_of = { decl_in };
 
-    fn read(alloc: Global, tree: &TextTree) -> Result<Decl, FormFault> {
+    fn read<H: Heap>(heap: H, tree: &TextTree) -> Result<Decl, FormFault> {
         match tree {
             TextTree::Atom { place, text: _ } => Err(no_formal(*place).into()),
-            TextTree::List { place, items } => decl_at(alloc, *place, items),
+            TextTree::List { place, items } => decl_at(heap, *place, items),
         }
     }
 }
 
 /// The declarations that the items of a list are, or M4 where the tree is no list.
-pub fn formals(alloc: Global, tree: &TextTree) -> Result<Vec<Decl>, FormFault>
-    ensures { Reads (λ decls. decls.items) result (list_or 4 decl_in (node_of tree.now)) }
+pub fn formals<H: Heap>(heap: H, tree: &TextTree) -> Result<Vec<Decl>, FormFault>
+    ensures { ReadsUnless (H.may_refuse heap) (λ decls. decls.items) result (list_or 4 decl_in (node_of tree.now)) }
 {
-    each_in(alloc, 4, tree)
+    each_in(heap, 4, tree)
 }
 
 /// M6 at a tree.
@@ -134,18 +134,18 @@ fn no_local(place: u32) -> Breach
 }
 
 /// A local variable, of which the parts are given.
-fn local_parts(
-    alloc: Global,
+fn local_parts<H: Heap>(
+    heap: H,
     name: &TextTree,
     shape: &TextTree,
     value: &TextTree,
 ) -> Result<Local, FormFault>
-    ensures { Reads local_of result
+    ensures { ReadsUnless (H.may_refuse heap) local_of result
         (Ok new_local ⊛ named_in (node_of name.now) ⊛ type_in (node_of shape.now) ⊛ literal_in (node_of value.now)) }
 {
-    let name = named(alloc, name)?;
+    let name = named(heap, name)?;
     let shape = type_in(shape)?;
-    let value = literal(alloc, value)?;
+    let value = literal(heap, value)?;
     Ok(Local {
         decl: Decl { name, shape },
         value,
@@ -153,13 +153,13 @@ fn local_parts(
 }
 
 /// The local variable that the items of a list are.
-fn local_at(alloc: Global, place: u32, items: &[TextTree]) -> Result<Local, FormFault>
-    ensures { Reads local_of result (local_in (list place (nodes_of items.now))) }
+fn local_at<H: Heap>(heap: H, place: u32, items: &[TextTree]) -> Result<Local, FormFault>
+    ensures { ReadsUnless (H.may_refuse heap) local_of result (local_in (list place (nodes_of items.now))) }
 {
     if items.len() != 3 {
         return Err(no_local(place).into());
     }
-    local_parts(alloc, &items[0], &items[1], &items[2])
+    local_parts(heap, &items[0], &items[1], &items[2])
 }
 
 impl Part for Local {
@@ -173,10 +173,10 @@ impl Part for Local {
 
     ghost part_of = { local_in };
 
-    fn read(alloc: Global, tree: &TextTree) -> Result<Local, FormFault> {
+    fn read<H: Heap>(heap: H, tree: &TextTree) -> Result<Local, FormFault> {
         match tree {
             TextTree::Atom { place, text: _ } => Err(no_local(*place).into()),
-            TextTree::List { place, items } => local_at(alloc, *place, items),
+            TextTree::List { place, items } => local_at(heap, *place, items),
         }
     }
 }

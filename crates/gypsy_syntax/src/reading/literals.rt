@@ -2,16 +2,16 @@
 
 ghost use Rattle.std.specs.Prelude.{◌≡◌};
 ghost use Rattle.stack_text.specs.Seen.TreeView.{node_of};
-ghost use Rattle.stack_text.specs.Grammar.Reading.{Finds, Reads};
+ghost use Rattle.stack_text.specs.Grammar.Reading.{Finds, ReadsUnless};
 ghost use Rattle.gypsy_syntax.specs.Grammar.{arg_at, is_character, literal_in, simple_at, truth_at};
 ghost use Rattle.gypsy_syntax.specs.Seen.SourceView.{arg_of, literal_of};
 
 use crate::literal::Literal;
 use crate::reading::word::number_at;
 use crate::statement::Arg;
+use stack_heap::Heap;
 use stack_text::grammar::{FormFault, Part, each};
 use stack_text::{Breach, Named, TextTree, is_digits, is_numeral, read_name};
-use std::alloc::Global;
 
 /// M8 at a tree.
 fn no_value(place: u32) -> Breach
@@ -72,7 +72,7 @@ impl Part for Literal {
 
     ghost part_of = { simple_in };
 
-    fn read(_alloc: Global, tree: &TextTree) -> Result<Literal, FormFault> {
+    fn read<H: Heap>(_heap: H, tree: &TextTree) -> Result<Literal, FormFault> {
         match tree {
             TextTree::Atom { place, text } => Ok(simple_at(*place, text)?),
             TextTree::List { place, items: _ } => Err(no_value(*place).into()),
@@ -81,13 +81,13 @@ impl Part for Literal {
 }
 
 /// The value that a tree is.
-pub fn literal(alloc: Global, tree: &TextTree) -> Result<Literal, FormFault>
-    ensures { Reads literal_of result (literal_in (node_of tree.now)) }
+pub fn literal<H: Heap>(heap: H, tree: &TextTree) -> Result<Literal, FormFault>
+    ensures { ReadsUnless (H.may_refuse heap) literal_of result (literal_in (node_of tree.now)) }
 {
     match tree {
         TextTree::Atom { place, text } => Ok(simple_at(*place, text)?),
         TextTree::List { place, items } => {
-            let items = each(alloc, items)?;
+            let items = each(heap, items)?;
             Ok(Literal::List {
                 place: *place,
                 items,
@@ -97,10 +97,10 @@ pub fn literal(alloc: Global, tree: &TextTree) -> Result<Literal, FormFault>
 }
 
 /// The argument that an atom is.
-fn arg_at(alloc: Global, place: u32, text: &[u8]) -> Result<Arg, FormFault>
-    ensures { Reads arg_of result (arg_at place text.now) }
+fn arg_at<H: Heap>(heap: H, place: u32, text: &[u8]) -> Result<Arg, FormFault>
+    ensures { ReadsUnless (H.may_refuse heap) arg_of result (arg_at place text.now) }
 {
-    match read_name(alloc, text)? {
+    match read_name(heap, text)? {
         Some(name) => Ok(Arg::Variable(Named { place, name })),
         None => Ok(Arg::Constant(simple_at(place, text)?)),
     }
@@ -117,9 +117,9 @@ impl Part for Arg {
 
     ghost part_of = { arg_in };
 
-    fn read(alloc: Global, tree: &TextTree) -> Result<Arg, FormFault> {
+    fn read<H: Heap>(heap: H, tree: &TextTree) -> Result<Arg, FormFault> {
         match tree {
-            TextTree::Atom { place, text } => arg_at(alloc, *place, text),
+            TextTree::Atom { place, text } => arg_at(heap, *place, text),
             TextTree::List { place, items: _ } => Err(no_value(*place).into()),
         }
     }

@@ -5,7 +5,7 @@ ghost use Rattle.stack_text.specs.Trees.{list};
 ghost use Rattle.stack_text.specs.Seen.TreeView.{node_of, nodes_of};
 ghost use Rattle.stack_text.specs.Grammar.Judged.{each_of, ◌⊛◌};
 ghost use Rattle.stack_text.specs.Grammar.Parts.{list_or};
-ghost use Rattle.stack_text.specs.Grammar.Reading.{Reads};
+ghost use Rattle.stack_text.specs.Grammar.Reading.{ReadsUnless};
 ghost use Rattle.gypsy_syntax.specs.Grammar.{are_few, decl_in, local_in, named_in, names_in, procedure_in, source_in, statement_in};
 ghost use Rattle.gypsy_syntax.specs.Made.{new_proc, new_source};
 ghost use Rattle.gypsy_syntax.specs.Seen.SourceView.{proc_of, source_of};
@@ -14,9 +14,9 @@ use crate::proc::{Proc, Source};
 use crate::reading::declaration::formals as read_formals;
 use crate::reading::statements::statement;
 use crate::reading::word::{is_proc_word, is_program_word, named, names};
+use stack_heap::Heap;
 use stack_text::grammar::{FormFault, Part, each, each_in, list_length};
 use stack_text::{Breach, MOST_DECLARED, MOST_PROCEDURES, TextTree};
-use std::alloc::Global;
 
 /// M2 at a procedure.
 fn no_procedure(place: u32) -> Breach
@@ -51,19 +51,19 @@ struct ProcTrees<'a, 'b> {
 }
 
 /// A procedure, of which the parts are given.
-fn procedure_parts(alloc: Global, place: u32, trees: ProcTrees) -> Result<Proc, FormFault>
+fn procedure_parts<H: Heap>(heap: H, place: u32, trees: ProcTrees) -> Result<Proc, FormFault>
     ensures { let parts = trees.entry in
-        Reads proc_of result
+        ReadsUnless (H.may_refuse heap) proc_of result
         (Ok (new_proc place) ⊛ named_in (node_of parts.name.now) ⊛ list_or 4 decl_in (node_of parts.formals.now)
         ⊛ names_in (node_of parts.conds.now) ⊛ list_or 6 local_in (node_of parts.locals.now)
         ⊛ names_in (node_of parts.local_conds.now) ⊛ statement_in (node_of parts.body.now)) }
 {
-    let name = named(alloc, trees.name)?;
-    let formals = read_formals(alloc, trees.formals)?;
-    let conds = names(alloc, trees.conds)?;
-    let locals = each_in(alloc, 6, trees.locals)?;
-    let local_conds = names(alloc, trees.local_conds)?;
-    let body = statement(alloc, trees.body)?;
+    let name = named(heap, trees.name)?;
+    let formals = read_formals(heap, trees.formals)?;
+    let conds = names(heap, trees.conds)?;
+    let locals = each_in(heap, 6, trees.locals)?;
+    let local_conds = names(heap, trees.local_conds)?;
+    let body = statement(heap, trees.body)?;
     Ok(Proc {
         place,
         name,
@@ -76,8 +76,8 @@ fn procedure_parts(alloc: Global, place: u32, trees: ProcTrees) -> Result<Proc, 
 }
 
 /// The procedure that the items of a list are.
-fn procedure_at(alloc: Global, place: u32, items: &[TextTree]) -> Result<Proc, FormFault>
-    ensures { Reads proc_of result (procedure_in (list place (nodes_of items.now))) }
+fn procedure_at<H: Heap>(heap: H, place: u32, items: &[TextTree]) -> Result<Proc, FormFault>
+    ensures { ReadsUnless (H.may_refuse heap) proc_of result (procedure_in (list place (nodes_of items.now))) }
 {
     if items.len() != 7 {
         return Err(no_procedure(place).into());
@@ -99,7 +99,7 @@ fn procedure_at(alloc: Global, place: u32, items: &[TextTree]) -> Result<Proc, F
     if !are_few(trees.conds, trees.local_conds) {
         return Err(too_large(place).into());
     }
-    procedure_parts(alloc, place, trees)
+    procedure_parts(heap, place, trees)
 }
 
 impl Part for Proc {
@@ -113,10 +113,10 @@ impl Part for Proc {
 
     ghost part_of = { procedure_in };
 
-    fn read(alloc: Global, tree: &TextTree) -> Result<Proc, FormFault> {
+    fn read<H: Heap>(heap: H, tree: &TextTree) -> Result<Proc, FormFault> {
         match tree {
             TextTree::Atom { place, text: _ } => Err(no_procedure(*place).into()),
-            TextTree::List { place, items } => procedure_at(alloc, *place, items),
+            TextTree::List { place, items } => procedure_at(heap, *place, items),
         }
     }
 }
@@ -129,23 +129,23 @@ fn no_source(place: u32) -> Breach
 }
 
 /// A source, of which the parts are given.
-fn source_parts(
-    alloc: Global,
+fn source_parts<H: Heap>(
+    heap: H,
     place: u32,
     main: &TextTree,
     procs: &[TextTree],
 ) -> Result<Source, FormFault>
-    ensures { Reads source_of result
+    ensures { ReadsUnless (H.may_refuse heap) source_of result
         (Ok (new_source place) ⊛ named_in (node_of main.now) ⊛ each_of procedure_in (nodes_of procs.now)) }
 {
-    let main = named(alloc, main)?;
-    let procs = each(alloc, procs)?;
+    let main = named(heap, main)?;
+    let procs = each(heap, procs)?;
     Ok(Source { place, main, procs })
 }
 
 /// The source that the items of a list are.
-fn source_at(alloc: Global, place: u32, items: &[TextTree]) -> Result<Source, FormFault>
-    ensures { Reads source_of result (source_in (list place (nodes_of items.now))) }
+fn source_at<H: Heap>(heap: H, place: u32, items: &[TextTree]) -> Result<Source, FormFault>
+    ensures { ReadsUnless (H.may_refuse heap) source_of result (source_in (list place (nodes_of items.now))) }
 {
     if items.len() < 3 {
         return Err(no_source(place).into());
@@ -157,15 +157,15 @@ fn source_at(alloc: Global, place: u32, items: &[TextTree]) -> Result<Source, Fo
     if procs.len() > MOST_PROCEDURES {
         return Err(too_large(place).into());
     }
-    source_parts(alloc, place, main, procs)
+    source_parts(heap, place, main, procs)
 }
 
 /// The source that a tree is: M1 where it is none, M12 where it is too large, and else the first fault in reading order.
-pub fn source(alloc: Global, tree: &TextTree) -> Result<Source, FormFault>
-    ensures { Reads source_of result (source_in (node_of tree.now)) }
+pub fn source<H: Heap>(heap: H, tree: &TextTree) -> Result<Source, FormFault>
+    ensures { ReadsUnless (H.may_refuse heap) source_of result (source_in (node_of tree.now)) }
 {
     match tree {
         TextTree::Atom { place, text: _ } => Err(no_source(*place).into()),
-        TextTree::List { place, items } => source_at(alloc, *place, items),
+        TextTree::List { place, items } => source_at(heap, *place, items),
     }
 }

@@ -4,7 +4,7 @@ ghost use Rattle.std.specs.Prelude.{◌≡◌, Ok, Some, map};
 ghost use Rattle.stack_text.specs.Trees.{place_of};
 ghost use Rattle.stack_text.specs.Seen.TreeView.{node_of, nodes_of};
 ghost use Rattle.stack_text.specs.Grammar.Judged.{◌⊛◌};
-ghost use Rattle.stack_text.specs.Grammar.Reading.{Finds, Reads};
+ghost use Rattle.stack_text.specs.Grammar.Reading.{Finds, ReadsUnless};
 ghost use Rattle.gypsy_syntax.specs.declared.keyword.Keyword.TheVariants as words;
 ghost use Rattle.gypsy_syntax.specs.Grammar.{form_in, is_empty_list, named_in, names_in, statement_in, statements_in};
 ghost use Rattle.gypsy_syntax.specs.Made.{new_call};
@@ -14,9 +14,9 @@ use crate::keyword::{Keyword, keyword_named};
 use crate::predef::Predef;
 use crate::reading::word::{named, names};
 use crate::statement::Stmt;
+use stack_heap::Heap;
 use stack_text::grammar::{FormFault, each};
 use stack_text::{Breach, TextTree};
-use std::alloc::Global;
 
 /// M9 at a tree.
 fn no_statement(place: u32) -> Breach
@@ -42,33 +42,33 @@ fn no_op(place: u32, parts: &[TextTree]) -> Result<Stmt, Breach>
     }
 }
 
-fn signal(alloc: Global, place: u32, parts: &[TextTree]) -> Result<Stmt, FormFault>
-    ensures { Reads stmt_of result (form_in (Some words.Signal) place (nodes_of parts.now)) }
+fn signal<H: Heap>(heap: H, place: u32, parts: &[TextTree]) -> Result<Stmt, FormFault>
+    ensures { ReadsUnless (H.may_refuse heap) stmt_of result (form_in (Some words.Signal) place (nodes_of parts.now)) }
 {
     if parts.len() != 1 {
         return Err(wrong_items(place).into());
     }
-    let cond = named(alloc, &parts[0])?;
+    let cond = named(heap, &parts[0])?;
     Ok(Stmt::Signal { place, cond })
 }
 
 /// A call, of which the parts are given.
-fn call_parts(
-    alloc: Global,
+fn call_parts<H: Heap>(
+    heap: H,
     place: u32,
     callee: &TextTree,
     actuals: &TextTree,
     conds: &TextTree,
 ) -> Result<Stmt, FormFault>
     ensures { let made = new_call place (place_of (node_of actuals.now)) (place_of (node_of conds.now)) in
-        Reads stmt_of result
+        ReadsUnless (H.may_refuse heap) stmt_of result
         (Ok made ⊛ named_in (node_of callee.now) ⊛ names_in (node_of actuals.now) ⊛ names_in (node_of conds.now)) }
 {
-    let callee = named(alloc, callee)?;
+    let callee = named(heap, callee)?;
     let actuals_place = actuals.place();
-    let actuals = names(alloc, actuals)?;
+    let actuals = names(heap, actuals)?;
     let conds_place = conds.place();
-    let conds = names(alloc, conds)?;
+    let conds = names(heap, conds)?;
     Ok(Stmt::Call {
         place,
         callee,
@@ -79,24 +79,25 @@ fn call_parts(
     })
 }
 
-fn call(alloc: Global, place: u32, parts: &[TextTree]) -> Result<Stmt, FormFault>
-    ensures { Reads stmt_of result (form_in (Some words.Call) place (nodes_of parts.now)) }
+fn call<H: Heap>(heap: H, place: u32, parts: &[TextTree]) -> Result<Stmt, FormFault>
+    ensures { ReadsUnless (H.may_refuse heap) stmt_of result (form_in (Some words.Call) place (nodes_of parts.now)) }
 {
     if parts.len() != 3 {
         return Err(wrong_items(place).into());
     }
-    call_parts(alloc, place, &parts[0], &parts[1], &parts[2])
+    call_parts(heap, place, &parts[0], &parts[1], &parts[2])
 }
 
-fn predef_call(
-    alloc: Global,
+fn predef_call<H: Heap>(
+    heap: H,
     which: Predef,
     place: u32,
     parts: &[TextTree],
 ) -> Result<Stmt, FormFault>
-    ensures { Reads stmt_of result (form_in (Some (words.Predef which)) place (nodes_of parts.now)) }
+    ensures { ReadsUnless (H.may_refuse heap) stmt_of result
+        (form_in (Some (words.Predef which)) place (nodes_of parts.now)) }
 {
-    let args = each(alloc, parts)?;
+    let args = each(heap, parts)?;
     Ok(Stmt::Predef { place, which, args })
 }
 
@@ -112,59 +113,60 @@ fn is_empty_list(tree: &TextTree) -> bool
 
 /// The statement that a tree is, in a box.
 #[cycle(statements)]
-fn boxed(alloc: Global, tree: &TextTree) -> Result<Box<Stmt>, FormFault>
-    ensures { Reads (λ stmt. stmt_of stmt.value) result (statement_in (node_of tree.now)) }
+fn boxed<H: Heap>(heap: H, tree: &TextTree) -> Result<Box<Stmt>, FormFault>
+    ensures { ReadsUnless (H.may_refuse heap) (λ stmt. stmt_of stmt.value) result (statement_in (node_of tree.now)) }
 {
-    let stmt = statement(alloc, tree)?;
-    Ok(Box::new(alloc, stmt)?)
+    let stmt = statement(heap, tree)?;
+    Ok(heap.boxed(stmt)?)
 }
 
 /// The statement that each tree is.
 #[cycle(statements)]
-fn statements(alloc: Global, trees: &[TextTree]) -> Result<Vec<Stmt>, FormFault>
-    ensures { Reads (λ parts. map stmt_of parts.items) result (statements_in (nodes_of trees.now)) }
+fn statements<H: Heap>(heap: H, trees: &[TextTree]) -> Result<Vec<Stmt>, FormFault>
+    ensures { ReadsUnless (H.may_refuse heap) (λ parts. map stmt_of parts.items) result
+        (statements_in (nodes_of trees.now)) }
 {
-    let mut parts = Vec::new(alloc);
+    let mut parts = Vec::new(heap.handle());
     for tree in trees {
-        let part = statement(alloc, tree)?;
-        parts.push(part)?;
+        let part = statement(heap, tree)?;
+        heap.push(&mut parts, part)?;
     }
     Ok(parts)
 }
 
 #[cycle(statements)]
-fn sequence(alloc: Global, place: u32, parts: &[TextTree]) -> Result<Stmt, FormFault>
-    ensures { Reads stmt_of result (form_in (Some words.Seq) place (nodes_of parts.now)) }
+fn sequence<H: Heap>(heap: H, place: u32, parts: &[TextTree]) -> Result<Stmt, FormFault>
+    ensures { ReadsUnless (H.may_refuse heap) stmt_of result (form_in (Some words.Seq) place (nodes_of parts.now)) }
 {
     if parts.is_empty() {
         return Err(wrong_items(place).into());
     }
-    let parts = statements(alloc, parts)?;
+    let parts = statements(heap, parts)?;
     Ok(Stmt::Seq { place, parts })
 }
 
 #[cycle(statements)]
-fn repetition(alloc: Global, place: u32, parts: &[TextTree]) -> Result<Stmt, FormFault>
-    ensures { Reads stmt_of result (form_in (Some words.Loop) place (nodes_of parts.now)) }
+fn repetition<H: Heap>(heap: H, place: u32, parts: &[TextTree]) -> Result<Stmt, FormFault>
+    ensures { ReadsUnless (H.may_refuse heap) stmt_of result (form_in (Some words.Loop) place (nodes_of parts.now)) }
 {
     if parts.len() != 1 {
         return Err(wrong_items(place).into());
     }
-    let body = boxed(alloc, &parts[0])?;
+    let body = boxed(heap, &parts[0])?;
     Ok(Stmt::Loop { place, body })
 }
 
 #[cycle(statements)]
-fn branch(alloc: Global, place: u32, parts: &[TextTree]) -> Result<Stmt, FormFault>
-    ensures { Reads stmt_of result (form_in (Some words.If) place (nodes_of parts.now)) }
+fn branch<H: Heap>(heap: H, place: u32, parts: &[TextTree]) -> Result<Stmt, FormFault>
+    ensures { ReadsUnless (H.may_refuse heap) stmt_of result (form_in (Some words.If) place (nodes_of parts.now)) }
 {
     if parts.len() != 3 {
         return Err(wrong_items(place).into());
     }
     let (test, yes, no) = (&parts[0], &parts[1], &parts[2]);
-    let test = named(alloc, test)?;
-    let yes = boxed(alloc, yes)?;
-    let no = boxed(alloc, no)?;
+    let test = named(heap, test)?;
+    let yes = boxed(heap, yes)?;
+    let no = boxed(heap, no)?;
     Ok(Stmt::If {
         place,
         test,
@@ -174,8 +176,8 @@ fn branch(alloc: Global, place: u32, parts: &[TextTree]) -> Result<Stmt, FormFau
 }
 
 #[cycle(statements)]
-fn guarded(alloc: Global, place: u32, parts: &[TextTree]) -> Result<Stmt, FormFault>
-    ensures { Reads stmt_of result (form_in (Some words.Begin) place (nodes_of parts.now)) }
+fn guarded<H: Heap>(heap: H, place: u32, parts: &[TextTree]) -> Result<Stmt, FormFault>
+    ensures { ReadsUnless (H.may_refuse heap) stmt_of result (form_in (Some words.Begin) place (nodes_of parts.now)) }
 {
     if parts.len() != 3 {
         return Err(wrong_items(place).into());
@@ -184,9 +186,9 @@ fn guarded(alloc: Global, place: u32, parts: &[TextTree]) -> Result<Stmt, FormFa
     if is_empty_list(conds) {
         return Err(wrong_items(place).into());
     }
-    let body = boxed(alloc, body)?;
-    let conds = names(alloc, conds)?;
-    let arm = boxed(alloc, arm)?;
+    let body = boxed(heap, body)?;
+    let conds = names(heap, conds)?;
+    let arm = boxed(heap, arm)?;
     Ok(Stmt::Begin {
         place,
         body,
@@ -197,26 +199,31 @@ fn guarded(alloc: Global, place: u32, parts: &[TextTree]) -> Result<Stmt, FormFa
 
 /// The statement that begins with the word, of which the other items are given.
 #[cycle(statements)]
-fn form(alloc: Global, keyword: Keyword, place: u32, parts: &[TextTree]) -> Result<Stmt, FormFault>
-    ensures { Reads stmt_of result (form_in (Some keyword) place (nodes_of parts.now)) }
+fn form<H: Heap>(
+    heap: H,
+    keyword: Keyword,
+    place: u32,
+    parts: &[TextTree],
+) -> Result<Stmt, FormFault>
+    ensures { ReadsUnless (H.may_refuse heap) stmt_of result (form_in (Some keyword) place (nodes_of parts.now)) }
 {
     match keyword {
         Keyword::NoOp => Ok(no_op(place, parts)?),
-        Keyword::Signal => signal(alloc, place, parts),
-        Keyword::Seq => sequence(alloc, place, parts),
-        Keyword::Loop => repetition(alloc, place, parts),
-        Keyword::If => branch(alloc, place, parts),
-        Keyword::Begin => guarded(alloc, place, parts),
-        Keyword::Call => call(alloc, place, parts),
-        Keyword::Predef(which) => predef_call(alloc, which, place, parts),
+        Keyword::Signal => signal(heap, place, parts),
+        Keyword::Seq => sequence(heap, place, parts),
+        Keyword::Loop => repetition(heap, place, parts),
+        Keyword::If => branch(heap, place, parts),
+        Keyword::Begin => guarded(heap, place, parts),
+        Keyword::Call => call(heap, place, parts),
+        Keyword::Predef(which) => predef_call(heap, which, place, parts),
     }
 }
 
 /// The statement that a tree is: M9 where it begins with no word of a form and no predefined name, M10 where it has a wrong
 /// number of items.
 #[cycle(statements)]
-pub fn statement(alloc: Global, tree: &TextTree) -> Result<Stmt, FormFault>
-    ensures { Reads stmt_of result (statement_in (node_of tree.now)) }
+pub fn statement<H: Heap>(heap: H, tree: &TextTree) -> Result<Stmt, FormFault>
+    ensures { ReadsUnless (H.may_refuse heap) stmt_of result (statement_in (node_of tree.now)) }
 {
     match tree {
         TextTree::Atom { place, text: _ } => Err(no_statement(*place).into()),
@@ -226,7 +233,7 @@ pub fn statement(alloc: Global, tree: &TextTree) -> Result<Stmt, FormFault>
                 TextTree::List { place: _, items: _ } => Err(no_statement(*place).into()),
                 TextTree::Atom { place: _, text } => match keyword_named(text) {
                     None => Err(no_statement(*place).into()),
-                    Some(keyword) => form(alloc, keyword, *place, parts),
+                    Some(keyword) => form(heap, keyword, *place, parts),
                 },
             },
         },

@@ -4,13 +4,13 @@ ghost use Rattle.std.specs.Prelude.{◌≡◌, IsTrue, codes};
 ghost use Rattle.stack_text.specs.Numerals.{is_numeral};
 ghost use Rattle.stack_text.specs.Seen.TreeView.{node_of};
 ghost use Rattle.stack_text.specs.Grammar.Parts.{is_atom_of};
-ghost use Rattle.stack_text.specs.Grammar.Reading.{Finds, Reads};
+ghost use Rattle.stack_text.specs.Grammar.Reading.{Finds, ReadsUnless};
 ghost use Rattle.gypsy_syntax.specs.Grammar.{is_word, kind_in, named_in, names_in, number_at, number_in};
 
 use crate::keyword::kind_named;
+use stack_heap::Heap;
 use stack_text::grammar::{self, FormFault};
 use stack_text::{Breach, Kind, Named, TextTree, read_numeral};
-use std::alloc::Global;
 
 /// Whether the tree is the word `array`.
 pub fn is_array_word(tree: &TextTree) -> bool
@@ -78,15 +78,15 @@ pub fn number(tree: &TextTree) -> Result<i128, Breach>
 }
 
 /// The name that a tree is, or M3 where it is none.
-pub fn named(alloc: Global, tree: &TextTree) -> Result<Named, FormFault>
-    ensures { Reads (λ name. name) result (named_in (node_of tree.now)) }
+pub fn named<H: Heap>(heap: H, tree: &TextTree) -> Result<Named, FormFault>
+    ensures { ReadsUnless (H.may_refuse heap) (λ name. name) result (named_in (node_of tree.now)) }
 {
-    grammar::named(alloc, 3, tree)
+    grammar::named(heap, 3, tree)
 }
 
 /// The names that the items of a list are, or M5 where the tree is no list.
-pub fn names(alloc: Global, tree: &TextTree) -> Result<Vec<Named>, FormFault>
-    ensures { Reads (λ names. names.items) result (names_in (node_of tree.now)) }
+pub fn names<H: Heap>(heap: H, tree: &TextTree) -> Result<Vec<Named>, FormFault>
+    ensures { ReadsUnless (H.may_refuse heap) (λ names. names.items) result (names_in (node_of tree.now)) }
 {
-    grammar::names(alloc, 5, 3, tree)
+    grammar::names(heap, 5, 3, tree)
 }

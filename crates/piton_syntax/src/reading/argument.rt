@@ -3,7 +3,7 @@
 ghost use Rattle.std.specs.Prelude.{◌≡◌, IsTrue};
 ghost use Rattle.std.specs.List.{list_all};
 ghost use Rattle.stack_text.specs.Grammar.Judged.{each_of};
-ghost use Rattle.stack_text.specs.Grammar.Reading.{Finds, Reads};
+ghost use Rattle.stack_text.specs.Grammar.Reading.{Finds, ReadsUnless};
 ghost use Rattle.stack_text.specs.Seen.TreeView.{node_of, nodes_of};
 ghost use Rattle.piton_syntax.specs.Grammar.{are_of_kind, argument_of, arguments_of, is_of_kind, test_at};
 ghost use Rattle.piton_syntax.specs.declared.argument.Arguments.TheVariants as row;
@@ -12,9 +12,9 @@ use crate::argument::{ArgKind, ArgText, Arguments};
 use crate::reading::atom::{is_digits_atom, is_name_atom, name, number};
 use crate::reading::word::word;
 use crate::test_kind::{TestFamily, TestKind, test_named};
+use stack_heap::Heap;
 use stack_text::grammar::FormFault;
 use stack_text::{Breach, TextTree};
-use std::alloc::Global;
 
 /// P7 at an operation's list.
 fn wrong_arguments(place: u32) -> Breach
@@ -42,38 +42,39 @@ fn are_of_kind(kind: ArgKind, trees: &[TextTree]) -> bool
 }
 
 /// The argument of a kind that a tree is.
-fn argument(alloc: Global, kind: ArgKind, tree: &TextTree) -> Result<ArgText, FormFault>
+fn argument<H: Heap>(heap: H, kind: ArgKind, tree: &TextTree) -> Result<ArgText, FormFault>
     requires { IsTrue (is_of_kind kind (node_of tree.now)) }
-    ensures { Reads (λ argument. argument) result (argument_of kind (node_of tree.now)) }
+    ensures { ReadsUnless (H.may_refuse heap) (λ argument. argument) result (argument_of kind (node_of tree.now)) }
 {
     match kind {
-        ArgKind::Word => Ok(ArgText::Word(word(alloc, tree)?)),
+        ArgKind::Word => Ok(ArgText::Word(word(heap, tree)?)),
         ArgKind::Count => Ok(ArgText::Number(number(tree)?)),
         ArgKind::Local | ArgKind::Area | ArgKind::Label | ArgKind::Program => {
-            Ok(ArgText::Name(name(alloc, tree)?))
+            Ok(ArgText::Name(name(heap, tree)?))
         }
     }
 }
 
 /// The arguments of an operation that has none.
-fn no_arguments(alloc: Global, place: u32, trees: &[TextTree]) -> Result<Vec<ArgText>, Breach>
+fn no_arguments<H: Heap>(heap: H, place: u32, trees: &[TextTree]) -> Result<Vec<ArgText>, Breach>
     ensures { Finds (λ args. args.items) result (arguments_of row.Zero place (nodes_of trees.now)) }
 {
     if trees.is_empty() {
-        Ok(Vec::new(alloc))
+        Ok(Vec::new(heap.handle()))
     } else {
         Err(wrong_arguments(place))
     }
 }
 
 /// The arguments of an operation that has one.
-fn one_argument(
-    alloc: Global,
+fn one_argument<H: Heap>(
+    heap: H,
     kind: ArgKind,
     place: u32,
     trees: &[TextTree],
 ) -> Result<Vec<ArgText>, FormFault>
-    ensures { Reads (λ args. args.items) result (arguments_of (row.One kind) place (nodes_of trees.now)) }
+    ensures { ReadsUnless (H.may_refuse heap) (λ args. args.items) result
+        (arguments_of (row.One kind) place (nodes_of trees.now)) }
 {
     if trees.len() != 1 {
         return Err(wrong_arguments(place).into());
@@ -82,9 +83,9 @@ fn one_argument(
     if !is_of_kind(kind, tree) {
         return Err(wrong_arguments(place).into());
     }
-    let only = argument(alloc, kind, tree)?;
-    let mut arguments = Vec::new(alloc);
-    arguments.push(only)?;
+    let only = argument(heap, kind, tree)?;
+    let mut arguments = Vec::new(heap.handle());
+    heap.push(&mut arguments, only)?;
     Ok(arguments)
 }
 
@@ -99,13 +100,14 @@ fn test_at(family: TestFamily, tree: &TextTree) -> Option<TestKind>
 }
 
 /// A test and a label, as arguments.
-fn test_and_label(
-    alloc: Global,
+fn test_and_label<H: Heap>(
+    heap: H,
     family: TestFamily,
     place: u32,
     trees: &[TextTree],
 ) -> Result<Vec<ArgText>, FormFault>
-    ensures { Reads (λ args. args.items) result (arguments_of (row.TestAndLabel family) place (nodes_of trees.now)) }
+    ensures { ReadsUnless (H.may_refuse heap) (λ args. args.items) result
+        (arguments_of (row.TestAndLabel family) place (nodes_of trees.now)) }
 {
     if trees.len() != 2 {
         return Err(wrong_arguments(place).into());
@@ -117,38 +119,40 @@ fn test_and_label(
     if !is_name_atom(label) {
         return Err(wrong_arguments(place).into());
     }
-    let label = name(alloc, label)?;
-    let mut arguments = Vec::new(alloc);
-    arguments.push(ArgText::Test(test))?;
-    arguments.push(ArgText::Name(label))?;
+    let label = name(heap, label)?;
+    let mut arguments = Vec::new(heap.handle());
+    heap.push(&mut arguments, ArgText::Test(test))?;
+    heap.push(&mut arguments, ArgText::Name(label))?;
     Ok(arguments)
 }
 
 /// The argument of a kind that each tree is.
-fn each_argument(
-    alloc: Global,
+fn each_argument<H: Heap>(
+    heap: H,
     kind: ArgKind,
     trees: &[TextTree],
 ) -> Result<Vec<ArgText>, FormFault>
     requires { IsTrue (are_of_kind kind (nodes_of trees.now)) }
-    ensures { Reads (λ args. args.items) result (each_of (argument_of kind) (nodes_of trees.now)) }
+    ensures { ReadsUnless (H.may_refuse heap) (λ args. args.items) result
+        (each_of (argument_of kind) (nodes_of trees.now)) }
 {
-    let mut arguments = Vec::new(alloc);
+    let mut arguments = Vec::new(heap.handle());
     for tree in trees {
-        let argument = argument(alloc, kind, tree)?;
-        arguments.push(argument)?;
+        let argument = argument(heap, kind, tree)?;
+        heap.push(&mut arguments, argument)?;
     }
     Ok(arguments)
 }
 
 /// The arguments of an operation that has one or more of a kind.
-fn some_arguments(
-    alloc: Global,
+fn some_arguments<H: Heap>(
+    heap: H,
     kind: ArgKind,
     place: u32,
     trees: &[TextTree],
 ) -> Result<Vec<ArgText>, FormFault>
-    ensures { Reads (λ args. args.items) result (arguments_of (row.OneOrMore kind) place (nodes_of trees.now)) }
+    ensures { ReadsUnless (H.may_refuse heap) (λ args. args.items) result
+        (arguments_of (row.OneOrMore kind) place (nodes_of trees.now)) }
 {
     if trees.is_empty() {
         return Err(wrong_arguments(place).into());
@@ -156,22 +160,23 @@ fn some_arguments(
     if !are_of_kind(kind, trees) {
         return Err(wrong_arguments(place).into());
     }
-    each_argument(alloc, kind, trees)
+    each_argument(heap, kind, trees)
 }
 
 /// The arguments that an operation takes, or P7 at the place of its list where there are others.
-pub fn arguments(
-    alloc: Global,
+pub fn arguments<H: Heap>(
+    heap: H,
     row: Arguments,
     place: u32,
     trees: &[TextTree],
 ) -> Result<Vec<ArgText>, FormFault>
-    ensures { Reads (λ args. args.items) result (arguments_of row place (nodes_of trees.now)) }
+    ensures { ReadsUnless (H.may_refuse heap) (λ args. args.items) result
+        (arguments_of row place (nodes_of trees.now)) }
 {
     match row {
-        Arguments::Zero => Ok(no_arguments(alloc, place, trees)?),
-        Arguments::One(kind) => one_argument(alloc, kind, place, trees),
-        Arguments::TestAndLabel(family) => test_and_label(alloc, family, place, trees),
-        Arguments::OneOrMore(kind) => some_arguments(alloc, kind, place, trees),
+        Arguments::Zero => Ok(no_arguments(heap, place, trees)?),
+        Arguments::One(kind) => one_argument(heap, kind, place, trees),
+        Arguments::TestAndLabel(family) => test_and_label(heap, family, place, trees),
+        Arguments::OneOrMore(kind) => some_arguments(heap, kind, place, trees),
     }
 }

@@ -2,16 +2,16 @@
 
 ghost use Rattle.std.specs.Prelude.{◌≡◌, IsTrue};
 ghost use Rattle.stack_text.specs.Grammar.Parts.{is_atom_of};
-ghost use Rattle.stack_text.specs.Grammar.Reading.{Finds, Reads};
+ghost use Rattle.stack_text.specs.Grammar.Reading.{Finds, ReadsUnless};
 ghost use Rattle.stack_text.specs.Names.{is_name};
 ghost use Rattle.stack_text.specs.Numerals.{is_digits, is_numeral};
 ghost use Rattle.stack_text.specs.Seen.TreeView.{node_of};
 ghost use Rattle.piton_syntax.specs.Grammar.{named_of, number_of};
 
 use crate::word_text::Number;
+use stack_heap::Heap;
 use stack_text::grammar::{FormFault, named};
 use stack_text::{Breach, Named, TextTree, is_digits, is_name, read_numeral};
-use std::alloc::Global;
 
 /// Whether the tree is an atom of digits alone.
 pub fn is_digits_atom(tree: &TextTree) -> bool
@@ -34,10 +34,10 @@ pub fn is_name_atom(tree: &TextTree) -> bool
 }
 
 /// The name that a tree is, or P4 where it is none.
-pub fn name(alloc: Global, tree: &TextTree) -> Result<Named, FormFault>
-    ensures { Reads (λ name. name) result (named_of (node_of tree.now)) }
+pub fn name<H: Heap>(heap: H, tree: &TextTree) -> Result<Named, FormFault>
+    ensures { ReadsUnless (H.may_refuse heap) (λ name. name) result (named_of (node_of tree.now)) }
 {
-    named(alloc, 4, tree)
+    named(heap, 4, tree)
 }
 
 /// The number of a numeral's atom, or P8 where it is out of the 128-bit range.

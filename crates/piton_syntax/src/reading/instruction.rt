@@ -3,7 +3,7 @@
 ghost use Rattle.std.specs.Prelude.{◌≡◌, Ok, None, Some, codes};
 ghost use Rattle.std.specs.Str.{bytes_eq};
 ghost use Rattle.stack_text.specs.Grammar.Judged.{◌⊛◌};
-ghost use Rattle.stack_text.specs.Grammar.Reading.{Reads};
+ghost use Rattle.stack_text.specs.Grammar.Reading.{ReadsUnless};
 ghost use Rattle.stack_text.specs.Trees.{list, none, more};
 ghost use Rattle.stack_text.specs.Seen.TreeView.{node_of, nodes_of};
 ghost use Rattle.piton_syntax.specs.Grammar.{called_of, instruction_of, labelled_of, named_of};
@@ -13,9 +13,9 @@ use crate::op::operation_named;
 use crate::reading::argument::arguments;
 use crate::reading::atom::name;
 use crate::system::InstrText;
+use stack_heap::Heap;
 use stack_text::grammar::{FormFault, Part};
 use stack_text::{Breach, TextTree};
-use std::alloc::Global;
 
 /// P6 at an instruction.
 fn no_instruction(place: u32) -> Breach
@@ -25,19 +25,19 @@ fn no_instruction(place: u32) -> Breach
 }
 
 /// An operation's list without a label, of which the operation's word and the trees of its arguments are given.
-fn unlabelled(
-    alloc: Global,
+fn unlabelled<H: Heap>(
+    heap: H,
     place: u32,
     operation: &[u8],
     trees: &[TextTree],
 ) -> Result<InstrText, FormFault>
-    ensures { Reads (λ instruction. instruction) result
+    ensures { ReadsUnless (H.may_refuse heap) (λ instruction. instruction) result
         (called_of place (Ok None) (operation_named operation.now) place (nodes_of trees.now)) }
 {
     match operation_named(operation) {
         None => Err(no_instruction(place).into()),
         Some(op) => {
-            let args = arguments(alloc, op.arguments(), place, trees)?;
+            let args = arguments(heap, op.arguments(), place, trees)?;
             Ok(InstrText {
                 place,
                 label: None,
@@ -49,8 +49,8 @@ fn unlabelled(
 }
 
 /// An operation's list after a label, of which the place, the operation's word and the trees of its arguments are given.
-fn called_at(
-    alloc: Global,
+fn called_at<H: Heap>(
+    heap: H,
     place: u32,
     label: &TextTree,
     list_place: u32,
@@ -58,14 +58,14 @@ fn called_at(
     trees: &[TextTree],
 ) -> Result<InstrText, FormFault>
     ensures { let label = Ok Some ⊛ named_of (node_of label.now) in
-        Reads (λ instruction. instruction) result
+        ReadsUnless (H.may_refuse heap) (λ instruction. instruction) result
         (called_of place label (operation_named operation.now) list_place (nodes_of trees.now)) }
 {
     match operation_named(operation) {
         None => Err(no_instruction(place).into()),
         Some(op) => {
-            let label = name(alloc, label)?;
-            let args = arguments(alloc, op.arguments(), list_place, trees)?;
+            let label = name(heap, label)?;
+            let args = arguments(heap, op.arguments(), list_place, trees)?;
             Ok(InstrText {
                 place,
                 label: Some(label),
@@ -77,15 +77,15 @@ fn called_at(
 }
 
 /// The items of an operation's list, after a label and an empty list.
-fn called_items(
-    alloc: Global,
+fn called_items<H: Heap>(
+    heap: H,
     place: u32,
     label: &TextTree,
     list_place: u32,
     items: &[TextTree],
 ) -> Result<InstrText, FormFault>
     ensures { let call = list list_place (nodes_of items.now) in
-        Reads (λ instruction. instruction) result
+        ReadsUnless (H.may_refuse heap) (λ instruction. instruction) result
         (labelled_of place (more (node_of label.now) (more (list 0 none) (more call none)))) }
 {
     if items.is_empty() {
@@ -94,30 +94,31 @@ fn called_items(
     match &items[0] {
         TextTree::List { place: _, items: _ } => Err(no_instruction(place).into()),
         TextTree::Atom { place: _, text } => {
-            called_at(alloc, place, label, list_place, text, &items[1..])
+            called_at(heap, place, label, list_place, text, &items[1..])
         }
     }
 }
 
 /// An operation's list after a label and an empty list.
-fn called(
-    alloc: Global,
+fn called<H: Heap>(
+    heap: H,
     place: u32,
     label: &TextTree,
     call: &TextTree,
 ) -> Result<InstrText, FormFault>
-    ensures { Reads (λ instruction. instruction) result
+    ensures { ReadsUnless (H.may_refuse heap) (λ instruction. instruction) result
         (labelled_of place (more (node_of label.now) (more (list 0 none) (more (node_of call.now) none)))) }
 {
     match call {
         TextTree::Atom { place: _, text: _ } => Err(no_instruction(place).into()),
-        TextTree::List { place: at, items } => called_items(alloc, place, label, *at, items),
+        TextTree::List { place: at, items } => called_items(heap, place, label, *at, items),
     }
 }
 
 /// What follows `dl`.
-fn labelled(alloc: Global, place: u32, parts: &[TextTree]) -> Result<InstrText, FormFault>
-    ensures { Reads (λ instruction. instruction) result (labelled_of place (nodes_of parts.now)) }
+fn labelled<H: Heap>(heap: H, place: u32, parts: &[TextTree]) -> Result<InstrText, FormFault>
+    ensures { ReadsUnless (H.may_refuse heap) (λ instruction. instruction) result
+        (labelled_of place (nodes_of parts.now)) }
 {
     if parts.len() != 3 {
         return Err(no_instruction(place).into());
@@ -126,7 +127,7 @@ fn labelled(alloc: Global, place: u32, parts: &[TextTree]) -> Result<InstrText, 
         TextTree::Atom { place: _, text: _ } => Err(no_instruction(place).into()),
         TextTree::List { place: _, items } => {
             if items.is_empty() {
-                called(alloc, place, &parts[0], &parts[2])
+                called(heap, place, &parts[0], &parts[2])
             } else {
                 Err(no_instruction(place).into())
             }
@@ -142,8 +143,9 @@ fn is_label_word(bytes: &[u8]) -> bool
 }
 
 /// The instruction that the items of a list are.
-fn instruction_at(alloc: Global, place: u32, items: &[TextTree]) -> Result<InstrText, FormFault>
-    ensures { Reads (λ instruction. instruction) result (instruction_of (list place (nodes_of items.now))) }
+fn instruction_at<H: Heap>(heap: H, place: u32, items: &[TextTree]) -> Result<InstrText, FormFault>
+    ensures { ReadsUnless (H.may_refuse heap) (λ instruction. instruction) result
+        (instruction_of (list place (nodes_of items.now))) }
 {
     if items.is_empty() {
         return Err(no_instruction(place).into());
@@ -153,21 +155,21 @@ fn instruction_at(alloc: Global, place: u32, items: &[TextTree]) -> Result<Instr
         TextTree::Atom { place: _, text } => {
             let word = *text;
             if is_label_word(word) {
-                labelled(alloc, place, &items[1..])
+                labelled(heap, place, &items[1..])
             } else {
-                unlabelled(alloc, place, word, &items[1..])
+                unlabelled(heap, place, word, &items[1..])
             }
         }
     }
 }
 
 /// The instruction that a tree is: P6 where it is none, P4 where its label is no name.
-fn instruction(alloc: Global, tree: &TextTree) -> Result<InstrText, FormFault>
-    ensures { Reads (λ instruction. instruction) result (instruction_of (node_of tree.now)) }
+fn instruction<H: Heap>(heap: H, tree: &TextTree) -> Result<InstrText, FormFault>
+    ensures { ReadsUnless (H.may_refuse heap) (λ instruction. instruction) result (instruction_of (node_of tree.now)) }
 {
     match tree {
         TextTree::Atom { place, text: _ } => Err(no_instruction(*place).into()),
-        TextTree::List { place, items } => instruction_at(alloc, *place, items),
+        TextTree::List { place, items } => instruction_at(heap, *place, items),
     }
 }
 
@@ -181,7 +183,7 @@ impl Part for InstrText {
 
     ghost part_of = { instruction_of };
 
-    fn read(alloc: Global, tree: &TextTree) -> Result<InstrText, FormFault> {
-        instruction(alloc, tree)
+    fn read<H: Heap>(heap: H, tree: &TextTree) -> Result<InstrText, FormFault> {
+        instruction(heap, tree)
     }
 }

@@ -2,7 +2,7 @@
 
 ghost use Rattle.std.specs.Prelude.{◌≡◌, Ok};
 ghost use Rattle.stack_text.specs.Grammar.Judged.{each_of, ◌⊛◌};
-ghost use Rattle.stack_text.specs.Grammar.Reading.{Reads};
+ghost use Rattle.stack_text.specs.Grammar.Reading.{ReadsUnless};
 ghost use Rattle.stack_text.specs.Trees.{list, place_of};
 ghost use Rattle.stack_text.specs.Seen.TreeView.{node_of, nodes_of};
 ghost use Rattle.piton_syntax.specs.Grammar.{instruction_of, list_of, named_of, program_of, temporary_of};
@@ -13,9 +13,9 @@ use crate::reading::atom::name as read_name;
 use crate::reading::word::word as read_word;
 use crate::system::Program;
 use crate::word_text::WordText;
+use stack_heap::Heap;
 use stack_text::grammar::{FormFault, Part, each, list_length, names};
 use stack_text::{Breach, Named, TextTree};
-use std::alloc::Global;
 
 /// The most formals and temporaries of a program.
 const MOST_VARIABLES: usize = 400;
@@ -31,51 +31,54 @@ fn no_program(place: u32) -> Breach
 }
 
 /// A temporary with its word at the start, which are the items of a list.
-fn temporary_at(
-    alloc: Global,
+fn temporary_at<H: Heap>(
+    heap: H,
     place: u32,
     items: &[TextTree],
 ) -> Result<(Named, WordText), FormFault>
-    ensures { Reads (λ temporary. temporary) result (temporary_of (list place (nodes_of items.now))) }
+    ensures { ReadsUnless (H.may_refuse heap) (λ temporary. temporary) result
+        (temporary_of (list place (nodes_of items.now))) }
 {
     if items.len() != 2 {
         return Err(no_program(place).into());
     }
     let (name, word) = (&items[0], &items[1]);
-    let name = read_name(alloc, name)?;
-    let word = read_word(alloc, word)?;
+    let name = read_name(heap, name)?;
+    let word = read_word(heap, word)?;
     Ok((name, word))
 }
 
 /// The temporary that a tree is, or P3 where it is no list of two.
-fn temporary(alloc: Global, tree: &TextTree) -> Result<(Named, WordText), FormFault>
-    ensures { Reads (λ temporary. temporary) result (temporary_of (node_of tree.now)) }
+fn temporary<H: Heap>(heap: H, tree: &TextTree) -> Result<(Named, WordText), FormFault>
+    ensures { ReadsUnless (H.may_refuse heap) (λ temporary. temporary) result (temporary_of (node_of tree.now)) }
 {
     match tree {
         TextTree::Atom { place, text: _ } => Err(no_program(*place).into()),
-        TextTree::List { place, items } => temporary_at(alloc, *place, items),
+        TextTree::List { place, items } => temporary_at(heap, *place, items),
     }
 }
 
 /// The temporary that each tree is.
-fn each_temporary(alloc: Global, trees: &[TextTree]) -> Result<Vec<(Named, WordText)>, FormFault>
-    ensures { Reads (λ temporaries. temporaries.items) result (each_of temporary_of (nodes_of trees.now)) }
+fn each_temporary<H: Heap>(heap: H, trees: &[TextTree]) -> Result<Vec<(Named, WordText)>, FormFault>
+    ensures { ReadsUnless (H.may_refuse heap) (λ temporaries. temporaries.items) result
+        (each_of temporary_of (nodes_of trees.now)) }
 {
-    let mut temporaries = Vec::new(alloc);
+    let mut temporaries = Vec::new(heap.handle());
     for tree in trees {
-        let temporary = temporary(alloc, tree)?;
-        temporaries.push(temporary)?;
+        let temporary = temporary(heap, tree)?;
+        heap.push(&mut temporaries, temporary)?;
     }
     Ok(temporaries)
 }
 
 /// The temporaries of a program, or P3 where the tree is no list.
-fn read_temporaries(alloc: Global, tree: &TextTree) -> Result<Vec<(Named, WordText)>, FormFault>
-    ensures { Reads (λ temporaries. temporaries.items) result (list_of temporary_of (node_of tree.now)) }
+fn read_temporaries<H: Heap>(heap: H, tree: &TextTree) -> Result<Vec<(Named, WordText)>, FormFault>
+    ensures { ReadsUnless (H.may_refuse heap) (λ temporaries. temporaries.items) result
+        (list_of temporary_of (node_of tree.now)) }
 {
     match tree {
         TextTree::Atom { place, text: _ } => Err(no_program(*place).into()),
-        TextTree::List { place: _, items } => each_temporary(alloc, items),
+        TextTree::List { place: _, items } => each_temporary(heap, items),
     }
 }
 
@@ -88,24 +91,24 @@ fn is_small(formals: &TextTree, temporaries: &TextTree, instructions: &[TextTree
 }
 
 /// A program, of which the parts are given.
-fn program_parts(
-    alloc: Global,
+fn program_parts<H: Heap>(
+    heap: H,
     place: u32,
     name: &TextTree,
     formals: &TextTree,
     temporaries: &TextTree,
     instructions: &[TextTree],
 ) -> Result<Program, FormFault>
-    ensures { Reads (λ program. program) result
+    ensures { ReadsUnless (H.may_refuse heap) (λ program. program) result
         (Ok (new_program place (place_of (node_of formals.now)))
         ⊛ named_of (node_of name.now) ⊛ list_of named_of (node_of formals.now)
         ⊛ list_of temporary_of (node_of temporaries.now) ⊛ each_of instruction_of (nodes_of instructions.now)) }
 {
-    let name = read_name(alloc, name)?;
+    let name = read_name(heap, name)?;
     let formals_place = formals.place();
-    let formals = names(alloc, 3, 4, formals)?;
-    let temporaries = read_temporaries(alloc, temporaries)?;
-    let instrs = each(alloc, instructions)?;
+    let formals = names(heap, 3, 4, formals)?;
+    let temporaries = read_temporaries(heap, temporaries)?;
+    let instrs = each(heap, instructions)?;
     Ok(Program {
         place,
         name,
@@ -117,8 +120,9 @@ fn program_parts(
 }
 
 /// The program that the items of a list are.
-fn program_at(alloc: Global, place: u32, items: &[TextTree]) -> Result<Program, FormFault>
-    ensures { Reads (λ program. program) result (program_of (list place (nodes_of items.now))) }
+fn program_at<H: Heap>(heap: H, place: u32, items: &[TextTree]) -> Result<Program, FormFault>
+    ensures { ReadsUnless (H.may_refuse heap) (λ program. program) result
+        (program_of (list place (nodes_of items.now))) }
 {
     if items.len() < 4 {
         return Err(no_program(place).into());
@@ -128,7 +132,7 @@ fn program_at(alloc: Global, place: u32, items: &[TextTree]) -> Result<Program, 
     if !is_small(formals, temporaries, instructions) {
         return Err(FormFault::Form { rule: 9, place });
     }
-    program_parts(alloc, place, name, formals, temporaries, instructions)
+    program_parts(heap, place, name, formals, temporaries, instructions)
 }
 
 impl Part for Program {
@@ -141,10 +145,10 @@ impl Part for Program {
 
     ghost part_of = { program_of };
 
-    fn read(alloc: Global, tree: &TextTree) -> Result<Program, FormFault> {
+    fn read<H: Heap>(heap: H, tree: &TextTree) -> Result<Program, FormFault> {
         match tree {
             TextTree::Atom { place, text: _ } => Err(no_program(*place).into()),
-            TextTree::List { place, items } => program_at(alloc, *place, items),
+            TextTree::List { place, items } => program_at(heap, *place, items),
         }
     }
 }

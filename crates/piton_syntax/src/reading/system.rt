@@ -4,7 +4,7 @@ ghost use Rattle.std.specs.Prelude.{◌≡◌, ℕ, IsTrue, List, ◌&&◌, Ok, 
 ghost use Rattle.std.specs.Str.{bytes_eq};
 ghost use Rattle.stack_text.specs.Grammar.Judged.{each_of, ◌⊛◌};
 ghost use Rattle.stack_text.specs.Grammar.Parts.{is_atom_of};
-ghost use Rattle.stack_text.specs.Grammar.Reading.{Reads};
+ghost use Rattle.stack_text.specs.Grammar.Reading.{ReadsUnless};
 ghost use Rattle.stack_text.specs.Numerals.{is_digits};
 ghost use Rattle.stack_text.specs.Trees.{atom, list};
 ghost use Rattle.stack_text.specs.Seen.TreeView.{node_of, nodes_of};
@@ -14,9 +14,9 @@ ghost use Rattle.piton_syntax.specs.Systems.{new_area, new_system};
 
 use crate::reading::atom::{is_digits_atom, name as read_name, number};
 use crate::system::{Area, System};
+use stack_heap::Heap;
 use stack_text::grammar::{FormFault, Part, each};
 use stack_text::{Breach, TextTree};
-use std::alloc::Global;
 
 /// The most areas of a system.
 const MOST_AREAS: usize = 1000;
@@ -32,28 +32,28 @@ fn no_area(place: u32) -> Breach
 }
 
 /// An area, of which the name and the words are given.
-fn area_parts(
-    alloc: Global,
+fn area_parts<H: Heap>(
+    heap: H,
     place: u32,
     name: &TextTree,
     words: &[TextTree],
 ) -> Result<Area, FormFault>
-    ensures { Reads (λ area. area) result
+    ensures { ReadsUnless (H.may_refuse heap) (λ area. area) result
         (Ok (new_area place) ⊛ named_of (node_of name.now) ⊛ each_of word_of (nodes_of words.now)) }
 {
-    let name = read_name(alloc, name)?;
-    let words = each(alloc, words)?;
+    let name = read_name(heap, name)?;
+    let words = each(heap, words)?;
     Ok(Area { place, name, words })
 }
 
 /// The area that the items of a list are.
-fn area_at(alloc: Global, place: u32, items: &[TextTree]) -> Result<Area, FormFault>
-    ensures { Reads (λ area. area) result (area_of (list place (nodes_of items.now))) }
+fn area_at<H: Heap>(heap: H, place: u32, items: &[TextTree]) -> Result<Area, FormFault>
+    ensures { ReadsUnless (H.may_refuse heap) (λ area. area) result (area_of (list place (nodes_of items.now))) }
 {
     if items.len() < 2 {
         return Err(no_area(place).into());
     }
-    area_parts(alloc, place, &items[0], &items[1..])
+    area_parts(heap, place, &items[0], &items[1..])
 }
 
 impl Part for Area {
@@ -66,10 +66,10 @@ impl Part for Area {
 
     ghost part_of = { area_of };
 
-    fn read(alloc: Global, tree: &TextTree) -> Result<Area, FormFault> {
+    fn read<H: Heap>(heap: H, tree: &TextTree) -> Result<Area, FormFault> {
         match tree {
             TextTree::Atom { place, text: _ } => Err(no_area(*place).into()),
-            TextTree::List { place, items } => area_at(alloc, *place, items),
+            TextTree::List { place, items } => area_at(heap, *place, items),
         }
     }
 }
@@ -133,24 +133,24 @@ struct SystemTrees<'a, 'b> {
 }
 
 /// A system, of which the parts are given.
-fn system_parts(alloc: Global, place: u32, trees: SystemTrees) -> Result<System, FormFault>
+fn system_parts<H: Heap>(heap: H, place: u32, trees: SystemTrees) -> Result<System, FormFault>
     requires ctrl { IsTrue (is_atom_of is_digits (node_of trees.ctrl.now)) }
     requires temp { IsTrue (is_atom_of is_digits (node_of trees.temp.now)) }
     requires base { IsTrue (is_atom_of is_digits (node_of trees.base.now)) }
     ensures { let parts = trees.entry in
-        Reads (λ system. system) result
+        ReadsUnless (H.may_refuse heap) (λ system. system) result
         (Ok (new_system place) ⊛ named_of (node_of parts.main.now) ⊛ number_of (node_of parts.ctrl.now)
         ⊛ number_of (node_of parts.temp.now) ⊛ number_of (node_of parts.base.now)
         ⊛ each_of area_of (nodes_of parts.areas.now) ⊛ each_of word_of (nodes_of parts.stack.now)
         ⊛ each_of program_of (nodes_of parts.programs.now)) }
 {
-    let main = read_name(alloc, trees.main)?;
+    let main = read_name(heap, trees.main)?;
     let ctrl = number(trees.ctrl)?;
     let temp = number(trees.temp)?;
     let base = number(trees.base)?;
-    let areas = each(alloc, trees.areas)?;
-    let stack = each(alloc, trees.stack)?;
-    let programs = each(alloc, trees.programs)?;
+    let areas = each(heap, trees.areas)?;
+    let stack = each(heap, trees.stack)?;
+    let programs = each(heap, trees.programs)?;
     Ok(System {
         place,
         main,
@@ -164,8 +164,8 @@ fn system_parts(alloc: Global, place: u32, trees: SystemTrees) -> Result<System,
 }
 
 /// The system that the items of a list are.
-fn system_at(alloc: Global, place: u32, items: &[TextTree]) -> Result<System, FormFault>
-    ensures { Reads (λ system. system) result (system_of (list place (nodes_of items.now))) }
+fn system_at<H: Heap>(heap: H, place: u32, items: &[TextTree]) -> Result<System, FormFault>
+    ensures { ReadsUnless (H.may_refuse heap) (λ system. system) result (system_of (list place (nodes_of items.now))) }
 {
     if items.len() < 8 {
         return Err(no_system(place).into());
@@ -194,15 +194,15 @@ fn system_at(alloc: Global, place: u32, items: &[TextTree]) -> Result<System, Fo
         stack,
         programs,
     };
-    system_parts(alloc, place, trees)
+    system_parts(heap, place, trees)
 }
 
 /// The system that a tree is: P1 where it is none, P9 where it is too large, and else the first fault in reading order.
-pub fn system(alloc: Global, tree: &TextTree) -> Result<System, FormFault>
-    ensures { Reads (λ system. system) result (system_of (node_of tree.now)) }
+pub fn system<H: Heap>(heap: H, tree: &TextTree) -> Result<System, FormFault>
+    ensures { ReadsUnless (H.may_refuse heap) (λ system. system) result (system_of (node_of tree.now)) }
 {
     match tree {
         TextTree::Atom { place, text: _ } => Err(no_system(*place).into()),
-        TextTree::List { place, items } => system_at(alloc, *place, items),
+        TextTree::List { place, items } => system_at(heap, *place, items),
     }
 }

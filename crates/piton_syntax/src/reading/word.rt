@@ -4,7 +4,7 @@ ghost use Rattle.std.specs.Prelude.{◌≡◌, ◌&&◌, Some};
 ghost use Rattle.stack_text.specs.Names.{is_name};
 ghost use Rattle.stack_text.specs.Numerals.{is_digits};
 ghost use Rattle.stack_text.specs.Grammar.Parts.{is_atom_of};
-ghost use Rattle.stack_text.specs.Grammar.Reading.{Finds, Reads};
+ghost use Rattle.stack_text.specs.Grammar.Reading.{Finds, ReadsUnless};
 ghost use Rattle.stack_text.specs.Trees.{list};
 ghost use Rattle.stack_text.specs.Seen.TreeView.{node_of, nodes_of};
 ghost use Rattle.piton_syntax.specs.Grammar.{is_true_word, is_false_word, item_of, word_of};
@@ -13,9 +13,9 @@ ghost use Rattle.piton_syntax.specs.declared.tag.Tag.TheVariants as tags;
 use crate::reading::atom::{is_digits_atom, is_name_atom, name, number};
 use crate::tag::{Tag, tag_named};
 use crate::word_text::{WordItem, WordText};
+use stack_heap::Heap;
 use stack_text::grammar::{FormFault, Part, is_numeral_atom};
 use stack_text::{Breach, TextTree};
-use std::alloc::Global;
 
 /// P5 at a word.
 fn no_word(place: u32) -> Breach
@@ -108,8 +108,9 @@ fn is_named_number(name: &TextTree, number: &TextTree) -> bool
 }
 
 /// An address: the name of an area, and an offset in digits alone.
-fn addr_item(alloc: Global, place: u32, parts: &[TextTree]) -> Result<WordItem, FormFault>
-    ensures { Reads (λ item. item) result (item_of (Some tags.Addr) place (nodes_of parts.now)) }
+fn addr_item<H: Heap>(heap: H, place: u32, parts: &[TextTree]) -> Result<WordItem, FormFault>
+    ensures { ReadsUnless (H.may_refuse heap) (λ item. item) result
+        (item_of (Some tags.Addr) place (nodes_of parts.now)) }
 {
     if parts.len() != 2 {
         return Err(no_word(place).into());
@@ -118,14 +119,15 @@ fn addr_item(alloc: Global, place: u32, parts: &[TextTree]) -> Result<WordItem, 
     if !is_named_number(area, offset) {
         return Err(no_word(place).into());
     }
-    let area = name(alloc, area)?;
+    let area = name(heap, area)?;
     let offset = number(offset)?;
     Ok(WordItem::Addr { area, offset })
 }
 
 /// A place: the name of a program, and the number of an instruction in digits alone.
-fn pc_item(alloc: Global, place: u32, parts: &[TextTree]) -> Result<WordItem, FormFault>
-    ensures { Reads (λ item. item) result (item_of (Some tags.Pc) place (nodes_of parts.now)) }
+fn pc_item<H: Heap>(heap: H, place: u32, parts: &[TextTree]) -> Result<WordItem, FormFault>
+    ensures { ReadsUnless (H.may_refuse heap) (λ item. item) result
+        (item_of (Some tags.Pc) place (nodes_of parts.now)) }
 {
     if parts.len() != 2 {
         return Err(no_word(place).into());
@@ -134,14 +136,15 @@ fn pc_item(alloc: Global, place: u32, parts: &[TextTree]) -> Result<WordItem, Fo
     if !is_named_number(program, at) {
         return Err(no_word(place).into());
     }
-    let program = name(alloc, program)?;
+    let program = name(heap, program)?;
     let at = number(at)?;
     Ok(WordItem::Pc { program, at })
 }
 
 /// A program: its name.
-fn subr_item(alloc: Global, place: u32, parts: &[TextTree]) -> Result<WordItem, FormFault>
-    ensures { Reads (λ item. item) result (item_of (Some tags.Subr) place (nodes_of parts.now)) }
+fn subr_item<H: Heap>(heap: H, place: u32, parts: &[TextTree]) -> Result<WordItem, FormFault>
+    ensures { ReadsUnless (H.may_refuse heap) (λ item. item) result
+        (item_of (Some tags.Subr) place (nodes_of parts.now)) }
 {
     if parts.len() != 1 {
         return Err(no_word(place).into());
@@ -150,17 +153,17 @@ fn subr_item(alloc: Global, place: u32, parts: &[TextTree]) -> Result<WordItem, 
     if !is_name_atom(part) {
         return Err(no_word(place).into());
     }
-    Ok(WordItem::Subr(name(alloc, part)?))
+    Ok(WordItem::Subr(name(heap, part)?))
 }
 
 /// What follows a tag, which is `None` where its word is none.
-fn item(
-    alloc: Global,
+fn item<H: Heap>(
+    heap: H,
     tag: Option<Tag>,
     place: u32,
     parts: &[TextTree],
 ) -> Result<WordItem, FormFault>
-    ensures { Reads (λ item. item) result (item_of tag place (nodes_of parts.now)) }
+    ensures { ReadsUnless (H.may_refuse heap) (λ item. item) result (item_of tag place (nodes_of parts.now)) }
 {
     match tag {
         None => Err(no_word(place).into()),
@@ -168,15 +171,15 @@ fn item(
         Some(Tag::Nat) => Ok(nat_item(place, parts)?),
         Some(Tag::Bitv) => Ok(bitv_item(place, parts)?),
         Some(Tag::Bool) => Ok(bool_item(place, parts)?),
-        Some(Tag::Addr) => addr_item(alloc, place, parts),
-        Some(Tag::Pc) => pc_item(alloc, place, parts),
-        Some(Tag::Subr) => subr_item(alloc, place, parts),
+        Some(Tag::Addr) => addr_item(heap, place, parts),
+        Some(Tag::Pc) => pc_item(heap, place, parts),
+        Some(Tag::Subr) => subr_item(heap, place, parts),
     }
 }
 
 /// The word that the items of a list are.
-fn word_at(alloc: Global, place: u32, items: &[TextTree]) -> Result<WordText, FormFault>
-    ensures { Reads (λ word. word) result (word_of (list place (nodes_of items.now))) }
+fn word_at<H: Heap>(heap: H, place: u32, items: &[TextTree]) -> Result<WordText, FormFault>
+    ensures { ReadsUnless (H.may_refuse heap) (λ word. word) result (word_of (list place (nodes_of items.now))) }
 {
     if items.is_empty() {
         return Err(no_word(place).into());
@@ -184,19 +187,19 @@ fn word_at(alloc: Global, place: u32, items: &[TextTree]) -> Result<WordText, Fo
     match &items[0] {
         TextTree::List { place: _, items: _ } => Err(no_word(place).into()),
         TextTree::Atom { place: _, text } => {
-            let item = item(alloc, tag_named(text), place, &items[1..])?;
+            let item = item(heap, tag_named(text), place, &items[1..])?;
             Ok(WordText { place, item })
         }
     }
 }
 
 /// The word that a tree is: P5 where it is none, P8 where its numeral is out of range.
-pub fn word(alloc: Global, tree: &TextTree) -> Result<WordText, FormFault>
-    ensures { Reads (λ word. word) result (word_of (node_of tree.now)) }
+pub fn word<H: Heap>(heap: H, tree: &TextTree) -> Result<WordText, FormFault>
+    ensures { ReadsUnless (H.may_refuse heap) (λ word. word) result (word_of (node_of tree.now)) }
 {
     match tree {
         TextTree::Atom { place, text: _ } => Err(no_word(*place).into()),
-        TextTree::List { place, items } => word_at(alloc, *place, items),
+        TextTree::List { place, items } => word_at(heap, *place, items),
     }
 }
 
@@ -210,7 +213,7 @@ impl Part for WordText {
 
     ghost part_of = { word_of };
 
-    fn read(alloc: Global, tree: &TextTree) -> Result<WordText, FormFault> {
-        word(alloc, tree)
+    fn read<H: Heap>(heap: H, tree: &TextTree) -> Result<WordText, FormFault> {
+        word(heap, tree)
     }
 }

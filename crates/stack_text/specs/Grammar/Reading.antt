@@ -5,15 +5,19 @@ use Rattle.stack_text.specs.declared.grammar.fault.FormFault.{FormFault}
 use Rattle.stack_text.specs.declared.grammar.fault.FormFault.TheVariants.{Form, Memory}
 use Rattle.stack_text.specs.Grammar.Judged.{Judged}
 
--- the part has faults, and this is the first; out of memory alone is free
-abbrev pub IsFirstFault : {X : Type 0} → FormFault → Judged X → Type 0
-IsFirstFault (Form rule place) part = (others : List Breach) × (part ≡ Err (record { place = place; rule = rule }, others))
-IsFirstFault Memory part = Unit {0}
+-- the part has faults, and this is the first; out of memory comes only where memory was refused
+abbrev pub IsFirstFault : {X : Type 0} → Type 0 → FormFault → Judged X → Type 0
+IsFirstFault refused (Form rule place) part = (others : List Breach) × (part ≡ Err (record { place = place; rule = rule }, others))
+IsFirstFault refused Memory part = refused
 
 -- the value is that of the part, seen through the view
+abbrev pub ReadsUnless : {X Y : Type 0} → Type 0 → (X → Y) → Result X FormFault → Judged Y → Type 0
+ReadsUnless refused view (Ok x) part = part ≡ Ok (view x)
+ReadsUnless refused view (Err fault) part = IsFirstFault refused fault part
+
+-- the same of callers that pass the library's heap, of which nothing says when it refuses: out of memory is free
 abbrev pub Reads : {X Y : Type 0} → (X → Y) → Result X FormFault → Judged Y → Type 0
-Reads view (Ok x) part = part ≡ Ok (view x)
-Reads view (Err fault) part = IsFirstFault fault part
+Reads view result part = ReadsUnless (Unit {0}) view result part
 
 -- the same of a reader that takes no memory
 abbrev pub Finds : {X Y : Type 0} → (X → Y) → Result X Breach → Judged Y → Type 0

@@ -3,22 +3,22 @@
 ghost use Rattle.stack_text.specs.Seen.TreeView.{node_of, nodes_of};
 ghost use Rattle.stack_text.specs.Grammar.Judged.{each_of};
 ghost use Rattle.stack_text.specs.Grammar.Parts.{list_or, name_or};
-ghost use Rattle.stack_text.specs.Grammar.Reading.{Reads};
+ghost use Rattle.stack_text.specs.Grammar.Reading.{ReadsUnless};
 
 use crate::grammar::fault::FormFault;
 use crate::{Named, TextTree, read_name};
-use std::alloc::Global;
+use stack_heap::Heap;
 
 /// The name that a tree is; where it is none, it breaks the rule.
-pub fn named(alloc: Global, rule: u8, tree: &TextTree) -> Result<Named, FormFault>
-    ensures { Reads (λ name. name) result (name_or rule (node_of tree.now)) }
+pub fn named<H: Heap>(heap: H, rule: u8, tree: &TextTree) -> Result<Named, FormFault>
+    ensures { ReadsUnless (H.may_refuse heap) (λ name. name) result (name_or rule (node_of tree.now)) }
 {
     match tree {
         TextTree::List { place, items: _ } => Err(FormFault::Form {
             rule,
             place: *place,
         }),
-        TextTree::Atom { place, text } => match read_name(alloc, text)? {
+        TextTree::Atom { place, text } => match read_name(heap, text)? {
             Some(name) => Ok(Named {
                 place: *place,
                 name,
@@ -33,31 +33,33 @@ pub fn named(alloc: Global, rule: u8, tree: &TextTree) -> Result<Named, FormFaul
 
 /// The name that each item of a list is. A tree that is no list breaks the first rule, and an item that is no name the
 /// other.
-pub fn names(
-    alloc: Global,
+pub fn names<H: Heap>(
+    heap: H,
     list_rule: u8,
     name_rule: u8,
     tree: &TextTree,
 ) -> Result<Vec<Named>, FormFault>
-    ensures { Reads (λ names. names.items) result (list_or list_rule (name_or name_rule) (node_of tree.now)) }
+    ensures { ReadsUnless (H.may_refuse heap) (λ names. names.items) result
+        (list_or list_rule (name_or name_rule) (node_of tree.now)) }
 {
     match tree {
         TextTree::Atom { place, text: _ } => Err(FormFault::Form {
             rule: list_rule,
             place: *place,
         }),
-        TextTree::List { place: _, items } => each_name(alloc, name_rule, items),
+        TextTree::List { place: _, items } => each_name(heap, name_rule, items),
     }
 }
 
 /// The name that each tree is.
-fn each_name(alloc: Global, rule: u8, trees: &[TextTree]) -> Result<Vec<Named>, FormFault>
-    ensures { Reads (λ names. names.items) result (each_of (name_or rule) (nodes_of trees.now)) }
+fn each_name<H: Heap>(heap: H, rule: u8, trees: &[TextTree]) -> Result<Vec<Named>, FormFault>
+    ensures { ReadsUnless (H.may_refuse heap) (λ names. names.items) result
+        (each_of (name_or rule) (nodes_of trees.now)) }
 {
-    let mut names = Vec::with_capacity(alloc, trees.len())?;
+    let mut names = heap.with_room(trees.len())?;
     for tree in trees {
-        let name = named(alloc, rule, tree)?;
-        names.push(name)?;
+        let name = named(heap, rule, tree)?;
+        heap.push(&mut names, name)?;
     }
     Ok(names)
 }

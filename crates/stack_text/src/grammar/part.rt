@@ -5,11 +5,11 @@ ghost use Rattle.stack_text.specs.Trees.{Node};
 ghost use Rattle.stack_text.specs.Seen.TreeView.{node_of, nodes_of};
 ghost use Rattle.stack_text.specs.Grammar.Judged.{Judged, each_of};
 ghost use Rattle.stack_text.specs.Grammar.Parts.{list_length, list_or};
-ghost use Rattle.stack_text.specs.Grammar.Reading.{Reads};
+ghost use Rattle.stack_text.specs.Grammar.Reading.{ReadsUnless};
 
 use crate::TextTree;
 use crate::grammar::fault::FormFault;
-use std::alloc::Global;
+use stack_heap::Heap;
 
 /// What one tree is read to be.
 pub trait Part: Drop {
@@ -23,32 +23,34 @@ pub trait Part: Drop {
     ghost part_of: { Node → Judged Seen };
 
     /// The part that the tree is, or the first of its faults.
-    fn read(alloc: Global, tree: &TextTree) -> Result<Self, FormFault>
-        ensures { Reads view result (part_of (node_of tree.now)) };
+    fn read<H: Heap>(heap: H, tree: &TextTree) -> Result<Self, FormFault>
+        ensures { ReadsUnless (H.may_refuse heap) view result (part_of (node_of tree.now)) };
 }
 
 /// The part that each tree is.
-pub fn each<T: Part>(alloc: Global, trees: &[TextTree]) -> Result<Vec<T>, FormFault>
-    ensures { Reads (λ parts. map T.view parts.items) result (each_of T.part_of (nodes_of trees.now)) }
+pub fn each<T: Part, H: Heap>(heap: H, trees: &[TextTree]) -> Result<Vec<T>, FormFault>
+    ensures { ReadsUnless (H.may_refuse heap) (λ parts. map T.view parts.items) result
+        (each_of T.part_of (nodes_of trees.now)) }
 {
-    let mut parts = Vec::with_capacity(alloc, trees.len())?;
+    let mut parts = heap.with_room(trees.len())?;
     for tree in trees {
-        let part = T::read(alloc, tree)?;
-        parts.push(part)?;
+        let part = T::read(heap, tree)?;
+        heap.push(&mut parts, part)?;
     }
     Ok(parts)
 }
 
 /// The part that each item of a list is; where the tree is no list, it breaks the rule.
-pub fn each_in<T: Part>(alloc: Global, rule: u8, tree: &TextTree) -> Result<Vec<T>, FormFault>
-    ensures { Reads (λ parts. map T.view parts.items) result (list_or rule T.part_of (node_of tree.now)) }
+pub fn each_in<T: Part, H: Heap>(heap: H, rule: u8, tree: &TextTree) -> Result<Vec<T>, FormFault>
+    ensures { ReadsUnless (H.may_refuse heap) (λ parts. map T.view parts.items) result
+        (list_or rule T.part_of (node_of tree.now)) }
 {
     match tree {
         TextTree::Atom { place, text: _ } => Err(FormFault::Form {
             rule,
             place: *place,
         }),
-        TextTree::List { place: _, items } => each(alloc, items),
+        TextTree::List { place: _, items } => each(heap, items),
     }
 }
 

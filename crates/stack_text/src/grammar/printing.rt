@@ -1,12 +1,14 @@
 //! Parts, printed as the items of lists.
 
-ghost use Rattle.std.specs.Prelude.{◌≡◌, ◌++◌, ◌∷◌, map, OnOk};
+ghost use Rattle.std.specs.Prelude.{◌≡◌, ◌++◌, ◌∷◌, map};
+ghost use Rattle.stack_heap.specs.Heaps.{OnOkUnless};
 ghost use Rattle.stack_text.specs.Trees.{Node};
 ghost use Rattle.stack_text.specs.TreeText.{items_text, spaced_text, tree_text};
 ghost use Rattle.stack_text.specs.Seen.TreeView.{nodes};
 
 use crate::printer::separate;
 use crate::{Memory, Named};
+use stack_heap::Heap;
 
 /// What is printed as a tree.
 pub trait Print {
@@ -14,46 +16,52 @@ pub trait Print {
     ghost tree: { Self → Node };
 
     /// Appends the tree's text.
-    fn print(&self, out: &mut Vec<u8>) -> Result<(), Memory>
-        ensures { OnOk result (out.new.items ≡ out.old.items ++ tree_text (tree self.now)) };
+    fn print<H: Heap>(&self, heap: H, out: &mut Vec<u8>) -> Result<(), Memory>
+        ensures { OnOkUnless (H.may_refuse heap) result (out.new.items ≡ out.old.items ++ tree_text (tree self.now)) };
 }
 
 /// Appends the items with one space between.
-pub fn print_items<T: Print>(out: &mut Vec<u8>, items: &[T]) -> Result<(), Memory>
-    ensures { OnOk result (out.new.items ≡ out.old.items ++ items_text (nodes (map T.tree items.now))) }
+pub fn print_items<T: Print, H: Heap>(heap: H, out: &mut Vec<u8>, items: &[T]) -> Result<(), Memory>
+    ensures { OnOkUnless (H.may_refuse heap) result
+        (out.new.items ≡ out.old.items ++ items_text (nodes (map T.tree items.now))) }
 {
     for (index, item) in items.iter().enumerate() {
-        separate(out, index)?;
-        item.print(out)?;
+        separate(heap, out, index)?;
+        item.print(heap, out)?;
     }
     Ok(())
 }
 
 /// Appends the items with a space before each.
-pub fn spaced_items<T: Print>(out: &mut Vec<u8>, items: &[T]) -> Result<(), Memory>
-    ensures { OnOk result (out.new.items ≡ out.old.items ++ spaced_text (nodes (map T.tree items.now))) }
+pub fn spaced_items<T: Print, H: Heap>(
+    heap: H,
+    out: &mut Vec<u8>,
+    items: &[T],
+) -> Result<(), Memory>
+    ensures { OnOkUnless (H.may_refuse heap) result
+        (out.new.items ≡ out.old.items ++ spaced_text (nodes (map T.tree items.now))) }
 {
     for item in items {
-        out.push(b' ')?;
-        item.print(out)?;
+        heap.push(out, b' ')?;
+        item.print(heap, out)?;
     }
     Ok(())
 }
 
 /// Appends a name.
-pub fn print_name(out: &mut Vec<u8>, name: &Named) -> Result<(), Memory>
-    ensures { OnOk result (out.new.items ≡ out.old.items ++ name.now.name) }
+pub fn print_name<H: Heap>(heap: H, out: &mut Vec<u8>, name: &Named) -> Result<(), Memory>
+    ensures { OnOkUnless (H.may_refuse heap) result (out.new.items ≡ out.old.items ++ name.now.name) }
 {
-    out.extend_from_slice(name.name.bytes())?;
+    heap.extend_from_slice(out, name.name.bytes())?;
     Ok(())
 }
 
 /// Appends a space and a name.
-pub fn spaced_name(out: &mut Vec<u8>, name: &Named) -> Result<(), Memory>
-    ensures { OnOk result (out.new.items ≡ out.old.items ++ 32 ∷ name.now.name) }
+pub fn spaced_name<H: Heap>(heap: H, out: &mut Vec<u8>, name: &Named) -> Result<(), Memory>
+    ensures { OnOkUnless (H.may_refuse heap) result (out.new.items ≡ out.old.items ++ 32 ∷ name.now.name) }
 {
-    out.push(b' ')?;
-    print_name(out, name)
+    heap.push(out, b' ')?;
+    print_name(heap, out, name)
 }
 
 impl Print for Named {
@@ -61,7 +69,7 @@ impl Print for Named {
 
     ghost tree = { name_tree };
 
-    fn print(&self, out: &mut Vec<u8>) -> Result<(), Memory> {
-        print_name(out, self)
+    fn print<H: Heap>(&self, heap: H, out: &mut Vec<u8>) -> Result<(), Memory> {
+        print_name(heap, out, self)
     }
 }

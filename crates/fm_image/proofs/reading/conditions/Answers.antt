@@ -1,6 +1,6 @@
 use Rattle.std.proofs.Common.{◌≡◌, ℕ, List, [], ◌∷◌, ◌++◌, Ok, refl, sym, ap, subst, ◌∙◌}
 use Rattle.std.proofs.lemmas.Result.{err_from_is_err_and}
-use Rattle.fm_image.specs.Rules.{Fails}
+use Rattle.fm_image.specs.Rules.{FailsUnless}
 use Rattle.fm_image.specs.Fields.{items_at}
 use Rattle.fm_image.specs.Reading.{new_name_at, conditions_at}
 use Rattle.fm_image.proofs.ItemLaws.{goes_on, ends, is_done}
@@ -8,14 +8,14 @@ use Rattle.fm_image.proofs.reading.conditions.Goals as goal
 
 pub returns-in_err-next : goal.returns-in_err-next
 unfolding conditions_at
-returns-in_err-next c =
+returns-in_err-next g c =
     let p = err_from_is_err_and c.from_residual-in_err-next.result c.from_residual-in_err-next.ensures.1 in
     let whole : conditions_at c.args.most c.args.end c.args.left.now ≡ items_at (new_name_at c.args.end) c.in_ok-count.count [] c.in_ok-count.rest.now = rw c.in_ok-count.ensures refl in
-    let failed = subst (λ (ns : List (List ℕ)). Fails c.in_err-next.field-0.0 (new_name_at c.args.end ns c.loop.rest.now)) c.loop.invariant.known c.in_err-next.ensures.name in
-    rw (p.1, p.2) (ends c.in_err-next.field-0.0 (new_name_at c.args.end) c.loop.conditions.items c.in_ok-count.count c.loop.counter c.loop.rest.now (conditions_at c.args.most c.args.end c.args.left.now) c.loop-test.true failed (c.loop.invariant.read ∙ sym whole))
+    let failed = subst (λ (ns : List (List ℕ)). FailsUnless (g.H.Heap.may_refuse c.args.heap) c.in_err-next.field-0.0 (new_name_at c.args.end ns c.loop.rest.now)) c.loop.invariant.known c.in_err-next.ensures.name in
+    rw (p.1, p.2) (ends (g.H.Heap.may_refuse c.args.heap) c.in_err-next.field-0.0 (new_name_at c.args.end) c.loop.conditions.items c.in_ok-count.count c.loop.counter c.loop.rest.now (conditions_at c.args.most c.args.end c.args.left.now) c.loop-test.true failed (c.loop.invariant.read ∙ sym whole))
 
 pub loop-preserved : goal.loop-preserved
-loop-preserved c =
+loop-preserved g c =
     let done = subst (λ (ns : List (List ℕ)). new_name_at c.args.end ns c.loop.rest.now ≡ Ok (c.in_ok-next.next, c.in_ok-next.after.now)) c.loop.invariant.known c.in_ok-next.ensures.name in
     record {
       read = rw c.in_ok-push.ensures.items (goes_on (new_name_at c.args.end) c.loop.conditions.items c.in_ok-count.count c.loop.counter c.loop.rest.now c.in_ok-next.next c.in_ok-next.after.now (items_at (new_name_at c.args.end) c.in_ok-count.count [] c.in_ok-count.rest.now) c.loop-test.true done c.loop.invariant.read);
@@ -24,6 +24,6 @@ loop-preserved c =
 
 pub returns : goal.returns
 unfolding conditions_at
-returns c =
+returns g c =
     let whole : conditions_at c.args.most c.args.end c.args.left.now ≡ items_at (new_name_at c.args.end) c.in_ok-count.count [] c.in_ok-count.rest.now = rw c.in_ok-count.ensures refl in
     is_done (new_name_at c.args.end) c.loop.conditions.items c.in_ok-count.count c.loop.counter c.loop.rest.now (conditions_at c.args.most c.args.end c.args.left.now) c.loop-test.false (c.loop.invariant.read ∙ sym whole)

@@ -5,7 +5,7 @@ use Rattle.fm_image.proofs.reading.conditions.Given as goal
 
 -- what was read and what is still read are what all reads, and the table has the names of what was read
 abbrev pub invariant-loop : goal.invariant-loop
-invariant-loop l = record {
+invariant-loop g l = record {
   read : items_at (new_name_at l.end) (l.count - l.counter) l.conditions.items l.rest ≡ items_at (new_name_at l.end) l.count [] l.initial.rest;
   known : map (λ key. key.now) l.names.keys ≡ l.conditions.items;
 }

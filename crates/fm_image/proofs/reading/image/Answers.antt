@@ -5,7 +5,7 @@ use Rattle.fm_image.proofs.ImageLaws.{fields_hold}
 use Rattle.fm_image.proofs.reading.image.Goals as goal
 
 pub invariant_of-result : goal.invariant_of-result
-invariant_of-result c =
+invariant_of-result g c =
     let nothing : length c.in_ok-procedures.rest.now ≡ 0 = grind (arith, common_steps, c.if-not-is_empty.ensures, c.if-not-is_empty.false) in
     let named = subst (λ (most : ℕ). conditions_at most c.args.end c.in_ok-condition_address.rest.now ≡ Ok (c.in_ok-conditions.conditions.items, c.in_ok-conditions.rest.now)) c.most_conditions.ensures.exact c.in_ok-conditions.ensures in
     fields_hold c.args.end c.args.left.now (c.in_ok-version.version, c.in_ok-version.rest.now) (c.in_ok-window.window, c.in_ok-window.rest.now) (c.in_ok-registers.registers.items, c.in_ok-registers.rest.now)

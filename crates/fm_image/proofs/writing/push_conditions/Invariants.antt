@@ -5,4 +5,4 @@ use Rattle.fm_image.proofs.writing.push_conditions.Given as goal
 
 -- the bytes so far and those of what is left are those of all
 abbrev pub invariant-loop-name : goal.invariant-loop-name
-invariant-loop-name l = l.bytes.items ++ flat_map name_bytes (drop l.name-index l.conditions) ≡ l.initial.bytes.items ++ flat_map name_bytes l.conditions
+invariant-loop-name g l = l.bytes.items ++ flat_map name_bytes (drop l.name-index l.conditions) ≡ l.initial.bytes.items ++ flat_map name_bytes l.conditions

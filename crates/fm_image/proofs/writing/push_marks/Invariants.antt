@@ -5,4 +5,4 @@ use Rattle.fm_image.proofs.writing.push_marks.Given as goal
 
 -- the bytes so far and those of what is left are those of all
 abbrev pub invariant-loop-mark : goal.invariant-loop-mark
-invariant-loop-mark l = l.bytes.items ++ flat_map mark_bytes (drop l.mark-index l.marks) ≡ l.initial.bytes.items ++ flat_map mark_bytes l.marks
+invariant-loop-mark g l = l.bytes.items ++ flat_map mark_bytes (drop l.mark-index l.marks) ≡ l.initial.bytes.items ++ flat_map mark_bytes l.marks

@@ -2,19 +2,19 @@ use Rattle.fm_image.proofs.LimitLaws.{condition_count, slot_count, word_count, t
 use Rattle.fm_image.proofs.writing.write_image.Goals as goal
 
 pub push_conditions-requires : goal.push_conditions-requires
-push_conditions-requires c = rw c.deref-2.ensures.value (condition_count _ c.image.invariant)
+push_conditions-requires g c = rw c.deref-2.ensures.value (condition_count _ c.image.invariant)
 
 pub push_slots-requires : goal.push_slots-requires
-push_slots-requires c = rw c.deref-3.ensures.value (slot_count _ c.image.invariant)
+push_slots-requires g c = rw c.deref-3.ensures.value (slot_count _ c.image.invariant)
 
 pub push_words-requires : goal.push_words-requires
-push_words-requires c = rw c.deref-4.ensures.value (word_count _ c.image.invariant)
+push_words-requires g c = rw c.deref-4.ensures.value (word_count _ c.image.invariant)
 
 pub push_tables-requires-clause-procedures : goal.push_tables-requires-clause-procedures
-push_tables-requires-clause-procedures c = rw c.deref-5.ensures.value (tables_small _ c.image.invariant).procedures
+push_tables-requires-clause-procedures g c = rw c.deref-5.ensures.value (tables_small _ c.image.invariant).procedures
 
 pub push_tables-requires-clause-small : goal.push_tables-requires-clause-small
-push_tables-requires-clause-small c = rw c.deref-5.ensures.value (tables_small _ c.image.invariant).small
+push_tables-requires-clause-small g c = rw c.deref-5.ensures.value (tables_small _ c.image.invariant).small
 
 pub push_tables-requires-clause-marks : goal.push_tables-requires-clause-marks
-push_tables-requires-clause-marks c = rw c.deref-6.ensures.value (tables_small _ c.image.invariant).marks
+push_tables-requires-clause-marks g c = rw c.deref-6.ensures.value (tables_small _ c.image.invariant).marks

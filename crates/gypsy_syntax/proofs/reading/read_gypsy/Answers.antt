@@ -6,17 +6,17 @@ use Rattle.gypsy_syntax.proofs.KeepsLaws.{read_keeps}
 use Rattle.gypsy_syntax.proofs.reading.read_gypsy.Goals as goal
 
 pub returns-in_err-tree : goal.returns-in_err-tree
-returns-in_err-tree c =
+returns-in_err-tree g c =
     let p = err_from_is_err_and c.from_residual.result c.from_residual.ensures.1 in
-    record { value = rw (p.1, p.2) (text_at_fault c.in_err-tree.field-0.0 c.args.text.now c.in_err-tree.ensures.value); keeps = rw p.1 tt }
+    record { value = rw (p.1, p.2) (text_at_fault (g.H.Heap.may_refuse c.args.heap) c.in_err-tree.field-0.0 c.args.text.now c.in_err-tree.ensures.value); keeps = rw p.1 tt }
 
 pub returns-in_err-source : goal.returns-in_err-source
-returns-in_err-source c =
+returns-in_err-source g c =
     let p = err_from_is_err_and c.from_residual-in_err-source.result c.from_residual-in_err-source.ensures.1 in
     record {
-      value = rw (p.1, p.2) (tree_at_fault c.in_err-source.field-0.0 c.args.text.now (node_of c.in_ok-tree.tree) c.in_ok-tree.ensures.value c.in_ok-tree.ensures.order c.in_err-source.ensures);
+      value = rw (p.1, p.2) (tree_at_fault (g.H.Heap.may_refuse c.args.heap) c.in_err-source.field-0.0 c.args.text.now (node_of c.in_ok-tree.tree) c.in_ok-tree.ensures.value c.in_ok-tree.ensures.order c.in_err-source.ensures);
       keeps = rw p.1 tt;
     }
 
 pub returns-clause-keeps : goal.returns-clause-keeps
-returns-clause-keeps c = read_keeps (node_of c.in_ok-tree.tree) (source_of c.in_ok-source.source) c.in_ok-source.ensures c.in_ok-tree.ensures.well_formed
+returns-clause-keeps g c = read_keeps (node_of c.in_ok-tree.tree) (source_of c.in_ok-source.source) c.in_ok-source.ensures c.in_ok-tree.ensures.well_formed

@@ -1,10 +1,20 @@
-use Rattle.std.proofs.Common.{rules, ◌<◌, ◌-◌, arith, refl}
+use Rattle.std.proofs.Common.{rules, ◌<◌, ◌-◌, arith, refl, length}
+use Rattle.std.proofs.lemmas.Result.{err_from_is_err_and}
+use Rattle.stack_text.specs.Scaffold.OpenLists.{opened}
+use Rattle.stack_text.proofs.HeapLaws.{refuses_less, few_items}
 use Rattle.std.specs.Prelude.{vec_len}
 use Rattle.stack_text.proofs.OpenListLaws.{puts_in_place}
 use Rattle.stack_text.proofs.reader.put.Goals as goal
 
-pub returns-in_ok-push-in-Some : goal.returns-in_ok-push-in-Some
-returns-in_ok-push-in-Some c =
+pub returns-in_ok-push-in-Some-clause-value : goal.returns-in_ok-push-in-Some-clause-value
+returns-in_ok-push-in-Some-clause-value g c =
     let nonempty : 0 < vec_len c.args.stack.now = search rules in
-    puts_in_place c.args.stack.now.items (vec_len c.args.stack.now - 1) c.in-Some.innermost.now (record { place = c.in-Some.innermost.now.place; items = c.push.new.self }) c.args.tree
+    puts_in_place c.args.stack.now.items (vec_len c.args.stack.now - 1) c.in-Some.innermost.now (record { place = c.in-Some.innermost.now.place; items = c.push.new.items }) c.args.tree
     (omega (arith, nonempty)) c.in-Some.ensures.value refl c.in_ok-push-in-Some.ensures.items
+
+pub returns-in_err-push-in-Some-clause-room : goal.returns-in_err-push-in-Some-clause-room
+returns-in_err-push-in-Some-clause-room g c =
+    let nonempty : 0 < vec_len c.args.stack.now = search rules in
+    let p = err_from_is_err_and c.from_residual.result c.from_residual.ensures.1 in
+    rw p.1 (λ _. refuses_less (g.H.Heap.may_refuse_room c.args.heap) (length c.in-Some.innermost.now.items.items) (length (opened c.args.stack.now.items))
+    (few_items c.args.stack.now.items (vec_len c.args.stack.now - 1) c.in-Some.innermost.now (omega (arith, nonempty)) c.in-Some.ensures.value) c.in_err-push-in-Some.ensures.room)

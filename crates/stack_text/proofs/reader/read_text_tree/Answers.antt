@@ -7,10 +7,10 @@ use Rattle.stack_text.specs.Seen.TreeView.{node_of}
 use Rattle.stack_text.proofs.reader.read_text_tree.Goals as goal
 
 pub returns-clause-value : goal.returns-clause-value
-returns-clause-value c = gives_tree node_of c.args.text.now c.read.result c.read.ensures
+returns-clause-value g c = gives_tree (g.H.Heap.may_refuse c.args.heap) node_of c.args.text.now c.read.result c.read.ensures.value
 
 pub returns-clause-well_formed : goal.returns-clause-well_formed
-returns-clause-well_formed c = is_kept node_of c.args.text.now IsWellFormed c.read.result c.read.ensures (text_is_well_formed c.args.text.now c.requires)
+returns-clause-well_formed g c = is_kept node_of c.args.text.now (g.H.Heap.may_refuse c.args.heap) IsWellFormed c.read.result c.read.ensures.value (text_is_well_formed c.args.text.now c.requires)
 
 pub returns-clause-order : goal.returns-clause-order
-returns-clause-order c = is_kept node_of c.args.text.now IsInOrder c.read.result c.read.ensures (text_is_in_order c.args.text.now)
+returns-clause-order g c = is_kept node_of c.args.text.now (g.H.Heap.may_refuse c.args.heap) IsInOrder c.read.result c.read.ensures.value (text_is_in_order c.args.text.now)

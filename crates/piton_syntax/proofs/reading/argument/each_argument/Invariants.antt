@@ -8,7 +8,7 @@ use Rattle.piton_syntax.proofs.reading.argument.each_argument.Given as goal
 
 -- the arguments so far, and those that are left, are those of all trees
 abbrev pub invariant-loop-tree : goal.invariant-loop-tree
-invariant-loop-tree l = record {
+invariant-loop-tree g l = record {
   so_far : with_front l.arguments.items (each_of (argument_of l.kind) (nodes_of (drop l.tree-index l.trees))) ≡ each_of (argument_of l.kind) (nodes_of l.trees);
   kinds : IsTrue (are_of_kind l.kind (nodes_of (drop l.tree-index l.trees)));
 }

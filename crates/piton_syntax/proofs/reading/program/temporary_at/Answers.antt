@@ -8,19 +8,19 @@ use Rattle.stack_text.proofs.TreeListLaws.{two_parts}
 use Rattle.piton_syntax.proofs.reading.program.temporary_at.Goals as goal
 
 pub returns-then-items-ne2 : goal.returns-then-items-ne2
-returns-then-items-ne2 c = rw (c.into.ensures, c.no_program.ensures) ([], not_two_of_temporary c.args.place c.args.items.now c.if-items-ne2.true)
+returns-then-items-ne2 g c = rw (c.into.ensures, c.no_program.ensures) ([], not_two_of_temporary c.args.place c.args.items.now c.if-items-ne2.true)
 
 pub returns-in_err-name : goal.returns-in_err-name
-returns-in_err-name c =
+returns-in_err-name g c =
     let p = err_from_is_err_and c.from_residual.result c.from_residual.ensures.1 in
     rw (p.1, p.2, two_parts c.args.items.now c.index-items-0.result c.index-items-1.result c.if-items-ne2.false c.index-items-0.is c.index-items-1.is)
-    (first_of_2 c.in_err-name.field-0.0 pair (named_of (node_of c.index-items-0.result)) (word_of (node_of c.index-items-1.result)) c.in_err-name.ensures)
+    (first_of_2 (g.H.Heap.may_refuse c.args.heap) c.in_err-name.field-0.0 pair (named_of (node_of c.index-items-0.result)) (word_of (node_of c.index-items-1.result)) c.in_err-name.ensures)
 
 pub returns-in_err-word : goal.returns-in_err-word
-returns-in_err-word c =
+returns-in_err-word g c =
     let p = err_from_is_err_and c.from_residual-in_err-word.result c.from_residual-in_err-word.ensures.1 in
     rw (p.1, p.2, two_parts c.args.items.now c.index-items-0.result c.index-items-1.result c.if-items-ne2.false c.index-items-0.is c.index-items-1.is, c.in_ok-name.ensures)
-    (first_of_value c.in_err-word.field-0.0 (pair c.in_ok-name.name) (word_of (node_of c.index-items-1.result)) c.in_err-word.ensures)
+    (first_of_value (g.H.Heap.may_refuse c.args.heap) c.in_err-word.field-0.0 (pair c.in_ok-name.name) (word_of (node_of c.index-items-1.result)) c.in_err-word.ensures)
 
 pub returns : goal.returns
-returns c = rw (two_parts c.args.items.now c.index-items-0.result c.index-items-1.result c.if-items-ne2.false c.index-items-0.is c.index-items-1.is, c.in_ok-name.ensures, c.in_ok-word.ensures) refl
+returns g c = rw (two_parts c.args.items.now c.index-items-0.result c.index-items-1.result c.if-items-ne2.false c.index-items-0.is c.index-items-1.is, c.in_ok-name.ensures, c.in_ok-word.ensures) refl

@@ -7,5 +7,5 @@ use Rattle.stack_text.proofs.grammar.name.each_name.Given as goal
 
 -- the names so far, and those that are left, are those of all trees
 abbrev pub invariant-loop-tree : goal.invariant-loop-tree
-invariant-loop-tree l =
+invariant-loop-tree g l =
     with_front l.names.items (each_of (name_or l.rule) (nodes_of (drop l.tree-index l.trees))) ≡ each_of (name_or l.rule) (nodes_of l.trees)

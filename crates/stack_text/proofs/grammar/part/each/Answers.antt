@@ -8,7 +8,7 @@ pub returns-in_err-part : goal.returns-in_err-part
 returns-in_err-part g c =
     let p = err_from_is_err_and c.from_residual-in_err-part.result c.from_residual-in_err-part.ensures.1 in
     rw (p.1, p.2)
-    (part_fails g.T.Part.part_of (map g.T.Part.view c.loop-tree.parts.items) c.loop-tree.tree-index c.args.trees.now c.loop-tree.invariant c.in_err-part.field-0.0 c.tree-item.result c.loop-tree-test.true c.tree-item.is c.in_err-part.ensures)
+    (part_fails g.T.Part.part_of (map g.T.Part.view c.loop-tree.parts.items) c.loop-tree.tree-index c.args.trees.now c.loop-tree.invariant (g.H.Heap.may_refuse c.args.heap) c.in_err-part.field-0.0 c.tree-item.result c.loop-tree-test.true c.tree-item.is c.in_err-part.ensures)
 
 pub loop-tree-preserved : goal.loop-tree-preserved
 loop-tree-preserved g c =
