@@ -1,8 +1,10 @@
 -- What was noted, and then more.
 use Rattle.std.proofs.Common.{◌≡◌, ℕ, zero, suc, ◌+◌, ◌<◌, ◌≤◌, List, [], ◌∷◌, ◌++◌, map, length, drop, get_or}
-use Rattle.std.proofs.Common.{Option, None, Bool, true, false, not, ◌||◌, if◌then◌else◌, refl, ap, ap₂, sym, ◌∙◌, append_assoc}
+use Rattle.std.proofs.Common.{take, Option, None, Bool, true, false, not, ◌==◌, ◌≢◌, ◌⊎◌, inl, inr, ◌||◌, if◌then◌else◌, refl, ap, ap₂, sym, ◌∙◌, append_assoc}
 use Rattle.std.specs.List.{flat_map, list_any}
-use Rattle.std.proofs.lemmas.List.{drop_more, drop_all}
+use Rattle.std.proofs.lemmas.Bool.{eq-eqb}
+use Rattle.std.proofs.lemmas.Bool.Decides.{eqb_tells}
+use Rattle.std.proofs.lemmas.List.{drop_more, drop_all, length-map, take_more}
 use Rattle.stack_text.specs.declared.breach.Breach.{Breach}
 use Rattle.stack_text.specs.declared.name.Named.{Named}
 use Rattle.stack_text.specs.declared.shape.Kind.{Kind}
@@ -22,7 +24,7 @@ use Rattle.gypsy_syntax.proofs.ViewLaws.{literal_of-list, stmt_of-seq}
 use Rattle.gypsy_check.specs.Declarations.{type_of}
 use Rattle.gypsy_check.specs.Types.{same_type}
 use Rattle.gypsy_check.specs.Arguments.{kind_of, is_wanted, settled_by, is_undeclared}
-use Rattle.gypsy_check.specs.Rules.{literal_breaches, items_breaches, is_of_type, actuals_breaches, slots_breaches, argument_breaches, statement_breaches, parts_breaches, declared_breaches}
+use Rattle.gypsy_check.specs.Rules.{literal_breaches, items_breaches, is_of_type, actuals_breaches, slots_breaches, argument_breaches, statement_breaches, parts_breaches, declared_breaches, predef_breaches}
 
 -- the least with these
 abbrev pub noted : Option Breach → List Breach → Option Breach
@@ -48,6 +50,14 @@ items_each (l ∷ ls) = ap (λ vs. literal_breaches (literal_of l) ++ vs) (items
 
 pub list_each : (place : ℕ) (items : _) → literal_breaches (literal_of (Rattle.gypsy_syntax.specs.declared.literal.Literal.TheVariants.List place items)) ≡ flat_map literal_breaks items.items
 list_each place items = ap literal_breaches (literal_of-list place items) ∙ items_each items.items
+
+or_false : (b : Bool) → (b || false) ≡ b
+or_false true = refl
+or_false false = refl
+
+or_assoc : (a b c : Bool) → (a || (b || c)) ≡ ((a || b) || c)
+or_assoc true b c = refl
+or_assoc false b c = refl
 
 abbrev pub types_from : List Decl → ℕ → List TypeText
 types_from fs i = map (λ (d : Decl). d.shape) (drop i fs)
@@ -110,6 +120,21 @@ pub any_args : (p : ProcOf) (args : List Arg) → list_any (is_undeclared p) (ma
 any_args p [] = refl
 any_args p (a ∷ args) = ap (λ b. is_undeclared p (arg_of a) || b) (any_args p args)
 
+-- the arguments are as many as the slots, or not
+pub right_number : (p : ProcOf) (place : ℕ) (slots : List Slot) (args : List Arg) → length args ≡ length slots → predef_breaches p place slots (map arg_of args) ≡ flat_map (λ a. argument_breaches p (arg_of a)) args ++ declared_breaches p slots (map arg_of args)
+right_number p place slots args same =
+    ap₂ (λ alone b. alone ++ (if b then declared_breaches p slots (map arg_of args) else when true place 22)) (flat_args p args)
+    (ap (λ n. n == length slots) (length-map args arg_of) ∙ eq-eqb (length args) (length slots) same)
+
+pub wrong_number : (p : ProcOf) (place : ℕ) (slots : List Slot) (args : List Arg) → (length args ≡ length slots → ⊥) → predef_breaches p place slots (map arg_of args) ≡ flat_map (λ a. argument_breaches p (arg_of a)) args ++ when true place 22
+wrong_number p place slots args other =
+    ap₂ (λ alone b. alone ++ (if b then declared_breaches p slots (map arg_of args) else when true place 22)) (flat_args p args)
+    (ap (λ n. n == length slots) (length-map args arg_of) ∙ not_equal (eqb_tells (length args) (length slots)))
+  where
+    not_equal : (((length args == length slots) ≡ true) × (length args ≡ length slots)) ⊎ (((length args == length slots) ≡ false) × (length args ≢ length slots)) → (length args == length slots) ≡ false
+    not_equal (inl (yes_equal, same)) = absurd (other same)
+    not_equal (inr (unequal, _)) = unequal
+
 pub flat_append : {X : Type 0} (f : X → List Breach) (xs ys : List X) → flat_map f (xs ++ ys) ≡ flat_map f xs ++ flat_map f ys
 flat_append f [] ys = refl
 flat_append f (x ∷ xs) ys = ap (λ vs. f x ++ vs) (flat_append f xs ys) ∙ sym (append_assoc (f x) (flat_map f xs) (flat_map f ys))
@@ -124,6 +149,16 @@ lacking p slots args h = ap (λ b. if b then [] else slots_breaches p None slots
 
 pub all_declared_here : (p : ProcOf) (slots : List Slot) (args : List Arg) → list_any (λ a. is_undeclared p (arg_of a)) args ≡ false → declared_breaches p slots (map arg_of args) ≡ slots_breaches p None slots (map arg_of args)
 all_declared_here p slots args h = ap (λ b. if b then [] else slots_breaches p None slots (map arg_of args)) (any_args p args ∙ h)
+
+any_push : {X : Type 0} (f : X → Bool) (xs : List X) (x : X) → list_any f (xs ++ x ∷ []) ≡ (list_any f xs || f x)
+any_push f [] x = or_false (f x)
+any_push f (y ∷ xs) x = ap (λ b. f y || b) (any_push f xs x) ∙ or_assoc (f y) (list_any f xs) (f x)
+
+-- whether one of those so far does, and one more
+pub any_next : {X : Type 0} (f : X → Bool) (xs : List X) (i : ℕ) (x : X) (before more after : Bool) → i < length xs → x ≡ get_or xs i x → before ≡ list_any f (take i xs) → more ≡ f x → after ≡ (before || more) → after ≡ list_any f (take (i + 1) xs)
+any_next f xs i x before more after lt is before_is more_is after_is =
+    after_is ∙ ap₂ (λ b m. b || m) before_is more_is ∙
+    sym (ap (list_any f) (take_more xs i x lt ∙ ap (λ u. take i xs ++ u ∷ []) (sym is)) ∙ any_push f (take i xs) x)
 
 pub names_over : (ps : List Proc) → map (λ (p : Proc). p.name) ps ≡ map (λ (p : ProcOf). p.name) (map proc_of ps)
 names_over [] = refl

@@ -1,5 +1,5 @@
 -- Variables by their names, one after the other.
-use Rattle.std.proofs.Common.{◌≡◌, ℕ, ◌+◌, List, [], ◌∷◌, ◌++◌, map, find, Option, Some, Bool, true, false, cond, ◌||◌, is_some, option_map, bytes_eq, refl, sym, ap, ◌∙◌}
+use Rattle.std.proofs.Common.{◌≡◌, ℕ, List, [], ◌∷◌, ◌++◌, map, find, Option, Some, Bool, true, false, cond, ◌||◌, is_some, option_map, bytes_eq, refl, sym, ap, ◌∙◌}
 use Rattle.std.specs.List.{list_any}
 use Rattle.std.proofs.lemmas.List.{map_push}
 use Rattle.stack_text.specs.declared.breach.Breach.{Breach}

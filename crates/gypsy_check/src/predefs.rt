@@ -1,13 +1,13 @@
 //! Calls of predefined procedures.
 
-ghost use Rattle.std.specs.Prelude.{◌≡◌, ◌<◌, None, get_or, length, map};
-ghost use Rattle.std.specs.List.{flat_map, list_any};
-ghost use Rattle.stack_text.specs.Breaches.{Notes};
+ghost use Rattle.std.specs.Prelude.{◌≡◌, ◌<◌, ◌++◌, true, get_or, length, map};
+ghost use Rattle.std.specs.List.{flat_map};
+ghost use Rattle.stack_text.specs.Breaches.{Notes, lesser_of, when};
 ghost use Rattle.gypsy_syntax.specs.Predefined.{slots_of};
 ghost use Rattle.gypsy_syntax.specs.Sources.{arg_place};
 ghost use Rattle.gypsy_syntax.specs.Seen.SourceView.{arg_of, literal_of, proc_of};
 ghost use Rattle.gypsy_check.specs.Arguments.{is_undeclared, is_wanted, kind_of, kind_of_literal, kind_of_type, settled_by};
-ghost use Rattle.gypsy_check.specs.Rules.{argument_breaches, declared_breaches, number_breaches, predef_breaches, slots_breaches};
+ghost use Rattle.gypsy_check.specs.Rules.{argument_breaches, declared_breaches, predef_breaches};
 
 use crate::literals::{check_literal, literal_kind, literal_place};
 use crate::scope::Scope;
@@ -47,16 +47,6 @@ fn kind_of_literal(form: Form, literal: &Literal) -> Option<Kind>
         Form::Simple => None,
         Form::Array => None,
         Form::Literal => literal_kind(literal),
-    }
-}
-
-/// The kind of an argument, where it has the form.
-fn kind_of(scope: &Scope, form: Form, arg: &Arg) -> Option<Kind>
-    ensures { result ≡ kind_of (proc_of scope.now) form (arg_of arg.now) }
-{
-    match arg {
-        Arg::Variable(name) => kind_of_type(form, scope.type_of(&name.name)),
-        Arg::Constant(literal) => kind_of_literal(form, literal),
     }
 }
 
@@ -118,21 +108,29 @@ fn check_arguments(best: &mut Option<Breach>, scope: &Scope, args: &[Arg])
     }
 }
 
-/// Whether the argument is a variable that isn't declared.
-fn is_undeclared(scope: &Scope, arg: &Arg) -> bool
-    ensures { result ≡ is_undeclared (proc_of scope.now) (arg_of arg.now) }
+/// Notes the same of one argument, and tells its kind, where it has the form, and whether it is a variable that isn't
+/// declared.
+fn judge_argument(
+    best: &mut Option<Breach>,
+    scope: &Scope,
+    form: Form,
+    arg: &Arg,
+) -> (Option<Kind>, bool)
+    ensures kind { result.0 ≡ kind_of (proc_of scope.now) form (arg_of arg.now) }
+    ensures undeclared { result.1 ≡ is_undeclared (proc_of scope.now) (arg_of arg.now) }
+    ensures noted { Notes best.old (argument_breaches (proc_of scope.now) (arg_of arg.now)) best.new }
 {
     match arg {
-        Arg::Variable(name) => scope.type_of(&name.name).is_none(),
-        Arg::Constant(_) => false,
+        Arg::Variable(name) => {
+            let shape = scope.type_of(&name.name);
+            note_if(best, shape.is_none(), name.place, 14);
+            (kind_of_type(form, shape), shape.is_none())
+        }
+        Arg::Constant(literal) => {
+            check_literal(best, literal);
+            (kind_of_literal(form, literal), false)
+        }
     }
-}
-
-/// Whether one of the arguments is such a variable.
-fn lacks_declaration(scope: &Scope, args: &[Arg]) -> bool
-    ensures { result ≡ list_any (λ a. is_undeclared (proc_of scope.now) (arg_of a)) args.now }
-{
-    args.iter().any(|arg| is_undeclared(scope, arg))
 }
 
 /// The slot at an index.
@@ -144,42 +142,47 @@ fn slot_at(slots: &[Slot], index: usize) -> Slot
     slots[index]
 }
 
-/// Notes each argument that isn't what its slot wants.
+/// Notes the breach, if there is one.
+fn note_found(best: &mut Option<Breach>, found: Option<Breach>)
+    ensures { best.new ≡ lesser_of best.old found }
+{
+    if let Some(breach) = found {
+        note_if(best, true, breach.place, breach.rule);
+    }
+}
+
+/// Notes the breaches of each argument by itself, and where each name among them is declared, each argument that isn't what
+/// its slot wants. A name is sought once.
 fn check_slots(best: &mut Option<Breach>, scope: &Scope, slots: &[Slot], args: &[Arg])
     requires { length args.now ≡ length slots.now }
-    ensures { Notes best.old (slots_breaches (proc_of scope.now) None slots.now (map arg_of args.now)) best.new }
+    ensures { let p = proc_of scope.now in
+        let alone = flat_map (λ a. argument_breaches p (arg_of a)) args.now in
+        Notes best.old (alone ++ declared_breaches p slots.now (map arg_of args.now)) best.new }
 {
+    let mut unwanted = None;
     let mut settled = None;
+    let mut lacks_declaration = false;
     for (index, arg) in args.iter().enumerate() {
         let slot = slot_at(slots, index);
-        let kind = kind_of(scope, slot.form, arg);
+        let (kind, is_undeclared) = judge_argument(best, scope, slot.form, arg);
+        lacks_declaration |= is_undeclared;
         let wanted = is_wanted(settled, slot.kind, kind);
         let place = arg_place(arg);
-        note_if(best, !wanted, place, 23);
+        note_if(&mut unwanted, !wanted, place, 23);
         settled = settled_by(settled, slot.kind, kind);
     }
+    if !lacks_declaration {
+        note_found(best, unwanted);
+    }
 }
 
-/// The same where each name among the arguments is declared.
-fn check_slots_if_declared(best: &mut Option<Breach>, scope: &Scope, slots: &[Slot], args: &[Arg])
-    requires { length args.now ≡ length slots.now }
-    ensures { Notes best.old (declared_breaches (proc_of scope.now) slots.now (map arg_of args.now)) best.new }
+/// Notes the breaches of each argument by itself, and that their number is wrong.
+fn check_wrong_number(best: &mut Option<Breach>, scope: &Scope, place: u32, args: &[Arg])
+    ensures { let alone = flat_map (λ a. argument_breaches (proc_of scope.now) (arg_of a)) args.now in
+        Notes best.old (alone ++ when true place 22) best.new }
 {
-    if lacks_declaration(scope, args) {
-        return;
-    }
-    check_slots(best, scope, slots, args);
-}
-
-/// Notes a wrong number of arguments, or else each that isn't what its slot wants.
-fn check_number(best: &mut Option<Breach>, scope: &Scope, place: u32, slots: &[Slot], args: &[Arg])
-    ensures { Notes best.old (number_breaches (proc_of scope.now) place slots.now (map arg_of args.now)) best.new }
-{
-    if args.len() == slots.len() {
-        check_slots_if_declared(best, scope, slots, args);
-    } else {
-        note_if(best, true, place, 22);
-    }
+    check_arguments(best, scope, args);
+    note_if(best, true, place, 22);
 }
 
 /// Notes the breaches of a predefined call.
@@ -193,6 +196,10 @@ pub(crate) fn check_predef(
     ensures { let breaches = predef_breaches (proc_of scope.now) place (slots_of which) (map arg_of args.now) in
         Notes best.old breaches best.new }
 {
-    check_arguments(best, scope, args);
-    check_number(best, scope, place, slots_of(which), args);
+    let slots = slots_of(which);
+    if args.len() == slots.len() {
+        check_slots(best, scope, slots, args);
+    } else {
+        check_wrong_number(best, scope, place, args);
+    }
 }

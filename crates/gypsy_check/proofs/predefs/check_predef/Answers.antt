@@ -1,18 +1,19 @@
 use Rattle.std.proofs.Common.{◌∙◌, map, ap, sym}
-use Rattle.std.specs.List.{flat_map}
-use Rattle.stack_text.proofs.BreachLaws.{notes_more}
-use Rattle.gypsy_syntax.specs.Predefined.{slots_of}
 use Rattle.gypsy_syntax.specs.Seen.SourceView.{arg_of, proc_of}
-use Rattle.gypsy_check.specs.Rules.{argument_breaches, number_breaches}
-use Rattle.gypsy_check.proofs.NoteLaws.{noted, flat_args}
+use Rattle.gypsy_check.specs.Rules.{predef_breaches}
+use Rattle.gypsy_check.proofs.NoteLaws.{noted, right_number, wrong_number}
 use Rattle.gypsy_check.proofs.predefs.check_predef.Goals as goal
 
-pub returns : goal.returns
-returns c =
+pub returns-then-args-slots : goal.returns-then-args-slots
+returns-then-args-slots c =
     let p = proc_of c.args.scope.now in
-    let f0 = c.args.best.now in
-    let f1 = c.check_arguments.new.best in
-    let args = map arg_of c.args.args.now in
-    notes_more f0 f1 c.check_number.new.best (flat_map (argument_breaches p) args) (number_breaches p c.args.place (slots_of c.args.which) args)
-    (c.check_arguments.ensures ∙ ap (noted f0) (sym (flat_args p c.args.args.now)))
-    (c.check_number.ensures ∙ ap (λ slots. noted f1 (number_breaches p c.args.place slots args)) c.slots_of.ensures)
+    c.check_slots.ensures
+    ∙ ap (noted c.args.best.now) (sym (right_number p c.args.place c.slots_of-slots.result.now c.args.args.now c.if-args-slots.true))
+    ∙ ap (λ slots. noted c.args.best.now (predef_breaches p c.args.place slots (map arg_of c.args.args.now))) c.slots_of-slots.ensures
+
+pub returns-else-args-slots : goal.returns-else-args-slots
+returns-else-args-slots c =
+    let p = proc_of c.args.scope.now in
+    c.check_wrong_number.ensures
+    ∙ ap (noted c.args.best.now) (sym (wrong_number p c.args.place c.slots_of-slots.result.now c.args.args.now c.if-args-slots.false))
+    ∙ ap (λ slots. noted c.args.best.now (predef_breaches p c.args.place slots (map arg_of c.args.args.now))) c.slots_of-slots.ensures

@@ -1,10 +1,17 @@
-use Rattle.std.proofs.Common.{◌≡◌, None, map, drop}
+use Rattle.std.proofs.Common.{◌≡◌, None, map, take, drop}
+use Rattle.std.specs.List.{flat_map, list_any}
+use Rattle.stack_text.specs.Breaches.{Notes}
+use Rattle.gypsy_syntax.specs.declared.statement.Arg.{Arg}
 use Rattle.gypsy_syntax.specs.Seen.SourceView.{arg_of, proc_of}
-use Rattle.gypsy_check.specs.Rules.{slots_breaches}
+use Rattle.gypsy_check.specs.Arguments.{is_undeclared}
+use Rattle.gypsy_check.specs.Rules.{argument_breaches, slots_breaches}
 use Rattle.gypsy_check.proofs.NoteLaws.{noted}
 use Rattle.gypsy_check.proofs.predefs.check_slots.Given as goal
 
+-- those so far are noted; what is left of the slots; whether one of those so far isn't declared
 abbrev pub invariant-loop-index : goal.invariant-loop-index
 invariant-loop-index l =
-    noted l.best (slots_breaches (proc_of l.scope) l.settled (drop l.index l.slots) (map arg_of (drop l.index l.args))) ≡
-    noted l.fn.best (slots_breaches (proc_of l.scope) None l.slots (map arg_of l.args))
+    Notes l.fn.best (flat_map (λ (a : Arg). argument_breaches (proc_of l.scope) (arg_of a)) (take l.index l.args)) l.best
+    × (noted l.unwanted (slots_breaches (proc_of l.scope) l.settled (drop l.index l.slots) (map arg_of (drop l.index l.args))) ≡
+    noted None (slots_breaches (proc_of l.scope) None l.slots (map arg_of l.args)))
+    × (l.lacks_declaration ≡ list_any (λ (a : Arg). is_undeclared (proc_of l.scope) (arg_of a)) (take l.index l.args))
