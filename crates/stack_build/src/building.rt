@@ -11,7 +11,7 @@ use crate::imaging::image;
 use fm_image::{Image, write_image};
 use gypsy_check::{Accepted, check};
 use gypsy_codegen::generate_with;
-use gypsy_space::{needs_with, resolve};
+use gypsy_space::{Program, needs_with, resolve};
 use gypsy_syntax::read_gypsy;
 use piton_check::Checked;
 use std::alloc::Global;
@@ -67,6 +67,42 @@ pub fn accept(alloc: Global, text: &[u8]) -> Result<Accepted, BuildFault>
     Ok(check(alloc, source)?)
 }
 
+/// What an image was made of: the accepted source, and its program.
+///
+/// Their memory is given back node by node. A caller whose process ends next can forget them.
+#[derive(Drop)]
+pub struct Origins {
+    accepted: Accepted,
+    program: Program,
+}
+
+/// What is built of an accepted source, and the source's program.
+fn build_program(
+    alloc: Global,
+    accepted: &Accepted,
+    ctrl: u32,
+    temp: u32,
+    base: u32,
+) -> Result<(Built, Program), BuildFault>
+    requires { base ≤ 2 ^ 31 }
+    ensures value { GivesBuilt (λ made. made.0) result
+        (source_built (source_of accepted.now) (stack_sizes ctrl temp) base) }
+    ensures implements { IfOk result (λ made. Builds (source_of accepted.now) (stack_sizes ctrl temp) made.0) }
+    ensures accepted { IfOk result (λ _. IsAccepted (source_of accepted.now)) }
+{
+    let program = resolve(alloc, accepted)?;
+    let needs = needs_with(alloc, accepted, &program)?;
+    let piton = generate_with(alloc, accepted, &program, &needs, ctrl, temp, base)?;
+    let image = image(alloc, accepted, &program, &needs, &piton)?;
+    let bytes = write_image(alloc, &image)?;
+    let built = Built {
+        piton,
+        image,
+        bytes,
+    };
+    Ok((built, program))
+}
+
 /// What `build` builds of an accepted source.
 ///
 /// # Errors
@@ -85,16 +121,8 @@ pub fn build_accepted(
     ensures implements { IfOk result (Builds (source_of accepted.now) (stack_sizes ctrl temp)) }
     ensures accepted { IfOk result (λ _. IsAccepted (source_of accepted.now)) }
 {
-    let program = resolve(alloc, accepted)?;
-    let needs = needs_with(alloc, accepted, &program)?;
-    let piton = generate_with(alloc, accepted, &program, &needs, ctrl, temp, base)?;
-    let image = image(alloc, accepted, &program, &needs, &piton)?;
-    let bytes = write_image(alloc, &image)?;
-    Ok(Built {
-        piton,
-        image,
-        bytes,
-    })
+    let (built, _program) = build_program(alloc, accepted, ctrl, temp, base)?;
+    Ok(built)
 }
 
 /// The Piton system of the source in a text, for a control stack of `ctrl` words, a temporary stack of `temp` words, and a
@@ -123,6 +151,28 @@ pub fn compile(
     Ok(generate_with(alloc, &accepted, &program, &needs, ctrl, temp, base)?)
 }
 
+/// Builds the image of a source, as `build` does, and keeps what it was made of.
+///
+/// # Errors
+///
+/// Those of `build`.
+pub fn build_with_origins(
+    alloc: Global,
+    text: &[u8],
+    ctrl: u32,
+    temp: u32,
+    base: u32,
+) -> Result<(Built, Origins), BuildFault>
+    requires text { length text.now ≤ 2 ^ 31 }
+    requires base { base ≤ 2 ^ 31 }
+    ensures value { GivesBuilt (λ made. made.0) result (built text.now ctrl temp base) }
+    ensures implements { IfOk result (λ made. BuildsText text.now ctrl temp made.0) }
+{
+    let accepted = accept(alloc, text)?;
+    let (built, program) = build_program(alloc, &accepted, ctrl, temp, base)?;
+    Ok((built, Origins { accepted, program }))
+}
+
 /// Builds the image of a source, for a control stack of `ctrl` words, a temporary stack of `temp` words, and a window
 /// that begins at `base`.
 ///
@@ -147,6 +197,6 @@ pub fn build(
     // The image does what the source means, and its file can be read again.
     ensures implements { IfOk result (BuildsText text.now ctrl temp) }
 {
-    let accepted = accept(alloc, text)?;
-    build_accepted(alloc, &accepted, ctrl, temp, base)
+    let (built, _origins) = build_with_origins(alloc, text, ctrl, temp, base)?;
+    Ok(built)
 }

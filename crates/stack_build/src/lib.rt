@@ -17,7 +17,7 @@ mod start_fault;
 mod tables;
 mod value_words;
 
-pub use building::{Built, accept, build, build_accepted, compile};
+pub use building::{Built, Origins, accept, build, build_accepted, build_with_origins, compile};
 pub use built_starts::{ImageStart, SystemStart, start_image, start_system};
 pub use fault::BuildFault;
 pub use formals::read_formals;

@@ -6,7 +6,7 @@ use Rattle.gypsy_space.specs.Needs.{stack_sizes}
 use Rattle.gypsy_syntax.specs.Seen.SourceView.{source_of}
 use Rattle.stack_build.proofs.BuildLaws.{generating_fails, linking_fails, built_is}
 use Rattle.stack_build.proofs.BuildsLaws.{made_builds}
-use Rattle.stack_build.proofs.building.build_accepted.Goals as goal
+use Rattle.stack_build.proofs.building.build_program.Goals as goal
 
 pub returns-in_err-piton-clause-value : goal.returns-in_err-piton-clause-value
 returns-in_err-piton-clause-value c =
