@@ -20,6 +20,7 @@ pub fn number(value: i128) -> Number
 }
 
 /// One more instruction.
+#[inline(always)]
 pub fn put(
     instrs: &mut Vec<InstrText>,
     label: Option<Named>,
@@ -50,6 +51,7 @@ pub fn plain(
 }
 
 /// An instruction of a name.
+#[inline(always)]
 pub fn of_name(
     alloc: Global,
     instrs: &mut Vec<InstrText>,
@@ -63,6 +65,7 @@ pub fn of_name(
 }
 
 /// A `push-constant`.
+#[inline(always)]
 pub fn constant(
     alloc: Global,
     instrs: &mut Vec<InstrText>,
@@ -76,6 +79,7 @@ pub fn constant(
 }
 
 /// A test, and the jump to a label.
+#[inline(always)]
 pub fn test(
     alloc: Global,
     instrs: &mut Vec<InstrText>,
