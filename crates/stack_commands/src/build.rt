@@ -1,13 +1,14 @@
 //! The command `build`.
-ghost use Rattle.std.specs.Prelude.{◌≡◌, ◌≤◌, ◌^◌, IfOk, length};
+ghost use Rattle.std.specs.Prelude.{◌≡◌, ◌≤◌, ◌^◌, Some, IfOk, length};
 ghost use Rattle.stack_build.specs.Build.{built};
 ghost use Rattle.stack_commands.specs.Commands.Build.{image_stored, build_reply};
 ghost use Rattle.stack_commands.specs.Plans.{pending_reply};
+ghost use Rattle.stack_commands.specs.Replies.{built_reply};
 
 use crate::plan::Plan;
 use crate::source_text::refused;
 use command_line::StackSize;
-use stack_build::{Built, build};
+use stack_build::{Built, Origins, build_with_origins};
 use stack_text::{Memory, Seq};
 use std::alloc::Global;
 use std::mem::forget;
@@ -25,18 +26,25 @@ pub fn prepare(
     ensures reply { IfOk result (λ plan.
         pending_reply plan.pending ≡ build_reply (built source.now control.now temporary.now 0)) }
 {
-    match build(alloc, source, control.words(), temporary.words(), 0) {
-        Ok(
-            Built {
-                image,
-                bytes,
-                piton,
-            },
-        ) => {
-            // The process ends next, and its memory with it.
-            forget(piton);
-            Plan::stores_image(alloc, image.size, Seq::from_vec(bytes))
-        }
+    match build_with_origins(alloc, source, control.words(), temporary.words(), 0) {
+        Ok((built, origins)) => store(alloc, built, origins),
         Err(fault) => refused(alloc, fault),
     }
+}
+
+/// Stores an image's file. The process ends next, and with it the memory of all that was built.
+fn store(alloc: Global, built: Built, origins: Origins) -> Result<Plan, Memory>
+    ensures stored { IfOk result (λ plan. plan.stored ≡ Some built.bytes) }
+    ensures reply { IfOk result (λ plan. pending_reply plan.pending ≡ built_reply built.image.size) }
+{
+    let Built {
+        image,
+        bytes,
+        piton,
+    } = built;
+    let size = image.size;
+    forget(piton);
+    forget(image);
+    forget(origins);
+    Plan::stores_image(alloc, size, Seq::from_vec(bytes))
 }
