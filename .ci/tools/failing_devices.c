@@ -1,7 +1,9 @@
 /* Makes calls of devices fail: loaded before the C library, it counts the files that a program reads or makes and the lines that it writes to
  * standard output, both from 0. FAILING_FILE=2:5 lets all reads and writes of the file number 2 fail, FAILING_LINE=2:5 the write of the line
  * number 2. A write that fails writes the first bytes all the same, at most as many as stand after the colon. A file that is there and opened to be
- * written, and not made, has the number of the next one. FAILING_CALL=rename:16 lets each such call fail with that error, so also fchmod and fsync;
+ * written, and not made, has the number of the next one. A read that fails gives the first bytes of the file too, at most as many, and a failing write
+ * returns 0 in place of an error where STALLING is set. With SLOW each read and write of a file or of standard output is interrupted once, and then
+ * moves one byte. FAILING_CALL=rename:16 lets each such call fail with that error, so also fchmod and fsync;
  * FAILING_CALL=rename:kill ends the program there by a signal, so also fchmod, fsync and the write of a file, of which half is written. */
 #define _GNU_SOURCE
 #include <dlfcn.h>
@@ -20,6 +22,7 @@
 static long files, lines;
 static int failing[MOST];
 static size_t kept_of_file;
+static size_t given[MOST];
 
 /* Whether the call of this number is to fail, and how many bytes it writes all the same. */
 static int fails(const char *variable, long number, size_t *kept)
@@ -47,8 +50,10 @@ int open(const char *name, int flags, ...)
     va_start(more, flags);
     made = next(name, flags, va_arg(more, int));
     va_end(more);
-    if (made >= 0 && made < MOST)
+    if (made >= 0 && made < MOST) {
         failing[made] = fails("FAILING_FILE", files, &kept_of_file);
+        given[made] = 0;
+    }
     if ((flags & O_ACCMODE) == O_RDONLY || (flags & O_CREAT))
         files++;
     return made;
@@ -77,12 +82,31 @@ static int error_of(const char *name)
     return said != NULL ? atoi(said) : 0;
 }
 
+/* Whether a call is interrupted: every other one, where calls are to be slow. Of one that isn't, the length is one byte. */
+static int is_interrupted(int file, size_t *length)
+{
+    static int before[MOST];
+    if (getenv("SLOW") == NULL || file < STDOUT_FILENO || file == STDERR_FILENO || file >= MOST || *length == 0)
+        return 0;
+    errno = EINTR;
+    *length = 1;
+    return before[file] = !before[file];
+}
+
 ssize_t read(int file, void *bytes, size_t length)
 {
     static ssize_t (*next)(int, void *, size_t);
     if (next == NULL)
         next = (ssize_t (*)(int, void *, size_t))dlsym(RTLD_NEXT, "read");
+    if (is_interrupted(file, &length))
+        return -1;
     if (is_failing(file)) {
+        size_t rest = kept_of_file - given[file];
+        ssize_t got = rest == 0 ? 0 : next(file, bytes, rest < length ? rest : length);
+        if (got > 0) {
+            given[file] += (size_t)got;
+            return got;
+        }
         errno = EIO;
         return -1;
     }
@@ -95,10 +119,12 @@ ssize_t write(int file, const void *bytes, size_t length)
     size_t kept = kept_of_file;
     if (next == NULL)
         next = (ssize_t (*)(int, const void *, size_t))dlsym(RTLD_NEXT, "write");
+    if (is_interrupted(file, &length))
+        return -1;
     if (is_failing(file) || (file == STDOUT_FILENO && fails("FAILING_LINE", lines++, &kept))) {
         next(file, bytes, kept < length ? kept : length);
         errno = EIO;
-        return -1;
+        return getenv("STALLING") != NULL ? 0 : -1;
     }
     if (file > STDERR_FILENO && ends_at("write")) {
         next(file, bytes, length / 2);

@@ -26,10 +26,12 @@ WHOLE = 3622
 GO, BUILD = "go s v 7 3 28 i", "build s 7 3 i"
 FAULT = "shelf fault i\n"
 
-# The call of the shelf or of the sink that fails, from 0, and how many bytes it keeps; the status, what is printed, and how many bytes of
-# the file are stored.
+# The call of the shelf or of the sink that fails, from 0, and how many bytes it gives or keeps; the status, what is printed, and how many bytes
+# of the file are stored.
 RUNS = [
+    (GO, (0, 0), NEVER, 10, "shelf fault s\n", 0),
     (GO, (0, 3), NEVER, 10, "shelf fault s\n", 0),
+    (GO, (0, 99_999), NEVER, 10, "shelf fault s\n", 0),
     (GO, (1, 3), NEVER, 10, "shelf fault v\n", 0),
     (GO, (2, 5), NEVER, 10, FAULT, 0),
     (GO, (2, 99_999), NEVER, 10, FAULT, 0),
@@ -74,9 +76,10 @@ class Rows:
         self.program, self.failing_library = str(Path(program).resolve()), str(Path(failing).resolve())
         self.count = self.failed = 0
 
-    def run(self, words, files, file_call=NEVER, line_call=NEVER, system_call=NEVER, link=None):
-        """Runs a command over these files, where one call of a device may fail; `link` is a symbolic link to the first of them."""
-        how = dict(os.environ)
+    def run(self, words, files, file_call=NEVER, line_call=NEVER, system_call=NEVER, link=None, how=()):
+        """Runs a command over these files, where one call of a device may fail; `link` is a symbolic link to the first of them, `how` what else the
+        library is told."""
+        how = dict(os.environ) | ({name: "1" for name in how} | {"LD_PRELOAD": self.failing_library} if how else {})
         if system_call is not NEVER:
             how |= {"FAILING_CALL": system_call, "LD_PRELOAD": self.failing_library}
         for variable, call in (("FAILING_FILE", file_call), ("FAILING_LINE", line_call)):
@@ -108,6 +111,8 @@ class Rows:
             ending = self.run(words, FILES, file_call, line_call)
             is_first = ending.files.get("i", b"") == image[:stored]
             self.note((ending.status, ending.printed) == (status, printed) and is_first, row, ending)
+            stalled = self.run(words, FILES, file_call, line_call, how=["STALLING"])
+            self.note(stalled == ending, (row, "a write that takes nothing"), stalled)
 
     def replacing(self):
         """An old file stays where a call fails while a new one is made, or the program ends there, which leaves a part beside it; what is written in
@@ -129,7 +134,8 @@ class Rows:
             self.note(ending == Ending(10, FAULT, FILES | {"o": first, "i": first}), ("a link", kept), ending)
 
     def in_turn(self, trial):
-        """Each call of a device fails in turn, and keeps three bytes, of which nothing is left; the first call that isn't there changes nothing."""
+        """Each call of a device fails in turn, and keeps three bytes, of which nothing is left; the first call that isn't there changes nothing, nor do
+        calls that are interrupted and move one byte each."""
         with tempfile.TemporaryDirectory() as folder:
             trial.prepare(self.program, folder)
             there = {name: Path(folder, name).read_bytes() for name in trial.reads}
@@ -146,6 +152,8 @@ class Rows:
             self.note(ending == Ending(11, "".join(lines[:call]) + line[:3], whole.files), (words, line), ending)
         ending = self.run(words, there, (len(names), 3), (len(lines), 3))
         self.note(ending == whole, (words, "none"), ending)
+        ending = self.run(words, there, how=["SLOW"])
+        self.note(ending == whole, (words, "byte by byte"), ending)
 
 
 def main():

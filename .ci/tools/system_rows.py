@@ -170,6 +170,12 @@ class Rows:
             Path(room.folder, "partly-stored-1").write_bytes(OLD)
             self.note(room.stored("o") == whole and room.parts() == [OLD], "an older part stays", room.parts())
 
+    def unreadable(self):
+        """What is there and is no file, or would lie in a file, isn't read."""
+        for name in ".", "s/in-a-file", "s/":
+            ended = self.run({"s": SOURCES["loop"]}, f"check {name}", lambda: None)
+            self.note(ended[:2] == (10, f"shelf fault {name}\n".encode()), ("check", name), ended)
+
     def forbidden(self):
         """What rights forbid: a file that may not be written stays, and one whose folder may not be is written in place."""
         with Room(self.program, NOBODY if os.geteuid() == 0 else None) as room:
@@ -251,6 +257,7 @@ def main():
     rows.stacks(int(ROW.search((TOP / "docs/LIMITS.md").read_text()).group(1)))
     rows.file_limits()
     rows.kept()
+    rows.unreadable()
     rows.forbidden()
     rows.together()
     seen = rows.kills()
