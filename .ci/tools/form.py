@@ -16,6 +16,7 @@ CLAUSE_WIDTH = 120
 DEFINITION = re.compile(r"^\s*(?:abbrev |unfoldable )?pub (?:record |data |abbrev )?([^\s:({]+)")
 CITATION = re.compile(r"(?:Rattle\.\w+|crate)(?:\.|::)proofs(?:\.|::)([A-Z]\w*)")
 LINK = re.compile(r"\]\(([^)\s]+)\)")
+LISTING = re.compile(r"^`(crates/[\w./-]+)`:\n\n```\w*\n(.*?^)```$", re.M | re.S)
 NAMED_PATH = re.compile(r"`((?:crates|docs|examples|conformance|\.ci)/[\w./-]+)`")
 LEMMA = re.compile(r"(  )?(?:abbrev |unfoldable )?(?:pub )?([^\s:(){}]+) : ")
 TOKEN = re.compile(r"[^\s(){};,.:\[\]λ]+")
@@ -163,6 +164,17 @@ def check_documents():
                     say(f"{path}:{index + 1}", f"the link {link} leads to nothing; mend or remove it")
                 elif anchor and file.suffix == ".md" and anchor not in set(anchors_of(file.read_text())):
                     say(f"{path}:{index + 1}", f"{file} has no heading for #{anchor}; mend the link")
+
+
+def check_listings():
+    """A listing in a document is lines of the file that the line above it names."""
+    for path in tracked("*.md"):
+        text = path.read_text()
+        for listing in LISTING.finditer(text):
+            file = Path(listing.group(1))
+            if not file.is_file() or "\n" + listing.group(2) not in "\n" + file.read_text():
+                number = text.count("\n", 0, listing.start()) + 1
+                say(f"{path}:{number}", f"the listing isn't in {file}; copy it from there")
 
 
 def files_of_row(names):
@@ -349,6 +361,7 @@ def main():
     check_folders()
     check_clauses()
     check_documents()
+    check_listings()
     check_reading_list()
     check_figures()
     check_readme()

@@ -1,5 +1,6 @@
 -- What a run of a source on values tells is what the source means.
 use Rattle.std.proofs.Common.{◌≡◌, ⊎_elim, ℕ, List, Result, Ok, Err, IfOk, refl, sym, ap, subst, ◌∙◌, arith}
+use Rattle.stack_text.specs.Gives as common
 use Rattle.stack_text.specs.Results.{◌>>=◌}
 use Rattle.stack_text.specs.Values.{ValueOf}
 use Rattle.fm_machine.specs.Outcome.{IsOutcome, RunOutcome, outcome}
@@ -7,18 +8,24 @@ use Rattle.fm_machine.specs.declared.processor.Run.{Run}
 use Rattle.fm_machine.specs.declared.processor.Run.TheVariants as run
 use Rattle.fm_machine.proofs.RunLaws.{outcome_is}
 use Rattle.fm_image.specs.Image.{ImageOf}
+use Rattle.fm_loader.specs.declared.fault.ValuesFault.{ValuesFault}
+use Rattle.fm_loader.specs.declared.fault.ValuesFault.TheVariants.{Refused, Memory}
 use Rattle.fm_loader.specs.Loaded.{loaded}
+use Rattle.fm_loader.specs.Rules.{fault_of as values_rule}
 use Rattle.fm_loader.specs.Values.{values_in}
-use Rattle.display_maps.specs.Endings.{ending_of, run_with}
+use Rattle.display_maps.specs.declared.ending.Ending.{Ending}
+use Rattle.display_maps.specs.Endings.{ending_of, run_with, run_on}
 use Rattle.gypsy_space.specs.Needs.{StackSizes, stack_sizes}
 use Rattle.stack_build.specs.declared.fault.BuildFault.{BuildFault}
+use Rattle.stack_build.specs.declared.start_fault.StartFault.{StartFault}
+use Rattle.stack_build.specs.declared.start_fault.StartFault.TheVariants.{Values}
 use Rattle.stack_build.specs.Build.{BuiltOf, BuildsText, built}
 use Rattle.stack_build.specs.Implements.{Implements}
 use Rattle.stack_build.specs.Joined.{BuiltImplements, BuiltTakesValues}
 use Rattle.stack_build.specs.Meant.{KeptMeansOnly, IsMeant}
 use Rattle.stack_build.specs.Moments.{KeepsMoments}
 use Rattle.stack_build.specs.SourceRuns.{source_run, SourceOnValues, TellsMeaning, SourceRunsTellMeaning}
-use Rattle.stack_build.specs.Starts.{or_build, or_values}
+use Rattle.stack_build.specs.Starts.{start_fault_of, values_fault, or_build, or_values}
 use Rattle.stack_build.proofs.MeantLaws.{not_within}
 use Rattle.stack_build.proofs.SlotLaws.{image_takes}
 
@@ -66,3 +73,37 @@ source_runs_tell implement take meant text ctrl temp values_text budget short =
         → IfOk (or_build found >>= λ built. or_values (values_in built.image.slots values_text) >>= λ values. Ok (run_with built.image values budget)) (TellsMeaning text (stack_sizes ctrl temp) values_text budget)
     by_built (Ok b) made builds = by_values b made builds (values_in b.image.slots values_text) refl
     by_built (Err fault) made builds = tt
+
+-- an ending, or the rule that values break as a fault of the start
+abbrev start_or_fault : Result Ending (ℕ × ℕ) → Result Ending StartFault
+start_or_fault (Ok ending) = Ok ending
+start_or_fault (Err fault) = Err (Values fault.0 fault.1)
+
+as_start : (image : ImageOf) (budget : ℕ) (found : Result (List ValueOf) (ℕ × ℕ))
+    → (or_values found >>= λ values. Ok (run_with image values budget)) ≡ start_or_fault (found >>= λ values. Ok (run_with image values budget))
+as_start image budget (Ok values) = refl
+as_start image budget (Err fault) = refl
+
+-- what a run of what was built tells
+abbrev run_of : Result BuiltOf BuildFault → List ℕ → ℕ → Result Ending StartFault
+run_of found values_text budget =
+    or_build found >>= λ built. or_values (values_in built.image.slots values_text) >>= λ values. Ok (run_with built.image values budget)
+
+run_is : (text values_text : List ℕ) (ctrl temp budget : ℕ) (b : BuiltOf) → built text ctrl temp 0 ≡ Ok b
+    → source_run text (stack_sizes ctrl temp) values_text budget ≡ start_or_fault (run_on b.image values_text budget)
+unfolding source_run run_on
+run_is text values_text ctrl temp budget b made =
+    ap (λ (r : Result BuiltOf BuildFault). run_of r values_text budget) made ∙ as_start b.image budget (values_in b.image.slots values_text)
+
+-- what is built, and how it ends on the values
+pub run_told : (text values_text : List ℕ) (ctrl temp budget : ℕ) (b : BuiltOf) (ending : Ending) → built text ctrl temp 0 ≡ Ok b
+    → run_on b.image values_text budget ≡ Ok ending → source_run text (stack_sizes ctrl temp) values_text budget ≡ Ok ending
+run_told text values_text ctrl temp budget b ending made ends = run_is text values_text ctrl temp budget b made ∙ ap start_or_fault ends
+
+-- values that break a rule are refused with it
+pub run_refused : (text values_text : List ℕ) (ctrl temp budget : ℕ) (b : BuiltOf) (error : ValuesFault) → built text ctrl temp 0 ≡ Ok b
+    → common.Fails (values_rule error) (run_on b.image values_text budget)
+    → common.Fails (start_fault_of (values_fault error)) (source_run text (stack_sizes ctrl temp) values_text budget)
+run_refused text values_text ctrl temp budget b (Refused rule place) made fails =
+    run_is text values_text ctrl temp budget b made ∙ ap start_or_fault fails
+run_refused text values_text ctrl temp budget b Memory made fails = tt
