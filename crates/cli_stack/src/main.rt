@@ -4,8 +4,6 @@
 mod driver;
 mod laws;
 mod program;
-#[cfg(test)]
-mod tests;
 
 use command_line::exit_code;
 use level_debuggers::{CostWatch, CountWatch, LastWatch, PeakWatch, Watch};

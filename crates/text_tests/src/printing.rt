@@ -1,4 +1,0 @@
-//! What is printed of texts that are read.
-
-mod gypsy;
-mod piton;
