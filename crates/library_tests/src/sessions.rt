@@ -4,6 +4,7 @@ ghost use Rattle.std.specs.Prelude.{◌≤◌, ◌^◌, IfOk};
 ghost use Rattle.piton_machine.specs.Fits.{system_in};
 ghost use Rattle.piton_machine.specs.Placed.{placed};
 ghost use Rattle.level_debuggers.specs.Levels.{IsRunner};
+ghost use Rattle.level_debuggers.specs.Seen.Sessions.{IsSession};
 
 use fm_image::{Image, read_image};
 use fm_machine::Machine;
@@ -112,13 +113,21 @@ fn outside(alloc: Global) -> Result<Runner, Fail>
     Ok(Runner::Fm { image, machine })
 }
 
-/// A run after some steps, handed back.
-fn after(alloc: Global, runner: Runner, steps: u64) -> Result<Runner, Fail>
+/// How some steps of a session end.
+fn steps(alloc: Global, session: &mut Session, count: u64) -> Result<SessionRun, Fail>
+    requires { IsSession session.old }
+    ensures { IsSession session.new }
+{
+    Ok(session.step(alloc, count)?)
+}
+
+/// A run after a step, handed back.
+fn after_a_step(alloc: Global, runner: Runner) -> Result<Runner, Fail>
     requires { IsRunner runner }
     ensures { IfOk result IsRunner }
 {
     let mut session = Session::new(alloc, runner, Vec::new(alloc))?;
-    session.step(alloc, steps)?;
+    steps(alloc, &mut session, 1)?;
     Ok(session.finish())
 }
 
@@ -127,13 +136,13 @@ fn ends(alloc: Global, runner: Runner) -> Result<SessionRun, Fail>
     requires { IsRunner runner }
 {
     let mut session = Session::new(alloc, runner, Vec::new(alloc))?;
-    Ok(session.step(alloc, 100)?)
+    steps(alloc, &mut session, 100)
 }
 
 #[test]
 fn a_run_that_is_handed_back_goes_on(rt: HostRuntime) -> Result<(), Fail> {
     let alloc = rt.alloc();
-    let runner = after(alloc, of_source(alloc, SOURCE)?, 1)?;
+    let runner = after_a_step(alloc, of_source(alloc, SOURCE)?)?;
     assert!(rt; ends(alloc, runner)? == SessionRun::Ended { count: 4 });
     Ok(())
 }
