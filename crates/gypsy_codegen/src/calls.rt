@@ -48,6 +48,7 @@ pub(crate) fn raise(
 }
 
 /// The index of a variable, pushed.
+#[inline(always)]
 pub(crate) fn push_local(
     alloc: Global,
     instrs: &mut Vec<InstrText>,
@@ -65,6 +66,7 @@ pub(crate) fn push_local(
 }
 
 /// A call of a program.
+#[inline(always)]
 pub(crate) fn call_program(
     alloc: Global,
     instrs: &mut Vec<InstrText>,

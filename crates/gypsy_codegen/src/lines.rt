@@ -49,6 +49,7 @@ pub(crate) fn name_in(names: &[Name], at: usize) -> Result<Named, Memory>
 }
 
 /// One more instruction.
+#[inline(always)]
 pub(crate) fn put(
     alloc: Global,
     instrs: &mut Vec<InstrText>,
@@ -92,6 +93,7 @@ pub(crate) fn of_number(
 }
 
 /// A `push-constant`.
+#[inline(always)]
 pub(crate) fn constant(
     alloc: Global,
     instrs: &mut Vec<InstrText>,

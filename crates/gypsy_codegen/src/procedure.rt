@@ -24,6 +24,10 @@ use piton_syntax::{InstrText, PitonOp, WordItem, WordText};
 use stack_text::{Memory, Name, Named, Shape, Value};
 use std::alloc::Global;
 
+/// How many words of code most instructions have at least: with room for so many the instructions of a procedure mostly
+/// fit, and where they don't, more is taken.
+const WORDS_EACH: u64 = 3;
+
 /// The names of formals.
 fn formal_names(names: &mut Vec<Name>, formals: &[Decl]) -> Result<(), Memory>
     ensures { OnOk result (names.new.items ≡ names.old.items ++ map (λ d. d.name.name) formals.now) }
@@ -180,7 +184,8 @@ fn instructions(alloc: Global, context: &Context) -> Result<Vec<InstrText>, Memo
     ensures { let lines = lines_of (program_in context.now) context.now.procedure in
         IfOk result (λ instrs. instrs.items ≡ map (written (names_of context.now)) lines) }
 {
-    let mut instrs = Vec::new(alloc);
+    let words = context.needs.need_of(context.procedure).code_words;
+    let mut instrs = Vec::with_capacity(alloc, (words / WORDS_EACH) as usize)?;
     let found = procedure_at(context.program, context.procedure);
     statement(
         alloc,
