@@ -2,8 +2,8 @@
 use Rattle.std.proofs.Common.{List, Option, Some, None, IfSome}
 use Rattle.stack_shelf.specs.Files.{Files}
 use Rattle.debug_moments.specs.SessionMoments.{BuiltSaysEnds, BuiltSaysMoments}
-use Rattle.level_debuggers.specs.RunWalks.{MachinesWalk}
-use Rattle.level_debuggers.specs.ScriptSteps.{StepsAreSaid, TextStays, UpIsSaid}
+use Rattle.level_debuggers.specs.RunWalks.{MachinesArrive, MachinesWalk}
+use Rattle.level_debuggers.specs.ScriptSteps.{ArrivalsAreSaid, StepsAreSaid, TextStays, UpIsSaid, WordsAreSaid}
 use Rattle.level_debuggers.specs.Tallies.{Watching}
 use Rattle.stack_build.specs.Joined.{BuiltImplements, BuiltTakesValues}
 use Rattle.stack_build.specs.Meant.{KeptMeansOnly}
@@ -24,20 +24,21 @@ use Rattle.cli_stack.proofs.RoomLaws.{needs}
 use Rattle.cli_stack.proofs.TaskCountLaws.{HasFew}
 use Rattle.cli_stack.proofs.TellsLaws.{tells}
 
-pub answers_mean : BuiltImplements → BuiltTakesValues → KeptMeansOnly → PlacedAreWords → BuiltSaysMoments → BuiltSaysEnds → UpIsSaid → StepsAreSaid → TextStays → MachinesWalk
+pub answers_mean : BuiltImplements → BuiltTakesValues → KeptMeansOnly → PlacedAreWords → BuiltSaysMoments → BuiltSaysEnds
+    → UpIsSaid → WordsAreSaid → ArrivalsAreSaid → StepsAreSaid → TextStays → MachinesWalk → MachinesArrive
     → (o : Option Command) → IfSome o HasFew → (watches : List Watching) → IfSome o (λ command. CommandMeans command watches)
-answers_mean implement take meant words moments ends up steps stays walks None few watches = tt
-answers_mean implement take meant words moments ends up steps stays walks (Some c) few watches = record {
+answers_mean implement take meant placed moments ends up words arrivals steps stays walks arrive None few watches = tt
+answers_mean implement take meant placed moments ends up words arrivals steps stays walks arrive (Some c) few watches = record {
   answers = λ files. record {
     implements = stores implement c watches files;
     tells = tells implement take c watches files;
     decides = decides meant implement take c watches files;
     means = means c watches files;
-    links = links words c watches files;
+    links = links placed c watches files;
     assembles = assembles c watches files;
     needs = needs implement take c watches files;
     lowers = lowers implement take meant c watches files;
-    explains = explains implement take moments ends up steps stays walks c watches files;
+    explains = explains implement take moments ends up words arrivals steps stays walks arrive c watches files;
     turns = each_task_is_told implement take meant c few watches files;
   };
   stores = stores_of implement c;

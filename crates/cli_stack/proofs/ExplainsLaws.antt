@@ -1,6 +1,7 @@
--- What a session says where the source's step machine has come to a state.
+-- What a session says where the source's step machine has come to a state, and to `words` and `until`.
 use Rattle.std.proofs.Common.{◌≡◌, ◌≤◌, ℕ, zero, suc, List, [], ◌∷◌, ◌++◌, Option, Some, None, Result, Ok, Err, length, refl, sym, ap, ◌∙◌, subst, arith, append_assoc}
-use Rattle.std.specs.Prelude.{Bool, if◌then◌else◌, ◌^◌, IsTrue}
+use Rattle.std.proofs.Common.{inl, inr}
+use Rattle.std.specs.Prelude.{Bool, true, if◌then◌else◌, ◌^◌, IsTrue}
 use Rattle.std.proofs.lemmas.Bool.{eq-eqb}
 use Rattle.stack_text.specs.Results.{◌>>=◌}
 use Rattle.stack_text.specs.Values.{ValueOf}
@@ -8,7 +9,8 @@ use Rattle.stack_shelf.specs.Files.{Files}
 use Rattle.fm_image.specs.Image.{ImageOf}
 use Rattle.fm_loader.specs.Loaded.{loaded}
 use Rattle.fm_loader.specs.Values.{values_in}
-use Rattle.fm_machine.specs.Run.{pc_of}
+use Rattle.fm_machine.specs.Run.{Avoids, IsFirst, pc_of}
+use Rattle.fm_machine.specs.State as fm
 use Rattle.fm_machine.specs.Step.{fm_step}
 use Rattle.display_maps.specs.Reading.{ReadingOf, reading}
 use Rattle.display_maps.specs.ReadingAt.{reading_at}
@@ -33,22 +35,27 @@ use Rattle.stack_build.specs.Starts.{gypsy_start, system_start, image_start, bui
 use Rattle.stack_build.specs.declared.start_fault.StartFault.{StartFault}
 use Rattle.stack_build.proofs.KnownLaws.{source_is_accepted}
 use Rattle.debug_script.specs.declared.fault.ScriptFault.{ScriptFault}
+use Rattle.debug_script.specs.declared.command.Place.{Place}
+use Rattle.debug_script.specs.declared.command.Place.TheVariants as place
 use Rattle.debug_script.specs.declared.reading.Line.{Line}
 use Rattle.debug_script.specs.Scripts.{script_of}
+use Rattle.level_debuggers.specs.Arrivals.{IsFirstArrival}
 use Rattle.level_debuggers.specs.GypsyLevels.{GypsyLevelOf, gypsy_next, gypsy_up}
 use Rattle.level_debuggers.specs.Levels as levels
-use Rattle.level_debuggers.specs.Levels.{LevelOf, Fm, lifted, next_of, program_named, up_text}
-use Rattle.level_debuggers.specs.FmLevels.{FmLevelOf, fm_after}
-use Rattle.level_debuggers.specs.RunWalks.{MachinesWalk, WalksTo}
-use Rattle.level_debuggers.specs.ScriptSteps.{AskForSteps, GoesOn, SaysAfter, StepsAreSaid, TextStays, UpIsSaid, steps_of, stepped_lines, up_line}
+use Rattle.level_debuggers.specs.Levels.{LevelOf, Fm, has_places, lifted, next_of, program_named, up_text}
+use Rattle.level_debuggers.specs.FmLevels.{FmLevelOf, fm_after, word_lines}
+use Rattle.level_debuggers.specs.RunWalks.{MachinesArrive, MachinesWalk, WalksTo}
+use Rattle.level_debuggers.specs.ScriptSteps.{ArrivalsAreSaid, AskForSteps, GoesOn, SaysAfter, StepsAreSaid, TextStays, UpIsSaid, WordsAreSaid}
+use Rattle.level_debuggers.specs.ScriptSteps.{all_asked, steps_of, stepped_lines, until_line, up_line, words_line}
 use Rattle.level_debuggers.specs.Steps as step
 use Rattle.level_debuggers.specs.Steps.{Over, Stops, Makes}
 use Rattle.level_debuggers.specs.Texts.{mark_text}
+use Rattle.level_debuggers.specs.declared.arrival.Arrival.TheVariants as arrival
 use Rattle.level_debuggers.specs.declared.script_end.ScriptEnd.{ScriptEnd}
 use Rattle.level_debuggers.specs.declared.script_end.ScriptEnd.TheVariants as end
 use Rattle.level_debuggers.specs.Tallies.{Watching}
-use Rattle.level_debuggers.specs.Transcripts.{Followed, followed}
-use Rattle.level_debuggers.specs.Walks.{SessionOf, walk, walk_on}
+use Rattle.level_debuggers.specs.Transcripts.{Followed, arrival_text, followed}
+use Rattle.level_debuggers.specs.Walks.{SessionOf, stepped, walk, walk_on}
 use Rattle.debug_moments.proofs.EndLaws.{walk_past}
 use Rattle.debug_moments.specs.SessionMoments.{BothSay, BuiltSaysEnds, BuiltSaysMoments, image_run, state_text, steps_at, system_run}
 use Rattle.command_line.specs.declared.command.Command.{Command}
@@ -70,7 +77,7 @@ use Rattle.stack_commands.specs.Prepared.{reply_by}
 use Rattle.cli_stack.specs.Answer.{answer_on, answer_to}
 use Rattle.cli_stack.specs.FilesAndSizes.{IsReadable}
 use Rattle.cli_stack.specs.Decides.{IsReadyToRun}
-use Rattle.cli_stack.specs.Explains.{AsksUp, BeginsWith, Explains, ExplainsRun, LeadsToEnd, SaysTo, steps_to}
+use Rattle.cli_stack.specs.Explains.{Asks, BeginsWith, Explains, ExplainsRun, LeadsToEnd, SaysTo, StandsAfter, steps_to}
 use Rattle.cli_stack.proofs.DecidesLaws.{ready_runs}
 use Rattle.cli_stack.proofs.TellsLaws.{is_there}
 
@@ -110,34 +117,41 @@ done_ended run (end.Error kind program place after) h = absurd (error_not_done k
 done_ended run (end.Outside address after) h = absurd cc
 done_ended run (end.NoneWaits line) h = absurd cc
 done_ended run (end.NoneAttached line) h = absurd cc
+done_ended run (end.OtherLevel line) h = absurd cc
 
-module _ (up : UpIsSaid) (stays : TextStays) (run : LevelOf) (watches : List Watching) (script : List ℕ) (before after : List Line) (number : ℕ) (said : List ℕ)
-    (done : (lines_reply run watches before).verdict ≡ verdict.Done) (says : (lines_reply run watches before).said ≡ said) (is : script_of script ≡ Ok (before ++ up_line number ∷ after)) where
-  script_says : BeginsWith (script_reply run watches (script_of script)).said (said ++ up_text (walk (steps_of before) run).level)
+all_done : (run : LevelOf) (watches : List Watching) (lines : List Line) → (lines_reply run watches lines).verdict ≡ verdict.Done
+    → (followed [] lines (session_on run watches)).end ≡ end.Done
+unfolding lines_reply
+all_done run watches lines done =
+    let made : Followed = followed [] lines (session_on run watches) in
+    done_ended made.session.level made.end done
+
+-- Behind lines that were carried out, something is told to a further one.
+module _ (stays : TextStays) (run : LevelOf) (watches : List Watching) (script : List ℕ) (before : List Line) (line : Line) (after : List Line)
+    (said told : List ℕ) (left : SessionOf) (says : (lines_reply run watches before).said ≡ said) (is : script_of script ≡ Ok (before ++ line ∷ after))
+    (tells :
+    followed [] (before ++ line ∷ after) (session_on run watches)
+    ≡ followed ((followed [] before (session_on run watches)).text ++ told) after left) where
+  script_says : BeginsWith (script_reply run watches (script_of script)).said (said ++ told)
   unfolding lines_reply
   script_says =
-      let s : SessionOf = session_on run watches in
-      let made : Followed = followed [] before s in
-      let told : List ℕ = up_text (walk (steps_of before) run).level in
-      let ended : made.end ≡ end.Done = done_ended made.session.level made.end done in
-      let rest = stays (made.text ++ told) after made.session in (
+      let made : Followed = followed [] before (session_on run watches) in
+      let rest = stays (made.text ++ told) after left in (
         rest.0,
         ap (λ (r : Result (List Line) ScriptFault). (script_reply run watches r).said) is
-            ∙ ap (λ (f : Followed). f.text) (up [] before after number s ended) ∙ rest.1 ∙ ap (λ (t : List ℕ). t ++ told ++ rest.0) says,
+            ∙ ap (λ (f : Followed). f.text) tells ∙ rest.1 ∙ ap (λ (t : List ℕ). t ++ told ++ rest.0) says,
       )
 
-  reply_says : (text : List ℕ) → up_text (walk (steps_of before) run).level ≡ text → BeginsWith (reply_text (script_reply run watches (script_of script))) (said ++ text)
-  reply_says text same =
+  reply_says : BeginsWith (reply_text (script_reply run watches (script_of script))) (said ++ told)
+  reply_says =
       let reply : ReplyOf = script_reply run watches (script_of script) in
-      let told : List ℕ = up_text (walk (steps_of before) run).level in
       let begins = script_says in (
         begins.0 ++ verdict_line reply.verdict,
-        ap (λ (t : List ℕ). t ++ verdict_line reply.verdict) begins.1 ∙ append_assoc (said ++ told) begins.0 (verdict_line reply.verdict)
-            ∙ ap (λ (t : List ℕ). said ++ t ++ (begins.0 ++ verdict_line reply.verdict)) same,
+        ap (λ (t : List ℕ). t ++ verdict_line reply.verdict) begins.1 ∙ append_assoc (said ++ told) begins.0 (verdict_line reply.verdict),
       )
 
 -- lines that ask for steps are carried out
-steps_said : StepsAreSaid → (run : LevelOf) (watches : List Watching) (lines : List Line) → AskForSteps lines → GoesOn (steps_of lines) run
+steps_said : StepsAreSaid → (run : LevelOf) (watches : List Watching) (lines : List Line) → AskForSteps lines → GoesOn (all_asked lines) run
     → ((lines_reply run watches lines).verdict ≡ verdict.Done) × ((lines_reply run watches lines).said ≡ stepped_lines lines)
 unfolding lines_reply
 steps_said steps run watches lines asks goes =
@@ -145,7 +159,7 @@ steps_said steps run watches lines asks goes =
     let h = steps [] lines (session_on run watches) asks goes in
     (ap (end_verdict made.session.level) h.0, h.1)
 
--- 3. The end of a run.
+-- 3. Where a run stands.
 
 module _ (run : FmLevelOf) (there : pc_of run.state ≡ run.image.final_pc) where
   is_over_there : next_of (Fm run) ≡ Over
@@ -155,14 +169,25 @@ module _ (run : FmLevelOf) (there : pc_of run.state ≡ run.image.final_pc) wher
   said_there =
       ap (λ (b : Bool). if b then lines_of_reading run.image (reading run.image run.state) else mark_text (reading_at run.image run.state)) (eq-eqb (pc_of run.state) run.image.final_pc there)
 
+-- a walk of so many steps stands where the processor stands after as many instructions
+walk_stands : MachinesWalk → (image : ImageOf) (values : List ValueOf) (n : ℕ) (state : fm.Fm) → StandsAfter n (loaded image values) image.final_pc state
+    → (walk n (image_run image values)).level ≡ Fm record { image = image; state = state }
+walk_stands walks image values n state stands =
+    let run : FmLevelOf = record { image = image; state = loaded image values } in
+    let there : FmLevelOf = record { image = image; state = state } in
+    let w : WalksTo stands.made (Fm run) (Fm there) = walks stands.made run state stands.reached stands.before in
+    elim stands.last [
+      | inl same ↦ ap (λ (k : ℕ). (walk k (Fm run)).level) (sym same) ∙ w.leads
+      | inr ended ↦ walk_past stands.made n (Fm run) (Fm there) stands.within w.whole w.leads (is_over_there there ended)
+    ]
+
 end_said : MachinesWalk → (image : ImageOf) (values : List ValueOf) (count n : ℕ) (read : ReadingOf) → ComesTo image values count read → count ≤ n
     → up_text (walk n (image_run image values)).level ≡ lines_of_reading image read
 end_said walks image values count n read comes le =
-    let run : FmLevelOf = record { image = image; state = loaded image values } in
     let there : FmLevelOf = record { image = image; state = comes.state } in
-    let w : WalksTo count (Fm run) (Fm there) = walks count run comes.state comes.first.reached comes.first.before in
-    let past : (walk n (Fm run)).level ≡ Fm there = walk_past count n (Fm run) (Fm there) le w.whole w.leads (is_over_there there comes.first.there) in
-    ap up_text past ∙ said_there there comes.first.there ∙ ap (lines_of_reading image) comes.reads
+    let stands : StandsAfter n (loaded image values) image.final_pc comes.state
+    = record { made = count; within = le; reached = comes.first.reached; before = comes.first.before; last = inr comes.first.there } in
+    ap up_text (walk_stands walks image values n comes.state stands) ∙ said_there there comes.first.there ∙ ap (lines_of_reading image) comes.reads
 
 -- 4. The level of the source.
 
@@ -240,6 +265,22 @@ begins Fm9001 source sizes found values_text values g n made gives both is = rec
 -- what a run says at its end
 module _ (implement : BuiltImplements) (take : BuiltTakesValues) (ends : BuiltSaysEnds) (walks : MachinesWalk) (source_name values_name : List ℕ) (control temporary : ℕ) (files : Files)
     (is : IsReadyToRun files source_name values_name (stack_sizes control temporary)) where
+  -- the run of the processor that a session has
+  machine_begins : (run : LevelOf) → run_in Fm9001 is.built.text (stack_sizes control temporary) is.values_text ≡ Ok run → run ≡ image_run is.image is.values
+  machine_begins run begins =
+      let sizes : StackSizes = stack_sizes control temporary in
+      let here = is.built in
+      let ready = ready_runs implement take files source_name values_name control temporary is in
+      let own : source_built is.source sizes 0 ≡ Ok here.found = of_source here.text control temporary is.source here.found here.read here.made in
+      let level : LevelOf = image_run here.found.image is.values in
+      let first : run_at Fm9001 is.source sizes is.values_text ≡ Ok level
+      = machine_run is.source sizes here.found is.values_text is.values own ready.gives in
+      let found : run_in Fm9001 here.text sizes is.values_text ≡ Ok level
+      = run_found Fm9001 here.text is.source sizes is.values_text level here.read first in
+      let both : Ok run ≡ Ok level = sym begins ∙ found in
+      let same : run ≡ level = cc in
+      same ∙ ap (λ (i : ImageOf). image_run i is.values) is.built.same
+
   ended_text : (level : Level) (j n : ℕ) (finals : List ValueOf) (way : CurrentCondition) (spent : Tally) (run : LevelOf) → run_in level is.built.text (stack_sizes control temporary) is.values_text ≡ Ok run
       → moment_from (program_of is.source) (stack_sizes control temporary) is.values j ≡ Ended finals way spent → LeadsToEnd level spent n
       → up_text (walk n run).level ≡ lines_of_reading is.image (meaning_shown is.source finals way)
@@ -247,12 +288,7 @@ module _ (implement : BuiltImplements) (take : BuiltTakesValues) (ends : BuiltSa
       let sizes : StackSizes = stack_sizes control temporary in
       let ready = ready_runs implement take files source_name values_name control temporary is in
       let arrives : ArrivesAtEnd is.source is.image is.values finals way spent.count = subst (λ (m : Move). ArrivesAt is.source sizes is.image is.values m) stands (ready.moments is.values j ready.fits) in
-      let own : source_built is.source sizes 0 ≡ Ok is.built.found = of_source is.built.text control temporary is.source is.built.found is.built.read is.built.made in
-      let first : run_at Fm9001 is.source sizes is.values_text ≡ Ok (image_run is.built.found.image is.values) = machine_run is.source sizes is.built.found is.values_text is.values own ready.gives in
-      let found : run_in Fm9001 is.built.text sizes is.values_text ≡ Ok (image_run is.built.found.image is.values) = run_found Fm9001 is.built.text is.source sizes is.values_text (image_run is.built.found.image is.values) is.built.read first in
-      let both : Ok run ≡ Ok (image_run is.built.found.image is.values) = sym begins ∙ found in
-      let same : run ≡ image_run is.built.found.image is.values = cc in
-      ap (λ (l : LevelOf). up_text (walk n l).level) (same ∙ ap (λ (i : ImageOf). image_run i is.values) is.built.same)
+      ap (λ (l : LevelOf). up_text (walk n l).level) (machine_begins run begins)
       ∙ end_said walks is.image is.values spent.count n (meaning_shown is.source finals way) arrives.comes enough
   ended_text Piton j n finals way spent run begins stands enough =
       let sizes : StackSizes = stack_sizes control temporary in
@@ -270,7 +306,9 @@ module _ (implement : BuiltImplements) (take : BuiltTakesValues) (ends : BuiltSa
       ∙ ap (λ (i : ImageOf). lines_of_reading i (meaning_shown is.source finals way)) is.built.same
   ended_text Gypsy j n finals way spent run begins stands enough = absurd enough
 
-module _ (implement : BuiltImplements) (take : BuiltTakesValues) (moments : BuiltSaysMoments) (ends : BuiltSaysEnds) (up : UpIsSaid) (said_steps : StepsAreSaid) (stays : TextStays) (walks : MachinesWalk)
+module _ (implement : BuiltImplements) (take : BuiltTakesValues) (moments : BuiltSaysMoments) (ends : BuiltSaysEnds)
+    (up : UpIsSaid) (words : WordsAreSaid) (arrivals : ArrivalsAreSaid) (said_steps : StepsAreSaid) (stays : TextStays)
+    (walks : MachinesWalk) (arrive : MachinesArrive)
     (level : Level) (source_name values_name : List ℕ) (control temporary : ℕ) (script_name : List ℕ) (watches : List Watching) (files : Files)
     (is : IsReadyToRun files source_name values_name (stack_sizes control temporary)) where
   abbrev debug : Command
@@ -297,39 +335,106 @@ module _ (implement : BuiltImplements) (take : BuiltTakesValues) (moments : Buil
       let b = begins level is.source sizes here.found is.values_text is.values g n own run.gives both steps in
       (b, run_found level here.text is.source sizes is.values_text b.run here.read b.is)
 
-  -- what the answer says where the run says this behind the lines
-  answer_says : (before after : List Line) (said text : List ℕ) (asks : AsksUp files script_name before after) (to : SaysTo level is.built.text (stack_sizes control temporary) is.values_text watches before said)
-      → up_text (walk (steps_of before) to.run).level ≡ text → BeginsWith (answer_to debug watches files).text (said ++ text)
+  -- what the answer says where this is told to the line behind those
+  answer_says : (before : List Line) (line : Line) (after : List Line) (said told : List ℕ) (left : SessionOf) (asks : Asks files script_name before line after)
+      (to : SaysTo level is.built.text (stack_sizes control temporary) is.values_text watches before said)
+      → followed [] (before ++ line ∷ after) (session_on to.run watches) ≡ followed ((followed [] before (session_on to.run watches)).text ++ told) after left
+      → BeginsWith (answer_to debug watches files).text (said ++ told)
   unfolding inputs_of reply_by
-  answer_says before after said text asks to same =
-      let sizes : StackSizes = stack_sizes control temporary in
-      subst (λ (r : Result Texts EarlyEnd). BeginsWith (answer_on debug watches r).text (said ++ text))
+  answer_says before line after said told left asks to tells =
+      subst (λ (r : Result Texts EarlyEnd). BeginsWith (answer_on debug watches r).text (said ++ told))
       (sym (three_there files (Source, source_name) (Values, values_name) (Script, script_name) is.built.text is.values_text asks.script is.built.readable is.there asks.there))
-      (subst (λ (r : Result LevelOf Verdict). BeginsWith (reply_text (session_reply r watches asks.script)) (said ++ text)) (sym to.begins)
-      (reply_says up stays to.run watches asks.script before after asks.number said to.done to.says asks.lines text same))
+      (subst (λ (r : Result LevelOf Verdict). BeginsWith (reply_text (session_reply r watches asks.script)) (said ++ told)) (sym to.begins)
+      (reply_says stays to.run watches asks.script before line after said told left to.says asks.lines tells))
+
+  -- so at a line of `up`
+  up_says : (before after : List Line) (said text : List ℕ) (number : ℕ) (asks : Asks files script_name before (up_line number) after)
+      (to : SaysTo level is.built.text (stack_sizes control temporary) is.values_text watches before said)
+      → up_text (walk (steps_of before to.run) to.run).level ≡ text → BeginsWith (answer_to debug watches files).text (said ++ text)
+  up_says before after said text number asks to same =
+      let s : SessionOf = session_on to.run watches in
+      let made : Followed = followed [] before s in
+      answer_says before (up_line number) after said text made.session asks to
+      (up [] before after number s (all_done to.run watches before to.done) ∙ ap (λ (t : List ℕ). followed (made.text ++ t) after made.session) same)
+
+  -- where the processor stands behind the lines, so does the session
+  stands_there : level ≡ Fm9001 → (before : List Line) (said : List ℕ) (state : fm.Fm)
+      (to : SaysTo level is.built.text (stack_sizes control temporary) is.values_text watches before said)
+      → StandsAfter (steps_of before to.run) (loaded is.image is.values) is.image.final_pc state
+      → (walk (steps_of before to.run) to.run).level ≡ Fm record { image = is.image; state = state }
+  stands_there at before said state to stands =
+      let n : ℕ = steps_of before to.run in
+      let is_run : run_in Fm9001 is.built.text (stack_sizes control temporary) is.values_text ≡ Ok to.run
+      = subst (λ (l : Level). run_in l is.built.text (stack_sizes control temporary) is.values_text ≡ Ok to.run) at to.begins in
+      let begins : to.run ≡ image_run is.image is.values
+      = machine_begins implement take ends walks source_name values_name control temporary files is to.run is_run in
+      ap (λ (l : LevelOf). (walk n l).level) begins ∙ walk_stands walks is.image is.values n state stands
+
+  -- of `words`
+  words_says : level ≡ Fm9001 → (before after : List Line) (said : List ℕ) (number address count : ℕ) (state : fm.Fm)
+      (asks : Asks files script_name before (words_line number address count) after)
+      (to : SaysTo level is.built.text (stack_sizes control temporary) is.values_text watches before said)
+      → StandsAfter (steps_of before to.run) (loaded is.image is.values) is.image.final_pc state
+      → BeginsWith (answer_to debug watches files).text (said ++ word_lines state address count)
+  words_says at before after said number address count state asks to stands =
+      let s : SessionOf = session_on to.run watches in
+      let made : Followed = followed [] before s in
+      let there : FmLevelOf = record { image = is.image; state = state } in
+      answer_says before (words_line number address count) after said (word_lines state address count) made.session asks to
+      (words [] before after number address count s there (all_done to.run watches before to.done) (stands_there at before said state to stands))
+
+  -- and of `until`
+  until_says : (before after : List Line) (said : List ℕ) (number limit k : ℕ) (there : Place) (here : LevelOf)
+      (asks : Asks files script_name before (until_line number there limit) after)
+      (to : SaysTo level is.built.text (stack_sizes control temporary) is.values_text watches before said)
+      → (walk (steps_of before to.run) to.run).level ≡ here → has_places here there ≡ true → IsFirstArrival there k here → k ≤ limit
+      → BeginsWith (answer_to debug watches files).text (said ++ arrival_text (arrival.There k))
+  until_says before after said number limit k there here asks to leads has first within =
+      let s : SessionOf = session_on to.run watches in
+      let made : Followed = followed [] before s in
+      answer_says before (until_line number there limit) after said (arrival_text (arrival.There k)) (stepped k made.session).session asks to
+      (arrivals [] before after number limit k there s here (all_done to.run watches before to.done) leads has first within)
+
+  -- of `until` with an address
+  address_says : level ≡ Fm9001 → (before after : List Line) (said : List ℕ) (number address limit k : ℕ) (state there : fm.Fm)
+      (asks : Asks files script_name before (until_line number (place.Number address) limit) after)
+      (to : SaysTo level is.built.text (stack_sizes control temporary) is.values_text watches before said)
+      → StandsAfter (steps_of before to.run) (loaded is.image is.values) is.image.final_pc state
+      → IsFirst state address k there → Avoids state is.image.final_pc k → k ≤ limit
+      → BeginsWith (answer_to debug watches files).text (said ++ arrival_text (arrival.There k))
+  address_says at before after said number address limit k state there asks to stands first apart within =
+      let here : FmLevelOf = record { image = is.image; state = state } in
+      until_says before after said number limit k (place.Number address) (Fm here) asks to (stands_there at before said state to stands) refl
+      (arrive address k here there first apart) within
 
   run_same : (a b : LevelOf) → run_in level is.built.text (stack_sizes control temporary) is.values_text ≡ Ok a → run_in level is.built.text (stack_sizes control temporary) is.values_text ≡ Ok b → a ≡ b
   run_same a b first second = let same : Ok a ≡ Ok b = sym first ∙ second in cc
 
   debug_explains : ExplainsRun level files script_name source_name values_name (stack_sizes control temporary) is watches (answer_to debug watches files)
   debug_explains = record {
-    up = λ before after said j g asks to stands steps.
-        let b = begun j (steps_of before) g stands steps in
+    up = λ before after said number j g asks to stands steps.
+        let b = begun j (steps_of before to.run) g stands steps in
         let same : b.0.run ≡ to.run = run_same b.0.run to.run b.1 to.begins in
-        answer_says before after said (state_text is.source g) asks to
-        (ap (λ (l : LevelOf). up_text (walk (steps_of before) l).level) (sym same) ∙ b.0.says.says);
-    up_at_end = λ before after said j finals way spent asks to stands enough.
-        answer_says before after said (lines_of_reading is.image (meaning_shown is.source finals way)) asks to
-        (ended_text implement take ends walks source_name values_name control temporary files is level j (steps_of before) finals way spent to.run to.begins stands enough);
-    up_at_top = λ at before after said asks to.
-        answer_says before after said gypsy_up asks to (top_says level at is.built.text (stack_sizes control temporary) is.values_text to.run (steps_of before) to.begins);
+        up_says before after said (state_text is.source g) number asks to
+        (ap (λ (l : LevelOf). up_text (walk (steps_of before to.run) l).level) (sym same) ∙ b.0.says.says);
+    up_at_end = λ before after said number j finals way spent asks to stands enough.
+        up_says before after said (lines_of_reading is.image (meaning_shown is.source finals way)) number asks to
+        (ended_text implement take ends walks source_name values_name control temporary files is level j
+        (steps_of before to.run) finals way spent to.run to.begins stands enough);
+    up_at_top = λ at before after said number asks to.
+        up_says before after said gypsy_up number asks to
+        (top_says level at is.built.text (stack_sizes control temporary) is.values_text to.run (steps_of before to.run) to.begins);
+    words = words_says;
+    until = until_says;
+    until_address = address_says;
     steps = λ lines j g asks stands steps.
-        let b = begun j (steps_of lines) g stands steps in
+        let b = begun j (all_asked lines) g stands steps in
         let h = steps_said said_steps b.0.run watches lines asks b.0.says.goes in
         record { run = b.0.run; begins = b.1; done = h.0; says = h.1 };
   }
 
-pub explains : BuiltImplements → BuiltTakesValues → BuiltSaysMoments → BuiltSaysEnds → UpIsSaid → StepsAreSaid → TextStays → MachinesWalk → (c : Command) (watches : List Watching) (files : Files) → Explains c watches files (answer_to c watches files)
-explains implement take moments ends up steps stays walks (command.Debug level source_name values_name control temporary script_name) watches files =
-    λ is. debug_explains implement take moments ends up steps stays walks level source_name values_name control temporary script_name watches files is
-explains implement take moments ends up steps stays walks c watches files = tt
+pub explains : BuiltImplements → BuiltTakesValues → BuiltSaysMoments → BuiltSaysEnds → UpIsSaid → WordsAreSaid → ArrivalsAreSaid → StepsAreSaid → TextStays
+    → MachinesWalk → MachinesArrive → (c : Command) (watches : List Watching) (files : Files) → Explains c watches files (answer_to c watches files)
+explains implement take moments ends up words arrivals steps stays walks arrive (command.Debug level source values control temporary script) watches files =
+    λ is. debug_explains implement take moments ends up words arrivals steps stays walks arrive level source values control temporary script watches files is
+explains implement take moments ends up words arrivals steps stays walks arrive c watches files = tt

@@ -1,10 +1,17 @@
 -- Commands, by their words.
-use Rattle.std.specs.Prelude.{ℕ, ℤ, pos, negsuc, ◌==◌, List, [], ◌∷◌, Option, Some}
+use Rattle.std.specs.Prelude.{ℕ, ℤ, pos, negsuc, ◌^◌, ◌-◌, ◌==◌, List, [], ◌∷◌, Option, Some}
 use Rattle.std.specs.Prelude.{None, Result, Ok, Err, nat_le, if◌then◌else◌, codes}
 use Rattle.std.specs.List.{slice_split}
 use Rattle.std.specs.Str.{bytes_eq}
 use Rattle.stack_text.specs.SharedLimits.{most_steps}
+use Rattle.stack_text.specs.Names.{name_of}
 use Rattle.stack_text.specs.Numerals.{is_digits, numeral_value}
+use Rattle.stack_text.specs.Gives as common
+use Rattle.stack_text.specs.Results.{◌>>=◌}
+use Rattle.debug_script.specs.declared.fault.LineFault.{LineFault}
+use Rattle.debug_script.specs.declared.fault.LineFault.TheVariants as fault
+use Rattle.debug_script.specs.declared.command.Place.{Place}
+use Rattle.debug_script.specs.declared.command.Place.TheVariants as place
 use Rattle.debug_script.specs.declared.fault.ScriptRule.{ScriptRule}
 use Rattle.debug_script.specs.declared.fault.ScriptRule.TheVariants as rules
 use Rattle.debug_script.specs.declared.command.Command.{Command}
@@ -24,7 +31,9 @@ verb_of word =
     else (if bytes_eq word (codes "show") then Some verb.Show
     else (if bytes_eq word (codes "up") then Some verb.Up
     else (if bytes_eq word (codes "attach") then Some verb.Attach
-    else (if bytes_eq word (codes "detach") then Some verb.Detach else None))))
+    else (if bytes_eq word (codes "detach") then Some verb.Detach
+    else (if bytes_eq word (codes "words") then Some verb.Words
+    else (if bytes_eq word (codes "until") then Some verb.Until else None))))))
 
 unfoldable pub watch_of : List ℕ → Result WatchWord ScriptRule
 watch_of word =
@@ -33,30 +42,56 @@ watch_of word =
     else (if bytes_eq word (codes "last") then Ok watch.Last
     else (if bytes_eq word (codes "peak") then Ok watch.Peak else Err rules.Argument)))
 
--- a number that is at most 2^40
-abbrev pub in_range : ℤ → Result ℕ ScriptRule
-in_range (pos n) = if nat_le n most_steps then Ok n else Err rules.Argument
-in_range (negsuc n) = Err rules.Argument
+-- a number that is at most this
+abbrev pub in_range : ℕ → ℤ → Result ℕ ScriptRule
+in_range most (pos n) = if nat_le n most then Ok n else Err rules.Argument
+in_range most (negsuc n) = Err rules.Argument
 
 -- the number that decimal digits spell, of which there may be any number
-unfoldable pub count_of : List ℕ → Result ℕ ScriptRule
-count_of word = if is_digits word then in_range (numeral_value word) else Err rules.Argument
+unfoldable pub number_of : ℕ → List ℕ → Result ℕ ScriptRule
+number_of most word = if is_digits word then in_range most (numeral_value word) else Err rules.Argument
 
-abbrev pub stepping : Result ℕ ScriptRule → Result Command ScriptRule
-stepping (Ok count) = Ok (command.Step count)
-stepping (Err rule) = Err rule
+-- at most 2^40 steps
+abbrev pub count_of : List ℕ → Result ℕ ScriptRule
+count_of word = number_of most_steps word
 
-abbrev pub watching : (WatchWord → Command) → Result WatchWord ScriptRule → Result Command ScriptRule
-watching make (Ok watch) = Ok (make watch)
-watching make (Err rule) = Err rule
+-- an address, or another number of 32 bits
+abbrev pub address_of : List ℕ → Result ℕ ScriptRule
+address_of word = number_of (2 ^ 32 - 1) word
+
+-- the most words of memory that a line asks for
+abbrev pub most_words : ℕ
+most_words = 4096
+
+abbrev pub words_command : List ℕ → List ℕ → Result Command ScriptRule
+words_command address count =
+    address_of address >>= λ address. number_of most_words count >>= λ count. Ok (command.Words address count)
+
+-- a place as `show` has it: a number, or the name of a program and the number of an instruction
+abbrev pub until_number : List ℕ → List ℕ → Result Command ScriptRule
+until_number number limit = address_of number >>= λ n. count_of limit >>= λ most. Ok (command.Until (place.Number n) most)
+
+abbrev pub named_place : Option (List ℕ) → List ℕ → Result Place ScriptRule
+named_place None number = Err rules.Argument
+named_place (Some name) number = address_of number >>= λ n. Ok (place.Instruction name n)
+
+abbrev pub place_of : List ℕ → List ℕ → Result Place ScriptRule
+place_of program number = named_place (name_of program) number
+
+abbrev pub until_instruction : List ℕ → List ℕ → List ℕ → Result Command ScriptRule
+until_instruction program number limit =
+    place_of program number >>= λ there. count_of limit >>= λ most. Ok (command.Until there most)
 
 -- the command of a verb and the words behind it, or the rule that they break
 abbrev pub command_by : Verb → List (List ℕ) → Result Command ScriptRule
-command_by verb.Step (count ∷ []) = stepping (count_of count)
+command_by verb.Step (count ∷ []) = count_of count >>= λ n. Ok (command.Step n)
 command_by verb.Show [] = Ok command.Show
 command_by verb.Up [] = Ok command.Up
-command_by verb.Attach (watch ∷ []) = watching command.Attach (watch_of watch)
-command_by verb.Detach (watch ∷ []) = watching command.Detach (watch_of watch)
+command_by verb.Attach (watch ∷ []) = watch_of watch >>= λ w. Ok (command.Attach w)
+command_by verb.Detach (watch ∷ []) = watch_of watch >>= λ w. Ok (command.Detach w)
+command_by verb.Words (address ∷ count ∷ []) = words_command address count
+command_by verb.Until (number ∷ limit ∷ []) = until_number number limit
+command_by verb.Until (program ∷ number ∷ limit ∷ []) = until_instruction program number limit
 command_by verb words = Err rules.WordCount
 
 abbrev pub command_with : Option Verb → List (List ℕ) → Result Command ScriptRule
@@ -66,3 +101,15 @@ command_with None words = Err rules.UnknownCommand
 abbrev pub command_of : List (List ℕ) → Result Command ScriptRule
 command_of [] = Err rules.UnknownCommand
 command_of (word ∷ words) = command_with (verb_of word) words
+
+-- the rule that a fault of a line is; there is none where memory ran out
+abbrev pub rule_of : LineFault → Option ScriptRule
+rule_of (fault.Rule rule) = Some rule
+rule_of fault.Memory = None
+
+-- exactly what the definition gives, unless memory ran out
+abbrev pub GivesCommand : Result Command LineFault → Result Command ScriptRule → Type 0
+GivesCommand result value = common.Gives rule_of (λ (c : Command). c) result value
+
+abbrev pub GivesPlace : Result Place LineFault → Result Place ScriptRule → Type 0
+GivesPlace result value = common.Gives rule_of (λ (p : Place). p) result value

@@ -1,5 +1,5 @@
 -- The rules of scripts, in the order in which they are judged: too many bytes in a line or one out of place (D6), an unknown
--- command (D1), a wrong number of words (D2), no number in the range or no watch (D3).
+-- command (D1), a wrong number of words (D2), no number in the range, no watch or no name (D3).
 use Rattle.std.specs.Prelude.{ℕ}
 use Rattle.debug_script.specs.declared.fault.ScriptRule.{ScriptRule}
 use Rattle.debug_script.specs.declared.fault.ScriptRule.TheVariants as rules

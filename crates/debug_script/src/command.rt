@@ -1,10 +1,16 @@
 //! Commands.
 
-ghost use Rattle.std.specs.Prelude.{◌≡◌, map};
-ghost use Rattle.debug_script.specs.Commands.{verb_of, watch_of, count_of, command_of, command_by};
+ghost use Rattle.std.specs.Prelude.{◌≡◌, ◌∷◌, map};
+ghost use Rattle.debug_script.specs.Commands.{GivesCommand, GivesPlace, command_by, command_of, count_of, number_of, place_of, until_instruction, until_number};
+ghost use Rattle.debug_script.specs.Commands.{verb_of, watch_of, words_command};
+ghost use Rattle.debug_script.specs.declared.command.Verb.TheVariants as verb;
 
-use crate::fault::ScriptRule;
-use stack_text::{MOST_STEPS, is_digits, read_numeral};
+use crate::fault::{LineFault, ScriptRule};
+use stack_text::{MOST_STEPS, Name, is_digits, read_name, read_numeral};
+use std::alloc::Global;
+
+/// The most words of memory that a line asks for.
+const MOST_WORDS: u32 = 4_096;
 
 /// A watch, as a script names it.
 #[derive(Clone, Copy, Debug, PartialEq, Eq)]
@@ -19,8 +25,17 @@ pub enum WatchWord {
     Peak,
 }
 
+/// A place of a run, as `show` has it.
+#[derive(Debug, Drop, PartialEq, Eq)]
+pub enum Place {
+    /// A byte of the source, or an address of the processor's memory.
+    Number { number: u32 },
+    /// An instruction of a program of Piton, from 0.
+    Instruction { program: Name, place: u32 },
+}
+
 /// A command of a script.
-#[derive(Clone, Copy, Debug, PartialEq, Eq)]
+#[derive(Debug, Drop, PartialEq, Eq)]
 pub enum Command {
     /// Makes at most so many steps: 0 to 2^40.
     Step { count: u64 },
@@ -32,6 +47,10 @@ pub enum Command {
     Attach { watch: WatchWord },
     /// Says what the first attached watch of the kind has kept, and takes it away.
     Detach { watch: WatchWord },
+    /// Says so many words of the processor's memory, from an address on: 0 to 4,096.
+    Words { address: u32, count: u32 },
+    /// Goes on to where the run first stands at a place, in at most so many steps: 0 to 2^40.
+    Until { place: Place, limit: u64 },
 }
 
 /// The first word of a command.
@@ -42,6 +61,8 @@ enum Verb {
     Up,
     Attach,
     Detach,
+    Words,
+    Until,
 }
 
 /// The verb that a word is.
@@ -59,6 +80,10 @@ fn verb_of(word: &[u8]) -> Option<Verb>
         Some(Verb::Attach)
     } else if word == b"detach".as_slice() {
         Some(Verb::Detach)
+    } else if word == b"words".as_slice() {
+        Some(Verb::Words)
+    } else if word == b"until".as_slice() {
+        Some(Verb::Until)
     } else {
         None
     }
@@ -83,7 +108,7 @@ fn watch_of(word: &[u8]) -> Result<WatchWord, ScriptRule>
 }
 
 /// The number of steps that a word spells in decimal.
-#[tactic(auto, unfolding(crate::specs::Commands::count_of))]
+#[tactic(auto, unfolding(crate::specs::Commands::number_of))]
 fn count_of(word: &[u8]) -> Result<u64, ScriptRule>
     ensures { result ≡ count_of word.now }
 {
@@ -96,22 +121,122 @@ fn count_of(word: &[u8]) -> Result<u64, ScriptRule>
     }
 }
 
+/// The number that a word spells in decimal, of at most this size.
+#[tactic(auto, unfolding(crate::specs::Commands::number_of))]
+fn number_of(word: &[u8], most: u32) -> Result<u32, ScriptRule>
+    ensures { result ≡ number_of most word.now }
+{
+    if !is_digits(word) {
+        return Err(ScriptRule::Argument);
+    }
+    match read_numeral(word) {
+        Some(number) if 0 <= number && number <= i128::from(most) => Ok(number as u32),
+        _ => Err(ScriptRule::Argument),
+    }
+}
+
+/// The command of `words`, by its two arguments.
+fn words_command(address: &[u8], count: &[u8]) -> Result<Command, ScriptRule>
+    ensures { result ≡ words_command address.now count.now }
+{
+    Ok(Command::Words {
+        address: number_of(address, u32::MAX)?,
+        count: number_of(count, MOST_WORDS)?,
+    })
+}
+
+/// The place in a program that two words name.
+fn place_of(alloc: Global, program: &[u8], place: &[u8]) -> Result<Place, LineFault>
+    ensures { GivesPlace result (place_of program.now place.now) }
+{
+    let Some(program) = read_name(alloc, program)? else {
+        return Err(LineFault::Rule(ScriptRule::Argument));
+    };
+    Ok(Place::Instruction {
+        program,
+        place: number_of(place, u32::MAX)?,
+    })
+}
+
+/// The command of `until` with a number as its place.
+fn until_number(number: &[u8], limit: &[u8]) -> Result<Command, ScriptRule>
+    ensures { result ≡ until_number number.now limit.now }
+{
+    Ok(Command::Until {
+        place: Place::Number {
+            number: number_of(number, u32::MAX)?,
+        },
+        limit: count_of(limit)?,
+    })
+}
+
+/// The command of `until` with an instruction as its place.
+fn until_instruction(
+    alloc: Global,
+    program: &[u8],
+    number: &[u8],
+    limit: &[u8],
+) -> Result<Command, LineFault>
+    ensures { GivesCommand result (until_instruction program.now number.now limit.now) }
+{
+    Ok(Command::Until {
+        place: place_of(alloc, program, number)?,
+        limit: count_of(limit)?,
+    })
+}
+
+/// The command of `words`, by its address and what stands behind that.
+fn words_from(address: &[u8], rest: &[&[u8]]) -> Result<Command, ScriptRule>
+    ensures { result ≡ command_by verb.Words (address.now ∷ map (λ word. word.now) rest.now) }
+{
+    match rest {
+        [count] => words_command(address, count),
+        _ => Err(ScriptRule::WordCount),
+    }
+}
+
+/// The command of `until`, by its first two words and what stands behind those.
+fn until_both(
+    alloc: Global,
+    first: &[u8],
+    second: &[u8],
+    rest: &[&[u8]],
+) -> Result<Command, LineFault>
+    ensures { GivesCommand result (command_by verb.Until (first.now ∷ second.now ∷ map (λ word. word.now) rest.now)) }
+{
+    match rest {
+        [] => Ok(until_number(first, second)?),
+        [limit] => until_instruction(alloc, first, second, limit),
+        _ => Err(LineFault::Rule(ScriptRule::WordCount)),
+    }
+}
+
+/// The command of `until`, by its first word and what stands behind that.
+fn until_from(alloc: Global, first: &[u8], rest: &[&[u8]]) -> Result<Command, LineFault>
+    ensures { GivesCommand result (command_by verb.Until (first.now ∷ map (λ word. word.now) rest.now)) }
+{
+    match rest {
+        [second, rest @ ..] => until_both(alloc, first, second, rest),
+        [] => Err(LineFault::Rule(ScriptRule::WordCount)),
+    }
+}
+
 /// The command of words, or the rule that they break.
-pub fn command_of(words: &[&[u8]]) -> Result<Command, ScriptRule>
-    ensures { result ≡ command_of (map (λ word. word.now) words.now) }
+pub(crate) fn command_of(alloc: Global, words: &[&[u8]]) -> Result<Command, LineFault>
+    ensures { GivesCommand result (command_of (map (λ word. word.now) words.now)) }
 {
     match words {
         [verb, arguments @ ..] => match verb_of(verb) {
-            Some(verb) => command_by(verb, arguments),
-            None => Err(ScriptRule::UnknownCommand),
+            Some(verb) => command_by(alloc, verb, arguments),
+            None => Err(LineFault::Rule(ScriptRule::UnknownCommand)),
         },
-        [] => Err(ScriptRule::UnknownCommand),
+        [] => Err(LineFault::Rule(ScriptRule::UnknownCommand)),
     }
 }
 
 /// The command of a verb and the words behind it.
-fn command_by(verb: Verb, arguments: &[&[u8]]) -> Result<Command, ScriptRule>
-    ensures { result ≡ command_by verb (map (λ word. word.now) arguments.now) }
+fn command_by(alloc: Global, verb: Verb, arguments: &[&[u8]]) -> Result<Command, LineFault>
+    ensures { GivesCommand result (command_by verb (map (λ word. word.now) arguments.now)) }
 {
     match (verb, arguments) {
         (Verb::Step, [count]) => Ok(Command::Step {
@@ -125,6 +250,8 @@ fn command_by(verb: Verb, arguments: &[&[u8]]) -> Result<Command, ScriptRule>
         (Verb::Detach, [watch]) => Ok(Command::Detach {
             watch: watch_of(watch)?,
         }),
-        _ => Err(ScriptRule::WordCount),
+        (Verb::Words, [address, rest @ ..]) => Ok(words_from(address, rest)?),
+        (Verb::Until, [first, rest @ ..]) => until_from(alloc, first, rest),
+        _ => Err(LineFault::Rule(ScriptRule::WordCount)),
     }
 }

@@ -3,6 +3,7 @@
 ghost use Rattle.std.specs.Prelude.{◌≡◌};
 ghost use Rattle.debug_script.specs.Rules.{rule_number};
 
+use stack_text::Memory;
 use std::alloc::{AllocError, AllocFailed};
 use thiserror::Error;
 
@@ -15,8 +16,48 @@ pub enum ScriptRule {
     UnknownCommand,
     /// D2: the command has a wrong number of words.
     WordCount,
-    /// D3: its second word is no number in the range, or no watch.
+    /// D3: one of its further words is no number in the range, no watch, or no name.
     Argument,
+}
+
+/// Why a line gives no command: the rule that it breaks, or out of memory.
+#[derive(Clone, Copy, Debug, PartialEq, Eq)]
+pub(crate) enum LineFault {
+    Rule(ScriptRule),
+    Memory,
+}
+
+impl From<ScriptRule> for LineFault {
+    ghost use Rattle.std.specs.Prelude.{◌≡◌};
+    ghost use Rattle.debug_script.specs.declared.fault.LineFault.TheVariants.{Rule};
+
+    ghost from_gives = { λ rule e. e ≡ Rule rule };
+
+    fn from(rule: ScriptRule) -> LineFault {
+        LineFault::Rule(rule)
+    }
+}
+
+impl From<Memory> for LineFault {
+    ghost use Rattle.std.specs.Prelude.{◌≡◌};
+    ghost use Rattle.debug_script.specs.declared.fault.LineFault.TheVariants as fault;
+
+    ghost from_gives = { λ _ e. e ≡ fault.Memory };
+
+    fn from(_memory: Memory) -> LineFault {
+        LineFault::Memory
+    }
+}
+
+impl From<AllocError> for LineFault {
+    ghost use Rattle.std.specs.Prelude.{◌≡◌};
+    ghost use Rattle.debug_script.specs.declared.fault.LineFault.TheVariants as fault;
+
+    ghost from_gives = { λ _ e. e ≡ fault.Memory };
+
+    fn from(_error: AllocError) -> LineFault {
+        LineFault::Memory
+    }
 }
 
 impl ScriptRule {

@@ -1,7 +1,7 @@
 //! Scripts of a debugger: a text of lines, each of which is empty or one command.
 //!
 //! `step N`, `show`, `up`, `attach WATCH` and `detach WATCH`, where WATCH is `count`, `cost`, `last` or
-//! `peak`.
+//! `peak`, `words ADDRESS N`, and `until PLACE N`, where PLACE is a number or a program's name and a number.
 #![tactic(auto)]
 
 mod command;
@@ -9,6 +9,6 @@ mod fault;
 mod line;
 mod reading;
 
-pub use command::{Command, WatchWord};
+pub use command::{Command, Place, WatchWord};
 pub use fault::ScriptFault;
 pub use reading::{Line, read_script};

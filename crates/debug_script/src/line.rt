@@ -1,12 +1,12 @@
 //! One line.
 
 ghost use Rattle.std.specs.Prelude.{◌≡◌, map, IfOk};
-ghost use Rattle.debug_script.specs.Commands.{words_of};
+ghost use Rattle.debug_script.specs.Commands.{GivesCommand, words_of};
 ghost use Rattle.debug_script.specs.Lines.{command_in};
 
 use crate::command::{Command, command_of};
-use crate::fault::ScriptRule;
-use stack_text::{Memory, is_plain_line};
+use crate::fault::{LineFault, ScriptRule};
+use stack_text::is_plain_line;
 use std::alloc::{AllocError, Global};
 
 /// The words of a line: each space ends one.
@@ -18,12 +18,12 @@ fn words_of<'a>(alloc: Global, line: &'a [u8]) -> Result<Vec<&'a [u8]>, AllocErr
 
 /// The command of a line that is not empty, or the rule that the line breaks.
 #[tactic(auto, unfolding(crate::specs::Lines::command_in))]
-pub fn command_in(alloc: Global, line: &[u8]) -> Result<Result<Command, ScriptRule>, Memory>
-    ensures { IfOk result (λ command. command ≡ command_in line.now) }
+pub(crate) fn command_in(alloc: Global, line: &[u8]) -> Result<Command, LineFault>
+    ensures { GivesCommand result (command_in line.now) }
 {
     if !is_plain_line(line) {
-        return Ok(Err(ScriptRule::Bytes));
+        return Err(LineFault::Rule(ScriptRule::Bytes));
     }
     let words = words_of(alloc, line)?;
-    Ok(command_of(&words))
+    command_of(alloc, &words)
 }

@@ -4,14 +4,13 @@ ghost use Rattle.std.specs.Prelude.{◌≤◌, ◌^◌, length};
 ghost use Rattle.debug_script.specs.Scripts.{GivesScript, line_read, script_of};
 
 use crate::command::Command;
-use crate::fault::ScriptFault;
+use crate::fault::{LineFault, ScriptFault};
 use crate::line::command_in;
 use bstr::ByteSlice;
-use stack_text::Memory;
 use std::alloc::Global;
 
 /// A line of a script that is not empty.
-#[derive(Clone, Copy, Debug, PartialEq, Eq)]
+#[derive(Debug, Drop, PartialEq, Eq)]
 pub struct Line {
     /// Its number in the script, from 1; empty lines count too.
     pub line: u32,
@@ -28,15 +27,15 @@ fn read_line(alloc: Global, number: u32, line: &[u8]) -> Result<Option<Line>, Sc
         return Ok(None);
     }
     match command_in(alloc, line) {
-        Ok(Ok(command)) => Ok(Some(Line {
+        Ok(command) => Ok(Some(Line {
             line: number,
             command,
         })),
-        Ok(Err(rule)) => Err(ScriptFault::Refused {
+        Err(LineFault::Rule(rule)) => Err(ScriptFault::Refused {
             rule: rule.number(),
             line: number,
         }),
-        Err(Memory) => Err(ScriptFault::Memory),
+        Err(LineFault::Memory) => Err(ScriptFault::Memory),
     }
 }
 

@@ -1,5 +1,7 @@
 pub mod NotedLaws
 pub mod WalkLaws
+pub mod ArrivalLaws
+pub mod WordLaws
 pub mod TakenLaws
 pub mod ElementLaws
 pub mod AreaLaws

@@ -1,6 +1,7 @@
 -- A walk makes the steps of what the run is a run of.
-use Rattle.std.proofs.Common.{◌≡◌, ◌≢◌, ◌+◌, ◌<◌, ◌^◌, ℕ, zero, suc, Bool, cond, List, [], ◌∷◌, length, Result, Ok, Err, refl, ap, subst, ◌∙◌, arith}
-use Rattle.std.proofs.lemmas.Bool.{ne_eqb}
+use Rattle.std.proofs.Common.{◌≡◌, ◌≢◌, ◌+◌, ◌<◌, ◌≤◌, ◌^◌, ℕ, zero, suc, Bool, cond, List, [], ◌∷◌, length, Result, Ok, Err, refl, ap, subst, ◌∙◌, arith}
+use Rattle.std.proofs.lemmas.Bool.{eq-eqb, ne_eqb}
+use Rattle.debug_script.specs.declared.command.Place.TheVariants as place
 use Rattle.fm_machine.specs.State as machine
 use Rattle.fm_machine.specs.Run.{Avoids, fm_run, pc_of}
 use Rattle.fm_machine.specs.Step.{fm_step, then_on}
@@ -15,9 +16,9 @@ use Rattle.piton_machine.specs.Step.{piton_step, step_cost}
 use Rattle.piton_machine.specs.Views as views
 use Rattle.level_debuggers.specs.declared.watch.Event.{Event}
 use Rattle.level_debuggers.specs.FmLevels.{FmLevelOf, fm_after, fm_event}
-use Rattle.level_debuggers.specs.Levels.{LevelOf, Piton, Fm, lifted, next_of}
+use Rattle.level_debuggers.specs.Levels.{LevelOf, Piton, Fm, lifted, next_of, stands_at}
 use Rattle.level_debuggers.specs.PitonLevels.{PitonLevelOf, piton_after, piton_event, piton_from}
-use Rattle.level_debuggers.specs.RunWalks.{WalksTo, MachinesWalk, SystemsWalk}
+use Rattle.level_debuggers.specs.RunWalks.{WalksTo, MachinesWalk, MachinesArrive, SystemsWalk}
 use Rattle.level_debuggers.specs.Steps.{Over, Makes}
 use Rattle.level_debuggers.specs.Walks.{Walk, with_event, walk_on, walk}
 
@@ -58,6 +59,33 @@ machines_walk zero run t made apart =
     subst (λ (s : machine.Fm). WalksTo 0 (Fm run) (Fm (record run { state = s }))) same (walks_none (Fm run))
 machines_walk (suc n) run t made apart =
     machines_by n run t (fm_step run.state) refl made apart (λ u rest avoids. machines_walk n (record run { state = u }) t rest avoids)
+
+-- a run that makes so many steps makes fewer
+front_by : (j k : ℕ) (s t : machine.Fm) (r : Result machine.Fm Outside) → fm_step s ≡ r → then_on r (fm_run k) ≡ Ok t
+    → ((u : machine.Fm) → fm_run k u ≡ Ok t → (v : machine.Fm) × (fm_run j u ≡ Ok v)) → (v : machine.Fm) × (fm_run (suc j) s ≡ Ok v)
+unfolding fm_run
+front_by j k s t (Ok u) is rest later =
+    let on = later u rest in (on.0, ap (λ (r : Result machine.Fm Outside). then_on r (fm_run j)) is ∙ on.1)
+front_by j k s t (Err fault) is rest later = absurd cc
+
+run_front : (j k : ℕ) (s t : machine.Fm) → j ≤ k → fm_run k s ≡ Ok t → (u : machine.Fm) × (fm_run j s ≡ Ok u)
+unfolding fm_run
+run_front zero k s t le made = (s, refl)
+run_front (suc j) zero s t le made = absurd (omega (arith, le))
+run_front (suc j) (suc k) s t le made =
+    front_by j k s t (fm_step s) refl made (λ u rest. run_front j k u t (omega (arith, le)) rest)
+
+pub machines_arrive : MachinesArrive
+machines_arrive address k run t first apart =
+    let w : WalksTo k (Fm run) (Fm (record run { state = t })) = machines_walk k run t first.reached apart in
+    record {
+      stands = ap (stands_at (place.Number address)) w.leads ∙ eq-eqb (pc_of t) address first.there;
+      first = λ j lt.
+          let u = run_front j k run.state t (omega (arith, lt)) first.reached in
+          let v : WalksTo j (Fm run) (Fm (record run { state = u.0 }))
+          = machines_walk j run u.0 u.1 (λ i w less made. apart i w (omega (arith, less, lt)) made) in
+          ap (stands_at (place.Number address)) v.leads ∙ ne_eqb (pc_of u.0) address (first.before j u.0 lt u.1);
+    }
 
 -- ---- of Piton's machine
 

@@ -1,9 +1,12 @@
--- How far a script leads, and what is said at its lines of `up`.
-use Rattle.std.proofs.Common.{◌≡◌, ◌+◌, ℕ, zero, suc, Bool, false, cond, List, [], ◌∷◌, ◌++◌, length, Option, Some, None, refl, sym, ap, subst, ◌∙◌, arith, append_assoc}
+-- How far a script leads, and what is said at its lines of `up`, `words` and `until`.
+use Rattle.std.proofs.Common.{◌≡◌, ◌+◌, ◌≤◌, ℕ, zero, suc, Bool, true, false, cond, List, [], ◌∷◌, ◌++◌, length, Option, Some, None}
+use Rattle.std.proofs.Common.{refl, sym, ap, subst, ◌∙◌, arith, append_assoc}
+use Rattle.std.specs.Prelude.{unwrap_or}
 use Rattle.std.proofs.lemmas.Bool.{eq-eqb}
 use Rattle.std.proofs.lemmas.List.{append-nil}
 use Rattle.debug_script.specs.declared.command.Command.{Command}
 use Rattle.debug_script.specs.declared.command.Command.TheVariants as command
+use Rattle.debug_script.specs.declared.command.Place.{Place}
 use Rattle.debug_script.specs.declared.command.WatchWord.{WatchWord}
 use Rattle.debug_script.specs.declared.reading.Line.{Line}
 use Rattle.level_debuggers.specs.declared.script_end.ScriptEnd.{ScriptEnd}
@@ -11,13 +14,21 @@ use Rattle.level_debuggers.specs.declared.script_end.ScriptEnd.TheVariants as en
 use Rattle.level_debuggers.specs.declared.session.SessionRun.{SessionRun}
 use Rattle.level_debuggers.specs.declared.session.SessionRun.TheVariants as run
 use Rattle.level_debuggers.specs.declared.watch.Tally.{Tally}
-use Rattle.level_debuggers.specs.Levels.{LevelOf, next_of, up_text}
+use Rattle.level_debuggers.specs.declared.arrival.Arrival.{Arrival}
+use Rattle.level_debuggers.specs.declared.arrival.Arrival.TheVariants as arrival
+use Rattle.level_debuggers.specs.Arrivals.{Arrived, IsFirstArrival, arrived, arrived_by, first_arrival}
+use Rattle.level_debuggers.specs.FmLevels.{FmLevelOf, word_lines}
+use Rattle.level_debuggers.specs.Levels.{LevelOf, Fm, has_places, next_of, up_text, words_text}
 use Rattle.level_debuggers.specs.Steps.{Next, Over, Stops, Makes, is_over}
 use Rattle.level_debuggers.specs.Tallies.{Watching}
 use Rattle.level_debuggers.specs.Taken.{taken, attached_with, detached_with}
 use Rattle.level_debuggers.specs.Walks.{SessionOf, walk, walk_on, ends_by, refused_after, stepped}
-use Rattle.level_debuggers.specs.Transcripts.{Said, Followed, attach_with, detach_with, follow_on, followed, rule_of_word, run_end, run_text, said_by, said_to}
-use Rattle.level_debuggers.specs.ScriptSteps.{steps_asked, steps_of, up_line, stepped_lines, GoesOn, ScriptsWalk, UpIsSaid, StepsAreSaid, UpSaysMoment, TextStays}
+use Rattle.level_debuggers.specs.Transcripts.{Said, Followed, arrival_end, arrival_text, arrived_said, attach_with, detach_with}
+use Rattle.level_debuggers.specs.Transcripts.{ends_with, follow_on, followed, rule_of_word, run_end, run_text, said_by, said_to, words_said}
+use Rattle.level_debuggers.specs.ScriptSteps.{AskForSteps, all_asked, steps_asked, steps_led, steps_of, stepped_lines}
+use Rattle.level_debuggers.specs.ScriptSteps.{until_line, up_line, words_line}
+use Rattle.level_debuggers.specs.ScriptSteps.{ArrivalsAreSaid, GoesOn, ScriptsWalk, UpIsSaid, WordsAreSaid, StepsAreSaid, UpSaysMoment, TextStays}
+use Rattle.level_debuggers.proofs.ArrivalLaws.{is_first}
 use Rattle.level_debuggers.proofs.WalkLaws.{walk_level}
 
 -- ---- one line
@@ -37,12 +48,27 @@ detach_goes_on : (number : ℕ) (word : WatchWord) (s : SessionOf) (o : Option (
 detach_goes_on number word s (Some found) e = absurd cc
 detach_goes_on number word s None e = absurd cc
 
+words_go_on : (number : ℕ) (s : SessionOf) (o : Option (List ℕ)) → (words_said number s o).end ≡ Some end.Done → ⊥
+words_go_on number s (Some text) e = absurd cc
+words_go_on number s None e = absurd cc
+
+arrival_goes_on : (a : Arrival) → arrival_end a ≡ Some end.Done → ⊥
+arrival_goes_on (arrival.There count) e = absurd cc
+arrival_goes_on (arrival.Elsewhere ran) e = run_goes_on ran e
+
+until_goes_on : (number : ℕ) (b : Bool) (made : Arrived) (s : SessionOf)
+    → (cond b (arrived_said made) (ends_with (end.OtherLevel number) s)).end ≡ Some end.Done → ⊥
+until_goes_on number true made s e = arrival_goes_on made.arrival e
+until_goes_on number false made s e = absurd cc
+
 never_done : (number : ℕ) (c : Command) (s : SessionOf) → (said_by number c s).end ≡ Some end.Done → ⊥
 never_done number (command.Step count) s e = run_goes_on (stepped count s).run e
 never_done number command.Show s e = absurd cc
 never_done number command.Up s e = absurd cc
 never_done number (command.Attach word) s e = attach_goes_on number word s (attached_with s (taken (rule_of_word word) s.waiting)) e
 never_done number (command.Detach word) s e = detach_goes_on number word s (detached_with s (taken (rule_of_word word) s.attached)) e
+never_done number (command.Words address count) s e = words_go_on number s (words_text s.level address count) e
+never_done number (command.Until there limit) s e = until_goes_on number (has_places s.level there) (arrived there limit s) s e
 
 -- it leads the run as far as the steps that it asks for
 attach_stays : (number : ℕ) (word : WatchWord) (s : SessionOf) (o : Option (Watching × List Watching)) → (attach_with number word s (attached_with s o)).session.level ≡ s.level
@@ -54,29 +80,50 @@ detach_stays : (number : ℕ) (word : WatchWord) (s : SessionOf) (o : Option (Wa
 detach_stays number word s (Some found) = refl
 detach_stays number word s None = refl
 
-line_walks : (number : ℕ) (c : Command) (s : SessionOf) → (said_by number c s).session.level ≡ (walk (steps_asked c) s.level).level
+words_stay : (number : ℕ) (s : SessionOf) (o : Option (List ℕ)) → (words_said number s o).session.level ≡ s.level
+words_stay number s (Some text) = refl
+words_stay number s None = refl
+
+arrives_at : (n : ℕ) (s : SessionOf) (first : Option ℕ) → (arrived_by n s first).session.level ≡ (walk (unwrap_or first n) s.level).level
+arrives_at n s (Some k) = refl
+arrives_at n s None = refl
+
+until_walks : (number n : ℕ) (b : Bool) (first : Option ℕ) (s : SessionOf) →
+    (cond b (arrived_said (arrived_by n s first)) (ends_with (end.OtherLevel number) s)).session.level
+    ≡ (walk (cond b (unwrap_or first n) 0) s.level).level
+unfolding walk
+until_walks number n true first s = arrives_at n s first
+until_walks number n false first s = refl
+
+line_walks : (number : ℕ) (c : Command) (s : SessionOf) → (said_by number c s).session.level ≡ (walk (steps_led c s.level) s.level).level
 unfolding walk
 line_walks number (command.Step count) s = refl
 line_walks number command.Show s = refl
 line_walks number command.Up s = refl
 line_walks number (command.Attach word) s = attach_stays number word s (taken (rule_of_word word) s.waiting)
 line_walks number (command.Detach word) s = detach_stays number word s (taken (rule_of_word word) s.attached)
+line_walks number (command.Words address count) s = words_stay number s (words_text s.level address count)
+line_walks number (command.Until there limit) s =
+    until_walks number limit (has_places s.level there) (first_arrival there limit s.level) s
 
 -- ---- all lines
 
 walks_by : (text : List ℕ) (said : Said) (e : Option ScriptEnd) (lines : List Line) (n : ℕ) (level : LevelOf) → (e ≡ Some end.Done → ⊥) → said.session.level ≡ (walk n level).level →
-    ((text : List ℕ) (s : SessionOf) → (followed text lines s).end ≡ end.Done → (followed text lines s).session.level ≡ (walk (steps_of lines) s.level).level) →
+    ((text : List ℕ) (s : SessionOf) → (followed text lines s).end ≡ end.Done
+    → (followed text lines s).session.level ≡ (walk (steps_of lines s.level) s.level).level) →
     (follow_on text said e (λ text s. followed text lines s)).end ≡ end.Done →
-    (follow_on text said e (λ text s. followed text lines s)).session.level ≡ (walk (n + steps_of lines) level).level
+    (follow_on text said e (λ text s. followed text lines s)).session.level ≡ (walk (n + steps_of lines (walk n level).level) level).level
 walks_by text said None lines n level goes here later done =
-    later (text ++ said.text) said.session done ∙ ap (λ (l : LevelOf). (walk (steps_of lines) l).level) here ∙ walk_level n (steps_of lines) level
+    later (text ++ said.text) said.session done ∙ ap (λ (l : LevelOf). (walk (steps_of lines l) l).level) here
+    ∙ walk_level n (steps_of lines (walk n level).level) level
 walks_by text said (Some e) lines n level goes here later done = absurd (goes (ap (λ (x : ScriptEnd). Some x) done))
 
 pub scripts_walk : ScriptsWalk
 unfolding followed walk
 scripts_walk text [] s done = refl
 scripts_walk text (first ∷ lines) s done =
-    walks_by text (said_to first s) (said_to first s).end lines (steps_asked first.command) s.level (never_done first.line first.command s) (line_walks first.line first.command s)
+    walks_by text (said_to first s) (said_to first s).end lines (steps_led first.command s.level) s.level
+    (never_done first.line first.command s) (line_walks first.line first.command s)
     (λ text s. scripts_walk text lines s) done
 
 both_by : (text : List ℕ) (said : Said) (e : Option ScriptEnd) (lines more : List Line) → (e ≡ Some end.Done → ⊥) →
@@ -105,7 +152,57 @@ up_is_said text before after number s done =
     followed_both text before (up_line number ∷ after) s done ∙ up_said made.text after number made.session
     ∙ ap (λ (l : LevelOf). followed (made.text ++ up_text l) after made.session) (scripts_walk text before s done)
 
+words_are : (text : List ℕ) (after : List Line) (number address count : ℕ) (s : SessionOf) (o : Option (List ℕ)) (said : List ℕ) → o ≡ Some said →
+    follow_on text (words_said number s o) (words_said number s o).end (λ text s. followed text after s) ≡ followed (text ++ said) after s
+words_are text after number address count s o said e =
+    ap (λ (x : Option (List ℕ)). follow_on text (words_said number s x) (words_said number s x).end (λ text s. followed text after s)) e
+
+words_there : (text : List ℕ) (after : List Line) (number address count : ℕ) (s : SessionOf) (run : FmLevelOf) → s.level ≡ Fm run →
+    followed text (words_line number address count ∷ after) s ≡ followed (text ++ word_lines run.state address count) after s
+unfolding followed
+words_there text after number address count s run e =
+    words_are text after number address count s (words_text s.level address count) (word_lines run.state address count)
+    (ap (λ (l : LevelOf). words_text l address count) e)
+
+pub words_are_said : WordsAreSaid
+words_are_said text before after number address count s run done leads =
+    let made : Followed = followed text before s in
+    followed_both text before (words_line number address count ∷ after) s done
+    ∙ words_there made.text after number address count made.session run (scripts_walk text before s done ∙ leads)
+
+until_is : (text : List ℕ) (after : List Line) (number limit k : ℕ) (s : SessionOf) (b : Bool) (first : Option ℕ) → b ≡ true → first ≡ Some k →
+    follow_on text (cond b (arrived_said (arrived_by limit s first)) (ends_with (end.OtherLevel number) s))
+    (cond b (arrived_said (arrived_by limit s first)) (ends_with (end.OtherLevel number) s)).end (λ text s. followed text after s)
+    ≡ followed (text ++ arrival_text (arrival.There k)) after (stepped k s).session
+until_is text after number limit k s b first has e =
+    ap (λ (c : Bool). follow_on text (cond c (arrived_said (arrived_by limit s first)) (ends_with (end.OtherLevel number) s))
+    (cond c (arrived_said (arrived_by limit s first)) (ends_with (end.OtherLevel number) s)).end (λ text s. followed text after s)) has
+    ∙ ap (λ (o : Option ℕ). follow_on text (arrived_said (arrived_by limit s o)) (arrived_said (arrived_by limit s o)).end (λ text s. followed text after s)) e
+
+until_there : (text : List ℕ) (after : List Line) (number limit k : ℕ) (there : Place) (s : SessionOf) →
+    has_places s.level there ≡ true → IsFirstArrival there k s.level → k ≤ limit →
+    followed text (until_line number there limit ∷ after) s ≡ followed (text ++ arrival_text (arrival.There k)) after (stepped k s).session
+unfolding followed
+until_there text after number limit k there s has first le =
+    until_is text after number limit k s (has_places s.level there) (first_arrival there limit s.level) has (is_first there limit k s.level le first)
+
+pub arrivals_are_said : ArrivalsAreSaid
+arrivals_are_said text before after number limit k there s here done leads has first le =
+    let made : Followed = followed text before s in
+    let same : made.session.level ≡ here = scripts_walk text before s done ∙ leads in
+    followed_both text before (until_line number there limit ∷ after) s done
+    ∙ until_there made.text after number limit k there made.session (ap (λ (l : LevelOf). has_places l there) same ∙ has)
+    (subst (λ (l : LevelOf). IsFirstArrival there k l) (sym same) first) le
+
 -- ---- lines that ask for steps
+
+-- they lead as far as they ask for together
+same_steps : (lines : List Line) (level : LevelOf) → AskForSteps lines → steps_of lines level ≡ all_asked lines
+same_steps [] level ask = refl
+same_steps (first ∷ lines) level ask =
+    let here : steps_led first.command level ≡ steps_asked first.command = ap (λ (c : Command). steps_led c level) ask.0 in
+    let rest = same_steps lines (walk (steps_led first.command level) level).level ask.1 in
+    omega (arith, here, rest)
 
 -- a step more was made, so the end was not reached
 not_over : (level : LevelOf) (k : ℕ) (next : Next LevelOf) → length (walk_on level (walk k) next).events ≡ suc k → is_over next ≡ false
@@ -164,7 +261,7 @@ unfolding followed
 steps_are_said text [] s ask h = (refl, sym (append-nil text))
 steps_are_said text (first ∷ lines) s ask h =
     let n : ℕ = steps_asked first.command in
-    let both = goes_both n (steps_of lines) s.level h in
+    let both = goes_both n (all_asked lines) s.level h in
     let said = one_said text first.line n first.command s lines ask.0 both.0 in
     let rest = steps_are_said (text ++ run_text (run.Moved n)) lines (stepped n s).session ask.1 both.1 in (
       ap (λ (made : Followed). made.end) said ∙ rest.0,
@@ -176,7 +273,8 @@ up_says_moment text said before after number s ask h =
     let made : Followed = followed text before s in
     let steps = steps_are_said text before s ask h.goes in
     up_is_said text before after number s steps.0
-    ∙ ap (λ (t : List ℕ). followed (t ++ up_text (walk (steps_of before) s.level).level) after made.session) steps.1
+    ∙ ap (λ (n : ℕ). followed (made.text ++ up_text (walk n s.level).level) after made.session) (same_steps before s.level ask)
+    ∙ ap (λ (t : List ℕ). followed (t ++ up_text (walk (all_asked before) s.level).level) after made.session) steps.1
     ∙ ap (λ (t : List ℕ). followed (text ++ stepped_lines before ++ t) after made.session) h.says
 
 -- ---- what was said stays

@@ -1,5 +1,6 @@
 -- Steps that a session makes one after the other are one walk.
-use Rattle.std.proofs.Common.{◌≡◌, ◌+◌, ◌^◌, ◌<◌, ◌≤◌, ◌==◌, ℕ, zero, suc, Bool, false, cond, List, [], ◌∷◌, ◌++◌, length, map, refl, sym, ap, subst, ◌∙◌, add-one, arith, length-append, inl, inr}
+use Rattle.std.proofs.Common.{◌≡◌, ◌+◌, ◌^◌, ◌<◌, ◌≤◌, ◌==◌, ℕ, zero, suc, Bool, true, false, cond, List, [], ◌∷◌, ◌++◌, length, map}
+use Rattle.std.proofs.Common.{refl, sym, ap, subst, ◌∙◌, add-one, arith, length-append, inl, inr}
 use Rattle.std.proofs.lemmas.Bool.Decides.{eqb_tells}
 use Rattle.std.proofs.lemmas.List.Sums.{fold-append}
 use Rattle.piton_machine.specs.Seen.StateView.{saturated}
@@ -10,7 +11,7 @@ use Rattle.level_debuggers.specs.declared.advance.Advance.TheVariants as advance
 use Rattle.level_debuggers.specs.declared.session.SessionRun.{SessionRun}
 use Rattle.level_debuggers.specs.declared.session.SessionRun.TheVariants as run
 use Rattle.level_debuggers.specs.Levels.{LevelOf, next_of}
-use Rattle.level_debuggers.specs.Steps.{Next, Over, Stops, Makes, IsAdvance}
+use Rattle.level_debuggers.specs.Steps.{Next, Over, Stops, Makes, IsAdvance, is_over}
 use Rattle.level_debuggers.specs.Tallies.{Watching, tally_step, told}
 use Rattle.level_debuggers.specs.Walks.{Walk, with_event, walk_on, walk, SessionOf, after_event, after_walk, refused_after, ends_by, stepped_by, stepped, HasMadeSome, SessionsGoOn}
 
@@ -32,7 +33,7 @@ walk_suc (suc i) level after event whole is =
     more_from i level after event (next_of level) (λ start whole is. walk_suc i start after event whole is) whole is
 
 -- the walk does not go on
-IsStop : Next LevelOf → Type 0
+unfoldable pub IsStop : Next LevelOf → Type 0
 IsStop Over = Unit {0}
 IsStop (Stops stop) = Unit {0}
 IsStop (Makes event after) = ⊥
@@ -50,7 +51,7 @@ same_from level i n Over later stop = refl
 same_from level i n (Stops s) later stop = refl
 same_from level i n (Makes event start) later stop = ap (with_event event) (later start stop)
 
-walk_stays : (i n : ℕ) (level : LevelOf) → i ≤ n → IsStop (next_of (walk i level).level) → walk n level ≡ walk i level
+pub walk_stays : (i n : ℕ) (level : LevelOf) → i ≤ n → IsStop (next_of (walk i level).level) → walk n level ≡ walk i level
 unfolding walk
 walk_stays zero zero level le stop = refl
 walk_stays zero (suc n) level le stop = stays_from level n (next_of level) stop
@@ -143,6 +144,30 @@ unfolding IsStop
 refused m n old new stop made lt is =
     answer_at m n old new (Stops stop) made (omega arith) is tt
     ∙ ap (λ (b : Bool). record { run = cond b (run.Moved n) (refused_after new.steps stop); session = new }) (not_same m n (omega arith))
+
+-- all steps were made
+same_number : (n : ℕ) → (n == n) ≡ true
+same_number n = elim (eqb_tells n n) [ inl h ↦ h.0 | inr h ↦ absurd (h.1 refl) ]
+
+at_last : (n steps : ℕ) (next : Next LevelOf) → ends_by n n steps next ≡ cond (is_over next) (run.Ended n) (run.Moved n)
+at_last n steps Over = refl
+at_last n steps (Stops stop) = ap (λ (b : Bool). cond b (run.Moved n) (refused_after steps stop)) (same_number n)
+at_last n steps (Makes event after) = refl
+
+by_all : (n : ℕ) (old new : SessionOf) (over : Bool) → Made n old new → is_over (next_of new.level) ≡ over
+    → stepped n old ≡ record { run = cond over (run.Ended n) (run.Moved n); session = new }
+by_all n old new over made is =
+    ap (λ (k : ℕ). record {
+      run = ends_by n k (after_walk old (walk n old.level)).steps (next_of (walk n old.level).level);
+      session = after_walk old (walk n old.level);
+    }) made.whole
+    ∙ ap (λ (s : SessionOf). record { run = ends_by n n s.steps (next_of s.level); session = s }) (sym made.comes)
+    ∙ ap (λ (r : SessionRun). record { run = r; session = new }) (at_last n new.steps (next_of new.level))
+    ∙ ap (λ (b : Bool). record { run = cond b (run.Ended n) (run.Moved n); session = new }) is
+
+pub made_all : (m n : ℕ) (old new : SessionOf) (over : Bool) → Made m old new → m ≡ n → is_over (next_of new.level) ≡ over
+    → stepped n old ≡ record { run = cond over (run.Ended n) (run.Moved n); session = new }
+made_all m n old new over made e is = by_all n old new over (subst (λ (k : ℕ). Made k old new) e made) is
 
 -- Of what a session's run has done in a call: the run has come from the session's level to another.
 module _ (m n : ℕ) (old middle : SessionOf) (after : LevelOf) (done : Advance) (made : Made m old middle)

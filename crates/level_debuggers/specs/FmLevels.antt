@@ -1,11 +1,14 @@
 -- Runs of the processor.
-use Rattle.std.specs.Prelude.{ℕ, List, ◌+◌, ◌-◌, Bool, ◌==◌, ◌&&◌, nat_le, if◌then◌else◌, slice_index, Result, Ok, Err}
+use Rattle.std.specs.Prelude.{ℕ, zero, suc, List, [], ◌++◌, ◌+◌, ◌-◌, ◌%◌, ◌^◌, Bool, ◌==◌, ◌&&◌, nat_le, if◌then◌else◌, slice_index}
+use Rattle.std.specs.Prelude.{Option, Some, None, Result, Ok, Err, codes}
+use Rattle.stack_text.specs.Lines.{line}
+use Rattle.fm_show.specs.Digits.{hex_digits}
 use Rattle.fm_machine.specs.declared.fault.Outside.{Outside}
 use Rattle.fm_machine.specs.State.{Fm}
 use Rattle.fm_machine.specs.Step.{fm_step}
 use Rattle.fm_machine.specs.Run.{pc_of}
 use Rattle.fm_image.specs.Image.{ImageOf}
-use Rattle.display_maps.specs.Reading.{reading}
+use Rattle.display_maps.specs.Reading.{reading, word_in}
 use Rattle.display_maps.specs.ReadingAt.{reading_at}
 use Rattle.display_maps.specs.Report.{lines_of_reading}
 use Rattle.level_debuggers.specs.declared.watch.Event.{Event}
@@ -39,8 +42,23 @@ fm_after level (Err outside) = Stops (stop.Outside outside.address)
 abbrev pub fm_next : FmLevelOf → Next FmLevelOf
 fm_next level = if fm_over level then Over else fm_after level (fm_step level.state)
 
+-- r15 has this address
+abbrev pub fm_stands : FmLevelOf → ℕ → Bool
+fm_stands level address = pc_of level.state == address
+
 -- what the memory says: at the end of the image's slots, and before it at a mark
 abbrev pub fm_up : FmLevelOf → List ℕ
 fm_up level =
     if fm_over level then lines_of_reading level.image (reading level.image level.state)
     else mark_text (reading_at level.image level.state)
+
+-- `000003ba 00000001`, or `00000400 outside` where that address is outside the window
+abbrev pub word_line : ℕ → Option ℕ → List ℕ
+word_line address (Some word) = line (hex_digits address ++ codes " " ++ hex_digits word)
+word_line address None = line (hex_digits address ++ codes " outside")
+
+-- so many words from an address on, each on its line; behind the last address of 32 bits comes 0
+unfoldable pub word_lines : Fm → ℕ → ℕ → List ℕ
+word_lines state address zero = []
+word_lines state address (suc n) =
+    let last = (address + n) % 2 ^ 32 in word_lines state address n ++ word_line last (word_in state last)

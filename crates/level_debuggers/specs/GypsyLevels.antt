@@ -1,5 +1,5 @@
 -- Runs of a source.
-use Rattle.std.specs.Prelude.{ℕ, List, ◌++◌, Bool, if◌then◌else◌, codes}
+use Rattle.std.specs.Prelude.{ℕ, List, ◌++◌, ◌==◌, ◌&&◌, not, Bool, if◌then◌else◌, codes}
 use Rattle.std.specs.Fmt.{decimal}
 use Rattle.stack_text.specs.Lines.{line}
 use Rattle.display_maps.specs.Running.{run_lines}
@@ -30,6 +30,10 @@ gypsy_over level = is_over level.seen.stage
 -- over where main has ended; or else the item on top
 abbrev pub gypsy_next : GypsyLevelOf → Next GypsyLevelOf
 gypsy_next level = if gypsy_over level then Over else gypsy_made level
+
+-- main hasn't ended, and this is the byte of the item on top
+abbrev pub gypsy_stands : GypsyLevelOf → ℕ → Bool
+gypsy_stands level number = not (gypsy_over level) && place_at level.seen.program level.seen.stage == number
 
 -- ---- what is shown
 

@@ -1,5 +1,7 @@
 -- Runs at each level.
-use Rattle.std.specs.Prelude.{ℕ, ◌≤◌, List, Option, Some, None}
+use Rattle.std.specs.Prelude.{ℕ, ◌≤◌, List, Option, Some, None, Bool, true, false}
+use Rattle.debug_script.specs.declared.command.Place.{Place}
+use Rattle.debug_script.specs.declared.command.Place.TheVariants as place
 use Rattle.fm_words.specs.WindowLimit.{most_window}
 use Rattle.fm_show.specs.Listing.{machine_listing}
 use Rattle.gypsy_syntax.specs.Seen.SourceView.{source_of}
@@ -12,10 +14,10 @@ use Rattle.piton_show.specs.NamedWords.{program_name}
 use Rattle.level_debuggers.specs.declared.runner.Runner.{Runner}
 use Rattle.level_debuggers.specs.declared.runner.Runner.TheVariants as runner
 use Rattle.level_debuggers.specs.Steps.{Next, Over, Stops, Makes}
-use Rattle.level_debuggers.specs.GypsyLevels.{GypsyLevelOf, gypsy_listing, gypsy_next, gypsy_up}
-use Rattle.level_debuggers.specs.PitonLevels.{PitonLevelOf, piton_listing, piton_next}
+use Rattle.level_debuggers.specs.GypsyLevels.{GypsyLevelOf, gypsy_listing, gypsy_next, gypsy_stands, gypsy_up}
+use Rattle.level_debuggers.specs.PitonLevels.{PitonLevelOf, piton_listing, piton_next, piton_stands}
 use Rattle.level_debuggers.specs.PitonReadings.{piton_up}
-use Rattle.level_debuggers.specs.FmLevels.{FmLevelOf, fm_next, fm_up}
+use Rattle.level_debuggers.specs.FmLevels.{FmLevelOf, fm_next, fm_stands, fm_up, word_lines}
 
 -- a run at one of the levels
 pub data LevelOf : Type 0 where
@@ -64,3 +66,22 @@ abbrev pub up_text : LevelOf → List ℕ
 up_text (Gypsy run) = gypsy_up
 up_text (Piton run) = piton_up run
 up_text (Fm run) = fm_up run
+
+-- so many words of memory from an address on, in a run that has one
+abbrev pub words_text : LevelOf → ℕ → ℕ → Option (List ℕ)
+words_text (Fm run) address count = Some (word_lines run.state address count)
+words_text level address count = None
+
+-- whether runs of a level stand at such places: those of Piton at instructions, the others at numbers
+abbrev pub has_places : LevelOf → Place → Bool
+has_places (Piton run) (place.Instruction program number) = true
+has_places (Gypsy run) (place.Number number) = true
+has_places (Fm run) (place.Number number) = true
+has_places level there = false
+
+-- whether a run stands at a place
+abbrev pub stands_at : Place → LevelOf → Bool
+stands_at (place.Instruction program number) (Piton run) = piton_stands run program number
+stands_at (place.Number number) (Gypsy run) = gypsy_stands run number
+stands_at (place.Number number) (Fm run) = fm_stands run number
+stands_at there level = false

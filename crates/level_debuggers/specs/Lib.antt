@@ -8,6 +8,7 @@ pub mod PitonReadings
 pub mod GypsyLevels
 pub mod Levels
 pub mod Walks
+pub mod Arrivals
 pub mod Taken
 pub mod Transcripts
 pub mod ScriptSteps

@@ -1,5 +1,6 @@
 -- Runs of Piton's machine.
-use Rattle.std.specs.Prelude.{ℕ, ◌==◌, Bool, List, [], ◌∷◌, ◌++◌, length, map, reverse}
+use Rattle.std.specs.Str.{bytes_eq}
+use Rattle.std.specs.Prelude.{ℕ, ◌==◌, ◌&&◌, not, Bool, List, [], ◌∷◌, ◌++◌, length, map, reverse}
 use Rattle.std.specs.Prelude.{slice_get, Option, Some, None, Result, Ok, Err, codes, if◌then◌else◌}
 use Rattle.std.specs.Fmt.{decimal}
 use Rattle.fm_image.specs.Image.{ImageOf}
@@ -43,6 +44,12 @@ piton_from level (f ∷ fs) = piton_after level (seen_step (system_in level.chec
 
 abbrev pub piton_next : PitonLevelOf → Next PitonLevelOf
 piton_next level = piton_from level level.seen.state.frames
+
+-- a frame is left, and this is the next instruction of the program of that name
+abbrev pub piton_stands : PitonLevelOf → List ℕ → ℕ → Bool
+piton_stands level program number =
+    let state = level.seen.state in
+    not (piton_over level) && bytes_eq (program_name level.checked.system state.program) program && state.place == number
 
 -- ---- what is shown
 

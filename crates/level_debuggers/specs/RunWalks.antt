@@ -1,10 +1,12 @@
 -- A walk makes the steps of what the run is a run of.
 use Rattle.std.specs.Prelude.{◌≡◌, ◌^◌, ◌<◌, ℕ, Ok, length}
 use Rattle.fm_machine.specs.State as machine
-use Rattle.fm_machine.specs.Run.{Avoids, fm_run}
+use Rattle.fm_machine.specs.Run.{Avoids, IsFirst, fm_run}
+use Rattle.debug_script.specs.declared.command.Place.TheVariants.{Number}
 use Rattle.piton_machine.specs.Fits.{system_in}
 use Rattle.piton_machine.specs.Law.{Steps, advanced}
 use Rattle.piton_machine.specs.State.{PitonState}
+use Rattle.level_debuggers.specs.Arrivals.{IsFirstArrival}
 use Rattle.level_debuggers.specs.FmLevels.{FmLevelOf}
 use Rattle.level_debuggers.specs.Levels.{LevelOf, Piton, Fm}
 use Rattle.level_debuggers.specs.PitonLevels.{PitonLevelOf}
@@ -19,6 +21,11 @@ pub record WalksTo (n : ℕ) (level to : LevelOf) : Type 0 where
 abbrev pub MachinesWalk : Type 0
 MachinesWalk = (n : ℕ) (run : FmLevelOf) (t : machine.Fm) → fm_run n run.state ≡ Ok t → Avoids run.state run.image.final_pc n →
     WalksTo n (Fm run) (Fm (record run { state = t }))
+
+-- So a session arrives at an address where the processor's r15 is the address first, if the end doesn't come before.
+abbrev pub MachinesArrive : Type 0
+MachinesArrive = (address k : ℕ) (run : FmLevelOf) (t : machine.Fm) → IsFirst run.state address k t →
+    Avoids run.state run.image.final_pc k → IsFirstArrival (Number address) k (Fm run)
 
 -- of Piton's machine, none of them an error or from a halted state
 abbrev pub SystemsWalk : Type 0

@@ -1,31 +1,43 @@
--- How far a script leads, and what is said at its lines of `up`.
-use Rattle.std.specs.Prelude.{◌≡◌, ℕ, ◌+◌, List, [], ◌∷◌, ◌++◌, length, false}
+-- How far a script leads, and what is said at its lines of `up`, `words` and `until`.
+use Rattle.std.specs.Prelude.{◌≡◌, ◌≤◌, ℕ, ◌+◌, List, [], ◌∷◌, ◌++◌, length, true, false, unwrap_or, if◌then◌else◌}
 use Rattle.debug_script.specs.declared.command.Command.{Command}
 use Rattle.debug_script.specs.declared.command.Command.TheVariants as command
+use Rattle.debug_script.specs.declared.command.Place.{Place}
 use Rattle.debug_script.specs.declared.reading.Line.{Line}
+use Rattle.level_debuggers.specs.declared.arrival.Arrival.TheVariants as arrival
 use Rattle.level_debuggers.specs.declared.script_end.ScriptEnd.TheVariants as end
 use Rattle.level_debuggers.specs.declared.session.SessionRun.TheVariants as run
-use Rattle.level_debuggers.specs.Levels.{LevelOf, next_of, up_text}
+use Rattle.level_debuggers.specs.Arrivals.{IsFirstArrival, first_arrival}
+use Rattle.level_debuggers.specs.FmLevels.{FmLevelOf, word_lines}
+use Rattle.level_debuggers.specs.Levels.{LevelOf, Fm, has_places, next_of, up_text}
 use Rattle.level_debuggers.specs.Steps.{is_over}
-use Rattle.level_debuggers.specs.Walks.{SessionOf, walk}
-use Rattle.level_debuggers.specs.Transcripts.{followed, run_text}
+use Rattle.level_debuggers.specs.Walks.{SessionOf, stepped, walk}
+use Rattle.level_debuggers.specs.Transcripts.{arrival_text, followed, run_text}
 
--- the steps that a command asks for, and those of lines together
-abbrev pub steps_asked : Command → ℕ
-steps_asked (command.Step count) = count
-steps_asked command.Show = 0
-steps_asked command.Up = 0
-steps_asked (command.Attach word) = 0
-steps_asked (command.Detach word) = 0
+-- the steps to the first arrival at a place, or as many as are asked for
+abbrev pub until_steps : Place → ℕ → LevelOf → ℕ
+until_steps there n level = if has_places level there then unwrap_or (first_arrival there n level) n else 0
 
-abbrev pub steps_of : List Line → ℕ
-steps_of [] = 0
-steps_of (first ∷ lines) = steps_asked first.command + steps_of lines
+-- how many steps a command leads a run
+abbrev pub steps_led : Command → LevelOf → ℕ
+steps_led (command.Step count) level = count
+steps_led command.Show level = 0
+steps_led command.Up level = 0
+steps_led (command.Attach word) level = 0
+steps_led (command.Detach word) level = 0
+steps_led (command.Words address count) level = 0
+steps_led (command.Until there limit) level = until_steps there limit level
+
+-- how many lines lead it together, each from where the one before has led it
+abbrev pub steps_of : List Line → LevelOf → ℕ
+steps_of [] level = 0
+steps_of (first ∷ lines) level =
+    let n = steps_led first.command level in n + steps_of lines (walk n level).level
 
 -- Behind a script all of whose lines were carried out, the run stands where as many steps in one go lead it, of which no watch is told.
 abbrev pub ScriptsWalk : Type 0
 ScriptsWalk = (text : List ℕ) (lines : List Line) (s : SessionOf) → (followed text lines s).end ≡ end.Done →
-    (followed text lines s).session.level ≡ (walk (steps_of lines) s.level).level
+    (followed text lines s).session.level ≡ (walk (steps_of lines s.level) s.level).level
 
 -- a line of `up`
 abbrev pub up_line : ℕ → Line
@@ -36,7 +48,41 @@ abbrev pub UpIsSaid : Type 0
 UpIsSaid = (text : List ℕ) (before after : List Line) (number : ℕ) (s : SessionOf) → (followed text before s).end ≡ end.Done →
     let made = followed text before s in
     followed text (before ++ up_line number ∷ after) s
-    ≡ followed (made.text ++ up_text (walk (steps_of before) s.level).level) after made.session
+    ≡ followed (made.text ++ up_text (walk (steps_of before s.level) s.level).level) after made.session
+
+-- a line of `words`
+abbrev pub words_line : (number address count : ℕ) → Line
+words_line number address count = record { line = number; command = command.Words address count }
+
+-- At a line of `words` it is the memory of the processor that the run has there.
+abbrev pub WordsAreSaid : Type 0
+WordsAreSaid = (text : List ℕ) (before after : List Line) (number address count : ℕ) (s : SessionOf) (run : FmLevelOf) →
+    (followed text before s).end ≡ end.Done → (walk (steps_of before s.level) s.level).level ≡ Fm run →
+    let made = followed text before s in
+    followed text (before ++ words_line number address count ∷ after) s
+    ≡ followed (made.text ++ word_lines run.state address count) after made.session
+
+-- a line of `until`
+abbrev pub until_line : ℕ → Place → ℕ → Line
+until_line number there limit = record { line = number; command = command.Until there limit }
+
+-- At a line of `until` the session goes on to the first arrival, where that is not too far, and says after how many steps it is.
+abbrev pub ArrivalsAreSaid : Type 0
+ArrivalsAreSaid = (text : List ℕ) (before after : List Line) (number limit k : ℕ) (there : Place) (s : SessionOf) (here : LevelOf) →
+    (followed text before s).end ≡ end.Done → (walk (steps_of before s.level) s.level).level ≡ here →
+    has_places here there ≡ true → IsFirstArrival there k here → k ≤ limit →
+    let made = followed text before s in
+    followed text (before ++ until_line number there limit ∷ after) s
+    ≡ followed (made.text ++ arrival_text (arrival.There k)) after (stepped k made.session).session
+
+-- the steps that a command asks for by their number, and those of lines together
+abbrev pub steps_asked : Command → ℕ
+steps_asked (command.Step count) = count
+steps_asked other = 0
+
+abbrev pub all_asked : List Line → ℕ
+all_asked [] = 0
+all_asked (first ∷ lines) = steps_asked first.command + all_asked lines
 
 -- lines that ask for steps and nothing else
 abbrev pub AskForSteps : List Line → Type 0
@@ -55,7 +101,7 @@ pub record GoesOn (n : ℕ) (level : LevelOf) : Type 0 where
 
 -- Lines that ask for so many steps together are carried out, and to each is said how many it has made.
 abbrev pub StepsAreSaid : Type 0
-StepsAreSaid = (text : List ℕ) (lines : List Line) (s : SessionOf) → AskForSteps lines → GoesOn (steps_of lines) s.level →
+StepsAreSaid = (text : List ℕ) (lines : List Line) (s : SessionOf) → AskForSteps lines → GoesOn (all_asked lines) s.level →
     ((followed text lines s).end ≡ end.Done) × ((followed text lines s).text ≡ text ++ stepped_lines lines)
 
 -- so many steps can be made and do not come to the end, and this is what the run says of the source there
@@ -66,7 +112,7 @@ pub record SaysAfter (n : ℕ) (level : LevelOf) (said : List ℕ) : Type 0 wher
 -- So it is said to a script whose first lines ask for these steps, and for `up` behind them; and the script goes on.
 abbrev pub UpSaysMoment : Type 0
 UpSaysMoment = (text said : List ℕ) (before after : List Line) (number : ℕ) (s : SessionOf) → AskForSteps before →
-    SaysAfter (steps_of before) s.level said →
+    SaysAfter (all_asked before) s.level said →
     followed text (before ++ up_line number ∷ after) s
     ≡ followed (text ++ stepped_lines before ++ said) after (followed text before s).session
 

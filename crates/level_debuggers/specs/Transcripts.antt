@@ -1,9 +1,10 @@
 -- What a session says to a script.
-use Rattle.std.specs.Prelude.{◌≡◌, ◌⊎◌, ℕ, ◌-◌, min, List, [], ◌∷◌, ◌++◌, drop, Option, Some, None, codes}
+use Rattle.std.specs.Prelude.{◌≡◌, ◌⊎◌, ℕ, ◌-◌, min, List, [], ◌∷◌, ◌++◌, drop, Option, Some, None, codes, if◌then◌else◌}
 use Rattle.std.specs.Fmt.{decimal}
 use Rattle.stack_text.specs.Lines.{line}
 use Rattle.debug_script.specs.declared.command.Command.{Command}
 use Rattle.debug_script.specs.declared.command.Command.TheVariants as command
+use Rattle.debug_script.specs.declared.command.Place.{Place}
 use Rattle.debug_script.specs.declared.command.WatchWord.{WatchWord}
 use Rattle.debug_script.specs.declared.command.WatchWord.TheVariants as word
 use Rattle.debug_script.specs.declared.reading.Line.{Line}
@@ -12,7 +13,10 @@ use Rattle.level_debuggers.specs.declared.session.SessionRun.TheVariants as run
 use Rattle.level_debuggers.specs.declared.watch.Rule.{Rule}
 use Rattle.level_debuggers.specs.declared.watch.Rule.TheVariants as rule
 use Rattle.level_debuggers.specs.declared.watch.Tally.{Tally}
-use Rattle.level_debuggers.specs.Levels.{show_text, up_text}
+use Rattle.level_debuggers.specs.declared.arrival.Arrival.{Arrival}
+use Rattle.level_debuggers.specs.declared.arrival.Arrival.TheVariants as arrival
+use Rattle.level_debuggers.specs.Arrivals.{Arrived, arrived}
+use Rattle.level_debuggers.specs.Levels.{has_places, show_text, up_text, words_text}
 use Rattle.level_debuggers.specs.Taken.{attached_by, detached_by}
 use Rattle.level_debuggers.specs.Walks.{SessionOf, Stepped, stepped, HasMadeSome}
 use Rattle.level_debuggers.specs.declared.script_end.ScriptEnd.{ScriptEnd}
@@ -90,6 +94,27 @@ detach_with number kept s None = ends_with (end.NoneAttached number) s
 abbrev pub detach_said : ℕ → WatchWord → SessionOf → Said
 detach_said number word s = detach_with number (rule_of_word word) s (detached_by (rule_of_word word) s)
 
+-- words of memory, where the run has them
+abbrev pub words_said : ℕ → SessionOf → Option (List ℕ) → Said
+words_said number s (Some text) = goes_on text s
+words_said number s None = ends_with (end.OtherLevel number) s
+
+-- `arrived 146`, or what is said to as many steps
+abbrev pub arrival_text : Arrival → List ℕ
+arrival_text (arrival.There count) = line (codes "arrived " ++ decimal count)
+arrival_text (arrival.Elsewhere ran) = run_text ran
+
+abbrev pub arrival_end : Arrival → Option ScriptEnd
+arrival_end (arrival.There count) = None
+arrival_end (arrival.Elsewhere ran) = run_end ran
+
+abbrev pub arrived_said : Arrived → Said
+arrived_said made = record { text = arrival_text made.arrival; end = arrival_end made.arrival; session = made.session }
+
+abbrev pub until_said : ℕ → Place → ℕ → SessionOf → Said
+until_said number there n s =
+    if has_places s.level there then arrived_said (arrived there n s) else ends_with (end.OtherLevel number) s
+
 -- what a session says to the command of a line
 abbrev pub said_by : ℕ → Command → SessionOf → Said
 said_by number (command.Step count) s = step_said (stepped count s)
@@ -97,6 +122,8 @@ said_by number command.Show s = goes_on (show_text s.level s.steps) s
 said_by number command.Up s = goes_on (up_text s.level) s
 said_by number (command.Attach word) s = attach_said number word s
 said_by number (command.Detach word) s = detach_said number word s
+said_by number (command.Words address count) s = words_said number s (words_text s.level address count)
+said_by number (command.Until there limit) s = until_said number there limit s
 
 abbrev pub said_to : Line → SessionOf → Said
 said_to line s = said_by line.line line.command s
@@ -130,6 +157,8 @@ IsLeftBy number command.Show old new = new ≡ old
 IsLeftBy number command.Up old new = new ≡ old
 IsLeftBy number (command.Attach word) old new = new ≡ (attach_said number word old).session
 IsLeftBy number (command.Detach word) old new = new ≡ (detach_said number word old).session
+IsLeftBy number (command.Words address count) old new = new ≡ old
+IsLeftBy number (command.Until there limit) old new = HasMadeSome limit old new
 
 -- the session that is left where memory ran out at one of these lines: those before it were carried out, and none of them ended
 -- the script

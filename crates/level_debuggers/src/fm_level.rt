@@ -1,5 +1,8 @@
 //! A run of the processor.
 
+ghost use Rattle.std.specs.Prelude.{◌≡◌, ◌++◌, OnOk};
+ghost use Rattle.level_debuggers.specs.FmLevels.{word_line};
+
 use crate::advance::{Advance, Stop};
 use crate::runner::Runner;
 use crate::texts::mark_text;
@@ -7,10 +10,30 @@ use crate::watch::Event;
 use display_maps::{push_reading, read_at, read_up};
 use fm_image::Image;
 use fm_machine::{Machine, Outside};
-use fm_show::show_machine;
+use fm_show::{hex_digits, show_machine};
 use stack_text::Memory;
 use std::alloc::Global;
 use std::marker::Model;
+
+/// Appends the line of a word, or that the address is outside the window.
+fn push_word(
+    alloc: Global,
+    text: &mut Vec<u8>,
+    address: u32,
+    word: Option<u32>,
+) -> Result<(), Memory>
+    ensures { OnOk result (text.new.items ≡ text.old.items ++ word_line address word) }
+{
+    text.extend_from_slice(hex_digits(alloc, address)?.as_bytes())?;
+    match word {
+        Some(word) => {
+            text.extend_from_slice(b" ")?;
+            text.extend_from_slice(hex_digits(alloc, word)?.as_bytes())?;
+        }
+        None => text.extend_from_slice(b" outside")?,
+    }
+    Ok(text.extend_from_slice(b"\n")?)
+}
 
 /// A machine that runs an image.
 #[derive(Drop)]
@@ -31,7 +54,7 @@ impl FmLevel {
     ghost use Rattle.std.specs.Prelude.{◌≡◌, IfOk};
     ghost use Rattle.fm_show.specs.Listing.{machine_listing};
     ghost use Rattle.level_debuggers.specs.Steps.{IsAdvance};
-    ghost use Rattle.level_debuggers.specs.FmLevels.{fm_depth, fm_event, fm_next, fm_over, fm_up};
+    ghost use Rattle.level_debuggers.specs.FmLevels.{fm_depth, fm_event, fm_next, fm_over, fm_stands, fm_up, word_lines};
     ghost use Rattle.level_debuggers.specs.Levels.{Fm, level_of};
 
     pub(crate) fn new(image: Image, machine: Machine) -> FmLevel
@@ -101,6 +124,26 @@ impl FmLevel {
         ensures { IfOk result (λ text. text.items ≡ machine_listing self.now.state steps) }
     {
         show_machine(alloc, &self.machine, steps)
+    }
+
+    /// Whether r15 has this address.
+    pub(crate) fn stands_at(&self, address: u32) -> bool
+        ensures { result ≡ fm_stands self.now address }
+    {
+        self.machine.register(15) == address
+    }
+
+    /// So many words of memory from an address on, as lines; behind the last address of 32 bits comes 0.
+    #[tactic(auto, using(crate::proofs::WordLaws::next_word, crate::proofs::WordLaws::no_words))]
+    pub(crate) fn words(&self, alloc: Global, address: u32, count: u32) -> Result<Vec<u8>, Memory>
+        ensures { IfOk result (λ text. text.items ≡ word_lines self.now.state address count) }
+    {
+        let mut text = Vec::new(alloc);
+        for place in 0..count {
+            let there = address.wrapping_add(place);
+            push_word(alloc, &mut text, there, self.machine.peek(there))?;
+        }
+        Ok(text)
     }
 
     /// What the memory says of the variables, as lines: at the end of those of the image's slots, and before it of those

@@ -23,7 +23,7 @@ impl GypsyLevel {
     ghost use Rattle.gypsy_semantics.specs.Seen.RunView.{depth_at, values_at};
     ghost use Rattle.gypsy_semantics.specs.Seen.Shown.{condition_at, names_at};
     ghost use Rattle.level_debuggers.specs.Steps.{IsAdvance};
-    ghost use Rattle.level_debuggers.specs.GypsyLevels.{gypsy_listing, gypsy_next, gypsy_over, gypsy_place_line, gypsy_up};
+    ghost use Rattle.level_debuggers.specs.GypsyLevels.{gypsy_listing, gypsy_next, gypsy_over, gypsy_place_line, gypsy_stands, gypsy_up};
     ghost use Rattle.level_debuggers.specs.Seen.Belonging.{Belongs, gypsy_of};
 
     /// Whether the end is reached.
@@ -31,6 +31,14 @@ impl GypsyLevel {
         ensures { result ≡ gypsy_over (gypsy_of self.now) }
     {
         self.meaning.ended()
+    }
+
+    /// Whether the item on top stands at this byte of the source.
+    pub(crate) fn stands_at(&self, number: u32) -> bool
+        requires { Belongs self.now }
+        ensures { result ≡ gypsy_stands (gypsy_of self.now) number }
+    {
+        !self.is_over() && self.meaning.place() == number
     }
 
     /// How many activations there are.

@@ -5,6 +5,7 @@ use crate::fm_level::FmLevel;
 use crate::gypsy_level::GypsyLevel;
 use crate::piton_level::PitonLevel;
 use crate::runner::Runner;
+use debug_script::Place;
 use stack_text::{Memory, Name};
 use std::alloc::Global;
 
@@ -19,7 +20,7 @@ pub(crate) enum Level {
 impl Level {
     ghost use Rattle.std.specs.Prelude.{◌≡◌, IfOk, OnErr};
     ghost use Rattle.std.specs.Option.{option_map};
-    ghost use Rattle.level_debuggers.specs.Levels.{IsRunner, level_of, next_of, program_named, show_text, up_text};
+    ghost use Rattle.level_debuggers.specs.Levels.{IsRunner, level_of, next_of, program_named, has_places, show_text, stands_at, up_text, words_text};
     ghost use Rattle.level_debuggers.specs.Seen.Belonging.{IsLevel, level_seen};
     ghost use Rattle.level_debuggers.specs.Steps.{IsAdvance, is_over};
 
@@ -125,6 +126,48 @@ impl Level {
             Level::Gypsy(_level) => GypsyLevel::up(alloc),
             Level::Piton(level) => level.up(alloc),
             Level::Fm(level) => level.up(alloc),
+        }
+    }
+
+    /// Whether runs of the level stand at such places.
+    pub(crate) fn has_places(&self, place: &Place) -> bool
+        ensures { result ≡ has_places (level_seen self.now) place.now }
+    {
+        match (self, place) {
+            (Level::Piton(_), Place::Instruction { .. }) => true,
+            (Level::Gypsy(_) | Level::Fm(_), Place::Number { .. }) => true,
+            _ => false,
+        }
+    }
+
+    /// Whether the run stands at a place.
+    pub(crate) fn stands_at(&self, place: &Place) -> bool
+        requires { IsLevel self.now }
+        ensures { result ≡ stands_at place.now (level_seen self.now) }
+    {
+        match (self, place) {
+            (Level::Gypsy(level), Place::Number { number }) => level.stands_at(*number),
+            (Level::Piton(level), Place::Instruction { program, place }) => {
+                level.stands_at(program, *place)
+            }
+            (Level::Fm(level), Place::Number { number }) => level.stands_at(*number),
+            _ => false,
+        }
+    }
+
+    /// So many words of memory from an address on, as lines, of a run that has one.
+    pub(crate) fn words(
+        &self,
+        alloc: Global,
+        address: u32,
+        count: u32,
+    ) -> Result<Option<Vec<u8>>, Memory>
+        ensures { IfOk result (λ text.
+            option_map (λ t. t.items) text ≡ words_text (level_seen self.now) address count) }
+    {
+        match self {
+            Level::Fm(level) => Ok(Some(level.words(alloc, address, count)?)),
+            Level::Gypsy(_) | Level::Piton(_) => Ok(None),
         }
     }
 }

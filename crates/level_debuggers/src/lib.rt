@@ -2,6 +2,7 @@
 #![tactic(auto)]
 
 mod advance;
+mod arrival;
 mod fm_level;
 mod gypsy_level;
 mod law;
@@ -20,6 +21,7 @@ mod transcript;
 mod watch;
 mod watches;
 
+pub use arrival::Arrival;
 pub use law::{runs_walk, scripts_walk, sessions_go_on};
 pub use runner::Runner;
 pub use script_end::ScriptEnd;

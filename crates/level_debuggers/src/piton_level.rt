@@ -48,7 +48,7 @@ impl PitonLevel {
     ghost use Rattle.piton_show.specs.NamedWords.{program_name};
     ghost use Rattle.level_debuggers.specs.Steps.{IsAdvance};
     ghost use Rattle.level_debuggers.specs.Levels.{IsRunner, Piton, level_of};
-    ghost use Rattle.level_debuggers.specs.PitonLevels.{piton_listing, piton_next, piton_over};
+    ghost use Rattle.level_debuggers.specs.PitonLevels.{piton_listing, piton_next, piton_over, piton_stands};
     ghost use Rattle.level_debuggers.specs.PitonReadings.{area_words, element_numbers, is_covered, piton_at, piton_end, piton_reading_of, piton_up};
     ghost use Rattle.level_debuggers.specs.Scaffold.Standings.{standing_of};
 
@@ -114,6 +114,14 @@ impl PitonLevel {
         ensures { result.now ≡ program_name self.now.checked.system program }
     {
         program_name(self.placed.checked().system(), program)
+    }
+
+    /// Whether this instruction of the program of a name is the next one.
+    pub(crate) fn stands_at(&self, program: &Name, place: u32) -> bool
+        ensures { result ≡ piton_stands self.now program.now place }
+    {
+        let (here, next) = self.state.at();
+        !self.is_over() && self.program_name(here) == program && next == place
     }
 
     /// The place, the locals of the newest frame, and the stack, as lines.

@@ -31,4 +31,8 @@ pub enum ScriptEnd {
     NoneAttached {
         line: u32,
     },
+    /// This line asks for words of memory, or for a place, that runs of this level don't have.
+    OtherLevel {
+        line: u32,
+    },
 }

@@ -3,10 +3,12 @@
 ghost use Rattle.std.specs.Prelude.{◌+◌, ◌^◌, ◌<◌, ◌≤◌, vec_len, vec_capacity};
 
 use crate::advance::Advance;
+use crate::arrival::Arrival;
 use crate::level::Level;
 use crate::runner::Runner;
 use crate::seats::{note_all, take_first};
 use crate::watch::{Event, Rule, Tally, Watch};
+use debug_script::Place;
 use piton_machine::ErrorKind;
 use stack_text::{Memory, Name};
 use std::alloc::Global;
@@ -60,7 +62,8 @@ pub struct Session {
 impl Session {
     ghost use Rattle.std.specs.Prelude.{◌≡◌, [], map, IfOk, OnOk, OnErr, Some, None};
     ghost use Rattle.std.specs.Option.{option_map};
-    ghost use Rattle.level_debuggers.specs.Levels.{IsRunner, level_of, program_named, show_text, up_text};
+    ghost use Rattle.level_debuggers.specs.Levels.{IsRunner, has_places, level_of, program_named, show_text, up_text, words_text};
+    ghost use Rattle.level_debuggers.specs.Arrivals.{arrived};
     ghost use Rattle.level_debuggers.specs.Tallies.{noted, watching};
     ghost use Rattle.level_debuggers.specs.Walks.{after_event, stepped, HasMadeSome};
     ghost use Rattle.level_debuggers.specs.Taken.{attached_by, detached_by};
@@ -172,6 +175,60 @@ impl Session {
         } else {
             Ok(SessionRun::Moved { count: n })
         }
+    }
+
+    /// Whether runs of the session's level stand at such places: those of Piton at instructions of programs, the others at
+    /// numbers.
+    pub fn has_places(&self, place: &Place) -> bool
+        ensures { let session = session_of (λ w. watching (rule_of w) (tally_of w)) self.now in
+            result ≡ has_places session.level place.now }
+    {
+        self.level.has_places(place)
+    }
+
+    /// Makes as many steps as lead the run to a place for the first time, none where it stands there already. Where it does
+    /// not come there in `limit` steps, it makes those, as `step` does.
+    ///
+    /// # Errors
+    ///
+    /// Out of memory: the steps that were made stand.
+    pub fn until(&mut self, alloc: Global, place: &Place, limit: u64) -> Result<Arrival, Memory>
+        requires { IsSession self.old }
+        ensures ran { IfOk result (λ arrival.
+            arrived place.now limit (session_of (λ w. watching (rule_of w) (tally_of w)) self.old)
+            ≡ record { arrival = arrival; session = session_of (λ w. watching (rule_of w) (tally_of w)) self.new }) }
+        ensures memory { OnErr result (HasMadeSome limit (session_of (λ w. watching (rule_of w) (tally_of w)) self.old)
+            (session_of (λ w. watching (rule_of w) (tally_of w)) self.new)) }
+        ensures is { IsSession self.new }
+    {
+        for made in 0..limit {
+            if self.level.stands_at(place) {
+                return Ok(Arrival::There { count: made });
+            }
+            match self.level.advance(alloc)? {
+                Advance::Over => return Ok(Arrival::Elsewhere(SessionRun::Ended { count: made })),
+                Advance::Stops(stop) => return Ok(Arrival::Elsewhere(stop.after(self.steps))),
+                Advance::Makes(event) => self.note(&event),
+            }
+        }
+        if self.level.stands_at(place) {
+            Ok(Arrival::There { count: limit })
+        } else if self.level.is_over() {
+            Ok(Arrival::Elsewhere(SessionRun::Ended { count: limit }))
+        } else {
+            Ok(Arrival::Elsewhere(SessionRun::Moved { count: limit }))
+        }
+    }
+
+    /// So many words of the processor's memory from an address on, each on its line: behind the last address of 32 bits
+    /// comes 0. `None` exactly at the other levels, where runs have no such memory.
+    ///
+    /// The only error is out of memory.
+    pub fn words(&self, alloc: Global, address: u32, count: u32) -> Result<Option<Vec<u8>>, Memory>
+        ensures { let session = session_of (λ w. watching (rule_of w) (tally_of w)) self.now in
+            IfOk result (λ text. option_map (λ t. t.items) text ≡ words_text session.level address count) }
+    {
+        self.level.words(alloc, address, count)
     }
 
     /// The name of the program at a position, in a run of Piton's machine; where there is none there, that of the main program.

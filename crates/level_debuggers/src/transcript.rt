@@ -3,13 +3,16 @@
 ghost use Rattle.std.specs.Prelude.{◌≡◌, ◌++◌, IfOk, OnErr};
 ghost use Rattle.level_debuggers.specs.Seen.Sessions.{IsSession, session_of};
 ghost use Rattle.level_debuggers.specs.Tallies.{watching};
-ghost use Rattle.level_debuggers.specs.Transcripts.{IsLeftBy, IsLeftIn, IsSaid, attach_said, attached_word, detach_said, followed, rule_of_word, run_end, run_text, said_to};
+ghost use Rattle.level_debuggers.specs.Transcripts.{IsLeftBy, IsLeftIn, IsSaid, arrival_end, arrival_text, attach_said, attached_word, detach_said, followed, rule_of_word, run_end, run_text, said_to, until_said, words_said};
+ghost use Rattle.level_debuggers.specs.Levels.{words_text};
+ghost use Rattle.level_debuggers.specs.Walks.{HasMadeSome};
 
+use crate::arrival::Arrival;
 use crate::script_end::ScriptEnd;
 use crate::session::{Session, SessionRun};
 use crate::tally_lines::push_tally;
 use crate::watch::Rule;
-use debug_script::{Command, Line, WatchWord};
+use debug_script::{Command, Line, Place, WatchWord};
 use stack_text::Memory;
 use std::alloc::Global;
 
@@ -120,27 +123,96 @@ fn push_detach(
     }
 }
 
-/// Carries out the command of a line, and appends what the session says; and how the script ends, where it ends here.
-fn push_answer(
+/// Appends words of memory, by the command of a line.
+fn push_words(
+    alloc: Global,
+    session: &Session,
+    line: u32,
+    address: u32,
+    count: u32,
+    text: &mut Vec<u8>,
+) -> Result<Option<ScriptEnd>, Memory>
+    ensures { let session = session_of
+        (λ w. watching (rule_of w) (tally_of w)) session.now in
+        IfOk result (λ end. IsSaid (words_said line session (words_text session.level address count))
+        text.old.items text.new.items end session) }
+{
+    match session.words(alloc, address, count)? {
+        Some(words) => {
+            text.extend_from_slice(&words)?;
+            Ok(None)
+        }
+        None => Ok(Some(ScriptEnd::OtherLevel { line })),
+    }
+}
+
+/// Appends what the end of a call of `until` says; and how the script ends where a step was refused.
+fn push_arrival(
+    alloc: Global,
+    text: &mut Vec<u8>,
+    arrival: Arrival,
+) -> Result<Option<ScriptEnd>, Memory>
+    ensures text { IfOk result (λ end. text.new.items ≡ text.old.items ++ arrival_text arrival) }
+    ensures end { IfOk result (λ end. end ≡ arrival_end arrival) }
+{
+    match arrival {
+        Arrival::There { count } => {
+            let line = format!(in alloc; "arrived {count}\n")?;
+            text.extend_from_slice(line.as_bytes())?;
+            Ok(None)
+        }
+        Arrival::Elsewhere(run) => push_run(alloc, text, run),
+    }
+}
+
+/// Goes on to a place, by the command of a line.
+fn push_until(
     alloc: Global,
     session: &mut Session,
-    line: Line,
+    line: u32,
+    place: &Place,
+    limit: u64,
     text: &mut Vec<u8>,
 ) -> Result<Option<ScriptEnd>, Memory>
     requires { IsSession session.old }
     ensures said { IfOk result (λ end.
-        IsSaid (said_to line
+        IsSaid (until_said line place.now limit
         (session_of (λ w. watching (rule_of w) (tally_of w)) session.old))
         text.old.items text.new.items end
         (session_of (λ w. watching (rule_of w) (tally_of w)) session.new)) }
-    ensures memory { OnErr result (IsLeftBy line.line line.command
+    ensures memory { OnErr result (HasMadeSome limit
         (session_of (λ w. watching (rule_of w) (tally_of w)) session.old)
         (session_of (λ w. watching (rule_of w) (tally_of w)) session.new)) }
     ensures is { IsSession session.new }
 {
-    match line.command {
+    if !session.has_places(place) {
+        return Ok(Some(ScriptEnd::OtherLevel { line }));
+    }
+    let arrival = session.until(alloc, place, limit)?;
+    push_arrival(alloc, text, arrival)
+}
+
+/// Carries out the command of a line, and appends what the session says; and how the script ends, where it ends here.
+fn push_answer(
+    alloc: Global,
+    session: &mut Session,
+    line: &Line,
+    text: &mut Vec<u8>,
+) -> Result<Option<ScriptEnd>, Memory>
+    requires { IsSession session.old }
+    ensures said { IfOk result (λ end.
+        IsSaid (said_to line.now
+        (session_of (λ w. watching (rule_of w) (tally_of w)) session.old))
+        text.old.items text.new.items end
+        (session_of (λ w. watching (rule_of w) (tally_of w)) session.new)) }
+    ensures memory { OnErr result (IsLeftBy line.now.line line.now.command
+        (session_of (λ w. watching (rule_of w) (tally_of w)) session.old)
+        (session_of (λ w. watching (rule_of w) (tally_of w)) session.new)) }
+    ensures is { IsSession session.new }
+{
+    match &line.command {
         Command::Step { count } => {
-            let run = session.step(alloc, count)?;
+            let run = session.step(alloc, *count)?;
             push_run(alloc, text, run)
         }
         Command::Show => {
@@ -151,8 +223,14 @@ fn push_answer(
             text.extend_from_slice(session.up(alloc)?.as_slice())?;
             Ok(None)
         }
-        Command::Attach { watch } => push_attach(session, line.line, watch, text),
-        Command::Detach { watch } => push_detach(alloc, session, line.line, watch, text),
+        Command::Attach { watch } => push_attach(session, line.line, *watch, text),
+        Command::Detach { watch } => push_detach(alloc, session, line.line, *watch, text),
+        Command::Words { address, count } => {
+            push_words(alloc, session, line.line, *address, *count, text)
+        }
+        Command::Until { place, limit } => {
+            push_until(alloc, session, line.line, place, *limit, text)
+        }
     }
 }
 
@@ -184,7 +262,7 @@ pub fn follow(
     ensures is { IsSession session.new }
 {
     for line in lines {
-        if let Some(end) = push_answer(alloc, session, *line, text)? {
+        if let Some(end) = push_answer(alloc, session, line, text)? {
             return Ok(end);
         }
     }

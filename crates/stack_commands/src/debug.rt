@@ -207,6 +207,7 @@ fn end_verdict(session: &Session, end: ScriptEnd) -> Result<Verdict, Memory>
         } => Ok(Verdict::Outside { address, count }),
         ScriptEnd::NoneWaits { line } => Ok(Verdict::Script { rule: 4, line }),
         ScriptEnd::NoneAttached { line } => Ok(Verdict::Script { rule: 5, line }),
+        ScriptEnd::OtherLevel { line } => Ok(Verdict::Script { rule: 7, line }),
     }
 }
 

@@ -68,6 +68,7 @@ end_verdict run (end.Error kind program place after) = error_verdict kind (progr
 end_verdict run (end.Outside address after) = Outside address after
 end_verdict run (end.NoneWaits line) = Script 4 line
 end_verdict run (end.NoneAttached line) = Script 5 line
+end_verdict run (end.OtherLevel line) = Script 7 line
 
 -- what the session has said, and how its script ended
 abbrev pub followed_reply : Followed → ReplyOf

@@ -22,5 +22,8 @@ pub returns-clause-means : goal.returns-clause-means
 returns-clause-means g c =
     let watches : List Watching = map (λ w. watching ((goal.Watch-dyn g (w.vtable, w.value)).rule_of w.value) ((goal.Watch-dyn g (w.vtable, w.value)).tally_of w.value)) c.args.watches.items in
     let built = c.builds_implement.ensures in
-    answers_mean built.implements built.values c.runs_are_meant.ensures c.placed_are_words.ensures c.moments_are_said.ensures.built c.moments_are_said.ensures.ends c.scripts_walk.ensures.up c.scripts_walk.ensures.steps c.scripts_walk.ensures.text c.runs_walk.ensures.machines
+    answers_mean built.implements built.values c.runs_are_meant.ensures c.placed_are_words.ensures
+    c.moments_are_said.ensures.built c.moments_are_said.ensures.ends
+    c.scripts_walk.ensures.up c.scripts_walk.ensures.words c.scripts_walk.ensures.arrivals c.scripts_walk.ensures.steps c.scripts_walk.ensures.text
+    c.runs_walk.ensures.machines c.runs_walk.ensures.arrivals
     (command_of (spelled c.args.words.now)) (words_few (spelled c.args.words.now)) watches

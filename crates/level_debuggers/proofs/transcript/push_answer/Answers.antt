@@ -18,5 +18,5 @@ returns-in_ok-run-in-Step-clause-memory g c =
     let old = session_of (λ w. watching ((goal.Watch-dyn g (w.vtable, w.value)).rule_of w.value) ((goal.Watch-dyn g (w.vtable, w.value)).tally_of w.value)) c.args.session.now in
     let new = session_of (λ w. watching ((goal.Watch-dyn g (w.vtable, w.value)).rule_of w.value) ((goal.Watch-dyn g (w.vtable, w.value)).tally_of w.value)) c.step.new.self in
     on_any c.push_run.result
-    (subst (λ (command : Command). IsLeftBy c.args.line.line command old new) (sym c.in-Step.is)
+    (subst (λ (command : Command). IsLeftBy c.args.line.now.line command old new) (sym c.in-Step.is)
     (subst (λ (left : SessionOf). HasMadeSome c.in-Step.count old left) (ap (λ (made : Stepped). made.session) c.in_ok-run-in-Step.ensures.ran) (stepped_some c.in-Step.count old)))

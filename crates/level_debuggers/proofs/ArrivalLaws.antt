@@ -1,0 +1,146 @@
+-- First arrivals at a place.
+use Rattle.std.proofs.Common.{◌≡◌, ◌+◌, ◌<◌, ◌≤◌, ℕ, zero, suc, Bool, true, false, cond, Option, Some, None, refl, sym, ap, subst, ◌∙◌, arith}
+use Rattle.std.specs.List.{find, range_with_len}
+use Rattle.std.proofs.Math.Dec.{ltb}
+use Rattle.std.proofs.lemmas.Bool.{ltb-true, ltb-false}
+use Rattle.debug_script.specs.declared.command.Place.{Place}
+use Rattle.level_debuggers.specs.declared.advance.Advance.{Advance}
+use Rattle.level_debuggers.specs.declared.advance.Advance.TheVariants as advance
+use Rattle.level_debuggers.specs.declared.advance.Stop.{Stop}
+use Rattle.level_debuggers.specs.declared.session.SessionRun.{SessionRun}
+use Rattle.level_debuggers.specs.declared.session.SessionRun.TheVariants as run
+use Rattle.level_debuggers.specs.declared.arrival.Arrival.TheVariants as arrival
+use Rattle.level_debuggers.specs.Arrivals.{IsFirstArrival, arrived, arrived_by, first_arrival}
+use Rattle.level_debuggers.specs.Levels.{LevelOf, next_of, stands_at}
+use Rattle.level_debuggers.specs.Steps.{IsAdvance}
+use Rattle.level_debuggers.specs.Walks.{HasMadeSome, SessionOf, Stepped, Walk, refused_after, stepped, walk}
+use Rattle.level_debuggers.proofs.WalkLaws.{IsStop, Made, step_over, step_refused, stepped_some, walk_stays}
+
+-- Of numbers from one on, the first that passes.
+module _ (p : ℕ → Bool) where
+  found : (a i n : ℕ) → i < n → p (a + i) ≡ true → ((j : ℕ) → a ≤ j → j < a + i → p j ≡ false) → find p (range_with_len a n) ≡ Some (a + i)
+  found a i zero lt here before = absurd (omega arith)
+  found a zero (suc n) lt here before =
+      let same : a + 0 ≡ a = omega arith in
+      let passes : p a ≡ true = ap p (sym same) ∙ here in
+      ap (λ (b : Bool). cond b (Some a) (find p (range_with_len (a + 1) n))) passes ∙ ap (λ (k : ℕ). Some k) (sym same)
+  found a (suc i) (suc n) lt here before =
+      let next : a + 1 + i ≡ a + suc i = omega arith in
+      let later : find p (range_with_len (a + 1) n) ≡ Some (a + 1 + i)
+      = found (a + 1) i n (omega arith) (ap p next ∙ here) (λ j le lt. before j (omega arith) (omega arith)) in
+      ap (λ (b : Bool). cond b (Some a) (find p (range_with_len (a + 1) n))) (before a (omega arith) (omega arith))
+      ∙ later ∙ ap (λ (k : ℕ). Some k) next
+
+  none : (a n : ℕ) → ((j : ℕ) → a ≤ j → j < a + n → p j ≡ false) → find p (range_with_len a n) ≡ None
+  none a zero fails = refl
+  none a (suc n) fails =
+      ap (λ (b : Bool). cond b (Some a) (find p (range_with_len (a + 1) n))) (fails a (omega arith) (omega arith))
+      ∙ none (a + 1) n (λ j le lt. fails j (omega arith) (omega arith))
+
+  by_test : (a n k : ℕ) (b : Bool) → (find p (range_with_len (a + 1) n) ≡ Some k → k < a + 1 + n)
+      → cond b (Some a) (find p (range_with_len (a + 1) n)) ≡ Some k → k < a + suc n
+  by_test a n k true later first = let same : a ≡ k = cc in omega (arith, same)
+  by_test a n k false later rest = omega (arith, later rest)
+
+  within : (a n k : ℕ) → find p (range_with_len a n) ≡ Some k → k < a + n
+  within a zero k e = absurd cc
+  within a (suc n) k e = by_test a n k (p a) (within (a + 1) n k) e
+
+-- A run that stands at a place after k steps and not before.
+pub is_first : (there : Place) (n k : ℕ) (level : LevelOf) → k ≤ n → IsFirstArrival there k level → first_arrival there n level ≡ Some k
+unfolding first_arrival
+is_first there n k level le first =
+    let same : 0 + k ≡ k = omega arith in
+    found (λ j. stands_at there (walk j level).level) 0 k (n + 1) (omega arith)
+    (ap (λ (j : ℕ). stands_at there (walk j level).level) same ∙ first.stands) (λ j le lt. first.first j (omega arith))
+    ∙ ap (λ (j : ℕ). Some j) same
+
+pub is_none : (there : Place) (n : ℕ) (level : LevelOf) → ((j : ℕ) → j ≤ n → stands_at there (walk j level).level ≡ false) → first_arrival there n level ≡ None
+unfolding first_arrival
+is_none there n level fails = none (λ j. stands_at there (walk j level).level) 0 (n + 1) (λ j le lt. fails j (omega arith))
+
+first_within : (there : Place) (n k : ℕ) (level : LevelOf) → first_arrival there n level ≡ Some k → k ≤ n
+unfolding first_arrival
+first_within there n k level e = omega (arith, within (λ j. stands_at there (walk j level).level) 0 (n + 1) k e)
+
+-- Of a session that has made some steps and was at none of its places there.
+module _ (there : Place) (m n : ℕ) (old middle : SessionOf) (made : Made m old middle)
+    (before : (j : ℕ) → j < m → stands_at there (walk j old.level).level ≡ false) where
+  level_is : middle.level ≡ (walk m old.level).level
+  level_is = ap (λ (s : SessionOf). s.level) made.comes
+
+  -- it stands at the place now
+  pub arrives : m ≤ n → stands_at there middle.level ≡ true → arrived there n old ≡ record { arrival = arrival.There m; session = middle }
+  arrives le stands =
+      let here : stands_at there (walk m old.level).level ≡ true = sym (ap (stands_at there) level_is) ∙ stands in
+      ap (arrived_by n old) (is_first there n m old.level le record { stands = here; first = before })
+      ∙ ap (λ (s : SessionOf). record { arrival = arrival.There m; session = s }) (sym made.comes)
+
+  -- it doesn't, and so it is at one step more
+  pub passed : stands_at there middle.level ≡ false → (j : ℕ) → j < m + 1 → stands_at there (walk j old.level).level ≡ false
+  passed misses j lt = by_order (ltb j m) refl
+    where
+      by_order : (b : Bool) → ltb j m ≡ b → stands_at there (walk j old.level).level ≡ false
+      by_order true e = before j (ltb-true j m e)
+      by_order false e =
+          let same : j ≡ m = omega (arith, ltb-false j m e, lt) in
+          ap (λ (i : ℕ). stands_at there (walk i old.level).level) same ∙ sym (ap (stands_at there) level_is) ∙ misses
+
+  -- nor does it go on
+  pub misses_all : stands_at there middle.level ≡ false → m ≤ n → IsStop (next_of middle.level) → first_arrival there n old.level ≡ None
+  misses_all misses le stop = is_none there n old.level (λ j within. by_order j (ltb j m) refl)
+    where
+      stays : IsStop (next_of (walk m old.level).level)
+      stays = subst (λ (l : LevelOf). IsStop (next_of l)) level_is stop
+
+      by_order : (j : ℕ) (b : Bool) → ltb j m ≡ b → stands_at there (walk j old.level).level ≡ false
+      by_order j true e = before j (ltb-true j m e)
+      by_order j false e =
+          ap (λ (w : Walk). stands_at there w.level) (walk_stays m j old.level (ltb-false j m e) stays)
+          ∙ sym (ap (stands_at there) level_is) ∙ misses
+
+  -- all steps were made, and it did not come there
+  pub misses_at_last : stands_at there middle.level ≡ false → m ≡ n → first_arrival there n old.level ≡ None
+  misses_at_last misses e = is_none there n old.level (λ j le. passed misses j (omega (arith, e, le)))
+
+-- it made the steps that were asked for
+pub elsewhere : (there : Place) (n : ℕ) (old new : SessionOf) (ran : SessionRun) → first_arrival there n old.level ≡ None
+    → stepped n old ≡ record { run = ran; session = new } → arrived there n old ≡ record { arrival = arrival.Elsewhere ran; session = new }
+elsewhere there n old new ran none is =
+    ap (arrived_by n old) none
+    ∙ ap (λ (made : Stepped). record { arrival = arrival.Elsewhere made.run; session = made.session }) is
+
+-- what was done from where it was is no step
+module _ (there : Place) (m n : ℕ) (old middle : SessionOf) (after : LevelOf) (done : Advance) (made : Made m old middle)
+    (before : (j : ℕ) → j < m → stands_at there (walk j old.level).level ≡ false)
+    (misses : stands_at there middle.level ≡ false) (step : IsAdvance next_of middle.level after done) where
+  seen_step : {x : Advance} → done ≡ x → IsAdvance next_of middle.level after x
+  seen_step e = rw (← e) step
+
+  pub until_over : m ≤ n → done ≡ advance.Over
+      → arrived there n old ≡ record { arrival = arrival.Elsewhere (run.Ended m); session = record middle { level = after } }
+  unfolding IsStop
+  until_over le is =
+      let over = seen_step is in
+      elsewhere there n old (record middle { level = after }) (run.Ended m)
+      (misses_all there m n old middle made before misses le (subst IsStop (sym over.0) tt))
+      (step_over m n old middle after done made step le is)
+
+  pub until_refused : (stop : Stop) (answer : SessionRun) → m < n → done ≡ advance.Stops stop → answer ≡ refused_after middle.steps stop
+      → arrived there n old ≡ record { arrival = arrival.Elsewhere answer; session = record middle { level = after } }
+  unfolding IsStop
+  until_refused stop answer lt is says =
+      let stopped = seen_step is in
+      elsewhere there n old (record middle { level = after }) answer
+      (misses_all there m n old middle made before misses (omega (arith, lt)) (subst IsStop (sym stopped.0) tt))
+      (step_refused m n old middle after done made step stop answer lt is says)
+
+-- a call that was asked for n steps has made some of them
+some_by : (there : Place) (n : ℕ) (s : SessionOf) (first : Option ℕ) → first_arrival there n s.level ≡ first → HasMadeSome n s (arrived_by n s first).session
+some_by there n s (Some k) e =
+    let made = stepped_some k s in
+    (made.0, omega (arith, made.1, first_within there n k s.level e), made.2, made.3)
+some_by there n s None e = stepped_some n s
+
+pub arrived_some : (there : Place) (n : ℕ) (s : SessionOf) → HasMadeSome n s (arrived there n s).session
+arrived_some there n s = some_by there n s (first_arrival there n s.level) refl
