@@ -343,10 +343,11 @@ def many_lines():
         "piton": {
             "up": f"in main at {first}\n{listed}",
             "show": "at main 0 frames 1\nx = (nat 0)\nstack (int 0)",
+            "until main 0 5": "arrived 0",
             "step 0": "stepped 0",
         },
-        "fm9001": {"up": f"in main at {first}\n{listed}"},
-        "gypsy": {"up": "top", "show": f"at {first} depth 1\n{listed}"},
+        "fm9001": {"up": f"in main at {first}\n{listed}", "words 4294967295 1": "ffffffff outside"},
+        "gypsy": {"up": "top", "show": f"at {first} depth 1\n{listed}", f"until {first} 5": "arrived 0"},
     }
     for level, lines in said.items():
         for line, answer in lines.items():
