@@ -32,8 +32,8 @@ from rows import bytes_of, rows_of  # noqa: E402
 
 PROGRAM = TOP / "crates/cli_stack/out/cli_stack"
 PAGE = (TOP / "docs/ERRORS.md").read_text()
-# The pages that define the rules, in a table each; two rules are named beside it.
-OF_SESSIONS = {"D4", "D5"}
+# The pages that define the rules, in a table each; three rules are named beside it.
+OF_SESSIONS = {"D4", "D5", "D7"}
 RULE_PAGES = "text-form GYPSY piton asm values image-file debug space mini"
 # What judges the example of a rule, by its letter: the example is the file `t`, and `s` is the source of the values.
 JUDGES = {
