@@ -15,7 +15,6 @@ import html
 import json
 import os
 import re
-import struct
 import sys
 from concurrent.futures import ThreadPoolExecutor
 from pathlib import Path
@@ -26,46 +25,23 @@ from program import Program, lower, status_of
 HERE = Path(__file__).resolve().parent / "page"
 MOMENTS = 3000
 MOST_MOMENTS = 20000
-NOWHERE = 0xFFFFFFFF
-FLAGS = {"c": 8, "v": 4, "n": 2, "z": 1}
-# The longest array that a slot of an image can be.
-SLOT = 4096
+# The most words that one line of a script asks for, about how many words one session prints, and at how many moments at most: a script has 1 MiB.
+LINE, SESSION, ASKED = 4096, 250_000, 10_000
+
 
 # ---- Memory after each instruction ----
 
-def fields(*numbers):
-    """Words as an image file has them."""
-    return struct.pack(f">{len(numbers)}I", *numbers)
-
-
-def signed(word):
-    return struct.unpack(">i", fields(word))[0]
-
-
-def number_of(word):
-    """The number of a word of Piton, as `(int -1)`."""
-    tag, value = word
-    return {"t": 1, "f": 0}[value] if tag == "bool" else int(value)
-
-
 class Memory:
-    """Asks for memory after each instruction that can write it. No command prints memory between two marks: the program runs that instruction alone,
-    on an image that is the moment before it, whose slots are the words that the run uses of both stacks, and the condition word."""
+    """Asks for memory after each instruction that can write it: the condition word, and the words that the run uses of both stacks."""
 
-    def __init__(self, program, shown, machines, piton):
+    def __init__(self, program, shown, machines):
         self.program = program
         self.size, self.final, self.condition = (self.field_of(shown, it) for it in ("size", "final", "condition"))
-        listed = re.findall(r"^([0-9a-f]{8}) ([0-9a-f]{8}) \S+ ?(\S*)$", shown, re.M)
-        self.words = {int(address, 16): int(word, 16) for address, word, _ in listed}
-        self.targets = {int(address, 16): operands.split(",")[0] for address, _, operands in listed}
+        listed = re.findall(r"^([0-9a-f]{8}) [0-9a-f]{8} \S+ ?(\S*)$", shown, re.M)
+        self.targets = {int(address, 16): operands.split(",")[0] for address, operands in listed}
         numbers = [int(it, 16) for it in re.findall(r"^r\d+ ([0-9a-f]{8})$", machines, re.M)]
         self.registers = [numbers[it:it + 16] for it in range(0, len(numbers), 16)]
-        self.flags = [sum(FLAGS.get(it, 0) for it in flags) for flags in re.findall(r"^flags ([-cvnz]{4})$", machines, re.M)]
         self.parts = list(self.parts_of(program.sizes[0]))
-        self.slots = b"".join(fields(len(name)) + name.encode() + fields(0, size, first + size - 1) for name, first, size in self.parts)
-        self.code = fields(self.final + 1, *(self.words.get(it, 0) for it in range(self.final + 1)))
-        bottom = re.findall(r"\((\w+) (\S+)\)", re.search(r"^stack( \(.*)?$", piton, re.M)[0])
-        self.start = {self.size - 1 - n: number_of(it) for n, it in enumerate(bottom)}
 
     @staticmethod
     def field_of(shown, name):
@@ -73,41 +49,27 @@ class Memory:
         return int(value, 10 if name == "size" else 16)
 
     def parts_of(self, control):
-        """The parts of memory that are asked for, each a slot's name, its first address and its length: the condition word, and what the run uses
-        of the control stack, which ends where the other begins, and of that."""
+        """The parts of memory that are asked for, each its first address and its length: the condition word, and what the run uses of the control
+        stack, which ends where the other begins, and of that."""
         begin = self.condition + 1 + control
         lowest = min(it[1] for it in self.registers if it[15] != self.final)
         top = min(it[2] for it in self.registers)
-        ranges = [(self.condition, self.condition + 1), (lowest, begin), (top, self.size)]
-        cut = [(first, min(SLOT, until - first)) for low, until in ranges for first in range(low, until, SLOT)]
-        return [(f"m{n}", first, size) for n, (first, size) in enumerate(cut)]
-
-    def first(self):
-        """Memory at the start, as a run prints it: the image's words and the values of main's variables, which are the bottom of Piton's stack."""
-        for name, first, size in self.parts:
-            items = (self.start.get(it, signed(self.words.get(it, 0))) for it in reversed(range(first, first + size)))
-            yield f"{name} = ({' '.join(map(str, items))})"
-
-    def image(self, moment):
-        """The image of a moment whose run makes one instruction: docs/image-file.md, version 1. Its code is that of each moment."""
-        head = fields(1, 0, self.size, self.registers[moment + 1][15], *self.registers[moment], self.flags[moment], NOWHERE, 0, len(self.parts))
-        return b"FM91" + head + self.slots + self.code
+        for low, until in (self.condition, self.condition + 1), (lowest, begin), (top, self.size):
+            yield from ((first, min(LINE, until - first)) for first in range(low, until, LINE))
 
     def writes(self, moment):
         """Whether the instruction of a moment can write memory: its target is no register."""
         return not re.fullmatch(r"r\d+", self.targets[self.registers[moment][15]])
 
     def moments(self):
-        """Each count of instructions after which memory was asked for, with what was printed."""
-        said = "".join(f"{it}\n" for it in self.first())
-        yield 0, said
-        for moment in filter(self.writes, range(len(self.registers) - 1)):
-            (self.program.folder / "step.image").write_bytes(self.image(moment))
-            (self.program.folder / "step.values").write_text("(" + re.sub(r"(m\d+) = (.*)", r"(\1 \2)", said) + ")")
-            first, said = self.program.ask("run", "step.image", "step.values", 1).split("\n", 1)
-            if first != "finished 1":
-                raise RuntimeError(f"an instruction alone ends with `{first}`")
-            yield moment + 1, said
+        """Each count of instructions after which memory is asked for, with what is printed."""
+        counts = [0, *(it + 1 for it in range(len(self.registers) - 1) if self.writes(it))]
+        asks = "".join(f"words {first} {size}\n" for first, size in self.parts)
+        many = max(1, min(ASKED, SESSION // sum(size for _, size in self.parts)))
+        for some in (counts[it:it + many] for it in range(0, len(counts), many)):
+            steps = (f"step {count - before}\n{asks}" for before, count in zip([0, *some], some))
+            printed = re.split(r"^stepped .*\n", self.program.session("fm9001", "".join(steps)), flags=re.M)
+            yield from zip(some, printed[1:])
 
 
 # ---- A run ----
@@ -129,7 +91,7 @@ def gather(program, budget, most):
     answers["gypsy"] = program.moments("gypsy", "show\n", steps)
     with ThreadPoolExecutor(os.cpu_count()) as pool:
         answers["counts"] = list(pool.map(lambda it: program.cost("gypsy", it), range(steps + 1)))
-    memory = Memory(program, answers["show"], answers["fm9001"], answers["piton"])
+    memory = Memory(program, answers["show"], answers["fm9001"])
     answers["parts"], answers["memory"] = memory.parts, list(memory.moments())
     answers["source"], answers["values"] = program.text("s"), program.text("v")
     return answers

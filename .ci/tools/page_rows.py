@@ -230,7 +230,7 @@ def changed(path, name, pattern, by):
     answers = json.loads(gzip.decompress(base64.b64decode(DATA.search(page)[2])))
     if name == "memory":
         last = max(it for it in answers["memory"] if it[0] <= 186)
-        last[1] = re.sub(r"(-?\d+)([^\n(]*\n)$", lambda it: f"{int(it[1]) + 1}{it[2]}", last[1])
+        last[1] = re.sub(r"([0-9a-f]{8})\n$", lambda it: f"{int(it[1], 16) ^ 1:08x}\n", last[1])
     else:
         found = re.subn(pattern, by, answers[name], count=1)
         if found[1] != 1 or found[0] == answers[name]:

@@ -4,7 +4,7 @@
 //
 // The answers are texts: `source`, `values`, and `infix` where the source was made of one; `pit`, `show`, `run` as these commands printed or stored
 // them; `fm9001`, `piton` and `gypsy`, of sessions of `debug` that show each moment; `counts`, what the steps of the source cost up to each; `cost`,
-// what the steps of Piton cost together; and `memory`, which has what is in both stacks after the instructions that write: docs/page.md.
+// what the steps of Piton cost together; `memory`, the words of both stacks after each instruction that writes, and `parts`, which words: docs/page.md.
 
 class Differs extends Error {}
 
@@ -131,7 +131,7 @@ const machineMoment = (lines, n) => {
 
 // Memory at each moment, as a map of addresses: what was printed last. The map of the moment asked for last is kept.
 const memoryOf = ({ parts, memory }) => {
-  const from = memory.map(([count]) => count);
+  const from = memory.map(([count]) => count), wanted = parts.flatMap(([first, size]) => Array.from({ length: size }, (_, n) => first + n));
   let kept = -1, map = null;
   return (count) => {
     let low = 0, high = from.length - 1;
@@ -141,14 +141,9 @@ const memoryOf = ({ parts, memory }) => {
       else high = middle - 1;
     }
     if (low === kept) return map;
-    const lines = linesOf(memory[low][1]);
-    [kept, map] = [low, new Map()];
-    parts.forEach(([name, first, size], n) => {
-      demand(lines[n].startsWith(`${name} = (`), "memory is printed part by part");
-      const numbers = lines[n].slice(name.length + 4, -1).split(" ");
-      demand(numbers.length === size, "a part of memory is printed in full");
-      numbers.forEach((it, m) => map.set(first + size - 1 - m, wordOf(it)));
-    });
+    const words = linesOf(memory[low][1]).map((line) => line.split(" ").map((it) => parseInt(it, 16)));
+    demand(same(words.map(([address]) => address), wanted), "memory is printed word by word");
+    [kept, map] = [low, new Map(words)];
     return map;
   };
 };
