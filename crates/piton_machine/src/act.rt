@@ -15,6 +15,7 @@ use piton_words::{Word, WordOp};
 
 impl State {
     /// An instruction done.
+    #[inline(always)]
     pub(crate) fn act(&mut self, checked: &Resolved, instr: PitonInstr<'_>) -> Result<(), ErrorKind>
         requires next { self.old.state.place + 1 < 2 ^ 32 }
         requires temp { self.old.temp ≡ checked.now.temp }
@@ -78,6 +79,7 @@ impl State {
     }
 
     /// What an instruction costs.
+    #[inline(always)]
     pub(crate) fn cost(&self, checked: &Resolved, instr: PitonInstr<'_>) -> u64
         requires { (program : ℕ) → variables_of (system_view checked.now) program ≤ 400 }
         ensures value { result ≡ cost_of (system_view checked.now) self.now.state (decoded_view instr.entry) }

@@ -67,6 +67,7 @@ impl State {
 
     /// One step. An error changes nothing, and a halted state stays as it is.
     #[tactic(auto, using(crate::proofs::SoundLaws::checked_known))]
+    #[inline(never)]
     pub fn step(&mut self, checked: &Checked) -> Stepped
         requires { IsSeen (system_in checked.now) self.old }
         ensures answer { result ≡ answer_of (seen_step (system_in checked.now) self.old) }
@@ -135,6 +136,7 @@ impl State {
 
     /// One step.
     #[tactic(auto, unfolding(crate::specs::Views::then_on))]
+    #[inline(always)]
     fn stepped(&mut self, checked: &Resolved) -> Stepped
         requires sound { IsWellFormed (system_view checked.now) }
         requires fits { IsSeen (system_view checked.now) self.old }
@@ -163,6 +165,7 @@ impl State {
     }
 
     /// At most `limit` steps.
+    #[inline(never)]
     fn ran(&mut self, checked: &Resolved, limit: u64) -> PitonRun
         requires sound { IsWellFormed (system_view checked.now) }
         requires fits { IsSeen (system_view checked.now) self.old }
