@@ -121,19 +121,25 @@ any_args p [] = refl
 any_args p (a ∷ args) = ap (λ b. is_undeclared p (arg_of a) || b) (any_args p args)
 
 -- the arguments are as many as the slots, or not
-pub right_number : (p : ProcOf) (place : ℕ) (slots : List Slot) (args : List Arg) → length args ≡ length slots → predef_breaches p place slots (map arg_of args) ≡ flat_map (λ a. argument_breaches p (arg_of a)) args ++ declared_breaches p slots (map arg_of args)
+pub right_number : (p : ProcOf) (place : ℕ) (slots : List Slot) (args : List Arg) → length args ≡ length slots →
+    predef_breaches p place slots (map arg_of args)
+    ≡ flat_map (λ a. argument_breaches p (arg_of a)) args ++ declared_breaches p slots (map arg_of args)
 right_number p place slots args same =
     ap₂ (λ alone b. alone ++ (if b then declared_breaches p slots (map arg_of args) else when true place 22)) (flat_args p args)
     (ap (λ n. n == length slots) (length-map args arg_of) ∙ eq-eqb (length args) (length slots) same)
 
-pub wrong_number : (p : ProcOf) (place : ℕ) (slots : List Slot) (args : List Arg) → (length args ≡ length slots → ⊥) → predef_breaches p place slots (map arg_of args) ≡ flat_map (λ a. argument_breaches p (arg_of a)) args ++ when true place 22
+unequal : (m n : ℕ) → (m ≡ n → ⊥) → (m == n) ≡ false
+unequal m n apart = told (eqb_tells m n)
+  where
+    told : (((m == n) ≡ true) × (m ≡ n)) ⊎ (((m == n) ≡ false) × (m ≢ n)) → (m == n) ≡ false
+    told (inl (test, same)) = absurd (apart same)
+    told (inr (test, other)) = test
+
+pub wrong_number : (p : ProcOf) (place : ℕ) (slots : List Slot) (args : List Arg) → (length args ≡ length slots → ⊥) →
+    predef_breaches p place slots (map arg_of args) ≡ flat_map (λ a. argument_breaches p (arg_of a)) args ++ when true place 22
 wrong_number p place slots args other =
     ap₂ (λ alone b. alone ++ (if b then declared_breaches p slots (map arg_of args) else when true place 22)) (flat_args p args)
-    (ap (λ n. n == length slots) (length-map args arg_of) ∙ not_equal (eqb_tells (length args) (length slots)))
-  where
-    not_equal : (((length args == length slots) ≡ true) × (length args ≡ length slots)) ⊎ (((length args == length slots) ≡ false) × (length args ≢ length slots)) → (length args == length slots) ≡ false
-    not_equal (inl (yes_equal, same)) = absurd (other same)
-    not_equal (inr (unequal, _)) = unequal
+    (ap (λ n. n == length slots) (length-map args arg_of) ∙ unequal (length args) (length slots) other)
 
 pub flat_append : {X : Type 0} (f : X → List Breach) (xs ys : List X) → flat_map f (xs ++ ys) ≡ flat_map f xs ++ flat_map f ys
 flat_append f [] ys = refl
@@ -155,7 +161,8 @@ any_push f [] x = or_false (f x)
 any_push f (y ∷ xs) x = ap (λ b. f y || b) (any_push f xs x) ∙ or_assoc (f y) (list_any f xs) (f x)
 
 -- whether one of those so far does, and one more
-pub any_next : {X : Type 0} (f : X → Bool) (xs : List X) (i : ℕ) (x : X) (before more after : Bool) → i < length xs → x ≡ get_or xs i x → before ≡ list_any f (take i xs) → more ≡ f x → after ≡ (before || more) → after ≡ list_any f (take (i + 1) xs)
+pub any_next : {X : Type 0} (f : X → Bool) (xs : List X) (i : ℕ) (x : X) (before more after : Bool) → i < length xs →
+    x ≡ get_or xs i x → before ≡ list_any f (take i xs) → more ≡ f x → after ≡ (before || more) → after ≡ list_any f (take (i + 1) xs)
 any_next f xs i x before more after lt is before_is more_is after_is =
     after_is ∙ ap₂ (λ b m. b || m) before_is more_is ∙
     sym (ap (list_any f) (take_more xs i x lt ∙ ap (λ u. take i xs ++ u ∷ []) (sym is)) ∙ any_push f (take i xs) x)

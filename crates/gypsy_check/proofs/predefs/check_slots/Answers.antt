@@ -1,4 +1,4 @@
-use Rattle.std.proofs.Common.{None, map, refl, ap, sym, ◌∙◌, arith}
+use Rattle.std.proofs.Common.{None, List, map, refl, ap, sym, ◌∙◌, arith}
 use Rattle.std.specs.List.{flat_map, list_any}
 use Rattle.std.proofs.lemmas.List.{take_all}
 use Rattle.stack_text.specs.Breaches.{lesser_of}
@@ -16,14 +16,20 @@ loop-index-preserved c =
     let args = c.args.args.now in
     let slots = c.args.slots.now in
     let i = c.loop-index.index in
+    let lt = c.loop-index-test.true in
     let arg = c.index-args-index.result in
-    let judged = c.judge_argument-kind in (
-      notes_next (λ (a : Arg). argument_breaches p (arg_of a)) args i arg c.args.best.now c.loop-index.best judged.new.best
-          c.loop-index-test.true c.index-args-index.is c.loop-index.invariant.0 judged.ensures.noted,
-      slots_step p c.loop-index.unwanted c.note_if.new.best (noted None (slots_breaches p None slots (map arg_of args))) slots args i c.slot_at-slot.result arg c.loop-index.settled c.settled_by-settled.result judged.result.0 c.is_wanted-wanted.result c.arg_place-place.result
-          c.loop-index-test.true (omega (arith, c.requires, c.loop-index-test.true)) c.index-args-index.is c.slot_at-slot.ensures judged.ensures.kind c.is_wanted-wanted.ensures c.arg_place-place.ensures c.settled_by-settled.ensures c.loop-index.invariant.1 c.note_if.ensures,
-      any_next (λ (a : Arg). is_undeclared p (arg_of a)) args i arg c.loop-index.lacks_declaration judged.result.1 _
-          c.loop-index-test.true c.index-args-index.is c.loop-index.invariant.2 judged.ensures.undeclared refl,
+    let arg_is = c.index-args-index.is in
+    let so_far = c.loop-index.invariant in
+    let judged = c.judge_argument-kind in
+    let all = noted None (slots_breaches p None slots (map arg_of args)) in (
+      notes_next (λ (a : Arg). argument_breaches p (arg_of a)) args i arg
+          c.args.best.now c.loop-index.best judged.new.best lt arg_is so_far.0 judged.ensures.noted,
+      slots_step p c.loop-index.unwanted c.note_if.new.best all slots args i c.slot_at-slot.result arg
+          c.loop-index.settled c.settled_by-settled.result judged.result.0 c.is_wanted-wanted.result c.arg_place-place.result
+          lt (omega (arith, c.requires, lt)) arg_is c.slot_at-slot.ensures judged.ensures.kind c.is_wanted-wanted.ensures
+          c.arg_place-place.ensures c.settled_by-settled.ensures so_far.1 c.note_if.ensures,
+      any_next (λ (a : Arg). is_undeclared p (arg_of a)) args i arg
+          c.loop-index.lacks_declaration judged.result.1 _ lt arg_is so_far.2 judged.ensures.undeclared refl,
     )
 
 pub returns-then-not-lacks_declaration : goal.returns-then-not-lacks_declaration
@@ -31,13 +37,18 @@ returns-then-not-lacks_declaration c =
     let p = proc_of c.args.scope.now in
     let args = c.args.args.now in
     let slots = c.args.slots.now in
+    let i = c.loop-index.index in
+    let alone = λ (xs : List Arg). flat_map (λ (a : Arg). argument_breaches p (arg_of a)) xs in
     let so_far = c.loop-index.invariant in
-    let all = take_all c.loop-index.index args c.loop-index-test.false in
+    let ended = c.loop-index-test.false in
+    let all = take_all i args ended in
     let none_lacks = sym so_far.2 ∙ c.if-not-lacks_declaration.true in
-    let unwanted = slots_done p c.loop-index.unwanted (noted None (slots_breaches p None slots (map arg_of args))) slots args c.loop-index.index c.loop-index.settled c.loop-index-test.false so_far.1 in
-    let declared = all_declared_here p slots args (sym (ap (list_any (λ (a : Arg). is_undeclared p (arg_of a))) all) ∙ none_lacks) in
-    notes_more c.args.best.now c.loop-index.best c.note_found.new.best (flat_map (λ (a : Arg). argument_breaches p (arg_of a)) args) (declared_breaches p slots (map arg_of args))
-    (so_far.0 ∙ ap (λ xs. noted c.args.best.now (flat_map (λ (a : Arg). argument_breaches p (arg_of a)) xs)) all)
+    let wanted = noted None (slots_breaches p None slots (map arg_of args)) in
+    let unwanted = slots_done p c.loop-index.unwanted wanted slots args i c.loop-index.settled ended so_far.1 in
+    let lacks = ap (list_any (λ (a : Arg). is_undeclared p (arg_of a))) all in
+    let declared = all_declared_here p slots args (sym lacks ∙ none_lacks) in
+    notes_more c.args.best.now c.loop-index.best c.note_found.new.best (alone args) (declared_breaches p slots (map arg_of args))
+    (so_far.0 ∙ ap (λ xs. noted c.args.best.now (alone xs)) all)
     (c.note_found.ensures ∙ ap (lesser_of c.loop-index.best) unwanted ∙ ap (noted c.loop-index.best) (sym declared))
 
 pub returns-else-not-lacks_declaration : goal.returns-else-not-lacks_declaration
@@ -45,9 +56,10 @@ returns-else-not-lacks_declaration c =
     let p = proc_of c.args.scope.now in
     let args = c.args.args.now in
     let slots = c.args.slots.now in
+    let alone = λ (xs : List Arg). flat_map (λ (a : Arg). argument_breaches p (arg_of a)) xs in
     let so_far = c.loop-index.invariant in
     let all = take_all c.loop-index.index args c.loop-index-test.false in
     let lacks = sym (ap (list_any (λ (a : Arg). is_undeclared p (arg_of a))) all) ∙ sym so_far.2 ∙ c.if-not-lacks_declaration.false in
-    notes_more c.args.best.now c.loop-index.best c.loop-index.best (flat_map (λ (a : Arg). argument_breaches p (arg_of a)) args) (declared_breaches p slots (map arg_of args))
-    (so_far.0 ∙ ap (λ xs. noted c.args.best.now (flat_map (λ (a : Arg). argument_breaches p (arg_of a)) xs)) all)
+    notes_more c.args.best.now c.loop-index.best c.loop-index.best (alone args) (declared_breaches p slots (map arg_of args))
+    (so_far.0 ∙ ap (λ xs. noted c.args.best.now (alone xs)) all)
     (notes_none c.loop-index.best ∙ ap (noted c.loop-index.best) (sym (lacking p slots args lacks)))

@@ -9,5 +9,6 @@ use Rattle.gypsy_check.proofs.predefs.check_wrong_number.Goals as goal
 
 pub returns : goal.returns
 returns c =
-    notes_more c.args.best.now c.check_arguments.new.best c.note_if.new.best (flat_map (λ (a : Arg). argument_breaches (proc_of c.args.scope.now) (arg_of a)) c.args.args.now) (when true c.args.place 22)
+    let alone = flat_map (λ (a : Arg). argument_breaches (proc_of c.args.scope.now) (arg_of a)) c.args.args.now in
+    notes_more c.args.best.now c.check_arguments.new.best c.note_if.new.best alone (when true c.args.place 22)
     c.check_arguments.ensures c.note_if.ensures

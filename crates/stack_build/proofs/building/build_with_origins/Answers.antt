@@ -17,7 +17,9 @@ returns-in_err-built-clause-value c =
     let p = err_from_is_err_and c.from_residual-in_err-built.result c.from_residual-in_err-built.ensures.1 in
     rw (p.1, p.2)
     (subst (λ (r : Result BuiltOf BuildFault). GivesBuilt {X = BuiltOf} (λ built. built) (Err c.in_err-built.field-0.0) r)
-    (sym (text_builds c.args.text.now c.args.ctrl c.args.temp c.args.base (source_of c.in_ok-accepted.accepted) c.in_ok-accepted.ensures)) c.in_err-built.ensures.value)
+    (sym
+    (text_builds c.args.text.now c.args.ctrl c.args.temp c.args.base (source_of c.in_ok-accepted.accepted) c.in_ok-accepted.ensures))
+    c.in_err-built.ensures.value)
 
 pub returns-clause-value : goal.returns-clause-value
 returns-clause-value c =
@@ -26,4 +28,5 @@ returns-clause-value c =
 
 pub returns-clause-implements : goal.returns-clause-implements
 returns-clause-implements c =
-    text_builds_if c.args.text.now c.args.ctrl c.args.temp (source_of c.in_ok-accepted.accepted) (Ok c.in_ok-built.built) c.in_ok-accepted.ensures c.in_ok-built.ensures.implements
+    text_builds_if c.args.text.now c.args.ctrl c.args.temp (source_of c.in_ok-accepted.accepted) (Ok c.in_ok-built.built)
+    c.in_ok-accepted.ensures c.in_ok-built.ensures.implements
