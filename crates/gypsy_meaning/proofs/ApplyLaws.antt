@@ -14,7 +14,7 @@ use Rattle.gypsy_space.specs.declared.event.Outcome.{Outcome}
 use Rattle.gypsy_space.specs.declared.event.Outcome.TheVariants as outcome
 use Rattle.gypsy_space.specs.declared.program.Application.{Application}
 use Rattle.gypsy_semantics.specs.Machine.{Item, Frame, At, Next, settle, raise, apply_step}
-use Rattle.gypsy_meaning.specs.Seen.Work.{work_of, caught_spend}
+use Rattle.gypsy_meaning.specs.Seen.Work.{caught_spend}
 use Rattle.gypsy_meaning.specs.Scaffold.Turns.{IsPlain, GoesOn, RaisesOn}
 use Rattle.gypsy_meaning.specs.Scaffold.PredefinedSteps.{call_item, WritesOn, IsApplied}
 use Rattle.gypsy_meaning.specs.declared.applying.Applied.{Applied}
@@ -46,8 +46,8 @@ unfolding predef_spend
 normal_spend r v t = ap (λ c. spend c.0 c.1 t) (normal_cost r v)
 
 -- a predefined call that writes
-pub writes_law : (call : Application) (x : List ValueOf) (w : List Item) (e : Effect) (i : ℕ) (v : ValueOf) (a : Advance) → e ≡ Normal v → e ≡ applied_effect call.which x call.args.items → i ≡ target_of (map seen_arg call.args.items) → a.event ≡ event.Predef call.which outcome.Normal → a.caught ≡ false → work_of a.work.value ≡ settle w → WritesOn x (call_item call ∷ w) i v a
-writes_law call x w e i v a is eff at ev free wk =
+pub writes_law : (call : Application) (x : List ValueOf) (w u : List Item) (e : Effect) (i : ℕ) (v : ValueOf) (a : Advance) → e ≡ Normal v → e ≡ applied_effect call.which x call.args.items → i ≡ target_of (map seen_arg call.args.items) → a.event ≡ event.Predef call.which outcome.Normal → a.caught ≡ false → u ≡ settle w → WritesOn x (call_item call ∷ w) u i v a
+writes_law call x w u e i v a is eff at ev free wk =
     let P : CostEvent → Type 0 = IsPlain in (
       subst P (sym ev) tt,
       λ q sizes p fs t.
@@ -55,11 +55,11 @@ writes_law call x w e i v a is eff at ev free wk =
           let args = map seen_arg call.args.items in
           let done : predef_effect r (values_of x args) ≡ Normal v = sym (applied_is r x call.args.items) ∙ sym eff ∙ is in
           ap (λ f. apply_step r args f p x w fs t) done ∙
-          ap (λ u. Next (At p (slice_set x (target_of args) v) (settle w) fs u)) (normal_spend r v t) ∙
+          ap (λ z. Next (At p (slice_set x (target_of args) v) (settle w) fs z)) (normal_spend r v t) ∙
           ap (λ j. Next (At p (slice_set x j v) (settle w) fs (predef_spend r (Normal no_value) t))) (sym at) ∙
           ap (λ l. Next (At p (slice_set x i v) l fs (predef_spend r (Normal no_value) t))) (sym wk) ∙
-          ap (λ n. Next (At p (slice_set x i v) (work_of a.work.value) fs (caught_spend false (event_spend q n t)))) (sym ev) ∙
-          ap (λ b. Next (At p (slice_set x i v) (work_of a.work.value) fs (caught_spend b (event_spend q a.event t)))) (sym free),
+          ap (λ n. Next (At p (slice_set x i v) (u) fs (caught_spend false (event_spend q n t)))) (sym ev) ∙
+          ap (λ b. Next (At p (slice_set x i v) (u) fs (caught_spend b (event_spend q a.event t)))) (sym free),
     )
 
 abbrev pub IsFailure : Outcome → Type 0
@@ -73,8 +73,8 @@ failed r args outcome.Fault p x w fs t f = refl
 failed r args outcome.Beyond p x w fs t f = refl
 
 -- and one that fails
-pub fails_law : (call : Application) (x : List ValueOf) (w : List Item) (e : Effect) (o : Outcome) (a : Advance) → IsFailure o → e ≡ effect_of o → e ≡ applied_effect call.which x call.args.items → RaisesOn call.which o w a → GoesOn x (call_item call ∷ w) a
-fails_law call x w e o a f is eff r = (
+pub fails_law : (call : Application) (x : List ValueOf) (w u : List Item) (e : Effect) (o : Outcome) (a : Advance) → IsFailure o → e ≡ effect_of o → e ≡ applied_effect call.which x call.args.items → RaisesOn call.which o w u a → GoesOn x (call_item call ∷ w) u a
+fails_law call x w u e o a f is eff r = (
   r.0,
   λ q sizes p fs t.
       let args = map seen_arg call.args.items in
@@ -83,16 +83,18 @@ fails_law call x w e o a f is eff r = (
 )
 
 -- what is known of a step of a predefined call, at the state
-pub writes_here : (x y : List ValueOf) (call : Application) (w l : List Item) (o : Applied) (i : ℕ) (v : ValueOf) (a : Advance) → y ≡ x → o ≡ Writes i v a → l ≡ call_item call ∷ w → IsApplied y call w o → WritesOn x l i v a
-writes_here x y call w l o i v a e f g h =
-    let P : List ValueOf → Type 0 = λ z. IsApplied z call w o in
-    let Q : Applied → Type 0 = IsApplied x call w in
-    let R : List Item → Type 0 = λ m. WritesOn x m i v a in
+pub writes_here : (x y : List ValueOf) (call : Application) (w l u : List Item) (o : Applied) (i : ℕ) (v : ValueOf) (a : Advance) →
+    y ≡ x → o ≡ Writes i v a → l ≡ call_item call ∷ w → IsApplied y call w u o → WritesOn x l u i v a
+writes_here x y call w l u o i v a e f g h =
+    let P : List ValueOf → Type 0 = λ z. IsApplied z call w u o in
+    let Q : Applied → Type 0 = IsApplied x call w u in
+    let R : List Item → Type 0 = λ m. WritesOn x m u i v a in
     subst R (sym g) (subst Q f (subst P e h))
 
-pub fails_here : (x y : List ValueOf) (call : Application) (w l : List Item) (o : Applied) (a : Advance) → y ≡ x → o ≡ Fails a → l ≡ call_item call ∷ w → IsApplied y call w o → GoesOn x l a
-fails_here x y call w l o a e f g h =
-    let P : List ValueOf → Type 0 = λ z. IsApplied z call w o in
-    let Q : Applied → Type 0 = IsApplied x call w in
-    let R : List Item → Type 0 = λ m. GoesOn x m a in
+pub fails_here : (x y : List ValueOf) (call : Application) (w l u : List Item) (o : Applied) (a : Advance) →
+    y ≡ x → o ≡ Fails a → l ≡ call_item call ∷ w → IsApplied y call w u o → GoesOn x l u a
+fails_here x y call w l u o a e f g h =
+    let P : List ValueOf → Type 0 = λ z. IsApplied z call w u o in
+    let Q : Applied → Type 0 = IsApplied x call w u in
+    let R : List Item → Type 0 = λ m. GoesOn x m u a in
     subst R (sym g) (subst Q f (subst P e h))

@@ -32,13 +32,13 @@ use Rattle.gypsy_meaning.specs.Seen.Work.{work_of}
 use Rattle.gypsy_meaning.specs.declared.names.Names.{Names}
 use Rattle.gypsy_meaning.specs.declared.running.Frame.{Frame}
 use Rattle.gypsy_meaning.specs.declared.running.Meaning.{Meaning}
-use Rattle.gypsy_meaning.specs.declared.work.Work.{Work}
+use Rattle.gypsy_meaning.specs.declared.work.Item.{Item as Kept}
 use Rattle.gypsy_semantics.proofs.LendingLaws.{back_again, copied_again, length-copied_out, used_back}
 use Rattle.gypsy_meaning.proofs.ReturningLaws.{kept_frames-push, same_state}
 use Rattle.gypsy_semantics.proofs.Rooms.{rooms}
 
 module _ (m : Meaning) (ns : List Need) (site : CallSite) (below : List Item) (needs : AreNeeds (seen_program m.program) ns) (there : site.callee < length (seen_program m.program).procs)
-    (turn : work_of m.work.value ≡ call_top site ∷ below) (counts : used (seen_program m.program) m.procedure (kept_frames m.waiting.items) ≡ stack_sizes m.used_ctrl m.used_temp) where
+    (turn : work_of m.work ≡ call_top site ∷ below) (counts : used (seen_program m.program) m.procedure (kept_frames m.waiting.items) ≡ stack_sizes m.used_ctrl m.used_temp) where
   abbrev q : Program
   q = seen_program m.program
 
@@ -58,23 +58,23 @@ module _ (m : Meaning) (ns : List Need) (site : CallSite) (below : List Item) (n
       ap (λ (w : List Item). gypsy_step q (sizes_of m) (At m.procedure x w (frames_in m) start_tally)) turn
       ∙ ap (λ (k : Lack). call_step q k site.callee site.actuals.items (map seen_cond site.conds.items) m.procedure x below (frames_in m) start_tally) (lack_is ∙ h)
 
-  pub lacks_temporary : lack_by (need_at ns site.callee) (sizes_of m) (stack_sizes m.used_ctrl m.used_temp) ≡ Temporary → RaisesSpace m below event.LackTemporary
-  lacks_temporary h = call_steps Temporary h
+  pub lacks_temporary : lack_by (need_at ns site.callee) (sizes_of m) (stack_sizes m.used_ctrl m.used_temp) ≡ Temporary → RaisesSpace m event.LackTemporary
+  lacks_temporary h = (call_top site, below, turn, call_steps Temporary h)
 
-  pub lacks_control : lack_by (need_at ns site.callee) (sizes_of m) (stack_sizes m.used_ctrl m.used_temp) ≡ Control → RaisesSpace m below event.LackControl
-  lacks_control h = call_steps Control h
+  pub lacks_control : lack_by (need_at ns site.callee) (sizes_of m) (stack_sizes m.used_ctrl m.used_temp) ≡ Control → RaisesSpace m event.LackControl
+  lacks_control h = (call_top site, below, turn, call_steps Control h)
 
 -- the state after the step, from the one in which the caller waits
-abbrev pub after_call : List Need → ℕ → Rc Work Global → Meaning → Meaning
-after_call ns callee w a = paid (event_count ns (event.Call callee)) (with_words (need_at ns callee) (record a { procedure = callee; work = w }))
+abbrev pub after_call : List Need → ℕ → Meaning → Meaning
+after_call ns callee a = paid (event_count ns (event.Call callee)) (with_words (need_at ns callee) (record a { procedure = callee }))
 
-module _ (m a : Meaning) (ns : List Need) (site : Rc CallSite Global) (below w : Rc Work Global) (callee : Vec (Name × Value)) (needs : AreNeeds (seen_program m.program) ns) (there : site.value.callee < length (seen_program m.program).procs)
-    (turn : work_of m.work.value ≡ call_top site.value ∷ work_of below.value) (held : IsHeld m) (room : lack_by (need_at ns site.value.callee) (sizes_of m) (stack_sizes m.used_ctrl m.used_temp) ≡ Nothing)
+module _ (m a : Meaning) (ns : List Need) (site : Rc CallSite Global) (below : List Item) (w : List Kept) (callee : Vec (Name × Value)) (needs : AreNeeds (seen_program m.program) ns) (there : site.value.callee < length (seen_program m.program).procs)
+    (turn : work_of m.work ≡ call_top site.value ∷ below) (held : IsHeld m) (room : lack_by (need_at ns site.value.callee) (sizes_of m) (stack_sizes m.used_ctrl m.used_temp) ≡ Nothing)
     (locals : drop (length site.value.actuals.items) (map (λ v. v.1) callee.items) ≡ (proc_at (seen_program m.program) site.value.callee).locals)
     (named : map (λ v. v.0) callee.items ≡ variables_of m.names.items site.value.callee)
-    (body : work_of w.value ≡ open_on (body_of (seen_program m.program) site.value.callee) []) (waits : Waits m callee below site a) where
+    (body : work_of w ≡ open_on (body_of (seen_program m.program) site.value.callee) []) (waits : Waits m callee w below site a) where
   abbrev after : Meaning
-  after = after_call ns site.value.callee w a
+  after = after_call ns site.value.callee a
 
   program_is : a.program ≡ m.program
   program_is = ap (λ (k : Meaning). k.program) waits.others
@@ -104,14 +104,17 @@ module _ (m a : Meaning) (ns : List Need) (site : Rc CallSite Global) (below w :
       ∙ copied_again xs (map (λ v. v.1) callee.items) y x sized
       ∙ ap (λ (l : List ValueOf). copied_out xs l x) values_are
 
-  kept_are : kept_frames a.waiting.items ≡ machine.Held m.procedure (map (λ v. v.1) waits.caller.items) (work_of below.value) site.value.actuals.items (map seen_cond site.value.conds.items) ∷ kept_frames m.waiting.items
-  kept_are = ap kept_frames waits.waiting ∙ kept_frames-push m.waiting.items _
+  kept_are : kept_frames a.waiting.items ≡ machine.Held m.procedure (map (λ v. v.1) waits.caller.items) (below) site.value.actuals.items (map seen_cond site.value.conds.items) ∷ kept_frames m.waiting.items
+  kept_are =
+      ap kept_frames waits.waiting
+      ∙ kept_frames-push m.waiting.items _
+      ∙ ap (λ (l : List Item). machine.Held m.procedure (map (λ v. v.1) waits.caller.items) l site.value.actuals.items (map seen_cond site.value.conds.items) ∷ kept_frames m.waiting.items) waits.behind_is
 
   frames_are : let z = copied_out site.value.actuals.items (copied_in (seen_program m.program) site.value.callee site.value.actuals.items (map (λ v. v.1) m.variables.items)) (map (λ v. v.1) m.variables.items) in
-      frames_in a ≡ machine.Held m.procedure z (work_of below.value) site.value.actuals.items (map seen_cond site.value.conds.items) ∷ frames_of z m.waiting.items
+      frames_in a ≡ machine.Held m.procedure z (below) site.value.actuals.items (map seen_cond site.value.conds.items) ∷ frames_of z m.waiting.items
   frames_are =
       ap (handed_back (map (λ v. v.1) a.variables.items)) kept_are
-      ∙ ap (λ (l : List ValueOf). machine.Held m.procedure l (work_of below.value) site.value.actuals.items (map seen_cond site.value.conds.items) ∷ frames_of l m.waiting.items) lent_back
+      ∙ ap (λ (l : List ValueOf). machine.Held m.procedure l (below) site.value.actuals.items (map seen_cond site.value.conds.items) ∷ frames_of l m.waiting.items) lent_back
 
   enter_goes : Goes (seen_program m.program) (sizes_of m) m after
   enter_goes =
@@ -126,14 +129,14 @@ module _ (m a : Meaning) (ns : List Need) (site : Rc CallSite Global) (below w :
       let shown : a.counted ≡ m.counted = ap (λ (k : Meaning). k.counted) waits.others in
       let spent : u.count ≡ 0 + event_count ns (event.Call c) = call_table r ns needs c there start_tally in
       let cost : event_count ns (event.Call c) ≡ u.count = omega (arith, spent) in
-      let again : machine.Held m.procedure z (work_of below.value) xs cs ∷ handed_back z (frames_in m) ≡ frames_in a =
-      ap (λ (l : List machine.Frame). machine.Held m.procedure z (work_of below.value) xs cs ∷ l) (back_again x z (kept_frames m.waiting.items) (sym (length-copied_out xs y x)))
+      let again : machine.Held m.procedure z (below) xs cs ∷ handed_back z (frames_in m) ≡ frames_in a =
+      ap (λ (l : List machine.Frame). machine.Held m.procedure z (below) xs cs ∷ l) (back_again x z (kept_frames m.waiting.items) (sym (length-copied_out xs y x)))
       ∙ sym frames_are in (
-        At c y (open_on (body_of r c) []) (machine.Held m.procedure x (work_of below.value) xs cs ∷ frames_in m) u,
-        call_steps m ns site.value (work_of below.value) needs there turn held.top.used_words Nothing room,
-        same_state c c y (map (λ v. v.1) a.variables.items) (open_on (body_of r c) []) (work_of w.value)
-            (machine.Held m.procedure z (work_of below.value) xs cs ∷ handed_back z (frames_in m)) (frames_in a) start_tally
-            refl (sym values_are) (sym body) again,
+        At c y (open_on (body_of r c) []) (machine.Held m.procedure x (below) xs cs ∷ frames_in m) u,
+        call_steps m ns site.value below needs there turn held.top.used_words Nothing room,
+        same_state c c y (map (λ v. v.1) a.variables.items) (open_on (body_of r c) []) (work_of a.work)
+            (machine.Held m.procedure z (below) xs cs ∷ handed_back z (frames_in m)) (frames_in a) start_tally
+            refl (sym values_are) (sym (ap work_of waits.work_is ∙ body)) again,
         record { counted = ap₂ added shown cost; last = cost },
       )
 
@@ -165,7 +168,7 @@ module _ (m a : Meaning) (ns : List Need) (site : Rc CallSite Global) (below w :
       let f : Frame = record {
         procedure = m.procedure;
         variables = waits.caller;
-        work = below;
+        work = waits.behind;
         call = site;
         used_temp = m.used_temp;
         used_ctrl = m.used_ctrl;

@@ -59,7 +59,7 @@ finishes e cost m n u alone f costs step = record {
   named = f.named;
 }
 
-pub end_finishes : (ns : List Need) (m n : Meaning) → work_of m.work.value ≡ [] → m.waiting.items ≡ [] → IsFinished ending.Normal (event_count ns event.EndMain) m n → EndsRun m n
+pub end_finishes : (ns : List Need) (m n : Meaning) → work_of m.work ≡ [] → m.waiting.items ≡ [] → IsFinished ending.Normal (event_count ns event.EndMain) m n → EndsRun m n
 unfolding event_count spend
 end_finishes ns m n nothing alone f =
     let q = seen_program m.program in
@@ -73,7 +73,7 @@ unfolding spend main_spend
 price_is true = refl
 price_is false = refl
 
-pub leave_finishes : (m n : Meaning) (c d : Condition) (below : List Item) → work_of m.work.value ≡ Out (seen_cond c) ∷ below → m.waiting.items ≡ [] → seen_cond d ≡ main_way (seen_program m.program) (seen_cond c) →
+pub leave_finishes : (m n : Meaning) (c d : Condition) (below : List Item) → work_of m.work ≡ Out (seen_cond c) ∷ below → m.waiting.items ≡ [] → seen_cond d ≡ main_way (seen_program m.program) (seen_cond c) →
     IsFinished (ending.Raised d) (end_price (is_passed_on (seen_program m.program) m.program.main (seen_cond c))) m n → EndsRun m n
 leave_finishes m n c d below out alone way f =
     let q = seen_program m.program in

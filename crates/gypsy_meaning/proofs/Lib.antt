@@ -1,4 +1,5 @@
 mod OpenLaws
+mod WorkLaws
 mod TurnLaws
 mod RunningLaws
 mod ApplyLaws

@@ -1,5 +1,5 @@
 -- What a step of a state that fits has.
-use Rattle.std.proofs.Common.{◌≡◌, ℕ, ◌+◌, List, [], ◌∷◌, length, map, true, refl, ap₂, ◌∙◌, subst, arith}
+use Rattle.std.proofs.Common.{◌≡◌, ◌+◌, List, ◌∷◌, length, map, true, ap₂, ◌∙◌, subst, arith}
 use Rattle.std.proofs.lemmas.List.{length-map}
 use Rattle.stack_text.specs.declared.shape.Kind.{Kind}
 use Rattle.stack_text.specs.declared.shape.Shape.{Shape}
@@ -8,7 +8,7 @@ use Rattle.gypsy_syntax.specs.declared.predef.Predef.{Predef}
 use Rattle.gypsy_syntax.specs.declared.predef.Predef.TheVariants as row
 use Rattle.gypsy_syntax.specs.Effects.{item_of_value, value_at}
 use Rattle.gypsy_syntax.specs.Predefined.{slots_of}
-use Rattle.gypsy_syntax.specs.ProgramFits.{ActualsFit, ArgsFit}
+use Rattle.gypsy_syntax.specs.ProgramFits.{ArgsFit}
 use Rattle.gypsy_syntax.specs.Programs.{proc_at, shapes_of}
 use Rattle.gypsy_syntax.specs.ValuesFit.{VarsFit}
 use Rattle.gypsy_space.specs.Nodes.{seen_arg, seen_program}
@@ -31,7 +31,7 @@ use Rattle.gypsy_semantics.proofs.LendingLaws.{actuals_length, actuals_there, as
 use Rattle.gypsy_syntax.proofs.RangeLaws.{range_item}
 
 -- a call has the names of its callee's variables
-pub call_sized : (ns : List Need) (m : Meaning) (site : CallSite) (below : List Item) → IsReady ns m → work_of m.work.value ≡ call_top site ∷ below →
+pub call_sized : (ns : List Need) (m : Meaning) (site : CallSite) (below : List Item) → IsReady ns m → work_of m.work ≡ call_top site ∷ below →
     length (variables_of m.names.items site.callee) ≡ length site.actuals.items + length (proc_at (seen_program m.program) site.callee).locals
 call_sized ns m site below ready turn =
     let q = seen_program m.program in
@@ -42,7 +42,7 @@ call_sized ns m site below ready turn =
     omega (arith, sized, same)
 
 -- its actuals may be lent
-pub call_lent : (ns : List Need) (m : Meaning) (site : CallSite) (below : List Item) → IsReady ns m → work_of m.work.value ≡ call_top site ∷ below → AreLent (length m.variables.items) site.actuals.items
+pub call_lent : (ns : List Need) (m : Meaning) (site : CallSite) (below : List Item) → IsReady ns m → work_of m.work ≡ call_top site ∷ below → AreLent (length m.variables.items) site.actuals.items
 call_lent ns m site below ready turn =
     let q = seen_program m.program in
     let p = proc_at q m.procedure in
@@ -65,7 +65,7 @@ suits row.MgArrayElementAssignment shapes k x args h f =
 suits r shapes k x args h f = tt
 
 -- the predefined call on top suits
-pub work_suits : (ns : List Need) (m : Meaning) → IsReady ns m → WorkSuits (map (λ v. v.1) m.variables.items) (work_of m.work.value)
+pub work_suits : (ns : List Need) (m : Meaning) → IsReady ns m → WorkSuits (map (λ v. v.1) m.variables.items) (work_of m.work)
 work_suits ns m ready call below turn =
     let q = seen_program m.program in
     let P : List Item → Type 0 = WorkFits q (proc_at q m.procedure) in

@@ -1,8 +1,6 @@
 -- What the code's counters show.
 use Rattle.std.proofs.Common.{◌≡◌, ℕ, ◌+◌, List, length, map, slice_set, Bool, true, false, refl, ap, sym, ◌∙◌, arith}
 use Rattle.std.proofs.lemmas.List.{length-set}
-use Rattle.std.specs.declared.alloc.Global.{Global}
-use Rattle.std.specs.declared.rc.Rc.{Rc}
 use Rattle.stack_text.specs.Values.{ValueOf}
 use Rattle.gypsy_syntax.specs.Programs.{Program}
 use Rattle.gypsy_space.specs.Costs.{Tally, spend, start_tally, predef_spend}
@@ -21,7 +19,7 @@ use Rattle.gypsy_meaning.specs.Seen.Held.{Moves}
 use Rattle.gypsy_meaning.specs.Seen.Running.{price, advanced, Goes, frames_in, kept_frames, sizes_of, state_of, paid}
 use Rattle.gypsy_meaning.specs.declared.turn.Advance.{Advance}
 use Rattle.gypsy_meaning.specs.declared.running.Meaning.{Meaning}
-use Rattle.gypsy_meaning.specs.declared.work.Work.{Work}
+use Rattle.gypsy_meaning.specs.declared.work.Item.{Item as Kept}
 use Rattle.gypsy_semantics.proofs.LendingLaws.{back_again}
 
 caught_is : (b : Bool) (ns : List Need) (e : CostEvent) (t : Tally) (u : Tally) → u.count ≡ t.count + event_count ns e → (caught_spend b u).count ≡ t.count + price ns e b
@@ -56,36 +54,36 @@ still_lent : (p : ℕ) (x : List ValueOf) (w : List Item) (fs : List Frame) (t :
 still_lent p x w fs t = ap (λ (gs : List Frame). At p x w gs start_tally) (back_again x x fs refl)
 
 -- a step that changes the work alone
-advance_goes : (q : Program) (sizes : StackSizes) (ns : List Need) (a : Advance) (m : Meaning) → IsPlain a.event →
-    gypsy_step q sizes (state_of m) ≡ Next (At m.procedure (map (λ v. v.1) m.variables.items) (work_of a.work.value) (frames_in m) (caught_spend a.caught (event_spend q a.event start_tally))) → Goes q sizes m (advanced ns a m)
-advance_goes q sizes ns a m plain step =
+advance_goes : (q : Program) (sizes : StackSizes) (ns : List Need) (a : Advance) (w : List Kept) (m : Meaning) → IsPlain a.event →
+    gypsy_step q sizes (state_of m) ≡ Next (At m.procedure (map (λ v. v.1) m.variables.items) (work_of w) (frames_in m) (caught_spend a.caught (event_spend q a.event start_tally))) → Goes q sizes m (advanced ns a w m)
+advance_goes q sizes ns a w m plain step =
     let u = event_spend q a.event start_tally in
     let paid : (caught_spend a.caught u).count ≡ 0 + price ns a.event a.caught = caught_is a.caught ns a.event start_tally u (plain_table q ns a.event plain start_tally) in
     let cost : price ns a.event a.caught ≡ (caught_spend a.caught u).count = omega (arith, paid) in
     let x : List ValueOf = map (λ v. v.1) m.variables.items in
     let spent : Tally = caught_spend a.caught u in (
-      At m.procedure x (work_of a.work.value) (frames_in m) spent,
+      At m.procedure x (work_of w) (frames_in m) spent,
       step,
-      still_lent m.procedure x (work_of a.work.value) (kept_frames m.waiting.items) spent,
+      still_lent m.procedure x (work_of w) (kept_frames m.waiting.items) spent,
       record { counted = ap (added m.counted) cost; last = cost },
     )
 
-pub step_moves : (ns : List Need) (a : Advance) (m : Meaning) → IsPlain a.event →
-    gypsy_step (seen_program m.program) (sizes_of m) (state_of m) ≡ Next (At m.procedure (map (λ v. v.1) m.variables.items) (work_of a.work.value) (frames_in m) (caught_spend a.caught (event_spend (seen_program m.program) a.event start_tally))) →
-    Moves m (advanced ns a m)
-step_moves ns a m plain step = record {
-  goes = advance_goes (seen_program m.program) (sizes_of m) ns a m plain step;
+pub step_moves : (ns : List Need) (a : Advance) (w : List Kept) (m : Meaning) → IsPlain a.event →
+    gypsy_step (seen_program m.program) (sizes_of m) (state_of m) ≡ Next (At m.procedure (map (λ v. v.1) m.variables.items) (work_of w) (frames_in m) (caught_spend a.caught (event_spend (seen_program m.program) a.event start_tally))) →
+    Moves m (advanced ns a w m)
+step_moves ns a w m plain step = record {
+  goes = advance_goes (seen_program m.program) (sizes_of m) ns a w m plain step;
   keeps = record { program = refl; temp = refl; ctrl = refl; values = refl; names = refl; unnamed = refl; steps = refl };
   ending = refl;
   held = λ h. record { top = h.top; waiting = h.waiting };
 }
 
-pub advance_moves : (ns : List Need) (a : Advance) (m : Meaning) → GoesOn (map (λ v. v.1) m.variables.items) (work_of m.work.value) a → Moves m (advanced ns a m)
-advance_moves ns a m goes = step_moves ns a m goes.0 (goes.1 (seen_program m.program) (sizes_of m) m.procedure (frames_in m) start_tally)
+pub advance_moves : (ns : List Need) (a : Advance) (w : List Kept) (m : Meaning) → GoesOn (map (λ v. v.1) m.variables.items) (work_of m.work) (work_of w) a → Moves m (advanced ns a w m)
+advance_moves ns a w m goes = step_moves ns a w m goes.0 (goes.1 (seen_program m.program) (sizes_of m) m.procedure (frames_in m) start_tally)
 
 -- a step that writes a variable, where the state in between is known by its values and names
-pub write_moves : (ns : List Need) (i : ℕ) (v : ValueOf) (a : Advance) (m n : Meaning) → WritesOn (map (λ w. w.1) m.variables.items) (work_of m.work.value) i v a → map (λ w. w.1) n.variables.items ≡ slice_set (map (λ w. w.1) m.variables.items) i v → map (λ w. w.0) n.variables.items ≡ map (λ w. w.0) m.variables.items → Moves m (advanced ns a (record m { variables = n.variables }))
-write_moves ns i v a m n goes wrote named =
+pub write_moves : (ns : List Need) (i : ℕ) (v : ValueOf) (a : Advance) (w : List Kept) (m n : Meaning) → WritesOn (map (λ z. z.1) m.variables.items) (work_of m.work) (work_of w) i v a → map (λ w. w.1) n.variables.items ≡ slice_set (map (λ w. w.1) m.variables.items) i v → map (λ w. w.0) n.variables.items ≡ map (λ w. w.0) m.variables.items → Moves m (advanced ns a w (record m { variables = n.variables }))
+write_moves ns i v a w m n goes wrote named =
     let q = seen_program m.program in
     let u = event_spend q a.event start_tally in
     let paid : (caught_spend a.caught u).count ≡ 0 + price ns a.event a.caught = caught_is a.caught ns a.event start_tally u (plain_table q ns a.event goes.0 start_tally) in
@@ -96,10 +94,10 @@ write_moves ns i v a m n goes wrote named =
     let sized : length x ≡ length y = sym (length-set x i v) ∙ ap length (sym wrote) in
     record {
       goes = (
-        At m.procedure y (work_of a.work.value) (frames_in m) spent,
+        At m.procedure y (work_of w) (frames_in m) spent,
         goes.1 q (sizes_of m) m.procedure (frames_in m) start_tally ∙
-            ap (λ (l : List ValueOf). Next (At m.procedure l (work_of a.work.value) (frames_in m) spent)) (sym wrote),
-        ap (λ (gs : List Frame). At m.procedure y (work_of a.work.value) gs start_tally) (back_again x y (kept_frames m.waiting.items) sized),
+            ap (λ (l : List ValueOf). Next (At m.procedure l (work_of w) (frames_in m) spent)) (sym wrote),
+        ap (λ (gs : List Frame). At m.procedure y (work_of w) gs start_tally) (back_again x y (kept_frames m.waiting.items) sized),
         record { counted = ap (added m.counted) cost; last = cost },
       );
       keeps = record { program = refl; temp = refl; ctrl = refl; values = refl; names = refl; unnamed = refl; steps = refl };
@@ -108,12 +106,12 @@ write_moves ns i v a m n goes wrote named =
     }
 
 -- a step that opens the work, at no cost
-pub open_moves : (w : Rc Work Global) (m : Meaning) → OpensTo (map (λ v. v.1) m.variables.items) (work_of m.work.value) (work_of w.value) → Moves m (paid 0 (record m { work = w }))
+pub open_moves : (w : List Kept) (m : Meaning) → OpensTo (map (λ v. v.1) m.variables.items) (work_of m.work) (work_of w) → Moves m (paid 0 (record m { work = w }))
 open_moves w m opens = record {
   goes = (
-    At m.procedure (map (λ v. v.1) m.variables.items) (work_of w.value) (frames_in m) start_tally,
+    At m.procedure (map (λ v. v.1) m.variables.items) (work_of w) (frames_in m) start_tally,
     opens (seen_program m.program) (sizes_of m) m.procedure (frames_in m) start_tally,
-    still_lent m.procedure (map (λ v. v.1) m.variables.items) (work_of w.value) (kept_frames m.waiting.items) start_tally,
+    still_lent m.procedure (map (λ v. v.1) m.variables.items) (work_of w) (kept_frames m.waiting.items) start_tally,
     record { counted = refl; last = refl },
   );
   keeps = record { program = refl; temp = refl; ctrl = refl; values = refl; names = refl; unnamed = refl; steps = refl };

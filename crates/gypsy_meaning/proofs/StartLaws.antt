@@ -79,7 +79,7 @@ same_stage p p' x x' w w' fs fs' a b c d = cc
 module _ (s : SourceOf) (m : Meaning) (accepted : IsAccepted s) (program : seen_program m.program ≡ program_of s) (names : map seen_names m.names.items ≡ map proc_names s.procs)
     (fit : VarsFit (proc_at (program_of s) (program_of s).main).formals m.values.items) (procedure : m.procedure ≡ m.program.main)
     (vars : map (λ v. v.1) m.variables.items ≡ main_start (seen_program m.program) m.values.items) (named : map (λ v. v.0) m.variables.items ≡ variables_of m.names.items m.program.main)
-    (work : work_of m.work.value ≡ open_on (body_of (seen_program m.program) m.program.main) []) (waiting : m.waiting.items ≡ []) (ending : m.ending ≡ None) where
+    (work : work_of m.work ≡ open_on (body_of (seen_program m.program) m.program.main) []) (waiting : m.waiting.items ≡ []) (ending : m.ending ≡ None) where
   pub opens : m.steps ≡ 0 → m.counted ≡ 0 → m.cost ≡ 0 → seen m ≡ opening (program_of s) (sizes_of m) m.values.items
   unfolding seen
   opens steps counted cost =
@@ -87,7 +87,7 @@ module _ (s : SourceOf) (m : Meaning) (accepted : IsAccepted s) (program : seen_
       let v = m.values.items in
       let stage : stage_by m.ending m ≡ Running (start (program_of s) v) =
       ap (λ o. stage_by o m) ending
-      ∙ same_stage m.procedure m.program.main (map (λ v. v.1) m.variables.items) (main_start q v) (work_of m.work.value) (open_on (body_of q m.program.main) []) (frames_in m) []
+      ∙ same_stage m.procedure m.program.main (map (λ v. v.1) m.variables.items) (main_start q v) (work_of m.work) (open_on (body_of q m.program.main) []) (frames_in m) []
       procedure vars work (ap (frames_of (map (λ v. v.1) m.variables.items)) waiting)
       ∙ ap (λ (r : Program). Running (start r v)) program in
       λ i. record {

@@ -70,7 +70,7 @@ alike m n s cost k e f = λ i. record {
 stage_waiting : (o : Option Ending) (m : Meaning) (ws : Vec Frame) → ws.items ≡ m.waiting.items → stage_by o (record m { waiting = ws }) ≡ stage_by o m
 stage_waiting None m ws e =
     let x = map (λ v. v.1) m.variables.items in
-    ap (λ (fs : List Frame). Running (At m.procedure x (work_of m.work.value) (frames_of x fs) start_tally)) e
+    ap (λ (fs : List Frame). Running (At m.procedure x (work_of m.work) (frames_of x fs) start_tally)) e
 stage_waiting (Some o) m ws e = refl
 
 -- where the vector of those that wait may differ

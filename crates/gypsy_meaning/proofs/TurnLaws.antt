@@ -1,31 +1,59 @@
--- Steps that open what is on top.
-use Rattle.std.proofs.Common.{◌≡◌, List, [], ◌∷◌, refl, sym, subst}
+-- What a step does with the top of the work.
+use Rattle.std.proofs.Common.{◌≡◌, ℕ, List, [], ◌∷◌, false, refl, sym, subst}
 use Rattle.std.specs.declared.rc.Rc.{Rc}
 use Rattle.std.specs.declared.alloc.Global.{Global}
 use Rattle.stack_text.specs.Values.{ValueOf}
-use Rattle.gypsy_syntax.specs.Programs.{Stmt}
+use Rattle.gypsy_syntax.specs.Programs.{Stmt, Begin, ConditionOf}
+use Rattle.gypsy_space.specs.declared.event.CostEvent.{CostEvent}
 use Rattle.gypsy_space.specs.declared.program.Node.{Node}
 use Rattle.gypsy_space.specs.Nodes.{seen_statements}
-use Rattle.gypsy_semantics.specs.Machine.{Item, Do, open_on}
-use Rattle.gypsy_meaning.specs.Scaffold.Turns.{OpensTo, GoesOn}
+use Rattle.gypsy_semantics.specs.Machine.{Item, Do, settle}
+use Rattle.gypsy_meaning.specs.Scaffold.Turns.{GoesOn, IsTurn, OpensTo, Removes}
 use Rattle.gypsy_meaning.specs.declared.turn.Advance.{Advance}
+use Rattle.gypsy_meaning.specs.declared.turn.Turn.{Turn}
+use Rattle.gypsy_meaning.specs.declared.turn.Turn.TheVariants as turn
 
-pub parts_open : (ns : List (Rc Node Global)) (x : List ValueOf) (w : List Item) → OpensTo x (Do (seen_statements ns) ∷ w) (open_on (seen_statements ns) w)
+parts_open : (ns : List (Rc Node Global)) (x : List ValueOf) (w : List Item) → OpensTo x (Do (seen_statements ns) ∷ w) (settle (Do (seen_statements ns) ∷ w))
 parts_open [] x w = λ q sizes p fs t. refl
 parts_open (n ∷ ns) x w = λ q sizes p fs t. refl
 
--- with what is known of a sequence, and of the work that was made
-pub seq_opens : (s : Stmt) (ns : List (Rc Node Global)) (x : List ValueOf) (w v : List Item) → s ≡ seen_statements ns → v ≡ open_on s w → OpensTo x (Do s ∷ w) v
-seq_opens s ns x w v e f = let P : Stmt → Type 0 = λ r. (u : List Item) → u ≡ open_on r w → OpensTo x (Do r ∷ w) u in
-    subst P (sym e) (λ u g. let Q : List Item → Type 0 = OpensTo x (Do (seen_statements ns) ∷ w) in subst Q (sym g) (parts_open ns x w)) v f
+-- with what is known of the work, of what is left, and of the cost
+pub goes_from : (x : List ValueOf) (w w' u u' : List Item) (a a' : Advance) → w ≡ w' → u ≡ u' → a ≡ a' → GoesOn x w' u' a' → GoesOn x w u a
+goes_from x w w' u u' a a' e f h g =
+    let P : List Item → Type 0 = λ l. GoesOn x l u a in
+    let Q : List Item → Type 0 = λ l. GoesOn x w' l a in
+    let R : Advance → Type 0 = λ b. GoesOn x w' u' b in
+    subst P (sym e) (subst Q (sym f) (subst R (sym h) g))
 
-pub goes_at : (s r : Stmt) (x : List ValueOf) (w : List Item) (a : Advance) → s ≡ r → GoesOn x (Do r ∷ w) a → GoesOn x (Do s ∷ w) a
-goes_at s r x w a e g = let P : Stmt → Type 0 = λ b. GoesOn x (Do b ∷ w) a in subst P (sym e) g
+pub opens_from : (x : List ValueOf) (w w' u : List Item) → w ≡ w' → u ≡ settle w → OpensTo x w' (settle w') → OpensTo x w u
+opens_from x w w' u e f g =
+    let P : List Item → Type 0 = λ l. OpensTo x l (settle l) in
+    let Q : List Item → Type 0 = OpensTo x w in
+    subst Q (sym f) (subst P (sym e) g)
 
-pub goes_from : (v w : List Item) (x : List ValueOf) (a : Advance) → v ≡ w → GoesOn x w a → GoesOn x v a
-goes_from v w x a e g = let P : List Item → Type 0 = λ u. GoesOn x u a in subst P (sym e) g
+pub parts_from : (x : List ValueOf) (w v u : List Item) (s : Stmt) (ns : List (Rc Node Global)) → w ≡ Do s ∷ v → s ≡ seen_statements ns → u ≡ settle w → OpensTo x w u
+parts_from x w v u s ns e same f =
+    let P : Stmt → Type 0 = λ r. OpensTo x (Do r ∷ v) (settle (Do r ∷ v)) in
+    opens_from x w (Do s ∷ v) u e f (subst P (sym same) (parts_open ns x v))
 
-pub parts_from : (v w u : List Item) (ns : List (Rc Node Global)) (x : List ValueOf) → v ≡ Do (seen_statements ns) ∷ w → u ≡ open_on (seen_statements ns) w → OpensTo x v u
-parts_from v w u ns x e f = let P : List Item → Type 0 = λ l. OpensTo x l u in
-    let Q : List Item → Type 0 = OpensTo x (Do (seen_statements ns) ∷ w) in
-    subst P (sym e) (subst Q (sym f) (parts_open ns x w))
+pub begin_from : (x : List ValueOf) (w v u : List Item) (place : ℕ) (s r : Stmt) (cs : List ConditionOf) → w ≡ Do (Begin place s cs r) ∷ v → u ≡ settle w → OpensTo x w u
+begin_from x w v u place s r cs e f = opens_from x w (Do (Begin place s cs r) ∷ v) u e f (λ q sizes p fs t. refl)
+
+pub turn_from : (x : List ValueOf) (w w' : List Item) (left : ℕ → List Item) (t : Turn) → w ≡ w' → IsTurn x w' left t → IsTurn x w left t
+turn_from x w w' left t e h = let P : List Item → Type 0 = λ l. IsTurn x l left t in subst P (sym e) h
+
+pub removed_from : (x : List ValueOf) (i : Item) (e : CostEvent) (v u : List Item) (a : Advance) → a ≡ record { event = e; caught = false } → u ≡ settle v → Removes i e → GoesOn x (i ∷ v) u a
+removed_from x i e v u a is left r = goes_from x (i ∷ v) (i ∷ v) u (settle v) a (record { event = e; caught = false }) refl left is (r.0, λ q sizes p fs t. r.1 q sizes p x v fs t)
+
+-- what is known of a step, once the work is changed
+pub opens_moved : (x : List ValueOf) (w v u : List Item) (left : ℕ → List Item) (kept : ℕ) (t : Turn) → IsTurn x w left t → t ≡ turn.Opens kept → v ≡ w → u ≡ left kept → OpensTo x v u
+opens_moved x w v u left kept t h is same moved =
+    let P : Turn → Type 0 = IsTurn x w left in
+    let Q : List Item → Type 0 = λ l. OpensTo x l u in
+    let R : List Item → Type 0 = OpensTo x w in
+    subst Q (sym same) (subst R (sym moved) (subst P is h))
+
+pub goes_moved : (x : List ValueOf) (w v u : List Item) (left : ℕ → List Item) (kept : ℕ) (a : Advance) (t : Turn) → IsTurn x w left t → t ≡ turn.Goes kept a → v ≡ w → u ≡ left kept → GoesOn x v u a
+goes_moved x w v u left kept a t h is same moved =
+    let P : Turn → Type 0 = IsTurn x w left in
+    goes_from x v w u (left kept) a a same moved refl (subst P is h)

@@ -1,21 +1,21 @@
 //! Steps of predefined calls.
 
-ghost use Rattle.std.specs.Prelude.{◌≡◌, IfOk, map};
+ghost use Rattle.std.specs.Prelude.{◌≡◌, ◌∷◌, List, IfErr, IfOk, map};
 ghost use Rattle.gypsy_space.specs.Nodes.{seen_arg};
 ghost use Rattle.gypsy_semantics.specs.Calls.{target_of};
 ghost use Rattle.gypsy_meaning.specs.Seen.Work.{work_of};
 ghost use Rattle.gypsy_meaning.specs.Scaffold.Turns.{RaisesOn};
-ghost use Rattle.gypsy_meaning.specs.Scaffold.PredefinedSteps.{IsApplied};
+ghost use Rattle.gypsy_semantics.specs.Machine.{Item};
+ghost use Rattle.gypsy_meaning.specs.Scaffold.PredefinedSteps.{IsApplied, call_item};
 ghost use Rattle.gypsy_meaning.specs.Scaffold.PredefinedEffects.{Suits};
 
 use crate::effects::{OwnedEffect, apply};
+use crate::pending::Work;
 use crate::turn::Advance;
-use crate::work::{Work, raise, settled};
 use gypsy_space::{Application, Argument, Condition, CostEvent, Outcome};
 use gypsy_syntax::Predef;
 use stack_text::{Name, Value};
 use std::alloc::{AllocError, Global};
-use std::rc::Rc;
 
 /// What a step does with a predefined call: it writes a variable and goes on, or it fails.
 #[derive(Drop)]
@@ -40,46 +40,45 @@ fn target(args: &[Argument]) -> u32
     }
 }
 
-fn fail(
-    alloc: Global,
-    which: Predef,
-    outcome: Outcome,
-    below: &Rc<Work>,
-) -> Result<Advance, AllocError>
-    ensures { IfOk result (RaisesOn which outcome (work_of below.now.value)) }
+/// Raises routineerror over what is below the call.
+fn fail(which: Predef, outcome: Outcome, work: &mut Work) -> Result<Advance, AllocError>
+    ensures done { IfOk result (λ a. (i : Item) (w : List Item) → work_of work.old ≡ i ∷ w →
+        RaisesOn which outcome w (work_of work.new) a) }
+    ensures unchanged { IfErr result (λ e. work.new ≡ work.old) }
 {
-    let raised = raise(alloc, Condition::Routine, below)?;
+    let caught = work.raise_below(Condition::Routine)?;
     Ok(Advance {
-        work: raised.work,
         event: CostEvent::Predef { which, outcome },
-        caught: raised.caught,
+        caught,
     })
 }
 
-/// What a step does with a predefined call over this work.
+/// What a step does with a predefined call, which is on top of this work.
 pub fn application(
     alloc: Global,
     variables: &[(Name, Value)],
     call: &Application,
-    below: &Rc<Work>,
+    work: &mut Work,
 ) -> Result<Applied, AllocError>
     requires { Suits call.now.which (map (λ v. v.1) variables.now) call.now.args.items }
-    ensures { IfOk result (IsApplied (map (λ v. v.1) variables.now) call.now (work_of below.now.value)) }
+    ensures done { IfOk result (λ applied. (w : List Item) → work_of work.old ≡ call_item call.now ∷ w →
+        IsApplied (map (λ v. v.1) variables.now) call.now w (work_of work.new) applied) }
+    ensures unchanged { IfErr result (λ e. work.new ≡ work.old) }
 {
     match apply(alloc, call.which, variables, call.args.as_slice())? {
-        OwnedEffect::Normal(value) => Ok(Applied::Writes(
-            target(call.args.as_slice()),
-            value,
-            Advance {
-                work: settled(alloc, below)?,
-                event: CostEvent::Predef {
-                    which: call.which,
-                    outcome: Outcome::Normal,
-                },
+        OwnedEffect::Normal(value) => {
+            work.settle_below()?;
+            let event = CostEvent::Predef {
+                which: call.which,
+                outcome: Outcome::Normal,
+            };
+            let advance = Advance {
+                event,
                 caught: false,
-            },
-        )),
-        OwnedEffect::Fault => Ok(Applied::Fails(fail(alloc, call.which, Outcome::Fault, below)?)),
-        OwnedEffect::Beyond => Ok(Applied::Fails(fail(alloc, call.which, Outcome::Beyond, below)?)),
+            };
+            Ok(Applied::Writes(target(call.args.as_slice()), value, advance))
+        }
+        OwnedEffect::Fault => Ok(Applied::Fails(fail(call.which, Outcome::Fault, work)?)),
+        OwnedEffect::Beyond => Ok(Applied::Fails(fail(call.which, Outcome::Beyond, work)?)),
     }
 }

@@ -1,6 +1,6 @@
 //! What a step does where a procedure is called.
 
-ghost use Rattle.std.specs.Prelude.{◌≡◌, ◌<◌, ◌≤◌, ◌+◌, [], ◌∷◌, IfErr, IfOk, drop, length, map};
+ghost use Rattle.std.specs.Prelude.{◌≡◌, ◌<◌, ◌≤◌, ◌+◌, [], ◌∷◌, List, IfErr, IfOk, drop, length, map};
 ghost use Rattle.gypsy_syntax.specs.Programs.{body_of, proc_at};
 ghost use Rattle.gypsy_space.specs.Events.{AreNeeds, AreSmall, lack_by, need_at};
 ghost use Rattle.gypsy_space.specs.Needs.{stack_sizes};
@@ -8,17 +8,17 @@ ghost use Rattle.gypsy_space.specs.Nodes.{seen_program};
 ghost use Rattle.gypsy_space.specs.declared.need.Lack.TheVariants as lack;
 ghost use Rattle.gypsy_meaning.specs.Scaffold.Entering.{AreLent, IsUnchanged, RaisesSpace, Waits, call_top, with_words};
 ghost use Rattle.gypsy_meaning.specs.Seen.Held.{IsHeld, Moves};
-ghost use Rattle.gypsy_semantics.specs.Machine.{open_on};
+ghost use Rattle.gypsy_semantics.specs.Machine.{Item, open_on};
 ghost use Rattle.gypsy_meaning.specs.Seen.Named.{variables_of};
-ghost use Rattle.gypsy_meaning.specs.Scaffold.Turns.{IsPlain};
+ghost use Rattle.gypsy_meaning.specs.Scaffold.Turns.{IsCall, IsPlain};
 ghost use Rattle.gypsy_meaning.specs.Seen.Work.{work_of};
 
 use crate::copying::{callee_variables, lend};
 use crate::names::Names;
+use crate::pending::Work;
 use crate::running::{Frame, Meaning};
 use crate::starting::{body_at, locals_at, names_at};
 use crate::turn::Advance;
-use crate::work::{Work, begun, raise};
 use gypsy_space::{CallSite, Condition, CostEvent, Lack, Needs, Program};
 use stack_text::{Name, Value};
 use std::alloc::{AllocError, Global};
@@ -31,7 +31,7 @@ pub struct Start {
     /// The formals, whose values don't count yet, and the locals with their initial values, each with its name.
     pub variables: Vec<(Name, Value)>,
     /// The procedure's body, opened.
-    pub work: Rc<Work>,
+    pub work: Work,
 }
 
 /// The callee of a call at its start, before the actuals are moved into its formals: its locals, and its body to be done.
@@ -49,7 +49,7 @@ pub fn callee_start(
         ≡ (proc_at (seen_program program.now) site.now.callee).locals) }
     ensures names { IfOk result (λ start. map (λ v. v.0) start.variables.items
         ≡ variables_of names.now site.now.callee) }
-    ensures work { IfOk result (λ start. work_of start.work.value
+    ensures work { IfOk result (λ start. work_of start.work
         ≡ open_on (body_of (seen_program program.now) site.now.callee) []) }
 {
     let callee = site.callee;
@@ -59,31 +59,35 @@ pub fn callee_start(
         site.actuals.len(),
         locals_at(program, callee),
     )?;
-    let work = begun(alloc, body_at(program, callee))?;
+    let work = Work::begun(alloc, body_at(program, callee))?;
     Ok(Start { variables, work })
 }
 
 impl Meaning {
-    /// Puts the active procedure to those that wait, at this call and with this work behind it. Its actuals are moved into
-    /// the callee's formals, and the callee's variables are then the active ones.
+    /// Puts the active procedure to those that wait, at this call, which is on top of its work. Its actuals are moved into
+    /// the callee's formals, and the callee's variables and work are then the active ones.
     fn wait(
         &mut self,
         callee: Vec<(Name, Value)>,
-        below: Rc<Work>,
+        work: Work,
         site: Rc<CallSite>,
     ) -> Result<(), AllocError>
         requires few { length site.value.actuals.items ≤ length callee.items }
         requires lent { AreLent (length self.old.variables.items) site.value.actuals.items }
-        ensures done { IfOk result (λ u. Waits self.old callee below site self.new) }
+        ensures done { IfOk result (λ u. (below : List Item) →
+            work_of self.old.work ≡ call_top site.value ∷ below → Waits self.old callee work below site self.new) }
         ensures unchanged { IfErr result (λ e. IsUnchanged self.old self.new) }
     {
         self.waiting.reserve(1)?;
         let mut variables = callee;
         lend(&mut self.variables, site.actuals.as_slice(), &mut variables);
+        let mut work = work;
+        self.work.hand_room(&mut work);
+        self.work.pop();
         let frame = Frame {
             procedure: self.procedure,
             variables: mem::replace(&mut self.variables, variables),
-            work: below,
+            work: mem::replace(&mut self.work, work),
             call: site,
             used_temp: self.used_temp,
             used_ctrl: self.used_ctrl,
@@ -104,25 +108,15 @@ impl Meaning {
     }
 
     /// Makes the step of a call without room, which costs this event: spaceerror is raised.
-    fn raise_space(
-        &mut self,
-        alloc: Global,
-        needs: &Needs,
-        event: CostEvent,
-        below: &Rc<Work>,
-    ) -> Result<(), AllocError>
+    fn raise_space(&mut self, needs: &Needs, event: CostEvent) -> Result<(), AllocError>
         requires small { AreSmall needs.now.procedures.items }
         requires plain { IsPlain event }
-        requires turn { RaisesSpace self.old (work_of below.now.value) event }
+        requires turn { RaisesSpace self.old event }
         ensures done { IfOk result (λ u. Moves self.old self.new) }
         ensures unchanged { IfErr result (λ e. IsUnchanged self.old self.new) }
     {
-        let raised = raise(alloc, Condition::Space, below)?;
-        let advance = Advance {
-            work: raised.work,
-            event,
-            caught: raised.caught,
-        };
+        let caught = self.work.raise_below(Condition::Space)?;
+        let advance = Advance { event, caught };
         self.advance(needs, advance);
         Ok(())
     }
@@ -133,7 +127,6 @@ impl Meaning {
         alloc: Global,
         needs: &Needs,
         site: Rc<CallSite>,
-        below: Rc<Work>,
     ) -> Result<(), AllocError>
         requires small { AreSmall needs.now.procedures.items }
         requires needs { AreNeeds (seen_program self.old.program) needs.now.procedures.items }
@@ -143,7 +136,7 @@ impl Meaning {
             let number = length (variables_of self.old.names.items site.value.callee) in
             number ≡ length site.value.actuals.items + length callee.locals }
         requires lent { AreLent (length self.old.variables.items) site.value.actuals.items }
-        requires turn { work_of self.old.work.value ≡ call_top site.value ∷ work_of below.value }
+        requires turn { IsCall site.value (work_of self.old.work) }
         requires held { IsHeld self.old }
         requires room { let need = need_at needs.now.procedures.items site.value.callee in
             let used = stack_sizes self.old.used_ctrl self.old.used_temp in
@@ -161,9 +154,8 @@ impl Meaning {
             self.names.as_slice(),
             &site,
         )?;
-        self.wait(variables, below, site)?;
+        self.wait(variables, work, site)?;
         self.procedure = callee;
-        self.work = work;
         self.use_words(needs, callee);
         self.pay(needs.cost(CostEvent::Call { callee }));
         Ok(())
@@ -175,7 +167,6 @@ impl Meaning {
         alloc: Global,
         needs: &Needs,
         site: Rc<CallSite>,
-        below: Rc<Work>,
     ) -> Result<(), AllocError>
         requires small { AreSmall needs.now.procedures.items }
         requires needs { AreNeeds (seen_program self.old.program) needs.now.procedures.items }
@@ -185,7 +176,7 @@ impl Meaning {
             let number = length (variables_of self.old.names.items site.value.callee) in
             number ≡ length site.value.actuals.items + length callee.locals }
         requires lent { AreLent (length self.old.variables.items) site.value.actuals.items }
-        requires turn { work_of self.old.work.value ≡ call_top site.value ∷ work_of below.value }
+        requires turn { IsCall site.value (work_of self.old.work) }
         requires held { IsHeld self.old }
         ensures done { IfOk result (λ u. Moves self.old self.new) }
         ensures unchanged { IfErr result (λ e. IsUnchanged self.old self.new) }
@@ -197,9 +188,9 @@ impl Meaning {
             self.temp,
             self.ctrl,
         ) {
-            Lack::Nothing => self.enter_call(alloc, needs, site, below),
-            Lack::Temporary => self.raise_space(alloc, needs, CostEvent::LackTemporary, &below),
-            Lack::Control => self.raise_space(alloc, needs, CostEvent::LackControl, &below),
+            Lack::Nothing => self.enter_call(alloc, needs, site),
+            Lack::Temporary => self.raise_space(needs, CostEvent::LackTemporary),
+            Lack::Control => self.raise_space(needs, CostEvent::LackControl),
         }
     }
 }

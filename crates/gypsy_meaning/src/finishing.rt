@@ -7,7 +7,7 @@ ghost use Rattle.gypsy_space.specs.Nodes.{seen_cond, seen_program};
 ghost use Rattle.gypsy_semantics.specs.Calls.{main_way};
 ghost use Rattle.gypsy_meaning.specs.Scaffold.Finishing.{IsFinished, end_price};
 ghost use Rattle.gypsy_meaning.specs.Seen.Held.{EndsRun};
-ghost use Rattle.gypsy_meaning.specs.Scaffold.Returning.{Leaves};
+ghost use Rattle.gypsy_meaning.specs.Scaffold.Turns.{Leaves};
 ghost use Rattle.gypsy_meaning.specs.Seen.Work.{work_of};
 
 use crate::running::{Ending, Meaning};
@@ -64,7 +64,7 @@ impl Meaning {
     /// Makes the step in which main ends normally.
     pub(crate) fn end_main(&mut self, needs: &Needs)
         requires small { AreSmall needs.now.procedures.items }
-        requires turn { work_of self.old.work.value ≡ [] }
+        requires turn { work_of self.old.work ≡ [] }
         requires alone { self.old.waiting.items ≡ [] }
         ensures { EndsRun self.old self.new }
     {
@@ -74,7 +74,7 @@ impl Meaning {
     /// Makes the step in which a condition leaves main.
     pub(crate) fn leave_main(&mut self, needs: &Needs, cond: Condition)
         requires small { AreSmall needs.now.procedures.items }
-        requires turn { Leaves (seen_cond cond) (work_of self.old.work.value) }
+        requires turn { Leaves (seen_cond cond) (work_of self.old.work) }
         requires alone { self.old.waiting.items ≡ [] }
         ensures { EndsRun self.old self.new }
     {

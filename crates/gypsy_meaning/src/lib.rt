@@ -12,6 +12,7 @@ mod fitting;
 mod laws;
 mod moving;
 mod names;
+mod pending;
 mod returning;
 mod running;
 mod showing;

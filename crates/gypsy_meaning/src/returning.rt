@@ -1,36 +1,24 @@
 //! What a step does at the end of a procedure for which another waits.
 
-ghost use Rattle.std.specs.Prelude.{◌≡◌, [], get_or, map, IfErr, IfOk, IfSome, IfNone, MatchBool};
+ghost use Rattle.std.specs.Prelude.{◌≡◌, ◌<◌, ◌++◌, ◌∷◌, [], get_or, map, IfErr, IfOk, MatchBool};
 ghost use Rattle.gypsy_space.specs.Events.{AreSmall};
 ghost use Rattle.gypsy_syntax.specs.Programs.{Routine};
 ghost use Rattle.gypsy_space.specs.Nodes.{seen_cond, seen_program};
 ghost use Rattle.gypsy_semantics.specs.Calls.{matching};
-ghost use Rattle.gypsy_semantics.specs.Machine.{settle};
-ghost use Rattle.gypsy_meaning.specs.Scaffold.Returning.{HasResumed, IsLast, Leaves, RaisesTo, out_price};
+ghost use Rattle.gypsy_meaning.specs.Scaffold.Entering.{IsUnchanged};
+ghost use Rattle.gypsy_meaning.specs.Scaffold.Returning.{Resumes, out_price};
+ghost use Rattle.gypsy_meaning.specs.Scaffold.Turns.{Leaves};
+ghost use Rattle.std.specs.Vec.{vec_len, vec_capacity};
 ghost use Rattle.gypsy_meaning.specs.Seen.Held.{Moves};
 ghost use Rattle.gypsy_meaning.specs.Seen.Running.{paid};
 ghost use Rattle.gypsy_meaning.specs.Seen.Work.{work_of};
 
 use crate::copying::copy_out;
 use crate::running::{Frame, Meaning};
-use crate::work::{Raised, Work, raise, settled};
 use gypsy_semantics::is_passed_on;
 use gypsy_space::{Condition, CostEvent, Needs, Program};
-use std::alloc::{AllocError, Global};
+use std::alloc::AllocError;
 use std::mem;
-use std::rc::Rc;
-
-/// The work of the activation that waits for the active one, once its top is opened.
-fn waiting_work(alloc: Global, waiting: &[Frame]) -> Result<Option<Rc<Work>>, AllocError>
-    ensures some { IfOk result (λ o. IfSome o (λ w.
-        IsLast waiting.now (λ f. work_of w.value ≡ settle (work_of f.work.value)))) }
-    ensures none { IfOk result (λ o. IfNone o (waiting.now ≡ [])) }
-{
-    match waiting.last() {
-        None => Ok(None),
-        Some(frame) => Ok(Some(settled(alloc, &frame.work)?)),
-    }
-}
 
 /// The condition of the caller: the matching actual of a formal condition, spaceerror itself, and else routineerror.
 #[tactic(auto, unfolding(gypsy_semantics::specs::Calls::matching, gypsy_semantics::specs::Calls::is_passed_on))]
@@ -61,27 +49,6 @@ fn actual(conds: &[Condition], number: u32) -> Condition
     }
 }
 
-/// The work of the activation that waits, once a condition that leaves the active one is raised there.
-fn raised_out(
-    alloc: Global,
-    program: &Program,
-    procedure: u32,
-    waiting: &[Frame],
-    cond: Condition,
-) -> Result<Option<Raised>, AllocError>
-    ensures some { IfOk result (λ o. IfSome o (λ r.
-        IsLast waiting.now (RaisesTo (seen_program program.now) procedure (seen_cond cond) r.work.value r.caught))) }
-    ensures none { IfOk result (λ o. IfNone o (waiting.now ≡ [])) }
-{
-    match waiting.last() {
-        None => Ok(None),
-        Some(frame) => {
-            let cond = matching(program, procedure, frame.call.conds.as_slice(), cond);
-            Ok(Some(raise(alloc, cond, &frame.work)?))
-        }
-    }
-}
-
 /// What a condition costs that leaves a procedure: passed on or not, and where it was caught.
 #[tactic(auto, unfolding(gypsy_space::specs::Events::event_count))]
 fn out_price(needs: &Needs, passed: bool, caught: bool) -> u64
@@ -104,26 +71,35 @@ fn out_price(needs: &Needs, passed: bool, caught: bool) -> u64
 }
 
 impl Meaning {
-    /// Makes the activation that waits the active one, with this work; its variables get the formals' values. Where none
-    /// waits it changes nothing.
-    fn resume(&mut self, work: Rc<Work>)
-        ensures { HasResumed work.value self.old self.new }
+    /// Makes an activation that waited the active one; its variables get the formals' values.
+    fn resume(&mut self, frame: Frame)
+        ensures { Resumes self.old self.new frame }
     {
-        if let Some(frame) = self.waiting.pop() {
-            let Frame {
-                procedure,
-                variables,
-                work: _,
-                call,
-                used_temp,
-                used_ctrl,
-            } = frame;
-            let values = mem::replace(&mut self.variables, variables);
-            copy_out(&mut self.variables, call.actuals.as_slice(), values);
-            self.procedure = procedure;
-            self.work = work;
-            self.used_temp = used_temp;
-            self.used_ctrl = used_ctrl;
+        let Frame {
+            procedure,
+            variables,
+            work,
+            call,
+            used_temp,
+            used_ctrl,
+        } = frame;
+        let values = mem::replace(&mut self.variables, variables);
+        copy_out(&mut self.variables, call.actuals.as_slice(), values);
+        self.procedure = procedure;
+        self.work = work;
+        self.used_temp = used_temp;
+        self.used_ctrl = used_ctrl;
+    }
+
+    /// Puts an activation back to those that wait, where it was taken from.
+    fn put_back(&mut self, frame: Frame)
+        requires room { vec_len self.old.waiting < vec_capacity self.old.waiting }
+        ensures waiting { self.new.waiting.items ≡ self.old.waiting.items ++ frame ∷ [] }
+        ensures others { self.new ≡ record self.old { waiting = self.new.waiting } }
+    {
+        match self.waiting.push(frame) {
+            Ok(()) => {}
+            Err(_failed) => unreachable!(),
         }
     }
 
@@ -137,50 +113,60 @@ impl Meaning {
     }
 
     /// Makes the step at the normal end of a procedure for which another waits; `false` where none waits.
-    pub(crate) fn end_call(&mut self, alloc: Global, needs: &Needs) -> Result<bool, AllocError>
+    pub(crate) fn end_call(&mut self, needs: &Needs) -> Result<bool, AllocError>
         requires small { AreSmall needs.now.procedures.items }
-        requires turn { work_of self.old.work.value ≡ [] }
+        requires turn { work_of self.old.work ≡ [] }
         ensures done { IfOk result (λ b. MatchBool b
             (Moves self.old self.new)
             ((self.new ≡ self.old) × (self.old.waiting.items ≡ []))) }
-        ensures unchanged { IfErr result (λ e. self.new ≡ self.old) }
+        ensures unchanged { IfErr result (λ e. IsUnchanged self.old self.new) }
     {
-        match waiting_work(alloc, self.waiting.as_slice())? {
-            None => Ok(false),
-            Some(work) => {
-                self.resume(work);
-                self.pay(needs.cost(CostEvent::EndProc));
-                Ok(true)
-            }
+        if self.waiting.is_empty() {
+            return Ok(false);
         }
+        let Some(frame) = self.waiting.pop() else {
+            unreachable!()
+        };
+        let mut frame = frame;
+        if let Err(failed) = frame.work.settle() {
+            self.put_back(frame);
+            return Err(failed);
+        }
+        self.resume(frame);
+        self.pay(needs.cost(CostEvent::EndProc));
+        Ok(true)
     }
 
     /// Makes the step of a condition that leaves a procedure for which another waits; `false` where none waits.
-    pub(crate) fn leave_call(
-        &mut self,
-        alloc: Global,
-        needs: &Needs,
-        cond: Condition,
-    ) -> Result<bool, AllocError>
+    pub(crate) fn leave_call(&mut self, needs: &Needs, cond: Condition) -> Result<bool, AllocError>
         requires small { AreSmall needs.now.procedures.items }
-        requires turn { Leaves (seen_cond cond) (work_of self.old.work.value) }
+        requires turn { Leaves (seen_cond cond) (work_of self.old.work) }
         ensures done { IfOk result (λ b. MatchBool b
             (Moves self.old self.new)
             ((self.new ≡ self.old) × (self.old.waiting.items ≡ []))) }
-        ensures unchanged { IfErr result (λ e. self.new ≡ self.old) }
+        ensures unchanged { IfErr result (λ e. IsUnchanged self.old self.new) }
     {
+        if self.waiting.is_empty() {
+            return Ok(false);
+        }
         let passed = is_passed_on(&self.program, self.procedure, cond);
-        match raised_out(
-            alloc,
+        let Some(frame) = self.waiting.pop() else {
+            unreachable!()
+        };
+        let mut frame = frame;
+        let cond = matching(
             &self.program,
             self.procedure,
-            self.waiting.as_slice(),
+            frame.call.conds.as_slice(),
             cond,
-        )? {
-            None => Ok(false),
-            Some(raised) => {
-                let Raised { work, caught } = raised;
-                self.resume(work);
+        );
+        match frame.work.raise(cond) {
+            Err(failed) => {
+                self.put_back(frame);
+                Err(failed)
+            }
+            Ok(caught) => {
+                self.resume(frame);
                 self.pay(out_price(needs, passed, caught));
                 Ok(true)
             }

@@ -1,19 +1,18 @@
 //! The state of the step machine.
 
-ghost use Rattle.std.specs.Prelude.{◌≡◌, ◌∷◌, map, IfOk, IfErr};
+ghost use Rattle.std.specs.Prelude.{◌≡◌, map, IfOk, IfErr};
 ghost use Rattle.gypsy_space.specs.Events.{AreSmall};
 ghost use Rattle.gypsy_meaning.specs.Seen.Held.{Moves};
-ghost use Rattle.gypsy_meaning.specs.Seen.Running.{price, advanced};
-ghost use Rattle.gypsy_meaning.specs.Scaffold.Turns.{GoesOn, OpensTo};
+ghost use Rattle.gypsy_meaning.specs.Seen.Running.{paid, price};
+ghost use Rattle.gypsy_meaning.specs.Scaffold.Turns.{IsApplication};
 ghost use Rattle.gypsy_meaning.specs.Scaffold.Within.{IsWithin, WorkSuits};
 ghost use Rattle.gypsy_meaning.specs.Seen.Work.{work_of};
-ghost use Rattle.gypsy_meaning.specs.Scaffold.PredefinedSteps.{WritesOn, call_item};
 ghost use Rattle.gypsy_meaning.specs.Scaffold.PredefinedEffects.{Suits};
 
 use crate::applying::{Applied, application};
 use crate::names::{Names, Unnamed};
-use crate::turn::{Advance, Turn, next_turn};
-use crate::work::Work;
+use crate::pending::Work;
+use crate::turn::{Advance, Turn};
 use crate::writing::write;
 use gypsy_space::{Application, CallSite, Condition, CostEvent, Needs, Program};
 use stack_text::{Name, Value};
@@ -28,7 +27,7 @@ pub struct Frame {
     /// Its actuals are with the callee, and come back from there; their places hold what doesn't count.
     pub variables: Vec<(Name, Value)>,
     /// Its work behind the call.
-    pub work: Rc<Work>,
+    pub work: Work,
     /// The call for which it waits.
     pub call: Rc<CallSite>,
     /// How many words of the temporary stack are in use while it runs.
@@ -49,8 +48,8 @@ pub enum Ending {
 /// What leaves the active procedure: a call, its normal end, or a condition.
 #[derive(Drop)]
 pub enum Crossing {
-    /// A call, with the work behind it.
-    Calls(Rc<CallSite>, Rc<Work>),
+    /// A call, which is on top of the work.
+    Calls(Rc<CallSite>),
     /// The end of its work, in the normal condition.
     Ends,
     /// A condition that nothing in the procedure caught.
@@ -66,9 +65,9 @@ pub enum Crossing {
 ///
 /// A step's time doesn't grow with the activations that wait, and nothing calls itself by the nesting of calls. A
 /// condition that is raised passes over the work of its procedure and the lists of its handlers. A call moves its actuals
-/// into the callee's formals, and makes the callee's locals: memory grows with the words that both stacks have in use. A
-/// list of work is no longer than twice the depth at which its procedure's statements nest, so it is dropped in as few
-/// nested calls; activations stand in a vector.
+/// into the callee's formals, and makes the callee's locals: memory grows with the words that both stacks have in use. An
+/// activation's work has no more items than twice the depth at which its procedure's statements nest; activations stand in a
+/// vector.
 #[derive(Drop)]
 pub struct Meaning {
     pub(crate) program: Program,
@@ -81,7 +80,7 @@ pub struct Meaning {
     /// The active procedure, its variables and its work.
     pub(crate) procedure: u32,
     pub(crate) variables: Vec<(Name, Value)>,
-    pub(crate) work: Rc<Work>,
+    pub(crate) work: Work,
     /// The words in use of both stacks.
     pub(crate) used_temp: u64,
     pub(crate) used_ctrl: u64,
@@ -105,54 +104,28 @@ fn price(needs: &Needs, event: CostEvent, caught: bool) -> u64
 }
 
 impl Meaning {
-    /// Makes a step that changes the work alone.
+    /// Pays for a step that changed the work alone.
     pub(crate) fn advance(&mut self, needs: &Needs, advance: Advance)
         requires { AreSmall needs.now.procedures.items }
-        ensures { self.new ≡ advanced needs.now.procedures.items advance self.old }
+        ensures { self.new ≡ paid (price needs.now.procedures.items advance.event advance.caught) self.old }
     {
         self.pay(price(needs, advance.event, advance.caught));
-        self.work = advance.work;
     }
 
-    /// Makes a step that changes the work alone, by the definition.
-    pub(crate) fn go(&mut self, needs: &Needs, advance: Advance)
+    /// Makes a predefined call, which is on top of the work.
+    fn apply(&mut self, alloc: Global, needs: &Needs, call: &Application) -> Result<(), AllocError>
         requires small { AreSmall needs.now.procedures.items }
-        requires turn { GoesOn (map (λ v. v.1) self.old.variables.items) (work_of self.old.work.value) advance }
-        ensures { Moves self.old self.new }
-    {
-        self.advance(needs, advance);
-    }
-
-    /// Makes a step that writes a variable.
-    pub(crate) fn write(&mut self, needs: &Needs, variable: u32, value: Value, advance: Advance)
-        requires small { AreSmall needs.now.procedures.items }
-        requires turn { WritesOn (map (λ v. v.1) self.old.variables.items) (work_of self.old.work.value)
-            variable value advance }
-        ensures { Moves self.old self.new }
-    {
-        write(&mut self.variables, variable, value);
-        self.advance(needs, advance);
-    }
-
-    /// Makes a predefined call over this work.
-    fn apply(
-        &mut self,
-        alloc: Global,
-        needs: &Needs,
-        call: &Application,
-        below: &Rc<Work>,
-    ) -> Result<(), AllocError>
-        requires small { AreSmall needs.now.procedures.items }
-        requires turn { work_of self.old.work.value ≡ call_item call.now ∷ work_of below.now.value }
+        requires turn { IsApplication call.now (work_of self.old.work) }
         requires suits { Suits call.now.which (map (λ v. v.1) self.old.variables.items) call.now.args.items }
         ensures done { IfOk result (λ u. Moves self.old self.new) }
         ensures unchanged { IfErr result (λ e. self.new ≡ self.old) }
     {
-        match application(alloc, self.variables.as_slice(), call, below)? {
-            Applied::Writes(variable, value, advance) => self.write(
-                needs, variable, value, advance,
-            ),
-            Applied::Fails(advance) => self.go(needs, advance),
+        match application(alloc, self.variables.as_slice(), call, &mut self.work)? {
+            Applied::Writes(variable, value, advance) => {
+                write(&mut self.variables, variable, value);
+                self.advance(needs, advance);
+            }
+            Applied::Fails(advance) => self.advance(needs, advance),
         }
         Ok(())
     }
@@ -164,36 +137,26 @@ impl Meaning {
         needs: &Needs,
     ) -> Result<Option<Crossing>, AllocError>
         requires small { AreSmall needs.now.procedures.items }
-        requires suits { WorkSuits (map (λ v. v.1) self.old.variables.items) (work_of self.old.work.value) }
+        requires suits { WorkSuits (map (λ v. v.1) self.old.variables.items) (work_of self.old.work) }
         ensures done { IfOk result (IsWithin self.old self.new) }
         ensures unchanged { IfErr result (λ e. self.new ≡ self.old) }
     {
-        match next_turn(alloc, self.variables.as_slice(), &self.work)? {
-            Turn::Opens(work) => {
-                self.open(work);
+        match self.work.turn(self.variables.as_slice())? {
+            Turn::Opens(_) => {
+                self.pay(0);
                 Ok(None)
             }
-            Turn::Goes(advance) => {
-                self.go(needs, advance);
+            Turn::Goes(_, advance) => {
+                self.advance(needs, advance);
                 Ok(None)
             }
-            Turn::Applies(call, below) => {
-                self.apply(alloc, needs, &call, &below)?;
+            Turn::Applies(call) => {
+                self.apply(alloc, needs, &call)?;
                 Ok(None)
             }
-            Turn::Calls(site, below) => Ok(Some(Crossing::Calls(site, below))),
+            Turn::Calls(site) => Ok(Some(Crossing::Calls(site))),
             Turn::Ends => Ok(Some(Crossing::Ends)),
-            Turn::Leaves(cond, _) => Ok(Some(Crossing::Leaves(cond))),
+            Turn::Leaves(cond) => Ok(Some(Crossing::Leaves(cond))),
         }
-    }
-
-    /// Makes a step that opens the work.
-    fn open(&mut self, work: Rc<Work>)
-        requires { OpensTo (map (λ v. v.1) self.old.variables.items)
-            (work_of self.old.work.value) (work_of work.value) }
-        ensures { Moves self.old self.new }
-    {
-        self.work = work;
-        self.pay(0);
     }
 }

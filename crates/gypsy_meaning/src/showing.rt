@@ -16,8 +16,9 @@ ghost use Rattle.gypsy_semantics.specs.Seen.Shown.{condition_at, names_at};
 ghost use Rattle.gypsy_meaning.specs.Seen.Work.{work_of};
 
 use crate::names::Names;
+use crate::pending::Work;
 use crate::running::{Ending, Meaning};
-use crate::work::{Item, Work};
+use crate::work::Item;
 use gypsy_semantics::Current;
 use gypsy_space::{Condition, Node, Program};
 use stack_text::{Name, Value};
@@ -50,28 +51,29 @@ fn procedure_place(program: &Program, procedure: u32) -> u32
 }
 
 /// The place of the top of work.
-fn work_place(program: &Program, procedure: u32, work: &Rc<Work>) -> u32
+fn work_place(program: &Program, procedure: u32, work: &Work) -> u32
     ensures { (x : List ValueOf) (fs : List Frame) (t : Tally) →
-        result ≡ place_of (seen_program program.now) (At procedure x (work_of work.now.value) fs t) }
+        result ≡ place_of (seen_program program.now) (At procedure x (work_of work.now) fs t) }
 {
-    match &**work {
-        Work::End => procedure_place(program, procedure),
-        Work::More(Item::Do(node), _) => statement_place(node),
-        Work::More(Item::Parts(_parts, _next), _below) => 0,
-        Work::More(Item::Back(place, _), _) => *place,
-        Work::More(Item::JoinThen(place, _), _) => *place,
-        Work::More(Item::JoinOne(place), _) => *place,
-        Work::More(Item::Guard(place, _, _), _) => *place,
-        Work::More(Item::Out(_), _) => procedure_place(program, procedure),
+    match work.top() {
+        None => procedure_place(program, procedure),
+        Some(Item::Do(node)) => statement_place(node),
+        Some(Item::Parts(_parts, _next)) => 0,
+        Some(Item::Again(place, _)) => *place,
+        Some(Item::Back(place, _)) => *place,
+        Some(Item::JoinThen(place, _)) => *place,
+        Some(Item::JoinOne(place)) => *place,
+        Some(Item::Guard(place, _, _)) => *place,
+        Some(Item::Out(_)) => procedure_place(program, procedure),
     }
 }
 
 /// The condition that is on its way out, at the top of work.
-fn raised(work: &Rc<Work>) -> Option<Condition>
-    ensures { option_map seen_cond result ≡ top_way (work_of work.now.value) }
+fn raised(work: &Work) -> Option<Condition>
+    ensures { option_map seen_cond result ≡ top_way (work_of work.now) }
 {
-    match &**work {
-        Work::More(Item::Out(cond), _) => Some(*cond),
+    match work.top() {
+        Some(Item::Out(cond)) => Some(*cond),
         _ => None,
     }
 }

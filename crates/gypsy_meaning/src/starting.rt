@@ -11,7 +11,7 @@ ghost use Rattle.gypsy_meaning.specs.Seen.Work.{work_of};
 use crate::calling::Start;
 use crate::copying::{append_locals, named_copy};
 use crate::names::Names;
-use crate::work::begun;
+use crate::pending::Work;
 use gypsy_space::{Node, Program};
 use stack_text::{Name, Value};
 use std::alloc::{AllocError, Global};
@@ -104,7 +104,7 @@ pub fn main_activation(
         ≡ main_start (seen_program program.now) values.now) }
     ensures names { IfOk result (λ start. map (λ v. v.0) start.variables.items
         ≡ variables_of names.now program.now.main) }
-    ensures work { IfOk result (λ start. work_of start.work.value
+    ensures work { IfOk result (λ start. work_of start.work
         ≡ open_on (body_of (seen_program program.now) program.now.main) []) }
 {
     let main = program.main;
@@ -114,7 +114,7 @@ pub fn main_activation(
         values,
         locals_at(program, main),
     )?;
-    let work = begun(alloc, body_at(program, main))?;
+    let work = Work::begun(alloc, body_at(program, main))?;
     Ok(Start { variables, work })
 }
 

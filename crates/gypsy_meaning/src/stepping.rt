@@ -1,14 +1,13 @@
 //! One step of a run.
 
-ghost use Rattle.std.specs.Prelude.{◌≡◌, ◌∷◌, [], IfErr, IfOk};
+ghost use Rattle.std.specs.Prelude.{◌≡◌, [], IfErr, IfOk};
 ghost use Rattle.gypsy_space.specs.Nodes.{seen_cond};
-ghost use Rattle.gypsy_meaning.specs.Scaffold.Entering.{IsUnchanged, call_top};
-ghost use Rattle.gypsy_meaning.specs.Scaffold.Returning.{Leaves};
+ghost use Rattle.gypsy_meaning.specs.Scaffold.Entering.{IsUnchanged};
+ghost use Rattle.gypsy_meaning.specs.Scaffold.Turns.{IsCall, Leaves};
 ghost use Rattle.gypsy_meaning.specs.Scaffold.Stepping.{Does, IsReady};
 ghost use Rattle.gypsy_meaning.specs.Seen.Work.{work_of};
 
 use crate::running::{Crossing, Meaning};
-use crate::work::Work;
 use gypsy_semantics::Moved;
 use gypsy_space::{CallSite, Condition, Needs};
 use std::alloc::{AllocError, Global};
@@ -21,25 +20,24 @@ impl Meaning {
         alloc: Global,
         needs: &Needs,
         site: Rc<CallSite>,
-        below: Rc<Work>,
     ) -> Result<Moved, AllocError>
         requires ready { IsReady needs.now.procedures.items self.old }
-        requires turn { work_of self.old.work.value ≡ call_top site.value ∷ work_of below.value }
+        requires turn { IsCall site.value (work_of self.old.work) }
         ensures done { IfOk result (Does self.old self.new) }
         ensures unchanged { IfErr result (λ e. IsUnchanged self.old self.new) }
     {
-        self.make_call(alloc, needs, site, below)?;
+        self.make_call(alloc, needs, site)?;
         Ok(Moved::Moved)
     }
 
     /// Makes the step at the normal end of a procedure.
-    fn end(&mut self, alloc: Global, needs: &Needs) -> Result<Moved, AllocError>
+    fn end(&mut self, needs: &Needs) -> Result<Moved, AllocError>
         requires ready { IsReady needs.now.procedures.items self.old }
-        requires turn { work_of self.old.work.value ≡ [] }
+        requires turn { work_of self.old.work ≡ [] }
         ensures done { IfOk result (Does self.old self.new) }
-        ensures unchanged { IfErr result (λ e. self.new ≡ self.old) }
+        ensures unchanged { IfErr result (λ e. IsUnchanged self.old self.new) }
     {
-        if self.end_call(alloc, needs)? {
+        if self.end_call(needs)? {
             Ok(Moved::Moved)
         } else {
             self.end_main(needs);
@@ -48,13 +46,13 @@ impl Meaning {
     }
 
     /// Makes the step in which a condition leaves a procedure.
-    fn leave(&mut self, alloc: Global, needs: &Needs, cond: Condition) -> Result<Moved, AllocError>
+    fn leave(&mut self, needs: &Needs, cond: Condition) -> Result<Moved, AllocError>
         requires ready { IsReady needs.now.procedures.items self.old }
-        requires turn { Leaves (seen_cond cond) (work_of self.old.work.value) }
+        requires turn { Leaves (seen_cond cond) (work_of self.old.work) }
         ensures done { IfOk result (Does self.old self.new) }
-        ensures unchanged { IfErr result (λ e. self.new ≡ self.old) }
+        ensures unchanged { IfErr result (λ e. IsUnchanged self.old self.new) }
     {
-        if self.leave_call(alloc, needs, cond)? {
+        if self.leave_call(needs, cond)? {
             Ok(Moved::Moved)
         } else {
             self.leave_main(needs, cond);
@@ -70,9 +68,9 @@ impl Meaning {
     {
         match self.step_within(alloc, needs)? {
             None => Ok(Moved::Moved),
-            Some(Crossing::Calls(site, below)) => self.call(alloc, needs, site, below),
-            Some(Crossing::Ends) => self.end(alloc, needs),
-            Some(Crossing::Leaves(cond)) => self.leave(alloc, needs, cond),
+            Some(Crossing::Calls(site)) => self.call(alloc, needs, site),
+            Some(Crossing::Ends) => self.end(needs),
+            Some(Crossing::Leaves(cond)) => self.leave(needs, cond),
         }
     }
 }

@@ -1,26 +1,24 @@
 //! What a step does with the top of the work.
 
-ghost use Rattle.std.specs.Prelude.{◌≡◌, ℕ, List, ◌∷◌, IfOk, map, false};
+ghost use Rattle.std.specs.Prelude.{◌≡◌, ◌≤◌, ℕ, List, [], ◌∷◌, IfOk, length, map, take, false};
 ghost use Rattle.stack_text.specs.Values.{ValueOf};
 ghost use Rattle.gypsy_syntax.specs.Programs as program;
 ghost use Rattle.gypsy_syntax.specs.Effects.{item_of_value, is_true_value, value_at};
 ghost use Rattle.gypsy_space.specs.Nodes.{seen_statement, seen_cond};
 ghost use Rattle.gypsy_semantics.specs.Machine as machine;
-ghost use Rattle.gypsy_meaning.specs.Seen.Work.{work_of};
-ghost use Rattle.gypsy_meaning.specs.Scaffold.Turns.{GoesOn, IsTurn};
+ghost use Rattle.gypsy_meaning.specs.Seen.Work.{item_of, left_by, work_of, work_on};
+ghost use Rattle.gypsy_meaning.specs.Scaffold.Turns.{GoesOn, IsTurn, Removes};
 
 use crate::effects::item_in;
-use crate::work::{Item, Work, opened, opened_parts, put, raise, settled};
+use crate::work::{Item, Raised, put, put_opened, raise, settled};
 use gypsy_space::{Application, CallSite, Condition, CostEvent, Node};
 use stack_text::{Name, Value};
-use std::alloc::{AllocError, Global};
+use std::alloc::AllocError;
 use std::rc::Rc;
 
-/// The work that is left by a step, and what the step costs.
-#[derive(Drop)]
+/// What a step that changes the work alone costs.
+#[derive(Clone, Copy)]
 pub struct Advance {
-    /// The work that is left.
-    pub work: Rc<Work>,
     /// The row of the table of costs that the step pays.
     pub event: CostEvent,
     /// Whether a condition was raised and caught, whose stop is paid too.
@@ -28,21 +26,21 @@ pub struct Advance {
 }
 
 /// What a step does: it changes the work alone, or it is a call, a predefined call, the end of a procedure, or a
-/// condition that leaves one.
+/// condition that leaves one. Where it changes the work, it tells how many of the items stay.
 #[derive(Drop)]
 pub enum Turn {
     /// A sequence or a handled body is opened, at no cost. Work is kept opened, so no step meets one.
-    Opens(Rc<Work>),
-    /// The work alone is changed.
-    Goes(Advance),
-    /// A procedure of the source is called, over this work.
-    Calls(Rc<CallSite>, Rc<Work>),
-    /// A predefined procedure is called, over this work.
-    Applies(Rc<Application>, Rc<Work>),
+    Opens(usize),
+    /// The work alone is changed, at this cost.
+    Goes(usize, Advance),
+    /// A procedure of the source is called.
+    Calls(Rc<CallSite>),
+    /// A predefined procedure is called.
+    Applies(Rc<Application>),
     /// No work is left, and the procedure ends normally.
     Ends,
-    /// A condition that nothing caught leaves the procedure; below it is this work.
-    Leaves(Condition, Rc<Work>),
+    /// A condition that nothing caught leaves the procedure.
+    Leaves(Condition),
 }
 
 /// The item of a simple value.
@@ -62,143 +60,166 @@ fn is_true(variables: &[(Name, Value)], variable: u32) -> bool
     item_in(variables, variable) == 1
 }
 
-fn signal(alloc: Global, cond: Condition, below: &Rc<Work>) -> Result<Advance, AllocError>
-    ensures { IfOk result (λ a. (x : List ValueOf) (place : ℕ) →
-        GoesOn x (machine.Do (program.Signal place (seen_cond cond)) ∷ work_of below.now.value) a) }
+/// The cost of an event alone.
+fn plain(event: CostEvent) -> Advance
+    ensures { result ≡ record { event = event; caught = false } }
 {
-    let raised = raise(alloc, cond, below)?;
-    Ok(Advance {
-        work: raised.work,
-        event: CostEvent::Signal,
-        caught: raised.caught,
-    })
-}
-
-fn enter_loop(
-    alloc: Global,
-    place: u32,
-    body: &Rc<Node>,
-    below: &Rc<Work>,
-) -> Result<Advance, AllocError>
-    ensures { IfOk result (λ a. (x : List ValueOf) →
-        GoesOn x (machine.Do (program.Loop place (seen_statement body.now.value)) ∷ work_of below.now.value) a) }
-{
-    let back = put(alloc, Item::Back(place, body.clone()?), below)?;
-    Ok(Advance {
-        work: opened(alloc, body, &back)?,
-        event: CostEvent::LoopRound,
+    Advance {
+        event,
         caught: false,
-    })
-}
-
-fn loop_again(
-    alloc: Global,
-    place: u32,
-    body: &Rc<Node>,
-    below: &Rc<Work>,
-) -> Result<Advance, AllocError>
-    ensures { IfOk result (λ a. (x : List ValueOf) →
-        GoesOn x (machine.Back place (seen_statement body.now.value) ∷ work_of below.now.value) a) }
-{
-    let again = Rc::new(alloc, Node::Loop(place, body.clone()?))?;
-    Ok(Advance {
-        work: put(alloc, Item::Do(again), below)?,
-        event: CostEvent::LoopBack,
-        caught: false,
-    })
-}
-
-fn branch(
-    alloc: Global,
-    place: u32,
-    test: u32,
-    yes: &Rc<Node>,
-    no: &Rc<Node>,
-    variables: &[(Name, Value)],
-    below: &Rc<Work>,
-) -> Result<Advance, AllocError>
-    ensures { let statement = program.If place test (seen_statement yes.now.value) (seen_statement no.now.value) in
-        IfOk result (λ a. GoesOn (map (λ v. v.1) variables.now) (machine.Do statement ∷ work_of below.now.value) a) }
-{
-    if is_true(variables, test) {
-        let joined = put(alloc, Item::JoinThen(place, no.clone()?), below)?;
-        Ok(Advance {
-            work: opened(alloc, yes, &joined)?,
-            event: CostEvent::IfTrue,
-            caught: false,
-        })
-    } else {
-        let joined = put(alloc, Item::JoinOne(place), below)?;
-        Ok(Advance {
-            work: opened(alloc, no, &joined)?,
-            event: CostEvent::IfFalse,
-            caught: false,
-        })
     }
 }
 
-/// Removes the top, over this work.
-fn removed(alloc: Global, event: CostEvent, below: &Rc<Work>) -> Result<Advance, AllocError>
-    ensures { IfOk result (λ a. (a.event ≡ event) × (a.caught ≡ false)
-        × (work_of a.work.value ≡ machine.settle (work_of below.now.value))) }
+/// Raises a condition over the first items.
+fn signal(
+    cond: Condition,
+    items: &[Item],
+    below: usize,
+    added: &mut Vec<Item>,
+) -> Result<Turn, AllocError>
+    requires within { below ≤ length items.now }
+    requires empty { added.old.items ≡ [] }
+    ensures { IfOk result (λ t. (x : List ValueOf) (place : ℕ) →
+        IsTurn x (machine.Do (program.Signal place (seen_cond cond)) ∷ work_of (take below items.now))
+        (left_by items.now added.new.items) t) }
 {
-    Ok(Advance {
-        work: settled(alloc, below)?,
-        event,
-        caught: false,
-    })
+    let Raised { kept, caught } = raise(cond, items, below, added)?;
+    Ok(Turn::Goes(
+        kept,
+        Advance {
+            event: CostEvent::Signal,
+            caught,
+        },
+    ))
 }
 
-/// What a step does with a statement on top of this work.
+/// Puts *back* and a loop's body on the work.
+fn enter_loop(place: u32, body: &Rc<Node>, added: &mut Vec<Item>) -> Result<Advance, AllocError>
+    requires { added.old.items ≡ [] }
+    ensures { let statement = program.Loop place (seen_statement body.now.value) in
+        IfOk result (λ a. (x : List ValueOf) (w : List machine.Item) →
+        GoesOn x (machine.Do statement ∷ w) (work_on added.new.items w) a) }
+{
+    put_opened(Item::Back(place, body.clone()?), body, added)?;
+    Ok(plain(CostEvent::LoopRound))
+}
+
+/// Puts a loop on the work, to be done again.
+fn loop_again(place: u32, body: &Rc<Node>, added: &mut Vec<Item>) -> Result<Advance, AllocError>
+    requires { added.old.items ≡ [] }
+    ensures { IfOk result (λ a. (x : List ValueOf) (w : List machine.Item) →
+        GoesOn x (machine.Back place (seen_statement body.now.value) ∷ w) (work_on added.new.items w) a) }
+{
+    put(added, Item::Again(place, body.clone()?))?;
+    Ok(plain(CostEvent::LoopBack))
+}
+
+/// Puts an arm of an `if` on the work, above its *join*.
+fn branch(
+    place: u32,
+    test: bool,
+    yes: &Rc<Node>,
+    no: &Rc<Node>,
+    added: &mut Vec<Item>,
+) -> Result<Advance, AllocError>
+    requires { added.old.items ≡ [] }
+    ensures { IfOk result (λ a. (x : List ValueOf) (variable : ℕ) (w : List machine.Item) →
+        test ≡ is_true_value (value_at x variable) →
+        let statement = program.If place variable (seen_statement yes.now.value) (seen_statement no.now.value) in
+        GoesOn x (machine.Do statement ∷ w) (work_on added.new.items w) a) }
+{
+    if test {
+        put_opened(Item::JoinThen(place, no.clone()?), yes, added)?;
+        Ok(plain(CostEvent::IfTrue))
+    } else {
+        put_opened(Item::JoinOne(place), no, added)?;
+        Ok(plain(CostEvent::IfFalse))
+    }
+}
+
+/// What a step does with a statement on top of the first items.
 fn begin(
-    alloc: Global,
     node: &Rc<Node>,
     variables: &[(Name, Value)],
-    below: &Rc<Work>,
+    items: &[Item],
+    below: usize,
+    added: &mut Vec<Item>,
 ) -> Result<Turn, AllocError>
-    ensures { let work = machine.Do (seen_statement node.now.value) ∷ work_of below.now.value in
-        IfOk result (IsTurn (map (λ v. v.1) variables.now) work) }
+    requires within { below ≤ length items.now }
+    requires empty { added.old.items ≡ [] }
+    requires top { work_of items.now ≡ machine.Do (seen_statement node.now.value) ∷ work_of (take below items.now) }
+    ensures { IfOk result
+        (IsTurn (map (λ v. v.1) variables.now) (work_of items.now) (left_by items.now added.new.items)) }
 {
     match &**node {
-        Node::NoOp(_) => Ok(Turn::Goes(removed(alloc, CostEvent::NoOp, below)?)),
-        Node::Signal(_, cond) => Ok(Turn::Goes(signal(alloc, *cond, below)?)),
-        Node::Seq(_) => Ok(Turn::Opens(opened(alloc, node, below)?)),
-        Node::Loop(place, body) => Ok(Turn::Goes(enter_loop(alloc, *place, body, below)?)),
-        Node::If(place, test, yes, no) => Ok(Turn::Goes(branch(
-            alloc, *place, *test, yes, no, variables, below,
-        )?)),
-        Node::Begin(_, _, _, _) => Ok(Turn::Opens(opened(alloc, node, below)?)),
-        Node::Call(site) => Ok(Turn::Calls(site.clone()?, below.clone()?)),
-        Node::Apply(call) => Ok(Turn::Applies(call.clone()?, below.clone()?)),
+        Node::NoOp(_) => removed(CostEvent::NoOp, items, below, added),
+        Node::Signal(_, cond) => signal(*cond, items, below, added),
+        Node::Loop(place, body) => Ok(Turn::Goes(below, enter_loop(*place, body, added)?)),
+        Node::If(place, test, yes, no) => {
+            let test = is_true(variables, *test);
+            Ok(Turn::Goes(below, branch(*place, test, yes, no, added)?))
+        }
+        Node::Seq(_) => Ok(Turn::Opens(settled(items, items.len(), added)?)),
+        Node::Begin(_, _, _, _) => Ok(Turn::Opens(settled(items, items.len(), added)?)),
+        Node::Call(site) => Ok(Turn::Calls(site.clone()?)),
+        Node::Apply(call) => Ok(Turn::Applies(call.clone()?)),
+    }
+}
+
+/// Takes the top off, over the first items.
+fn removed(
+    event: CostEvent,
+    items: &[Item],
+    below: usize,
+    added: &mut Vec<Item>,
+) -> Result<Turn, AllocError>
+    requires within { below ≤ length items.now }
+    requires empty { added.old.items ≡ [] }
+    ensures { IfOk result (λ t. (i : machine.Item) (x : List ValueOf) → Removes i event →
+        IsTurn x (i ∷ work_of (take below items.now)) (left_by items.now added.new.items) t) }
+{
+    let kept = settled(items, below, added)?;
+    Ok(Turn::Goes(kept, plain(event)))
+}
+
+/// What a step does with this item on top of the first ones.
+fn turn_of(
+    top: &Item,
+    variables: &[(Name, Value)],
+    items: &[Item],
+    below: usize,
+    added: &mut Vec<Item>,
+) -> Result<Turn, AllocError>
+    requires within { below ≤ length items.now }
+    requires empty { added.old.items ≡ [] }
+    requires top { work_of items.now ≡ item_of top.now ∷ work_of (take below items.now) }
+    ensures { IfOk result
+        (IsTurn (map (λ v. v.1) variables.now) (work_of items.now) (left_by items.now added.new.items)) }
+{
+    match top {
+        Item::Do(node) => begin(node, variables, items, below, added),
+        Item::Parts(_, _) => Ok(Turn::Opens(settled(items, items.len(), added)?)),
+        Item::Again(place, body) => Ok(Turn::Goes(below, enter_loop(*place, body, added)?)),
+        Item::Back(place, body) => Ok(Turn::Goes(below, loop_again(*place, body, added)?)),
+        Item::JoinThen(_, _) => removed(CostEvent::JoinThen, items, below, added),
+        Item::JoinOne(_) => removed(CostEvent::JoinOne, items, below, added),
+        Item::Guard(_, _, _) => removed(CostEvent::GuardNormal, items, below, added),
+        Item::Out(cond) => Ok(Turn::Leaves(*cond)),
     }
 }
 
 /// What a step does with this work.
 pub fn next_turn(
-    alloc: Global,
     variables: &[(Name, Value)],
-    work: &Rc<Work>,
+    items: &[Item],
+    added: &mut Vec<Item>,
 ) -> Result<Turn, AllocError>
-    ensures { IfOk result (IsTurn (map (λ v. v.1) variables.now) (work_of work.now.value)) }
+    requires { added.old.items ≡ [] }
+    ensures { IfOk result
+        (IsTurn (map (λ v. v.1) variables.now) (work_of items.now) (left_by items.now added.new.items)) }
 {
-    match &**work {
-        Work::End => Ok(Turn::Ends),
-        Work::More(Item::Do(node), below) => begin(alloc, node, variables, below),
-        Work::More(Item::Parts(parts, next), below) => {
-            Ok(Turn::Opens(opened_parts(alloc, parts, *next, below)?))
-        }
-        Work::More(Item::Back(place, body), below) => {
-            Ok(Turn::Goes(loop_again(alloc, *place, body, below)?))
-        }
-        Work::More(Item::JoinThen(_, _), below) => {
-            Ok(Turn::Goes(removed(alloc, CostEvent::JoinThen, below)?))
-        }
-        Work::More(Item::JoinOne(_), below) => {
-            Ok(Turn::Goes(removed(alloc, CostEvent::JoinOne, below)?))
-        }
-        Work::More(Item::Guard(_, _, _), below) => {
-            Ok(Turn::Goes(removed(alloc, CostEvent::GuardNormal, below)?))
-        }
-        Work::More(Item::Out(cond), below) => Ok(Turn::Leaves(*cond, below.clone()?)),
+    match items.last() {
+        None => Ok(Turn::Ends),
+        Some(top) => turn_of(top, variables, items, items.len() - 1, added),
     }
 }

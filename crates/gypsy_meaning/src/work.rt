@@ -1,16 +1,16 @@
 //! The work that an activation has still to do.
 
-ghost use Rattle.std.specs.Prelude.{◌≡◌, [], ◌∷◌, List, IfOk, ℕ, drop, map};
+ghost use Rattle.std.specs.Prelude.{◌≡◌, ◌≤◌, [], ◌∷◌, ◌++◌, List, IfErr, IfOk, ℕ, drop, length, map, take};
 ghost use Rattle.stack_text.specs.Values.{ValueOf};
 ghost use Rattle.gypsy_space.specs.Costs.{Tally};
 ghost use Rattle.gypsy_semantics.specs.Machine as machine;
-ghost use Rattle.gypsy_semantics.specs.Machine.{opens, open_on, settle, raise, Frame};
+ghost use Rattle.gypsy_semantics.specs.Machine.{open_on, settle, raise, Frame};
 ghost use Rattle.gypsy_space.specs.Nodes.{seen_cond, seen_statement, seen_statements};
-ghost use Rattle.gypsy_meaning.specs.Seen.Work.{item_of, work_of, work_or, caught_spend};
+ghost use Rattle.gypsy_meaning.specs.Seen.Work.{item_of, left_by, work_of, work_on, caught_spend, OpensOn};
 
 use gypsy_semantics::{is_among, is_leave};
 use gypsy_space::{Condition, Node};
-use std::alloc::{AllocError, Global};
+use std::alloc::AllocError;
 use std::rc::Rc;
 
 /// One item of work.
@@ -20,6 +20,8 @@ pub enum Item {
     Do(Rc<Node>),
     /// The parts of a sequence from a position on.
     Parts(Rc<Vec<Rc<Node>>>, usize),
+    /// A loop that is done again: its place and body.
+    Again(u32, Rc<Node>),
     /// *Back*, below the body of a loop: the loop's place and body, with which it is done again.
     Back(u32, Rc<Node>),
     /// *Join-then*, below the first arm of an `if`: the place of the `if`, and its second arm.
@@ -32,197 +34,185 @@ pub enum Item {
     Out(Condition),
 }
 
-/// The items, the top first.
-#[derive(Drop)]
-pub enum Work {
-    /// Nothing is left to be done.
-    End,
-    /// The top item, and the items below it.
-    More(Item, Rc<Work>),
-}
-
-/// The work with this item on top.
-pub fn put(alloc: Global, item: Item, rest: &Rc<Work>) -> Result<Rc<Work>, AllocError>
-    ensures { IfOk result (λ w. work_of w.value ≡ item_of item ∷ work_of rest.now.value) }
+/// Puts an item on top.
+#[tactic(auto, using(crate::proofs::OpenLaws::work_put))]
+pub fn put(work: &mut Vec<Item>, item: Item) -> Result<(), AllocError>
+    ensures items { IfOk result (λ u. work.new.items ≡ work.old.items ++ item ∷ []) }
+    ensures seen { IfOk result (λ u. (w : List machine.Item) →
+        work_on work.new.items w ≡ item_of item ∷ work_on work.old.items w) }
 {
-    let rest = rest.clone()?;
-    Ok(Rc::new(alloc, Work::More(item, rest))?)
+    work.push(item)?;
+    Ok(())
 }
 
-/// The work with a statement on top that opens to itself.
-fn unopened(alloc: Global, node: &Rc<Node>, rest: &Rc<Work>) -> Result<Option<Rc<Work>>, AllocError>
-    ensures { IfOk result (λ o. (ws : List machine.Item) →
-        machine.Do (seen_statement node.now.value) ∷ work_of rest.now.value ≡ work_or o ws) }
+/// Puts a statement on top that opens to itself.
+fn put_statement(node: &Rc<Node>, work: &mut Vec<Item>) -> Result<(), AllocError>
+    ensures { IfOk result (λ u. (w : List machine.Item) →
+        work_on work.new.items w ≡ machine.Do (seen_statement node.now.value) ∷ work_on work.old.items w) }
 {
-    Ok(Some(put(alloc, Item::Do(node.clone()?), rest)?))
+    put(work, Item::Do(node.clone()?))?;
+    Ok(())
 }
 
-/// The work with the guard of a handled body on top.
-fn guarded(
-    alloc: Global,
+/// Puts the guard of a handled body on top.
+fn put_guard(
     place: u32,
     conds: &Rc<Vec<Condition>>,
     arm: &Rc<Node>,
-    rest: &Rc<Work>,
-) -> Result<Rc<Work>, AllocError>
+    work: &mut Vec<Item>,
+) -> Result<(), AllocError>
     ensures { let guard = machine.Guard place (map seen_cond conds.now.value.items) (seen_statement arm.now.value) in
-        IfOk result (λ w. work_of w.value ≡ guard ∷ work_of rest.now.value) }
+        IfOk result (λ u. (w : List machine.Item) → work_on work.new.items w ≡ guard ∷ work_on work.old.items w) }
 {
-    let item = Item::Guard(place, conds.clone()?, arm.clone()?);
-    put(alloc, item, rest)
+    put(work, Item::Guard(place, conds.clone()?, arm.clone()?))?;
+    Ok(())
 }
 
-/// The work with the parts of a sequence from a position on.
-fn later(
-    alloc: Global,
-    parts: &Rc<Vec<Rc<Node>>>,
-    from: usize,
-    rest: &Rc<Work>,
-) -> Result<Rc<Work>, AllocError>
-    ensures { let statements = seen_statements (drop from parts.now.value.items) in
-        IfOk result (λ w. work_of w.value ≡ machine.Do statements ∷ work_of rest.now.value) }
+/// Puts the parts of a sequence from a position on on top.
+fn put_parts(parts: &Rc<Vec<Rc<Node>>>, from: usize, work: &mut Vec<Item>) -> Result<(), AllocError>
+    ensures items { IfOk result (λ u. take (length work.old.items) work.new.items ≡ work.old.items) }
+    ensures seen { let statements = seen_statements (drop from parts.now.value.items) in
+        IfOk result (λ u. (w : List machine.Item) →
+        work_on work.new.items w ≡ machine.Do statements ∷ work_on work.old.items w) }
 {
-    put(alloc, Item::Parts(parts.clone()?, from), rest)
+    put(work, Item::Parts(parts.clone()?, from))?;
+    Ok(())
 }
 
-/// The work with a statement on top, opened, or `None` where the statement opens to nothing.
+/// Puts a statement on top, opened; `false` where it opens to nothing, and then nothing is put.
 #[cycle(opening)]
-pub fn open(alloc: Global, node: &Rc<Node>, rest: &Rc<Work>) -> Result<Option<Rc<Work>>, AllocError>
-    ensures { IfOk result (λ o. (ws : List machine.Item) →
-        opens (seen_statement node.now.value) (work_of rest.now.value) ws ≡ work_or o ws) }
+pub fn open(node: &Rc<Node>, work: &mut Vec<Item>) -> Result<bool, AllocError>
+    ensures { IfOk result (OpensOn (seen_statement node.now.value) work.old.items work.new.items) }
 {
     match &**node {
-        Node::Seq(parts) => open_parts(alloc, parts, 0, rest),
+        Node::Seq(parts) => open_parts(parts, 0, work),
         Node::Begin(place, body, conds, arm) => {
-            let guarded = guarded(alloc, *place, conds, arm, rest)?;
-            match open(alloc, body, &guarded)? {
-                Some(opened) => Ok(Some(opened)),
-                None => Ok(Some(guarded)),
-            }
+            put_guard(*place, conds, arm, work)?;
+            let _opened = open(body, work)?;
+            Ok(true)
         }
-        Node::NoOp(_) => unopened(alloc, node, rest),
-        Node::Signal(_, _) => unopened(alloc, node, rest),
-        Node::Loop(_, _) => unopened(alloc, node, rest),
-        Node::If(_, _, _, _) => unopened(alloc, node, rest),
-        Node::Call(_) => unopened(alloc, node, rest),
-        Node::Apply(_) => unopened(alloc, node, rest),
+        _ => {
+            put_statement(node, work)?;
+            Ok(true)
+        }
     }
 }
 
 /// The same for the parts of a sequence from a position on.
 #[cycle(opening)]
-fn open_parts(
-    alloc: Global,
+pub fn open_parts(
     parts: &Rc<Vec<Rc<Node>>>,
     from: usize,
-    rest: &Rc<Work>,
-) -> Result<Option<Rc<Work>>, AllocError>
-    ensures { IfOk result (λ o. (ws : List machine.Item) →
-        opens (seen_statements (drop from parts.now.value.items)) (work_of rest.now.value) ws ≡ work_or o ws) }
+    work: &mut Vec<Item>,
+) -> Result<bool, AllocError>
+    ensures { IfOk result (OpensOn (seen_statements (drop from parts.now.value.items)) work.old.items work.new.items) }
 {
+    let below = work.len();
     for index in from..parts.len() {
-        let later = later(alloc, parts, index + 1, rest)?;
-        if let Some(opened) = open(alloc, &parts[index], &later)? {
-            return Ok(Some(opened));
+        put_parts(parts, index + 1, work)?;
+        if open(&parts[index], work)? {
+            return Ok(true);
         }
+        work.truncate(below);
     }
-    Ok(None)
+    Ok(false)
 }
 
-/// The work with a statement on top, opened.
-pub fn opened(alloc: Global, node: &Rc<Node>, rest: &Rc<Work>) -> Result<Rc<Work>, AllocError>
-    ensures { IfOk result (λ w. work_of w.value ≡ open_on (seen_statement node.now.value) (work_of rest.now.value)) }
+/// Puts an item that opens to itself, and a statement on it, opened.
+pub fn put_opened(item: Item, node: &Rc<Node>, work: &mut Vec<Item>) -> Result<(), AllocError>
+    requires { (w : List machine.Item) → settle (item_of item ∷ w) ≡ item_of item ∷ w }
+    ensures { IfOk result (λ u. (w : List machine.Item) →
+        work_on work.new.items w ≡ open_on (seen_statement node.now.value) (item_of item ∷ work_on work.old.items w)) }
 {
-    match open(alloc, node, rest)? {
-        Some(opened) => Ok(opened),
-        None => settled(alloc, rest),
+    put(work, item)?;
+    let _opened = open(node, work)?;
+    Ok(())
+}
+
+/// Opens what is on top of the first items. It answers how many of them stay; what is above them goes to `added`, which is
+/// empty before.
+pub fn settled(items: &[Item], below: usize, added: &mut Vec<Item>) -> Result<usize, AllocError>
+    requires within { below ≤ length items.now }
+    requires empty { added.old.items ≡ [] }
+    ensures { IfOk result (λ kept.
+        left_by items.now added.new.items kept ≡ settle (work_of (take below items.now))) }
+{
+    if below == 0 {
+        return Ok(0);
     }
-}
-
-/// The work of a body that begins: the body on no other work, opened.
-pub fn begun(alloc: Global, body: &Rc<Node>) -> Result<Rc<Work>, AllocError>
-    ensures { IfOk result (λ w. work_of w.value ≡ open_on (seen_statement body.now.value) []) }
-{
-    let end = Rc::new(alloc, Work::End)?;
-    opened(alloc, body, &end)
-}
-
-/// The same for the parts of a sequence from a position on.
-pub fn opened_parts(
-    alloc: Global,
-    parts: &Rc<Vec<Rc<Node>>>,
-    from: usize,
-    rest: &Rc<Work>,
-) -> Result<Rc<Work>, AllocError>
-    ensures { let statements = seen_statements (drop from parts.now.value.items) in
-        IfOk result (λ w. work_of w.value ≡ open_on statements (work_of rest.now.value)) }
-{
-    match open_parts(alloc, parts, from, rest)? {
-        Some(opened) => Ok(opened),
-        None => settled(alloc, rest),
-    }
-}
-
-/// The work once its top is opened.
-pub fn settled(alloc: Global, rest: &Rc<Work>) -> Result<Rc<Work>, AllocError>
-    ensures { IfOk result (λ w. work_of w.value ≡ settle (work_of rest.now.value)) }
-{
-    match &**rest {
-        Work::More(Item::Do(node), below) => match open(alloc, node, below)? {
-            Some(opened) => Ok(opened),
-            None => settled(alloc, below),
-        },
-        Work::More(Item::Parts(parts, next), below) => {
-            match open_parts(alloc, parts, *next, below)? {
-                Some(opened) => Ok(opened),
-                None => settled(alloc, below),
+    let top = below - 1;
+    match &items[top] {
+        Item::Do(node) => {
+            if open(node, added)? {
+                Ok(top)
+            } else {
+                settled(items, top, added)
             }
         }
-        _ => Ok(rest.clone()?),
+        Item::Parts(parts, next) => {
+            if open_parts(parts, *next, added)? {
+                Ok(top)
+            } else {
+                settled(items, top, added)
+            }
+        }
+        _ => Ok(below),
     }
 }
 
-/// The work on which a raised condition comes to rest, and whether it was caught there.
-#[derive(Drop)]
+/// Where a raised condition comes to rest: how many items stay, and whether it was caught there.
+#[derive(Clone, Copy)]
 pub struct Raised {
-    /// The work that is left, with the guard's arm on top, or *out* where nothing caught the condition.
-    pub work: Rc<Work>,
+    /// How many items stay.
+    pub kept: usize,
     /// Whether a loop or a guard stopped it.
     pub caught: bool,
 }
 
-/// Raises a condition above this work.
-pub fn raise(alloc: Global, cond: Condition, rest: &Rc<Work>) -> Result<Raised, AllocError>
+/// Raises a condition above the first items. What is then above those that stay goes to `added`, which is empty before: the
+/// guard's arm, or *out* where nothing caught the condition.
+pub fn raise(
+    cond: Condition,
+    items: &[Item],
+    below: usize,
+    added: &mut Vec<Item>,
+) -> Result<Raised, AllocError>
+    requires within { below ≤ length items.now }
+    requires empty { added.old.items ≡ [] }
     ensures { IfOk result (λ r. (p : ℕ) (x : List ValueOf) (fs : List Frame) (t : Tally) →
-        raise (seen_cond cond) p x (work_of rest.now.value) fs t
-        ≡ machine.At p x (work_of r.work.value) fs (caught_spend r.caught t)) }
+        raise (seen_cond cond) p x (work_of (take below items.now)) fs t
+        ≡ machine.At p x (left_by items.now added.new.items r.kept) fs (caught_spend r.caught t)) }
 {
-    match &**rest {
-        Work::End => Ok(Raised {
-            work: put(alloc, Item::Out(cond), rest)?,
+    if below == 0 {
+        put(added, Item::Out(cond))?;
+        return Ok(Raised {
+            kept: 0,
             caught: false,
-        }),
-        Work::More(Item::Back(_, _), below) => {
+        });
+    }
+    let top = below - 1;
+    match &items[top] {
+        Item::Back(_, _) => {
             if is_leave(cond) {
                 Ok(Raised {
-                    work: settled(alloc, below)?,
+                    kept: settled(items, top, added)?,
                     caught: true,
                 })
             } else {
-                raise(alloc, cond, below)
+                raise(cond, items, top, added)
             }
         }
-        Work::More(Item::Guard(place, conds, arm), below) => {
+        Item::Guard(place, conds, arm) => {
             if is_among(cond, conds.as_slice()) {
-                let joined = put(alloc, Item::JoinOne(*place), below)?;
+                put_opened(Item::JoinOne(*place), arm, added)?;
                 Ok(Raised {
-                    work: opened(alloc, arm, &joined)?,
+                    kept: top,
                     caught: true,
                 })
             } else {
-                raise(alloc, cond, below)
+                raise(cond, items, top, added)
             }
         }
-        Work::More(_, below) => raise(alloc, cond, below),
+        _ => raise(cond, items, top, added),
     }
 }

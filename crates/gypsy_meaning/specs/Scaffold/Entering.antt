@@ -19,18 +19,20 @@ use Rattle.gypsy_semantics.specs.Machine.{Item, Do, Next, gypsy_step, raise}
 use Rattle.gypsy_meaning.specs.Seen.Running.{frames_in, sizes_of, state_of}
 use Rattle.gypsy_semantics.specs.Seen.RunView.{added}
 use Rattle.gypsy_meaning.specs.declared.running.Meaning.{Meaning}
-use Rattle.gypsy_meaning.specs.declared.work.Work.{Work}
+use Rattle.gypsy_meaning.specs.declared.work.Item.{Item as Kept}
+use Rattle.gypsy_meaning.specs.Seen.Work.{work_of}
 
 -- the item of a call
 abbrev pub call_top : CallSite → Item
 call_top site = Do (Call site.place site.callee site.actuals.items (map seen_cond site.conds.items))
 
--- the step is a call without room, which raises spaceerror over this work, at the cost of this event
-abbrev pub RaisesSpace : Meaning → List Item → CostEvent → Type 0
-RaisesSpace m w e =
-    gypsy_step (seen_program m.program) (sizes_of m) (state_of m) ≡
+-- the step is a call without room, which raises spaceerror over what is below the call, at the cost of this event
+abbrev pub RaisesSpace : Meaning → CostEvent → Type 0
+RaisesSpace m e =
+    (i : Item) × (w : List Item) × (work_of m.work ≡ i ∷ w) ×
+    (gypsy_step (seen_program m.program) (sizes_of m) (state_of m) ≡
     Next (raise Space m.procedure (map (λ v. v.1) m.variables.items) w (frames_in m)
-    (event_spend (seen_program m.program) e start_tally))
+    (event_spend (seen_program m.program) e start_tally)))
 
 -- all that is seen is as it was
 pub record IsUnchanged (m n : Meaning) : Type 0 where
@@ -44,13 +46,16 @@ pub record AreLent (count : ℕ) (xs : List ℕ) : Type 0 where
 
 -- the active procedure waits at this call, with this work behind it: its actuals are now the callee's first variables, and it
 -- has in their places what stood there
-pub record Waits (m : Meaning) (callee : Vec (Name × Value)) (below : Rc Work Global) (site : Rc CallSite Global) (n : Meaning) : Type 0
+pub record Waits (m : Meaning) (callee : Vec (Name × Value)) (work : List Kept) (below : List Item) (site : Rc CallSite Global)
+    (n : Meaning) : Type 0
   where
+    pub behind : List Kept
+    pub behind_is : work_of behind ≡ below
     pub caller : Vec (Name × Value)
     pub waiting : n.waiting.items ≡ m.waiting.items ++ record {
       procedure = m.procedure;
       variables = caller;
-      work = below;
+      work = behind;
       call = site;
       used_temp = m.used_temp;
       used_ctrl = m.used_ctrl;
@@ -62,7 +67,8 @@ pub record Waits (m : Meaning) (callee : Vec (Name × Value)) (below : Rc Work G
         ≡ map (value_at (map (λ v. v.1) m.variables.items)) site.value.actuals.items
         ++ drop (length site.value.actuals.items) (map (λ v. v.1) callee.items)
     pub lent_names : map (λ v. v.0) n.variables.items ≡ map (λ v. v.0) callee.items
-    pub others : n ≡ record m { variables = n.variables; waiting = n.waiting }
+    pub work_is : n.work ≡ work
+    pub others : n ≡ record m { variables = n.variables; work = n.work; waiting = n.waiting }
 
 abbrev pub with_words : Need → Meaning → Meaning
 with_words need m = record m { used_temp = added m.used_temp need.locals_words; used_ctrl = added m.used_ctrl (added need.vars 2) }

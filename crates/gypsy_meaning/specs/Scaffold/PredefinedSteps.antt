@@ -8,7 +8,7 @@ use Rattle.gypsy_space.specs.Costs.{Tally}
 use Rattle.gypsy_space.specs.Needs.{StackSizes}
 use Rattle.gypsy_space.specs.Events.{event_spend}
 use Rattle.gypsy_semantics.specs.Machine.{Item, Do, Frame, At, Next, gypsy_step}
-use Rattle.gypsy_meaning.specs.Seen.Work.{work_of, caught_spend}
+use Rattle.gypsy_meaning.specs.Seen.Work.{caught_spend}
 use Rattle.gypsy_meaning.specs.Scaffold.Turns.{IsPlain, GoesOn}
 use Rattle.gypsy_meaning.specs.declared.turn.Advance.{Advance}
 use Rattle.gypsy_meaning.specs.declared.applying.Applied.{Applied}
@@ -17,14 +17,14 @@ use Rattle.gypsy_meaning.specs.declared.applying.Applied.TheVariants.{Writes, Fa
 abbrev pub call_item : Application → Item
 call_item call = Do (Apply call.place call.which (map seen_arg call.args.items))
 
--- from this work, over these variables, a step writes a variable and goes on so
-abbrev pub WritesOn : List ValueOf → List Item → ℕ → ValueOf → Advance → Type 0
-WritesOn x w i v a =
+-- from this work, over these variables, a step writes a variable and goes on so, to other work
+abbrev pub WritesOn : List ValueOf → List Item → List Item → ℕ → ValueOf → Advance → Type 0
+WritesOn x w v i value a =
     IsPlain a.event ×
     ((q : Program) (sizes : StackSizes) (p : ℕ) (fs : List Frame) (t : Tally) →
     gypsy_step q sizes (At p x w fs t) ≡
-    Next (At p (slice_set x i v) (work_of a.work.value) fs (caught_spend a.caught (event_spend q a.event t))))
+    Next (At p (slice_set x i value) v fs (caught_spend a.caught (event_spend q a.event t))))
 
-abbrev pub IsApplied : List ValueOf → Application → List Item → Applied → Type 0
-IsApplied x call w (Writes i v a) = WritesOn x (call_item call ∷ w) i v a
-IsApplied x call w (Fails a) = GoesOn x (call_item call ∷ w) a
+abbrev pub IsApplied : List ValueOf → Application → List Item → List Item → Applied → Type 0
+IsApplied x call w v (Writes i value a) = WritesOn x (call_item call ∷ w) v i value a
+IsApplied x call w v (Fails a) = GoesOn x (call_item call ∷ w) v a

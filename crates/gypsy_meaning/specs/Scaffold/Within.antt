@@ -5,10 +5,10 @@ use Rattle.gypsy_space.specs.declared.program.Application.{Application}
 use Rattle.gypsy_space.specs.Nodes.{seen_cond}
 use Rattle.gypsy_meaning.specs.Scaffold.PredefinedSteps.{call_item}
 use Rattle.gypsy_meaning.specs.Scaffold.PredefinedEffects.{Suits}
-use Rattle.gypsy_meaning.specs.Scaffold.Entering.{call_top}
+use Rattle.gypsy_meaning.specs.Scaffold.Turns.{IsCall}
 use Rattle.gypsy_meaning.specs.Seen.Held.{Moves}
 use Rattle.gypsy_semantics.specs.Machine.{Item}
-use Rattle.gypsy_meaning.specs.Scaffold.Returning as returning
+use Rattle.gypsy_meaning.specs.Scaffold.Turns as turn
 use Rattle.gypsy_meaning.specs.Seen.Work.{work_of}
 use Rattle.gypsy_meaning.specs.declared.running.Crossing.{Crossing}
 use Rattle.gypsy_meaning.specs.declared.running.Crossing.TheVariants.{Calls, Ends, Leaves}
@@ -16,14 +16,14 @@ use Rattle.gypsy_meaning.specs.declared.running.Meaning.{Meaning}
 
 -- on top of this work
 abbrev pub IsCrossing : List Item → Crossing → Type 0
-IsCrossing w (Calls site below) = w ≡ call_top site.value ∷ work_of below.value
+IsCrossing w (Calls site) = IsCall site.value w
 IsCrossing w Ends = w ≡ []
-IsCrossing w (Leaves c) = returning.Leaves (seen_cond c) w
+IsCrossing w (Leaves c) = turn.Leaves (seen_cond c) w
 
 -- a step was made, or the state is as it was and it is told what leaves the procedure
 abbrev pub IsWithin : Meaning → Meaning → Option Crossing → Type 0
 IsWithin m n None = Moves m n
-IsWithin m n (Some crossing) = (n ≡ m) × IsCrossing (work_of m.work.value) crossing
+IsWithin m n (Some crossing) = (n ≡ m) × IsCrossing (work_of m.work) crossing
 
 -- a predefined call on top stores what suits
 abbrev pub WorkSuits : List ValueOf → List Item → Type 0

@@ -17,6 +17,7 @@ use Rattle.gypsy_semantics.specs.Machine as machine
 use Rattle.gypsy_semantics.specs.Seen.RunView.{Seen, Stage, Running, Finished, added, bare, handed_back, spent_at}
 use Rattle.gypsy_meaning.specs.Seen.Work.{work_of}
 use Rattle.gypsy_meaning.specs.declared.turn.Advance.{Advance}
+use Rattle.gypsy_meaning.specs.declared.work.Item.{Item as Kept}
 use Rattle.gypsy_meaning.specs.declared.running.Ending.{Ending}
 use Rattle.gypsy_meaning.specs.declared.running.Ending.TheVariants as ending
 use Rattle.gypsy_meaning.specs.declared.running.Frame.{Frame}
@@ -24,7 +25,7 @@ use Rattle.gypsy_meaning.specs.declared.running.Meaning.{Meaning}
 
 abbrev pub frame_of : Frame → machine.Frame
 frame_of f =
-    Held f.procedure (map (λ v. v.1) f.variables.items) (work_of f.work.value)
+    Held f.procedure (map (λ v. v.1) f.variables.items) (work_of f.work)
     f.call.value.actuals.items (map seen_cond f.call.value.conds.items)
 
 -- as they are kept, the top first: the last one is the top
@@ -40,7 +41,7 @@ frames_in m = frames_of (map (λ v. v.1) m.variables.items) m.waiting.items
 
 -- with nothing spent
 abbrev pub state_of : Meaning → State
-state_of m = At m.procedure (map (λ v. v.1) m.variables.items) (work_of m.work.value) (frames_in m) start_tally
+state_of m = At m.procedure (map (λ v. v.1) m.variables.items) (work_of m.work) (frames_in m) start_tally
 
 abbrev pub sizes_of : Meaning → StackSizes
 sizes_of m = stack_sizes m.ctrl m.temp
@@ -80,8 +81,8 @@ price ns e true = event_count ns e + 3
 price ns e false = event_count ns e
 
 -- after a step that changes the work alone
-abbrev pub advanced : List Need → Advance → Meaning → Meaning
-advanced ns a m = paid (price ns a.event a.caught) (record m { work = a.work })
+abbrev pub advanced : List Need → Advance → List Kept → Meaning → Meaning
+advanced ns a w m = paid (price ns a.event a.caught) (record m { work = w })
 
 -- one step leads from a state to another, at the cost that is counted
 abbrev pub Goes : Program → StackSizes → Meaning → Meaning → Type 0

@@ -2,9 +2,9 @@ use Rattle.std.proofs.Common.{◌≡◌, List, drop}
 use Rattle.gypsy_semantics.specs.Machine as machine
 use Rattle.gypsy_semantics.specs.Machine.{opens}
 use Rattle.gypsy_space.specs.Nodes.{seen_statements}
-use Rattle.gypsy_meaning.specs.Seen.Work.{work_of}
 use Rattle.gypsy_meaning.proofs.work.+opening.Given as goal
 
 abbrev pub invariant-open_parts-loop-index : goal.invariant-open_parts-loop-index
 invariant-open_parts-loop-index l =
-    (ws : List machine.Item) → opens (seen_statements (drop l.fn.from l.fn.parts.value.items)) (work_of l.fn.rest.value) ws ≡ opens (seen_statements (drop l.index l.parts.value.items)) (work_of l.rest.value) ws
+    (l.work.items ≡ l.fn.work.items) ×
+    ((w ws : List machine.Item) → opens (seen_statements (drop l.fn.from l.fn.parts.value.items)) w ws ≡ opens (seen_statements (drop l.index l.parts.value.items)) w ws)

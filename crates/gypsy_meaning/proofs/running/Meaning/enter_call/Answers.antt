@@ -43,10 +43,11 @@ returns-clause-done c =
     c.in_ok-variables.ensures.names
     ∙ ap (λ (s : CallSite). variables_of c.as_slice.result.now s.callee) c.deref-2.ensures
     ∙ ap (λ (t : List Names). variables_of t site.callee) c.as_slice.ensures.value in
-    let body : work_of w.value ≡ open_on (body_of q site.callee) [] =
+    let body : work_of w ≡ open_on (body_of q site.callee) [] =
     c.in_ok-variables.ensures.work ∙ ap (λ (s : CallSite). open_on (body_of q s.callee) []) c.deref-2.ensures in
-    let waits = c.in_ok-wait.ensures.done in
-    let final : c.pay.new.self ≡ after_call ns site.callee w a =
+    let top = c.requires.turn in
+    let waits = c.in_ok-wait.ensures.done top.0 top.1 in
+    let final : c.pay.new.self ≡ after_call ns site.callee a =
     c.pay.ensures ∙ ap₂ paid c.cost.ensures.count c.use_words.ensures
-    ∙ ap (λ (k : ℕ). after_call ns k w a) callee in
-    enters m a ns c.args.site c.args.below w callee_vars c.requires.needs there c.requires.turn c.requires.held c.requires.room locals named body waits c.pay.new.self final (omega arith) (omega arith)
+    ∙ ap (λ (k : ℕ). after_call ns k a) callee in
+    enters m a ns c.args.site top.0 w callee_vars c.requires.needs there top.1 c.requires.held c.requires.room locals named body waits c.pay.new.self final (omega arith) (omega arith)

@@ -1,24 +1,32 @@
-use Rattle.std.proofs.Common.{ℕ, List, sym, subst, ap, ◌∙◌}
+use Rattle.std.proofs.Common.{◌≡◌, ℕ, List, map, sym, subst, ap, ◌∙◌}
+use Rattle.gypsy_syntax.specs.Programs.{ConditionOf}
 use Rattle.gypsy_space.specs.Nodes.{seen_cond, seen_program}
+use Rattle.gypsy_space.specs.declared.program.CallSite.{CallSite}
+use Rattle.gypsy_space.specs.declared.program.Condition.{Condition}
+use Rattle.gypsy_semantics.specs.Calls.{matching}
+use Rattle.gypsy_semantics.specs.Machine.{raise}
 use Rattle.gypsy_meaning.specs.Seen.Held.{Moves}
-use Rattle.gypsy_meaning.specs.Scaffold.Returning.{IsLast, RaisesTo, out_price}
+use Rattle.gypsy_meaning.specs.Scaffold.Returning.{out_price}
 use Rattle.gypsy_meaning.specs.Seen.Running.{paid}
-use Rattle.gypsy_meaning.specs.declared.running.Frame.{Frame}
+use Rattle.gypsy_meaning.specs.Seen.Work.{work_of}
 use Rattle.gypsy_meaning.specs.declared.running.Meaning.{Meaning}
 use Rattle.gypsy_meaning.proofs.ReturningLaws.{leave_moves}
 use Rattle.gypsy_meaning.proofs.running.Meaning.leave_call.Goals as goal
 
-pub returns-in-Some-clause-done : goal.returns-in-Some-clause-done
-returns-in-Some-clause-done c =
+pub returns-in-Ok-clause-done : goal.returns-in-Ok-clause-done
+returns-in-Ok-clause-done c =
     let m = c.args.self.now in
     let q = seen_program m.program in
     let d = seen_cond c.args.cond in
-    let w = c.in-Some.raised.work.value in
-    let caught = c.in-Some.raised.caught in
-    let P : List Frame → Type 0 = λ fs. IsLast fs (RaisesTo q m.procedure d w caught) in
-    let last : P m.waiting.items = subst P c.as_slice.ensures.value (rw c.in-Some.is at c.in_ok-raised_out.ensures.some) in
+    let f = c.in-Some.frame in
+    let caught = c.in-Ok.caught in
+    let same : seen_cond c.matching-cond.result ≡ matching q m.procedure (map seen_cond f.call.value.conds.items) d =
+    c.matching-cond.ensures
+    ∙ ap (λ (cs : List Condition). matching q m.procedure (map seen_cond cs) d) (c.as_slice.ensures.value ∙ ap (λ (s : CallSite). s.conds.items) c.deref.ensures) in
     let Q : Meaning → Type 0 = Moves m in
     let R : ℕ → Type 0 = λ cost. Moves m (paid cost c.resume.new.self) in
     let price = c.out_price.ensures ∙ ap (λ b. out_price b caught) c.is_passed_on-passed.ensures in
     subst Q (sym c.pay.ensures)
-    (subst R (sym price) (leave_moves m c.resume.new.self w caught d c.requires.turn.0 c.requires.turn.1 last c.resume.ensures))
+    (subst R (sym price)
+    (leave_moves m c.resume.new.self c.pop.new.self f c.raise.new.self caught d c.requires.turn.0 c.requires.turn.1 c.in-Some.ensures.items
+    (λ p x fs t. ap (λ (e : ConditionOf). raise e p x (work_of f.work) fs t) (sym same) ∙ c.in-Ok.ensures.done p x fs t) c.resume.ensures))

@@ -6,7 +6,6 @@ use Rattle.gypsy_space.specs.Events.{lack_by, need_at}
 use Rattle.gypsy_space.specs.declared.need.Lack.TheVariants.{Temporary, Control}
 use Rattle.gypsy_space.specs.declared.program.CallSite.{CallSite}
 use Rattle.gypsy_meaning.specs.Seen.Running.{sizes_of}
-use Rattle.gypsy_meaning.specs.Seen.Work.{work_of}
 use Rattle.gypsy_meaning.proofs.CallingLaws.{lacks_temporary, lacks_control}
 use Rattle.gypsy_meaning.proofs.running.Meaning.make_call.Goals as goal
 
@@ -19,7 +18,8 @@ raise_space-requires-clause-turn c =
     let callee : c.deref.result.now.callee ≡ site.callee = ap (λ (s : CallSite). s.callee) c.deref.ensures in
     let lack : lack_by (need_at ns site.callee) (sizes_of m) (stack_sizes m.used_ctrl m.used_temp) ≡ Temporary =
     sym (c.lack.ensures ∙ ap (λ (k : ℕ). lack_by (need_at ns k) (sizes_of m) (stack_sizes m.used_ctrl m.used_temp)) callee) ∙ c.in-Temporary.is in
-    lacks_temporary m ns site (work_of c.args.below.value) c.requires.needs there c.requires.turn c.requires.held.top.used_words lack
+    let top = c.requires.turn in
+    lacks_temporary m ns site top.0 c.requires.needs there top.1 c.requires.held.top.used_words lack
 
 pub raise_space-requires-in-Control-clause-turn : goal.raise_space-requires-in-Control-clause-turn
 raise_space-requires-in-Control-clause-turn c =
@@ -30,4 +30,5 @@ raise_space-requires-in-Control-clause-turn c =
     let callee : c.deref.result.now.callee ≡ site.callee = ap (λ (s : CallSite). s.callee) c.deref.ensures in
     let lack : lack_by (need_at ns site.callee) (sizes_of m) (stack_sizes m.used_ctrl m.used_temp) ≡ Control =
     sym (c.lack.ensures ∙ ap (λ (k : ℕ). lack_by (need_at ns k) (sizes_of m) (stack_sizes m.used_ctrl m.used_temp)) callee) ∙ c.in-Control.is in
-    lacks_control m ns site (work_of c.args.below.value) c.requires.needs there c.requires.turn c.requires.held.top.used_words lack
+    let top = c.requires.turn in
+    lacks_control m ns site top.0 c.requires.needs there top.1 c.requires.held.top.used_words lack

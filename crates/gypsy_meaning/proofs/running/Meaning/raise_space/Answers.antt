@@ -13,10 +13,10 @@ use Rattle.gypsy_meaning.proofs.running.Meaning.raise_space.Goals as goal
 pub returns-clause-done : goal.returns-clause-done
 returns-clause-done c =
     let m = c.args.self.now in
-    let r = c.in_ok-raised.raised in
-    let a : Advance = record { work = r.work; event = c.args.event; caught = r.caught } in
+    let top = c.requires.turn in
+    let a : Advance = record { event = c.args.event; caught = c.in_ok-caught.caught } in
     let spent = event_spend (seen_program m.program) c.args.event start_tally in
     let P : Meaning → Type 0 = Moves m in
     subst P (sym c.advance.ensures)
-    (step_moves c.args.needs.now.procedures.items a m c.requires.plain
-    (c.requires.turn ∙ ap Next (c.in_ok-raised.ensures m.procedure (map (λ v. v.1) m.variables.items) (frames_in m) spent)))
+    (step_moves c.args.needs.now.procedures.items a c.raise_below.new.self m c.requires.plain
+    (top.3 ∙ ap Next (c.in_ok-caught.ensures.done top.0 top.1 top.2 m.procedure (map (λ v. v.1) m.variables.items) (frames_in m) spent)))

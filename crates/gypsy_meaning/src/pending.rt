@@ -1,0 +1,179 @@
+//! The work that an activation has still to do, as a stack that steps change.
+
+ghost use Rattle.std.specs.Prelude.{◌≡◌, ◌∷◌, ◌++◌, [], ℕ, List, IfErr, IfOk, IfSome, IfNone, map, take, length, ◌-◌};
+ghost use Rattle.stack_text.specs.Values.{ValueOf};
+ghost use Rattle.gypsy_space.specs.Costs.{Tally};
+ghost use Rattle.gypsy_space.specs.Nodes.{seen_cond, seen_statement};
+ghost use Rattle.gypsy_semantics.specs.Machine as machine;
+ghost use Rattle.gypsy_semantics.specs.Machine.{Frame, open_on, raise, settle};
+ghost use Rattle.gypsy_meaning.specs.Scaffold.Turns.{IsTurn, Stays};
+ghost use Rattle.gypsy_meaning.specs.Seen.Work.{caught_spend, item_of, work_of};
+
+use crate::turn::{Turn, next_turn};
+use crate::work::{Item, open, raise, settled};
+use gypsy_space::{Condition, Node};
+use stack_text::{Name, Value};
+use std::alloc::{AllocError, Global};
+use std::marker::Model;
+use std::mem;
+use std::rc::Rc;
+
+/// The work of an activation. Contracts see it as the list of its items, the last one on top.
+///
+/// Each change that runs out of memory leaves it as it was: what is put on top is made apart, and room for it is taken before
+/// it is moved.
+#[derive(Drop)]
+pub struct Work {
+    items: Vec<Item>,
+    /// What is put on top, while it is made; its room is kept from step to step.
+    added: Vec<Item>,
+}
+
+impl Model for Work {
+    ghost use Rattle.std.specs.Prelude.{List};
+    ghost use Rattle.std.specs.Coded.{codes};
+    ghost use Rattle.gypsy_space.specs.contracts.program.Node as node;
+    ghost use Rattle.gypsy_meaning.specs.declared.work.Item.{Item};
+
+    ghost Value = { List Item };
+
+    ghost coded = { Prim.hlevel (codes, node.the_row.coded) };
+
+    ghost view = { λ w. w.items.items };
+}
+
+/// Keeps so many items, and moves what was made on them.
+fn change(items: &mut Vec<Item>, kept: usize, added: &mut Vec<Item>) -> Result<(), AllocError>
+    ensures done { IfOk result (λ u. items.new.items ≡ take kept items.old.items ++ added.old.items) }
+    ensures unchanged { IfErr result (λ e. items.new.items ≡ items.old.items) }
+{
+    if added.is_empty() {
+        items.truncate(kept);
+        return Ok(());
+    }
+    items.reserve(added.len())?;
+    items.truncate(kept);
+    match items.append(added) {
+        Ok(()) => Ok(()),
+        Err(_failed) => unreachable!(),
+    }
+}
+
+/// How many items stand below the top.
+fn below_top(items: &[Item]) -> usize
+    ensures { result ≡ length items.now - 1 }
+{
+    items.len().saturating_sub(1)
+}
+
+impl Work {
+    /// The work of a body that begins: the body on no other work, opened.
+    pub fn begun(alloc: Global, body: &Rc<Node>) -> Result<Work, AllocError>
+        ensures { IfOk result (λ w. work_of w ≡ open_on (seen_statement body.now.value) []) }
+    {
+        let mut items = Vec::new(alloc);
+        let _opened = open(body, &mut items)?;
+        Ok(Work {
+            items,
+            added: Vec::new(alloc),
+        })
+    }
+
+    /// The top item, if there is one.
+    #[tactic(auto, using(crate::proofs::OpenLaws::last_top))]
+    pub fn top(&self) -> Option<&Item>
+        ensures some { IfSome result (λ i. work_of self.now ≡ item_of i.now ∷ work_of (take (length self.now - 1) self.now)) }
+        ensures none { IfNone result (work_of self.now ≡ []) }
+    {
+        self.items.last()
+    }
+
+    /// Hands the room for what is put on top to other work.
+    pub fn hand_room(&mut self, other: &mut Work)
+        ensures own { self.new ≡ self.old }
+        ensures other { other.new ≡ other.old }
+    {
+        mem::swap(&mut self.added, &mut other.added);
+    }
+
+    /// Takes the top off.
+    pub fn pop(&mut self)
+        ensures { (i : machine.Item) (w : List machine.Item) → work_of self.old ≡ i ∷ w → work_of self.new ≡ w }
+    {
+        let below = below_top(self.items.as_slice());
+        self.items.truncate(below);
+    }
+
+    /// Opens the top.
+    pub fn settle(&mut self) -> Result<(), AllocError>
+        ensures done { IfOk result (λ u. work_of self.new ≡ settle (work_of self.old)) }
+        ensures unchanged { IfErr result (λ e. self.new ≡ self.old) }
+    {
+        self.added.clear();
+        let items = self.items.as_slice();
+        let kept = settled(items, items.len(), &mut self.added)?;
+        change(&mut self.items, kept, &mut self.added)?;
+        Ok(())
+    }
+
+    /// Takes the top off, and opens what is then the top.
+    pub fn settle_below(&mut self) -> Result<(), AllocError>
+        ensures done { IfOk result (λ u. (i : machine.Item) (w : List machine.Item) →
+            work_of self.old ≡ i ∷ w → work_of self.new ≡ settle w) }
+        ensures unchanged { IfErr result (λ e. self.new ≡ self.old) }
+    {
+        self.added.clear();
+        let items = self.items.as_slice();
+        let kept = settled(items, below_top(items), &mut self.added)?;
+        change(&mut self.items, kept, &mut self.added)?;
+        Ok(())
+    }
+
+    /// Raises a condition above this work, and tells whether it was caught.
+    pub fn raise(&mut self, cond: Condition) -> Result<bool, AllocError>
+        ensures done { IfOk result (λ caught. (p : ℕ) (x : List ValueOf) (fs : List Frame) (t : Tally) →
+            raise (seen_cond cond) p x (work_of self.old) fs t
+            ≡ machine.At p x (work_of self.new) fs (caught_spend caught t)) }
+        ensures unchanged { IfErr result (λ e. self.new ≡ self.old) }
+    {
+        self.added.clear();
+        let items = self.items.as_slice();
+        let raised = raise(cond, items, items.len(), &mut self.added)?;
+        change(&mut self.items, raised.kept, &mut self.added)?;
+        Ok(raised.caught)
+    }
+
+    /// Takes the top off, raises a condition, and tells whether it was caught.
+    pub fn raise_below(&mut self, cond: Condition) -> Result<bool, AllocError>
+        ensures done { IfOk result (λ caught. (i : machine.Item) (w : List machine.Item) → work_of self.old ≡ i ∷ w →
+            (p : ℕ) (x : List ValueOf) (fs : List Frame) (t : Tally) →
+            raise (seen_cond cond) p x w fs t ≡ machine.At p x (work_of self.new) fs (caught_spend caught t)) }
+        ensures unchanged { IfErr result (λ e. self.new ≡ self.old) }
+    {
+        self.added.clear();
+        let items = self.items.as_slice();
+        let raised = raise(cond, items, below_top(items), &mut self.added)?;
+        change(&mut self.items, raised.kept, &mut self.added)?;
+        Ok(raised.caught)
+    }
+
+    /// What a step does with this work. Where it changes the work alone, the work is changed.
+    pub fn turn(&mut self, variables: &[(Name, Value)]) -> Result<Turn, AllocError>
+        ensures done { IfOk result (IsTurn (map (λ v. v.1) variables.now) (work_of self.old) (λ k. work_of self.new)) }
+        ensures stays { IfOk result (Stays self.old self.new) }
+        ensures unchanged { IfErr result (λ e. self.new ≡ self.old) }
+    {
+        self.added.clear();
+        match next_turn(variables, self.items.as_slice(), &mut self.added)? {
+            Turn::Opens(kept) => {
+                change(&mut self.items, kept, &mut self.added)?;
+                Ok(Turn::Opens(kept))
+            }
+            Turn::Goes(kept, advance) => {
+                change(&mut self.items, kept, &mut self.added)?;
+                Ok(Turn::Goes(kept, advance))
+            }
+            turn => Ok(turn),
+        }
+    }
+}
