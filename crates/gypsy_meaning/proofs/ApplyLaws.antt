@@ -14,7 +14,7 @@ use Rattle.gypsy_space.specs.declared.event.Outcome.{Outcome}
 use Rattle.gypsy_space.specs.declared.event.Outcome.TheVariants as outcome
 use Rattle.gypsy_space.specs.declared.program.Application.{Application}
 use Rattle.gypsy_semantics.specs.Machine.{Item, Frame, At, Next, settle, raise, apply_step}
-use Rattle.gypsy_meaning.specs.Seen.Work.{caught_spend}
+use Rattle.gypsy_meaning.specs.Seen.Work.{work_of, caught_spend}
 use Rattle.gypsy_meaning.specs.Scaffold.Turns.{IsPlain, GoesOn, RaisesOn}
 use Rattle.gypsy_meaning.specs.Scaffold.PredefinedSteps.{call_item, WritesOn, IsApplied}
 use Rattle.gypsy_meaning.specs.declared.applying.Applied.{Applied}

@@ -1,5 +1,6 @@
 -- Statements that are opened, and work that is put on other work.
-use Rattle.std.proofs.Common.{◌≡◌, ℕ, zero, suc, ◌-◌, ◌<◌, ◌≤◌, List, [], ◌∷◌, ◌++◌, length, drop, take, get_or, Bool, true, false, Some, refl, ap, sym, ◌∙◌, arith}
+use Rattle.std.proofs.Common.{◌≡◌, ℕ, zero, suc, ◌+◌, ◌-◌, ◌<◌, ◌≤◌, List, [], ◌∷◌, ◌++◌}
+use Rattle.std.proofs.Common.{length, drop, take, get_or, Bool, true, false, Some, refl, ap, sym, ◌∙◌, arith}
 use Rattle.std.specs.Prelude.{slice_get}
 use Rattle.std.proofs.Math.Seq.{take-length}
 use Rattle.std.specs.declared.rc.Rc.{Rc}
@@ -28,12 +29,6 @@ work_first ks n k d lt is = ap work_of (first ks n k d lt is) ∙ work_put (take
     first [] n k d lt is = absurd (omega (arith, lt))
     first (j ∷ ks) zero k d lt is = ap (λ (x : Kept). x ∷ []) (sym is)
     first (j ∷ ks) (suc n) k d lt is = ap (λ (x : List Kept). j ∷ x) (first ks n k d (omega (arith, lt)) is)
-
--- the part at a position comes to the top
-pub part_opens : (ns : List (Rc Node Global)) (k : ℕ) (n : Rc Node Global) (w ws : List Item) → k < length ns → n ≡ get_or ns k n →
-    opens (seen_statements (drop k ns)) w ws ≡
-    opens (seen_statement n.value) (Do (seen_statements (drop (suc k) ns)) ∷ w) (opens (seen_statements (drop (suc k) ns)) w ws)
-part_opens ns k n w ws lt e = ap (λ s. opens s w ws) (statements_at ns k n lt e)
 
 pub none_left : (ns : List (Rc Node Global)) (k : ℕ) (w ws : List Item) → length ns ≤ k → opens (seen_statements (drop k ns)) w ws ≡ ws
 none_left [] zero w ws le = refl

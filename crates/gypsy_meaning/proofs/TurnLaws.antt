@@ -1,14 +1,13 @@
 -- What a step does with the top of the work.
-use Rattle.std.proofs.Common.{◌≡◌, ℕ, List, [], ◌∷◌, false, refl, sym, subst}
+use Rattle.std.proofs.Common.{◌≡◌, ℕ, List, [], ◌∷◌, refl, sym, subst}
 use Rattle.std.specs.declared.rc.Rc.{Rc}
 use Rattle.std.specs.declared.alloc.Global.{Global}
 use Rattle.stack_text.specs.Values.{ValueOf}
-use Rattle.gypsy_syntax.specs.Programs.{Stmt, Begin, ConditionOf}
-use Rattle.gypsy_space.specs.declared.event.CostEvent.{CostEvent}
+use Rattle.gypsy_syntax.specs.Programs.{Stmt}
 use Rattle.gypsy_space.specs.declared.program.Node.{Node}
 use Rattle.gypsy_space.specs.Nodes.{seen_statements}
 use Rattle.gypsy_semantics.specs.Machine.{Item, Do, settle}
-use Rattle.gypsy_meaning.specs.Scaffold.Turns.{GoesOn, IsTurn, OpensTo, Removes}
+use Rattle.gypsy_meaning.specs.Scaffold.Turns.{GoesOn, IsTurn, OpensTo}
 use Rattle.gypsy_meaning.specs.declared.turn.Advance.{Advance}
 use Rattle.gypsy_meaning.specs.declared.turn.Turn.{Turn}
 use Rattle.gypsy_meaning.specs.declared.turn.Turn.TheVariants as turn
@@ -31,29 +30,23 @@ opens_from x w w' u e f g =
     let Q : List Item → Type 0 = OpensTo x w in
     subst Q (sym f) (subst P (sym e) g)
 
-pub parts_from : (x : List ValueOf) (w v u : List Item) (s : Stmt) (ns : List (Rc Node Global)) → w ≡ Do s ∷ v → s ≡ seen_statements ns → u ≡ settle w → OpensTo x w u
+pub parts_from : (x : List ValueOf) (w v u : List Item) (s : Stmt) (ns : List (Rc Node Global)) → w ≡ Do s ∷ v → s ≡ seen_statements ns →
+    u ≡ settle w → OpensTo x w u
 parts_from x w v u s ns e same f =
     let P : Stmt → Type 0 = λ r. OpensTo x (Do r ∷ v) (settle (Do r ∷ v)) in
     opens_from x w (Do s ∷ v) u e f (subst P (sym same) (parts_open ns x v))
 
-pub begin_from : (x : List ValueOf) (w v u : List Item) (place : ℕ) (s r : Stmt) (cs : List ConditionOf) → w ≡ Do (Begin place s cs r) ∷ v → u ≡ settle w → OpensTo x w u
-begin_from x w v u place s r cs e f = opens_from x w (Do (Begin place s cs r) ∷ v) u e f (λ q sizes p fs t. refl)
-
-pub turn_from : (x : List ValueOf) (w w' : List Item) (left : ℕ → List Item) (t : Turn) → w ≡ w' → IsTurn x w' left t → IsTurn x w left t
-turn_from x w w' left t e h = let P : List Item → Type 0 = λ l. IsTurn x l left t in subst P (sym e) h
-
-pub removed_from : (x : List ValueOf) (i : Item) (e : CostEvent) (v u : List Item) (a : Advance) → a ≡ record { event = e; caught = false } → u ≡ settle v → Removes i e → GoesOn x (i ∷ v) u a
-removed_from x i e v u a is left r = goes_from x (i ∷ v) (i ∷ v) u (settle v) a (record { event = e; caught = false }) refl left is (r.0, λ q sizes p fs t. r.1 q sizes p x v fs t)
-
 -- what is known of a step, once the work is changed
-pub opens_moved : (x : List ValueOf) (w v u : List Item) (left : ℕ → List Item) (kept : ℕ) (t : Turn) → IsTurn x w left t → t ≡ turn.Opens kept → v ≡ w → u ≡ left kept → OpensTo x v u
+pub opens_moved : (x : List ValueOf) (w v u : List Item) (left : ℕ → List Item) (kept : ℕ) (t : Turn) → IsTurn x w left t → t ≡ turn.Opens kept →
+    v ≡ w → u ≡ left kept → OpensTo x v u
 opens_moved x w v u left kept t h is same moved =
     let P : Turn → Type 0 = IsTurn x w left in
     let Q : List Item → Type 0 = λ l. OpensTo x l u in
     let R : List Item → Type 0 = OpensTo x w in
     subst Q (sym same) (subst R (sym moved) (subst P is h))
 
-pub goes_moved : (x : List ValueOf) (w v u : List Item) (left : ℕ → List Item) (kept : ℕ) (a : Advance) (t : Turn) → IsTurn x w left t → t ≡ turn.Goes kept a → v ≡ w → u ≡ left kept → GoesOn x v u a
+pub goes_moved : (x : List ValueOf) (w v u : List Item) (left : ℕ → List Item) (kept : ℕ) (a : Advance) (t : Turn) → IsTurn x w left t →
+    t ≡ turn.Goes kept a → v ≡ w → u ≡ left kept → GoesOn x v u a
 goes_moved x w v u left kept a t h is same moved =
     let P : Turn → Type 0 = IsTurn x w left in
     goes_from x v w u (left kept) a a same moved refl (subst P is h)

@@ -1,11 +1,11 @@
 -- Work whose top is opened, and conditions that are raised above it.
-use Rattle.std.proofs.Common.{◌≡◌, ℕ, suc, ◌<◌, List, [], ◌∷◌, length, take, get_or, Bool, true, false, refl, ap, sym, ◌∙◌}
+use Rattle.std.proofs.Common.{◌≡◌, ℕ, suc, ◌<◌, List, [], ◌∷◌, length, take, get_or, map, Bool, true, false, refl, ap, sym, ◌∙◌}
 use Rattle.stack_text.specs.Values.{ValueOf}
 use Rattle.gypsy_syntax.specs.Programs.{ConditionOf, Stmt}
 use Rattle.gypsy_space.specs.Costs.{Tally, spend}
 use Rattle.gypsy_semantics.specs.Calls.{has_cond, is_leave}
 use Rattle.gypsy_semantics.specs.Machine.{Item, Frame, Do, Back, JoinOne, Guard, At, opens, open_on, settle, raise, stop_if}
-use Rattle.gypsy_meaning.specs.Seen.Work.{item_of, work_of, work_on, OpensOn}
+use Rattle.gypsy_meaning.specs.Seen.Work.{item_of, left_by, work_of, work_on, OpensOn}
 use Rattle.gypsy_meaning.specs.declared.work.Item.{Item as Kept}
 use Rattle.gypsy_meaning.specs.declared.work.Item.TheVariants as kept
 use Rattle.gypsy_space.specs.declared.program.Condition.{Condition}
@@ -16,10 +16,12 @@ use Rattle.std.specs.declared.rc.Rc.{Rc}
 use Rattle.gypsy_meaning.proofs.OpenLaws.{work_first}
 
 -- the last of the first items is their top
-pub top_of : (items : List Kept) (b n : ℕ) (k : Kept) → b ≡ suc n → n < length items → k ≡ get_or items n k → work_of (take b items) ≡ item_of k ∷ work_of (take n items)
+pub top_of : (items : List Kept) (b n : ℕ) (k : Kept) → b ≡ suc n → n < length items → k ≡ get_or items n k →
+    work_of (take b items) ≡ item_of k ∷ work_of (take n items)
 top_of items b n k e lt is = ap (λ (i : ℕ). work_of (take i items)) e ∙ work_first items n k k lt is
 
-pub settled_opened : (s : Stmt) (ks ls : List Kept) (b : Bool) (w v : List Item) → ks ≡ [] → w ≡ Do s ∷ v → b ≡ true → OpensOn s ks ls b → work_on ls v ≡ settle w
+pub settled_opened : (s : Stmt) (ks ls : List Kept) (b : Bool) (w v : List Item) → ks ≡ [] → w ≡ Do s ∷ v → b ≡ true → OpensOn s ks ls b →
+    work_on ls v ≡ settle w
 settled_opened s ks ls true w v none top so h =
     sym (h v (settle v)) ∙ ap (λ (js : List Kept). opens s (work_on js v) (settle v)) none ∙ ap settle (sym top)
 settled_opened s ks ls false w v none top so h = absurd cc
@@ -55,7 +57,8 @@ guard_passed c place cs s w v top has p x fs t =
     ∙ ap (λ b. stop_if b (At p x (open_on s (JoinOne place ∷ v)) fs (spend 3 2 t)) (raise c p x v fs t)) has
 
 -- an item that opens to itself
-pub solid : (k : Kept) → ((n : Rc Node Global) → k ≡ kept.Do n → ⊥) → ((parts : Rc (Vec (Rc Node Global)) Global) (next : ℕ) → k ≡ kept.Parts parts next → ⊥) →
+pub solid : (k : Kept) → ((n : Rc Node Global) → k ≡ kept.Do n → ⊥) →
+    ((parts : Rc (Vec (Rc Node Global)) Global) (next : ℕ) → k ≡ kept.Parts parts next → ⊥) →
     (v : List Item) → settle (item_of k ∷ v) ≡ item_of k ∷ v
 solid (kept.Do n) h g v = absurd (h n refl)
 solid (kept.Parts parts next) h g v = absurd (g parts next refl)

@@ -82,7 +82,8 @@ impl Work {
     /// The top item, if there is one.
     #[tactic(auto, using(crate::proofs::OpenLaws::last_top))]
     pub fn top(&self) -> Option<&Item>
-        ensures some { IfSome result (λ i. work_of self.now ≡ item_of i.now ∷ work_of (take (length self.now - 1) self.now)) }
+        ensures some { let below = take (length self.now - 1) self.now in
+            IfSome result (λ i. work_of self.now ≡ item_of i.now ∷ work_of below) }
         ensures none { IfNone result (work_of self.now ≡ []) }
     {
         self.items.last()

@@ -1,6 +1,6 @@
 //! The work that an activation has still to do.
 
-ghost use Rattle.std.specs.Prelude.{◌≡◌, ◌≤◌, [], ◌∷◌, ◌++◌, List, IfErr, IfOk, ℕ, drop, length, map, take};
+ghost use Rattle.std.specs.Prelude.{◌≡◌, ◌≤◌, [], ◌∷◌, ◌++◌, List, IfOk, ℕ, drop, length, map, take};
 ghost use Rattle.stack_text.specs.Values.{ValueOf};
 ghost use Rattle.gypsy_space.specs.Costs.{Tally};
 ghost use Rattle.gypsy_semantics.specs.Machine as machine;

@@ -17,16 +17,19 @@ returns-in_ok-settle_below-in-Normal-clause-done c = λ w top.
     let a : Advance = record { event = event.Predef c.args.call.now.which outcome.Normal; caught = false } in
     writes_law c.args.call.now x w (work_of c.settle_below.new.self) (effect_of c.in_ok-value.field-0) c.target.result c.in-Normal.value a
     (ap effect_of c.in-Normal.is) (c.in_ok-value.ensures ∙ ap (applied_effect c.args.call.now.which x) c.as_slice.ensures.value)
-    (c.target.ensures ∙ ap (λ l. target_of (map seen_arg l)) c.as_slice-in-Normal.ensures.value) refl refl (c.in_ok-settle_below-in-Normal.ensures.done (call_item c.args.call.now) w top)
+    (c.target.ensures ∙ ap (λ l. target_of (map seen_arg l)) c.as_slice-in-Normal.ensures.value) refl refl
+    (c.in_ok-settle_below-in-Normal.ensures.done (call_item c.args.call.now) w top)
 
 pub returns-in_ok-fail-in-Fault-clause-done : goal.returns-in_ok-fail-in-Fault-clause-done
 returns-in_ok-fail-in-Fault-clause-done c = λ w top.
     let x : List ValueOf = map (λ v. v.1) c.args.variables.now in
     fails_law c.args.call.now x w (work_of c.fail.new.work) (effect_of c.in_ok-value.field-0) outcome.Fault c.in_ok-fail-in-Fault.field-0 tt
-    (ap effect_of c.in-Fault.is) (c.in_ok-value.ensures ∙ ap (applied_effect c.args.call.now.which x) c.as_slice.ensures.value) (c.in_ok-fail-in-Fault.ensures.done (call_item c.args.call.now) w top)
+    (ap effect_of c.in-Fault.is) (c.in_ok-value.ensures ∙ ap (applied_effect c.args.call.now.which x) c.as_slice.ensures.value)
+    (c.in_ok-fail-in-Fault.ensures.done (call_item c.args.call.now) w top)
 
 pub returns-in_ok-fail-in-Beyond-clause-done : goal.returns-in_ok-fail-in-Beyond-clause-done
 returns-in_ok-fail-in-Beyond-clause-done c = λ w top.
     let x : List ValueOf = map (λ v. v.1) c.args.variables.now in
     fails_law c.args.call.now x w (work_of c.fail-in-Beyond.new.work) (effect_of c.in_ok-value.field-0) outcome.Beyond c.in_ok-fail-in-Beyond.field-0 tt
-    (ap effect_of c.in-Beyond.is) (c.in_ok-value.ensures ∙ ap (applied_effect c.args.call.now.which x) c.as_slice.ensures.value) (c.in_ok-fail-in-Beyond.ensures.done (call_item c.args.call.now) w top)
+    (ap effect_of c.in-Beyond.is) (c.in_ok-value.ensures ∙ ap (applied_effect c.args.call.now.which x) c.as_slice.ensures.value)
+    (c.in_ok-fail-in-Beyond.ensures.done (call_item c.args.call.now) w top)

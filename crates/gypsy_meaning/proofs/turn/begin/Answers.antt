@@ -4,7 +4,7 @@ use Rattle.stack_text.specs.Values.{ValueOf}
 use Rattle.gypsy_syntax.specs.Programs.{Stmt, Loop, If}
 use Rattle.gypsy_space.specs.Nodes.{seen_statement}
 use Rattle.gypsy_space.proofs.NodeLaws.{seen_statement-seq}
-use Rattle.gypsy_semantics.specs.Machine.{Do, settle}
+use Rattle.gypsy_semantics.specs.Machine.{Item, Do, settle}
 use Rattle.gypsy_meaning.specs.Seen.Work.{left_by, work_of, work_on}
 use Rattle.gypsy_meaning.specs.declared.work.Item.{Item as Kept}
 use Rattle.gypsy_meaning.proofs.TurnLaws.{goes_from, parts_from}
@@ -30,7 +30,8 @@ returns-in_ok-branch-in-If c =
     let s : Stmt = If c.in-If.place c.in-If.test (seen_statement c.in-If.yes.value) (seen_statement c.in-If.no.value) in
     let is : seen_statement c.args.node.now.value ≡ s = ap seen_statement (sym c.deref.ensures ∙ c.in-If.is) in
     let a = c.in_ok-branch-in-If.field-0 in
-    goes_from x w (Do s ∷ v) u u a a (c.requires.top ∙ ap (λ (r : Stmt). Do r ∷ v) is) refl refl (c.in_ok-branch-in-If.ensures x c.in-If.test v c.is_true-test.ensures)
+    goes_from x w (Do s ∷ v) u u a a (c.requires.top ∙ ap (λ (r : Stmt). Do r ∷ v) is) refl refl
+    (c.in_ok-branch-in-If.ensures x c.in-If.test v c.is_true-test.ensures)
 
 pub returns-in_ok-settled-in-Seq : goal.returns-in_ok-settled-in-Seq
 returns-in_ok-settled-in-Seq c =
@@ -38,5 +39,6 @@ returns-in_ok-settled-in-Seq c =
     let items = c.args.items.now in
     let v = work_of (take c.args.below items) in
     let all : settle (work_of (take (length items) items)) ≡ settle (work_of items) = ap (λ (l : List Kept). settle (work_of l)) (take-length items) in
-    parts_from x (work_of items) v (left_by items c.settled.new.added.items c.in_ok-settled-in-Seq.field-0) (seen_statement c.args.node.now.value) c.in-Seq.field-0.value.items
+    parts_from x (work_of items) v (left_by items c.settled.new.added.items c.in_ok-settled-in-Seq.field-0) (seen_statement c.args.node.now.value)
+    c.in-Seq.field-0.value.items
     c.requires.top (ap seen_statement (sym c.deref.ensures ∙ c.in-Seq.is) ∙ seen_statement-seq c.in-Seq.field-0) (c.in_ok-settled-in-Seq.ensures ∙ all)

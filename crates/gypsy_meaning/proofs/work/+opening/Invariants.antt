@@ -7,4 +7,5 @@ use Rattle.gypsy_meaning.proofs.work.+opening.Given as goal
 abbrev pub invariant-open_parts-loop-index : goal.invariant-open_parts-loop-index
 invariant-open_parts-loop-index l =
     (l.work.items ≡ l.fn.work.items) ×
-    ((w ws : List machine.Item) → opens (seen_statements (drop l.fn.from l.fn.parts.value.items)) w ws ≡ opens (seen_statements (drop l.index l.parts.value.items)) w ws)
+    ((w ws : List machine.Item) → opens (seen_statements (drop l.fn.from l.fn.parts.value.items)) w ws ≡ opens
+    (seen_statements (drop l.index l.parts.value.items)) w ws)

@@ -1,8 +1,8 @@
-use Rattle.std.proofs.Common.{◌≡◌, ◌∷◌, ◌-◌, ◌<◌, List, suc, length, get_or, take, map, true, false, ap, sym, ◌∙◌, rules, arith}
+use Rattle.std.proofs.Common.{◌≡◌, ◌∷◌, ◌-◌, ◌<◌, ℕ, List, suc, length, get_or, take, map, true, false, ap, sym, ◌∙◌, rules, arith}
 use Rattle.std.proofs.lemmas.Result.{IfOk-weaker}
 use Rattle.std.specs.Global.{Vec}
 use Rattle.gypsy_space.specs.declared.program.Condition.{Condition}
-use Rattle.gypsy_semantics.specs.Calls.{has_cond}
+use Rattle.gypsy_semantics.specs.Calls.{has_cond, is_leave}
 use Rattle.gypsy_semantics.specs.Machine.{Item, Back, Guard, JoinOne, open_on}
 use Rattle.gypsy_space.specs.Nodes.{seen_cond, seen_statement}
 use Rattle.gypsy_meaning.specs.Seen.Work.{item_of, work_of, work_on}
@@ -57,7 +57,8 @@ returns-in_ok-put_opened-in-Guard t c =
     let top : work_of (take c.args.below items) ≡ Guard place cs s ∷ v =
     top_of items c.args.below n k e lt at ∙ ap (λ (i : Item). i ∷ v) is in
     let has : has_cond (seen_cond c.args.cond) cs ≡ true =
-    ap (λ (l : List Condition). has_cond (seen_cond c.args.cond) (map seen_cond l)) (sym (c.as_slice.ensures.value ∙ ap (λ (l : Vec Condition). l.items) c.deref.ensures))
+    ap (λ (l : List Condition). has_cond (seen_cond c.args.cond) (map seen_cond l))
+    (sym (c.as_slice.ensures.value ∙ ap (λ (l : Vec Condition). l.items) c.deref.ensures))
     ∙ sym c.is_among.ensures ∙ c.if-is_among.true in
     let left : work_on c.put_opened.new.work.items v ≡ open_on s (JoinOne place ∷ v) =
     c.in_ok-put_opened-in-Guard.ensures v ∙ ap (λ (l : List Kept). open_on s (JoinOne place ∷ work_on l v)) c.requires.empty in
@@ -79,7 +80,8 @@ returns-else-is_among t c =
     let top : work_of (take c.args.below items) ≡ Guard place cs s ∷ v =
     top_of items c.args.below n k e lt at ∙ ap (λ (i : Item). i ∷ v) is in
     let has : has_cond (seen_cond c.args.cond) cs ≡ false =
-    ap (λ (l : List Condition). has_cond (seen_cond c.args.cond) (map seen_cond l)) (sym (c.as_slice.ensures.value ∙ ap (λ (l : Vec Condition). l.items) c.deref.ensures))
+    ap (λ (l : List Condition). has_cond (seen_cond c.args.cond) (map seen_cond l))
+    (sym (c.as_slice.ensures.value ∙ ap (λ (l : Vec Condition). l.items) c.deref.ensures))
     ∙ sym c.is_among.ensures ∙ c.if-is_among.false in
     IfOk-weaker c.raise-else-is_among.result _ _ (λ r h p x fs u.
     guard_passed (seen_cond c.args.cond) place cs s (work_of (take c.args.below items)) v top has p x fs u ∙ h p x fs u) c.raise-else-is_among.ensures
@@ -93,5 +95,6 @@ returns-in_default t c =
     let lt : n < length items = omega (arith, c.requires.within) in
     let at : k ≡ get_or items n k = search rules in
     IfOk-weaker c.raise-in_default.result _ _ (λ r h p x fs u.
-    passed_over k (work_of (take c.args.below items)) (work_of (take n items)) (top_of items c.args.below n k e lt at) c.in_default.not-Back c.in_default.not-Guard
+    passed_over k (work_of (take c.args.below items)) (work_of (take n items)) (top_of items c.args.below n k e lt at) c.in_default.not-Back
+    c.in_default.not-Guard
     (seen_cond c.args.cond) p x fs u ∙ h p x fs u) c.raise-in_default.ensures

@@ -16,7 +16,8 @@ returns-in_ok-change-in-Opens-clause-done c =
     moved c.self.inside.items.items c.change.new.items.items added kept c.in_ok-change-in-Opens.ensures.done
     ∙ ap (λ (l : List Kept). left_by l added kept) (sym c.as_slice.ensures.value) in
     let same : work_of c.args.self.now ≡ work_of items = ap work_of (sym (c.as_slice.ensures.value ∙ c.self.view_is)) in
-    opens_moved x (work_of items) (work_of c.args.self.now) (work_of c.change.new.items.items) (left_by items added) kept c.in_ok-turn.turn c.in_ok-turn.ensures c.in-Opens.is same left
+    opens_moved x (work_of items) (work_of c.args.self.now) (work_of c.change.new.items.items) (left_by items added) kept c.in_ok-turn.turn
+    c.in_ok-turn.ensures c.in-Opens.is same left
 
 pub returns-in_ok-change-in-Goes-clause-done : goal.returns-in_ok-change-in-Goes-clause-done
 returns-in_ok-change-in-Goes-clause-done c =
@@ -28,4 +29,5 @@ returns-in_ok-change-in-Goes-clause-done c =
     moved c.self.inside.items.items c.change-in-Goes.new.items.items added kept c.in_ok-change-in-Goes.ensures.done
     ∙ ap (λ (l : List Kept). left_by l added kept) (sym c.as_slice.ensures.value) in
     let same : work_of c.args.self.now ≡ work_of items = ap work_of (sym (c.as_slice.ensures.value ∙ c.self.view_is)) in
-    goes_moved x (work_of items) (work_of c.args.self.now) (work_of c.change-in-Goes.new.items.items) (left_by items added) kept c.in-Goes.advance c.in_ok-turn.turn c.in_ok-turn.ensures c.in-Goes.is same left
+    goes_moved x (work_of items) (work_of c.args.self.now) (work_of c.change-in-Goes.new.items.items) (left_by items added) kept c.in-Goes.advance
+    c.in_ok-turn.turn c.in_ok-turn.ensures c.in-Goes.is same left

@@ -22,7 +22,8 @@ returns-in-Ok-clause-done c =
     let caught = c.in-Ok.caught in
     let same : seen_cond c.matching-cond.result ≡ matching q m.procedure (map seen_cond f.call.value.conds.items) d =
     c.matching-cond.ensures
-    ∙ ap (λ (cs : List Condition). matching q m.procedure (map seen_cond cs) d) (c.as_slice.ensures.value ∙ ap (λ (s : CallSite). s.conds.items) c.deref.ensures) in
+    ∙ ap (λ (cs : List Condition). matching q m.procedure (map seen_cond cs) d)
+    (c.as_slice.ensures.value ∙ ap (λ (s : CallSite). s.conds.items) c.deref.ensures) in
     let Q : Meaning → Type 0 = Moves m in
     let R : ℕ → Type 0 = λ cost. Moves m (paid cost c.resume.new.self) in
     let price = c.out_price.ensures ∙ ap (λ b. out_price b caught) c.is_passed_on-passed.ensures in
