@@ -1,10 +1,11 @@
 -- Texts that are printed one after the other.
-use Rattle.std.proofs.Common.{◌≡◌, ◌++◌, ◌∙◌, ℕ, List, Option, Some, None, Bool, length, take, drop, refl, ap, sym, subst, inl, inr, arith, append_assoc, append-nil}
+use Rattle.std.proofs.Common.{◌≡◌, ◌++◌, ◌∙◌, ◌⊎◌, ℕ, List, Option, Some, None, Bool, true, false, length, take, drop, refl, ap, sym, subst}
+use Rattle.std.proofs.Common.{inl, inr, arith, append_assoc, append-nil}
 use Rattle.std.proofs.lemmas.Bool.{ne_eqb}
 use Rattle.std.proofs.lemmas.List.Elements.{All-head, All-tail}
 use Rattle.std.proofs.Math.Seq.{take-append_seam}
 use Rattle.std.proofs.lemmas.List.{take-append-drop}
-use Rattle.std.specs.Prelude.{◌∷◌, [], ◌<◌, ◌≢◌, All, if◌then◌else◌}
+use Rattle.std.specs.Prelude.{◌∷◌, [], ◌<◌, ◌≢◌, ◌==◌, All, if◌then◌else◌}
 use Rattle.stack_shelf.specs.Shelf.{appended, PrefixAppended}
 use Rattle.command_line.specs.Devices.{IsFirstLine, onto_first, lines_of, took_each}
 
@@ -78,3 +79,63 @@ pub line_taken : {S : Type 0} (took : S → List ℕ → S) (before out now : S)
 line_taken took before out now line after rest text still whole some first is =
     still ∙ ap (λ (lines : List (List ℕ)). took_each took out lines) (ap lines_of (sym whole) ∙ first_of_lines line after some first)
     ∙ ap (λ s. took_each took s (lines_of after)) (sym is)
+
+-- Texts one after the other, where the first one is whole lines.
+
+abbrev lines_by : Bool → ℕ → List (List ℕ) → List (List ℕ)
+lines_by ends byte lines = if ends then (byte ∷ []) ∷ lines else onto_first byte lines
+
+some_by : (ends : Bool) (byte : ℕ) (lines : List (List ℕ)) → (first : List ℕ) × (others : List (List ℕ)) × (lines_by ends byte lines ≡ first ∷ others)
+some_by true byte lines = (byte ∷ [], lines, refl)
+some_by false byte [] = (byte ∷ [], [], refl)
+some_by false byte (line ∷ lines) = (byte ∷ line, lines, refl)
+
+some_lines : (before : List ℕ) → (first : List ℕ) × (others : List (List ℕ)) × (lines_of (before ++ 10 ∷ []) ≡ first ∷ others)
+some_lines [] = (10 ∷ [], [], refl)
+some_lines (byte ∷ before) = some_by (byte == 10) byte (lines_of (before ++ 10 ∷ []))
+
+seam_by : (ends : Bool) (byte : ℕ) (first : List ℕ) (others rest : List (List ℕ))
+    → lines_by ends byte ((first ∷ others) ++ rest) ≡ lines_by ends byte (first ∷ others) ++ rest
+seam_by true byte first others rest = refl
+seam_by false byte first others rest = refl
+
+-- the lines of a text that ends with a line feed, and then those of what follows it
+lines_seam : (before rest : List ℕ) → lines_of ((before ++ 10 ∷ []) ++ rest) ≡ lines_of (before ++ 10 ∷ []) ++ lines_of rest
+lines_seam [] rest = refl
+lines_seam (byte ∷ before) rest =
+    let some = some_lines before in
+    ap (lines_by (byte == 10) byte) (lines_seam before rest ∙ ap (λ (lines : List (List ℕ)). lines ++ lines_of rest) some.2)
+    ∙ seam_by (byte == 10) byte some.0 some.1 (lines_of rest)
+    ∙ sym (ap (λ (lines : List (List ℕ)). lines_by (byte == 10) byte lines ++ lines_of rest) some.2)
+
+took_both : {S : Type 0} (took : S → List ℕ → S) (sink : S) (pieces more : List (List ℕ))
+    → took_each took sink (pieces ++ more) ≡ took_each took (took_each took sink pieces) more
+took_both took sink [] more = refl
+took_both took sink (piece ∷ pieces) more = took_both took (took sink piece) pieces more
+
+abbrev TookBoth : {S : Type 0} → (S → List ℕ → S) → S → List ℕ → List ℕ → Type 0
+TookBoth took sink text rest = took_each took (took_each took sink (lines_of text)) (lines_of rest) ≡ took_each took sink (lines_of (text ++ rest))
+
+-- a sink took a text that is empty or ends with a line feed, and then the lines of what follows it: it took those of both
+pub took_lines_of_both : {S : Type 0} (took : S → List ℕ → S) (sink : S) (text rest : List ℕ)
+    → (text ≡ []) ⊎ ((before : List ℕ) × (text ≡ before ++ 10 ∷ []))
+    → took_each took (took_each took sink (lines_of text)) (lines_of rest) ≡ took_each took sink (lines_of (text ++ rest))
+took_lines_of_both took sink text rest (inl none) = subst (λ (t : List ℕ). TookBoth took sink t rest) (sym none) refl
+took_lines_of_both took sink text rest (inr (before, is)) =
+    subst (λ (t : List ℕ). TookBoth took sink t rest) (sym is)
+    (sym (took_both took sink (lines_of (before ++ 10 ∷ [])) (lines_of rest)) ∙ ap (took_each took sink) (sym (lines_seam before rest)))
+
+-- a prefix of a text is one of that text with more at its end; so is all of it
+pub early_prefix : (old new : Option (List ℕ)) (text more : List ℕ) → PrefixAppended old new text → PrefixAppended old new (text ++ more)
+early_prefix None new text more prefix = (0, prefix.1)
+early_prefix (Some t) new text more prefix =
+    later_prefix (Some t) (Some t) new [] text more (text ++ more) refl (ap (λ (l : List ℕ). Some l) (sym (append-nil t))) prefix
+
+pub whole_prefix : (old new : Option (List ℕ)) (text more : List ℕ) → new ≡ appended old text → PrefixAppended old new (text ++ more)
+whole_prefix old new text more is = (length text, is ∙ ap (λ (l : List ℕ). appended old l) (sym (take-append_seam text more)))
+
+-- a prefix of what follows a text
+pub last_prefix : (old mid new : Option (List ℕ)) (text more : List ℕ) → mid ≡ appended old text → PrefixAppended mid new more
+    → PrefixAppended old new (text ++ more)
+last_prefix old mid new text more was prefix =
+    later_prefix old mid new text more [] (text ++ more) (ap (λ (l : List ℕ). text ++ l) (append-nil more)) was prefix

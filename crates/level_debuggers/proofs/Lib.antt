@@ -7,4 +7,5 @@ pub mod ElementLaws
 pub mod AreaLaws
 pub mod FollowLaws
 pub mod ScriptLaws
+pub mod LineLaws
 pub mod RunWalkLaws

@@ -12,6 +12,7 @@ pub mod Arrivals
 pub mod Taken
 pub mod Transcripts
 pub mod ScriptSteps
+pub mod WholeLines
 pub mod RunWalks
 -- In folders: how clauses see the code, scaffold.
 pub mod Seen

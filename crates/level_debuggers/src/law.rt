@@ -3,6 +3,7 @@
 ghost use Rattle.level_debuggers.specs.RunWalks.{MachinesArrive, MachinesWalk, SystemsWalk};
 ghost use Rattle.level_debuggers.specs.ScriptSteps.{ArrivalsAreSaid, ScriptsWalk, StepsAreSaid, TextStays, UpIsSaid, UpSaysMoment, WordsAreSaid};
 ghost use Rattle.level_debuggers.specs.Walks.{SessionsGoOn};
+ghost use Rattle.level_debuggers.specs.WholeLines.{AnswersAreLines, TranscriptsAreLines};
 
 /// Where memory ran out in a call of `step`, a further call goes on from the steps that were made: it leaves the session that one
 /// call for all these steps leaves.
@@ -31,4 +32,10 @@ pub fn runs_walk()
     ensures machines { MachinesWalk }
     ensures systems { SystemsWalk }
     ensures arrivals { MachinesArrive }
+{}
+
+/// What a session says to a line of a script are whole lines, each with its line feed, and so what it says to a script.
+pub fn answers_are_lines()
+    ensures answers { AnswersAreLines }
+    ensures transcripts { TranscriptsAreLines }
 {}

@@ -22,10 +22,10 @@ mod watch;
 mod watches;
 
 pub use arrival::Arrival;
-pub use law::{runs_walk, scripts_walk, sessions_go_on};
+pub use law::{answers_are_lines, runs_walk, scripts_walk, sessions_go_on};
 pub use runner::Runner;
 pub use script_end::ScriptEnd;
 pub use session::{Absent, Session, SessionRun};
-pub use transcript::follow;
+pub use transcript::{follow, push_answer};
 pub use watch::{Event, Rule, Tally, Watch};
 pub use watches::{CostWatch, CountWatch, LastWatch, PeakWatch};

@@ -193,7 +193,7 @@ fn push_until(
 }
 
 /// Carries out the command of a line, and appends what the session says; and how the script ends, where it ends here.
-fn push_answer(
+pub fn push_answer(
     alloc: Global,
     session: &mut Session,
     line: &Line,
