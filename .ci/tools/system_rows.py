@@ -1,6 +1,6 @@
 #!/usr/bin/env python3
-"""Tries the program where the system gives little: a small stack, a limit for the length of files, an end by a signal while a file is stored, and files
-that can't give way to new ones.
+"""Tries the program where the system gives little: a small stack, little memory, a reader that leaves, a limit for the length of files, an end by a
+signal while a file is stored, and files that can't give way to new ones.
 
 The least stack, in KB, is that of docs/LIMITS.md: with it the deepest texts of each language end as with a large one. Prints a line for each row
 that fails, and how many rows there were. The exit status is 1 where one failed. Where it runs as root, what rights forbid is tried as nobody.
@@ -8,6 +8,7 @@ that fails, and how many rows there were. The exit status is 1 where one failed.
 import os
 import re
 import resource
+import select
 import shutil
 import signal
 import subprocess
@@ -21,6 +22,7 @@ from arguments import program as executable
 
 TOP = Path(__file__).resolve().parents[2]
 ROW = re.compile(r"^\| (\d+) KB \|", re.M)
+SESSION = re.compile(r"^\| (\d+) MB \|", re.M)
 AMPLE = 8192
 NESTED = 196
 KILLS = 40
@@ -55,6 +57,14 @@ COMMANDS = [
     ("lists of values", {"s": SOURCES["loop"], "v": "(" * 200}, "mean s v 2000 2000 1"),
 ]
 BESIDE = {"v": "((b true))", "d": "step 9\nshow\nup\n"}
+
+# A main that shows much and never ends, and its values; so often it is shown, which is more text than a session has memory.
+ARRAYS = [f"a{number}" for number in range(15)]
+FORMALS = " ".join(f"({name} (array integer 4096))" for name in ARRAYS)
+ITEMS = " ".join(["-1000000000"] * 4096)
+SHOWING = {"s": f"(program main (proc main ({FORMALS}) () () () (loop (no-op))))", "v": f"({' '.join(f'({name} ({ITEMS}))' for name in ARRAYS)})"}
+SHOWS = 100
+WAIT = 120
 
 
 def limited(which, size, ignored=()):
@@ -99,6 +109,33 @@ class Rows:
         for name, files, words in COMMANDS:
             whole, small = (self.run(files, words, limited(resource.RLIMIT_STACK, it * 1024)) for it in (AMPLE, size))
             self.note(whole == small and whole[0] >= 0, (name, words, size), small[0])
+
+    def sessions(self, size):
+        """What a session says to a line is printed before it carries out the next one, so this much memory is enough for more text than that."""
+        for level in "gypsy", "piton", "fm9001":
+            words = f"debug {level} s v 20 65000 d"
+            little = limited(resource.RLIMIT_AS, size * 1024 * 1024)
+            once, often = (self.run(SHOWING | {"d": "show\n" * it}, words, little) for it in (1, SHOWS))
+            self.note(once[0] == often[0] == 0 and often[1] == once[1] * SHOWS, (words, size), (once[0], often[0], len(once[1]), len(often[1])))
+            # The second line takes days.
+            read = self.read_first(words, "step 1\nstep 1099511627776\n", ends=False)
+            self.note(read == (b"stepped 1\n", -signal.SIGKILL), (words, "a line is there"), read)
+        read = self.read_first("debug gypsy s v 20 65000 d", "show\n" * 200_000, ends=True)
+        self.note(read[1] == 11, ("a reader has left", words), read)
+
+    def read_first(self, words, script, ends):
+        """The first line of a session whose reader then leaves, and the status: it ends by itself, or is killed."""
+        with tempfile.TemporaryDirectory() as folder:
+            for name, content in (SHOWING | {"d": script}).items():
+                Path(folder, name).write_text(content)
+            running = subprocess.Popen([self.program, *words.split()], cwd=folder, stdout=subprocess.PIPE)
+            line = running.stdout.readline() if select.select([running.stdout], [], [], WAIT)[0] else None
+            running.stdout.close()
+            try:
+                return line, running.wait(WAIT if ends else 0)
+            except subprocess.TimeoutExpired:
+                running.kill()
+                return line, running.wait()
 
     def file_limits(self):
         """A file that would be too long isn't stored, and an old one stays: the end is a signal, or a status where that is ignored."""
@@ -254,7 +291,9 @@ def main():
         for name, files, line in COMMANDS:
             print(f"{rows.least_stack(files, line):5} KB  {name}: {line}", flush=True)
         return 0
-    rows.stacks(int(ROW.search((TOP / "docs/LIMITS.md").read_text()).group(1)))
+    limits = (TOP / "docs/LIMITS.md").read_text()
+    rows.stacks(int(ROW.search(limits).group(1)))
+    rows.sessions(int(SESSION.search(limits).group(1)))
     rows.file_limits()
     rows.kept()
     rows.unreadable()

@@ -16,9 +16,11 @@ use Rattle.command_line.specs.Ends.{end_status, end_line}
 use Rattle.command_line.specs.CommandFiles.{input_names, file_names}
 use Rattle.command_line.proofs.PrintLaws.{nothing_printed}
 use Rattle.cli_stack.specs.declared.driver.conclude.Conclusion.{Conclusion}
+use Rattle.stack_commands.specs.declared.plan.Ending.{Ending}
 use Rattle.stack_commands.specs.declared.reply.Reply.{Reply}
 use Rattle.stack_commands.specs.declared.reply.Verdict.{Verdict}
 use Rattle.stack_commands.specs.declared.reply.Verdict.TheVariants as verdict
+use Rattle.stack_commands.specs.Plans.{ending_reply}
 use Rattle.stack_commands.specs.Replies.{ReplyOf, status_of, reply_of}
 use Rattle.cli_stack.specs.Answer.{Answer, early_answer, files_after, answer_by, answer_to}
 use Rattle.cli_stack.specs.World.{World}
@@ -29,7 +31,7 @@ use Rattle.cli_stack.specs.Causes.{RoseAt}
 use Rattle.cli_stack.specs.Agrees.{HoldsMachine, Agrees}
 use Rattle.cli_stack.specs.Tells.{TellsMeanings}
 use Rattle.cli_stack.specs.RepliesTo.{Devices, IsReplyTo, Replies, TookLines}
-use Rattle.cli_stack.specs.Scaffold.Driver.{HasReason, LeavesAs, Leaves, machine_kept, conclusion_of, Stopped, NotBegun, Concludes}
+use Rattle.cli_stack.specs.Scaffold.Driver.{HasReason, LeavesAs, Leaves, machine_kept, conclusion_of, replied, Stopped, NotBegun, Concludes}
 use Rattle.cli_stack.proofs.CompletesLaws.{completes}
 use Rattle.cli_stack.proofs.MachineLaws.{RepliesToSome, only_runs}
 use Rattle.cli_stack.proofs.SizeLaws.{has_sizes}
@@ -272,13 +274,13 @@ if_known : (o : Option Files) (P Q : Files → Type 0) → ((files : Files) → 
 if_known None P Q go p = tt
 if_known (Some files) P Q go p = go files p
 
-pub promises : {S K : Type 0} (devices : Devices S K) (command : Option Command) (watches : List Watching) (before after : World) (ran : Result Reply EarlyEnd) (status : Status)
+promises_of : {S K : Type 0} (devices : Devices S K) (command : Option Command) (watches : List Watching) (before after : World) (ran : Result Reply EarlyEnd) (status : Status)
     → IfSome before.shelf.files (λ files. Leaves command watches files before.shelf after.shelf ran)
     → IfErr ran (HasReason before.shelf.counts after.shelf.counts command) → IfOk ran (λ reply. IsReplyTo devices.gave devices.got devices.shelf_before devices.shelf_after command watches (reply_of reply))
     → Concludes (TookLines devices.took devices.out_before devices.out_after) (conclusion_of ran) status before.out after.out
     → ((files : Files) → IfSome command (λ c. TellsMeanings c files (answer_to c watches files)))
     → KeepsPromises devices command watches before after status
-promises devices command watches before after ran status leaves reason to ends tells =
+promises_of devices command watches before after ran status leaves reason to ends tells =
     let causes = caused devices command watches before after ran status reason to ends in
     record {
       known = if_known before.shelf.files (λ files. Leaves command watches files before.shelf after.shelf ran) (λ files. KeepsWithFiles command (answer_by command watches files) files before after status)
@@ -299,3 +301,18 @@ promises devices command watches before after ran status leaves reason to ends t
       sink_fault = causes.sink_fault;
       kept = causes.kept;
     }
+
+-- of a command that may end with a session, whatever watches this has
+pub promises : {S K : Type 0} (devices : Devices S K) (command : Option Command) (watches : List Watching) (before after : World)
+    (ran : Result Ending EarlyEnd) (status : Status)
+    → IfSome before.shelf.files (λ files. Leaves command watches files before.shelf after.shelf (replied watches ran))
+    → IfErr ran (HasReason before.shelf.counts after.shelf.counts command)
+    → IfOk ran (λ ending. (watches : List Watching)
+    → IsReplyTo devices.gave devices.got devices.shelf_before devices.shelf_after command watches (reply_of (ending_reply watches ending)))
+    → Concludes (TookLines devices.took devices.out_before devices.out_after) (conclusion_of (replied watches ran)) status before.out after.out
+    → ((files : Files) → IfSome command (λ c. TellsMeanings c files (answer_to c watches files)))
+    → KeepsPromises devices command watches before after status
+promises devices command watches before after (Ok ending) status leaves reason to ends tells =
+    promises_of devices command watches before after (Ok (ending_reply watches ending)) status leaves tt (to watches) ends tells
+promises devices command watches before after (Err end) status leaves reason to ends tells =
+    promises_of devices command watches before after (Err end) status leaves reason tt ends tells

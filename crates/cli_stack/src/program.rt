@@ -49,6 +49,6 @@ pub fn cli<S: Shelf, K: Sink>(
     scripts_walk();
     runs_walk();
     moments_are_said();
-    let ran = run_words(alloc, words, shelf, watches);
-    conclude(alloc, ran, out, kept).code()
+    let ran = run_words(alloc, words, shelf);
+    conclude(alloc, ran, watches, out, kept).code()
 }

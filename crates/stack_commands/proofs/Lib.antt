@@ -5,3 +5,4 @@ pub mod NeedLaws
 pub mod PitonTextLaws
 pub mod TaskLoops
 pub mod TurnsLaws
+pub mod TranscriptLaws

@@ -1,3 +1,4 @@
 -- Scaffold: what only private functions and lemmas say.
 pub mod Tasks
 pub mod Told
+pub mod Transcript

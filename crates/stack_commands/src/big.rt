@@ -11,7 +11,7 @@ ghost use Rattle.stack_commands.specs.Commands.Big.{after_text, source_line, go_
 ghost use Rattle.stack_commands.specs.Plans.{pending_reply};
 ghost use Rattle.stack_commands.specs.Replies.{reply_of};
 
-use crate::finish;
+use crate::complete;
 use crate::plan::{Pending, Plan};
 use crate::reply::Reply;
 use crate::run::begin;
@@ -37,7 +37,7 @@ fn run_on_value(alloc: Global, image: Image) -> Result<Reply, Memory>
         ≡ values_reply image most_steps (values_in image.slots (codes "((x 0))"))) }
 {
     let pending = begin(alloc, image, VALUES, MOST_STEPS)?;
-    finish(alloc, pending)
+    complete(alloc, pending)
 }
 
 /// Builds a source, and runs it on the value 0.

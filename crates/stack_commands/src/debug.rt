@@ -1,10 +1,9 @@
 //! The command `debug`.
-ghost use Rattle.std.specs.Prelude.{◌≡◌, ◌≤◌, ◌^◌, List, [], None, Some, IfOk, length, map};
+ghost use Rattle.std.specs.Prelude.{◌≡◌, ◌≤◌, ◌^◌, List, None, Some, IfOk, length};
 ghost use Rattle.gypsy_space.specs.Needs.{stack_sizes};
 ghost use Rattle.gypsy_syntax.specs.Seen.SourceView.{source_of};
-ghost use Rattle.level_debuggers.specs.Levels.{IsRunner, LevelOf, level_of};
-ghost use Rattle.level_debuggers.specs.Seen.Sessions.{IsSession, session_of};
-ghost use Rattle.level_debuggers.specs.Transcripts.{followed};
+ghost use Rattle.level_debuggers.specs.Levels.{IsRunner, level_of};
+ghost use Rattle.level_debuggers.specs.Seen.Sessions.{session_of};
 ghost use Rattle.level_debuggers.specs.Tallies.{Watching, watching};
 ghost use Rattle.stack_build.specs.Starts.{GivesStart};
 ghost use Rattle.debug_script.specs.Scripts.{fault_of, script_of};
@@ -12,19 +11,20 @@ ghost use Rattle.command_line.specs.declared.role.Role.TheVariants as Role;
 ghost use Rattle.command_line.specs.declared.words.reader.Level.TheVariants as Level;
 ghost use Rattle.command_line.specs.Gathered.{text_of};
 ghost use Rattle.stack_commands.specs.Replies.{verdict_alone};
-ghost use Rattle.stack_commands.specs.Commands.Debug.{run_at, run_in, found_run, session_on, end_verdict, followed_reply, script_verdict, script_reply, debug_reply};
-ghost use Rattle.stack_commands.specs.Plans.{pending_reply};
+ghost use Rattle.stack_commands.specs.Commands.Debug.{run_at, run_in, found_run, end_verdict, script_verdict, script_reply, debug_reply};
+ghost use Rattle.stack_commands.specs.Plans.{IsLeft, left_reply, pending_reply};
 
-use crate::plan::{Pending, Plan};
-use crate::reply::{Reply, Verdict};
+use crate::plan::{Left, Plan, Work, planned};
+use crate::reply::Verdict;
+use crate::script_run::ScriptRun;
 use crate::source_text::{read_accepted, start_verdict};
 use command_line::{Level, Role, StackSize, Texts};
-use debug_script::{Line, ScriptFault, read_script};
+use debug_script::{ScriptFault, read_script};
 use gypsy_check::Accepted;
 use gypsy_space::needs;
-use level_debuggers::{Runner, ScriptEnd, Session, Watch, follow};
+use level_debuggers::{Runner, ScriptEnd, Session};
 use stack_build::{StartFault, start_image, start_meaning, start_system};
-use stack_text::{Memory, Seq};
+use stack_text::Memory;
 use std::alloc::Global;
 
 /// What is left of `debug` once its texts are there.
@@ -34,12 +34,12 @@ pub fn prepare(
     texts: &Texts,
     control: &StackSize,
     temporary: &StackSize,
-    watches: Vec<Box<dyn Watch>>,
-) -> Result<Plan, Memory>
-    ensures stored { IfOk result (λ plan. plan.stored ≡ None) }
-    ensures reply { IfOk result (λ plan. pending_reply plan.pending
+) -> Result<Work, Memory>
+    ensures stored { IfOk result (λ work. work.stored ≡ None) }
+    ensures reply { IfOk result (λ work. (watches : List Watching) → left_reply watches work.left
         ≡ debug_reply level (text_of Role.Source texts.now) (text_of Role.Values texts.now) control.now temporary.now
-        (text_of Role.Script texts.now) (map (λ w. watching (rule_of w) (tally_of w)) watches.items)) }
+        (text_of Role.Script texts.now) watches) }
+    ensures is { IfOk result (λ work. IsLeft work.left) }
 {
     let (source, values) = (texts.of(Role::Source), texts.of(Role::Values));
     match run_in(
@@ -50,8 +50,8 @@ pub fn prepare(
         control.words(),
         temporary.words(),
     )? {
-        Ok(runner) => play_from(alloc, runner, texts.of(Role::Script), watches),
-        Err(verdict) => Ok(Plan::verdict_alone(alloc, verdict)),
+        Ok(runner) => script_work(alloc, runner, texts.of(Role::Script)),
+        Err(verdict) => Ok(planned(Plan::verdict_alone(alloc, verdict))),
     }
 }
 
@@ -180,7 +180,7 @@ fn refused_script(alloc: Global, fault: ScriptFault) -> Result<Plan, Memory>
 }
 
 /// How the command ends with its script.
-fn end_verdict(session: &Session, end: ScriptEnd) -> Result<Verdict, Memory>
+pub(crate) fn end_verdict(session: &Session, end: ScriptEnd) -> Result<Verdict, Memory>
     ensures { let session = session_of
         (λ w. watching (rule_of (w.vtable, w.value)) (tally_of (w.vtable, w.value))) session.now in
         IfOk result (λ verdict. verdict ≡ end_verdict session.level end) }
@@ -211,59 +211,20 @@ fn end_verdict(session: &Session, end: ScriptEnd) -> Result<Verdict, Memory>
     }
 }
 
-/// Follows the lines of a script in a session, and replies what it said.
-#[tactic(auto, unfolding(crate::specs::Commands::Debug::lines_reply))]
-fn reply_of_session(alloc: Global, session: &mut Session, lines: &[Line]) -> Result<Plan, Memory>
-    requires { IsSession session.old }
-    ensures stored { IfOk result (λ plan. plan.stored ≡ None) }
-    ensures reply { let session = session_of
-        (λ w. watching (rule_of (w.vtable, w.value)) (tally_of (w.vtable, w.value))) session.old in
-        IfOk result (λ plan. pending_reply plan.pending ≡ followed_reply (followed [] lines.now session)) }
-{
-    let mut said = Vec::new(alloc);
-    let end = follow(alloc, session, lines, &mut said)?;
-    let verdict = end_verdict(session, end)?;
-    Ok(Plan {
-        stored: None,
-        pending: Pending::Reply(Reply {
-            said: Seq::from_vec(said),
-            verdict,
-            machine: None,
-        }),
-    })
-}
-
-/// Reads a script, and follows it in a session that has made no step.
-#[tactic(auto, unfolding(crate::specs::Commands::Debug::lines_reply))]
-fn play(alloc: Global, session: &mut Session, script: &[u8]) -> Result<Plan, Memory>
-    requires script { length script.now ≤ 2 ^ 31 }
-    requires is { IsSession session.old }
-    ensures stored { IfOk result (λ plan. plan.stored ≡ None) }
-    ensures reply { let session = session_of
-        (λ w. watching (rule_of (w.vtable, w.value)) (tally_of (w.vtable, w.value))) session.old in
-        IfOk result (λ plan. (run : LevelOf) (watches : List Watching) → session ≡ session_on run watches
-        → pending_reply plan.pending ≡ script_reply run watches (script_of script.now)) }
-{
-    match read_script(alloc, script) {
-        Ok(lines) => reply_of_session(alloc, session, &lines),
-        Err(fault) => refused_script(alloc, fault),
-    }
-}
-
-/// Follows a script in a session of a runner.
-fn play_from(
-    alloc: Global,
-    runner: Runner,
-    script: &[u8],
-    watches: Vec<Box<dyn Watch>>,
-) -> Result<Plan, Memory>
+/// What is left of a script and the run of its session.
+fn script_work(alloc: Global, runner: Runner, script: &[u8]) -> Result<Work, Memory>
     requires script { length script.now ≤ 2 ^ 31 }
     requires runner { IsRunner runner }
-    ensures stored { IfOk result (λ plan. plan.stored ≡ None) }
-    ensures reply { IfOk result (λ plan. pending_reply plan.pending
-        ≡ script_reply (level_of runner) (map (λ w. watching (rule_of w) (tally_of w)) watches.items)
-        (script_of script.now)) }
+    ensures stored { IfOk result (λ work. work.stored ≡ None) }
+    ensures reply { IfOk result (λ work. (watches : List Watching) → left_reply watches work.left
+        ≡ script_reply (level_of runner) watches (script_of script.now)) }
+    ensures is { IfOk result (λ work. IsLeft work.left) }
 {
-    let mut session = Session::new(alloc, runner, watches)?;
-    play(alloc, &mut session, script)
+    match read_script(alloc, script) {
+        Ok(lines) => Ok(Work {
+            stored: None,
+            left: Left::Session(ScriptRun { runner, lines }),
+        }),
+        Err(fault) => Ok(planned(refused_script(alloc, fault)?)),
+    }
 }

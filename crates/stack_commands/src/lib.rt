@@ -1,11 +1,11 @@
 //! The commands of the short stack: what each makes of its texts, and what it replies.
 #![tactic(auto)]
 
-ghost use Rattle.std.specs.Prelude.{◌≡◌, IfOk, map};
-ghost use Rattle.level_debuggers.specs.Tallies.{watching};
+ghost use Rattle.std.specs.Prelude.{◌≡◌, List, IfOk};
+ghost use Rattle.level_debuggers.specs.Tallies.{Watching};
 ghost use Rattle.stack_commands.specs.Prepared.{stored_by, reply_by};
 ghost use Rattle.stack_commands.specs.Replies.{reply_of};
-ghost use Rattle.stack_commands.specs.Plans.{pending_reply};
+ghost use Rattle.stack_commands.specs.Plans.{IsEnding, IsLeft, ending_reply, left_reply, pending_reply};
 
 mod asm;
 mod big;
@@ -27,103 +27,122 @@ mod plan;
 mod prun;
 mod reply;
 mod run;
+mod script_run;
 mod show;
 mod source_text;
+mod telling;
 mod turns;
 mod unasm;
 
 use command_line::{Command, Role, Texts};
 pub use image_run::ImageRun;
-use level_debuggers::Watch;
-pub use plan::{Pending, Plan};
+use plan::planned;
+pub use plan::{Ending, Left, Pending, Plan, Work};
 pub use reply::{Reply, RuleLetter, SizeOf, Verdict};
+pub use script_run::ScriptRun;
 use stack_text::Memory;
 use std::alloc::Global;
+pub use telling::tell_session;
 pub use turns::TasksFault;
 
 /// What a command stores, and what is left to do.
 #[tactic(auto, unfolding(crate::specs::Prepared::stored_by, crate::specs::Prepared::reply_by))]
-pub fn prepare(
-    alloc: Global,
-    command: &Command,
-    texts: &Texts,
-    watches: Vec<Box<dyn Watch>>,
-) -> Result<Plan, Memory>
-    ensures stored { IfOk result (λ plan. plan.stored ≡ stored_by command.now texts.now) }
-    ensures reply { IfOk result (λ plan. pending_reply plan.pending
-        ≡ reply_by command.now (map (λ w. watching (rule_of w) (tally_of w)) watches.items) texts.now) }
+pub fn prepare(alloc: Global, command: &Command, texts: &Texts) -> Result<Work, Memory>
+    ensures stored { IfOk result (λ work. work.stored ≡ stored_by command.now texts.now) }
+    ensures reply { IfOk result (λ work. (watches : List Watching)
+        → left_reply watches work.left ≡ reply_by command.now watches texts.now) }
+    ensures is { IfOk result (λ work. IsLeft work.left) }
 {
     let (source, values) = (texts.of(Role::Source), texts.of(Role::Values));
     let (piton, image) = (texts.of(Role::Piton), texts.of(Role::Image));
     match command {
-        Command::Check { .. } => check::prepare(alloc, source),
+        Command::Check { .. } => Ok(planned(check::prepare(alloc, source)?)),
         Command::Mean {
             control,
             temporary,
             limit,
             ..
-        } => mean::prepare(alloc, source, values, control, temporary, *limit),
+        } => Ok(planned(mean::prepare(alloc, source, values, control, temporary, *limit)?)),
         Command::Pit {
             control,
             temporary,
             piton: name,
             ..
-        } => pit::prepare(alloc, source, control, temporary, name),
+        } => Ok(planned(pit::prepare(alloc, source, control, temporary, name)?)),
         Command::Build {
             control,
             temporary,
             ..
-        } => build::prepare(alloc, source, control, temporary),
-        Command::Pcheck { .. } => pcheck::prepare(alloc, piton),
-        Command::Prun { limit, .. } => prun::prepare(alloc, piton, *limit),
-        Command::Pbuild { .. } => pbuild::prepare(alloc, piton),
-        Command::Run { budget, .. } => run::prepare(alloc, image, values, *budget),
+        } => Ok(planned(build::prepare(alloc, source, control, temporary)?)),
+        Command::Pcheck { .. } => Ok(planned(pcheck::prepare(alloc, piton)?)),
+        Command::Prun { limit, .. } => Ok(planned(prun::prepare(alloc, piton, *limit)?)),
+        Command::Pbuild { .. } => Ok(planned(pbuild::prepare(alloc, piton)?)),
+        Command::Run { budget, .. } => Ok(planned(run::prepare(alloc, image, values, *budget)?)),
         Command::Go {
             control,
             temporary,
             budget,
             ..
-        } => go::prepare(alloc, source, values, control, temporary, *budget),
-        Command::Show { .. } => show::prepare(alloc, image),
-        Command::Migrate { output, .. } => migrate::prepare(alloc, image, output),
-        Command::Asm { .. } => asm::prepare(alloc, texts.of(Role::Assembly)),
-        Command::Unasm { assembly: name, .. } => unasm::prepare(alloc, image, name),
-        Command::Need { .. } => need::prepare(alloc, source),
+        } => Ok(planned(go::prepare(alloc, source, values, control, temporary, *budget)?)),
+        Command::Show { .. } => Ok(planned(show::prepare(alloc, image)?)),
+        Command::Migrate { output, .. } => Ok(planned(migrate::prepare(alloc, image, output)?)),
+        Command::Asm { .. } => Ok(planned(asm::prepare(alloc, texts.of(Role::Assembly))?)),
+        Command::Unasm { assembly: name, .. } => Ok(planned(unasm::prepare(alloc, image, name)?)),
+        Command::Need { .. } => Ok(planned(need::prepare(alloc, source)?)),
         Command::Cert {
             control,
             temporary,
             ..
-        } => cert::prepare(
+        } => Ok(planned(cert::prepare(
             alloc,
             source,
             texts.of(Role::Certificate),
             control,
             temporary,
-        ),
+        )?)),
         Command::Debug {
             level,
             control,
             temporary,
             ..
-        } => debug::prepare(alloc, *level, texts, control, temporary, watches),
+        } => debug::prepare(alloc, *level, texts, control, temporary),
         Command::Turns {
             turn,
             budget,
             control,
             temporary,
             ..
-        } => turns::prepare(alloc, texts, turn, *budget, control, temporary),
-        Command::Big { number, procedures } => big::prepare(alloc, *number, procedures),
-        Command::Mini { source: name, .. } => { mini::prepare(alloc, texts.of(Role::Infix), name) }
+        } => Ok(planned(turns::prepare(alloc, texts, turn, *budget, control, temporary)?)),
+        Command::Big { number, procedures } => Ok(planned(big::prepare(
+            alloc, *number, procedures,
+        )?)),
+        Command::Mini { source: name, .. } => Ok(planned(mini::prepare(
+            alloc,
+            texts.of(Role::Infix),
+            name,
+        )?)),
     }
 }
 
-/// What a command replies.
-pub fn finish(alloc: Global, pending: Pending) -> Result<Reply, Memory>
+/// The reply of what a plan has left.
+fn complete(alloc: Global, pending: Pending) -> Result<Reply, Memory>
     ensures { IfOk result (λ reply. reply_of reply ≡ pending_reply pending) }
 {
     match pending {
         Pending::Reply(reply) => Ok(reply),
         Pending::Run(run) => run::run_image(alloc, &run),
+    }
+}
+
+/// How a command ends.
+#[tactic(auto, unfolding(crate::specs::Commands::Debug::lines_reply))]
+pub fn finish(alloc: Global, left: Left) -> Result<Ending, Memory>
+    ensures reply { IfOk result (λ ending. (watches : List Watching)
+        → reply_of (ending_reply watches ending) ≡ left_reply watches left) }
+    ensures is { IsLeft left → IfOk result IsEnding }
+{
+    match left {
+        Left::Pending(pending) => Ok(Ending::Reply(complete(alloc, pending)?)),
+        Left::Session(run) => Ok(Ending::Session(run)),
     }
 }

@@ -1,7 +1,10 @@
 //! What a command makes of its texts: first what it stores, then its reply.
+ghost use Rattle.std.specs.Prelude.{◌≡◌};
+ghost use Rattle.stack_commands.specs.Plans.{work_of};
 
 use crate::image_run::ImageRun;
 use crate::reply::{Reply, Verdict};
+use crate::script_run::ScriptRun;
 use command_line::FileName;
 use fm_image::{Image, write_image};
 use stack_text::{Memory, Seq};
@@ -23,6 +26,33 @@ pub struct Plan {
     pub stored: Option<Seq<u8>>,
     /// The reply, or the run that is still to be made.
     pub pending: Pending,
+}
+
+/// What is left of any command once its file is stored.
+#[derive(Drop)]
+pub enum Left {
+    /// What a plan has left, of which the reply is made.
+    Pending(Pending),
+    /// A script that a session follows, and replies to line by line.
+    Session(ScriptRun),
+}
+
+/// What any command stores, and what is left to do.
+#[derive(Drop)]
+pub struct Work {
+    /// The bytes of the file that is stored, or none where the command stores nothing.
+    pub stored: Option<Seq<u8>>,
+    /// What is left to do.
+    pub left: Left,
+}
+
+/// How a command ends: what is still to be printed, and with which status.
+#[derive(Drop)]
+pub enum Ending {
+    /// All that it says is there.
+    Reply(Reply),
+    /// A session says it, line by line, while it follows a script.
+    Session(ScriptRun),
 }
 
 impl Plan {
@@ -108,5 +138,15 @@ impl Plan {
         ensures reply { IfOk result (λ plan. pending_reply plan.pending ≡ all_said (line (codes "ok"))) }
     {
         Ok(Plan::all_said(Seq::from_vec(b"ok\n".to_vec(alloc)?)))
+    }
+}
+
+/// A plan as the work of a command.
+pub(crate) fn planned(plan: Plan) -> Work
+    ensures { result ≡ work_of plan }
+{
+    Work {
+        stored: plan.stored,
+        left: Left::Pending(plan.pending),
     }
 }

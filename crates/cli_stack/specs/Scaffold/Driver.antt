@@ -14,7 +14,9 @@ use Rattle.command_line.specs.Devices.{EndsAtOne}
 use Rattle.command_line.specs.Ends.{end_status, end_line}
 use Rattle.command_line.specs.CommandFiles.{input_names, file_names}
 use Rattle.cli_stack.specs.declared.driver.conclude.Conclusion.{Conclusion}
+use Rattle.stack_commands.specs.declared.plan.Ending.{Ending}
 use Rattle.stack_commands.specs.declared.reply.Reply.{Reply}
+use Rattle.stack_commands.specs.Plans.{ending_reply}
 use Rattle.stack_commands.specs.Replies.{status_of, verdict_line, reply_of}
 use Rattle.cli_stack.specs.Answer.{Answer, answer_with, early_answer, answer_by, files_after}
 use Rattle.cli_stack.specs.World.{ShelfOf, OutOf}
@@ -22,6 +24,11 @@ use Rattle.cli_stack.specs.Remains.{HoldsPart}
 use Rattle.cli_stack.specs.Causes.{RoseAt}
 
 -- 1. Performing a command.
+
+-- what a command replies where a session has these watches, or its early end
+abbrev pub replied : List Watching → Result Ending EarlyEnd → Result Reply EarlyEnd
+replied watches (Ok ending) = Ok (ending_reply watches ending)
+replied watches (Err end) = Err end
 
 -- why a command ended early: at a missing or long input, or by a failure at a file of its own
 abbrev pub HasReason : Counts → Counts → Option Command → EarlyEnd → Type 0

@@ -1,17 +1,20 @@
 //! Prints how a command ended, and keeps its machine.
-ghost use Rattle.std.specs.Prelude.{◌≡◌, IfOk, Some};
+ghost use Rattle.std.specs.Prelude.{◌≡◌, IfOk, Some, map};
+ghost use Rattle.level_debuggers.specs.Tallies.{watching};
+ghost use Rattle.stack_commands.specs.Plans.{IsEnding};
 ghost use Rattle.cli_stack.specs.World.{out_of};
 ghost use Rattle.cli_stack.specs.RepliesTo.{TookLines};
-ghost use Rattle.cli_stack.specs.Scaffold.Driver.{machine_kept, conclusion_of, Concludes};
+ghost use Rattle.cli_stack.specs.Scaffold.Driver.{machine_kept, conclusion_of, replied, Concludes};
 
 use command_line::{EarlyEnd, Status, print};
 use fm_machine::Machine;
-use stack_commands::Reply;
+use level_debuggers::Watch;
+use stack_commands::{Ending, Reply, tell_session};
 use stack_shelf::{PutFault, Sink};
 use stack_text::{Memory, Seq};
 use std::alloc::Global;
 
-/// All that is printed at the end of a command, its status, and the machine that was run.
+/// All that is printed at the end of a command that has it at hand, its status, and the machine that was run.
 #[derive(Drop)]
 pub struct Conclusion {
     /// The bytes that are printed, with the last line.
@@ -85,8 +88,8 @@ fn print_conclusion<K: Sink>(
     }
 }
 
-/// Prints how a command ended, and ends with its status.
-pub fn conclude<K: Sink>(
+/// Prints how a command ended of which all that it says is there, and ends with its status.
+fn conclude_reply<K: Sink>(
     alloc: Global,
     ran: Result<Reply, EarlyEnd>,
     out: &mut K,
@@ -99,5 +102,32 @@ pub fn conclude<K: Sink>(
     match conclusion_of(alloc, ran) {
         Ok(conclusion) => print_conclusion(conclusion, out, kept),
         Err(Memory) => Status::OutOfMemory,
+    }
+}
+
+/// Prints how a command ended, and ends with its status. A session has these watches; what it says is printed as it is said.
+pub fn conclude<K: Sink>(
+    alloc: Global,
+    ran: Result<Ending, EarlyEnd>,
+    watches: Vec<Box<dyn Watch>>,
+    out: &mut K,
+    kept: &mut Option<Machine>,
+) -> Status
+    requires { IfOk ran IsEnding }
+    ensures { Concludes (TookLines K.took out.old out.new)
+        (conclusion_of (replied (map (λ w. watching (rule_of w) (tally_of w)) watches.items) ran)) result
+        (out_of (K.taken out.old) (K.faults out.old) kept.old)
+        (out_of (K.taken out.new) (K.faults out.new) kept.new) }
+{
+    match ran {
+        Ok(Ending::Session(run)) => match tell_session(alloc, run, watches, out) {
+            Ok(status) => status,
+            Err(fault) => match fault {
+                PutFault::Failed => Status::SinkFault,
+                PutFault::Memory => Status::OutOfMemory,
+            },
+        },
+        Ok(Ending::Reply(reply)) => conclude_reply(alloc, Ok(reply), out, kept),
+        Err(end) => conclude_reply(alloc, Err(end), out, kept),
     }
 }

@@ -1,0 +1,20 @@
+use Rattle.std.proofs.Common.{◌≤◌, drop}
+use Rattle.std.specs.Prelude.{[]}
+use Rattle.level_debuggers.specs.Seen.Sessions.{IsSession, session_of}
+use Rattle.level_debuggers.specs.Tallies.{watching}
+use Rattle.level_debuggers.specs.Transcripts.{followed}
+use Rattle.stack_commands.proofs.TranscriptLaws.{SoFar}
+use Rattle.stack_commands.proofs.telling.print_answers.Given as goal
+
+abbrev pub invariant-loop-line : goal.invariant-loop-line
+invariant-loop-line g l =
+    let sink = g.K.Sink in
+    record {
+      so_far :
+          SoFar sink.took l.initial.out l.out (sink.taken l.initial.out) (sink.taken l.out)
+          (followed [] l.lines (session_of (λ w. watching ((goal.Watch-dyn g (w.vtable, w.value)).rule_of w.value) ((goal.Watch-dyn g (w.vtable, w.value)).tally_of w.value)) l.initial.session))
+          (drop l.line-index l.lines)
+          (session_of (λ w. watching ((goal.Watch-dyn g (w.vtable, w.value)).rule_of w.value) ((goal.Watch-dyn g (w.vtable, w.value)).tally_of w.value)) l.session);
+      faults : sink.faults l.initial.out ≤ sink.faults l.out;
+      is : IsSession l.session;
+    }

@@ -1,0 +1,122 @@
+//! Prints what a session says to a script, while it follows it.
+ghost use Rattle.std.specs.Prelude.{◌≡◌, ◌≤◌, [], IfOk, OnOk, OnErr, IsErrOf, map};
+ghost use Rattle.stack_shelf.specs.Causes.{Rose};
+ghost use Rattle.stack_shelf.specs.Shelf.{appended, PrefixAppended};
+ghost use Rattle.command_line.specs.Devices.{lines_of, took_each};
+ghost use Rattle.level_debuggers.specs.Levels.{IsRunner};
+ghost use Rattle.level_debuggers.specs.Seen.Sessions.{IsSession, session_of};
+ghost use Rattle.level_debuggers.specs.Tallies.{watching};
+ghost use Rattle.level_debuggers.specs.Transcripts.{followed};
+ghost use Rattle.stack_commands.specs.Commands.Debug.{end_verdict};
+ghost use Rattle.stack_commands.specs.Plans.{script_run_reply};
+ghost use Rattle.stack_commands.specs.Replies.{reply_text, status_of, verdict_line};
+ghost use Rattle.stack_commands.specs.Scaffold.Transcript.{AllPrinted};
+
+use crate::debug::end_verdict;
+use crate::script_run::ScriptRun;
+use command_line::{Status, print};
+use debug_script::Line;
+use level_debuggers::{ScriptEnd, Session, Watch, answers_are_lines, push_answer};
+use stack_shelf::{PutFault, Sink};
+use stack_text::Memory;
+use std::alloc::Global;
+
+/// Follows a script in a session: what is said to a line is printed before the next one is carried out.
+fn print_answers<K: Sink>(
+    alloc: Global,
+    session: &mut Session,
+    lines: &[Line],
+    out: &mut K,
+) -> Result<ScriptEnd, PutFault>
+    requires { IsSession session.old }
+    ensures all { IfOk result (λ end. AllPrinted K.took out.old out.new (K.taken out.old) (K.taken out.new)
+        (followed [] lines.now (session_of
+        (λ w. watching (rule_of (w.vtable, w.value)) (tally_of (w.vtable, w.value))) session.old)) end
+        (session_of (λ w. watching (rule_of (w.vtable, w.value)) (tally_of (w.vtable, w.value))) session.new)) }
+    ensures prefix { OnErr result (PrefixAppended (K.taken out.old) (K.taken out.new)
+        (followed [] lines.now (session_of
+        (λ w. watching (rule_of (w.vtable, w.value)) (tally_of (w.vtable, w.value))) session.old)).text) }
+    ensures failed { IsErrOf result PutFault.Failed → Rose (K.faults out.old) (K.faults out.new) }
+    ensures faults { K.faults out.old ≤ K.faults out.new }
+{
+    answers_are_lines();
+    let mut text = Vec::new(alloc);
+    for line in lines {
+        text.clear();
+        let Ok(end) = push_answer(alloc, session, line, &mut text) else {
+            return Err(PutFault::Memory);
+        };
+        print(out, text.as_slice())?;
+        if let Some(end) = end {
+            return Ok(end);
+        }
+    }
+    Ok(ScriptEnd::Done)
+}
+
+/// Prints the last line of a session whose script came to an end, and ends with its status.
+fn print_end<K: Sink>(
+    alloc: Global,
+    session: &Session,
+    end: ScriptEnd,
+    out: &mut K,
+) -> Result<Status, PutFault>
+    ensures ends { let session = session_of
+        (λ w. watching (rule_of (w.vtable, w.value)) (tally_of (w.vtable, w.value))) session.now in
+        IfOk result (λ status. status ≡ status_of (end_verdict session.level end)) }
+    ensures ok { let session = session_of
+        (λ w. watching (rule_of (w.vtable, w.value)) (tally_of (w.vtable, w.value))) session.now in
+        OnOk result (K.taken out.new ≡ appended (K.taken out.old) (verdict_line (end_verdict session.level end))) }
+    ensures lines { let session = session_of
+        (λ w. watching (rule_of (w.vtable, w.value)) (tally_of (w.vtable, w.value))) session.now in
+        OnOk result (out.new ≡ took_each K.took out.old (lines_of (verdict_line (end_verdict session.level end)))) }
+    ensures prefix { let session = session_of
+        (λ w. watching (rule_of (w.vtable, w.value)) (tally_of (w.vtable, w.value))) session.now in
+        OnErr result (PrefixAppended (K.taken out.old) (K.taken out.new)
+        (verdict_line (end_verdict session.level end))) }
+    ensures failed { IsErrOf result PutFault.Failed → Rose (K.faults out.old) (K.faults out.new) }
+    ensures faults { K.faults out.old ≤ K.faults out.new }
+{
+    let Ok(verdict) = end_verdict(session, end) else {
+        return Err(PutFault::Memory);
+    };
+    let Ok(line) = verdict.line(alloc) else {
+        return Err(PutFault::Memory);
+    };
+    print(out, line.as_slice())?;
+    Ok(verdict.status())
+}
+
+/// Follows a script in a session with these watches, and prints all that it replies: what is said to a line before the next
+/// one is carried out, so that no more of it is held at a time. It ends with the status of the reply.
+///
+/// # Errors
+///
+/// The sink failed, or memory ran out, in the session or in the sink: a prefix of the reply was printed.
+pub fn tell_session<K: Sink>(
+    alloc: Global,
+    run: ScriptRun,
+    watches: Vec<Box<dyn Watch>>,
+    out: &mut K,
+) -> Result<Status, PutFault>
+    requires { IsRunner run.runner }
+    ensures ends { IfOk result (λ status. status ≡ status_of
+        (script_run_reply (map (λ w. watching (rule_of w) (tally_of w)) watches.items) run).verdict) }
+    ensures ok { OnOk result (K.taken out.new ≡ appended (K.taken out.old)
+        (reply_text (script_run_reply (map (λ w. watching (rule_of w) (tally_of w)) watches.items) run))) }
+    ensures lines { OnOk result (out.new ≡ took_each K.took out.old (lines_of
+        (reply_text (script_run_reply (map (λ w. watching (rule_of w) (tally_of w)) watches.items) run)))) }
+    ensures prefix { OnErr result (PrefixAppended (K.taken out.old) (K.taken out.new)
+        (reply_text (script_run_reply (map (λ w. watching (rule_of w) (tally_of w)) watches.items) run))) }
+    ensures failed { IsErrOf result PutFault.Failed → Rose (K.faults out.old) (K.faults out.new) }
+    ensures faults { K.faults out.old ≤ K.faults out.new }
+{
+    answers_are_lines();
+    let ScriptRun { runner, lines } = run;
+    let mut session = match Session::new(alloc, runner, watches) {
+        Ok(session) => session,
+        Err(Memory) => return Err(PutFault::Memory),
+    };
+    let end = print_answers(alloc, &mut session, &lines, out)?;
+    Ok(print_end(alloc, &session, end, out)?)
+}
