@@ -93,7 +93,7 @@ fn named_word(system: &System, word: Word) -> Result<WordText, Memory>
 pub fn push_word(out: &mut Vec<u8>, system: &System, word: Word) -> Result<(), Memory>
     ensures { OnOk result (out.new.items ≡ out.old.items ++ word_text system.now word) }
 {
-    named_word(system, word)?.print(out)
+    named_word(system, word)?.print(*out.allocator(), out)
 }
 
 /// Appends a line of a name and words, with a space before each word. The only error is out of memory.
