@@ -42,7 +42,8 @@ def profile(path):
 
     def named(text):
         number, _, name = text.partition(" ")
-        return names.setdefault(number, name)
+        # (a generic function's copies are counted as one)
+        return names.setdefault(number, re.sub(r"::<#\w+>", "", name))
 
     for line in path.read_text().splitlines():
         if line.startswith("fn="):
