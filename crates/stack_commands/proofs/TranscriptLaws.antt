@@ -129,53 +129,52 @@ module _ {K : Type 0} (stays : TextStays) (put : K → List ℕ → K) (before n
 
 -- A session's reply: what its script says, and the last line.
 
--- what the script says is the beginning of the reply
-pub reply_begins : (old new : Option (List ℕ)) (run : LevelOf) (watches : List Watching) (lines : List Line) (s : SessionOf)
-    → s ≡ session_on run watches → PrefixAppended old new (followed [] lines s).text → PrefixAppended old new (reply_text (lines_reply run watches lines))
+-- it is the command's reply, where the session has made no step
+pub replies_as : (P : ReplyOf → Type 0) (run : LevelOf) (watches : List Watching) (lines : List Line) (s : SessionOf)
+    → s ≡ session_on run watches → P (followed_reply (followed [] lines s)) → P (lines_reply run watches lines)
 unfolding lines_reply
-reply_begins old new run watches lines s begins prefix =
-    let made : Followed = followed [] lines (session_on run watches) in
-    early_prefix old new made.text (verdict_line (end_verdict made.session.level made.end))
-    (subst (λ (z : SessionOf). PrefixAppended old new (followed [] lines z).text) begins prefix)
+replies_as P run watches lines s begins is = subst (λ (z : SessionOf). P (followed_reply (followed [] lines z))) begins is
 
-module _ {K : Type 0} (put : K → List ℕ → K) (before mid : K) (taken_before taken_mid : Option (List ℕ)) (run : LevelOf)
-    (watches : List Watching) (lines : List Line) (first s : SessionOf) (e : ScriptEnd) (begins : first ≡ session_on run watches)
-    (all : AllPrinted put before mid taken_before taken_mid (followed [] lines first) e s) where
+-- what the script says is the beginning of the reply
+pub reply_begins : (old new : Option (List ℕ)) (lines : List Line) (s : SessionOf) → PrefixAppended old new (followed [] lines s).text
+    → PrefixAppended old new (reply_text (followed_reply (followed [] lines s)))
+reply_begins old new lines s prefix =
+    let made : Followed = followed [] lines s in
+    early_prefix old new made.text (verdict_line (end_verdict made.session.level made.end)) prefix
+
+module _ {K : Type 0} (put : K → List ℕ → K) (before mid : K) (taken_before taken_mid : Option (List ℕ)) (lines : List Line)
+    (first s : SessionOf) (e : ScriptEnd) (all : AllPrinted put before mid taken_before taken_mid (followed [] lines first) e s) where
   abbrev said : List ℕ
   said = (followed [] lines first).text
 
   abbrev last : List ℕ
   last = verdict_line (end_verdict s.level e)
 
-  reply_is : lines_reply run watches lines ≡ record { said = said; verdict = end_verdict s.level e; state = None }
-  unfolding lines_reply
-  reply_is =
-      ap (λ (z : SessionOf). followed_reply (followed [] lines z)) (sym begins)
-      ∙ (let left = all.leaves in let end = all.ends in
-      λ i. record { said = said; verdict = end_verdict (left i).level (end i); state = None })
+  abbrev reply : ReplyOf
+  reply = followed_reply (followed [] lines first)
 
-  text_is : said ++ last ≡ reply_text (lines_reply run watches lines)
+  reply_is : reply ≡ record { said = said; verdict = end_verdict s.level e; state = None }
+  reply_is = let left = all.leaves in let end = all.ends in λ i. record { said = said; verdict = end_verdict (left i).level (end i); state = None }
+
+  text_is : said ++ last ≡ reply_text reply
   text_is = ap reply_text (sym reply_is)
 
-  pub reply_ends : (status : Status) → status ≡ status_of (end_verdict s.level e)
-      → status ≡ status_of (lines_reply run watches lines).verdict
+  pub reply_ends : (status : Status) → status ≡ status_of (end_verdict s.level e) → status ≡ status_of reply.verdict
   reply_ends status is = is ∙ ap (λ (r : ReplyOf). status_of r.verdict) (sym reply_is)
 
-  pub reply_printed : (taken_after : Option (List ℕ)) → taken_after ≡ appended taken_mid last
-      → taken_after ≡ appended taken_before (reply_text (lines_reply run watches lines))
+  pub reply_printed : (taken_after : Option (List ℕ)) → taken_after ≡ appended taken_mid last → taken_after ≡ appended taken_before (reply_text reply)
   reply_printed taken_after is =
       is ∙ ap (λ (o : Option (List ℕ)). appended o last) all.text ∙ appended-appended taken_before said last
       ∙ ap (λ (l : List ℕ). appended taken_before l) text_is
 
   pub reply_took : (after : K) → TranscriptsAreLines → after ≡ took_each put mid (lines_of last)
-      → after ≡ took_each put before (lines_of (reply_text (lines_reply run watches lines)))
+      → after ≡ took_each put before (lines_of (reply_text reply))
   reply_took after transcripts is =
       is ∙ ap (λ (sink : K). took_each put sink (lines_of last)) all.took
       ∙ took_lines_of_both put before said last (transcripts lines [] first (inl refl))
       ∙ ap (λ (l : List ℕ). took_each put before (lines_of l)) text_is
 
-  pub reply_cut : (taken_after : Option (List ℕ)) → PrefixAppended taken_mid taken_after last
-      → PrefixAppended taken_before taken_after (reply_text (lines_reply run watches lines))
+  pub reply_cut : (taken_after : Option (List ℕ)) → PrefixAppended taken_mid taken_after last → PrefixAppended taken_before taken_after (reply_text reply)
   reply_cut taken_after prefix =
       subst (λ (l : List ℕ). PrefixAppended taken_before taken_after l) text_is
       (last_prefix taken_before taken_mid taken_after said last all.text prefix)

@@ -7,7 +7,7 @@ ghost use Rattle.level_debuggers.specs.Levels.{IsRunner};
 ghost use Rattle.level_debuggers.specs.Seen.Sessions.{IsSession, session_of};
 ghost use Rattle.level_debuggers.specs.Tallies.{watching};
 ghost use Rattle.level_debuggers.specs.Transcripts.{followed};
-ghost use Rattle.stack_commands.specs.Commands.Debug.{end_verdict};
+ghost use Rattle.stack_commands.specs.Commands.Debug.{end_verdict, followed_reply};
 ghost use Rattle.stack_commands.specs.Plans.{script_run_reply};
 ghost use Rattle.stack_commands.specs.Replies.{reply_text, status_of, verdict_line};
 ghost use Rattle.stack_commands.specs.Scaffold.Transcript.{AllPrinted};
@@ -87,6 +87,34 @@ fn print_end<K: Sink>(
     Ok(verdict.status())
 }
 
+/// Follows a script in a session, and prints all that it replies.
+fn print_reply<K: Sink>(
+    alloc: Global,
+    session: &mut Session,
+    lines: &[Line],
+    out: &mut K,
+) -> Result<Status, PutFault>
+    requires { IsSession session.old }
+    ensures ends { let reply = followed_reply (followed [] lines.now (session_of
+        (λ w. watching (rule_of (w.vtable, w.value)) (tally_of (w.vtable, w.value))) session.old)) in
+        IfOk result (λ status. status ≡ status_of reply.verdict) }
+    ensures ok { let reply = followed_reply (followed [] lines.now (session_of
+        (λ w. watching (rule_of (w.vtable, w.value)) (tally_of (w.vtable, w.value))) session.old)) in
+        OnOk result (K.taken out.new ≡ appended (K.taken out.old) (reply_text reply)) }
+    ensures lines { let reply = followed_reply (followed [] lines.now (session_of
+        (λ w. watching (rule_of (w.vtable, w.value)) (tally_of (w.vtable, w.value))) session.old)) in
+        OnOk result (out.new ≡ took_each K.took out.old (lines_of (reply_text reply))) }
+    ensures prefix { let reply = followed_reply (followed [] lines.now (session_of
+        (λ w. watching (rule_of (w.vtable, w.value)) (tally_of (w.vtable, w.value))) session.old)) in
+        OnErr result (PrefixAppended (K.taken out.old) (K.taken out.new) (reply_text reply)) }
+    ensures failed { IsErrOf result PutFault.Failed → Rose (K.faults out.old) (K.faults out.new) }
+    ensures faults { K.faults out.old ≤ K.faults out.new }
+{
+    answers_are_lines();
+    let end = print_answers(alloc, session, lines, out)?;
+    Ok(print_end(alloc, session, end, out)?)
+}
+
 /// Follows a script in a session with these watches, and prints all that it replies: what is said to a line before the next
 /// one is carried out, so that no more of it is held at a time. It ends with the status of the reply.
 ///
@@ -111,12 +139,10 @@ pub fn tell_session<K: Sink>(
     ensures failed { IsErrOf result PutFault.Failed → Rose (K.faults out.old) (K.faults out.new) }
     ensures faults { K.faults out.old ≤ K.faults out.new }
 {
-    answers_are_lines();
     let ScriptRun { runner, lines } = run;
     let mut session = match Session::new(alloc, runner, watches) {
         Ok(session) => session,
         Err(Memory) => return Err(PutFault::Memory),
     };
-    let end = print_answers(alloc, &mut session, &lines, out)?;
-    Ok(print_end(alloc, &session, end, out)?)
+    print_reply(alloc, &mut session, &lines, out)
 }

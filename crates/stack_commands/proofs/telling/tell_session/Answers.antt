@@ -1,46 +1,32 @@
-use Rattle.std.proofs.Common.{arith, refl}
-use Rattle.std.proofs.lemmas.Result.{err_from_is_err_and}
-use Rattle.command_line.proofs.GatherLaws.{rose_from}
+use Rattle.std.proofs.Common.{◌≡◌, refl}
+use Rattle.std.specs.Prelude.{IfOk, OnErr, OnOk}
+use Rattle.stack_shelf.specs.Shelf.{appended, PrefixAppended}
+use Rattle.command_line.specs.Devices.{lines_of, took_each}
 use Rattle.command_line.proofs.PrintLaws.{nothing_printed}
-use Rattle.stack_commands.proofs.TranscriptLaws.{reply_begins, reply_cut, reply_ends, reply_printed, reply_took}
+use Rattle.stack_commands.specs.Replies.{reply_text, status_of}
+use Rattle.stack_commands.proofs.TranscriptLaws.{replies_as}
 use Rattle.stack_commands.proofs.telling.tell_session.Goals as goal
 
 pub returns-in-Err-clause-prefix : goal.returns-in-Err-clause-prefix
 returns-in-Err-clause-prefix g c = nothing_printed _ _ _ refl
 
-pub returns-in_err-end-clause-prefix : goal.returns-in_err-end-clause-prefix
-returns-in_err-end-clause-prefix g c =
-    let p = err_from_is_err_and c.from_residual.result c.from_residual.ensures.1 in
-    rw p.1
-    (reply_begins _ _ _ _ c.args.run.lines.items _ c.in-Ok.ensures.session (rw c.deref.ensures.value at c.in_err-end.ensures.prefix))
-
-pub returns-in_err-print_end-clause-prefix : goal.returns-in_err-print_end-clause-prefix
-returns-in_err-print_end-clause-prefix g c =
-    let p = err_from_is_err_and c.from_residual-in_err-print_end.result c.from_residual-in_err-print_end.ensures.1 in
-    let all = rw c.deref.ensures.value at c.in_ok-end.ensures.all in
-    rw p.1
-    (reply_cut g.K.Sink.took _ _ _ _ _ _ c.args.run.lines.items _ _ _ c.in-Ok.ensures.session all _ c.in_err-print_end.ensures.prefix)
-
-pub returns-in_err-print_end-clause-failed : goal.returns-in_err-print_end-clause-failed
-returns-in_err-print_end-clause-failed g c =
-    let p = err_from_is_err_and c.from_residual-in_err-print_end.result c.from_residual-in_err-print_end.ensures.1 in
-    rw (p.1, p.2) (λ is. rose_from _ _ _ c.print_answers.ensures.faults (c.in_err-print_end.ensures.failed is))
-
 pub returns-clause-ends : goal.returns-clause-ends
 returns-clause-ends g c =
-    let all = rw c.deref.ensures.value at c.in_ok-end.ensures.all in
-    reply_ends g.K.Sink.took _ _ _ _ _ _ c.args.run.lines.items _ _ _ c.in-Ok.ensures.session all _ c.in_ok-print_end.ensures.ends
+    replies_as (λ reply. IfOk c.print_reply.result (λ status. status ≡ status_of reply.verdict))
+    _ _ c.args.run.lines.items _ c.in-Ok.ensures.session (rw c.deref.ensures.value at c.print_reply.ensures.ends)
 
 pub returns-clause-ok : goal.returns-clause-ok
 returns-clause-ok g c =
-    let all = rw c.deref.ensures.value at c.in_ok-end.ensures.all in
-    reply_printed g.K.Sink.took _ _ _ _ _ _ c.args.run.lines.items _ _ _ c.in-Ok.ensures.session all _ c.in_ok-print_end.ensures.ok
+    replies_as (λ reply. OnOk c.print_reply.result (g.K.Sink.taken c.print_reply.new.out ≡ appended (g.K.Sink.taken c.args.out.now) (reply_text reply)))
+    _ _ c.args.run.lines.items _ c.in-Ok.ensures.session (rw c.deref.ensures.value at c.print_reply.ensures.ok)
 
 pub returns-clause-lines : goal.returns-clause-lines
 returns-clause-lines g c =
-    let all = rw c.deref.ensures.value at c.in_ok-end.ensures.all in
-    reply_took g.K.Sink.took _ _ _ _ _ _ c.args.run.lines.items _ _ _ c.in-Ok.ensures.session all _
-    c.answers_are_lines.ensures.transcripts c.in_ok-print_end.ensures.lines
+    replies_as (λ reply. OnOk c.print_reply.result (c.print_reply.new.out ≡ took_each g.K.Sink.took c.args.out.now (lines_of (reply_text reply))))
+    _ _ c.args.run.lines.items _ c.in-Ok.ensures.session (rw c.deref.ensures.value at c.print_reply.ensures.lines)
 
-pub returns-clause-faults : goal.returns-clause-faults
-returns-clause-faults g c = omega (arith, c.print_answers.ensures.faults, c.print_end.ensures.faults)
+pub returns-clause-prefix : goal.returns-clause-prefix
+returns-clause-prefix g c =
+    replies_as (λ reply. OnErr c.print_reply.result
+    (PrefixAppended (g.K.Sink.taken c.args.out.now) (g.K.Sink.taken c.print_reply.new.out) (reply_text reply)))
+    _ _ c.args.run.lines.items _ c.in-Ok.ensures.session (rw c.deref.ensures.value at c.print_reply.ensures.prefix)
