@@ -19,7 +19,6 @@ printf -- '-- %0200d\n' 0 >>crates/fm_words/specs/Word.antt
 echo 'pub served_by_nothing : 0 ≡ 0' >crates/fm_words/proofs/NothingLaws.antt
 echo '[a page](nowhere.md), [a heading](cli.md#nowhere), and `docs/nowhere.md`' >>docs/GLOSSARY.md
 echo '| 9 | of what | said | `fm_words/specs/Word`: `nowhere` | | |' >>docs/LIMITS.md
-sed -i '/^- \*\*196\. /d' docs/DECISIONS.md
 yes word | head -n 1301 >>README.md
 sed -i 's/^does lists an image$/does prints an image/' guide/commands.txt
 sed -i 's/^const BUDGET: u64 = 1000;$/const BUDGET: u64 = 2000;/' crates/example_client/src/main.rt
@@ -29,7 +28,7 @@ for wanted in 'crates/fm_words/specs/Word.antt:[0-9]*: 203 characters' 'NothingL
     'NothingLaws.antt: it has no sentence at its head' 'NothingLaws.antt:1: nothing uses served_by_nothing' \
     'docs/GLOSSARY.md:[0-9]*: the link nowhere.md leads to nothing' \
     'docs/GLOSSARY.md:[0-9]*: docs/cli.md has no heading for #nowhere' 'docs/GLOSSARY.md:[0-9]*: there is no docs/nowhere.md' \
-    'docs/LIMITS.md:[0-9]*: .*Word.antt has no nowhere' 'docs/DECISIONS.md: 196 is there 0 times' 'README.md: it has 2,[0-9]* words' "docs/cli.md isn't as guide" \
+    'docs/LIMITS.md:[0-9]*: .*Word.antt has no nowhere' 'README.md: it has 2,[0-9]* words' "docs/cli.md isn't as guide" \
     "docs/use-the-crates.md:[0-9]*: the listing isn't in crates/example_client/src/main.rt"; do
     grep -q "$wanted" <<<"$told" || {
         echo "form: a mistake isn't told: $wanted"

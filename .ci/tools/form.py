@@ -31,7 +31,7 @@ GROUPS = {
 }
 SCAFFOLD = re.compile(r"^ *(?:pub )?(?:ghost )?use Rattle\.(\w+)\.specs\.Scaffold\.", re.M)
 ENDINGS = ("ings", "ing", "ed", "es", "e", "s", "er")
-# Lemmas that stand for themselves: DECISIONS 16.
+# Lemmas that stand for themselves: `outcome_is` joins a run's relation to its function.
 KEPT_LEMMAS = {"outcome_is"}
 # Pages of rules for whoever proves a program: a rule that is public may be one that no example needs.
 PAGES_OF_RULES = re.compile(r"crates/gypsy_logic/proofs/\w*Rules\.antt$")
@@ -41,11 +41,6 @@ README_WORDS = 1300
 LIMITS = Path("docs/LIMITS.md")
 LIMIT_AT = re.compile(r"`(\w+/(?:specs|src)/[\w/.]+)`: ((?:`\w+`(?:, )?)+)")
 LIMIT_AGAIN = re.compile(r"`(\w+)` \(((?:`\w+`(?:, )?)+)\)")
-DECISIONS = Path("docs/DECISIONS.md")
-DECISION = re.compile(r"- \*\*(\d+)\. ")
-GONE_ROW = re.compile(r"\| ([\d, ]+) \| (\d+) \|$")
-DECISION_CITED = re.compile(r"DECISIONS (\d+)")
-DECISION_NEAR = re.compile(r"\((\d+)\)")
 # What is promised, and what has to be read to know what the theorem says.
 PROMISES = Path("docs/PROMISES.md")
 READING_ROW = re.compile(r"\|[^|]*\|([^|]*/specs/[^|]*)\| ([\d,]+) \|$")
@@ -251,34 +246,6 @@ def check_limits():
                     say(f"{LIMITS}:{place}", f"the crate {crate} has no {name}; mend the row")
 
 
-def check_decisions():
-    """Each number up to the last is a decision or gone, decisions are in order under a heading, and nothing cites one that is gone."""
-    text = DECISIONS.read_text()
-    numbers, gone, last = [], {}, 0
-    for place, line in enumerate(text.splitlines(), 1):
-        found, row = DECISION.match(line), GONE_ROW.match(line)
-        if line.startswith("#"):
-            last = 0
-        if found:
-            number = int(found.group(1))
-            if number <= last:
-                say(f"{DECISIONS}:{place}", f"{number} comes after {last}; put the decisions of a heading in order")
-            numbers.append(number)
-            last = number
-        if row:
-            gone.update((int(it), int(row.group(2))) for it in row.group(1).split(", "))
-    for number in range(1, max([*numbers, *gone]) + 1):
-        times = numbers.count(number) + (number in gone)
-        if times != 1:
-            say(DECISIONS, f"{number} is there {times} times; let it be a decision, or in the table of those that are gone")
-    cited = [(DECISIONS, it) for it in [*gone.values(), *map(int, DECISION_NEAR.findall(text))]]
-    for path in tracked("*.md", "docs/*.md", ".ci/**", "crates/*.rt", "crates/*.antt"):
-        cited += [(path, int(it)) for it in DECISION_CITED.findall(path.read_text())]
-    for path, number in cited:
-        if number not in numbers:
-            say(path, f"it cites decision {number}, which isn't there; cite {gone.get(number, 'another one')}")
-
-
 def check_crates():
     """Each crate stands among the promises, and in the table of the crates as crates.txt has it."""
     for line in Path("crates.txt").read_text().splitlines():
@@ -366,7 +333,6 @@ def main():
     check_figures()
     check_readme()
     check_limits()
-    check_decisions()
     check_crates()
     check_lemmas()
     check_imports()
