@@ -18,7 +18,7 @@ cd "$folder" || exit 1
 printf -- '-- %0200d\n' 0 >>crates/fm_words/specs/Word.antt
 echo 'pub served_by_nothing : 0 ≡ 0' >crates/fm_words/proofs/NothingLaws.antt
 echo '[a page](nowhere.md), [a heading](cli.md#nowhere), and `docs/nowhere.md`' >>docs/GLOSSARY.md
-echo '| 9 | of what | said | `fm_words/specs/Word`: `nowhere` | | |' >>docs/LIMITS.md
+echo '| 9 | it bounds | said | `fm_words/specs/Word`: `nowhere` | | |' >>docs/LIMITS.md
 yes word | head -n 1301 >>README.md
 sed -i 's/^does lists an image$/does prints an image/' guide/commands.txt
 sed -i 's/^const BUDGET: u64 = 1000;$/const BUDGET: u64 = 2000;/' crates/example_client/src/main.rt
