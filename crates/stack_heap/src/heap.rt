@@ -1,6 +1,6 @@
 //! What takes memory.
 
-ghost use Rattle.std.specs.Prelude.{◌≡◌, ℕ, ◌+◌, ◌∷◌, [], ◌++◌, length, not, OnOk, OnErr, is_ok, if◌then◌else◌};
+ghost use Rattle.std.specs.Prelude.{◌≡◌, ℕ, ◌+◌, ◌≤◌, ◌∷◌, [], ◌++◌, length, replicate, not, vec_capacity, IfOk, OnOk, OnErr, is_ok, if◌then◌else◌};
 ghost use Rattle.indexmap.specs.IndexSet.{contains, insert_key};
 ghost use Rattle.stack_heap.specs.Heaps.{IfOkUnless, RefusesWithin, room_after};
 
@@ -22,6 +22,12 @@ pub trait Heap: Copy {
     /// An empty vector with room for so many items.
     fn with_room<T>(self, count: usize) -> Result<Vec<T>, AllocError>
         ensures items { IfOkUnless (may_refuse self) result (λ made. made.items ≡ []) }
+        ensures capacity { IfOk result (λ made. count ≤ vec_capacity made) }
+        ensures room { OnErr result (RefusesWithin (may_refuse_room self) count) };
+
+    /// A vector of so many zeros.
+    fn zeros(self, count: usize) -> Result<Vec<u32>, AllocError>
+        ensures items { IfOkUnless (may_refuse self) result (λ made. made.items ≡ replicate count 0) }
         ensures room { OnErr result (RefusesWithin (may_refuse_room self) count) };
 
     /// A vector of these items.
@@ -73,6 +79,10 @@ impl Heap for Global {
 
     fn with_room<T>(self, count: usize) -> Result<Vec<T>, AllocError> {
         Vec::with_capacity(self, count)
+    }
+
+    fn zeros(self, count: usize) -> Result<Vec<u32>, AllocError> {
+        vec![in self; 0u32; count]
     }
 
     fn copied<T: Copy>(self, items: &[T]) -> Result<Vec<T>, AllocError> {

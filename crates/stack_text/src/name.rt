@@ -75,6 +75,20 @@ impl Name {
         }
     }
 
+    /// The same name again.
+    pub fn copied<H: Heap>(&self, heap: H) -> Result<Name, Memory>
+        ensures { IfOkUnless (H.may_refuse heap) result (λ name. name ≡ self.now) }
+    {
+        let kept = match &self.kept {
+            NameBytes::InPlace { length, bytes } => NameBytes::InPlace {
+                length: *length,
+                bytes: *bytes,
+            },
+            NameBytes::InVector(bytes) => NameBytes::InVector(heap.copied(bytes.as_slice())?),
+        };
+        Ok(Name { kept })
+    }
+
     /// The name, with 0 for its place.
     pub fn unplaced(&self) -> Result<Named, Memory>
         ensures { IfOk result (λ named. named ≡ unplaced self.now) }

@@ -1,7 +1,9 @@
 //! A vector that contracts see as a list.
 
-ghost use Rattle.std.specs.Prelude.{◌≡◌, ◌==◌, ◌∷◌, [], ◌++◌, length, OnOk, OnErr};
+ghost use Rattle.std.specs.Prelude.{◌≡◌, ◌==◌, ◌∷◌, [], ◌++◌, length, OnErr};
+ghost use Rattle.stack_heap.specs.Heaps.{OnOkUnless};
 
+use stack_heap::Heap;
 use std::alloc::{AllocFailed, Global};
 use std::marker::Model;
 
@@ -72,10 +74,10 @@ impl<T> Seq<T> {
     }
 
     /// Appends an element. Where memory runs out the list is unchanged, and the error has the element.
-    pub fn push(&mut self, item: T) -> Result<(), AllocFailed<T>>
-        ensures ok { OnOk result (self.new ≡ self.old ++ item ∷ []) }
+    pub fn push<H: Heap>(&mut self, heap: H, item: T) -> Result<(), AllocFailed<T>>
+        ensures ok { OnOkUnless (H.may_refuse heap) result (self.new ≡ self.old ++ item ∷ []) }
         ensures err { OnErr result (self.new ≡ self.old) }
     {
-        self.items.push(item)
+        heap.push(&mut self.items, item)
     }
 }

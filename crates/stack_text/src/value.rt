@@ -2,9 +2,12 @@
 
 ghost use Rattle.std.specs.Prelude.{◌≡◌, IsTrue, IfSome, ◌↔◌, IsSome};
 ghost use Rattle.std.specs.List.{list_all};
+ghost use Rattle.stack_heap.specs.Heaps.{IfOkUnless};
 ghost use Rattle.stack_text.specs.Values.{is_item, is_value, ValueOf};
 
+use crate::Memory;
 use crate::shape::{Kind, Shape};
+use stack_heap::Heap;
 use std::alloc::AllocError;
 use std::marker::Model;
 
@@ -55,6 +58,19 @@ impl Value {
         } else {
             None
         }
+    }
+}
+
+impl Value {
+    /// The same value again.
+    pub fn copied<H: Heap>(&self, heap: H) -> Result<Value, Memory>
+        ensures { IfOkUnless (H.may_refuse heap) result (λ value. value ≡ self.now) }
+    {
+        let items = heap.copied(self.items.as_slice())?;
+        Ok(Value {
+            shape: self.shape,
+            items,
+        })
     }
 }
 
