@@ -3,8 +3,8 @@
 
     python3 .ci/tools/to_heap.py CRATE
 
-A function that takes `alloc: Global`, and one that appends to `out` or `bytes: &mut Vec<u8>` and can run out of memory, takes `heap: H` with
-`H: Heap`; what it calls is called with the heap, and takes memory by the heap's methods; the words of its clauses say when memory may
+A function that takes `alloc: Global`, and one that appends to `out`, `text` and their like, a `&mut Vec<u8>`, and can run out of memory, takes
+`heap: H` with `H: Heap`; what it calls is called with the heap, and takes memory by the heap's methods; the words of its clauses say when memory may
 run out (`Reads` becomes `ReadsUnless (H.may_refuse heap)`). Answers and invariants of such a function take `g` first. What is left
 is done by hand: functions that have neither argument, clauses with words of the crate's own, and answers by lemmas that are told why
 memory ran out. A second run changes nothing.
@@ -17,7 +17,8 @@ TOP = Path(__file__).resolve().parents[2]
 FACT = "(H.may_refuse heap)"
 WORDS = {"Reads": "ReadsUnless", "Returns": "ReturnsUnless", "Gives": "GivesUnless", "Fails": "FailsUnless", "OnOk": "OnOkUnless"}
 CAN_FAIL = r"(?:Memory|AllocError|\w*Fault)"
-WRITTEN = "(?:out|bytes)"
+# What a function appends to that takes the heap.
+WRITTEN = "(?:out|bytes|text|line|lines)"
 
 
 def converted(text):
@@ -43,6 +44,7 @@ def source(text, names):
     text = re.sub(r"\bVec::with_capacity\(alloc, ", "heap.with_room(", text)
     text = re.sub(r"\bVec::from_slice\(alloc, ", "heap.copied(", text)
     text = re.sub(r"\bBox::new\(alloc, ", "heap.boxed(", text)
+    text = re.sub(r"\bSeq::new\(alloc\)", "Seq::new(heap.handle())", text)
     text = re.sub(rf"\b({WRITTEN})\.(push|extend_from_slice)\(", r"heap.\2(\1, ", text)
     text = re.sub(r"\b(?!heap\b|self\b)([a-z_]+)\.(push|extend_from_slice)\((?=.*\)\?;)", r"heap.\2(&mut \1, ", text)
     text = re.sub(r"([(,]\s*)alloc\b", r"\1heap", text)
@@ -53,13 +55,24 @@ def source(text, names):
     for old, new in WORDS.items():
         text = re.sub(rf"(?m)^(?! *//)(.*[{{ ]|) *{old} (?=[^,}}])", lambda m: m.group(0).removesuffix(f"{old} ") + f"{new} {FACT} ", text)
         text = re.sub(rf"(ghost use .*[{{ ]){old}([,}}])", rf"\1{new}\2", text)
-    text = re.sub(r"(ensures exact \{ )IfOk result", rf"\1IfOkUnless {FACT} result", text)
+    text = re.sub(r"\bfn .*?(?=\n *\{\n)", lambda m: with_fact(m.group(0)), text, flags=re.S)
     if "H: Heap" in text and "use stack_heap::Heap;" not in text:
         if "use std::alloc::Global;\n" in text:
             text = text.replace("use std::alloc::Global;\n", "use stack_heap::Heap;\n")
         else:
             text = re.sub(r"(\nuse stack_text)", r"\nuse stack_heap::Heap;\1", text, count=1)
     return shorter(imports(text))
+
+
+def with_fact(head):
+    """The head of a function that takes the heap: its first clause that speaks of success says when memory may run out."""
+    if "H: Heap" not in head or "Unless" in head:
+        return head
+    for old in ("memory.Returns", "IfOk", "OnOk"):
+        clause = re.compile(rf"(ensures(?: \w+)? \{{\s*){old}\b")
+        if clause.search(head):
+            return clause.sub(rf"\1{old}Unless {FACT}", head, count=1)
+    return head
 
 
 def lent(name, text):
@@ -78,8 +91,11 @@ def shorter(text):
 
 
 def imports(text):
-    """The words of the heap's crate are imported from it."""
+    """The words of the heap's crate are imported from it, and words of the library that no clause has are not."""
     own = [word for word in ("IfOkUnless", "OnOkUnless") if re.search(rf"\b{word} \(", text)]
+    for old in ("IfOk", "OnOk"):
+        if f"{old}Unless" in own and len(re.findall(rf"\b{old}\b", text)) == 1:
+            text = re.sub(rf"(specs\.Prelude\.\{{.*?)(?:, {old}(?=[,}}])|{old}, )", r"\1", text)
     text = re.sub(r"(specs\.Prelude\.\{.*?)(?:, OnOkUnless(?=[,}])|OnOkUnless, )", r"\1", text)
     if "Rattle.stack_heap.specs.Heaps" in text or not own:
         return text

@@ -16,7 +16,7 @@ use Rattle.fm_loader.specs.declared.fault.Rule.{Rule}
 use Rattle.fm_loader.specs.declared.fault.Rule.TheVariants as rules
 use Rattle.fm_loader.specs.declared.fault.ValuesFault.{ValuesFault}
 use Rattle.fm_loader.specs.declared.fault.ValuesFault.TheVariants.{Refused, Memory}
-use Rattle.fm_loader.specs.Rules.{rule_number, Fault, Fails}
+use Rattle.fm_loader.specs.Rules.{rule_number, Fault, FailsUnless}
 use Rattle.fm_loader.specs.Values.{mismatch, rule_broken, value_or_fault, found_in, is_named, slot_named, rule_of, fault_at, entry_fault, numbers_of, numbers_for, value_with, value_for, all_found, HaveOwnNames}
 use Rattle.stack_text.specs.Results.{unless_fault}
 use Rattle.stack_text.proofs.SharedLaws.{get_below, bytes_apart}
@@ -150,10 +150,11 @@ fit_rule : (m : Option Rule) (place : ℕ) (value v : ValueOf) → unless_fault 
 fit_rule None place value v h = (refl, cc)
 fit_rule (Some rule) place value v h = cc
 
-pub unfit : (e : ValuesFault) (slots : List Slot) (entries : List Entry) (i : ℕ) (entry : Entry) (slot : Slot) → i < length entries → entry ≡ get_or entries i entry → Some slot ≡ slot_named entry.name slots → false ≡ is_named entry.name (take i entries)
-    → Fails e (value_or_fault slot.shape entry) → entry_fault slots [] entries ≡ entry_fault slots (take i entries) (drop i entries) → Fails e (found_in slots entries)
-unfit Memory slots entries i entry slot lt is named new fails so_far = tt
-unfit (Refused rule place) slots entries i entry slot lt is named new fails so_far =
+pub unfit : (memory : Type 0) (e : ValuesFault) (slots : List Slot) (entries : List Entry) (i : ℕ) (entry : Entry) (slot : Slot) → i < length entries → entry ≡ get_or entries i entry → Some slot ≡ slot_named entry.name slots → false ≡ is_named entry.name (take i entries)
+    → FailsUnless memory e (value_or_fault slot.shape entry) → entry_fault slots [] entries ≡ entry_fault slots (take i entries) (drop i entries)
+    → FailsUnless memory e (found_in slots entries)
+unfit memory Memory slots entries i entry slot lt is named new fails so_far = fails
+unfit memory (Refused rule place) slots entries i entry slot lt is named new fails so_far =
     let p = unfit_rule (mismatch slot.shape entry.value) entry.place (value_with slot.shape (numbers_of entry.value)) (rule, place) fails in
     refused slots entries i entry p.0 lt is (rule_at slots (take i entries) entry slot false named new ∙ p.1) so_far ∙ ap (λ (fault : Fault). Err fault) p.2
 

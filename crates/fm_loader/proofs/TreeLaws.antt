@@ -12,7 +12,7 @@ use Rattle.fm_loader.specs.declared.fault.ValuesFault.{ValuesFault}
 use Rattle.fm_loader.specs.declared.fault.ValuesFault.TheVariants.{Refused, Memory}
 use Rattle.fm_loader.specs.Parsed.{scalar_at, scalars_of, pair_of}
 use Rattle.fm_loader.specs.Values.{entry_at, entries_of}
-use Rattle.fm_loader.specs.Rules.{Fault, Fails}
+use Rattle.fm_loader.specs.Rules.{Fault, FailsUnless}
 
 -- ---- the single values of a list
 
@@ -74,11 +74,12 @@ entries_next trees i tree front x all lt is read so_far =
     so_far ∙ ap (λ (ts : List TextTree). with_front front (entries_of (nodes_of ts))) (drop-item trees i tree lt is)
     ∙ entry_before front x (node_of tree) (drop (i + 1) trees) read (entries_of (nodes_of (drop (i + 1) trees))) refl
 
-pub entries_stop : (e : ValuesFault) (trees : List TextTree) (i : ℕ) (tree : TextTree) (front : List Entry) (all : Result (List Entry) Fault) → i < length trees → tree ≡ get_or trees i tree → Fails e (entry_at (node_of tree))
-    → all ≡ with_front front (entries_of (nodes_of (drop i trees))) → Fails e all
+pub entries_stop : (memory : Type 0) (e : ValuesFault) (trees : List TextTree) (i : ℕ) (tree : TextTree) (front : List Entry) (all : Result (List Entry) Fault)
+    → i < length trees → tree ≡ get_or trees i tree → FailsUnless memory e (entry_at (node_of tree))
+    → all ≡ with_front front (entries_of (nodes_of (drop i trees))) → FailsUnless memory e all
 unfolding entries_of
-entries_stop Memory trees i tree front all lt is fails so_far = tt
-entries_stop (Refused rule place) trees i tree front all lt is fails so_far =
+entries_stop memory Memory trees i tree front all lt is fails so_far = fails
+entries_stop memory (Refused rule place) trees i tree front all lt is fails so_far =
     so_far ∙ ap (λ (ts : List TextTree). with_front front (entries_of (nodes_of ts))) (drop-item trees i tree lt is) ∙ rw fails refl
 
 pub entries_end : (trees : List TextTree) (i : ℕ) (front : List Entry) (all : Result (List Entry) Fault) → length trees ≤ i → all ≡ with_front front (entries_of (nodes_of (drop i trees))) → all ≡ Ok front

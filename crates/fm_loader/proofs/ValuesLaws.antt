@@ -31,7 +31,7 @@ use Rattle.stack_text.proofs.SharedLaws.{get_below, bytes_apart}
 use Rattle.fm_words.specs.Word.{is_int}
 use Rattle.fm_loader.specs.Parsed.{in_32_bits, character_of, scalar_of, scalar_at, scalars_of, parsed_value, name_at, pair_of, entry_of}
 use Rattle.fm_loader.specs.Values.{entry_at, entries_of, mismatch, rule_broken, slot_named, is_named, rule_of, fault_at, entry_fault, number_of, numbers_of, numbers_for, value_with, value_for, found_in, all_found, values_at, values_on, values_in, HaveOwnNames}
-use Rattle.fm_loader.specs.Rules.{rule_number, Fault, GivesValues}
+use Rattle.fm_loader.specs.Rules.{rule_number, Fault, GivesValuesUnless}
 use Rattle.fm_loader.specs.Loaded.{Fits}
 use Rattle.fm_loader.proofs.FoundLaws.{at_slot}
 use Rattle.fm_loader.proofs.FitLaws.{fits_is_value}
@@ -101,9 +101,10 @@ pub values_fit_at : (slots : List Slot) (tree : Node) (values : List ValueOf) �
 values_fit_at slots tree values h = let g = (given_on slots (Ok tree) values h).1 in shapes_are g.entries slots values g.values_are
 
 -- the same of what a call gave
-pub fits_if_ok : (slots : List Slot) (tree : Node) (r : Result (Vec ValueOf Global) ValuesFault) → GivesValues (λ values. values.items) r (values_at slots tree) → IfOk r (λ values. Fits slots values.items)
-fits_if_ok slots tree (Ok values) h = values_fit_at slots tree values.items h
-fits_if_ok slots tree (Err fault) h = tt
+pub fits_if_ok : (memory : Type 0) (slots : List Slot) (tree : Node) (r : Result (Vec ValueOf Global) ValuesFault)
+    → GivesValuesUnless memory (λ values. values.items) r (values_at slots tree) → IfOk r (λ values. Fits slots values.items)
+fits_if_ok memory slots tree (Ok values) h = values_fit_at slots tree values.items h
+fits_if_ok memory slots tree (Err fault) h = tt
 
 -- ---- each value is one of its shape
 

@@ -24,10 +24,17 @@ abbrev pub fault_of : ValuesFault → Option Fault
 fault_of (Refused rule place) = Some (rule, place)
 fault_of Memory = None
 
--- the fault is the definition's; out of memory alone is free
-abbrev pub Fails : {Y : Type 0} → ValuesFault → Result Y Fault → Type 0
-Fails fault value = common.Fails (fault_of fault) value
+-- the fault is the definition's; out of memory comes only where memory was refused
+abbrev pub FailsUnless : {Y : Type 0} → Type 0 → ValuesFault → Result Y Fault → Type 0
+FailsUnless refused fault value = common.FailsUnless refused (fault_of fault) value
 
--- the call returned exactly what the definition gives, seen through the view
+-- the call returned exactly what the definition gives, seen through the view, unless memory was refused
+abbrev pub GivesValuesUnless : {X Y : Type 0} → Type 0 → (X → Y) → Result X ValuesFault → Result Y Fault → Type 0
+GivesValuesUnless refused view result value = common.GivesUnless refused fault_of view result value
+
+-- the same of callers that pass the library's heap, of which nothing says when it refuses
+abbrev pub Fails : {Y : Type 0} → ValuesFault → Result Y Fault → Type 0
+Fails fault value = FailsUnless (Unit {0}) fault value
+
 abbrev pub GivesValues : {X Y : Type 0} → (X → Y) → Result X ValuesFault → Result Y Fault → Type 0
-GivesValues view result value = common.Gives fault_of view result value
+GivesValues view result value = GivesValuesUnless (Unit {0}) view result value

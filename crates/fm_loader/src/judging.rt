@@ -1,9 +1,10 @@
 //! Judging the entries of a text.
 
-ghost use Rattle.std.specs.Prelude.{◌≡◌, map, length, replicate, None, Some, IfOk, IfSome, option_map, slice_get};
+ghost use Rattle.std.specs.Prelude.{◌≡◌, map, length, replicate, None, Some, IfSome, option_map, slice_get};
 ghost use Rattle.std.specs.List.{list_all};
+ghost use Rattle.stack_heap.specs.Heaps.{IfOkUnless};
 ghost use Rattle.stack_text.specs.Gives as memory;
-ghost use Rattle.fm_loader.specs.Rules.{GivesValues};
+ghost use Rattle.fm_loader.specs.Rules.{GivesValuesUnless};
 ghost use Rattle.fm_loader.specs.Values.{is_within, single_mismatch, array_mismatch, mismatch, value_or_fault, number_of, numbers_of, slot_named, found_in, all_found, HaveOwnNames};
 ghost use Rattle.stack_text.specs.Values.{same_kind};
 
@@ -11,8 +12,8 @@ use crate::fault::{Rule, ValuesFault, refused};
 use crate::parsed::{Entry, ParsedValue, Scalar};
 use fm_image::Slot;
 use indexmap::IndexSet;
+use stack_heap::Heap;
 use stack_text::{Kind, Memory, Shape, Value};
-use std::alloc::Global;
 
 /// Whether all are of the kind.
 fn are_of_kind(kind: Kind, scalars: &[Scalar]) -> bool
@@ -85,56 +86,57 @@ fn number_of(scalar: Scalar) -> i32
 }
 
 /// The numbers of an array's values.
-fn array_numbers(alloc: Global, scalars: &[Scalar]) -> Result<Vec<i32>, Memory>
-    ensures { memory.Returns (λ numbers. numbers.items) result (map number_of scalars.now) }
+fn array_numbers<H: Heap>(heap: H, scalars: &[Scalar]) -> Result<Vec<i32>, Memory>
+    ensures { memory.ReturnsUnless (H.may_refuse heap) (λ numbers. numbers.items) result (map number_of scalars.now) }
 {
-    let mut numbers = Vec::new(alloc);
+    let mut numbers = Vec::new(heap.handle());
     for scalar in scalars {
-        numbers.push(number_of(*scalar))?;
+        heap.push(&mut numbers, number_of(*scalar))?;
     }
     Ok(numbers)
 }
 
 /// The numbers of a value.
-fn numbers(alloc: Global, value: &ParsedValue) -> Result<Vec<i32>, Memory>
-    ensures { memory.Returns (λ numbers. numbers.items) result (numbers_of value.now) }
+fn numbers<H: Heap>(heap: H, value: &ParsedValue) -> Result<Vec<i32>, Memory>
+    ensures { memory.ReturnsUnless (H.may_refuse heap) (λ numbers. numbers.items) result (numbers_of value.now) }
 {
     match value {
-        ParsedValue::Single(scalar) => array_numbers(alloc, &[*scalar]),
-        ParsedValue::Several(scalars) => array_numbers(alloc, scalars.as_slice()),
+        ParsedValue::Single(scalar) => array_numbers(heap, &[*scalar]),
+        ParsedValue::Several(scalars) => array_numbers(heap, scalars.as_slice()),
     }
 }
 
 /// The value of an entry for a slot of the shape, or the fault of the entry.
-fn value(alloc: Global, shape: Shape, entry: &Entry) -> Result<Value, ValuesFault>
-    ensures { GivesValues (λ value. value) result (value_or_fault shape entry.now) }
+fn value<H: Heap>(heap: H, shape: Shape, entry: &Entry) -> Result<Value, ValuesFault>
+    ensures { GivesValuesUnless (H.may_refuse heap) (λ value. value) result (value_or_fault shape entry.now) }
 {
     if let Some(rule) = mismatch(shape, &entry.value) {
         return Err(refused(rule, entry.place));
     }
-    let items = numbers(alloc, &entry.value)?;
+    let items = numbers(heap, &entry.value)?;
     Ok(Value { shape, items })
 }
 
 /// The names of the slots, in their order.
-fn names<'a>(alloc: Global, slots: &'a [Slot]) -> Result<IndexSet<&'a [u8]>, Memory>
+fn names<'a, H: Heap>(heap: H, slots: &'a [Slot]) -> Result<IndexSet<&'a [u8]>, Memory>
     requires { HaveOwnNames slots.now }
-    ensures { IfOk result (λ names. map (λ key. key.now) names.keys ≡ map (λ slot. slot.name) slots.now) }
+    ensures { IfOkUnless (H.may_refuse heap) result
+        (λ names. map (λ key. key.now) names.keys ≡ map (λ slot. slot.name) slots.now) }
 {
-    let mut names: IndexSet<&[u8]> = IndexSet::new(alloc);
+    let mut names: IndexSet<&[u8]> = IndexSet::new(heap.handle());
     for slot in slots {
-        let (_index, _added) = names.insert_full(slot.name.bytes())?;
+        let _is_new = heap.insert(&mut names, slot.name.bytes())?;
     }
     Ok(names)
 }
 
 /// No value for each slot.
-fn nothing_found(alloc: Global, slots: &[Slot]) -> Result<Vec<Option<Value>>, Memory>
-    ensures { memory.Returns (λ found. found.items) result (replicate (length slots.now) None) }
+fn nothing_found<H: Heap>(heap: H, slots: &[Slot]) -> Result<Vec<Option<Value>>, Memory>
+    ensures { memory.ReturnsUnless (H.may_refuse heap) (λ found. found.items) result (replicate (length slots.now) None) }
 {
-    let mut found = Vec::new(alloc);
+    let mut found = Vec::new(heap.handle());
     for _ in 0..slots.len() {
-        found.push(None)?;
+        heap.push(&mut found, None)?;
     }
     Ok(found)
 }
@@ -155,16 +157,16 @@ fn slot_named<'a>(
 }
 
 /// What each slot gets of the entries: none without one.
-pub(crate) fn found(
-    alloc: Global,
+pub(crate) fn found<H: Heap>(
+    heap: H,
     slots: &[Slot],
     entries: &[Entry],
 ) -> Result<Vec<Option<Value>>, ValuesFault>
     requires { HaveOwnNames slots.now }
-    ensures { GivesValues (λ found. found.items) result (found_in slots.now entries.now) }
+    ensures { GivesValuesUnless (H.may_refuse heap) (λ found. found.items) result (found_in slots.now entries.now) }
 {
-    let names = names(alloc, slots)?;
-    let mut found = nothing_found(alloc, slots)?;
+    let names = names(heap, slots)?;
+    let mut found = nothing_found(heap, slots)?;
     for entry in entries {
         let place = entry.place;
         let Some((index, slot)) = slot_named(&names, slots, entry.name.bytes()) else {
@@ -173,23 +175,23 @@ pub(crate) fn found(
         if found[index].is_some() {
             return Err(refused(Rule::Repeated, place));
         }
-        found[index] = Some(value(alloc, slot.shape, entry)?);
+        found[index] = Some(value(heap, slot.shape, entry)?);
     }
     Ok(found)
 }
 
 /// The values that were found, where each is there.
-pub(crate) fn all_found(
-    alloc: Global,
+pub(crate) fn all_found<H: Heap>(
+    heap: H,
     place: u32,
     found: Vec<Option<Value>>,
 ) -> Result<Vec<Value>, ValuesFault>
-    ensures { GivesValues (λ values. values.items) result (all_found place found.items) }
+    ensures { GivesValuesUnless (H.may_refuse heap) (λ values. values.items) result (all_found place found.items) }
 {
-    let mut values = Vec::new(alloc);
+    let mut values = Vec::new(heap.handle());
     for value in found {
         match value {
-            Some(value) => values.push(value)?,
+            Some(value) => heap.push(&mut values, value)?,
             None => return Err(refused(Rule::Missing, place)),
         }
     }

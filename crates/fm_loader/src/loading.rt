@@ -1,6 +1,7 @@
 //! Loading an image.
 
-ghost use Rattle.std.specs.Prelude.{◌≡◌, ◌+◌, ◌≤◌, ◌<◌, ◌^◌, length, IfOk};
+ghost use Rattle.std.specs.Prelude.{◌≡◌, ◌+◌, ◌/◌, ◌≤◌, ◌<◌, ◌^◌, length, OnErr};
+ghost use Rattle.stack_heap.specs.Heaps.{IfOkUnless, RefusesWithin};
 ghost use Rattle.fm_machine.specs.State.{with_word};
 ghost use Rattle.stack_text.specs.Values.{item_count};
 ghost use Rattle.fm_loader.specs.Loaded.{Fits, HaveRoom, with_words, with_items, with_values, loaded};
@@ -8,8 +9,8 @@ ghost use Rattle.fm_loader.specs.Loaded.{Fits, HaveRoom, with_words, with_items,
 use fm_image::{Image, Slot};
 use fm_machine::{Machine, NewFault};
 use fm_words::word_of_int;
+use stack_heap::Heap;
 use stack_text::{Memory, Value};
-use std::alloc::Global;
 
 /// Sets a word of the window from the base on. Beyond the end of the window there is nothing to set.
 fn set(machine: &mut Machine, base: u32, address: u32, word: u32)
@@ -86,12 +87,14 @@ fn set_registers(machine: &mut Machine, registers: &[u32])
 ///
 /// The window is zero but for the image's words, from its base on, and the values: the item j of a value, counted from
 /// 0, is at the slot's address minus j. Registers and flags are the image's.
-pub fn load(alloc: Global, image: &Image, values: &[Value]) -> Result<Machine, Memory>
+pub fn load<H: Heap>(heap: H, image: &Image, values: &[Value]) -> Result<Machine, Memory>
     requires { Fits image.now.slots values.now }
-    ensures { IfOk result (λ machine. machine.state ≡ loaded image.now values.now) }
+    ensures value { IfOkUnless (H.may_refuse heap) result
+        (λ machine. machine.state ≡ loaded image.now values.now) }
+    ensures room { OnErr result (RefusesWithin (H.may_refuse_room heap) (image.now.size / 256 + 2)) }
 {
     let base = image.base;
-    let mut machine = match Machine::new(alloc, base, image.size) {
+    let mut machine = match Machine::new(heap, base, image.size) {
         Ok(machine) => machine,
         Err(NewFault::Memory) => return Err(Memory),
         Err(NewFault::Size) => unreachable!(),

@@ -4,16 +4,16 @@ ghost use Rattle.std.specs.Prelude.{◌≡◌, IsTrue, option_map};
 ghost use Rattle.stack_text.specs.Gives as memory;
 ghost use Rattle.stack_text.specs.Numerals.{is_numeral, numeral_value};
 ghost use Rattle.stack_text.specs.Seen.TreeView.{node_of, nodes_of};
-ghost use Rattle.fm_loader.specs.Rules.{GivesValues};
+ghost use Rattle.fm_loader.specs.Rules.{GivesValuesUnless};
 ghost use Rattle.fm_loader.specs.Parsed.{in_32_bits, character_of, scalar_of, scalar_at, scalars_of, parsed_value, name_at, pair_of, entry_of};
 ghost use Rattle.fm_loader.specs.Values.{entries_of, entry_at};
 
 use crate::fault::{Rule, ValuesFault, refused};
 use crate::parsed::{Entry, ParsedValue, Scalar};
+use stack_heap::Heap;
 use stack_text::{
     Kind, Memory, Name, Seq, TextTree, is_digits, is_numeral, read_name, read_numeral,
 };
-use std::alloc::Global;
 
 /// The number of a numeral, where that has 32 signed bits.
 fn number(numeral: &[u8]) -> Option<i32>
@@ -81,13 +81,13 @@ fn scalar_at(tree: &TextTree) -> Option<Scalar>
 }
 
 /// The single values that trees are, if each is one.
-fn scalars(alloc: Global, trees: &[TextTree]) -> Result<Option<Seq<Scalar>>, Memory>
-    ensures { memory.Returns (λ scalars. scalars) result (scalars_of (nodes_of trees.now)) }
+fn scalars<H: Heap>(heap: H, trees: &[TextTree]) -> Result<Option<Seq<Scalar>>, Memory>
+    ensures { memory.ReturnsUnless (H.may_refuse heap) (λ scalars. scalars) result (scalars_of (nodes_of trees.now)) }
 {
-    let mut scalars = Seq::new(alloc);
+    let mut scalars = Seq::new(heap.handle());
     for tree in trees {
         match scalar_at(tree) {
-            Some(scalar) => scalars.push(scalar)?,
+            Some(scalar) => scalars.push(heap, scalar)?,
             None => return Ok(None),
         }
     }
@@ -96,15 +96,15 @@ fn scalars(alloc: Global, trees: &[TextTree]) -> Result<Option<Seq<Scalar>>, Mem
 
 /// The value that a tree is, if it is one.
 #[tactic(auto, unfolding(crate::specs::Parsed::parsed_value))]
-fn parsed_value(alloc: Global, tree: &TextTree) -> Result<Option<ParsedValue>, Memory>
-    ensures { memory.Returns (λ value. value) result (parsed_value (node_of tree.now)) }
+fn parsed_value<H: Heap>(heap: H, tree: &TextTree) -> Result<Option<ParsedValue>, Memory>
+    ensures { memory.ReturnsUnless (H.may_refuse heap) (λ value. value) result (parsed_value (node_of tree.now)) }
 {
     match tree {
         TextTree::Atom { place: _, text } => match scalar(text) {
             Some(scalar) => Ok(Some(ParsedValue::Single(scalar))),
             None => Ok(None),
         },
-        TextTree::List { place: _, items } => match scalars(alloc, items)? {
+        TextTree::List { place: _, items } => match scalars(heap, items)? {
             Some(scalars) => Ok(Some(ParsedValue::Several(scalars))),
             None => Ok(None),
         },
@@ -112,11 +112,11 @@ fn parsed_value(alloc: Global, tree: &TextTree) -> Result<Option<ParsedValue>, M
 }
 
 /// The name that a tree is, if it is one.
-fn name(alloc: Global, tree: &TextTree) -> Result<Option<Name>, Memory>
-    ensures { memory.Returns (λ name. name) result (name_at (node_of tree.now)) }
+fn name<H: Heap>(heap: H, tree: &TextTree) -> Result<Option<Name>, Memory>
+    ensures { memory.ReturnsUnless (H.may_refuse heap) (λ name. name) result (name_at (node_of tree.now)) }
 {
     match tree {
-        TextTree::Atom { place: _, text } => read_name(alloc, text),
+        TextTree::Atom { place: _, text } => read_name(heap, text),
         TextTree::List { place: _, items: _ } => Ok(None),
     }
 }
@@ -133,8 +133,8 @@ fn pair<'a, 'b>(trees: &'a [TextTree<'b>]) -> Option<(&'a TextTree<'b>, &'a Text
 
 /// The entry that a tree is, if it is one.
 #[tactic(auto, unfolding(crate::specs::Parsed::entry_of))]
-fn entry(alloc: Global, tree: &TextTree) -> Result<Option<Entry>, Memory>
-    ensures { memory.Returns (λ entry. entry) result (entry_of (node_of tree.now)) }
+fn entry<H: Heap>(heap: H, tree: &TextTree) -> Result<Option<Entry>, Memory>
+    ensures { memory.ReturnsUnless (H.may_refuse heap) (λ entry. entry) result (entry_of (node_of tree.now)) }
 {
     let TextTree::List { place, items } = tree else {
         return Ok(None);
@@ -142,10 +142,10 @@ fn entry(alloc: Global, tree: &TextTree) -> Result<Option<Entry>, Memory>
     let Some((first, second)) = pair(items) else {
         return Ok(None);
     };
-    let Some(name) = name(alloc, first)? else {
+    let Some(name) = name(heap, first)? else {
         return Ok(None);
     };
-    let Some(value) = parsed_value(alloc, second)? else {
+    let Some(value) = parsed_value(heap, second)? else {
         return Ok(None);
     };
     Ok(Some(Entry {
@@ -156,22 +156,22 @@ fn entry(alloc: Global, tree: &TextTree) -> Result<Option<Entry>, Memory>
 }
 
 /// The entry that a tree is.
-fn entry_or_fault(alloc: Global, tree: &TextTree) -> Result<Entry, ValuesFault>
-    ensures { GivesValues (λ entry. entry) result (entry_at (node_of tree.now)) }
+fn entry_or_fault<H: Heap>(heap: H, tree: &TextTree) -> Result<Entry, ValuesFault>
+    ensures { GivesValuesUnless (H.may_refuse heap) (λ entry. entry) result (entry_at (node_of tree.now)) }
 {
-    match entry(alloc, tree)? {
+    match entry(heap, tree)? {
         Some(entry) => Ok(entry),
         None => Err(refused(Rule::Form, tree.place())),
     }
 }
 
 /// The entries that trees are.
-pub(crate) fn entries(alloc: Global, trees: &[TextTree]) -> Result<Vec<Entry>, ValuesFault>
-    ensures { GivesValues (λ entries. entries.items) result (entries_of (nodes_of trees.now)) }
+pub(crate) fn entries<H: Heap>(heap: H, trees: &[TextTree]) -> Result<Vec<Entry>, ValuesFault>
+    ensures { GivesValuesUnless (H.may_refuse heap) (λ entries. entries.items) result (entries_of (nodes_of trees.now)) }
 {
-    let mut entries = Vec::new(alloc);
+    let mut entries = Vec::new(heap.handle());
     for tree in trees {
-        entries.push(entry_or_fault(alloc, tree)?)?;
+        heap.push(&mut entries, entry_or_fault(heap, tree)?)?;
     }
     Ok(entries)
 }

@@ -5,4 +5,4 @@ use Rattle.fm_loader.proofs.judging.all_found.Given as goal
 
 -- the values so far and those still to come are all
 abbrev pub invariant-loop-value : goal.invariant-loop-value
-invariant-loop-value l = all_found l.place l.fn.found.items ≡ with_front l.values.items (all_found l.place l.value-iterator.rest.items)
+invariant-loop-value g l = all_found l.place l.fn.found.items ≡ with_front l.values.items (all_found l.place l.value-iterator.rest.items)

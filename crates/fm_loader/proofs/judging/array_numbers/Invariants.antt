@@ -4,4 +4,4 @@ use Rattle.fm_loader.proofs.judging.array_numbers.Given as goal
 
 -- the numbers so far
 abbrev pub invariant-loop-scalar : goal.invariant-loop-scalar
-invariant-loop-scalar l = l.numbers.items ≡ map number_of (take l.scalar-index l.scalars)
+invariant-loop-scalar g l = l.numbers.items ≡ map number_of (take l.scalar-index l.scalars)

@@ -3,4 +3,4 @@ use Rattle.fm_loader.proofs.judging.nothing_found.Given as goal
 
 -- one for each slot so far
 abbrev pub invariant-loop : goal.invariant-loop
-invariant-loop l = l.found.items ≡ replicate l.counter None
+invariant-loop g l = l.found.items ≡ replicate l.counter None

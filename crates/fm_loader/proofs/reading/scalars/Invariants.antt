@@ -6,4 +6,4 @@ use Rattle.fm_loader.proofs.reading.scalars.Given as goal
 
 -- what was read and what is still to come are all
 abbrev pub invariant-loop-tree : goal.invariant-loop-tree
-invariant-loop-tree l = scalars_of (nodes_of l.trees) ≡ behind_scalars l.scalars (scalars_of (nodes_of (drop l.tree-index l.trees)))
+invariant-loop-tree g l = scalars_of (nodes_of l.trees) ≡ behind_scalars l.scalars (scalars_of (nodes_of (drop l.tree-index l.trees)))
