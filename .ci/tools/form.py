@@ -3,7 +3,9 @@
 import re
 import subprocess
 import sys
+import textwrap
 from collections import Counter, defaultdict
+from functools import cache
 from itertools import combinations
 from pathlib import Path
 
@@ -46,6 +48,10 @@ PROMISES = Path("docs/PROMISES.md")
 READING_ROW = re.compile(r"\|[^|]*\|([^|]*/specs/[^|]*)\| ([\d,]+) \|$")
 FIGURES_ROW = re.compile(r"\| `(\w+\.[\w.]+\.\w+)` \|.*\| ([\d,]+) \| ([\d,]+) \| ([\d,]+) \|$")
 
+# The names that two crates may have of which one stands on the other, in groups, each under its reason.
+SAME_NAMES = Path(".ci/tools/same_names.txt")
+NAMES_WIDTH = 160
+
 findings = []
 
 
@@ -58,18 +64,62 @@ def tracked(*patterns):
     return [Path(line) for line in out.splitlines() if Path(line).is_file()]
 
 
-def check_specs():
+@cache
+def definitions():
+    """The places where each crate defines each name."""
     names = defaultdict(list)
+    for path in tracked("crates/*/specs/*.antt"):
+        for number, line in enumerate(path.read_text().splitlines(), 1):
+            found = DEFINITION.match(line)
+            if found and not line.startswith("  ") and not re.match(r"\s*pub (mod|use) ", line) and found.group(1) != "◌>>=◌":
+                names[path.parts[1], found.group(1)].append(f"{path}:{number}")
+    return names
+
+
+def check_specs():
     for path in tracked("crates/*/specs/*.antt"):
         for number, line in enumerate(path.read_text().splitlines(), 1):
             if len(line) > SPEC_WIDTH:
                 say(f"{path}:{number}", f"{len(line)} characters; break the line, at most {SPEC_WIDTH}")
-            found = DEFINITION.match(line)
-            if found and not line.startswith("  ") and not re.match(r"\s*pub (mod|use) ", line) and found.group(1) != "◌>>=◌":
-                names[path.parts[1], found.group(1)].append(f"{path.name}:{number}")
-    for (crate, name), places in names.items():
+    for (crate, name), places in definitions().items():
         if len(places) > 1:
             say(f"crates/{crate}/specs", f"{name} is defined at {', '.join(places)}; give each its own name, or keep one")
+
+
+def names_twice():
+    """The names that a crate and one that it stands on both define, with the places."""
+    _, below = crate_table.read_crates()
+    homes = defaultdict(dict)
+    for (crate, name), places in definitions().items():
+        homes[name][crate] = places[0]
+    for name, places in homes.items():
+        held = {crate for crate in places if crate in below}
+        twice = {it for crate in held for lower in crate_table.reach_of(crate, below) & held for it in (crate, lower)}
+        if twice:
+            yield name, [places[it] for it in sorted(twice)]
+
+
+def check_same_names():
+    """One name means one thing in a crate and in those that it stands on, but for those that are agreed on."""
+    agreed = [word for line in SAME_NAMES.read_text().splitlines() if not line.startswith(("#", "==")) for word in line.split()]
+    twice = dict(names_twice())
+    for name, places in twice.items():
+        if name not in agreed:
+            say(places[0], f"{name} is defined at {', '.join(places[1:])} too; give one of them another name")
+    for name, times in Counter(agreed).items():
+        if name not in twice or times > 1:
+            say(SAME_NAMES, f"{name} {'is there twice' if times > 1 else 'has one meaning now'}; remove it")
+
+
+def renew_same_names():
+    """Leaves in the list what is still twice, and fills its lines."""
+    twice, lines = dict(names_twice()), []
+    for part in re.split(r"(?m)^(?=[#=])", SAME_NAMES.read_text()):
+        head, *rest = part.splitlines() or [""]
+        names = sorted({word for line in rest for word in line.split()} & set(twice))
+        if head.startswith("#") or names:
+            lines += [head, *textwrap.wrap(" ".join(names), NAMES_WIDTH, break_on_hyphens=False)]
+    SAME_NAMES.write_text("\n".join(lines) + "\n")
 
 
 def fronts(name):
@@ -323,8 +373,12 @@ def check_imports():
 
 
 def main():
-    parser_of(__doc__).parse_args()
+    parser = parser_of(__doc__)
+    parser.add_argument("--renew-names", action="store_true", help=f"remove from {SAME_NAMES} what has one meaning now")
+    if parser.parse_args().renew_names:
+        renew_same_names()
     check_specs()
+    check_same_names()
     check_folders()
     check_clauses()
     check_documents()
