@@ -15,6 +15,31 @@ folder=$(mktemp -d) || exit 1
 trap 'rm -rf "$folder"' EXIT
 git ls-files -z | while IFS= read -r -d '' file; do [ ! -f "$file" ] || printf '%s\0' "$file"; done | xargs -0 cp --parents -t "$folder"
 cd "$folder" || exit 1
+further=()
+# mistake WANTED FILE LINE ..: these lines are added to a file, of which this is to be told.
+mistake() {
+    further+=("$1")
+    printf '%s\n' "${@:3}" >>"$2"
+}
+mistake 'crates/fm_words/specs: are_same is defined at ' crates/fm_words/specs/Word.antt 'pub are_same : ℕ'
+mistake 'Masks.antt:[0-9]*: word_bits is defined at crates/fm_words/specs/Word.antt:[0-9]* too' crates/fm_words/specs/Word.antt 'pub word_bits : ℕ'
+mistake 'same_names.txt: never_there has one meaning now' .ci/tools/same_names.txt '== no reason' never_there
+mistake 'crates/fm_words/specs: Word and Words differ by an ending' crates/fm_words/specs/Words.antt 'pub nothing_at_all : ℕ'
+mistake 'stack_text/specs/Lib.antt:[0-9]*: move Trees to crates/stack_text/specs/Scaffold' crates/stack_text/specs/Lib.antt \
+    '-- Scaffold: what only private functions and lemmas say.' 'pub mod Trees' 'pub mod Names'
+mistake 'Answer.antt: it imports scaffold of stack_text' crates/cli_stack/specs/Answer.antt 'use Rattle.stack_text.specs.Scaffold.OpenLists.{opened}'
+mistake 'crates/fm_words/src/lib.rt:[0-9]*: a clause of 1[0-9]* characters' crates/fm_words/src/lib.rt "    ensures { $(printf %0120d 0) }"
+mistake "crates/fm_words/src/word.rt: it imports used_by_nothing and doesn't use it" crates/fm_words/src/word.rt \
+    'ghost use Rattle.std.specs.Prelude.{used_by_nothing};'
+mistake 'docs/RELATED.md:[0-9]*: a table row without its head' docs/RELATED.md '' '| a row | of no table |'
+mistake 'docs/LIMITS.md:[0-9]*: the crate fm_words has no not_there_either' docs/LIMITS.md '| 9 | of what | said | `fm_words` (`not_there_either`) | | |'
+mistake 'docs/LIMITS.md:[0-9]*: there is no crates/fm_words/specs/Nothing.antt' docs/LIMITS.md '| 9 | of what | said | `fm_words/specs/Nothing`: `nowhere` | | |'
+mistake 'docs/PROMISES.md: the crate nobody is missing' crates.txt 'nobody: stack_text'
+echo 'pub word_bits : ℕ' >>crates/fm_machine/specs/Masks.antt
+sed -i 's/ lines of definitions in 2/ lines of definitions in 9/' README.md
+further+=('README.md: the theorem rests on [0-9,]* lines of definitions in [0-9]* files')
+sed -i '/^| `stack_build.Moments.KeepsMoments` |/s/ | [0-9,]* |$/ | 1 |/' docs/PROMISES.md
+further+=('docs/PROMISES.md:[0-9]*: stack_build.Moments.KeepsMoments rests on ')
 printf -- '-- %0200d\n' 0 >>crates/fm_words/specs/Word.antt
 echo 'pub served_by_nothing : 0 ≡ 0' >crates/fm_words/proofs/NothingLaws.antt
 echo '[a page](nowhere.md), [a heading](cli.md#nowhere), and `docs/nowhere.md`' >>docs/GLOSSARY.md
@@ -34,6 +59,9 @@ for wanted in 'crates/fm_words/specs/Word.antt:[0-9]*: 203 characters' 'NothingL
         echo "form: a mistake isn't told: $wanted"
         status=1
     }
+done
+for wanted in "${further[@]}"; do
+    grep -q "$wanted" <<<"$told" || { echo "form: a mistake isn't told: $wanted"; status=1; }
 done
 [ "$status" = 0 ] && echo "form: ok"
 exit "$status"
