@@ -7,12 +7,14 @@ A trace has as many steps as `mean` counts, and ends as it reports; its last val
 code once, in order, and each mark's statement where the mark is. Words that are no row and refusals have their statuses. The exit status is 1 where
 something differed.
 """
-import argparse
 import re
 import subprocess
 import sys
 import tempfile
 from pathlib import Path
+
+from arguments import parser_of
+from arguments import program as executable
 
 TOP = Path(__file__).resolve().parent.parent.parent
 EXAMPLES = TOP / "examples"
@@ -98,8 +100,8 @@ def of_ends(program):
 
 
 def main():
-    parser = argparse.ArgumentParser(description="Tries trace and listing against other commands.")
-    parser.add_argument("program", type=lambda it: str(Path(it).resolve()))
+    parser = parser_of(__doc__)
+    parser.add_argument("program", type=executable, help="cli_stack")
     program = parser.parse_args().program
     differing = list(of_ends(program))
     with tempfile.TemporaryDirectory() as room:

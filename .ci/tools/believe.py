@@ -17,6 +17,8 @@ from collections import Counter, defaultdict
 from functools import cache
 from pathlib import Path
 
+from arguments import parser_of
+
 CRATES = Path(__file__).resolve().parents[2] / "crates"
 IMPORT = re.compile(r"(?:pub )?use Rattle\.(\w+)\.specs\.([\w.]+?)(?:\.\{(.*)\}| as (\w+))?$")
 DECLARED = re.compile(r"declared\.[a-z0-9_.]+\.([A-Z]\w*)")
@@ -287,7 +289,7 @@ def is_definition(text):
 
 
 def main():
-    parser = argparse.ArgumentParser(description=__doc__, formatter_class=argparse.RawDescriptionHelpFormatter)
+    parser = parser_of(__doc__)
     parser.add_argument("--pages", action="store_true", help="print the lines of each page")
     parser.add_argument("--text", action="store_true", help="print the definitions as one text")
     parser.add_argument("--check", action="store_true", help="print what could have been missed")

@@ -31,6 +31,8 @@ TOP = Path(__file__).resolve().parents[2]
 HARDWARE = TOP / "hardware"
 sys.path[:0] = [str(HARDWARE), str(TOP / ".ci/tools")]
 import random_sources
+from arguments import parser_of
+from arguments import program as executable
 from fm9001 import CONDITIONS, MASK, OPERATIONS, PC, SIGN, Machine, flag_letters
 from images import Image, Refused, loaded, read_image, read_values, reading
 from simulation import NETLIST, PROCESSOR, NotSimulated, Simulated, compiled, missing_packages, report, simulate, write_words
@@ -387,10 +389,10 @@ def check_wrong_texts(arguments: argparse.Namespace, folder: Path) -> Iterator[s
 
 
 def main() -> int:
-    parser = argparse.ArgumentParser(description="Compares the circuit, in a simulator, with the machine.")
-    parser.add_argument("program", type=Path)
-    parser.add_argument("--all", action="store_true")
-    parser.add_argument("--simulator", choices=["icarus", "verilator"], default="icarus")
+    parser = parser_of(__doc__)
+    parser.add_argument("program", type=executable, help="cli_stack")
+    parser.add_argument("--all", action="store_true", help="more of everything")
+    parser.add_argument("--simulator", choices=["icarus", "verilator"], default="icarus", help="in which the circuit runs (%(default)s)")
     arguments = parser.parse_args()
     if packages := missing_packages(arguments.simulator):
         print(f"{arguments.simulator} isn't there: apt-get install {' '.join(packages)}")

@@ -6,7 +6,6 @@
 Where boxes and lines are is said here; that there are these phases, boxes and lines and no others is read from the text, and the script
 stops where the two differ. --check compares the files and stores nothing.
 """
-import argparse
 import re
 import sys
 from collections.abc import Iterator
@@ -16,6 +15,7 @@ from xml.sax.saxutils import escape
 sys.dont_write_bytecode = True
 TOP = Path(__file__).resolve().parents[2]
 sys.path.insert(0, str(TOP / "hardware"))
+from arguments import parser_of
 from simulation import PROCESSOR
 
 SPECS = TOP / "crates/fm_circuit/specs"
@@ -269,7 +269,7 @@ def data_picture() -> str:
 
 
 def main() -> int:
-    parser = argparse.ArgumentParser(description="Draws the phases and the data paths of the processor.")
+    parser = parser_of(__doc__)
     parser.add_argument("--check", action="store_true", help="compare the files, and store nothing")
     is_check = parser.parse_args().check
     try:

@@ -13,13 +13,14 @@ and lets the kit try them by `rt ci` with the crates' names. So what the gate pr
 crates are tried at a time, and those of a crate that were tried once are kept: a run that is stopped goes on there (`rattle-kit-13b` has no
 `rt ci` with names). It prints the kit's line for each edit, and then the edits that weren't refused; its status is 0 where there are none.
 """
-import argparse
 import re
 import shutil
 import subprocess
 import sys
 import tempfile
 from pathlib import Path
+
+from arguments import parser_of
 
 TOP = Path(__file__).resolve().parents[2]
 EDITS = TOP / ".ci" / "edits"
@@ -133,7 +134,7 @@ def try_one(crate, edit):
 
 
 def main(words=None):
-    parser = argparse.ArgumentParser(description=__doc__, formatter_class=argparse.RawDescriptionHelpFormatter)
+    parser = parser_of(__doc__)
     parser.add_argument("names", nargs="*", metavar="NAME", help="crates, or a crate and one of its edits")
     words, known = parser.parse_args(words).names, crates_with_edits()
     if len(words) == 2 and words[1] not in known:

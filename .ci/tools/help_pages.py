@@ -3,7 +3,6 @@
 
 With --write the two pages are written anew. The exit status is 1 where there is a difference that --write doesn't mend.
 """
-import argparse
 import re
 import sys
 from itertools import groupby
@@ -12,6 +11,7 @@ from pathlib import Path
 TOP = Path(__file__).resolve().parent.parent.parent
 sys.path.insert(0, str(TOP / "guide"))
 
+from arguments import parser_of  # noqa: E402
 from catalog import plain, read_catalog, row  # noqa: E402
 
 CLI, MANUAL = TOP / "docs/cli.md", TOP / "docs/stack.1"
@@ -90,7 +90,7 @@ def manual(catalog):
 
 
 def main(words=None):
-    parser = argparse.ArgumentParser(description=__doc__, formatter_class=argparse.RawDescriptionHelpFormatter)
+    parser = parser_of(__doc__)
     parser.add_argument("--write", action="store_true", help="write the two pages anew")
     write = parser.parse_args(words).write
     catalog = read_catalog()

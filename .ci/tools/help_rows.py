@@ -5,7 +5,6 @@ docs/ERRORS.md. What is told changes no byte of standard output, and no status.
 
 Prints a line for each row that fails, and how many rows there were of each theme. The exit status is 1 where one failed.
 """
-import argparse
 import os
 import pty
 import random
@@ -27,6 +26,8 @@ sys.path[:0] = [str(TOP / "guide"), str(TOP / "conformance")]
 import explain  # noqa: E402
 import help as usage  # noqa: E402
 import infix  # noqa: E402
+from arguments import parser_of  # noqa: E402
+from arguments import program as executable  # noqa: E402
 from catalog import plain, read_catalog  # noqa: E402
 from rows import bytes_of, rows_of  # noqa: E402
 
@@ -432,9 +433,9 @@ SLIPS = [
 
 
 def main(words=None):
-    parser = argparse.ArgumentParser(description=__doc__, formatter_class=argparse.RawDescriptionHelpFormatter)
-    parser.add_argument("stack", type=Path, help="the script `stack` of a checkout in which the program is built")
-    stack = parser.parse_args(words).stack.resolve()
+    parser = parser_of(__doc__)
+    parser.add_argument("stack", type=executable, help="the script `stack` of a checkout in which the program is built")
+    stack = parser.parse_args(words).stack
     with tempfile.TemporaryDirectory() as room:
         rows = Rows(stack, room)
         themes = (rows.rules, rows.endings, rows.words, rows.slips, rows.streams, rows.names, rows.texts, rows.mistakes, rows.expected, rows.few_words, rows.transcript)

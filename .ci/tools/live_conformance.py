@@ -6,7 +6,6 @@
 The rows are those of conformance/run, or of the files that are named, as check.rows. Prints a line for each row that fails, how many rows each file
 has, and how many failed. The exit status is 1 where one failed.
 """
-import argparse
 import base64
 import json
 import sys
@@ -15,6 +14,7 @@ from importlib.util import module_from_spec, spec_from_loader
 from pathlib import Path
 
 import browsers
+from arguments import file, parser_of
 from browsers import Chromium, Fault
 
 CONFORMANCE = Path(__file__).resolve().parent.parent.parent / "conformance"
@@ -72,16 +72,16 @@ def judge(browser, row):
 
 
 def main():
-    parser = argparse.ArgumentParser(description="Runs the rows of conformance on the program in a page.")
-    parser.add_argument("page", type=Path)
-    parser.add_argument("names", nargs="*")
+    parser = parser_of(__doc__)
+    parser.add_argument("page", type=file, help="the page with the program, as guide/live.py writes it")
+    parser.add_argument("names", nargs="*", help="only these files of rows")
     words = parser.parse_args()
     paths = [it for it in (*sorted(CONFORMANCE.glob("*.rows")), *sorted(CONFORMANCE.glob("made/*.py"))) if not words.names or it.name in words.names]
     if missing := set(words.names) - {it.name for it in paths}:
         parser.error(f"conformance has no {', '.join(sorted(missing))}")
     count = failed = 0
     with Chromium() as browser:
-        browser.open(words.page.resolve().as_uri())
+        browser.open(words.page.as_uri())
         browser.wait_until("['shown', 'refused'].includes(document.body.dataset.state)")
         browser.evaluate(SETS_UP)
         for path in paths:

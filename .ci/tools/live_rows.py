@@ -8,7 +8,6 @@ this computer. Tried are also: refusals of a source, of values, of an infix prog
 address holds a program; that Stop stops; keys, contrast and width. Prints a line for each difference. The exit status is 1 where something differed, or
 where neither browser is there.
 """
-import argparse
 import sys
 import tempfile
 import time
@@ -19,6 +18,8 @@ sys.path.insert(0, str(TOP / "guide"))
 
 import live  # noqa: E402
 import page  # noqa: E402
+from arguments import file, parser_of  # noqa: E402
+from arguments import program as executable  # noqa: E402
 from browsers import Chromium, Firefox  # noqa: E402
 from page_rows import CONTRAST, LEAST_CONTRAST, NARROW  # noqa: E402
 from program import Program  # noqa: E402
@@ -143,10 +144,10 @@ def tried(browser, words):
 
 
 def main():
-    parser = argparse.ArgumentParser(description="Tries the page with the program in it.")
-    parser.add_argument("page", type=Path)
-    parser.add_argument("program", type=lambda it: str(Path(it).resolve()))
-    parser.add_argument("--browser", choices=["chromium", "firefox"])
+    parser = parser_of(__doc__)
+    parser.add_argument("page", type=file, help="the page with the program, as guide/live.py writes it")
+    parser.add_argument("program", type=executable, help="cli_stack")
+    parser.add_argument("--browser", choices=["chromium", "firefox"], help="only this one")
     parser.add_argument("--examples", type=int, default=99, help="how many examples are compared")
     words = parser.parse_args()
     kinds = {"chromium": Chromium, "firefox": Firefox}

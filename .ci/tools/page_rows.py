@@ -8,7 +8,6 @@ script complains, that a page whose answers don't fit one another shows nothing,
 processor. Prints a line for each difference, and how much was compared. Where there is no Chromium the pages are written, and nothing is compared.
 The exit status is 1 where something differed.
 """
-import argparse
 import base64
 import gzip
 import json
@@ -19,6 +18,8 @@ import sys
 import tempfile
 from pathlib import Path
 
+from arguments import parser_of
+from arguments import program as executable
 from browsers import Chromium
 
 TOP = Path(__file__).resolve().parent.parent.parent
@@ -295,8 +296,8 @@ def write_large(program, path):
 
 
 def main():
-    parser = argparse.ArgumentParser(description="Compares what pages of runs show with what the program says.")
-    parser.add_argument("program", type=lambda it: str(Path(it).resolve()))
+    parser = parser_of(__doc__)
+    parser.add_argument("program", type=executable, help="cli_stack")
     program = parser.parse_args().program
     with tempfile.TemporaryDirectory() as room:
         path = Path(room) / "page.html"

@@ -5,7 +5,6 @@
 
 Each goes to docs/pictures. Where there is a pngquant (Debian has it) they have 128 colours, and are a third as large.
 """
-import argparse
 import shutil
 import subprocess
 import sys
@@ -13,6 +12,8 @@ import tempfile
 from collections import namedtuple
 from pathlib import Path
 
+from arguments import parser_of
+from arguments import program as executable
 from browsers import Chromium
 
 TOP = Path(__file__).resolve().parent.parent.parent
@@ -53,8 +54,8 @@ def take(browser, picture, page):
 
 
 def main():
-    parser = argparse.ArgumentParser(description="Makes the pictures of the documents.")
-    parser.add_argument("program", type=lambda it: str(Path(it).resolve()))
+    parser = parser_of(__doc__)
+    parser.add_argument("program", type=executable, help="cli_stack")
     parser.add_argument("names", nargs="*", help="only these pictures")
     words = parser.parse_args()
     PICTURES.mkdir(exist_ok=True)

@@ -8,10 +8,11 @@ of NAMELaws.antt, NAMERules.antt and NAMERuns.antt in crates/proved_programs/pro
 specs/Texts/NAME.antt has the file's text.
 Without --write it prints the rows that say something else, and ends with status 1 where there is one.
 """
-import argparse
 import re
 import sys
 from pathlib import Path
+
+from arguments import parser_of
 
 TOP = Path(__file__).resolve().parents[2]
 CRATE = TOP / "crates" / "proved_programs"
@@ -46,7 +47,7 @@ def renewed(line, known):
 
 
 def main():
-    parser = argparse.ArgumentParser(description=__doc__, formatter_class=argparse.RawDescriptionHelpFormatter)
+    parser = parser_of(__doc__)
     parser.add_argument("--write", action="store_true", help="write the table anew")
     chosen = parser.parse_args()
     known = dict(counts())

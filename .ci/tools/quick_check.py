@@ -9,12 +9,13 @@ below it are still being proved, and a check begins at once. FLAG is one of `rat
 `--only`, functions of a crate that is read as source are checked too where the named one calls them, and each such check takes gigabytes.
 It is no gate: only `rt ci` decides.
 """
-import argparse
 import os
 import shutil
 import sys
 import tempfile
 from pathlib import Path
+
+from arguments import folder, parser_of
 
 TOP = Path(__file__).resolve().parents[2]
 
@@ -57,12 +58,12 @@ def arguments(name, deps, libraries, sources):
 
 
 def main():
-    parser = argparse.ArgumentParser(description=__doc__, formatter_class=argparse.RawDescriptionHelpFormatter)
-    parser.add_argument("--libraries", type=Path)
-    parser.add_argument("--source", action="append", default=[])
-    parser.add_argument("crate")
+    parser = parser_of(__doc__)
+    parser.add_argument("--libraries", type=folder, metavar="CLONE", help="a clone in which `rt ci` was run")
+    parser.add_argument("--source", action="append", default=[], metavar="NAME", help="a crate below that is read as source")
+    parser.add_argument("crate", choices=sorted(uses()), metavar="CRATE", help="a crate of crates.txt; what follows goes to `rattle check`")
     chosen, flags = parser.parse_known_args()
-    kit, words = arguments(chosen.crate, uses(), chosen.libraries and chosen.libraries.resolve(), chosen.source)
+    kit, words = arguments(chosen.crate, uses(), chosen.libraries, chosen.source)
     kept = Path(tempfile.gettempdir(), f"quick_check-{TOP.name}-{chosen.crate}")
     kept.mkdir(exist_ok=True)
     os.chdir(TOP / "crates" / chosen.crate)

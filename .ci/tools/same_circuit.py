@@ -9,7 +9,6 @@ A SAT solver then shows that no inputs make any two outputs differ. What is kept
 be `file[3]` or `file_3`. What it begins with isn't compared. --all shows too that a wrong text, which has an `|` for a `^`, isn't the same.
 The exit status is 1 where they differ, and 2 where Yosys is missing.
 """
-import argparse
 import re
 import shutil
 import subprocess
@@ -19,6 +18,7 @@ from pathlib import Path
 
 sys.dont_write_bytecode = True
 sys.path.insert(0, str(Path(__file__).resolve().parents[2] / "hardware"))
+from arguments import file, parser_of
 from simulation import NETLIST, PROCESSOR
 
 SECONDS = 1800
@@ -128,11 +128,11 @@ def wrong_text(processor: Path, folder: Path) -> Path:
 
 
 def main() -> int:
-    parser = argparse.ArgumentParser(description="Has Yosys prove that a netlist is the processor's circuit.")
-    parser.add_argument("netlist", type=Path, nargs="?")
-    parser.add_argument("--printed", action="store_true")
-    parser.add_argument("--processor", type=Path, default=PROCESSOR)
-    parser.add_argument("--all", action="store_true")
+    parser = parser_of(__doc__)
+    parser.add_argument("netlist", type=file, nargs="?", help="a netlist of the processor in place of Yosys' own")
+    parser.add_argument("--printed", action="store_true", help="the netlist that print_netlist prints")
+    parser.add_argument("--processor", type=file, default=PROCESSOR, help="another text of the circuit")
+    parser.add_argument("--all", action="store_true", help="show too that a wrong text isn't the same")
     arguments = parser.parse_args()
     netlist = NETLIST if arguments.printed else arguments.netlist
     if not shutil.which("yosys"):

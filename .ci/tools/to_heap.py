@@ -13,6 +13,8 @@ import re
 import sys
 from pathlib import Path
 
+from arguments import parser_of
+
 TOP = Path(__file__).resolve().parents[2]
 FACT = "(H.may_refuse heap)"
 WORDS = {"Reads": "ReadsUnless", "Returns": "ReturnsUnless", "Gives": "GivesUnless", "Fails": "FailsUnless", "OnOk": "OnOkUnless"}
@@ -113,7 +115,9 @@ def proof(text):
 
 
 def main():
-    crate = TOP / "crates" / sys.argv[1]
+    parser = parser_of(__doc__)
+    parser.add_argument("crate", metavar="CRATE", choices=sorted(it.parent.name for it in TOP.glob("crates/*/src")), help="a crate of this repository")
+    crate = TOP / "crates" / parser.parse_args().crate
     modules = sorted((crate / "src").rglob("*.rt"))
     names = set().union(*(converted(path.read_text()) for path in modules))
     below = converted("".join(path.read_text() for path in (TOP / "crates/stack_text/src").rglob("*.rt")))

@@ -8,13 +8,14 @@ has to be the one that is assigned here. `written`, `size` and `value` are `writ
 by line; nothing compares them with those. So the numbers without a width stand only where something else of the expression has one: alone
 they have a sign in Verilog. The exit status is 1 where a value differs, and 2 where Icarus is missing.
 """
-import argparse
 import random
 import shutil
 import subprocess
 import sys
 import tempfile
 from pathlib import Path
+
+from arguments import parser_of
 
 # The operators of two operands, with how tightly they bind.
 OPERATORS = {"sum": ("+", 7), "equal": ("==", 6), "and": ("&", 5), "xor": ("^", 4), "or": ("|", 3), "both": ("&&", 2)}
@@ -195,7 +196,7 @@ def icarus(source):
 
 
 def main():
-    parser = argparse.ArgumentParser(description=__doc__, formatter_class=argparse.RawDescriptionHelpFormatter)
+    parser = parser_of(__doc__)
     parser.add_argument("--all", action="store_true", help="20,000 expressions in place of 1,000")
     rounds = 20 if parser.parse_args().all else 1
     if not shutil.which("iverilog"):

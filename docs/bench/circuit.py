@@ -21,6 +21,7 @@ HERE = Path(__file__).resolve().parent
 HARDWARE = HERE.parents[1] / "hardware"
 sys.path.insert(0, str(HARDWARE))
 from images import read_image
+from measure import executable, parser_of
 from simulation import PROCESSOR, compiled, missing_packages, write_words
 
 PACKAGES = {"yosys": "yosys", "nextpnr-ice40": "nextpnr-ice40", "icetime": "fpga-icestorm"}
@@ -84,7 +85,10 @@ def speed(folder: Path, program: str) -> Iterator[str]:
            f"second; run {by_emulator:.2f} s, {count / by_emulator / 1e6:.1f} million")
 
 
-def main(program: str = "") -> int:
+def main() -> int:
+    parser = parser_of(__doc__)
+    parser.add_argument("program", nargs="?", type=executable, help="cli_stack")
+    program = parser.parse_args().program
     if missing := sorted({package for command, package in PACKAGES.items() if not shutil.which(command)}):
         print(f"missing: apt-get install {' '.join(missing)}")
         return 70
@@ -92,10 +96,10 @@ def main(program: str = "") -> int:
         for line in synthesis(Path(room)):
             print(line, flush=True)
         if program and not missing_packages("verilator"):
-            for line in speed(Path(room), str(Path(program).resolve())):
+            for line in speed(Path(room), str(program)):
                 print(line, flush=True)
     return 0
 
 
 if __name__ == "__main__":
-    sys.exit(main(*sys.argv[1:]))
+    sys.exit(main())

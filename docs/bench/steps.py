@@ -10,7 +10,6 @@ takes is left out. Both tables are printed as docs/benchmarks.md has them.
 Without --times, `mean` and `prun` make the steps of the second and the last one's texts, too; wanted is valgrind. With it the loops have
 forty times as many rounds, and all programs take turns: the time of a process is its own and the system's.
 """
-import argparse
 import os
 import re
 import statistics
@@ -21,6 +20,7 @@ import tempfile
 from pathlib import Path
 
 import programs
+from measure import executable, parser_of
 
 HERE = Path(__file__).resolve().parent
 BUDGET = 1_000_000_000
@@ -158,10 +158,10 @@ def time(program, interpreters, folder):
 
 
 def main():
-    parser = argparse.ArgumentParser(description=__doc__, formatter_class=argparse.RawDescriptionHelpFormatter)
+    parser = parser_of(__doc__)
     parser.add_argument("--times", action="store_true", help="nanoseconds in place of instructions")
-    parser.add_argument("program", type=lambda it: str(Path(it).resolve()))
-    parser.add_argument("interpreters", nargs="*", type=lambda it: str(Path(it).resolve()))
+    parser.add_argument("program", type=executable, help="cli_stack")
+    parser.add_argument("interpreters", nargs="*", type=executable, help="interpreters of the same processor")
     words = parser.parse_args()
     with tempfile.TemporaryDirectory(prefix="steps-") as room:
         folder = Path(room)
