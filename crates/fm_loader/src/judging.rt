@@ -132,7 +132,8 @@ fn names<'a, H: Heap>(heap: H, slots: &'a [Slot]) -> Result<IndexSet<&'a [u8]>, 
 
 /// No value for each slot.
 fn nothing_found<H: Heap>(heap: H, slots: &[Slot]) -> Result<Vec<Option<Value>>, Memory>
-    ensures { memory.ReturnsUnless (H.may_refuse heap) (λ found. found.items) result (replicate (length slots.now) None) }
+    ensures { memory.ReturnsUnless (H.may_refuse heap) (λ found. found.items) result
+        (replicate (length slots.now) None) }
 {
     let mut found = Vec::new(heap.handle());
     for _ in 0..slots.len() {

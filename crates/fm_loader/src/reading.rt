@@ -167,7 +167,8 @@ fn entry_or_fault<H: Heap>(heap: H, tree: &TextTree) -> Result<Entry, ValuesFaul
 
 /// The entries that trees are.
 pub(crate) fn entries<H: Heap>(heap: H, trees: &[TextTree]) -> Result<Vec<Entry>, ValuesFault>
-    ensures { GivesValuesUnless (H.may_refuse heap) (λ entries. entries.items) result (entries_of (nodes_of trees.now)) }
+    ensures { GivesValuesUnless (H.may_refuse heap) (λ entries. entries.items) result
+        (entries_of (nodes_of trees.now)) }
 {
     let mut entries = Vec::new(heap.handle());
     for tree in trees {

@@ -17,7 +17,8 @@ use stack_text::{TextFault, TextTree, Value, read_text_tree};
 #[tactic(auto, unfolding(crate::specs::Values::values_at))]
 fn values<H: Heap>(heap: H, tree: &TextTree, slots: &[Slot]) -> Result<Vec<Value>, ValuesFault>
     requires { HaveOwnNames slots.now }
-    ensures { GivesValuesUnless (H.may_refuse heap) (λ values. values.items) result (values_at slots.now (node_of tree.now)) }
+    ensures { GivesValuesUnless (H.may_refuse heap) (λ values. values.items) result
+        (values_at slots.now (node_of tree.now)) }
 {
     match tree {
         TextTree::Atom { place, text: _ } => Err(refused(Rule::Form, *place)),
@@ -41,7 +42,8 @@ pub fn read_values<H: Heap>(heap: H, text: &[u8], slots: &[Slot]) -> Result<Vec<
     requires text { length text.now ≤ 2 ^ 31 }
     requires names { HaveOwnNames slots.now }
     // What is read is what the text gives the slots, and an error is the rule that the text breaks.
-    ensures value { GivesValuesUnless (H.may_refuse heap) (λ values. values.items) result (values_in slots.now text.now) }
+    ensures value { GivesValuesUnless (H.may_refuse heap) (λ values. values.items) result
+        (values_in slots.now text.now) }
     // A value of its shape for each slot.
     ensures fits { IfOk result (λ values. Fits slots.now values.items) }
 {
@@ -65,7 +67,8 @@ pub fn read_image_values<H: Heap>(
     image: &Image,
 ) -> Result<Vec<Value>, ValuesFault>
     requires { length text.now ≤ 2 ^ 31 }
-    ensures value { GivesValuesUnless (H.may_refuse heap) (λ values. values.items) result (values_in image.now.slots text.now) }
+    ensures value { GivesValuesUnless (H.may_refuse heap) (λ values. values.items) result
+        (values_in image.now.slots text.now) }
     ensures fits { IfOk result (λ values. Fits image.now.slots values.items) }
 {
     read_values(heap, text, &image.slots)
