@@ -13,8 +13,9 @@ from pathlib import Path
 
 TOKEN = re.compile(r"[A-Za-z][A-Za-z0-9_]*|[0-9]+|:=|<=|[;=+\-*(){}]")
 SORTS = {"int": "sort.Int", "bool": "sort.Bool"}
-GRAMMAR = ["conjunction", "or", "relation", "and", "sum", "at_most", "equals", "term", "add", "subtract", "factor", "multiply",
-           "variable", "number", "truth", "minus", "group", "assign", "loop", "branch", "block", "no_forms", "form", "InfixProgram"]
+GRAMMAR = ["variable", "number", "truth", "unary", "binary", "group", "assign", "loop", "branch", "block", "no_forms", "form", "InfixProgram"]
+INFIX = {"*": ("Multiply", 1), "+": ("Add", 2), "-": ("Subtract", 2), "<=": ("AtMost", 3), "=": ("Equals", 3), "and": ("And", 4), "or": ("Or", 5)}
+PREFIX = {"not": "Not", "-": "Minus"}
 
 
 class Reader:
@@ -34,41 +35,22 @@ class Reader:
         self.at += 1
         return place, word
 
-    def joined(self, part, first, operators):
-        """Parts between operators of one level, which associate to the left."""
-        term = f"({first} {part()})"
-        while self.peek() in operators:
+    def expression(self, level=5):
+        """An expression whose operators have the level at most; a right operand binds closer than its operator."""
+        term = self.factor()
+        while INFIX.get(self.peek(), ("", 6))[1] <= level:
             place, word = self.take()
-            term = f"({operators[word]} {term} {place} {part()})"
+            name, own = INFIX[word]
+            term = f"(binary {term} {place} operator.{name} {self.expression(own - 1)})"
         return term
-
-    def disjunction(self):
-        return self.joined(self.conjunction, "conjunction", {"or": "or"})
-
-    def conjunction(self):
-        return self.joined(self.relation, "relation", {"and": "and"})
-
-    def relation(self):
-        left = self.sum()
-        relations = {"<=": "at_most", "=": "equals"}
-        if self.peek() not in relations:
-            return f"(sum {left})"
-        place, word = self.take()
-        return f"({relations[word]} {left} {place} {self.sum()})"
-
-    def sum(self):
-        return self.joined(self.term, "term", {"+": "add", "-": "subtract"})
-
-    def term(self):
-        return self.joined(self.factor, "factor", {"*": "multiply"})
 
     def factor(self):
         place, word = self.take()
         if word == "(":
-            inside = self.disjunction()
+            inside = self.expression()
             return f"(group {place} {inside} {self.take(')')[0]})"
-        if word in ("not", "-"):
-            return f"({'grammar.not' if word == 'not' else 'minus'} {place} {self.factor()})"
+        if word in PREFIX:
+            return f"(unary {place} sign.{PREFIX[word]} {self.factor()})"
         if word in ("true", "false"):
             return f"(truth {place} {word})"
         return f"({'number' if word.isdigit() else 'variable'} {place} (codes \"{word}\"))"
@@ -76,12 +58,12 @@ class Reader:
     def form(self):
         place, word = self.take()
         if word == "while":
-            return f"(loop {place} {self.disjunction()} {self.block()})"
+            return f"(loop {place} {self.expression()} {self.block()})"
         if word == "if":
-            test, block = self.disjunction(), self.block()
+            test, block = self.expression(), self.block()
             return f"(branch {place} {test} {block} {self.take('else')[0]} {self.block()})"
         becomes = self.take(":=")[0]
-        value = self.disjunction()
+        value = self.expression()
         return f"(assign {place} (codes \"{word}\") {becomes} {value} {self.take(';')[0]})"
 
     def block(self):
@@ -120,18 +102,20 @@ def main():
         sys.exit(f"byte {reader.tokens[reader.at][0]}: a statement belongs there")
     used = [it for it in GRAMMAR if re.search(rf"\({it} |\b{it}\b(?=\)|$)", forms, re.M) or it == "InfixProgram"]
     print(f"-- The text of {chosen.file} and its program, as guide/infix_definitions_of.py prints them.")
-    print("use Rattle.std.specs.Prelude.{ℕ, List, [], ◌∷◌, ◌++◌, codes}")
+    print("use Rattle.std.specs.Prelude.{ℕ, List, [], ◌∷◌, ◌++◌, codes, refl}")
+    for module, name_here in (("Infix", "operator"), ("Prefix", "sign")):
+        if f"{name_here}." in forms:
+            print(f"use Rattle.mini_syntax.specs.declared.operator.{module}.TheVariants as {name_here}")
     print("use Rattle.mini_syntax.specs.declared.sort.Sort.TheVariants as sort")
-    for some in (used[:12], used[12:]):
-        print(f"use Rattle.mini_syntax.specs.Grammar.{{{', '.join(some)}}}")
-    print("use Rattle.mini_syntax.specs.Grammar as grammar")
+    print(f"use Rattle.mini_syntax.specs.Grammar.{{{', '.join(used)}}}")
     print(f"\nunfoldable pub {name}_text : List ℕ\n{name}_text =")
     lines = text.split("\n")
     print("\n".join(f"    codes \"{line}\" ++ 10 ∷" if line else "    10 ∷" for line in lines[:-1]), "[]")
     print(f"\nabbrev pub {name}_infix : InfixProgram\n{name}_infix = record {{\n  decls =")
     print("".join(f"      {it}\n" for it in declarations) + "      [];")
     print("  forms =")
-    print(textwrap.fill(forms, 140, initial_indent=6 * " ", subsequent_indent=6 * " ", break_long_words=False) + ";\n}")
+    print(textwrap.fill(forms, 140, initial_indent=6 * " ", subsequent_indent=6 * " ", break_long_words=False) + ";")
+    print("  bound = refl;\n}")
 
 
 if __name__ == "__main__":

@@ -17,10 +17,10 @@ use Rattle.mini_syntax.specs.declared.operator.Prefix.{Prefix}
 use Rattle.mini_syntax.specs.declared.operator.Prefix.TheVariants as before
 use Rattle.mini_syntax.specs.Expected.{is_over, may_be_empty, same_mark, taken, takes}
 use Rattle.mini_syntax.specs.Scaffold.Lexemes.{next_kind}
-use Rattle.mini_syntax.specs.Scaffold.Phrases.{Completes, factor_kind, more_after, sort_declared, statement_kind}
-use Rattle.mini_syntax.specs.Scaffold.Phrases.{term_operator, sum_operator, relation_operator, conjunction_operator, disjunction_operator}
+use Rattle.mini_syntax.specs.Precedence.{compared_after, infix_of, may_follow}
+use Rattle.mini_syntax.specs.Scaffold.Phrases.{Completes, factor_kind, sort_declared, statement_kind}
 use Rattle.mini_syntax.specs.Tokens.{Token, mark_at, word_at, kind_of, place_of, token_of}
-use Rattle.mini_syntax.proofs.ExpectedLaws.{Leads, none_taken}
+use Rattle.mini_syntax.proofs.ExpectedLaws.{Leads, none_follows, none_taken, operator_refused, operator_taken}
 use Rattle.mini_syntax.proofs.GoesOnLaws.{bytes_of, same_marks, token_is}
 
 -- ---- trees and tokens in front
@@ -63,28 +63,6 @@ skipped x st (t ∷ ts) e skip c =
     let there : t ∷ ts ≢ [] = λ is. cc in
     record { last = c.last; taken_is = sym (ap (λ (o : Option (List Expected)). taken o ts) (skip there)) ∙ c.taken_is; over = c.over }
 
-term_skips : (k : TokenKind) (st : List Expected) → term_operator k ≡ None → takes (wants.MoreTerm ∷ st) k ≡ takes st k
-term_skips (kind.Mark mark.Times) st e = cc
-term_skips k st e = refl
-
-sum_skips : (k : TokenKind) (st : List Expected) → sum_operator k ≡ None → takes (wants.MoreSum ∷ st) k ≡ takes st k
-sum_skips (kind.Mark mark.Plus) st e = cc
-sum_skips (kind.Mark mark.Minus) st e = cc
-sum_skips k st e = refl
-
-relation_skips : (k : TokenKind) (st : List Expected) → relation_operator k ≡ None → takes (wants.MoreRelation ∷ st) k ≡ takes st k
-relation_skips (kind.Mark mark.AtMost) st e = cc
-relation_skips (kind.Mark mark.Equals) st e = cc
-relation_skips k st e = refl
-
-conjunction_skips : (k : TokenKind) (st : List Expected) → conjunction_operator k ≡ None → takes (wants.MoreAnd ∷ st) k ≡ takes st k
-conjunction_skips (kind.Word word.And) st e = cc
-conjunction_skips k st e = refl
-
-disjunction_skips : (k : TokenKind) (st : List Expected) → disjunction_operator k ≡ None → takes (wants.MoreOr ∷ st) k ≡ takes st k
-disjunction_skips (kind.Word word.Or) st e = cc
-disjunction_skips k st e = refl
-
 declaration_skips : (k : TokenKind) (st : List Expected) → sort_declared k ≡ None → takes (wants.MoreDeclarations ∷ st) k ≡ takes st k
 declaration_skips (kind.Word (word.Sort s)) st e = cc
 declaration_skips k st e = refl
@@ -95,20 +73,9 @@ statement_skips (kind.Word word.While) st e = cc
 statement_skips (kind.Word word.If) st e = cc
 statement_skips k st e = refl
 
-pub no_term : (st : List Expected) (ts : List Token) → None ≡ term_operator (next_kind ts) → Completes (wants.MoreTerm ∷ st) ts → Completes st ts
-no_term st ts e c = skipped wants.MoreTerm st ts refl (λ h. term_skips (next_kind ts) st (sym e)) c
-
-pub no_sum : (st : List Expected) (ts : List Token) → None ≡ sum_operator (next_kind ts) → Completes (wants.MoreSum ∷ st) ts → Completes st ts
-no_sum st ts e c = skipped wants.MoreSum st ts refl (λ h. sum_skips (next_kind ts) st (sym e)) c
-
-pub no_relation : (st : List Expected) (ts : List Token) → None ≡ relation_operator (next_kind ts) → Completes (wants.MoreRelation ∷ st) ts → Completes st ts
-no_relation st ts e c = skipped wants.MoreRelation st ts refl (λ h. relation_skips (next_kind ts) st (sym e)) c
-
-pub no_conjunction : (st : List Expected) (ts : List Token) → None ≡ conjunction_operator (next_kind ts) → Completes (wants.MoreAnd ∷ st) ts → Completes st ts
-no_conjunction st ts e c = skipped wants.MoreAnd st ts refl (λ h. conjunction_skips (next_kind ts) st (sym e)) c
-
-pub no_disjunction : (st : List Expected) (ts : List Token) → None ≡ disjunction_operator (next_kind ts) → Completes (wants.MoreOr ∷ st) ts → Completes st ts
-no_disjunction st ts e c = skipped wants.MoreOr st ts refl (λ h. disjunction_skips (next_kind ts) st (sym e)) c
+pub no_operator : (c : std.Bool) (st : List Expected) (ts : List Token) → None ≡ infix_of (next_kind ts) → Completes (wants.MoreExpression c ∷ st) ts →
+    Completes st ts
+no_operator c st ts e done = skipped (wants.MoreExpression c) st ts refl (λ h. none_follows c (next_kind ts) st (sym e)) done
 
 pub no_declaration : (st : List Expected) (ts : List Token) → None ≡ sort_declared (next_kind ts) → Completes (wants.MoreDeclarations ∷ st) ts → Completes st ts
 no_declaration st ts e c = skipped wants.MoreDeclarations st ts refl (λ h. declaration_skips (next_kind ts) st (sym e)) c
@@ -118,33 +85,23 @@ no_statement st ts e c = skipped wants.MoreStatements st ts refl (λ h. statemen
 
 -- ---- operators
 
-pub term_goes_on : (k : TokenKind) (op : Infix) (st : List Expected) → Some op ≡ term_operator k → takes (wants.MoreTerm ∷ st) k ≡ Some (wants.Operand ∷ wants.MoreTerm ∷ st)
-term_goes_on (kind.Mark mark.Times) op st e = refl
-term_goes_on k op st e = cc
+-- an operator that comes may come, and its right operand is expected then
+pub record Operates (op : Infix) (c : std.Bool) (st : List Expected) (ts : List Token) : Type 0 where
+  pub may : may_follow op c ≡ true
+  pub completes : Completes (wants.Operand ∷ wants.MoreExpression (compared_after op c) ∷ st) ts
 
-pub sum_goes_on : (k : TokenKind) (op : Infix) (st : List Expected) → Some op ≡ sum_operator k →
-    takes (wants.MoreTerm ∷ wants.MoreSum ∷ st) k ≡ Some (wants.Operand ∷ wants.MoreTerm ∷ wants.MoreSum ∷ st)
-sum_goes_on (kind.Mark mark.Plus) op st e = refl
-sum_goes_on (kind.Mark mark.Minus) op st e = refl
-sum_goes_on k op st e = cc
-
-pub relation_goes_on : (k : TokenKind) (op : Infix) (st : List Expected) → Some op ≡ relation_operator k →
-    takes (wants.MoreTerm ∷ wants.MoreSum ∷ wants.MoreRelation ∷ st) k ≡ Some (wants.Operand ∷ wants.MoreTerm ∷ wants.MoreSum ∷ st)
-relation_goes_on (kind.Mark mark.AtMost) op st e = refl
-relation_goes_on (kind.Mark mark.Equals) op st e = refl
-relation_goes_on k op st e = cc
-
-pub conjunction_goes_on : (k : TokenKind) (op : Infix) (b : std.Bool) (st : List Expected) → Some op ≡ conjunction_operator k →
-    takes (more_after b (wants.MoreAnd ∷ st)) k ≡ Some (wants.Operand ∷ wants.MoreTerm ∷ wants.MoreSum ∷ wants.MoreRelation ∷ wants.MoreAnd ∷ st)
-conjunction_goes_on (kind.Word word.And) op true st e = refl
-conjunction_goes_on (kind.Word word.And) op false st e = refl
-conjunction_goes_on k op b st e = cc
-
-pub disjunction_goes_on : (k : TokenKind) (op : Infix) (b : std.Bool) (st : List Expected) → Some op ≡ disjunction_operator k →
-    takes (more_after b (wants.MoreAnd ∷ wants.MoreOr ∷ st)) k ≡ Some (wants.Operand ∷ wants.MoreTerm ∷ wants.MoreSum ∷ wants.MoreRelation ∷ wants.MoreAnd ∷ wants.MoreOr ∷ st)
-disjunction_goes_on (kind.Word word.Or) op true st e = refl
-disjunction_goes_on (kind.Word word.Or) op false st e = refl
-disjunction_goes_on k op b st e = cc
+pub operates : (op : Infix) (c : std.Bool) (st : List Expected) (t : Token) (old ts : List Token) → old ≡ t ∷ ts → Some op ≡ infix_of (kind_of t) →
+    Completes (wants.MoreExpression c ∷ st) old → Operates op c st ts
+operates op c st t old ts is e done = pick (may_follow op c) refl
+  where
+    pick : (b : std.Bool) → may_follow op c ≡ b → Operates op c st ts
+    pick true may = record {
+      may = may;
+      completes =
+          stepped (wants.MoreExpression c ∷ st) (wants.Operand ∷ wants.MoreExpression (compared_after op c) ∷ st) t old ts is
+          (operator_taken op c (kind_of t) st (sym e) may) done;
+    }
+    pick false may = absurd (refused (wants.MoreExpression c ∷ st) t old ts is (operator_refused op c (kind_of t) st (sym e) may) done)
 
 -- ---- a mark that is wanted
 

@@ -1,20 +1,27 @@
 -- The tokens of every program are taken, one after the other; so where a token isn't taken, no program goes on with it.
-use Rattle.std.proofs.Common.{◌≡◌, ℕ, List, [], ◌∷◌, ◌++◌, Option, Some, None, true, false, refl, sym, ap, ◌∙◌, append_assoc}
+use Rattle.std.proofs.Common.{◌≡◌, ℕ, ◌≤◌, List, [], ◌∷◌, ◌++◌, Option, Some, None, true, false, cond, refl, sym, ap, subst, ◌∙◌, append_assoc, arith}
+use Rattle.std.specs.Prelude.{◌&&◌, nat_le}
 use Rattle.std.specs.Prelude as std
+use Rattle.std.proofs.lemmas.Bool.{and_parts, leb-true}
 use Rattle.std.proofs.lemmas.List.{append-nil}
+use Rattle.mini_syntax.specs.declared.expected.Answer.TheVariants.{Refused, Then}
 use Rattle.mini_syntax.specs.declared.expected.Expected.{Expected}
 use Rattle.mini_syntax.specs.declared.expected.Expected.TheVariants as wants
+use Rattle.mini_syntax.specs.declared.expected.Push.TheVariants as push
+use Rattle.mini_syntax.specs.declared.lexer.TokenKind.{TokenKind}
 use Rattle.mini_syntax.specs.declared.lexer.TokenKind.TheVariants as kind
 use Rattle.mini_syntax.specs.declared.mark.Mark.TheVariants as mark
+use Rattle.mini_syntax.specs.declared.operator.Infix.{Infix}
+use Rattle.mini_syntax.specs.declared.operator.Prefix.{Prefix}
+use Rattle.mini_syntax.specs.declared.operator.Prefix.TheVariants.{Not, Minus}
 use Rattle.mini_syntax.specs.declared.word.Word.TheVariants as word
-use Rattle.mini_syntax.specs.Expected.{takes, taken, at_start, is_over, expression, a_block}
-use Rattle.mini_syntax.specs.Grammar.{Disjunction, conjunction, or, Conjunction, relation, and, Relation, sum, at_most, equals}
-use Rattle.mini_syntax.specs.Grammar.{Sum, term, add, subtract, Term, factor, multiply, Factor, variable, number, truth, not, minus, group}
+use Rattle.mini_syntax.specs.Expected.{answered, infix_answer, takes, taken, at_start, is_over, expression, a_block}
+use Rattle.mini_syntax.specs.Grammar.{Expression, variable, number, truth, unary, binary, group, binds, expression_level, expression_tokens, prefix_token}
 use Rattle.mini_syntax.specs.Grammar.{Form, assign, loop, branch, Block, block, Forms, no_forms, form, Decl, InfixProgram, GoesOn}
-use Rattle.mini_syntax.specs.Grammar.{disjunction_tokens, conjunction_tokens, relation_tokens, sum_tokens, term_tokens, factor_tokens}
-use Rattle.mini_syntax.specs.Grammar.{form_tokens, block_tokens, forms_tokens, decl_tokens, decls_tokens, program_tokens}
-use Rattle.mini_syntax.specs.Scaffold.Phrases.{is_open, is_open_at, is_open_in, more_after}
+use Rattle.mini_syntax.specs.Grammar.{form_binds, block_binds, forms_bind, form_tokens, block_tokens, forms_tokens, decl_tokens, decls_tokens, program_tokens}
+use Rattle.mini_syntax.specs.Precedence.{compared_after, infix_of, infix_token, level_of, may_follow}
 use Rattle.mini_syntax.specs.Tokens.{Token, name_at, number_at, word_at, mark_at, kind_of}
+use Rattle.mini_syntax.proofs.PrecedenceLaws.{Allows, after, after_sum, allows_closer, allows_right, allows_sum, bound_parts, infix_seen, left_below, may_come}
 
 -- the tokens lead from one stack to another, whatever follows
 pub record Leads (from : List Expected) (ts : List Token) (to : List Expected) : Type 0 where
@@ -32,81 +39,61 @@ one from to t e = record { on = λ vs. ap (λ (o : Option (List Expected)). take
 before : (from mid to : List Expected) (t : Token) (us : List Token) → takes from (kind_of t) ≡ Some mid → Leads mid us to → Leads from (t ∷ us) to
 before from mid to t us e a = record { on = λ vs. ap (λ (o : Option (List Expected)). taken o (us ++ vs)) e ∙ a.on vs }
 
--- what is left may be skipped at `and`, at `or`, and at a mark after an expression
-and_next : (b : std.Bool) (rest : List Expected) → takes (more_after b (wants.MoreAnd ∷ rest)) (kind.Word word.And) ≡ Some (wants.Operand ∷ wants.MoreTerm ∷ wants.MoreSum ∷ wants.MoreRelation ∷ wants.MoreAnd ∷ rest)
-and_next true rest = refl
-and_next false rest = refl
+-- ---- expressions
 
-or_next : (b : std.Bool) (rest : List Expected) → takes (more_after b (wants.MoreAnd ∷ wants.MoreOr ∷ rest)) (kind.Word word.Or) ≡ Some (expression rest)
-or_next true rest = refl
-or_next false rest = refl
+pub operator_taken : (op : Infix) (c : std.Bool) (k : TokenKind) (rest : List Expected) → infix_of k ≡ Some op → may_follow op c ≡ true →
+    takes (wants.MoreExpression c ∷ rest) k ≡ Some (wants.Operand ∷ wants.MoreExpression (compared_after op c) ∷ rest)
+operator_taken op c k rest is may =
+    ap (λ (o : Option Infix). answered (infix_answer c o) rest (takes rest k)) is
+    ∙ ap (λ (b : std.Bool). answered (cond b (Then (push.OperandAndMore (compared_after op c))) Refused) rest (takes rest k)) may
 
-semicolon_next : (b : std.Bool) (rest : List Expected) → takes (more_after b (wants.MoreAnd ∷ wants.MoreOr ∷ wants.Mark mark.Semicolon ∷ rest)) (kind.Mark mark.Semicolon) ≡ Some rest
-semicolon_next true rest = refl
-semicolon_next false rest = refl
+pub operator_refused : (op : Infix) (c : std.Bool) (k : TokenKind) (rest : List Expected) → infix_of k ≡ Some op → may_follow op c ≡ false →
+    takes (wants.MoreExpression c ∷ rest) k ≡ None
+operator_refused op c k rest is may =
+    ap (λ (o : Option Infix). answered (infix_answer c o) rest (takes rest k)) is
+    ∙ ap (λ (b : std.Bool). answered (cond b (Then (push.OperandAndMore (compared_after op c))) Refused) rest (takes rest k)) may
 
-close_next : (b : std.Bool) (rest : List Expected) → takes (more_after b (wants.MoreAnd ∷ wants.MoreOr ∷ wants.Mark mark.Close ∷ rest)) (kind.Mark mark.Close) ≡ Some rest
-close_next true rest = refl
-close_next false rest = refl
+pub none_follows : (c : std.Bool) (k : TokenKind) (rest : List Expected) → infix_of k ≡ None → takes (wants.MoreExpression c ∷ rest) k ≡ takes rest k
+none_follows c k rest is = ap (λ (o : Option Infix). answered (infix_answer c o) rest (takes rest k)) is
 
-block_next : (b : std.Bool) (rest : List Expected) → takes (more_after b (wants.MoreAnd ∷ wants.MoreOr ∷ a_block rest)) (kind.Mark mark.OpenBlock) ≡ Some (wants.MoreStatements ∷ wants.Mark mark.CloseBlock ∷ rest)
-block_next true rest = refl
-block_next false rest = refl
+prefix_taken : (op : Prefix) (place : ℕ) (rest : List Expected) → takes (wants.Operand ∷ rest) (kind_of (prefix_token place op)) ≡ Some (wants.Operand ∷ rest)
+prefix_taken Not place rest = refl
+prefix_taken Minus place rest = refl
 
-mutual
-  pub disjunction_leads : (e : Disjunction) (rest : List Expected) → Leads (expression rest) (disjunction_tokens e) (more_after (is_open_at e) (wants.MoreAnd ∷ wants.MoreOr ∷ rest))
-  disjunction_leads (conjunction c) rest = conjunction_leads c (wants.MoreOr ∷ rest)
-  disjunction_leads (or e place c) rest =
-      join (disjunction_tokens e) (word_at place word.Or ∷ conjunction_tokens c) (disjunction_leads e rest)
-      (before (more_after (is_open_at e) (wants.MoreAnd ∷ wants.MoreOr ∷ rest)) (expression rest) (more_after (is_open_in c) (wants.MoreAnd ∷ wants.MoreOr ∷ rest)) (word_at place word.Or) (conjunction_tokens c)
-      (or_next (is_open_at e) rest) (conjunction_leads c (wants.MoreOr ∷ rest)))
-
-  pub conjunction_leads : (c : Conjunction) (rest : List Expected) → Leads (wants.Operand ∷ wants.MoreTerm ∷ wants.MoreSum ∷ wants.MoreRelation ∷ wants.MoreAnd ∷ rest) (conjunction_tokens c) (more_after (is_open_in c) (wants.MoreAnd ∷ rest))
-  conjunction_leads (relation r) rest = relation_leads r (wants.MoreAnd ∷ rest)
-  conjunction_leads (and c place r) rest =
-      join (conjunction_tokens c) (word_at place word.And ∷ relation_tokens r) (conjunction_leads c rest)
-      (before (more_after (is_open_in c) (wants.MoreAnd ∷ rest)) (wants.Operand ∷ wants.MoreTerm ∷ wants.MoreSum ∷ wants.MoreRelation ∷ wants.MoreAnd ∷ rest) (more_after (is_open r) (wants.MoreAnd ∷ rest)) (word_at place word.And) (relation_tokens r)
-      (and_next (is_open_in c) rest) (relation_leads r (wants.MoreAnd ∷ rest)))
-
-  pub relation_leads : (r : Relation) (rest : List Expected) → Leads (wants.Operand ∷ wants.MoreTerm ∷ wants.MoreSum ∷ wants.MoreRelation ∷ rest) (relation_tokens r) (more_after (is_open r) rest)
-  relation_leads (sum s) rest = sum_leads s (wants.MoreRelation ∷ rest)
-  relation_leads (at_most s place t) rest =
-      join (sum_tokens s) (mark_at place mark.AtMost ∷ sum_tokens t) (sum_leads s (wants.MoreRelation ∷ rest))
-      (before (wants.MoreTerm ∷ wants.MoreSum ∷ wants.MoreRelation ∷ rest) (wants.Operand ∷ wants.MoreTerm ∷ wants.MoreSum ∷ rest) (wants.MoreTerm ∷ wants.MoreSum ∷ rest)
-      (mark_at place mark.AtMost) (sum_tokens t) refl (sum_leads t rest))
-  relation_leads (equals s place t) rest =
-      join (sum_tokens s) (mark_at place mark.Equals ∷ sum_tokens t) (sum_leads s (wants.MoreRelation ∷ rest))
-      (before (wants.MoreTerm ∷ wants.MoreSum ∷ wants.MoreRelation ∷ rest) (wants.Operand ∷ wants.MoreTerm ∷ wants.MoreSum ∷ rest) (wants.MoreTerm ∷ wants.MoreSum ∷ rest)
-      (mark_at place mark.Equals) (sum_tokens t) refl (sum_leads t rest))
-
-  pub sum_leads : (s : Sum) (rest : List Expected) → Leads (wants.Operand ∷ wants.MoreTerm ∷ wants.MoreSum ∷ rest) (sum_tokens s) (wants.MoreTerm ∷ wants.MoreSum ∷ rest)
-  sum_leads (term t) rest = term_leads t (wants.MoreSum ∷ rest)
-  sum_leads (add s place t) rest =
-      join (sum_tokens s) (mark_at place mark.Plus ∷ term_tokens t) (sum_leads s rest)
-      (before (wants.MoreTerm ∷ wants.MoreSum ∷ rest) (wants.Operand ∷ wants.MoreTerm ∷ wants.MoreSum ∷ rest) (wants.MoreTerm ∷ wants.MoreSum ∷ rest)
-      (mark_at place mark.Plus) (term_tokens t) refl (term_leads t (wants.MoreSum ∷ rest)))
-  sum_leads (subtract s place t) rest =
-      join (sum_tokens s) (mark_at place mark.Minus ∷ term_tokens t) (sum_leads s rest)
-      (before (wants.MoreTerm ∷ wants.MoreSum ∷ rest) (wants.Operand ∷ wants.MoreTerm ∷ wants.MoreSum ∷ rest) (wants.MoreTerm ∷ wants.MoreSum ∷ rest)
-      (mark_at place mark.Minus) (term_tokens t) refl (term_leads t (wants.MoreSum ∷ rest)))
-
-  pub term_leads : (t : Term) (rest : List Expected) → Leads (wants.Operand ∷ wants.MoreTerm ∷ rest) (term_tokens t) (wants.MoreTerm ∷ rest)
-  term_leads (factor f) rest = factor_leads f (wants.MoreTerm ∷ rest)
-  term_leads (multiply t place f) rest =
-      join (term_tokens t) (mark_at place mark.Times ∷ factor_tokens f) (term_leads t rest)
-      (before (wants.MoreTerm ∷ rest) (wants.Operand ∷ wants.MoreTerm ∷ rest) (wants.MoreTerm ∷ rest)
-      (mark_at place mark.Times) (factor_tokens f) refl (factor_leads f (wants.MoreTerm ∷ rest)))
-
-  pub factor_leads : (f : Factor) (rest : List Expected) → Leads (wants.Operand ∷ rest) (factor_tokens f) rest
-  factor_leads (variable place name) rest = one (wants.Operand ∷ rest) rest (name_at place name) refl
-  factor_leads (number place digits) rest = one (wants.Operand ∷ rest) rest (number_at place digits) refl
-  factor_leads (truth place b) rest = one (wants.Operand ∷ rest) rest (word_at place (word.Truth b)) refl
-  factor_leads (not place f) rest = before (wants.Operand ∷ rest) (wants.Operand ∷ rest) rest (word_at place word.Not) (factor_tokens f) refl (factor_leads f rest)
-  factor_leads (minus place f) rest = before (wants.Operand ∷ rest) (wants.Operand ∷ rest) rest (mark_at place mark.Minus) (factor_tokens f) refl (factor_leads f rest)
-  factor_leads (group place e closing) rest =
-      before (wants.Operand ∷ rest) (expression (wants.Mark mark.Close ∷ rest)) rest (mark_at place mark.Open) (disjunction_tokens e ++ mark_at closing mark.Close ∷ []) refl
-      (join (disjunction_tokens e) (mark_at closing mark.Close ∷ []) (disjunction_leads e (wants.Mark mark.Close ∷ rest))
-      (one (more_after (is_open_at e) (wants.MoreAnd ∷ wants.MoreOr ∷ wants.Mark mark.Close ∷ rest)) rest (mark_at closing mark.Close) (close_next (is_open_at e) rest)))
+pub expression_leads : (e : Expression) (c : std.Bool) (rest : List Expected) → binds e ≡ true → Allows c (expression_level e) →
+    Leads (wants.Operand ∷ wants.MoreExpression c ∷ rest) (expression_tokens e) (wants.MoreExpression (after c e) ∷ rest)
+expression_leads (variable place name) c rest h allowed =
+    one (wants.Operand ∷ wants.MoreExpression c ∷ rest) (wants.MoreExpression c ∷ rest) (name_at place name) refl
+expression_leads (number place digits) c rest h allowed =
+    one (wants.Operand ∷ wants.MoreExpression c ∷ rest) (wants.MoreExpression c ∷ rest) (number_at place digits) refl
+expression_leads (truth place b) c rest h allowed =
+    one (wants.Operand ∷ wants.MoreExpression c ∷ rest) (wants.MoreExpression c ∷ rest) (word_at place (word.Truth b)) refl
+expression_leads (unary place op e) c rest h allowed =
+    let st : List Expected = wants.Operand ∷ wants.MoreExpression c ∷ rest in
+    let k = and_parts (nat_le (expression_level e) 0) (binds e) h in
+    let closest = leb-true (expression_level e) 0 k.0 in
+    let low : expression_level e ≤ 2 = omega (arith, closest) in
+    before st st (wants.MoreExpression c ∷ rest) (prefix_token place op) (expression_tokens e) (prefix_taken op place (wants.MoreExpression c ∷ rest))
+    (subst (λ (d : std.Bool). Leads (wants.Operand ∷ wants.MoreExpression c ∷ rest) (expression_tokens e) (wants.MoreExpression d ∷ rest))
+    (after_sum e c k.1 low)
+    (expression_leads e c rest k.1 (allows_sum c (expression_level e) low)))
+expression_leads (binary a place op b) c rest h allowed =
+    let k = bound_parts a b op place h in
+    let left = k.left in
+    let d = after c a in
+    join (expression_tokens a) (infix_token place op ∷ expression_tokens b)
+    (expression_leads a c rest k.left_bound (allows_closer c (expression_level a) (level_of op) (omega (arith, left, left_below op)) allowed))
+    (before (wants.MoreExpression d ∷ rest) (wants.Operand ∷ wants.MoreExpression (compared_after op d) ∷ rest) (wants.MoreExpression (after
+    (compared_after op d) b) ∷ rest)
+    (infix_token place op) (expression_tokens b)
+    (operator_taken op d (kind_of (infix_token place op)) rest (infix_seen place op) (may_come op a c k.left_bound k.left allowed))
+    (expression_leads b (compared_after op d) rest k.right_bound (allows_right op d (expression_level b) k.right)))
+expression_leads (group place e closing) c rest h allowed =
+    let to : List Expected = wants.MoreExpression c ∷ rest in
+    before (wants.Operand ∷ to) (expression (wants.Mark mark.Close ∷ to)) to (mark_at place mark.Open)
+    (expression_tokens e ++ mark_at closing mark.Close ∷ []) refl
+    (join (expression_tokens e) (mark_at closing mark.Close ∷ []) (expression_leads e false (wants.Mark mark.Close ∷ to) h tt)
+    (one (wants.MoreExpression (after false e) ∷ wants.Mark mark.Close ∷ to) to (mark_at closing mark.Close) refl))
 
 -- ---- statements
 
@@ -121,38 +108,48 @@ inside_leads fs closing rest inside =
     (one (wants.MoreStatements ∷ wants.Mark mark.CloseBlock ∷ rest) rest (mark_at closing mark.CloseBlock) refl)
 
 mutual
-  pub form_leads : (f : Form) (rest : List Expected) → Leads (wants.MoreStatements ∷ rest) (form_tokens f) (wants.MoreStatements ∷ rest)
-  form_leads (assign place name becomes e closing) rest =
-      before (wants.MoreStatements ∷ rest) (wants.Mark mark.Becomes ∷ expression (wants.Mark mark.Semicolon ∷ wants.MoreStatements ∷ rest)) (wants.MoreStatements ∷ rest) (name_at place name)
-      (mark_at becomes mark.Becomes ∷ (disjunction_tokens e ++ mark_at closing mark.Semicolon ∷ [])) refl
-      (before (wants.Mark mark.Becomes ∷ expression (wants.Mark mark.Semicolon ∷ wants.MoreStatements ∷ rest)) (expression (wants.Mark mark.Semicolon ∷ wants.MoreStatements ∷ rest)) (wants.MoreStatements ∷ rest)
-      (mark_at becomes mark.Becomes) (disjunction_tokens e ++ mark_at closing mark.Semicolon ∷ []) refl
-      (join (disjunction_tokens e) (mark_at closing mark.Semicolon ∷ []) (disjunction_leads e (wants.Mark mark.Semicolon ∷ wants.MoreStatements ∷ rest))
-      (one (more_after (is_open_at e) (wants.MoreAnd ∷ wants.MoreOr ∷ wants.Mark mark.Semicolon ∷ wants.MoreStatements ∷ rest)) (wants.MoreStatements ∷ rest) (mark_at closing mark.Semicolon) (semicolon_next (is_open_at e) (wants.MoreStatements ∷ rest)))))
-  form_leads (loop place e b) rest =
-      before (wants.MoreStatements ∷ rest) (expression (a_block (wants.MoreStatements ∷ rest))) (wants.MoreStatements ∷ rest) (word_at place word.While) (disjunction_tokens e ++ block_tokens b) refl
-      (join (disjunction_tokens e) (block_tokens b) (disjunction_leads e (a_block (wants.MoreStatements ∷ rest))) (after_test (is_open_at e) b (wants.MoreStatements ∷ rest)))
-  form_leads (branch place e b otherwise c) rest =
-      before (wants.MoreStatements ∷ rest) (expression (a_block (wants.Else ∷ a_block (wants.MoreStatements ∷ rest)))) (wants.MoreStatements ∷ rest) (word_at place word.If)
-      (disjunction_tokens e ++ (block_tokens b ++ word_at otherwise word.Else ∷ block_tokens c)) refl
-      (join (disjunction_tokens e) (block_tokens b ++ word_at otherwise word.Else ∷ block_tokens c) (disjunction_leads e (a_block (wants.Else ∷ a_block (wants.MoreStatements ∷ rest))))
-      (join (block_tokens b) (word_at otherwise word.Else ∷ block_tokens c) (after_test (is_open_at e) b (wants.Else ∷ a_block (wants.MoreStatements ∷ rest)))
-      (before (wants.Else ∷ a_block (wants.MoreStatements ∷ rest)) (a_block (wants.MoreStatements ∷ rest)) (wants.MoreStatements ∷ rest) (word_at otherwise word.Else) (block_tokens c) refl
-      (block_leads c (wants.MoreStatements ∷ rest)))))
+  pub form_leads : (f : Form) (rest : List Expected) → form_binds f ≡ true → Leads (wants.MoreStatements ∷ rest) (form_tokens f) (wants.MoreStatements ∷ rest)
+  form_leads (assign place name becomes e closing) rest h =
+      let more : List Expected = wants.MoreStatements ∷ rest in
+      let value : List Expected = expression (wants.Mark mark.Semicolon ∷ more) in
+      before more (wants.Mark mark.Becomes ∷ value) more (name_at place name) (mark_at becomes mark.Becomes ∷
+      (expression_tokens e ++ mark_at closing mark.Semicolon ∷ [])) refl
+      (before (wants.Mark mark.Becomes ∷ value) value more (mark_at becomes mark.Becomes) (expression_tokens e ++ mark_at closing mark.Semicolon ∷ []) refl
+      (join (expression_tokens e) (mark_at closing mark.Semicolon ∷ []) (expression_leads e false (wants.Mark mark.Semicolon ∷ more) h tt)
+      (one (wants.MoreExpression (after false e) ∷ wants.Mark mark.Semicolon ∷ more) more (mark_at closing mark.Semicolon) refl)))
+  form_leads (loop place e b) rest h =
+      let more : List Expected = wants.MoreStatements ∷ rest in
+      let k = and_parts (binds e) (block_binds b) h in
+      before more (expression (a_block more)) more (word_at place word.While) (expression_tokens e ++ block_tokens b) refl
+      (join (expression_tokens e) (block_tokens b) (expression_leads e false (a_block more) k.0 tt) (after_test (after false e) b more k.1))
+  form_leads (branch place e b otherwise c) rest h =
+      let more : List Expected = wants.MoreStatements ∷ rest in
+      let other : List Expected = wants.Else ∷ a_block more in
+      let k = and_parts (binds e) (block_binds b && block_binds c) h in
+      let l = and_parts (block_binds b) (block_binds c) k.1 in
+      before more (expression (a_block other)) more (word_at place word.If) (expression_tokens e ++
+      (block_tokens b ++ word_at otherwise word.Else ∷ block_tokens c)) refl
+      (join (expression_tokens e) (block_tokens b ++ word_at otherwise word.Else ∷ block_tokens c) (expression_leads e false (a_block other) k.0 tt)
+      (join (block_tokens b) (word_at otherwise word.Else ∷ block_tokens c) (after_test (after false e) b other l.0)
+      (before other (a_block more) more (word_at otherwise word.Else) (block_tokens c) refl (block_leads c more l.1))))
 
   -- a block after an expression
-  after_test : (left : std.Bool) (b : Block) (rest : List Expected) → Leads (more_after left (wants.MoreAnd ∷ wants.MoreOr ∷ a_block rest)) (block_tokens b) rest
-  after_test left (block place fs closing) rest =
-      before (more_after left (wants.MoreAnd ∷ wants.MoreOr ∷ a_block rest)) (wants.MoreStatements ∷ wants.Mark mark.CloseBlock ∷ rest) rest (mark_at place mark.OpenBlock) (forms_tokens fs ++ mark_at closing mark.CloseBlock ∷ [])
-      (block_next left rest) (inside_leads fs closing rest (forms_leads fs (wants.Mark mark.CloseBlock ∷ rest)))
+  after_test : (c : std.Bool) (b : Block) (rest : List Expected) → block_binds b ≡ true → Leads (wants.MoreExpression c ∷ a_block rest) (block_tokens b) rest
+  after_test c (block place fs closing) rest h =
+      before (wants.MoreExpression c ∷ a_block rest) (wants.MoreStatements ∷ wants.Mark mark.CloseBlock ∷ rest) rest (mark_at place mark.OpenBlock)
+      (forms_tokens fs ++ mark_at closing mark.CloseBlock ∷ []) refl (inside_leads fs closing rest (forms_leads fs (wants.Mark mark.CloseBlock ∷ rest) h))
 
-  pub block_leads : (b : Block) (rest : List Expected) → Leads (a_block rest) (block_tokens b) rest
-  block_leads (block place fs closing) rest =
-      before (a_block rest) (wants.MoreStatements ∷ wants.Mark mark.CloseBlock ∷ rest) rest (mark_at place mark.OpenBlock) (forms_tokens fs ++ mark_at closing mark.CloseBlock ∷ []) refl (inside_leads fs closing rest (forms_leads fs (wants.Mark mark.CloseBlock ∷ rest)))
+  pub block_leads : (b : Block) (rest : List Expected) → block_binds b ≡ true → Leads (a_block rest) (block_tokens b) rest
+  block_leads (block place fs closing) rest h =
+      before (a_block rest) (wants.MoreStatements ∷ wants.Mark mark.CloseBlock ∷ rest) rest (mark_at place mark.OpenBlock)
+      (forms_tokens fs ++ mark_at closing mark.CloseBlock ∷ []) refl (inside_leads fs closing rest (forms_leads fs (wants.Mark mark.CloseBlock ∷ rest) h))
 
-  pub forms_leads : (fs : Forms) (rest : List Expected) → Leads (wants.MoreStatements ∷ rest) (forms_tokens fs) (wants.MoreStatements ∷ rest)
-  forms_leads no_forms rest = none_leads (wants.MoreStatements ∷ rest)
-  forms_leads (form f fs) rest = join (form_tokens f) (forms_tokens fs) (form_leads f rest) (forms_leads fs rest)
+  pub forms_leads : (fs : Forms) (rest : List Expected) → forms_bind fs ≡ true →
+      Leads (wants.MoreStatements ∷ rest) (forms_tokens fs) (wants.MoreStatements ∷ rest)
+  forms_leads no_forms rest h = none_leads (wants.MoreStatements ∷ rest)
+  forms_leads (form f fs) rest h =
+      let k = and_parts (form_binds f) (forms_bind fs) h in
+      join (form_tokens f) (forms_tokens fs) (form_leads f rest k.0) (forms_leads fs rest k.1)
 
 -- ---- declarations
 
@@ -174,26 +171,29 @@ decls_lead (d ∷ ds) rest = join (decl_tokens d) (decls_tokens ds) (decl_leads 
 skip : (t : Token) (ts : List Token) (to : List Expected) → takes at_start (kind_of t) ≡ takes (wants.MoreStatements ∷ []) (kind_of t) → Leads (wants.MoreStatements ∷ []) (t ∷ ts) to → Leads at_start (t ∷ ts) to
 skip t ts to e a = record { on = λ vs. ap (λ (o : Option (List Expected)). taken o (ts ++ vs)) e ∙ a.on vs }
 
-first_form : (f : Form) → Leads at_start (form_tokens f) (wants.MoreStatements ∷ [])
-first_form (assign place name becomes e closing) =
-    skip (name_at place name) (mark_at becomes mark.Becomes ∷ (disjunction_tokens e ++ mark_at closing mark.Semicolon ∷ [])) (wants.MoreStatements ∷ [])
-    refl
-    (form_leads (assign place name becomes e closing) [])
-first_form (loop place e b) = skip (word_at place word.While) (disjunction_tokens e ++ block_tokens b) (wants.MoreStatements ∷ []) refl (form_leads (loop place e b) [])
-first_form (branch place e b otherwise c) =
-    skip (word_at place word.If) (disjunction_tokens e ++ (block_tokens b ++ word_at otherwise word.Else ∷ block_tokens c)) (wants.MoreStatements ∷ []) refl (form_leads (branch place e b otherwise c) [])
+first_form : (f : Form) → form_binds f ≡ true → Leads at_start (form_tokens f) (wants.MoreStatements ∷ [])
+first_form (assign place name becomes e closing) h =
+    skip (name_at place name) (mark_at becomes mark.Becomes ∷ (expression_tokens e ++ mark_at closing mark.Semicolon ∷ [])) (wants.MoreStatements ∷ []) refl
+    (form_leads (assign place name becomes e closing) [] h)
+first_form (loop place e b) h =
+    skip (word_at place word.While) (expression_tokens e ++ block_tokens b) (wants.MoreStatements ∷ []) refl (form_leads (loop place e b) [] h)
+first_form (branch place e b otherwise c) h =
+    skip (word_at place word.If) (expression_tokens e ++ (block_tokens b ++ word_at otherwise word.Else ∷ block_tokens c)) (wants.MoreStatements ∷ []) refl
+    (form_leads (branch place e b otherwise c) [] h)
 
 -- where a program ends
 abbrev pub end_of : Forms → List Expected
 end_of no_forms = at_start
 end_of (form f fs) = wants.MoreStatements ∷ []
 
-all_forms : (fs : Forms) → Leads at_start (forms_tokens fs) (end_of fs)
-all_forms no_forms = none_leads at_start
-all_forms (form f fs) = join (form_tokens f) (forms_tokens fs) (first_form f) (forms_leads fs [])
+all_forms : (fs : Forms) → forms_bind fs ≡ true → Leads at_start (forms_tokens fs) (end_of fs)
+all_forms no_forms h = none_leads at_start
+all_forms (form f fs) h =
+    let k = and_parts (form_binds f) (forms_bind fs) h in
+    join (form_tokens f) (forms_tokens fs) (first_form f k.0) (forms_leads fs [] k.1)
 
 program_leads : (p : InfixProgram) → Leads at_start (program_tokens p) (end_of p.forms)
-program_leads p = join (decls_tokens p.decls) (forms_tokens p.forms) (decls_lead p.decls (wants.MoreStatements ∷ [])) (all_forms p.forms)
+program_leads p = join (decls_tokens p.decls) (forms_tokens p.forms) (decls_lead p.decls (wants.MoreStatements ∷ [])) (all_forms p.forms p.bound)
 
 -- nothing more is expected there
 pub over_end : (fs : Forms) → is_over (end_of fs) ≡ true

@@ -9,26 +9,21 @@ use Rattle.std.proofs.lemmas.Slice.Eq.{bytes_eq-Decides}
 use Rattle.stack_text.specs.Breaches.{when}
 use Rattle.stack_text.proofs.SharedLaws.{rule_holds, rule_fails}
 use Rattle.mini_syntax.specs.Breaches.{breaches, body_of, decl_breaches, decls_breaches, declared_by, declared_of, is_too_large, named_from, names_of, number_of, or_first, variable_named, sort_named, infix_breaches, prefix_breaches, same_sort, assigns_breaches, test_breaches}
-use Rattle.mini_syntax.specs.Breaches.{disjunction_breaches, conjunction_breaches, relation_breaches, sum_breaches, term_breaches, factor_breaches}
-use Rattle.mini_syntax.specs.Breaches.{disjunction_sort, conjunction_sort, relation_sort, sum_sort, term_sort, factor_sort}
-use Rattle.mini_syntax.specs.Breaches.{disjunction_exp, conjunction_exp, relation_exp, sum_exp, term_exp, factor_exp}
+use Rattle.mini_syntax.specs.Breaches.{expression_breaches, expression_sort, expression_exp}
 use Rattle.mini_syntax.specs.Breaches.{form_breaches, block_breaches, forms_breaches, form_stmt, block_stmt, forms_stmt}
 use Rattle.mini_syntax.specs.declared.program.Declared.{Declared}
 use Rattle.mini_syntax.specs.declared.scope.Variable.{Variable}
 use Rattle.mini_syntax.specs.declared.sort.Sort.{Sort}
 use Rattle.mini_syntax.specs.declared.sort.Sort.TheVariants.{Int, Bool}
 use Rattle.mini_syntax.specs.declared.operator.Prefix.{Prefix}
-use Rattle.mini_syntax.specs.declared.operator.Prefix.TheVariants as before
 use Rattle.mini_syntax.specs.declared.operator.Infix.{Infix}
-use Rattle.mini_syntax.specs.declared.operator.Infix.TheVariants as between
-use Rattle.mini_syntax.specs.Grammar.{Disjunction, conjunction, or, Conjunction, relation, and, Relation, sum, at_most, equals}
-use Rattle.mini_syntax.specs.Grammar.{Sum, term, add, subtract, Term, factor, multiply, Factor, variable, number, truth, not, minus, group}
+use Rattle.mini_syntax.specs.Grammar.{Expression, variable, number, truth, unary, binary, group}
 use Rattle.mini_syntax.specs.Grammar.{Form, assign, loop, branch, Block, block, Forms, no_forms, form, Decl, InfixProgram}
 use Rattle.mini_syntax.specs.Operands.{prefix_takes, infix_takes, prefix_sort, infix_sort, sort_of}
 use Rattle.mini_syntax.specs.Language.{Exp}
 use Rattle.mini_syntax.specs.Language as language
 use Rattle.mini_syntax.specs.Lawful.{AreApart, IsLawful, levels, part_count, nth_name}
-use Rattle.mini_syntax.specs.Scaffold.Limits.{disjunction_operators, conjunction_operators, relation_operators, sum_operators, term_operators, factor_operators}
+use Rattle.mini_syntax.specs.Scaffold.Limits.{expression_operators}
 use Rattle.mini_syntax.specs.Scaffold.Limits.{form_blocks, block_blocks, forms_blocks, FormIsSmall, BlockIsSmall, FormsAreSmall, KeepsLimits}
 use Rattle.mini_syntax.specs.Names.{is_variable_name}
 use Rattle.mini_syntax.specs.Sorted.{depth, IsSorted, IsFine, AreFine}
@@ -36,36 +31,11 @@ use Rattle.mini_syntax.proofs.EmptyLaws.{two, three}
 
 -- ---- how deep an expression is
 
-mutual
-  disjunction_depth : (ds : List Declared) (e : Disjunction) → depth (disjunction_exp ds e) ≤ suc (disjunction_operators e)
-  disjunction_depth ds (conjunction c) = conjunction_depth ds c
-  disjunction_depth ds (or e place c) = let a = disjunction_depth ds e in let b = conjunction_depth ds c in omega (arith, a, b)
-
-  conjunction_depth : (ds : List Declared) (c : Conjunction) → depth (conjunction_exp ds c) ≤ suc (conjunction_operators c)
-  conjunction_depth ds (relation r) = relation_depth ds r
-  conjunction_depth ds (and c place r) = let a = conjunction_depth ds c in let b = relation_depth ds r in omega (arith, a, b)
-
-  relation_depth : (ds : List Declared) (r : Relation) → depth (relation_exp ds r) ≤ suc (relation_operators r)
-  relation_depth ds (sum s) = sum_depth ds s
-  relation_depth ds (at_most s place t) = let a = sum_depth ds s in let b = sum_depth ds t in omega (arith, a, b)
-  relation_depth ds (equals s place t) = let a = sum_depth ds s in let b = sum_depth ds t in omega (arith, a, b)
-
-  sum_depth : (ds : List Declared) (s : Sum) → depth (sum_exp ds s) ≤ suc (sum_operators s)
-  sum_depth ds (term t) = term_depth ds t
-  sum_depth ds (add s place t) = let a = sum_depth ds s in let b = term_depth ds t in omega (arith, a, b)
-  sum_depth ds (subtract s place t) = let a = sum_depth ds s in let b = term_depth ds t in omega (arith, a, b)
-
-  term_depth : (ds : List Declared) (t : Term) → depth (term_exp ds t) ≤ suc (term_operators t)
-  term_depth ds (factor f) = factor_depth ds f
-  term_depth ds (multiply t place f) = let a = term_depth ds t in let b = factor_depth ds f in omega (arith, a, b)
-
-  factor_depth : (ds : List Declared) (f : Factor) → depth (factor_exp ds f) ≤ suc (factor_operators f)
-  factor_depth ds (variable place name) = omega arith
-  factor_depth ds (number place digits) = omega arith
-  factor_depth ds (truth place b) = omega arith
-  factor_depth ds (not place f) = let a = factor_depth ds f in omega (arith, a)
-  factor_depth ds (minus place f) = let a = factor_depth ds f in omega (arith, a)
-  factor_depth ds (group place e closing) = disjunction_depth ds e
+expression_depth : (ds : List Declared) (e : Expression) → depth (expression_exp ds e) ≤ suc (expression_operators e)
+expression_depth ds (unary place op e) = let a = expression_depth ds e in omega (arith, a)
+expression_depth ds (binary a place op b) = let l = expression_depth ds a in let r = expression_depth ds b in omega (arith, l, r)
+expression_depth ds (group place e closing) = expression_depth ds e
+expression_depth ds e = omega arith
 
 -- ---- names
 
@@ -137,58 +107,22 @@ prefix_known ds place op s a p e = record {
   sort = refl;
 }
 
-mutual
-  disjunction_known : (ds : List Declared) (e : Disjunction) → disjunction_breaches ds e ≡ [] → Known ds (disjunction_sort ds e) (disjunction_exp ds e)
-  disjunction_known ds (conjunction c) h = conjunction_known ds c h
-  disjunction_known ds (or e place c) h =
-      let k = three (disjunction_breaches ds e) (conjunction_breaches ds c) (infix_breaches place between.Or (disjunction_sort ds e) (conjunction_sort ds c)) h in
-      infix_known ds place between.Or (disjunction_sort ds e) (conjunction_sort ds c) (disjunction_exp ds e) (conjunction_exp ds c) (disjunction_known ds e k.0) (conjunction_known ds c k.1) k.2
-
-  conjunction_known : (ds : List Declared) (c : Conjunction) → conjunction_breaches ds c ≡ [] → Known ds (conjunction_sort ds c) (conjunction_exp ds c)
-  conjunction_known ds (relation r) h = relation_known ds r h
-  conjunction_known ds (and c place r) h =
-      let k = three (conjunction_breaches ds c) (relation_breaches ds r) (infix_breaches place between.And (conjunction_sort ds c) (relation_sort ds r)) h in
-      infix_known ds place between.And (conjunction_sort ds c) (relation_sort ds r) (conjunction_exp ds c) (relation_exp ds r) (conjunction_known ds c k.0) (relation_known ds r k.1) k.2
-
-  relation_known : (ds : List Declared) (r : Relation) → relation_breaches ds r ≡ [] → Known ds (relation_sort ds r) (relation_exp ds r)
-  relation_known ds (sum s) h = sum_known ds s h
-  relation_known ds (at_most s place t) h =
-      let k = three (sum_breaches ds s) (sum_breaches ds t) (infix_breaches place between.AtMost (sum_sort ds s) (sum_sort ds t)) h in
-      infix_known ds place between.AtMost (sum_sort ds s) (sum_sort ds t) (sum_exp ds s) (sum_exp ds t) (sum_known ds s k.0) (sum_known ds t k.1) k.2
-  relation_known ds (equals s place t) h =
-      let k = three (sum_breaches ds s) (sum_breaches ds t) (infix_breaches place between.Equals (sum_sort ds s) (sum_sort ds t)) h in
-      infix_known ds place between.Equals (sum_sort ds s) (sum_sort ds t) (sum_exp ds s) (sum_exp ds t) (sum_known ds s k.0) (sum_known ds t k.1) k.2
-
-  sum_known : (ds : List Declared) (s : Sum) → sum_breaches ds s ≡ [] → Known ds (sum_sort ds s) (sum_exp ds s)
-  sum_known ds (term t) h = term_known ds t h
-  sum_known ds (add s place t) h =
-      let k = three (sum_breaches ds s) (term_breaches ds t) (infix_breaches place between.Add (sum_sort ds s) (term_sort ds t)) h in
-      infix_known ds place between.Add (sum_sort ds s) (term_sort ds t) (sum_exp ds s) (term_exp ds t) (sum_known ds s k.0) (term_known ds t k.1) k.2
-  sum_known ds (subtract s place t) h =
-      let k = three (sum_breaches ds s) (term_breaches ds t) (infix_breaches place between.Subtract (sum_sort ds s) (term_sort ds t)) h in
-      infix_known ds place between.Subtract (sum_sort ds s) (term_sort ds t) (sum_exp ds s) (term_exp ds t) (sum_known ds s k.0) (term_known ds t k.1) k.2
-
-  term_known : (ds : List Declared) (t : Term) → term_breaches ds t ≡ [] → Known ds (term_sort ds t) (term_exp ds t)
-  term_known ds (factor f) h = factor_known ds f h
-  term_known ds (multiply t place f) h =
-      let k = three (term_breaches ds t) (factor_breaches ds f) (infix_breaches place between.Multiply (term_sort ds t) (factor_sort ds f)) h in
-      infix_known ds place between.Multiply (term_sort ds t) (factor_sort ds f) (term_exp ds t) (factor_exp ds f) (term_known ds t k.0) (factor_known ds f k.1) k.2
-
-  factor_known : (ds : List Declared) (f : Factor) → factor_breaches ds f ≡ [] → Known ds (factor_sort ds f) (factor_exp ds f)
-  factor_known ds (variable place name) h = variable_known ds name (rule_fails (is_none (variable_named ds name)) place 6 h)
-  factor_known ds (number place digits) h = record { sorted = small (is_too_large (number_of digits)) refl; sort = refl }
-    where
-      small : (b : std.Bool) → is_too_large (number_of digits) ≡ b → cond b 0 (number_of digits) < 2 ^ 31
-      small true e = omega arith
-      small false e = let le : number_of digits ≤ 2147483647 = ltb-false 2147483647 (number_of digits) e in omega (arith, le)
-  factor_known ds (truth place b) h = record { sorted = tt; sort = refl }
-  factor_known ds (not place f) h =
-      let k = two (factor_breaches ds f) (prefix_breaches place before.Not (factor_sort ds f)) h in
-      prefix_known ds place before.Not (factor_sort ds f) (factor_exp ds f) (factor_known ds f k.0) k.1
-  factor_known ds (minus place f) h =
-      let k = two (factor_breaches ds f) (prefix_breaches place before.Minus (factor_sort ds f)) h in
-      prefix_known ds place before.Minus (factor_sort ds f) (factor_exp ds f) (factor_known ds f k.0) k.1
-  factor_known ds (group place e closing) h = disjunction_known ds e h
+expression_known : (ds : List Declared) (e : Expression) → expression_breaches ds e ≡ [] → Known ds (expression_sort ds e) (expression_exp ds e)
+expression_known ds (variable place name) h = variable_known ds name (rule_fails (is_none (variable_named ds name)) place 6 h)
+expression_known ds (number place digits) h = record { sorted = small (is_too_large (number_of digits)) refl; sort = refl }
+  where
+    small : (b : std.Bool) → is_too_large (number_of digits) ≡ b → cond b 0 (number_of digits) < 2 ^ 31
+    small true e = omega arith
+    small false e = let le : number_of digits ≤ 2147483647 = ltb-false 2147483647 (number_of digits) e in omega (arith, le)
+expression_known ds (truth place b) h = record { sorted = tt; sort = refl }
+expression_known ds (unary place op e) h =
+    let k = two (expression_breaches ds e) (prefix_breaches place op (expression_sort ds e)) h in
+    prefix_known ds place op (expression_sort ds e) (expression_exp ds e) (expression_known ds e k.0) k.1
+expression_known ds (binary a place op b) h =
+    let k = three (expression_breaches ds a) (expression_breaches ds b) (infix_breaches place op (expression_sort ds a) (expression_sort ds b)) h in
+    infix_known ds place op (expression_sort ds a) (expression_sort ds b) (expression_exp ds a) (expression_exp ds b)
+    (expression_known ds a k.0) (expression_known ds b k.1) k.2
+expression_known ds (group place e closing) h = expression_known ds e h
 
 -- ---- statements
 
@@ -198,34 +132,38 @@ same_sorts Int Bool e = cc
 same_sorts Bool Int e = cc
 same_sorts Bool Bool e = refl
 
-fine_of : (ds : List Declared) (e : Disjunction) (s : Sort) → disjunction_breaches ds e ≡ [] → disjunction_operators e ≤ 40 → sort_of (disjunction_exp ds e) ≡ s → IsFine (map (λ (d : Declared). d.sort) ds) s (disjunction_exp ds e)
+fine_of : (ds : List Declared) (e : Expression) (s : Sort) → expression_breaches ds e ≡ [] → expression_operators e ≤ 40 →
+    sort_of (expression_exp ds e) ≡ s → IsFine (map (λ (d : Declared). d.sort) ds) s (expression_exp ds e)
 fine_of ds e s clean small same = record {
-  sorted = (disjunction_known ds e clean).sorted;
+  sorted = (expression_known ds e clean).sorted;
   same = same;
-  shallow = let deep = disjunction_depth ds e in omega (arith, deep, small);
+  shallow = let deep = expression_depth ds e in omega (arith, deep, small);
 }
 
-test_fine : (ds : List Declared) (place : ℕ) (e : Disjunction) → test_breaches place (disjunction_sort ds e) ≡ [] → disjunction_breaches ds e ≡ [] → disjunction_operators e ≤ 40 → IsFine (map (λ (d : Declared). d.sort) ds) Bool (disjunction_exp ds e)
+test_fine : (ds : List Declared) (place : ℕ) (e : Expression) → test_breaches place (expression_sort ds e) ≡ [] → expression_breaches ds e ≡ [] →
+    expression_operators e ≤ 40 → IsFine (map (λ (d : Declared). d.sort) ds) Bool (expression_exp ds e)
 test_fine ds place e test clean small =
     fine_of ds e Bool clean small
-    (same_sorts (sort_of (disjunction_exp ds e)) Bool (rule_holds (same_sort (sort_of (disjunction_exp ds e)) Bool) place 7 (sym (ap (test_breaches place) (disjunction_known ds e clean).sort) ∙ test)))
+    (same_sorts (sort_of (expression_exp ds e)) Bool (rule_holds (same_sort (sort_of (expression_exp ds e)) Bool) place 7 (sym (ap (test_breaches place)
+    (expression_known ds e clean).sort) ∙ test)))
 
 mutual
   form_fine : (ds : List Declared) (f : Form) → form_breaches ds f ≡ [] → FormIsSmall f → AreFine (map (λ (d : Declared). d.sort) ds) (form_stmt ds f)
   form_fine ds (assign place name becomes e closing) h small =
-      let k = three (when (is_none (variable_named ds name)) place 6) (disjunction_breaches ds e) (assigns_breaches becomes (sort_named ds name) (disjunction_sort ds e)) h in
+      let k = three (when (is_none (variable_named ds name)) place 6) (expression_breaches ds e) (assigns_breaches becomes (sort_named ds name)
+      (expression_sort ds e)) h in
       let known = variable_known ds name (rule_fails (is_none (variable_named ds name)) place 6 k.0) in
       let s = (or_first (variable_named ds name)).sort in
-      let same : s ≡ sort_of (disjunction_exp ds e) =
-      same_sorts s (sort_of (disjunction_exp ds e))
-      (rule_holds (same_sort s (sort_of (disjunction_exp ds e))) becomes 7
-      (sym (ap₂ (assigns_breaches becomes) known.sort (disjunction_known ds e k.1).sort) ∙ k.2)) in
-      (known.sorted ∙ ap Some same, fine_of ds e (sort_of (disjunction_exp ds e)) k.1 small.0 refl)
+      let same : s ≡ sort_of (expression_exp ds e) =
+      same_sorts s (sort_of (expression_exp ds e))
+      (rule_holds (same_sort s (sort_of (expression_exp ds e))) becomes 7
+      (sym (ap₂ (assigns_breaches becomes) known.sort (expression_known ds e k.1).sort) ∙ k.2)) in
+      (known.sorted ∙ ap Some same, fine_of ds e (sort_of (expression_exp ds e)) k.1 small.0 refl)
   form_fine ds (loop place e b) h small =
-      let k = three (disjunction_breaches ds e) (test_breaches place (disjunction_sort ds e)) (block_breaches ds b) h in
+      let k = three (expression_breaches ds e) (test_breaches place (expression_sort ds e)) (block_breaches ds b) h in
       (test_fine ds place e k.1 k.0 small.0.0, block_fine ds b k.2 small.1)
   form_fine ds (branch place e b otherwise c) h small =
-      let k = three (disjunction_breaches ds e) (test_breaches place (disjunction_sort ds e)) (block_breaches ds b ++ block_breaches ds c) h in
+      let k = three (expression_breaches ds e) (test_breaches place (expression_sort ds e)) (block_breaches ds b ++ block_breaches ds c) h in
       let l = two (block_breaches ds b) (block_breaches ds c) k.2 in
       (test_fine ds place e k.1 k.0 small.0.0, block_fine ds b l.0 small.1, block_fine ds c l.1 small.2)
 

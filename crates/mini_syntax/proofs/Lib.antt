@@ -5,6 +5,7 @@ pub mod SpanLaws
 pub mod LexerLaws
 pub mod MachineLaws
 pub mod LimitLaws
+pub mod PrecedenceLaws
 pub mod ExpectedLaws
 pub mod GoesOnLaws
 pub mod JudgeLaws

@@ -7,19 +7,20 @@ use Rattle.std.proofs.lemmas.List.{append-nil}
 use Rattle.mini_syntax.specs.Breaches.{breaches}
 use Rattle.mini_syntax.specs.declared.lexer.TokenKind.{TokenKind}
 use Rattle.mini_syntax.specs.declared.lexer.TokenKind.TheVariants as kind
-use Rattle.mini_syntax.specs.declared.mark.Mark.{Mark}
 use Rattle.mini_syntax.specs.declared.mark.Mark.TheVariants as mark
+use Rattle.mini_syntax.specs.declared.operator.Infix.{Infix}
+use Rattle.mini_syntax.specs.declared.operator.Infix.TheVariants.{Or}
+use Rattle.mini_syntax.specs.declared.operator.Prefix.{Prefix}
+use Rattle.mini_syntax.specs.declared.operator.Prefix.TheVariants.{Not, Minus}
 use Rattle.mini_syntax.specs.declared.word.Word.{Word}
 use Rattle.mini_syntax.specs.declared.word.Word.TheVariants as word
 use Rattle.mini_syntax.specs.Faults.{AreFree, blocks, brackets, too_many, begins_expression, closes_block, closes_bracket, count_of, is_operator, open_blocks, open_brackets, operators, operators_from, opens_block, opens_bracket}
-use Rattle.mini_syntax.specs.Grammar.{Disjunction, conjunction, or, Conjunction, relation, and, Relation, sum, at_most, equals}
-use Rattle.mini_syntax.specs.Grammar.{Sum, term, add, subtract, Term, factor, multiply, Factor, variable, number, truth, not, minus, group}
+use Rattle.mini_syntax.specs.Grammar.{Expression, unary, binary, group, expression_tokens, prefix_token}
 use Rattle.mini_syntax.specs.Grammar.{Form, assign, loop, branch, Block, block, Forms, no_forms, form, Decl, InfixProgram, GoesOn, IsProgram}
-use Rattle.mini_syntax.specs.Grammar.{disjunction_tokens, conjunction_tokens, relation_tokens, sum_tokens, term_tokens, factor_tokens}
 use Rattle.mini_syntax.specs.Grammar.{form_tokens, block_tokens, forms_tokens, decl_tokens, decls_tokens, program_tokens}
-use Rattle.mini_syntax.specs.Scaffold.Limits.{disjunction_operators, conjunction_operators, relation_operators, sum_operators, term_operators, factor_operators}
-use Rattle.mini_syntax.specs.Scaffold.Limits.{disjunction_brackets, conjunction_brackets, relation_brackets, sum_brackets, term_brackets, factor_brackets}
-use Rattle.mini_syntax.specs.Scaffold.Limits.{form_blocks, block_blocks, forms_blocks, IsSmall, FormIsSmall, BlockIsSmall, FormsAreSmall}
+use Rattle.mini_syntax.specs.Precedence.{infix_token}
+use Rattle.mini_syntax.specs.Scaffold.Limits.{expression_operators, expression_brackets, IsSmall, FormIsSmall, BlockIsSmall, FormsAreSmall}
+use Rattle.mini_syntax.specs.Scaffold.Limits.{form_blocks, block_blocks, forms_blocks}
 use Rattle.mini_syntax.specs.Tokens.{Token, name_at, word_at, mark_at, kind_of, tokens_in}
 use Rattle.mini_syntax.proofs.SpanLaws.{IsShort, text_is_lawful}
 
@@ -87,17 +88,13 @@ even_infix a b t m n l r o = record {
       ∙ (let sums : k + m + 1 + n ≡ k + suc (m + n) = omega arith in sums);
 }
 
-even_mark : (place : ℕ) (m : Mark) → opens_bracket (kind.Mark m) ≡ false → closes_bracket (kind.Mark m) ≡ false → opens_block (kind.Mark m) ≡ false → closes_block (kind.Mark m) ≡ false
-    → begins_expression (kind.Mark m) ≡ false → is_operator (kind.Mark m) ≡ true → Even (mark_at place m ∷ []) 1
-even_mark place m a b c d e f = record {
-  brackets = rw (a, b) refl;
-  opened = rw c refl;
-  closed = rw d refl;
-  operators = λ n. rw (e, f) refl;
-}
+even_operator : (place : ℕ) (op : Infix) → Even (infix_token place op ∷ []) 1
+even_operator place Or = record { brackets = refl; opened = refl; closed = refl; operators = λ n. refl }
+even_operator place op = record { brackets = refl; opened = refl; closed = refl; operators = λ n. refl }
 
-even_word : (place : ℕ) (w : Word) → begins_expression (kind.Word w) ≡ false → is_operator (kind.Word w) ≡ true → Even (word_at place w ∷ []) 1
-even_word place w e f = record { brackets = refl; opened = refl; closed = refl; operators = λ n. rw (e, f) refl }
+even_sign : (place : ℕ) (op : Prefix) → Even (prefix_token place op ∷ []) 1
+even_sign place Not = record { brackets = refl; opened = refl; closed = refl; operators = λ n. refl }
+even_sign place Minus = record { brackets = refl; opened = refl; closed = refl; operators = λ n. refl }
 
 even_prefix : (a : List Token) (t : Token) (m : ℕ) → Even (t ∷ []) 1 → Even a m → Even (t ∷ a) (suc m)
 even_prefix a t m o l = record {
@@ -107,43 +104,22 @@ even_prefix a t m o l = record {
   operators = λ k. operators_append k (t ∷ []) a ∙ l.operators (operators_from k (t ∷ [])) ∙ ap (λ (x : ℕ). x + m) (o.operators k) ∙ (let sums : k + 1 + m ≡ k + suc m = omega arith in sums);
 }
 
-mutual
-  disjunction_even : (e : Disjunction) → Even (disjunction_tokens e) (disjunction_operators e)
-  disjunction_even (conjunction c) = conjunction_even c
-  disjunction_even (or e place c) = even_infix (disjunction_tokens e) (conjunction_tokens c) (word_at place word.Or) (disjunction_operators e) (conjunction_operators c) (disjunction_even e) (conjunction_even c) (even_word place word.Or refl refl)
-
-  conjunction_even : (c : Conjunction) → Even (conjunction_tokens c) (conjunction_operators c)
-  conjunction_even (relation r) = relation_even r
-  conjunction_even (and c place r) = even_infix (conjunction_tokens c) (relation_tokens r) (word_at place word.And) (conjunction_operators c) (relation_operators r) (conjunction_even c) (relation_even r) (even_word place word.And refl refl)
-
-  relation_even : (r : Relation) → Even (relation_tokens r) (relation_operators r)
-  relation_even (sum s) = sum_even s
-  relation_even (at_most s place t) = even_infix (sum_tokens s) (sum_tokens t) (mark_at place mark.AtMost) (sum_operators s) (sum_operators t) (sum_even s) (sum_even t) (even_mark place mark.AtMost refl refl refl refl refl refl)
-  relation_even (equals s place t) = even_infix (sum_tokens s) (sum_tokens t) (mark_at place mark.Equals) (sum_operators s) (sum_operators t) (sum_even s) (sum_even t) (even_mark place mark.Equals refl refl refl refl refl refl)
-
-  sum_even : (s : Sum) → Even (sum_tokens s) (sum_operators s)
-  sum_even (term t) = term_even t
-  sum_even (add s place t) = even_infix (sum_tokens s) (term_tokens t) (mark_at place mark.Plus) (sum_operators s) (term_operators t) (sum_even s) (term_even t) (even_mark place mark.Plus refl refl refl refl refl refl)
-  sum_even (subtract s place t) = even_infix (sum_tokens s) (term_tokens t) (mark_at place mark.Minus) (sum_operators s) (term_operators t) (sum_even s) (term_even t) (even_mark place mark.Minus refl refl refl refl refl refl)
-
-  term_even : (t : Term) → Even (term_tokens t) (term_operators t)
-  term_even (factor f) = factor_even f
-  term_even (multiply t place f) = even_infix (term_tokens t) (factor_tokens f) (mark_at place mark.Times) (term_operators t) (factor_operators f) (term_even t) (factor_even f) (even_mark place mark.Times refl refl refl refl refl refl)
-
-  factor_even : (f : Factor) → Even (factor_tokens f) (factor_operators f)
-  factor_even (variable place name) = record { brackets = refl; opened = refl; closed = refl; operators = λ n. omega arith }
-  factor_even (number place digits) = record { brackets = refl; opened = refl; closed = refl; operators = λ n. omega arith }
-  factor_even (truth place b) = record { brackets = refl; opened = refl; closed = refl; operators = λ n. omega arith }
-  factor_even (not place f) = even_prefix (factor_tokens f) (word_at place word.Not) (factor_operators f) (even_word place word.Not refl refl) (factor_even f)
-  factor_even (minus place f) = even_prefix (factor_tokens f) (mark_at place mark.Minus) (factor_operators f) (even_mark place mark.Minus refl refl refl refl refl refl) (factor_even f)
-  factor_even (group place e closing) =
-      let l = disjunction_even e in
-      record {
-        brackets = omega (arith, l.brackets, count_append opens_bracket (disjunction_tokens e) (mark_at closing mark.Close ∷ []), count_append closes_bracket (disjunction_tokens e) (mark_at closing mark.Close ∷ []));
-        opened = omega (arith, l.opened, count_append opens_block (disjunction_tokens e) (mark_at closing mark.Close ∷ []));
-        closed = omega (arith, l.closed, count_append closes_block (disjunction_tokens e) (mark_at closing mark.Close ∷ []));
-        operators = λ n. operators_append n (disjunction_tokens e) (mark_at closing mark.Close ∷ []) ∙ l.operators n;
-      }
+expression_even : (e : Expression) → Even (expression_tokens e) (expression_operators e)
+expression_even (unary place op e) = even_prefix (expression_tokens e) (prefix_token place op) (expression_operators e) (even_sign place op) (expression_even e)
+expression_even (binary a place op b) =
+    even_infix (expression_tokens a) (expression_tokens b) (infix_token place op) (expression_operators a) (expression_operators b) (expression_even a)
+    (expression_even b)
+    (even_operator place op)
+expression_even (group place e closing) =
+    let l = expression_even e in
+    let close : List Token = mark_at closing mark.Close ∷ [] in
+    record {
+      brackets = omega (arith, l.brackets, count_append opens_bracket (expression_tokens e) close, count_append closes_bracket (expression_tokens e) close);
+      opened = omega (arith, l.opened, count_append opens_block (expression_tokens e) close);
+      closed = omega (arith, l.closed, count_append closes_block (expression_tokens e) close);
+      operators = λ n. operators_append n (expression_tokens e) close ∙ l.operators n;
+    }
+expression_even e = record { brackets = refl; opened = refl; closed = refl; operators = λ n. omega arith }
 
 -- ---- the limits of an expression
 
@@ -188,63 +164,39 @@ prefix_within before a t n k m d keeps s one is right =
 leaf_within : (before : List Token) (n k : ℕ) → Stands before n k → Within n k 0 0
 leaf_within before n k s = record { brackets = omega (arith, s.few); operators = omega (arith, s.small) }
 
-mutual
-  disjunction_within : (e : Disjunction) (before : List Token) (n k : ℕ) → Keeps before (disjunction_tokens e) → Stands before n k → Within n k (disjunction_brackets e) (disjunction_operators e)
-  disjunction_within (conjunction c) before n k keeps s = conjunction_within c before n k keeps s
-  disjunction_within (or e place c) before n k keeps s =
-      infix_within before (disjunction_tokens e) (conjunction_tokens c) (word_at place word.Or) n k (disjunction_operators e) (conjunction_operators c) (disjunction_brackets e) (conjunction_brackets c) keeps s (disjunction_even e) (even_word place word.Or refl refl) refl
-      (λ h. disjunction_within e before n k h s) (λ before' k' h s'. conjunction_within c before' n k' h s')
+operator_counts : (place : ℕ) (op : Infix) → is_operator (kind_of (infix_token place op)) ≡ true
+operator_counts place Or = refl
+operator_counts place op = refl
 
-  conjunction_within : (c : Conjunction) (before : List Token) (n k : ℕ) → Keeps before (conjunction_tokens c) → Stands before n k → Within n k (conjunction_brackets c) (conjunction_operators c)
-  conjunction_within (relation r) before n k keeps s = relation_within r before n k keeps s
-  conjunction_within (and c place r) before n k keeps s =
-      infix_within before (conjunction_tokens c) (relation_tokens r) (word_at place word.And) n k (conjunction_operators c) (relation_operators r) (conjunction_brackets c) (relation_brackets r) keeps s (conjunction_even c) (even_word place word.And refl refl) refl
-      (λ h. conjunction_within c before n k h s) (λ before' k' h s'. relation_within r before' n k' h s')
+sign_counts : (place : ℕ) (op : Prefix) → is_operator (kind_of (prefix_token place op)) ≡ true
+sign_counts place Not = refl
+sign_counts place Minus = refl
 
-  relation_within : (r : Relation) (before : List Token) (n k : ℕ) → Keeps before (relation_tokens r) → Stands before n k → Within n k (relation_brackets r) (relation_operators r)
-  relation_within (sum s) before n k keeps st = sum_within s before n k keeps st
-  relation_within (at_most s place t) before n k keeps st =
-      infix_within before (sum_tokens s) (sum_tokens t) (mark_at place mark.AtMost) n k (sum_operators s) (sum_operators t) (sum_brackets s) (sum_brackets t) keeps st (sum_even s) (even_mark place mark.AtMost refl refl refl refl refl refl) refl
-      (λ h. sum_within s before n k h st) (λ before' k' h s'. sum_within t before' n k' h s')
-  relation_within (equals s place t) before n k keeps st =
-      infix_within before (sum_tokens s) (sum_tokens t) (mark_at place mark.Equals) n k (sum_operators s) (sum_operators t) (sum_brackets s) (sum_brackets t) keeps st (sum_even s) (even_mark place mark.Equals refl refl refl refl refl refl) refl
-      (λ h. sum_within s before n k h st) (λ before' k' h s'. sum_within t before' n k' h s')
-
-  sum_within : (s : Sum) (before : List Token) (n k : ℕ) → Keeps before (sum_tokens s) → Stands before n k → Within n k (sum_brackets s) (sum_operators s)
-  sum_within (term t) before n k keeps st = term_within t before n k keeps st
-  sum_within (add s place t) before n k keeps st =
-      infix_within before (sum_tokens s) (term_tokens t) (mark_at place mark.Plus) n k (sum_operators s) (term_operators t) (sum_brackets s) (term_brackets t) keeps st (sum_even s) (even_mark place mark.Plus refl refl refl refl refl refl) refl
-      (λ h. sum_within s before n k h st) (λ before' k' h s'. term_within t before' n k' h s')
-  sum_within (subtract s place t) before n k keeps st =
-      infix_within before (sum_tokens s) (term_tokens t) (mark_at place mark.Minus) n k (sum_operators s) (term_operators t) (sum_brackets s) (term_brackets t) keeps st (sum_even s) (even_mark place mark.Minus refl refl refl refl refl refl) refl
-      (λ h. sum_within s before n k h st) (λ before' k' h s'. term_within t before' n k' h s')
-
-  term_within : (t : Term) (before : List Token) (n k : ℕ) → Keeps before (term_tokens t) → Stands before n k → Within n k (term_brackets t) (term_operators t)
-  term_within (factor f) before n k keeps st = factor_within f before n k keeps st
-  term_within (multiply t place f) before n k keeps st =
-      infix_within before (term_tokens t) (factor_tokens f) (mark_at place mark.Times) n k (term_operators t) (factor_operators f) (term_brackets t) (factor_brackets f) keeps st (term_even t) (even_mark place mark.Times refl refl refl refl refl refl) refl
-      (λ h. term_within t before n k h st) (λ before' k' h s'. factor_within f before' n k' h s')
-
-  factor_within : (f : Factor) (before : List Token) (n k : ℕ) → Keeps before (factor_tokens f) → Stands before n k → Within n k (factor_brackets f) (factor_operators f)
-  factor_within (variable place name) before n k keeps s = leaf_within before n k s
-  factor_within (number place digits) before n k keeps s = leaf_within before n k s
-  factor_within (truth place b) before n k keeps s = leaf_within before n k s
-  factor_within (not place f) before n k keeps s =
-      prefix_within before (factor_tokens f) (word_at place word.Not) n k (factor_operators f) (factor_brackets f) keeps s (even_word place word.Not refl refl) refl (λ before' k' h s'. factor_within f before' n k' h s')
-  factor_within (minus place f) before n k keeps s =
-      prefix_within before (factor_tokens f) (mark_at place mark.Minus) n k (factor_operators f) (factor_brackets f) keeps s (even_mark place mark.Minus refl refl refl refl refl refl) refl (λ before' k' h s'. factor_within f before' n k' h s')
-  factor_within (group place e closing) before n k keeps s =
-      let lt = keeps.0.bracket refl in
-      let opening : Token = mark_at place mark.Open in
-      let next : Stands (before ++ opening ∷ []) (suc n) k =
-      record {
-        brackets = omega (arith, s.brackets, count_append opens_bracket before (opening ∷ []), count_append closes_bracket before (opening ∷ []));
-        operators = operators_append 0 before (opening ∷ []) ∙ s.operators;
-        few = omega (arith, lt, s.brackets);
-        small = s.small;
-      } in
-      let inner = disjunction_within e (before ++ opening ∷ []) (suc n) k (keeps_parts (before ++ opening ∷ []) (disjunction_tokens e) (mark_at closing mark.Close ∷ []) keeps.1).first next in
-      record { brackets = omega (arith, inner.brackets); operators = inner.operators }
+expression_within : (e : Expression) (before : List Token) (n k : ℕ) → Keeps before (expression_tokens e) → Stands before n k →
+    Within n k (expression_brackets e) (expression_operators e)
+expression_within (unary place op e) before n k keeps s =
+    prefix_within before (expression_tokens e) (prefix_token place op) n k (expression_operators e) (expression_brackets e) keeps s (even_sign place op)
+    (sign_counts place op)
+    (λ before' k' h s'. expression_within e before' n k' h s')
+expression_within (binary a place op b) before n k keeps s =
+    infix_within before (expression_tokens a) (expression_tokens b) (infix_token place op) n k (expression_operators a) (expression_operators b)
+    (expression_brackets a)
+    (expression_brackets b) keeps s (expression_even a) (even_operator place op) (operator_counts place op)
+    (λ h. expression_within a before n k h s) (λ before' k' h s'. expression_within b before' n k' h s')
+expression_within (group place e closing) before n k keeps s =
+    let lt = keeps.0.bracket refl in
+    let opening : Token = mark_at place mark.Open in
+    let next : Stands (before ++ opening ∷ []) (suc n) k =
+    record {
+      brackets = omega (arith, s.brackets, count_append opens_bracket before (opening ∷ []), count_append closes_bracket before (opening ∷ []));
+      operators = operators_append 0 before (opening ∷ []) ∙ s.operators;
+      few = omega (arith, lt, s.brackets);
+      small = s.small;
+    } in
+    let inner = expression_within e (before ++ opening ∷ []) (suc n) k (keeps_parts (before ++ opening ∷ []) (expression_tokens e)
+    (mark_at closing mark.Close ∷ []) keeps.1).first next in
+    record { brackets = omega (arith, inner.brackets); operators = inner.operators }
+expression_within e before n k keeps s = leaf_within before n k s
 
 -- ---- statements
 
@@ -268,14 +220,18 @@ closed_word place w = record { brackets = refl; blocks = refl }
 mutual
   form_closed : (f : Form) → Closed (form_tokens f)
   form_closed (assign place name becomes e closing) =
-      closed_append (name_at place name ∷ mark_at becomes mark.Becomes ∷ []) (disjunction_tokens e ++ mark_at closing mark.Semicolon ∷ []) record { brackets = refl; blocks = refl }
-      (closed_append (disjunction_tokens e) (mark_at closing mark.Semicolon ∷ []) (closed_even (disjunction_tokens e) (disjunction_operators e) (disjunction_even e)) record { brackets = refl; blocks = refl })
+      closed_append (name_at place name ∷ mark_at becomes mark.Becomes ∷ [])
+      (expression_tokens e ++ mark_at closing mark.Semicolon ∷ []) record { brackets = refl; blocks = refl }
+      (closed_append (expression_tokens e) (mark_at closing mark.Semicolon ∷ []) (closed_even (expression_tokens e) (expression_operators e)
+      (expression_even e)) record { brackets = refl; blocks = refl })
   form_closed (loop place e b) =
-      closed_append (word_at place word.While ∷ []) (disjunction_tokens e ++ block_tokens b) (closed_word place word.While)
-      (closed_append (disjunction_tokens e) (block_tokens b) (closed_even (disjunction_tokens e) (disjunction_operators e) (disjunction_even e)) (block_closed b))
+      closed_append (word_at place word.While ∷ []) (expression_tokens e ++ block_tokens b) (closed_word place word.While)
+      (closed_append (expression_tokens e) (block_tokens b) (closed_even (expression_tokens e) (expression_operators e) (expression_even e)) (block_closed b))
   form_closed (branch place e b otherwise c) =
-      closed_append (word_at place word.If ∷ []) (disjunction_tokens e ++ (block_tokens b ++ word_at otherwise word.Else ∷ block_tokens c)) (closed_word place word.If)
-      (closed_append (disjunction_tokens e) (block_tokens b ++ word_at otherwise word.Else ∷ block_tokens c) (closed_even (disjunction_tokens e) (disjunction_operators e) (disjunction_even e))
+      closed_append (word_at place word.If ∷ []) (expression_tokens e ++ (block_tokens b ++ word_at otherwise word.Else ∷ block_tokens c))
+      (closed_word place word.If)
+      (closed_append (expression_tokens e) (block_tokens b ++ word_at otherwise word.Else ∷ block_tokens c) (closed_even (expression_tokens e)
+      (expression_operators e) (expression_even e))
       (closed_append (block_tokens b) (word_at otherwise word.Else ∷ block_tokens c) (block_closed b)
       (closed_append (word_at otherwise word.Else ∷ []) (block_tokens c) (closed_word otherwise word.Else) (block_closed c))))
 
@@ -329,30 +285,32 @@ record SmallForms (fs : Forms) (m : ℕ) : Type 0 where
   small : FormsAreSmall fs
   blocks : m + forms_blocks fs ≤ 40
 
-expression_small : (before : List Token) (e : Disjunction) → Keeps before (disjunction_tokens e) → Stands before 0 0 → IsSmall e
-expression_small before e keeps s = let w = disjunction_within e before 0 0 keeps s in (omega (arith, w.operators), omega (arith, w.brackets))
+expression_small : (before : List Token) (e : Expression) → Keeps before (expression_tokens e) → Stands before 0 0 → IsSmall e
+expression_small before e keeps s = let w = expression_within e before 0 0 keeps s in (omega (arith, w.operators), omega (arith, w.brackets))
 
 mutual
   form_within : (f : Form) (before : List Token) (m : ℕ) → Keeps before (form_tokens f) → Level before m → SmallForm f m
   form_within (assign place name becomes e closing) before m keeps l =
       let named : List Token = before ++ name_at place name ∷ [] in
       let s = stands_at named (mark_at becomes mark.Becomes) m (level_after before (name_at place name ∷ []) m l record { brackets = refl; blocks = refl }) refl refl refl in
-      let parts = keeps_parts (named ++ mark_at becomes mark.Becomes ∷ []) (disjunction_tokens e) (mark_at closing mark.Semicolon ∷ []) keeps.1.1 in
+      let parts = keeps_parts (named ++ mark_at becomes mark.Becomes ∷ []) (expression_tokens e) (mark_at closing mark.Semicolon ∷ []) keeps.1.1 in
       record { small = expression_small (named ++ mark_at becomes mark.Becomes ∷ []) e parts.first s; blocks = omega (arith, l.few) }
   form_within (loop place e b) before m keeps l =
       let w : Token = word_at place word.While in
       let s = stands_at before w m l refl refl refl in
-      let parts = keeps_parts (before ++ w ∷ []) (disjunction_tokens e) (block_tokens b) keeps.1 in
-      let here = level_after (before ++ w ∷ []) (disjunction_tokens e) m (level_after before (w ∷ []) m l (closed_word place word.While)) (closed_even (disjunction_tokens e) (disjunction_operators e) (disjunction_even e)) in
-      let inner = block_within b ((before ++ w ∷ []) ++ disjunction_tokens e) m parts.second here in
+      let parts = keeps_parts (before ++ w ∷ []) (expression_tokens e) (block_tokens b) keeps.1 in
+      let here = level_after (before ++ w ∷ []) (expression_tokens e) m (level_after before (w ∷ []) m l (closed_word place word.While)) (closed_even
+      (expression_tokens e) (expression_operators e) (expression_even e)) in
+      let inner = block_within b ((before ++ w ∷ []) ++ expression_tokens e) m parts.second here in
       record { small = (expression_small (before ++ w ∷ []) e parts.first s, inner.small); blocks = inner.blocks }
   form_within (branch place e b otherwise c) before m keeps l =
       let w : Token = word_at place word.If in
       let other : Token = word_at otherwise word.Else in
       let s = stands_at before w m l refl refl refl in
-      let parts = keeps_parts (before ++ w ∷ []) (disjunction_tokens e) (block_tokens b ++ other ∷ block_tokens c) keeps.1 in
-      let here = level_after (before ++ w ∷ []) (disjunction_tokens e) m (level_after before (w ∷ []) m l (closed_word place word.If)) (closed_even (disjunction_tokens e) (disjunction_operators e) (disjunction_even e)) in
-      let at : List Token = (before ++ w ∷ []) ++ disjunction_tokens e in
+      let parts = keeps_parts (before ++ w ∷ []) (expression_tokens e) (block_tokens b ++ other ∷ block_tokens c) keeps.1 in
+      let here = level_after (before ++ w ∷ []) (expression_tokens e) m (level_after before (w ∷ []) m l (closed_word place word.If)) (closed_even
+      (expression_tokens e) (expression_operators e) (expression_even e)) in
+      let at : List Token = (before ++ w ∷ []) ++ expression_tokens e in
       let two = keeps_parts at (block_tokens b) (other ∷ block_tokens c) parts.second in
       let first = block_within b at m two.first here in
       let there = level_after (at ++ block_tokens b) (other ∷ []) m (level_after at (block_tokens b) m here (block_closed b)) (closed_word otherwise word.Else) in

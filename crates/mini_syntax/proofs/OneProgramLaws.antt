@@ -1,298 +1,196 @@
--- A text is one program at most. An expression's tokens are read from left to right, with what stands before the factor that comes
--- next, level by level; so each expression is what reading its tokens gives.
-use Rattle.std.proofs.Common.{◌≡◌, ℕ, List, [], ◌∷◌, ◌++◌, true, false, refl, sym, ap, ◌∙◌, append_assoc}
+-- A text is one program at most. An expression's tokens are read from left to right, with what stands before the operand that comes
+-- next; so each expression is what reading its tokens gives.
+use Rattle.std.proofs.Common.{◌≡◌, ◌≢◌, ℕ, ◌<◌, ◌≤◌, List, [], ◌∷◌, ◌++◌, true, false, cond, Option, Some, None, refl, sym, ap, ap₂, subst, ◌∙◌}
+use Rattle.std.proofs.Common.{append_assoc, arith}
+use Rattle.std.specs.Prelude.{◌&&◌, nat_le}
 use Rattle.std.specs.Prelude as std
+use Rattle.std.proofs.lemmas.Bool.{and_parts, le-leb, leb-true, lt-leb}
 use Rattle.std.proofs.lemmas.List.{append-nil}
+use denote.Struct.Props.{props}
 use Rattle.mini_syntax.specs.declared.lexer.TokenKind.{TokenKind}
 use Rattle.mini_syntax.specs.declared.lexer.TokenKind.TheVariants as kind
 use Rattle.mini_syntax.specs.declared.mark.Mark.TheVariants as mark
+use Rattle.mini_syntax.specs.declared.operator.Infix.{Infix}
+use Rattle.mini_syntax.specs.declared.operator.Prefix.{Prefix}
+use Rattle.mini_syntax.specs.declared.operator.Prefix.TheVariants.{Not, Minus}
 use Rattle.mini_syntax.specs.declared.word.Word.TheVariants as word
-use Rattle.mini_syntax.specs.Grammar.{Disjunction, conjunction, or, Conjunction, relation, and, Relation, sum, at_most, equals}
-use Rattle.mini_syntax.specs.Grammar.{Sum, term, add, subtract, Term, factor, multiply, Factor, variable, number, truth, not, minus, group}
+use Rattle.mini_syntax.specs.Grammar.{Expression, variable, number, truth, unary, binary, group, binds, expression_level, expression_tokens, prefix_token}
 use Rattle.mini_syntax.specs.Grammar.{Form, assign, loop, branch, Block, block, Forms, no_forms, form, Decl, InfixProgram, IsProgram}
-use Rattle.mini_syntax.specs.Grammar.{disjunction_tokens, conjunction_tokens, relation_tokens, sum_tokens, term_tokens, factor_tokens}
-use Rattle.mini_syntax.specs.Grammar.{form_tokens, block_tokens, forms_tokens, decls_tokens, program_tokens}
+use Rattle.mini_syntax.specs.Grammar.{form_binds, block_binds, forms_bind, form_tokens, block_tokens, forms_tokens, decls_tokens, program_tokens}
+use Rattle.mini_syntax.specs.Precedence.{any_level, infix_of, infix_token, level_of}
 use Rattle.mini_syntax.specs.Scaffold.Lexemes.{next_kind}
-use Rattle.mini_syntax.specs.Tokens.{Token, name_at, number_at, word_at, mark_at}
+use Rattle.mini_syntax.specs.Tokens.{Token, name_at, number_at, word_at, mark_at, kind_of, place_of}
+use Rattle.mini_syntax.proofs.PrecedenceLaws.{bound_parts, infix_place, infix_seen, left_below, level_in, one_above}
 
 -- ---- what stands before
 
-data Sign : Type 0 where
-  not_sign : (place : ℕ) → Sign
-  minus_sign : (place : ℕ) → Sign
+-- an operator before its operand; a left operand with its operator; a bracket that is open
+data Pending : Type 0 where
+  sign : (place : ℕ) (op : Prefix) → Pending
+  operation : (a : Expression) (place : ℕ) (op : Infix) → Pending
+  bracket : (place : ℕ) → Pending
 
-data BeforeFactor : Type 0 where
-  first_factor : BeforeFactor
-  after_times : (t : Term) (place : ℕ) → BeforeFactor
+-- an operand, with what stands before it, the nearest first
+record Held : Type 0 where
+  pending : List Pending
+  operand : Expression
 
-data BeforeTerm : Type 0 where
-  first_term : BeforeTerm
-  after_plus : (s : Sum) (place : ℕ) → BeforeTerm
-  after_minus : (s : Sum) (place : ℕ) → BeforeTerm
+-- before an operator of a level, or the end of an expression, the operators that bind as closely have their operand
+abbrev reduced : ℕ → List Pending → Expression → Held
+reduced k [] x = record { pending = []; operand = x }
+reduced k (sign place op ∷ s) x = reduced k s (unary place op x)
+reduced k (operation a place op ∷ s) x = cond {A = Held} (nat_le (level_of op) k) (reduced k s
+    (binary a place op x)) record { pending = operation a place op ∷ s; operand = x }
+reduced k (bracket place ∷ s) x = record { pending = bracket place ∷ s; operand = x }
 
-data BeforeSum : Type 0 where
-  first_sum : BeforeSum
-  after_at_most : (s : Sum) (place : ℕ) → BeforeSum
-  after_equals : (s : Sum) (place : ℕ) → BeforeSum
+-- an operand comes next; one was read; an expression was read, and the tokens behind it are left
+data Reader : Type 0 where
+  wants : List Pending → Reader
+  has : List Pending → Expression → Reader
+  found : (e : Expression) (rest : List Token) → Reader
+  failed : Reader
 
-data BeforeRelation : Type 0 where
-  first_relation : BeforeRelation
-  after_and : (c : Conjunction) (place : ℕ) → BeforeRelation
+abbrev closed : List Pending → Expression → ℕ → Reader
+closed (bracket place ∷ s) x closing = has s (group place x closing)
+closed s x closing = failed
 
-data BeforeConjunction : Type 0 where
-  first_conjunction : BeforeConjunction
-  after_or : (e : Disjunction) (place : ℕ) → BeforeConjunction
+abbrev ended : Held → Token → List Token → Reader
+ended h (mark_at closing mark.Close) ts = closed h.pending h.operand closing
+ended h t ts = found h.operand (t ∷ ts)
 
--- the sign that is read last binds closest
-abbrev signed : List Sign → Factor → Factor
-signed [] f = f
-signed (not_sign place ∷ ss) f = signed ss (not place f)
-signed (minus_sign place ∷ ss) f = signed ss (minus place f)
+abbrev behind : Option Infix → List Pending → Expression → Token → List Token → Reader
+behind (Some op) s x t ts =
+    let h : Held = reduced (level_of op) s x in
+    wants (operation h.operand (place_of t) op ∷ h.pending)
+behind None s x t ts = ended (reduced any_level s x) t ts
 
-abbrev made_term : BeforeFactor → Factor → Term
-made_term first_factor f = factor f
-made_term (after_times t place) f = multiply t place f
+abbrev next : Reader → Token → List Token → Reader
+next (wants s) (name_at place name) ts = has s (variable place name)
+next (wants s) (number_at place digits) ts = has s (number place digits)
+next (wants s) (word_at place (word.Truth b)) ts = has s (truth place b)
+next (wants s) (word_at place word.Not) ts = wants (sign place Not ∷ s)
+next (wants s) (mark_at place mark.Minus) ts = wants (sign place Minus ∷ s)
+next (wants s) (mark_at place mark.Open) ts = wants (bracket place ∷ s)
+next (wants s) t ts = failed
+next (has s x) t ts = behind (infix_of (kind_of t)) s x t ts
+next r t ts = r
 
-abbrev made_sum : BeforeTerm → Term → Sum
-made_sum first_term t = term t
-made_sum (after_plus s place) t = add s place t
-made_sum (after_minus s place) t = subtract s place t
+abbrev reads : Reader → List Token → Reader
+reads r [] = r
+reads r (t ∷ ts) = reads (next r t ts) ts
 
-abbrev made_relation : BeforeSum → Sum → Relation
-made_relation first_sum s = sum s
-made_relation (after_at_most s place) t = at_most s place t
-made_relation (after_equals s place) t = equals s place t
-
-abbrev made_conjunction : BeforeRelation → Relation → Conjunction
-made_conjunction first_relation r = relation r
-made_conjunction (after_and c place) r = and c place r
-
-abbrev made_disjunction : BeforeConjunction → Conjunction → Disjunction
-made_disjunction first_conjunction c = conjunction c
-made_disjunction (after_or e place) c = or e place c
-
--- a bracket that is open, with what stands before it
-data Outer : Type 0 where
-  outer : (place : ℕ) (ss : List Sign) (f : BeforeFactor) (t : BeforeTerm) (s : BeforeSum) (r : BeforeRelation) (c : BeforeConjunction) → Outer
-
--- the expression that was read, and the tokens behind it
-data Found : Type 0 where
-  nothing : Found
-  found : (e : Disjunction) (rest : List Token) → Found
-
-abbrev mutual
-  -- a factor comes next
-  reads : List Outer → List Sign → BeforeFactor → BeforeTerm → BeforeSum → BeforeRelation → BeforeConjunction → List Token → Found
-  reads o ss f t s r c [] = nothing
-  reads o ss f t s r c (name_at place name ∷ ts) = reads_on o (made_term f (signed ss (variable place name))) t s r c ts
-  reads o ss f t s r c (number_at place digits ∷ ts) = reads_on o (made_term f (signed ss (number place digits))) t s r c ts
-  reads o ss f t s r c (word_at place (word.Truth b) ∷ ts) = reads_on o (made_term f (signed ss (truth place b))) t s r c ts
-  reads o ss f t s r c (word_at place word.Not ∷ ts) = reads o (not_sign place ∷ ss) f t s r c ts
-  reads o ss f t s r c (mark_at place mark.Minus ∷ ts) = reads o (minus_sign place ∷ ss) f t s r c ts
-  reads o ss f t s r c (mark_at place mark.Open ∷ ts) =
-      reads (outer place ss f t s r c ∷ o) [] first_factor first_term first_sum first_relation first_conjunction ts
-  reads o ss f t s r c (x ∷ ts) = nothing
-
-  -- a term was read
-  reads_on : List Outer → Term → BeforeTerm → BeforeSum → BeforeRelation → BeforeConjunction → List Token → Found
-  reads_on o x t s r c [] = nothing
-  reads_on o x t s r c (mark_at place mark.Times ∷ ts) = reads o [] (after_times x place) t s r c ts
-  reads_on o x t s r c (mark_at place mark.Plus ∷ ts) = reads o [] first_factor (after_plus (made_sum t x) place) s r c ts
-  reads_on o x t s r c (mark_at place mark.Minus ∷ ts) = reads o [] first_factor (after_minus (made_sum t x) place) s r c ts
-  reads_on o x t s r c (mark_at place mark.AtMost ∷ ts) = reads o [] first_factor first_term (after_at_most (made_sum t x) place) r c ts
-  reads_on o x t s r c (mark_at place mark.Equals ∷ ts) = reads o [] first_factor first_term (after_equals (made_sum t x) place) r c ts
-  reads_on o x t s r c (word_at place word.And ∷ ts) =
-      reads o [] first_factor first_term first_sum (after_and (made_conjunction r (made_relation s (made_sum t x))) place) c ts
-  reads_on o x t s r c (word_at place word.Or ∷ ts) =
-      reads o [] first_factor first_term first_sum first_relation
-      (after_or (made_disjunction c (made_conjunction r (made_relation s (made_sum t x)))) place) ts
-  reads_on (outer place ss f u q p d ∷ o) x t s r c (mark_at closing mark.Close ∷ ts) =
-      reads_on o (made_term f (signed ss (group place (made_disjunction c (made_conjunction r (made_relation s (made_sum t x)))) closing))) u q p d ts
-  reads_on o x t s r c (y ∷ ts) = found (made_disjunction c (made_conjunction r (made_relation s (made_sum t x)))) (y ∷ ts)
+stays : (e : Expression) (rest ts : List Token) → reads (found e rest) ts ≡ found e rest
+stays e rest [] = refl
+stays e rest (t ∷ ts) = stays e rest ts
 
 -- ---- each tree is read
 
-record SumRead (x : Sum) : Type 0 where
-  last : Term
-  t : BeforeTerm
-  is : made_sum t last ≡ x
-  on : (o : List Outer) (s : BeforeSum) (r : BeforeRelation) (c : BeforeConjunction) (us : List Token) →
-      reads o [] first_factor first_term s r c (sum_tokens x ++ us) ≡ reads_on o last t s r c us
+-- what stands before an expression of a level binds looser
+abbrev Looser : ℕ → List Pending → Type 0
+Looser k [] = Unit {0}
+Looser k (sign place op ∷ s) = k ≤ 0
+Looser k (operation a place op ∷ s) = k < level_of op
+Looser k (bracket place ∷ s) = Unit {0}
 
-record RelationRead (x : Relation) : Type 0 where
-  last : Term
-  t : BeforeTerm
-  s : BeforeSum
-  is : made_relation s (made_sum t last) ≡ x
-  on : (o : List Outer) (r : BeforeRelation) (c : BeforeConjunction) (us : List Token) →
-      reads o [] first_factor first_term first_sum r c (relation_tokens x ++ us) ≡ reads_on o last t s r c us
+looser_closer : (k n : ℕ) (s : List Pending) → k ≤ n → Looser n s → Looser k s
+looser_closer k n [] le l = tt
+looser_closer k n (sign place op ∷ s) le l = omega (arith, le, l)
+looser_closer k n (operation a place op ∷ s) le l = omega (arith, le, l)
+looser_closer k n (bracket place ∷ s) le l = tt
 
-record ConjunctionRead (x : Conjunction) : Type 0 where
-  last : Term
-  t : BeforeTerm
-  s : BeforeSum
-  r : BeforeRelation
-  is : made_conjunction r (made_relation s (made_sum t last)) ≡ x
-  on : (o : List Outer) (c : BeforeConjunction) (us : List Token) →
-      reads o [] first_factor first_term first_sum first_relation c (conjunction_tokens x ++ us) ≡ reads_on o last t s r c us
+-- and an operator behind it doesn't bind closer
+abbrev Loose : ℕ → List Token → Type 0
+Loose k ts = (op : Infix) → Some op ≡ infix_of (next_kind ts) → k ≤ level_of op
 
-record DisjunctionRead (x : Disjunction) : Type 0 where
-  last : Term
-  t : BeforeTerm
-  s : BeforeSum
-  r : BeforeRelation
-  c : BeforeConjunction
-  is : made_disjunction c (made_conjunction r (made_relation s (made_sum t last))) ≡ x
-  on : (o : List Outer) (us : List Token) →
-      reads o [] first_factor first_term first_sum first_relation first_conjunction (disjunction_tokens x ++ us) ≡ reads_on o last t s r c us
+-- what stands before an operator's left operand is left alone
+left_alone : (op : Infix) (s : List Pending) (x : Expression) → Looser (level_of op) s → reduced (level_of op) s x ≡ record { pending = s; operand = x }
+left_alone op [] x l = refl
+left_alone op (sign place o ∷ s) x l = absurd (omega (arith, l, one_above op))
+left_alone op (operation a place o ∷ s) x l =
+    ap (λ (b : std.Bool). cond {A = Held} b (reduced (level_of op) s (binary a place o x)) record { pending = operation a place o ∷ s; operand = x })
+    (lt-leb (level_of o) (level_of op) l)
+left_alone op (bracket place ∷ s) x l = refl
 
-mutual
-  disjunction_read : (x : Disjunction) → DisjunctionRead x
-  disjunction_read (conjunction x) =
-      let h = conjunction_read x in
-      record { last = h.last; t = h.t; s = h.s; r = h.r; c = first_conjunction; is = ap conjunction h.is; on = λ o us. h.on o first_conjunction us }
-  disjunction_read (or e place x) =
-      let g = disjunction_read e in
-      let h = conjunction_read x in
-      record {
-        last = h.last;
-        t = h.t;
-        s = h.s;
-        r = h.r;
-        c = after_or e place;
-        is = ap (or e place) h.is;
-        on = λ o us.
-            ap (reads o [] first_factor first_term first_sum first_relation first_conjunction) (append_assoc (disjunction_tokens e) (word_at place word.Or ∷ conjunction_tokens x) us)
-            ∙ g.on o (word_at place word.Or ∷ (conjunction_tokens x ++ us))
-            ∙ ap (λ (y : Disjunction). reads o [] first_factor first_term first_sum first_relation (after_or y place) (conjunction_tokens x ++ us)) g.is
-            ∙ h.on o (after_or e place) us;
-      }
+-- two operands are one where no operator behind them tells them apart
+same_operand : (n : ℕ) (s r : List Pending) (x y : Expression) → n ≤ any_level → ((k : ℕ) → n ≤ k → reduced k s x ≡ reduced k r y) →
+    (ts : List Token) → Loose n ts → ts ≢ [] → reads (has s x) ts ≡ reads (has r y) ts
+same_operand n s r x y le same [] loose some = absurd (some refl)
+same_operand n s r x y le same (t ∷ ts) loose some = ap (λ (m : Reader). reads m ts) (pick (infix_of (kind_of t)) (λ op e. loose op e))
+  where
+    pick : (o : Option Infix) → ((op : Infix) → Some op ≡ o → n ≤ level_of op) → behind o s x t ts ≡ behind o r y t ts
+    pick None further = ap (λ (h : Held). ended h t ts) (same any_level le)
+    pick (Some op) further = ap (λ (h : Held). wants (operation h.operand (place_of t) op ∷ h.pending)) (same (level_of op) (further op refl))
 
-  conjunction_read : (x : Conjunction) → ConjunctionRead x
-  conjunction_read (relation x) =
-      let h = relation_read x in
-      record { last = h.last; t = h.t; s = h.s; r = first_relation; is = ap relation h.is; on = λ o c us. h.on o first_relation c us }
-  conjunction_read (and e place x) =
-      let g = conjunction_read e in
-      let h = relation_read x in
-      record {
-        last = h.last;
-        t = h.t;
-        s = h.s;
-        r = after_and e place;
-        is = ap (and e place) h.is;
-        on = λ o c us.
-            ap (reads o [] first_factor first_term first_sum first_relation c) (append_assoc (conjunction_tokens e) (word_at place word.And ∷ relation_tokens x) us)
-            ∙ g.on o c (word_at place word.And ∷ (relation_tokens x ++ us))
-            ∙ ap (λ (y : Conjunction). reads o [] first_factor first_term first_sum (after_and y place) c (relation_tokens x ++ us)) g.is
-            ∙ h.on o (after_and e place) c us;
-      }
+sign_read : (place : ℕ) (op : Prefix) (s : List Pending) (ts : List Token) → reads (wants s) (prefix_token place op ∷ ts) ≡ reads (wants (sign place op ∷ s)) ts
+sign_read place Not s ts = refl
+sign_read place Minus s ts = refl
 
-  relation_read : (x : Relation) → RelationRead x
-  relation_read (sum x) =
-      let h = sum_read x in
-      record { last = h.last; t = h.t; s = first_sum; is = ap sum h.is; on = λ o r c us. h.on o first_sum r c us }
-  relation_read (at_most e place x) =
-      let g = sum_read e in
-      let h = sum_read x in
-      record {
-        last = h.last;
-        t = h.t;
-        s = after_at_most e place;
-        is = ap (at_most e place) h.is;
-        on = λ o r c us.
-            ap (reads o [] first_factor first_term first_sum r c) (append_assoc (sum_tokens e) (mark_at place mark.AtMost ∷ sum_tokens x) us)
-            ∙ g.on o first_sum r c (mark_at place mark.AtMost ∷ (sum_tokens x ++ us))
-            ∙ ap (λ (y : Sum). reads o [] first_factor first_term (after_at_most y place) r c (sum_tokens x ++ us)) g.is
-            ∙ h.on o (after_at_most e place) r c us;
-      }
-  relation_read (equals e place x) =
-      let g = sum_read e in
-      let h = sum_read x in
-      record {
-        last = h.last;
-        t = h.t;
-        s = after_equals e place;
-        is = ap (equals e place) h.is;
-        on = λ o r c us.
-            ap (reads o [] first_factor first_term first_sum r c) (append_assoc (sum_tokens e) (mark_at place mark.Equals ∷ sum_tokens x) us)
-            ∙ g.on o first_sum r c (mark_at place mark.Equals ∷ (sum_tokens x ++ us))
-            ∙ ap (λ (y : Sum). reads o [] first_factor first_term (after_equals y place) r c (sum_tokens x ++ us)) g.is
-            ∙ h.on o (after_equals e place) r c us;
-      }
+operator_read : (place : ℕ) (op : Infix) (s : List Pending) (a : Expression) (ts : List Token) → Looser (level_of op) s →
+    reads (has s a) (infix_token place op ∷ ts) ≡ reads (wants (operation a place op ∷ s)) ts
+operator_read place op s a ts l =
+    let t : Token = infix_token place op in
+    ap (λ (o : Option Infix). reads (behind o s a t ts) ts) (infix_seen place op)
+    ∙ ap₂ (λ (h : Held) (p : ℕ). reads (wants (operation h.operand p op ∷ h.pending)) ts) (left_alone op s a l) (infix_place place op)
 
-  sum_read : (x : Sum) → SumRead x
-  sum_read (term x) = record { last = x; t = first_term; is = refl; on = λ o s r c us. term_read x o first_term s r c us }
-  sum_read (add e place x) =
-      let g = sum_read e in
-      record {
-        last = x;
-        t = after_plus e place;
-        is = refl;
-        on = λ o s r c us.
-            ap (reads o [] first_factor first_term s r c) (append_assoc (sum_tokens e) (mark_at place mark.Plus ∷ term_tokens x) us)
-            ∙ g.on o s r c (mark_at place mark.Plus ∷ (term_tokens x ++ us))
-            ∙ ap (λ (y : Sum). reads o [] first_factor (after_plus y place) s r c (term_tokens x ++ us)) g.is
-            ∙ term_read x o (after_plus e place) s r c us;
-      }
-  sum_read (subtract e place x) =
-      let g = sum_read e in
-      record {
-        last = x;
-        t = after_minus e place;
-        is = refl;
-        on = λ o s r c us.
-            ap (reads o [] first_factor first_term s r c) (append_assoc (sum_tokens e) (mark_at place mark.Minus ∷ term_tokens x) us)
-            ∙ g.on o s r c (mark_at place mark.Minus ∷ (term_tokens x ++ us))
-            ∙ ap (λ (y : Sum). reads o [] first_factor (after_minus y place) s r c (term_tokens x ++ us)) g.is
-            ∙ term_read x o (after_minus e place) s r c us;
-      }
+some_same : (op o : Infix) → Some op ≡ Some o → op ≡ o
+some_same op o e = cc
 
-  term_read : (x : Term) (o : List Outer) (t : BeforeTerm) (s : BeforeSum) (r : BeforeRelation) (c : BeforeConjunction) (us : List Token) →
-      reads o [] first_factor t s r c (term_tokens x ++ us) ≡ reads_on o x t s r c us
-  term_read (factor f) o t s r c us = factor_read f o [] first_factor t s r c us
-  term_read (multiply x place f) o t s r c us =
-      ap (reads o [] first_factor t s r c) (append_assoc (term_tokens x) (mark_at place mark.Times ∷ factor_tokens f) us)
-      ∙ term_read x o t s r c (mark_at place mark.Times ∷ (factor_tokens f ++ us))
-      ∙ factor_read f o [] (after_times x place) t s r c us
-
-  factor_read : (x : Factor) (o : List Outer) (ss : List Sign) (f : BeforeFactor) (t : BeforeTerm) (s : BeforeSum) (r : BeforeRelation) (c : BeforeConjunction) (us : List Token) →
-      reads o ss f t s r c (factor_tokens x ++ us) ≡ reads_on o (made_term f (signed ss x)) t s r c us
-  factor_read (variable place name) o ss f t s r c us = refl
-  factor_read (number place digits) o ss f t s r c us = refl
-  factor_read (truth place b) o ss f t s r c us = refl
-  factor_read (not place x) o ss f t s r c us = factor_read x o (not_sign place ∷ ss) f t s r c us
-  factor_read (minus place x) o ss f t s r c us = factor_read x o (minus_sign place ∷ ss) f t s r c us
-  factor_read (group place e closing) o ss f t s r c us =
-      let g = disjunction_read e in
-      let inside : List Outer = outer place ss f t s r c ∷ o in
-      ap (reads inside [] first_factor first_term first_sum first_relation first_conjunction) (append_assoc (disjunction_tokens e) (mark_at closing mark.Close ∷ []) us)
-      ∙ g.on inside (mark_at closing mark.Close ∷ us)
-      ∙ ap (λ (y : Disjunction). reads_on o (made_term f (signed ss (group place y closing))) t s r c us) g.is
+expression_read : (e : Expression) (s : List Pending) (ts : List Token) → binds e ≡ true → Looser (expression_level e) s → Loose (expression_level e) ts →
+    ts ≢ [] →
+    reads (wants s) (expression_tokens e ++ ts) ≡ reads (has s e) ts
+expression_read (variable place name) s ts h l loose some = refl
+expression_read (number place digits) s ts h l loose some = refl
+expression_read (truth place b) s ts h l loose some = refl
+expression_read (unary place op e) s ts h l loose some =
+    let k = and_parts (nat_le (expression_level e) 0) (binds e) h in
+    let closest = leb-true (expression_level e) 0 k.0 in
+    sign_read place op s (expression_tokens e ++ ts)
+    ∙ expression_read e (sign place op ∷ s) ts k.1 closest (λ o is. omega (arith, closest)) some
+    ∙ same_operand 0 (sign place op ∷ s) s e (unary place op e) (omega arith) (λ n le. refl) ts (λ o is. omega arith) some
+expression_read (binary a place op b) s ts h l loose some =
+    let k = bound_parts a b op place h in
+    let close_left = k.left in
+    let close_right = k.right in
+    let further : expression_level a ≤ level_of op = omega (arith, close_left, left_below op) in
+    let closer : expression_level b < level_of op = omega (arith, close_right, one_above op) in
+    let us : List Token = infix_token place op ∷ (expression_tokens b ++ ts) in
+    let loose_left : Loose (expression_level a) us =
+    λ o is. (let same : op ≡ o = some_same op o (sym (infix_seen place op) ∙ sym is) in subst (λ (q : Infix). expression_level a ≤ level_of q) same further) in
+    ap (reads (wants s)) (append_assoc (expression_tokens a) (infix_token place op ∷ expression_tokens b) ts)
+    ∙ expression_read a s us k.left_bound (looser_closer (expression_level a) (level_of op) s further l) loose_left (λ e. cc)
+    ∙ operator_read place op s a (expression_tokens b ++ ts) l
+    ∙ expression_read b (operation a place op ∷ s) ts k.right_bound closer (λ o is. (let le = loose o is in omega (arith, le, closer))) some
+    ∙ same_operand (level_of op) (operation a place op ∷ s) s b (binary a place op b) (level_in op)
+    (λ n le. ap (λ (c : std.Bool). cond {A = Held} c (reduced n s (binary a place op b)) record { pending = operation a place op ∷ s; operand = b })
+    (le-leb (level_of op) n le)) ts loose some
+expression_read (group place e closing) s ts h l loose some =
+    ap (reads (wants (bracket place ∷ s))) (append_assoc (expression_tokens e) (mark_at closing mark.Close ∷ []) ts)
+    ∙ expression_read e (bracket place ∷ s) (mark_at closing mark.Close ∷ ts) h tt (λ o is. absurd cc) (λ e. cc)
 
 -- an expression ends before a semicolon or a block
 data IsEnd : Token → Type 0 where
   semicolon : (place : ℕ) → IsEnd (mark_at place mark.Semicolon)
   opening : (place : ℕ) → IsEnd (mark_at place mark.OpenBlock)
 
-abbrev expression_in : List Token → Found
-expression_in ts = reads [] [] first_factor first_term first_sum first_relation first_conjunction ts
+is_found : (e : Expression) (t : Token) (us : List Token) → binds e ≡ true → IsEnd t → reads (wants []) (expression_tokens e ++ t ∷ us) ≡ found e (t ∷ us)
+is_found e t us h end = expression_read e [] (t ∷ us) h tt (λ o is. no_operator t o end is) (λ is. cc) ∙ all_read t end
+  where
+    no_operator : (u : Token) (o : Infix) → IsEnd u → Some o ≡ infix_of (kind_of u) → expression_level e ≤ level_of o
+    no_operator u o (semicolon place) is = absurd cc
+    no_operator u o (opening place) is = absurd cc
 
-is_found : (e : Disjunction) (t : Token) (us : List Token) → IsEnd t → expression_in (disjunction_tokens e ++ t ∷ us) ≡ found e (t ∷ us)
-is_found e t us (semicolon place) =
-    let g = disjunction_read e in
-    g.on [] (mark_at place mark.Semicolon ∷ us) ∙ ap (λ (y : Disjunction). found y (mark_at place mark.Semicolon ∷ us)) g.is
-is_found e t us (opening place) =
-    let g = disjunction_read e in
-    g.on [] (mark_at place mark.OpenBlock ∷ us) ∙ ap (λ (y : Disjunction). found y (mark_at place mark.OpenBlock ∷ us)) g.is
+    all_read : (u : Token) → IsEnd u → reads (has [] e) (u ∷ us) ≡ found e (u ∷ us)
+    all_read u (semicolon place) = stays e (mark_at place mark.Semicolon ∷ us) us
+    all_read u (opening place) = stays e (mark_at place mark.OpenBlock ∷ us) us
 
 record Same {X : Type 0} (x y : X) (us vs : List Token) : Type 0 where
   tree : x ≡ y
   rest : us ≡ vs
 
-expression_same : (e f : Disjunction) (t u : Token) (us vs : List Token) → IsEnd t → IsEnd u → disjunction_tokens e ++ t ∷ us ≡ disjunction_tokens f ++ u ∷ vs → Same e f (t ∷ us) (u ∷ vs)
-expression_same e f t u us vs a b is =
-    let both : found e (t ∷ us) ≡ found f (u ∷ vs) = sym (is_found e t us a) ∙ ap expression_in is ∙ is_found f u vs b in
+expression_same : (e f : Expression) (t u : Token) (us vs : List Token) → binds e ≡ true → binds f ≡ true → IsEnd t → IsEnd u →
+    expression_tokens e ++ t ∷ us ≡ expression_tokens f ++ u ∷ vs → Same e f (t ∷ us) (u ∷ vs)
+expression_same e f t u us vs h k a b is =
+    let both : found e (t ∷ us) ≡ found f (u ∷ vs) = sym (is_found e t us h a) ∙ ap (reads (wants [])) is ∙ is_found f u vs k b in
     record { tree = cc; rest = cc }
 
 -- ---- statements
@@ -322,87 +220,100 @@ block_is : (b : Block) → block_tokens b ≡ mark_at (opening_of b) mark.OpenBl
 block_is (block p fs q) = refl
 
 -- an expression and the block behind it
-before_block : (e f : Disjunction) (b c : Block) (us vs : List Token) → (disjunction_tokens e ++ (block_tokens b ++ us)) ≡ (disjunction_tokens f ++ (block_tokens c ++ vs)) →
+before_block : (e f : Expression) (b c : Block) (us vs : List Token) → binds e ≡ true → binds f ≡ true →
+    (expression_tokens e ++ (block_tokens b ++ us)) ≡ (expression_tokens f ++ (block_tokens c ++ vs)) →
     Same e f (block_tokens b ++ us) (block_tokens c ++ vs)
-before_block e f b c us vs is =
+before_block e f b c us vs g k is =
     let at : List Token = inner_of b ++ us in
     let there : List Token = inner_of c ++ vs in
     let left : block_tokens b ++ us ≡ mark_at (opening_of b) mark.OpenBlock ∷ at = ap (λ (ts : List Token). ts ++ us) (block_is b) in
     let right : block_tokens c ++ vs ≡ mark_at (opening_of c) mark.OpenBlock ∷ there = ap (λ (ts : List Token). ts ++ vs) (block_is c) in
     let h =
-    expression_same e f (mark_at (opening_of b) mark.OpenBlock) (mark_at (opening_of c) mark.OpenBlock) at there (opening (opening_of b)) (opening (opening_of c))
-    (ap (λ (ts : List Token). disjunction_tokens e ++ ts) (sym left) ∙ is ∙ ap (λ (ts : List Token). disjunction_tokens f ++ ts) right) in
+    expression_same e f (mark_at (opening_of b) mark.OpenBlock) (mark_at (opening_of c) mark.OpenBlock) at there g k (opening (opening_of b)) (opening
+    (opening_of c))
+    (ap (λ (ts : List Token). expression_tokens e ++ ts) (sym left) ∙ is ∙ ap (λ (ts : List Token). expression_tokens f ++ ts) right) in
     record { tree = h.tree; rest = left ∙ h.rest ∙ sym right }
 
 mutual
-  form_same : (f g : Form) (us vs : List Token) → form_tokens f ++ us ≡ form_tokens g ++ vs → Same f g us vs
-  form_same (assign p n b e q) (assign p' n' b' e' q') us vs is =
+  form_same : (f g : Form) (us vs : List Token) → form_binds f ≡ true → form_binds g ≡ true → form_tokens f ++ us ≡ form_tokens g ++ vs → Same f g us vs
+  form_same (assign p n b e q) (assign p' n' b' e' q') us vs x y is =
       let same_p : p ≡ p' = cc in
       let same_n : n ≡ n' = cc in
       let same_b : b ≡ b' = cc in
-      let tails : (disjunction_tokens e ++ mark_at q mark.Semicolon ∷ []) ++ us ≡ (disjunction_tokens e' ++ mark_at q' mark.Semicolon ∷ []) ++ vs = cc in
+      let tails : (expression_tokens e ++ mark_at q mark.Semicolon ∷ []) ++ us ≡ (expression_tokens e' ++ mark_at q' mark.Semicolon ∷ []) ++ vs = cc in
       let h =
-      expression_same e e' (mark_at q mark.Semicolon) (mark_at q' mark.Semicolon) us vs (semicolon q) (semicolon q')
-      (sym (append_assoc (disjunction_tokens e) (mark_at q mark.Semicolon ∷ []) us) ∙ tails ∙ append_assoc (disjunction_tokens e') (mark_at q' mark.Semicolon ∷ []) vs) in
+      expression_same e e' (mark_at q mark.Semicolon) (mark_at q' mark.Semicolon) us vs x y (semicolon q) (semicolon q')
+      (sym (append_assoc (expression_tokens e) (mark_at q mark.Semicolon ∷ []) us) ∙ tails
+      ∙ append_assoc (expression_tokens e') (mark_at q' mark.Semicolon ∷ []) vs) in
       let same_e : e ≡ e' = h.tree in
       let ends : mark_at q mark.Semicolon ∷ us ≡ mark_at q' mark.Semicolon ∷ vs = h.rest in
       let same_q : q ≡ q' = cc in
       record { tree = cc; rest = cc }
-  form_same (assign p n b e q) (loop p' e' b') us vs is = cc
-  form_same (assign p n b e q) (branch p' e' b' l' c') us vs is = cc
-  form_same (loop p e b) (assign p' n' b' e' q') us vs is = cc
-  form_same (loop p e b) (loop p' e' b') us vs is =
+  form_same (assign p n b e q) (loop p' e' b') us vs x y is = cc
+  form_same (assign p n b e q) (branch p' e' b' l' c') us vs x y is = cc
+  form_same (loop p e b) (assign p' n' b' e' q') us vs x y is = cc
+  form_same (loop p e b) (loop p' e' b') us vs x y is =
+      let bound = and_parts (binds e) (block_binds b) x in
+      let bound' = and_parts (binds e') (block_binds b') y in
       let same_p : p ≡ p' = cc in
-      let tails : (disjunction_tokens e ++ block_tokens b) ++ us ≡ (disjunction_tokens e' ++ block_tokens b') ++ vs = cc in
+      let tails : (expression_tokens e ++ block_tokens b) ++ us ≡ (expression_tokens e' ++ block_tokens b') ++ vs = cc in
       let h =
-      before_block e e' b b' us vs
-      (sym (append_assoc (disjunction_tokens e) (block_tokens b) us) ∙ tails ∙ append_assoc (disjunction_tokens e') (block_tokens b') vs) in
-      let k = block_same b b' us vs h.rest in
+      before_block e e' b b' us vs bound.0 bound'.0
+      (sym (append_assoc (expression_tokens e) (block_tokens b) us) ∙ tails ∙ append_assoc (expression_tokens e') (block_tokens b') vs) in
+      let k = block_same b b' us vs bound.1 bound'.1 h.rest in
       let same_e : e ≡ e' = h.tree in
       let same_b : b ≡ b' = k.tree in
       record { tree = cc; rest = k.rest }
-  form_same (loop p e b) (branch p' e' b' l' c') us vs is = cc
-  form_same (branch p e b l c) (assign p' n' b' e' q') us vs is = cc
-  form_same (branch p e b l c) (loop p' e' b') us vs is = cc
-  form_same (branch p e b l c) (branch p' e' b' l' c') us vs is =
+  form_same (loop p e b) (branch p' e' b' l' c') us vs x y is = cc
+  form_same (branch p e b l c) (assign p' n' b' e' q') us vs x y is = cc
+  form_same (branch p e b l c) (loop p' e' b') us vs x y is = cc
+  form_same (branch p e b l c) (branch p' e' b' l' c') us vs x y is =
+      let bound = and_parts (binds e) (block_binds b && block_binds c) x in
+      let bound' = and_parts (binds e') (block_binds b' && block_binds c') y in
+      let blocks = and_parts (block_binds b) (block_binds c) bound.1 in
+      let blocks' = and_parts (block_binds b') (block_binds c') bound'.1 in
       let same_p : p ≡ p' = cc in
       let second : List Token = word_at l word.Else ∷ block_tokens c in
       let second' : List Token = word_at l' word.Else ∷ block_tokens c' in
-      let tails : (disjunction_tokens e ++ (block_tokens b ++ second)) ++ us ≡ (disjunction_tokens e' ++ (block_tokens b' ++ second')) ++ vs = cc in
+      let tails : (expression_tokens e ++ (block_tokens b ++ second)) ++ us ≡ (expression_tokens e' ++ (block_tokens b' ++ second')) ++ vs = cc in
       let h =
-      before_block e e' b b' (second ++ us) (second' ++ vs)
-      (sym (ap (λ (ts : List Token). disjunction_tokens e ++ ts) (append_assoc (block_tokens b) second us))
-      ∙ sym (append_assoc (disjunction_tokens e) (block_tokens b ++ second) us) ∙ tails ∙ append_assoc (disjunction_tokens e') (block_tokens b' ++ second') vs
-      ∙ ap (λ (ts : List Token). disjunction_tokens e' ++ ts) (append_assoc (block_tokens b') second' vs)) in
-      let k = block_same b b' (second ++ us) (second' ++ vs) h.rest in
+      before_block e e' b b' (second ++ us) (second' ++ vs) bound.0 bound'.0
+      (sym (ap (λ (ts : List Token). expression_tokens e ++ ts) (append_assoc (block_tokens b) second us))
+      ∙ sym (append_assoc (expression_tokens e) (block_tokens b ++ second) us) ∙ tails ∙ append_assoc (expression_tokens e') (block_tokens b' ++ second') vs
+      ∙ ap (λ (ts : List Token). expression_tokens e' ++ ts) (append_assoc (block_tokens b') second' vs)) in
+      let k = block_same b b' (second ++ us) (second' ++ vs) blocks.0 blocks'.0 h.rest in
       let others : word_at l word.Else ∷ (block_tokens c ++ us) ≡ word_at l' word.Else ∷ (block_tokens c' ++ vs) = k.rest in
       let same_l : l ≡ l' = cc in
       let last : block_tokens c ++ us ≡ block_tokens c' ++ vs = cc in
-      let m = block_same c c' us vs last in
+      let m = block_same c c' us vs blocks.1 blocks'.1 last in
       let same_e : e ≡ e' = h.tree in
       let same_b : b ≡ b' = k.tree in
       let same_c : c ≡ c' = m.tree in
       record { tree = cc; rest = m.rest }
 
-  block_same : (b c : Block) (us vs : List Token) → block_tokens b ++ us ≡ block_tokens c ++ vs → Same b c us vs
-  block_same (block p fs q) (block p' fs' q') us vs is =
+  block_same : (b c : Block) (us vs : List Token) → block_binds b ≡ true → block_binds c ≡ true → block_tokens b ++ us ≡ block_tokens c ++ vs → Same b c us vs
+  block_same (block p fs q) (block p' fs' q') us vs x y is =
       let same_p : p ≡ p' = cc in
       let tails : (forms_tokens fs ++ mark_at q mark.CloseBlock ∷ []) ++ us ≡ (forms_tokens fs' ++ mark_at q' mark.CloseBlock ∷ []) ++ vs = cc in
       let h =
-      forms_same fs fs' (mark_at q mark.CloseBlock ∷ us) (mark_at q' mark.CloseBlock ∷ vs) (at_brace q us) (at_brace q' vs)
+      forms_same fs fs' (mark_at q mark.CloseBlock ∷ us) (mark_at q' mark.CloseBlock ∷ vs) x y (at_brace q us) (at_brace q' vs)
       (sym (append_assoc (forms_tokens fs) (mark_at q mark.CloseBlock ∷ []) us) ∙ tails ∙ append_assoc (forms_tokens fs') (mark_at q' mark.CloseBlock ∷ []) vs) in
       let same_fs : fs ≡ fs' = h.tree in
       let ends : mark_at q mark.CloseBlock ∷ us ≡ mark_at q' mark.CloseBlock ∷ vs = h.rest in
       let same_q : q ≡ q' = cc in
       record { tree = cc; rest = cc }
 
-  forms_same : (fs gs : Forms) (us vs : List Token) → AreOver us → AreOver vs → forms_tokens fs ++ us ≡ forms_tokens gs ++ vs → Same fs gs us vs
-  forms_same no_forms no_forms us vs a b is = record { tree = refl; rest = is }
-  forms_same no_forms (form g gs) us vs a b is = absurd (none_begins g (forms_tokens gs) us vs a is)
-  forms_same (form f fs) no_forms us vs a b is = absurd (none_begins f (forms_tokens fs) vs us b (sym is))
-  forms_same (form f fs) (form g gs) us vs a b is =
-      let h = form_same f g (forms_tokens fs ++ us) (forms_tokens gs ++ vs) (sym (append_assoc (form_tokens f) (forms_tokens fs) us) ∙ is ∙ append_assoc (form_tokens g) (forms_tokens gs) vs) in
-      let k = forms_same fs gs us vs a b h.rest in
+  forms_same : (fs gs : Forms) (us vs : List Token) → forms_bind fs ≡ true → forms_bind gs ≡ true → AreOver us → AreOver vs →
+      forms_tokens fs ++ us ≡ forms_tokens gs ++ vs → Same fs gs us vs
+  forms_same no_forms no_forms us vs x y a b is = record { tree = refl; rest = is }
+  forms_same no_forms (form g gs) us vs x y a b is = absurd (none_begins g (forms_tokens gs) us vs a is)
+  forms_same (form f fs) no_forms us vs x y a b is = absurd (none_begins f (forms_tokens fs) vs us b (sym is))
+  forms_same (form f fs) (form g gs) us vs x y a b is =
+      let bound = and_parts (form_binds f) (forms_bind fs) x in
+      let bound' = and_parts (form_binds g) (forms_bind gs) y in
+      let h = form_same f g (forms_tokens fs ++ us) (forms_tokens gs ++ vs) bound.0 bound'.0 (sym (append_assoc (form_tokens f) (forms_tokens fs) us)
+      ∙ is ∙ append_assoc (form_tokens g) (forms_tokens gs) vs) in
+      let k = forms_same fs gs us vs bound.1 bound'.1 a b h.rest in
       let same_f : f ≡ g = h.tree in
       let same_fs : fs ≡ gs = k.tree in
       record { tree = cc; rest = k.rest }
@@ -435,13 +346,20 @@ none_declares (form (assign p n b e q) fs) = refl
 none_declares (form (loop p e b) fs) = refl
 none_declares (form (branch p e b l c) fs) = refl
 
+abbrev made : (ds : List Decl) (fs : Forms) → forms_bind fs ≡ true → InfixProgram
+made ds fs bound = record { decls = ds; forms = fs; bound = bound }
+
+one_program : (ds es : List Decl) (fs gs : Forms) (b : forms_bind fs ≡ true) (c : forms_bind gs ≡ true) → ds ≡ es → fs ≡ gs → made ds fs b ≡ made es gs c
+one_program ds es fs gs b c same_decls same_forms =
+    let once : IsProp (forms_bind fs ≡ true) = hlevel props in
+    subst (λ (x : Forms). (d : forms_bind x ≡ true) → made ds fs b ≡ made es x d) same_forms (λ d i. made (same_decls i) fs (once b d i)) c
+
 program_same : (p q : InfixProgram) → program_tokens p ≡ program_tokens q → p ≡ q
 program_same p q is =
     let h = decls_same p.decls q.decls (forms_tokens p.forms) (forms_tokens q.forms) (none_declares p.forms) (none_declares q.forms) is in
-    let k = forms_same p.forms q.forms [] [] at_end at_end (append-nil (forms_tokens p.forms) ∙ h.rest ∙ sym (append-nil (forms_tokens q.forms))) in
-    let same_decls : p.decls ≡ q.decls = h.tree in
-    let same_forms : p.forms ≡ q.forms = k.tree in
-    λ i. record { decls = same_decls i; forms = same_forms i }
+    let k = forms_same p.forms q.forms [] [] p.bound q.bound at_end at_end (append-nil (forms_tokens p.forms) ∙ h.rest
+    ∙ sym (append-nil (forms_tokens q.forms))) in
+    one_program p.decls q.decls p.forms q.forms p.bound q.bound h.tree k.tree
 
 pub program_is : (text : List ℕ) (p q : InfixProgram) → IsProgram text p → IsProgram text q → p ≡ q
 program_is text p q a b = program_same p q (sym a ∙ b)

@@ -34,14 +34,15 @@ pub record WholeRead (ts : List Token) (ds : List Declared) (body : List Stateme
 pub whole_read : {ts mid new : List Token} {ds : List Declared} {b1 b2 : Option Breach} {body : List Statement} → ReadsDecls ds ts mid None b1 → ReadsForms ds mid new b1 b2 body → new ≡ [] →
     WholeRead ts ds body b2
 whole_read {b1 = b1} {b2 = b2} d f empty = record {
-  tree = record { decls = d.trees; forms = f.tree };
+  tree = record { decls = d.trees; forms = f.tree; bound = f.bound };
   tokens_are =
       d.tokens_are ∙ ap (λ (us : List Token). decls_tokens d.trees ++ us)
       (f.tokens_are ∙ ap (λ (us : List Token). forms_tokens f.tree ++ us) empty ∙ append-nil (forms_tokens f.tree));
   declared = d.declared;
   means = f.means ∙ ap (λ (ds : List Declared). forms_stmt ds f.tree) d.declared;
   breach_is =
-      notes_more None b1 b2 (decls_breaches [] d.trees) (forms_breaches (declared_of record { decls = d.trees; forms = f.tree }) f.tree) d.noted
+      notes_more None b1 b2 (decls_breaches [] d.trees) (forms_breaches
+      (declared_of record { decls = d.trees; forms = f.tree; bound = f.bound }) f.tree) d.noted
       (f.noted ∙ ap (λ (ds : List Declared). lesser_of b1 (least (forms_breaches ds f.tree))) d.declared);
 }
 

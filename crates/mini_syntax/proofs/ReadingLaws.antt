@@ -1,12 +1,15 @@
 -- What the reader has read, step by step: what the next tokens complete, and the tree that they make.
 use Rattle.std.proofs.Common.{◌≡◌, ℕ, suc, ◌+◌, ◌<◌, ◌≤◌, List, [], ◌∷◌, ◌++◌, map, length, Option, Some, None, is_none, true, false, refl, sym, ap, ap₂, ◌∙◌, append_assoc, arith}
-use Rattle.std.specs.Prelude.{option_map}
+use Rattle.std.specs.Prelude.{◌&&◌, option_map}
 use Rattle.std.specs.Prelude as std
+use Rattle.std.proofs.lemmas.Bool.{and_parts}
 use Rattle.std.proofs.lemmas.List.{append-nil, length-append, map_push}
 use Rattle.stack_text.specs.declared.breach.Breach.{Breach}
 use Rattle.stack_text.specs.Breaches.{Notes, least, lesser_of, when}
 use Rattle.stack_text.proofs.BreachLaws.{notes_more, notes_none}
-use Rattle.mini_syntax.specs.Breaches.{assigns_breaches, block_breaches, block_stmt, declared_by, decl_breaches, decls_breaches, disjunction_breaches, disjunction_exp, disjunction_sort, form_breaches, form_stmt, forms_breaches, forms_stmt, or_first, sort_named, test_breaches, variable_named}
+use Rattle.mini_syntax.specs.Breaches.{assigns_breaches, block_breaches, block_stmt, declared_by, decl_breaches, decls_breaches, expression_breaches}
+use Rattle.mini_syntax.specs.Breaches.{expression_exp, expression_sort, form_breaches, form_stmt, forms_breaches, forms_stmt, or_first, sort_named}
+use Rattle.mini_syntax.specs.Breaches.{test_breaches, variable_named}
 use Rattle.mini_syntax.specs.Scaffold.Declaring.{ReadsDecl, ReadsDecls}
 use Rattle.mini_syntax.specs.declared.expected.Expected.{Expected}
 use Rattle.mini_syntax.specs.declared.expected.Expected.TheVariants as wants
@@ -21,16 +24,19 @@ use Rattle.mini_syntax.specs.declared.sort.Sort.{Sort}
 use Rattle.mini_syntax.specs.declared.typed.Typed.{Typed}
 use Rattle.mini_syntax.specs.declared.word.Word.TheVariants as word
 use Rattle.mini_syntax.specs.Expected.{expression}
-use Rattle.mini_syntax.specs.Grammar.{Factor, Form, assign, loop, branch, block, Forms, no_forms, form, Decl}
-use Rattle.mini_syntax.specs.Grammar.{block_tokens, decl_tokens, decls_tokens, disjunction_tokens, factor_tokens, form_tokens, forms_tokens}
+use Rattle.mini_syntax.specs.Grammar.{Expression, binds, expression_level, form_binds, block_binds, forms_bind}
+use Rattle.mini_syntax.specs.Grammar.{Form, assign, loop, branch, block, Forms, no_forms, form, Decl}
+use Rattle.mini_syntax.specs.Grammar.{block_tokens, decl_tokens, decls_tokens, expression_tokens, form_tokens, forms_tokens}
 use Rattle.mini_syntax.specs.Language.{Exp, Stmt, Nothing, Then}
 use Rattle.mini_syntax.specs.Language as language
-use Rattle.mini_syntax.specs.Scaffold.Lexemes.{token_seen}
-use Rattle.mini_syntax.specs.Scaffold.Phrases.{Completes, IsTyped, Reads, ReadsBlock, ReadsForm, ReadsForms, disjunctions, factors, is_open_at, more_after}
+use Rattle.mini_syntax.specs.Precedence.{any_level, infix_of}
+use Rattle.mini_syntax.specs.Scaffold.Lexemes.{next_kind, token_seen}
+use Rattle.mini_syntax.specs.Scaffold.Phrases.{Completes, IsTyped, Reads, ReadsBlock, ReadsForm, ReadsForms}
 use Rattle.mini_syntax.specs.Seen.ProgramView.{block_in, exp_of, statement_in}
 use Rattle.mini_syntax.specs.Tokens.{Token, name_at, word_at, mark_at, kind_of, token_of}
-use Rattle.mini_syntax.proofs.AwaitLaws.{moved}
-use Rattle.mini_syntax.proofs.ExpectedLaws.{disjunction_leads}
+use Rattle.mini_syntax.proofs.AwaitLaws.{moved, no_operator}
+use Rattle.mini_syntax.proofs.ExpectedLaws.{expression_leads}
+use Rattle.mini_syntax.proofs.PrecedenceLaws.{after, both, none_at_all, none_closest}
 
 -- ---- one token
 
@@ -62,41 +68,37 @@ none_told None false e = cc
 none_told (Some x) true e = cc
 none_told (Some x) false e = refl
 
--- ---- factors
+-- ---- operands
 
--- a factor of one token
-pub leaf : (ds : List Declared) (l : Lexeme) (k : TokenKind) (tree : Factor) (old new : List Token) (best next : Option Breach) (typed : Typed) → old ≡ token_seen l ∷ new → l.kind ≡ k →
-    factor_tokens tree ≡ token_of k l.place l.bytes.now ∷ [] → IsTyped factors ds tree best next typed → Reads factors (λ f st. st) ds old new best next typed
-leaf ds l k tree old new best next typed is e tokens x = record {
+-- one of a token
+pub leaf : (ds : List Declared) (l : Lexeme) (k : TokenKind) (tree : Expression) (old new : List Token) (best next : Option Breach) (typed : Typed) →
+    old ≡ token_seen l ∷ new → l.kind ≡ k →
+    expression_level tree ≤ 0 → binds tree ≡ true → expression_tokens tree ≡ token_of k l.place l.bytes.now ∷ [] → IsTyped ds tree best next typed →
+    Reads 0 ds old new best next typed
+leaf ds l k tree old new best next typed is e close bound tokens x = record {
   tree = tree;
+  close = close;
+  bound = bound;
   tokens_are = is ∙ ap (λ (t : Token). t ∷ new) (token_by_kind l k e) ∙ ap (λ (ts : List Token). ts ++ new) (sym tokens);
   typed_as = x;
-  ends = λ st c. c;
-}
-
--- a factor behind a token
-pub behind : (ds : List Declared) (l : Lexeme) (k : TokenKind) (tree f : Factor) (old mid new : List Token) (best next : Option Breach) (typed : Typed) → old ≡ token_seen l ∷ mid → l.kind ≡ k →
-    mid ≡ factor_tokens f ++ new → factor_tokens tree ≡ token_of k l.place l.bytes.now ∷ factor_tokens f → IsTyped factors ds tree best next typed → Reads factors (λ g st. st) ds old new best next typed
-behind ds l k tree f old mid new best next typed is e rest tokens x = record {
-  tree = tree;
-  tokens_are = is ∙ ap₂ (λ (t : Token) (ts : List Token). t ∷ ts) (token_by_kind l k e) rest ∙ ap (λ (ts : List Token). ts ++ new) (sym tokens);
-  typed_as = x;
-  ends = λ st c. c;
+  ends = none_closest (infix_of (next_kind new));
 }
 
 -- ---- expressions
 
 -- what follows an expression
 pub after_expression : (ds : List Declared) (old new : List Token) (best next : Option Breach) (typed : Typed) (st : List Expected) →
-    Reads disjunctions (λ tree rest. more_after (is_open_at tree) (wants.MoreAnd ∷ wants.MoreOr ∷ rest)) ds old new best next typed → Completes (expression st) old → Completes st new
-after_expression ds old new best next typed st r c = r.ends st (moved old (disjunction_tokens r.tree) new r.tokens_are (disjunction_leads r.tree st) c)
+    Reads any_level ds old new best next typed → Completes (expression st) old → Completes st new
+after_expression ds old new best next typed st r c =
+    no_operator (after std.false r.tree) st new (none_at_all (infix_of (next_kind new)) r.ends)
+    (moved old (expression_tokens r.tree) new r.tokens_are (expression_leads r.tree std.false st r.bound tt) c)
 
 -- ---- statements
 
 -- an assignment
 pub assignment_read : (ds : List Declared) (l : Lexeme) (becomes closing : ℕ) (old t1 t2 t3 new : List Token) (b1 b2 b3 b4 : Option Breach) (found : Option Variable) (index : ℕ) (sort : Option Sort) (value : Typed) (statement : Statement) →
     old ≡ token_seen l ∷ t1 → l.kind ≡ kind.Name → t1 ≡ mark_at becomes mark.Becomes ∷ t2 →
-    Reads disjunctions (λ tree rest. more_after (is_open_at tree) (wants.MoreAnd ∷ wants.MoreOr ∷ rest)) ds t2 t3 b2 b3 value → t3 ≡ mark_at closing mark.Semicolon ∷ new →
+    Reads any_level ds t2 t3 b2 b3 value → t3 ≡ mark_at closing mark.Semicolon ∷ new →
     found ≡ variable_named ds l.bytes.now → Notes b1 (when (is_none found) l.place 6) b2 → sort ≡ option_map (λ (v : Variable). v.sort) found → index ≡ (or_first found).index →
     Notes b3 (assigns_breaches becomes sort value.sort) b4 → statement_in statement ≡ language.Assign index (exp_of value.exp) → ReadsForm ds old new b1 b4 statement
 assignment_read ds l becomes closing old t1 t2 t3 new b1 b2 b3 b4 found index sort value statement is1 named is2 r is3 found_is note1 sort_is index_is note2 made =
@@ -104,42 +106,46 @@ assignment_read ds l becomes closing old t1 t2 t3 new b1 b2 b3 b4 found index so
     let e = r.tree in
     record {
       tree = assign l.place name becomes e closing;
+      bound = r.bound;
       tokens_are =
           is1 ∙ ap₂ (λ (t : Token) (ts : List Token). t ∷ ts) (token_by_kind l kind.Name named) is2
           ∙ ap (λ (ts : List Token). name_at l.place name ∷ mark_at becomes mark.Becomes ∷ ts)
-          (r.tokens_are ∙ ap (λ (ts : List Token). disjunction_tokens e ++ ts) is3 ∙ sym (append_assoc (disjunction_tokens e) (mark_at closing mark.Semicolon ∷ []) new));
+          (r.tokens_are ∙ ap (λ (ts : List Token). expression_tokens e ++ ts) is3
+          ∙ sym (append_assoc (expression_tokens e) (mark_at closing mark.Semicolon ∷ []) new));
       means = made ∙ ap₂ language.Assign (index_is ∙ ap (λ (o : Option Variable). (or_first o).index) found_is) r.typed_as.exp_is;
       noted =
-          notes_more b1 b2 b4 (when (is_none (variable_named ds name)) l.place 6) (disjunction_breaches ds e ++ assigns_breaches becomes (sort_named ds name) (disjunction_sort ds e))
+          notes_more b1 b2 b4 (when (is_none (variable_named ds name)) l.place 6) (expression_breaches ds e ++ assigns_breaches becomes
+          (sort_named ds name) (expression_sort ds e))
           (note1 ∙ ap (λ (o : Option Variable). lesser_of b1 (least (when (is_none o) l.place 6))) found_is)
-          (notes_more b2 b3 b4 (disjunction_breaches ds e) (assigns_breaches becomes (sort_named ds name) (disjunction_sort ds e)) r.typed_as.noted
+          (notes_more b2 b3 b4 (expression_breaches ds e) (assigns_breaches becomes (sort_named ds name) (expression_sort ds e)) r.typed_as.noted
           (note2 ∙ ap₂ (λ (s t : Option Sort). lesser_of b3 (least (assigns_breaches becomes s t))) (sort_is ∙ ap (option_map (λ (v : Variable). v.sort)) found_is) r.typed_as.sort_is));
     }
 
 -- a `while`
 pub while_read : (ds : List Declared) (l : Lexeme) (old t1 t2 new : List Token) (b1 b2 b3 b4 : Option Breach) (test : Typed) (body : List Statement) (statement : Statement) →
     old ≡ token_seen l ∷ t1 → l.kind ≡ kind.Word word.While →
-    Reads disjunctions (λ tree rest. more_after (is_open_at tree) (wants.MoreAnd ∷ wants.MoreOr ∷ rest)) ds t1 t2 b1 b2 test → Notes b2 (test_breaches l.place test.sort) b3 →
+    Reads any_level ds t1 t2 b1 b2 test → Notes b2 (test_breaches l.place test.sort) b3 →
     ReadsBlock ds t2 new b3 b4 body → statement_in statement ≡ language.While (exp_of test.exp) (block_in body) → ReadsForm ds old new b1 b4 statement
 while_read ds l old t1 t2 new b1 b2 b3 b4 test body statement is begun r note h made =
     let e = r.tree in
     let b = h.tree in
     record {
       tree = loop l.place e b;
+      bound = both (binds e) (block_binds b) r.bound h.bound;
       tokens_are =
           is ∙ ap₂ (λ (t : Token) (ts : List Token). t ∷ ts) (token_by_kind l (kind.Word word.While) begun)
-          (r.tokens_are ∙ ap (λ (ts : List Token). disjunction_tokens e ++ ts) h.tokens_are ∙ sym (append_assoc (disjunction_tokens e) (block_tokens b) new));
+          (r.tokens_are ∙ ap (λ (ts : List Token). expression_tokens e ++ ts) h.tokens_are ∙ sym (append_assoc (expression_tokens e) (block_tokens b) new));
       means = made ∙ ap₂ language.While r.typed_as.exp_is h.means;
       noted =
-          notes_more b1 b2 b4 (disjunction_breaches ds e) (test_breaches l.place (disjunction_sort ds e) ++ block_breaches ds b) r.typed_as.noted
-          (notes_more b2 b3 b4 (test_breaches l.place (disjunction_sort ds e)) (block_breaches ds b)
+          notes_more b1 b2 b4 (expression_breaches ds e) (test_breaches l.place (expression_sort ds e) ++ block_breaches ds b) r.typed_as.noted
+          (notes_more b2 b3 b4 (test_breaches l.place (expression_sort ds e)) (block_breaches ds b)
           (note ∙ ap (λ (s : Option Sort). lesser_of b2 (least (test_breaches l.place s))) r.typed_as.sort_is) h.noted);
     }
 
 -- an `if`
 pub if_read : (ds : List Declared) (l : Lexeme) (otherwise : ℕ) (old t1 t2 t3 t4 new : List Token) (b1 b2 b3 b4 b5 : Option Breach) (test : Typed) (body other : List Statement) (statement : Statement) →
     old ≡ token_seen l ∷ t1 → l.kind ≡ kind.Word word.If →
-    Reads disjunctions (λ tree rest. more_after (is_open_at tree) (wants.MoreAnd ∷ wants.MoreOr ∷ rest)) ds t1 t2 b1 b2 test → Notes b2 (test_breaches l.place test.sort) b3 →
+    Reads any_level ds t1 t2 b1 b2 test → Notes b2 (test_breaches l.place test.sort) b3 →
     ReadsBlock ds t2 t3 b3 b4 body → t3 ≡ word_at otherwise word.Else ∷ t4 → ReadsBlock ds t4 new b4 b5 other →
     statement_in statement ≡ language.If (exp_of test.exp) (block_in body) (block_in other) → ReadsForm ds old new b1 b5 statement
 if_read ds l otherwise old t1 t2 t3 t4 new b1 b2 b3 b4 b5 test body other statement is begun r note h is_else k made =
@@ -149,16 +155,19 @@ if_read ds l otherwise old t1 t2 t3 t4 new b1 b2 b3 b4 b5 test body other statem
     let second : List Token = word_at otherwise word.Else ∷ block_tokens c in
     record {
       tree = branch l.place e b otherwise c;
+      bound = both (binds e) (block_binds b && block_binds c) r.bound (both (block_binds b) (block_binds c) h.bound k.bound);
       tokens_are =
           is ∙ ap₂ (λ (t : Token) (ts : List Token). t ∷ ts) (token_by_kind l (kind.Word word.If) begun)
           (r.tokens_are
-          ∙ ap (λ (ts : List Token). disjunction_tokens e ++ ts)
+          ∙ ap (λ (ts : List Token). expression_tokens e ++ ts)
           (h.tokens_are ∙ ap (λ (ts : List Token). block_tokens b ++ ts) (is_else ∙ ap (λ (ts : List Token). word_at otherwise word.Else ∷ ts) k.tokens_are) ∙ sym (append_assoc (block_tokens b) second new))
-          ∙ sym (append_assoc (disjunction_tokens e) (block_tokens b ++ second) new));
-      means = made ∙ ap₂ (λ (x : Exp) (s : Stmt). language.If x s (block_in other)) r.typed_as.exp_is h.means ∙ ap (language.If (disjunction_exp ds e) (block_stmt ds b)) k.means;
+          ∙ sym (append_assoc (expression_tokens e) (block_tokens b ++ second) new));
+      means = made ∙ ap₂ (λ (x : Exp) (s : Stmt). language.If x s (block_in other)) r.typed_as.exp_is h.means
+          ∙ ap (language.If (expression_exp ds e) (block_stmt ds b)) k.means;
       noted =
-          notes_more b1 b2 b5 (disjunction_breaches ds e) (test_breaches l.place (disjunction_sort ds e) ++ (block_breaches ds b ++ block_breaches ds c)) r.typed_as.noted
-          (notes_more b2 b3 b5 (test_breaches l.place (disjunction_sort ds e)) (block_breaches ds b ++ block_breaches ds c)
+          notes_more b1 b2 b5 (expression_breaches ds e) (test_breaches l.place (expression_sort ds e) ++
+          (block_breaches ds b ++ block_breaches ds c)) r.typed_as.noted
+          (notes_more b2 b3 b5 (test_breaches l.place (expression_sort ds e)) (block_breaches ds b ++ block_breaches ds c)
           (note ∙ ap (λ (s : Option Sort). lesser_of b2 (least (test_breaches l.place s))) r.typed_as.sort_is)
           (notes_more b3 b4 b5 (block_breaches ds b) (block_breaches ds c) h.noted k.noted));
     }
@@ -168,6 +177,7 @@ pub block_read : (ds : List Declared) (place closing : ℕ) (old t1 t2 new : Lis
     ReadsForms ds t1 t2 b1 b2 body → t2 ≡ mark_at closing mark.CloseBlock ∷ new → ReadsBlock ds old new b1 b2 body
 block_read ds place closing old t1 t2 new b1 b2 body is h is_closed = record {
   tree = block place h.tree closing;
+  bound = h.bound;
   tokens_are =
       is ∙ ap (λ (ts : List Token). mark_at place mark.OpenBlock ∷ ts)
       (h.tokens_are ∙ ap (λ (ts : List Token). forms_tokens h.tree ++ ts) is_closed ∙ sym (append_assoc (forms_tokens h.tree) (mark_at closing mark.CloseBlock ∷ []) new));
@@ -203,6 +213,12 @@ breaches_push : (ds : List Declared) (fs : List Form) (f : Form) → forms_breac
 breaches_push ds [] f = append-nil (form_breaches ds f)
 breaches_push ds (g ∷ fs) f = ap (λ (bs : List Breach). form_breaches ds g ++ bs) (breaches_push ds fs f) ∙ sym (append_assoc (form_breaches ds g) (forms_breaches ds (forms_of fs)) (form_breaches ds f))
 
+binds_push : (fs : List Form) (f : Form) → forms_bind (forms_of fs) ≡ true → form_binds f ≡ true → forms_bind (forms_of (fs ++ f ∷ [])) ≡ true
+binds_push [] f h k = both (form_binds f) true k refl
+binds_push (g ∷ fs) f h k =
+    let l = and_parts (form_binds g) (forms_bind (forms_of fs)) h in
+    both (form_binds g) (forms_bind (forms_of (fs ++ f ∷ []))) l.0 (binds_push fs f l.1 k)
+
 means_push : (ds : List Declared) (fs : List Form) (f : Form) (ss : List Statement) (s : Statement) → block_in ss ≡ forms_stmt ds (forms_of fs) → length ss ≡ length fs → statement_in s ≡ form_stmt ds f →
     block_in (ss ++ s ∷ []) ≡ forms_stmt ds (forms_of (fs ++ f ∷ []))
 means_push ds [] f [] s e n is = ap (λ (x : Stmt). Then x Nothing) is
@@ -216,6 +232,7 @@ means_push ds (g ∷ fs) f (t ∷ ss) s e n is =
 -- the statements so far
 pub record SoFar (ds : List Declared) (old new : List Token) (best next : Option Breach) (body : List Statement) : Type 0 where
   pub trees : List Form
+  pub bound : forms_bind (forms_of trees) ≡ true
   pub tokens_are : old ≡ forms_tokens (forms_of trees) ++ new
   pub count : length body ≡ length trees
   pub means : block_in body ≡ forms_stmt ds (forms_of trees)
@@ -225,12 +242,13 @@ pub so_far_shrinks : {ds : List Declared} {old new : List Token} {best next : Op
 so_far_shrinks {old = old} {new = new} h = shrinks old (forms_tokens (forms_of h.trees)) new h.tokens_are
 
 pub none_yet : (ds : List Declared) (old : List Token) (best : Option Breach) (body : List Statement) → body ≡ [] → SoFar ds old old best best body
-none_yet ds old best body e = record { trees = []; tokens_are = refl; count = ap length e; means = ap block_in e; noted = notes_none best }
+none_yet ds old best body e = record { trees = []; bound = refl; tokens_are = refl; count = ap length e; means = ap block_in e; noted = notes_none best }
 
 pub one_more : (ds : List Declared) (old mid new : List Token) (b1 b2 b3 : Option Breach) (body more : List Statement) (s : Statement) → SoFar ds old mid b1 b2 body → ReadsForm ds mid new b2 b3 s →
     more ≡ body ++ s ∷ [] → SoFar ds old new b1 b3 more
 one_more ds old mid new b1 b2 b3 body more s h k pushed = record {
   trees = h.trees ++ k.tree ∷ [];
+  bound = binds_push h.trees k.tree h.bound k.bound;
   tokens_are =
       h.tokens_are ∙ ap (λ (ts : List Token). forms_tokens (forms_of h.trees) ++ ts) k.tokens_are ∙ sym (append_assoc (forms_tokens (forms_of h.trees)) (form_tokens k.tree) new)
       ∙ ap (λ (ts : List Token). ts ++ new) (sym (forms_push h.trees k.tree));
@@ -243,7 +261,14 @@ one_more ds old mid new b1 b2 b3 body more s h k pushed = record {
 
 pub all_read : (ds : List Declared) (old new : List Token) (best next : Option Breach) (body : List Statement) → SoFar ds old new best next body →
     ((st : List Expected) → Completes (wants.MoreStatements ∷ st) new → Completes st new) → ReadsForms ds old new best next body
-all_read ds old new best next body h ends = record { tree = forms_of h.trees; tokens_are = h.tokens_are; means = h.means; noted = h.noted; ends = ends }
+all_read ds old new best next body h ends = record {
+  tree = forms_of h.trees;
+  bound = h.bound;
+  tokens_are = h.tokens_are;
+  means = h.means;
+  noted = h.noted;
+  ends = ends;
+}
 
 -- ---- declarations
 

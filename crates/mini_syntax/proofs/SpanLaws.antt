@@ -12,9 +12,7 @@ use Rattle.stack_text.specs.Names.{begins_with_letter}
 use Rattle.stack_text.proofs.SharedLaws.{rule_fails}
 use Rattle.stack_text.proofs.NumberedNameLaws.{letter_passes}
 use Rattle.mini_syntax.specs.Breaches.{breaches, body_of, decls_breaches, declared_by, declared_of, variable_named, sort_named, infix_breaches, prefix_breaches, assigns_breaches, test_breaches}
-use Rattle.mini_syntax.specs.Breaches.{disjunction_breaches, conjunction_breaches, relation_breaches, sum_breaches, term_breaches, factor_breaches}
-use Rattle.mini_syntax.specs.Breaches.{disjunction_sort, conjunction_sort, relation_sort, sum_sort, term_sort, factor_sort}
-use Rattle.mini_syntax.specs.Breaches.{disjunction_exp, conjunction_exp, relation_exp, sum_exp, term_exp, factor_exp}
+use Rattle.mini_syntax.specs.Breaches.{expression_breaches, expression_sort, expression_exp}
 use Rattle.mini_syntax.specs.Breaches.{form_breaches, block_breaches, forms_breaches, form_stmt, block_stmt, forms_stmt}
 use Rattle.mini_syntax.specs.Scaffold.Declaring.{are_proper, is_proper}
 use Rattle.mini_syntax.specs.declared.lexer.TokenKind.TheVariants as kind
@@ -25,19 +23,19 @@ use Rattle.mini_syntax.specs.declared.word.Word.TheVariants as word
 use Rattle.mini_syntax.specs.declared.program.Declared.{Declared}
 use Rattle.mini_syntax.specs.declared.sort.Sort.{Sort}
 use Rattle.mini_syntax.specs.declared.sort.Sort.TheVariants.{Int, Bool}
-use Rattle.mini_syntax.specs.declared.operator.Prefix.TheVariants as before
+use Rattle.mini_syntax.specs.declared.operator.Prefix.{Prefix}
+use Rattle.mini_syntax.specs.declared.operator.Prefix.TheVariants.{Not, Minus}
 use Rattle.mini_syntax.specs.declared.operator.Infix.{Infix}
-use Rattle.mini_syntax.specs.declared.operator.Infix.TheVariants as between
-use Rattle.mini_syntax.specs.Grammar.{Disjunction, conjunction, or, Conjunction, relation, and, Relation, sum, at_most, equals}
-use Rattle.mini_syntax.specs.Grammar.{Sum, term, add, subtract, Term, factor, multiply, Factor, variable, number, truth, not, minus, group}
+use Rattle.mini_syntax.specs.declared.operator.Infix.TheVariants.{Or}
+use Rattle.mini_syntax.specs.Grammar.{Expression, variable, number, truth, unary, binary, group, expression_tokens, prefix_token}
 use Rattle.mini_syntax.specs.Grammar.{Form, assign, loop, branch, Block, block, Forms, no_forms, form, Decl, InfixProgram, IsProgram}
-use Rattle.mini_syntax.specs.Grammar.{disjunction_tokens, conjunction_tokens, relation_tokens, sum_tokens, term_tokens, factor_tokens}
 use Rattle.mini_syntax.specs.Grammar.{form_tokens, block_tokens, forms_tokens, decls_tokens}
 use Rattle.mini_syntax.specs.Language.{Exp, Stmt}
 use Rattle.mini_syntax.specs.Language as language
 use Rattle.mini_syntax.specs.Lawful.{IsLawful, part_count, size_of}
 use Rattle.mini_syntax.specs.Scaffold.Limits.{FormsAreSmall, forms_blocks}
 use Rattle.mini_syntax.specs.Names.{is_variable_name, is_word_byte, spelling, word_named, words}
+use Rattle.mini_syntax.specs.Precedence.{infix_token}
 use Rattle.mini_syntax.specs.Spelled.{bytes_of_all, declared_bytes, exp_bytes, program_bytes, stmt_bytes, token_bytes}
 use Rattle.mini_syntax.specs.Tokens.{Token, number_at, word_at, mark_at, Mode, after_fresh, begins, fresh, is_blank, is_pair, mark_of, mark_token, named_kind, next, longest_run, token_of, tokens, tokens_in, word_token}
 use Rattle.mini_syntax.specs.Tokens as mode
@@ -280,62 +278,34 @@ spans_infix ds op a b us vs t one l r =
     let all = bytes_middle us vs t in
     record { bytes = omega (arith, l.bytes, r.bytes, all, one); size = omega (arith, l.size, r.size, all, one) }
 
-mutual
-  disjunction_spans : (ds : List Declared) (e : Disjunction) → disjunction_breaches ds e ≡ [] → Spans ds (disjunction_exp ds e) (disjunction_tokens e)
-  disjunction_spans ds (conjunction c) h = conjunction_spans ds c h
-  disjunction_spans ds (or e place c) h =
-      let k = three (disjunction_breaches ds e) (conjunction_breaches ds c) (infix_breaches place between.Or (disjunction_sort ds e) (conjunction_sort ds c)) h in
-      spans_infix ds between.Or (disjunction_exp ds e) (conjunction_exp ds c) (disjunction_tokens e) (conjunction_tokens c) (word_at place word.Or) (omega arith) (disjunction_spans ds e k.0) (conjunction_spans ds c k.1)
+operator_bytes : (place : ℕ) (op : Infix) → 1 ≤ token_bytes (infix_token place op)
+operator_bytes place Or = omega arith
+operator_bytes place op = omega arith
 
-  conjunction_spans : (ds : List Declared) (c : Conjunction) → conjunction_breaches ds c ≡ [] → Spans ds (conjunction_exp ds c) (conjunction_tokens c)
-  conjunction_spans ds (relation r) h = relation_spans ds r h
-  conjunction_spans ds (and c place r) h =
-      let k = three (conjunction_breaches ds c) (relation_breaches ds r) (infix_breaches place between.And (conjunction_sort ds c) (relation_sort ds r)) h in
-      spans_infix ds between.And (conjunction_exp ds c) (relation_exp ds r) (conjunction_tokens c) (relation_tokens r) (word_at place word.And) (omega arith) (conjunction_spans ds c k.0) (relation_spans ds r k.1)
+sign_bytes : (place : ℕ) (op : Prefix) → 1 ≤ token_bytes (prefix_token place op)
+sign_bytes place Not = omega arith
+sign_bytes place Minus = omega arith
 
-  relation_spans : (ds : List Declared) (r : Relation) → relation_breaches ds r ≡ [] → Spans ds (relation_exp ds r) (relation_tokens r)
-  relation_spans ds (sum s) h = sum_spans ds s h
-  relation_spans ds (at_most s place t) h =
-      let k = three (sum_breaches ds s) (sum_breaches ds t) (infix_breaches place between.AtMost (sum_sort ds s) (sum_sort ds t)) h in
-      spans_infix ds between.AtMost (sum_exp ds s) (sum_exp ds t) (sum_tokens s) (sum_tokens t) (mark_at place mark.AtMost) (omega arith) (sum_spans ds s k.0) (sum_spans ds t k.1)
-  relation_spans ds (equals s place t) h =
-      let k = three (sum_breaches ds s) (sum_breaches ds t) (infix_breaches place between.Equals (sum_sort ds s) (sum_sort ds t)) h in
-      spans_infix ds between.Equals (sum_exp ds s) (sum_exp ds t) (sum_tokens s) (sum_tokens t) (mark_at place mark.Equals) (omega arith) (sum_spans ds s k.0) (sum_spans ds t k.1)
-
-  sum_spans : (ds : List Declared) (s : Sum) → sum_breaches ds s ≡ [] → Spans ds (sum_exp ds s) (sum_tokens s)
-  sum_spans ds (term t) h = term_spans ds t h
-  sum_spans ds (add s place t) h =
-      let k = three (sum_breaches ds s) (term_breaches ds t) (infix_breaches place between.Add (sum_sort ds s) (term_sort ds t)) h in
-      spans_infix ds between.Add (sum_exp ds s) (term_exp ds t) (sum_tokens s) (term_tokens t) (mark_at place mark.Plus) (omega arith) (sum_spans ds s k.0) (term_spans ds t k.1)
-  sum_spans ds (subtract s place t) h =
-      let k = three (sum_breaches ds s) (term_breaches ds t) (infix_breaches place between.Subtract (sum_sort ds s) (term_sort ds t)) h in
-      spans_infix ds between.Subtract (sum_exp ds s) (term_exp ds t) (sum_tokens s) (term_tokens t) (mark_at place mark.Minus) (omega arith) (sum_spans ds s k.0) (term_spans ds t k.1)
-
-  term_spans : (ds : List Declared) (t : Term) → term_breaches ds t ≡ [] → Spans ds (term_exp ds t) (term_tokens t)
-  term_spans ds (factor f) h = factor_spans ds f h
-  term_spans ds (multiply t place f) h =
-      let k = three (term_breaches ds t) (factor_breaches ds f) (infix_breaches place between.Multiply (term_sort ds t) (factor_sort ds f)) h in
-      spans_infix ds between.Multiply (term_exp ds t) (factor_exp ds f) (term_tokens t) (factor_tokens f) (mark_at place mark.Times) (omega arith) (term_spans ds t k.0) (factor_spans ds f k.1)
-
-  factor_spans : (ds : List Declared) (f : Factor) → factor_breaches ds f ≡ [] → Spans ds (factor_exp ds f) (factor_tokens f)
-  factor_spans ds (variable place name) h =
-      let same = ap length (name_there ds name (rule_fails (is_none (variable_named ds name)) place 6 h)) in
-      record { bytes = omega (arith, same); size = omega arith }
-  factor_spans ds (number place digits) h = record { bytes = omega arith; size = omega arith }
-  factor_spans ds (truth place true) h = record { bytes = omega arith; size = omega arith }
-  factor_spans ds (truth place false) h = record { bytes = omega arith; size = omega arith }
-  factor_spans ds (not place f) h =
-      let k = two (factor_breaches ds f) (prefix_breaches place before.Not (factor_sort ds f)) h in
-      let a = factor_spans ds f k.0 in
-      record { bytes = omega (arith, a.bytes); size = omega (arith, a.size) }
-  factor_spans ds (minus place f) h =
-      let k = two (factor_breaches ds f) (prefix_breaches place before.Minus (factor_sort ds f)) h in
-      let a = factor_spans ds f k.0 in
-      record { bytes = omega (arith, a.bytes); size = omega (arith, a.size) }
-  factor_spans ds (group place e closing) h =
-      let a = disjunction_spans ds e h in
-      let all = bytes_append (disjunction_tokens e) (mark_at closing mark.Close ∷ []) in
-      record { bytes = omega (arith, a.bytes, all); size = omega (arith, a.size, all) }
+expression_spans : (ds : List Declared) (e : Expression) → expression_breaches ds e ≡ [] → Spans ds (expression_exp ds e) (expression_tokens e)
+expression_spans ds (variable place name) h =
+    let same = ap length (name_there ds name (rule_fails (is_none (variable_named ds name)) place 6 h)) in
+    record { bytes = omega (arith, same); size = omega arith }
+expression_spans ds (number place digits) h = record { bytes = omega arith; size = omega arith }
+expression_spans ds (truth place true) h = record { bytes = omega arith; size = omega arith }
+expression_spans ds (truth place false) h = record { bytes = omega arith; size = omega arith }
+expression_spans ds (unary place op e) h =
+    let k = two (expression_breaches ds e) (prefix_breaches place op (expression_sort ds e)) h in
+    let a = expression_spans ds e k.0 in
+    let one = sign_bytes place op in
+    record { bytes = omega (arith, a.bytes, one); size = omega (arith, a.size, one) }
+expression_spans ds (binary a place op b) h =
+    let k = three (expression_breaches ds a) (expression_breaches ds b) (infix_breaches place op (expression_sort ds a) (expression_sort ds b)) h in
+    spans_infix ds op (expression_exp ds a) (expression_exp ds b) (expression_tokens a) (expression_tokens b) (infix_token place op) (operator_bytes place op)
+    (expression_spans ds a k.0) (expression_spans ds b k.1)
+expression_spans ds (group place e closing) h =
+    let a = expression_spans ds e h in
+    let all = bytes_append (expression_tokens e) (mark_at closing mark.Close ∷ []) in
+    record { bytes = omega (arith, a.bytes, all); size = omega (arith, a.size, all) }
 
 -- what statements have at least
 record Covers (ds : List Declared) (s : Stmt) (ts : List Token) : Type 0 where
@@ -350,24 +320,25 @@ record BlockCovers (ds : List Declared) (b : Block) : Type 0 where
 mutual
   form_covers : (ds : List Declared) (f : Form) → form_breaches ds f ≡ [] → Covers ds (form_stmt ds f) (form_tokens f)
   form_covers ds (assign place name becomes e closing) h =
-      let k = three (when (is_none (variable_named ds name)) place 6) (disjunction_breaches ds e) (assigns_breaches becomes (sort_named ds name) (disjunction_sort ds e)) h in
+      let k = three (when (is_none (variable_named ds name)) place 6) (expression_breaches ds e) (assigns_breaches becomes (sort_named ds name)
+      (expression_sort ds e)) h in
       let same = ap length (name_there ds name (rule_fails (is_none (variable_named ds name)) place 6 k.0)) in
-      let a = disjunction_spans ds e k.1 in
-      let all = bytes_append (disjunction_tokens e) (mark_at closing mark.Semicolon ∷ []) in
+      let a = expression_spans ds e k.1 in
+      let all = bytes_append (expression_tokens e) (mark_at closing mark.Semicolon ∷ []) in
       record { bytes = omega (arith, a.bytes, all, same); count = omega (arith, a.size, all) }
   form_covers ds (loop place e b) h =
-      let k = three (disjunction_breaches ds e) (test_breaches place (disjunction_sort ds e)) (block_breaches ds b) h in
-      let a = disjunction_spans ds e k.0 in
+      let k = three (expression_breaches ds e) (test_breaches place (expression_sort ds e)) (block_breaches ds b) h in
+      let a = expression_spans ds e k.0 in
       let c = block_covers ds b k.2 in
-      let all = bytes_append (disjunction_tokens e) (block_tokens b) in
+      let all = bytes_append (expression_tokens e) (block_tokens b) in
       record { bytes = omega (arith, a.bytes, c.bytes, all); count = omega (arith, a.size, c.count, all) }
   form_covers ds (branch place e b otherwise d) h =
-      let k = three (disjunction_breaches ds e) (test_breaches place (disjunction_sort ds e)) (block_breaches ds b ++ block_breaches ds d) h in
+      let k = three (expression_breaches ds e) (test_breaches place (expression_sort ds e)) (block_breaches ds b ++ block_breaches ds d) h in
       let l = two (block_breaches ds b) (block_breaches ds d) k.2 in
-      let a = disjunction_spans ds e k.0 in
+      let a = expression_spans ds e k.0 in
       let c = block_covers ds b l.0 in
       let g = block_covers ds d l.1 in
-      let all = bytes_append (disjunction_tokens e) (block_tokens b ++ word_at otherwise word.Else ∷ block_tokens d) in
+      let all = bytes_append (expression_tokens e) (block_tokens b ++ word_at otherwise word.Else ∷ block_tokens d) in
       let rest = bytes_middle (block_tokens b) (block_tokens d) (word_at otherwise word.Else) in
       record { bytes = omega (arith, a.bytes, c.bytes, g.bytes, all, rest); count = omega (arith, a.size, c.count, g.count, all, rest) }
 

@@ -1,5 +1,5 @@
 -- What the reader awaits after each part of a program, and the factors, statements and declarations that it makes of the parts.
-use Rattle.std.proofs.Common.{◌≡◌, ◌≢◌, ℕ, List, [], ◌∷◌, ◌++◌, Option, Some, None, true, false, refl, sym, ap, ap₂, ◌∙◌, append_assoc}
+use Rattle.std.proofs.Common.{◌≡◌, ◌≢◌, ℕ, List, [], ◌∷◌, ◌++◌, Option, Some, None, true, false, refl, sym, ap, ap₂, ◌∙◌, append_assoc, arith}
 use Rattle.std.specs.Prelude.{◌==◌, is_some, length}
 use Rattle.std.proofs.lemmas.Bool.{and_parts}
 use Rattle.stack_text.specs.declared.breach.Breach.{Breach}
@@ -16,23 +16,25 @@ use Rattle.mini_syntax.specs.declared.lexer.TokenKind.TheVariants as kind
 use Rattle.mini_syntax.specs.declared.mark.Mark.{Mark}
 use Rattle.mini_syntax.specs.declared.mark.Mark.TheVariants as mark
 use Rattle.mini_syntax.specs.declared.operator.Prefix.{Prefix}
-use Rattle.mini_syntax.specs.declared.operator.Prefix.TheVariants as before
+use Rattle.mini_syntax.specs.declared.operator.Prefix.TheVariants.{Not, Minus}
 use Rattle.mini_syntax.specs.declared.program.Declared.{Declared}
 use Rattle.mini_syntax.specs.declared.program.Statement.{Statement}
 use Rattle.mini_syntax.specs.declared.sort.Sort.{Sort}
 use Rattle.mini_syntax.specs.declared.typed.Typed.{Typed}
 use Rattle.mini_syntax.specs.declared.word.Word.TheVariants as word
 use Rattle.mini_syntax.specs.Expected.{a_block, at_start, expression, may_be_empty, taken, takes}
-use Rattle.mini_syntax.specs.Grammar.{not, minus, group, Decl, InfixProgram}
-use Rattle.mini_syntax.specs.Grammar.{block_tokens, decl_tokens, decls_tokens, disjunction_tokens, form_tokens, forms_tokens, program_tokens}
+use Rattle.mini_syntax.specs.Grammar.{unary, group, prefix_token, Decl, InfixProgram}
+use Rattle.mini_syntax.specs.Grammar.{block_tokens, decl_tokens, decls_tokens, expression_tokens, form_tokens, forms_tokens, program_tokens}
 use Rattle.mini_syntax.specs.Scaffold.Lexemes.{next_kind, token_seen}
 use Rattle.mini_syntax.specs.Names.{is_variable_name}
-use Rattle.mini_syntax.specs.Scaffold.Phrases.{Awaits, Completes, Reads, ReadsBlock, ReadsForm, ReadsForms, disjunctions, factors, is_open_at, more_after, factor_kind}
+use Rattle.mini_syntax.specs.Precedence.{any_level, infix_of}
+use Rattle.mini_syntax.specs.Scaffold.Phrases.{Awaits, Completes, Reads, ReadsBlock, ReadsForm, ReadsForms, factor_kind}
 use Rattle.mini_syntax.specs.Tokens.{Token, name_at, word_at, mark_at, kind_of, place_of}
 use Rattle.mini_syntax.proofs.AwaitLaws.{after_mark, moved, next_is_else, next_is_mark, next_is_name, next_is_operand, not_over, prefix_kind, stepped}
 use Rattle.mini_syntax.proofs.ExpectedLaws.{block_leads, decl_leads, decls_lead, end_of, form_leads, forms_leads, over_end, program_taken}
-use Rattle.mini_syntax.proofs.JoinLaws.{prefix_exp, prefix_noted}
-use Rattle.mini_syntax.proofs.ReadingLaws.{after_expression, behind, kind_seen, token_by_kind}
+use Rattle.mini_syntax.proofs.JoinLaws.{unary_typed}
+use Rattle.mini_syntax.proofs.PrecedenceLaws.{none_closest, unary_bound}
+use Rattle.mini_syntax.proofs.ReadingLaws.{after_expression, kind_seen, token_by_kind}
 
 -- ---- what is awaited
 
@@ -73,22 +75,30 @@ mark_passed m place more {old} {new} a is = record { rest = a.rest; completes = 
 
 -- after an expression, a statement, a block and statements
 pub expression_passed : (more : List Expected) {ds : List Declared} {old new : List Token} {best next : Option Breach} {typed : Typed} → Awaits (expression more) old →
-    Reads disjunctions (λ tree rest. more_after (is_open_at tree) (wants.MoreAnd ∷ wants.MoreOr ∷ rest)) ds old new best next typed → Awaits more new
+    Reads any_level ds old new best next typed → Awaits more new
 expression_passed more {ds} {old} {new} {best} {next} {typed} a r = record { rest = a.rest; completes = after_expression ds old new best next typed (more ++ a.rest) r a.completes }
 
 pub form_passed : {ds : List Declared} {old new : List Token} {best next : Option Breach} {statement : Statement} → Awaits (wants.MoreStatements ∷ []) old → ReadsForm ds old new best next statement →
     Awaits (wants.MoreStatements ∷ []) new
-form_passed {old = old} {new = new} a r = record { rest = a.rest; completes = moved old (form_tokens r.tree) new r.tokens_are (form_leads r.tree a.rest) a.completes }
+form_passed {old = old} {new = new} a r = record {
+  rest = a.rest;
+  completes = moved old (form_tokens r.tree) new r.tokens_are
+      (form_leads r.tree a.rest r.bound) a.completes;
+}
 
 pub block_passed : (more : List Expected) {ds : List Declared} {old new : List Token} {best next : Option Breach} {body : List Statement} → Awaits (a_block more) old → ReadsBlock ds old new best next body →
     Awaits more new
-block_passed more {old = old} {new = new} a r = record { rest = a.rest; completes = moved old (block_tokens r.tree) new r.tokens_are (block_leads r.tree (more ++ a.rest)) a.completes }
+block_passed more {old = old} {new = new} a r = record {
+  rest = a.rest;
+  completes = moved old (block_tokens r.tree) new r.tokens_are (block_leads r.tree
+      (more ++ a.rest) r.bound) a.completes;
+}
 
 pub forms_passed : (more : List Expected) {ds : List Declared} {old new : List Token} {best next : Option Breach} {body : List Statement} → Awaits (wants.MoreStatements ∷ more) old →
     ReadsForms ds old new best next body → Awaits more new
 forms_passed more {old = old} {new = new} a r = record {
   rest = a.rest;
-  completes = r.ends (more ++ a.rest) (moved old (forms_tokens r.tree) new r.tokens_are (forms_leads r.tree (more ++ a.rest)) a.completes);
+  completes = r.ends (more ++ a.rest) (moved old (forms_tokens r.tree) new r.tokens_are (forms_leads r.tree (more ++ a.rest) r.bound) a.completes);
 }
 
 -- `else`
@@ -106,33 +116,33 @@ else_passed more {old} {new} l a is =
 pub operand_is : {more : List Expected} {old new : List Token} (l : Lexeme) → Awaits (wants.Operand ∷ more) old → old ≡ token_seen l ∷ new → None ≡ factor_kind l.kind → ⊥
 operand_is {more} {old} {new} l a is none = next_is_operand (more ++ a.rest) (token_seen l) old new is a.completes (none ∙ ap factor_kind (sym (kind_seen l)))
 
-not_read : {ds : List Declared} {old mid new : List Token} {b1 b2 b3 : Option Breach} {operand typed : Typed} (l : Lexeme) → old ≡ token_seen l ∷ mid → l.kind ≡ kind.Word word.Not →
-    Reads factors (λ f st. st) ds mid new b1 b2 operand → IsPrefix l.place before.Not operand b2 b3 typed → Reads factors (λ f st. st) ds old new b1 b3 typed
-not_read {ds} {old} {mid} {new} {b1} {b2} {b3} {operand} {typed} l is e r made =
-    behind ds l (kind.Word word.Not) (not l.place r.tree) r.tree old mid new b1 b3 typed is e r.tokens_are refl
-    record { exp_is = prefix_exp ds l.place before.Not r.tree b1 b2 b3 operand typed r.typed_as made; sort_is = made.sort_is; noted = prefix_noted ds l.place before.Not r.tree b1 b2 b3 operand typed r.typed_as made }
-
-minus_read : {ds : List Declared} {old mid new : List Token} {b1 b2 b3 : Option Breach} {operand typed : Typed} (l : Lexeme) → old ≡ token_seen l ∷ mid → l.kind ≡ kind.Mark mark.Minus →
-    Reads factors (λ f st. st) ds mid new b1 b2 operand → IsPrefix l.place before.Minus operand b2 b3 typed → Reads factors (λ f st. st) ds old new b1 b3 typed
-minus_read {ds} {old} {mid} {new} {b1} {b2} {b3} {operand} {typed} l is e r made =
-    behind ds l (kind.Mark mark.Minus) (minus l.place r.tree) r.tree old mid new b1 b3 typed is e r.tokens_are refl
-    record { exp_is = prefix_exp ds l.place before.Minus r.tree b1 b2 b3 operand typed r.typed_as made; sort_is = made.sort_is; noted = prefix_noted ds l.place before.Minus r.tree b1 b2 b3 operand typed r.typed_as made }
+prefix_is : (op : Prefix) (l : Lexeme) → l.kind ≡ prefix_kind op → token_seen l ≡ prefix_token l.place op
+prefix_is Not l e = token_by_kind l (kind.Word word.Not) e
+prefix_is Minus l e = token_by_kind l (kind.Mark mark.Minus) e
 
 pub prefix_read : {ds : List Declared} {old mid new : List Token} {b1 b2 b3 : Option Breach} {operand typed : Typed} (op : Prefix) (l : Lexeme) → old ≡ token_seen l ∷ mid → l.kind ≡ prefix_kind op →
-    Reads factors (λ f st. st) ds mid new b1 b2 operand → IsPrefix l.place op operand b2 b3 typed → Reads factors (λ f st. st) ds old new b1 b3 typed
-prefix_read before.Not l is e r made = not_read l is e r made
-prefix_read before.Minus l is e r made = minus_read l is e r made
+    Reads 0 ds mid new b1 b2 operand → IsPrefix l.place op operand b2 b3 typed → Reads 0 ds old new b1 b3 typed
+prefix_read {ds} {old} {mid} {new} {b1} {b2} {b3} {operand} {typed} op l is e r made = record {
+  tree = unary l.place op r.tree;
+  close = omega arith;
+  bound = unary_bound r.tree r.close r.bound;
+  tokens_are = is ∙ ap₂ (λ (t : Token) (ts : List Token). t ∷ ts) (prefix_is op l e) r.tokens_are;
+  typed_as = unary_typed ds l.place b1 b2 b3 op r.tree operand typed r.typed_as made;
+  ends = r.ends;
+}
 
 pub group_read : {ds : List Declared} {old t1 t2 new : List Token} {best next : Option Breach} {typed : Typed} (l : Lexeme) (closing : ℕ) → old ≡ token_seen l ∷ t1 → l.kind ≡ kind.Mark mark.Open →
-    Reads disjunctions (λ tree rest. more_after (is_open_at tree) (wants.MoreAnd ∷ wants.MoreOr ∷ rest)) ds t1 t2 best next typed → t2 ≡ mark_at closing mark.Close ∷ new →
-    Reads factors (λ f st. st) ds old new best next typed
+    Reads any_level ds t1 t2 best next typed → t2 ≡ mark_at closing mark.Close ∷ new → Reads 0 ds old new best next typed
 group_read {new = new} l closing is e r closes = record {
   tree = group l.place r.tree closing;
+  close = omega arith;
+  bound = r.bound;
   tokens_are =
       is ∙ ap₂ (λ (t : Token) (ts : List Token). t ∷ ts) (token_by_kind l (kind.Mark mark.Open) e)
-      (r.tokens_are ∙ ap (λ (ts : List Token). disjunction_tokens r.tree ++ ts) closes ∙ sym (append_assoc (disjunction_tokens r.tree) (mark_at closing mark.Close ∷ []) new));
+      (r.tokens_are ∙ ap (λ (ts : List Token). expression_tokens r.tree ++ ts) closes
+      ∙ sym (append_assoc (expression_tokens r.tree) (mark_at closing mark.Close ∷ []) new));
   typed_as = record { exp_is = r.typed_as.exp_is; sort_is = r.typed_as.sort_is; noted = r.typed_as.noted };
-  ends = λ st c. c;
+  ends = none_closest (infix_of (next_kind new));
 }
 
 -- ---- declarations
@@ -181,4 +191,4 @@ decls_passed {old = old} {new = new} c r =
     r.ends (wants.MoreStatements ∷ []) (moved old (decls_tokens r.trees) new r.tokens_are (decls_lead r.trees (wants.MoreStatements ∷ [])) c)
 
 pub all_passed : {ds : List Declared} {old new : List Token} {best next : Option Breach} {body : List Statement} → Completes (wants.MoreStatements ∷ []) old → ReadsForms ds old new best next body → Completes [] new
-all_passed {old = old} {new = new} c r = r.ends [] (moved old (forms_tokens r.tree) new r.tokens_are (forms_leads r.tree []) c)
+all_passed {old = old} {new = new} c r = r.ends [] (moved old (forms_tokens r.tree) new r.tokens_are (forms_leads r.tree [] r.bound) c)

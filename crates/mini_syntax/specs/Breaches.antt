@@ -13,14 +13,10 @@ use Rattle.mini_syntax.specs.declared.scope.Variable.{Variable}
 use Rattle.mini_syntax.specs.declared.sort.Sort.{Sort}
 use Rattle.mini_syntax.specs.declared.sort.Sort.TheVariants.{Int, Bool}
 use Rattle.mini_syntax.specs.declared.operator.Prefix.{Prefix}
-use Rattle.mini_syntax.specs.declared.operator.Prefix.TheVariants as before
 use Rattle.mini_syntax.specs.declared.operator.Infix.{Infix}
-use Rattle.mini_syntax.specs.declared.operator.Infix.TheVariants as between
-use Rattle.mini_syntax.specs.Grammar.{Disjunction, conjunction, or, Conjunction, relation, and, Relation, sum, at_most, equals}
-use Rattle.mini_syntax.specs.Grammar.{Sum, term, add, subtract, Term, factor, multiply, Factor, variable, number, truth, minus, group}
+use Rattle.mini_syntax.specs.Grammar.{Expression, variable, number, truth, unary, binary, group}
 use Rattle.mini_syntax.specs.Grammar.{Form, assign, loop, branch, Block, block, Forms, no_forms, form, Decl, InfixProgram}
-use Rattle.mini_syntax.specs.Grammar as grammar
-use Rattle.mini_syntax.specs.Operands.{prefix_takes, infix_takes}
+use Rattle.mini_syntax.specs.Operands.{prefix_takes, infix_takes, prefix_sort, infix_sort}
 use Rattle.mini_syntax.specs.Language.{Exp, Stmt}
 use Rattle.mini_syntax.specs.Language as language
 
@@ -66,71 +62,25 @@ is_too_large n = nat_lt 2147483647 n
 abbrev pub number_exp : ℕ → Exp
 number_exp n = language.Number (if is_too_large n then 0 else n)
 
-abbrev mutual
-  pub disjunction_exp : List Declared → Disjunction → Exp
-  disjunction_exp ds (conjunction c) = conjunction_exp ds c
-  disjunction_exp ds (or e place c) = language.Between between.Or (disjunction_exp ds e) (conjunction_exp ds c)
-
-  pub conjunction_exp : List Declared → Conjunction → Exp
-  conjunction_exp ds (relation r) = relation_exp ds r
-  conjunction_exp ds (and c place r) = language.Between between.And (conjunction_exp ds c) (relation_exp ds r)
-
-  pub relation_exp : List Declared → Relation → Exp
-  relation_exp ds (sum s) = sum_exp ds s
-  relation_exp ds (at_most s place t) = language.Between between.AtMost (sum_exp ds s) (sum_exp ds t)
-  relation_exp ds (equals s place t) = language.Between between.Equals (sum_exp ds s) (sum_exp ds t)
-
-  pub sum_exp : List Declared → Sum → Exp
-  sum_exp ds (term t) = term_exp ds t
-  sum_exp ds (add s place t) = language.Between between.Add (sum_exp ds s) (term_exp ds t)
-  sum_exp ds (subtract s place t) = language.Between between.Subtract (sum_exp ds s) (term_exp ds t)
-
-  pub term_exp : List Declared → Term → Exp
-  term_exp ds (factor f) = factor_exp ds f
-  term_exp ds (multiply t place f) = language.Between between.Multiply (term_exp ds t) (factor_exp ds f)
-
-  pub factor_exp : List Declared → Factor → Exp
-  factor_exp ds (variable place name) = variable_exp (or_first (variable_named ds name))
-  factor_exp ds (number place digits) = number_exp (number_of digits)
-  factor_exp ds (truth place b) = language.Truth b
-  factor_exp ds (grammar.not place f) = language.Before before.Not (factor_exp ds f)
-  factor_exp ds (minus place f) = language.Before before.Minus (factor_exp ds f)
-  factor_exp ds (group place e closing) = disjunction_exp ds e
+abbrev pub expression_exp : List Declared → Expression → Exp
+expression_exp ds (variable place name) = variable_exp (or_first (variable_named ds name))
+expression_exp ds (number place digits) = number_exp (number_of digits)
+expression_exp ds (truth place b) = language.Truth b
+expression_exp ds (unary place op e) = language.Before op (expression_exp ds e)
+expression_exp ds (binary a place op b) = language.Between op (expression_exp ds a) (expression_exp ds b)
+expression_exp ds (group place e closing) = expression_exp ds e
 
 abbrev pub sort_named : List Declared → List ℕ → Option Sort
 sort_named ds name = option_map (λ v. v.sort) (variable_named ds name)
 
 -- the sort of an expression, where it is known; one with an operator has that of its result
-abbrev mutual
-  pub disjunction_sort : List Declared → Disjunction → Option Sort
-  disjunction_sort ds (conjunction c) = conjunction_sort ds c
-  disjunction_sort ds (or e place c) = Some Bool
-
-  pub conjunction_sort : List Declared → Conjunction → Option Sort
-  conjunction_sort ds (relation r) = relation_sort ds r
-  conjunction_sort ds (and c place r) = Some Bool
-
-  pub relation_sort : List Declared → Relation → Option Sort
-  relation_sort ds (sum s) = sum_sort ds s
-  relation_sort ds (at_most s place t) = Some Bool
-  relation_sort ds (equals s place t) = Some Bool
-
-  pub sum_sort : List Declared → Sum → Option Sort
-  sum_sort ds (term t) = term_sort ds t
-  sum_sort ds (add s place t) = Some Int
-  sum_sort ds (subtract s place t) = Some Int
-
-  pub term_sort : List Declared → Term → Option Sort
-  term_sort ds (factor f) = factor_sort ds f
-  term_sort ds (multiply t place f) = Some Int
-
-  pub factor_sort : List Declared → Factor → Option Sort
-  factor_sort ds (variable place name) = sort_named ds name
-  factor_sort ds (number place digits) = Some Int
-  factor_sort ds (truth place b) = Some Bool
-  factor_sort ds (grammar.not place f) = Some Bool
-  factor_sort ds (minus place f) = Some Int
-  factor_sort ds (group place e closing) = disjunction_sort ds e
+abbrev pub expression_sort : List Declared → Expression → Option Sort
+expression_sort ds (variable place name) = sort_named ds name
+expression_sort ds (number place digits) = Some Int
+expression_sort ds (truth place b) = Some Bool
+expression_sort ds (unary place op e) = Some (prefix_sort op)
+expression_sort ds (binary a place op b) = Some (infix_sort op)
+expression_sort ds (group place e closing) = expression_sort ds e
 
 -- an operator whose operands have wrong sorts, where these are known
 abbrev pub infix_breaches : ℕ → Infix → Option Sort → Option Sort → List Breach
@@ -141,46 +91,15 @@ abbrev pub prefix_breaches : ℕ → Prefix → Option Sort → List Breach
 prefix_breaches place op (Some s) = when (not (prefix_takes op s)) place 7
 prefix_breaches place op None = []
 
--- those of both operands, and of the operator between
-abbrev pub with_infix : ℕ → Infix → Option Sort → Option Sort → List Breach → List Breach → List Breach
-with_infix place op s t left right = left ++ (right ++ infix_breaches place op s t)
-
-abbrev mutual
-  pub disjunction_breaches : List Declared → Disjunction → List Breach
-  disjunction_breaches ds (conjunction c) = conjunction_breaches ds c
-  disjunction_breaches ds (or e place c) =
-      with_infix place between.Or (disjunction_sort ds e) (conjunction_sort ds c) (disjunction_breaches ds e) (conjunction_breaches ds c)
-
-  pub conjunction_breaches : List Declared → Conjunction → List Breach
-  conjunction_breaches ds (relation r) = relation_breaches ds r
-  conjunction_breaches ds (and c place r) =
-      with_infix place between.And (conjunction_sort ds c) (relation_sort ds r) (conjunction_breaches ds c) (relation_breaches ds r)
-
-  pub relation_breaches : List Declared → Relation → List Breach
-  relation_breaches ds (sum s) = sum_breaches ds s
-  relation_breaches ds (at_most s place t) =
-      with_infix place between.AtMost (sum_sort ds s) (sum_sort ds t) (sum_breaches ds s) (sum_breaches ds t)
-  relation_breaches ds (equals s place t) =
-      with_infix place between.Equals (sum_sort ds s) (sum_sort ds t) (sum_breaches ds s) (sum_breaches ds t)
-
-  pub sum_breaches : List Declared → Sum → List Breach
-  sum_breaches ds (term t) = term_breaches ds t
-  sum_breaches ds (add s place t) = with_infix place between.Add (sum_sort ds s) (term_sort ds t) (sum_breaches ds s) (term_breaches ds t)
-  sum_breaches ds (subtract s place t) =
-      with_infix place between.Subtract (sum_sort ds s) (term_sort ds t) (sum_breaches ds s) (term_breaches ds t)
-
-  pub term_breaches : List Declared → Term → List Breach
-  term_breaches ds (factor f) = factor_breaches ds f
-  term_breaches ds (multiply t place f) =
-      with_infix place between.Multiply (term_sort ds t) (factor_sort ds f) (term_breaches ds t) (factor_breaches ds f)
-
-  pub factor_breaches : List Declared → Factor → List Breach
-  factor_breaches ds (variable place name) = when (is_none (variable_named ds name)) place 6
-  factor_breaches ds (number place digits) = when (is_too_large (number_of digits)) place 8
-  factor_breaches ds (truth place b) = []
-  factor_breaches ds (grammar.not place f) = factor_breaches ds f ++ prefix_breaches place before.Not (factor_sort ds f)
-  factor_breaches ds (minus place f) = factor_breaches ds f ++ prefix_breaches place before.Minus (factor_sort ds f)
-  factor_breaches ds (group place e closing) = disjunction_breaches ds e
+-- those of the operands, and then of the operator
+abbrev pub expression_breaches : List Declared → Expression → List Breach
+expression_breaches ds (variable place name) = when (is_none (variable_named ds name)) place 6
+expression_breaches ds (number place digits) = when (is_too_large (number_of digits)) place 8
+expression_breaches ds (truth place b) = []
+expression_breaches ds (unary place op e) = expression_breaches ds e ++ prefix_breaches place op (expression_sort ds e)
+expression_breaches ds (binary a place op b) =
+    expression_breaches ds a ++ (expression_breaches ds b ++ infix_breaches place op (expression_sort ds a) (expression_sort ds b))
+expression_breaches ds (group place e closing) = expression_breaches ds e
 
 -- Statements.
 
@@ -200,9 +119,9 @@ test_breaches place None = []
 
 abbrev mutual
   pub form_stmt : List Declared → Form → Stmt
-  form_stmt ds (assign place name becomes e closing) = language.Assign (or_first (variable_named ds name)).index (disjunction_exp ds e)
-  form_stmt ds (loop place e b) = language.While (disjunction_exp ds e) (block_stmt ds b)
-  form_stmt ds (branch place e b otherwise c) = language.If (disjunction_exp ds e) (block_stmt ds b) (block_stmt ds c)
+  form_stmt ds (assign place name becomes e closing) = language.Assign (or_first (variable_named ds name)).index (expression_exp ds e)
+  form_stmt ds (loop place e b) = language.While (expression_exp ds e) (block_stmt ds b)
+  form_stmt ds (branch place e b otherwise c) = language.If (expression_exp ds e) (block_stmt ds b) (block_stmt ds c)
 
   pub block_stmt : List Declared → Block → Stmt
   block_stmt ds (block place fs closing) = forms_stmt ds fs
@@ -215,10 +134,10 @@ abbrev mutual
   pub form_breaches : List Declared → Form → List Breach
   form_breaches ds (assign place name becomes e closing) =
       when (is_none (variable_named ds name)) place 6 ++
-      (disjunction_breaches ds e ++ assigns_breaches becomes (sort_named ds name) (disjunction_sort ds e))
-  form_breaches ds (loop place e b) = disjunction_breaches ds e ++ (test_breaches place (disjunction_sort ds e) ++ block_breaches ds b)
+      (expression_breaches ds e ++ assigns_breaches becomes (sort_named ds name) (expression_sort ds e))
+  form_breaches ds (loop place e b) = expression_breaches ds e ++ (test_breaches place (expression_sort ds e) ++ block_breaches ds b)
   form_breaches ds (branch place e b otherwise c) =
-      disjunction_breaches ds e ++ (test_breaches place (disjunction_sort ds e) ++ (block_breaches ds b ++ block_breaches ds c))
+      expression_breaches ds e ++ (test_breaches place (expression_sort ds e) ++ (block_breaches ds b ++ block_breaches ds c))
 
   pub block_breaches : List Declared → Block → List Breach
   block_breaches ds (block place fs closing) = forms_breaches ds fs

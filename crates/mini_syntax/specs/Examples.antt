@@ -1,10 +1,10 @@
 -- Worked texts: their tokens, and what is wrong with them.
-use Rattle.std.specs.Prelude.{◌≡◌, [], ◌∷◌, codes}
+use Rattle.std.specs.Prelude.{◌≡◌, [], ◌∷◌, codes, refl}
 use Rattle.mini_syntax.specs.Breaches.{breaches}
 use Rattle.mini_syntax.specs.declared.mark.Mark.TheVariants as mark
+use Rattle.mini_syntax.specs.declared.operator.Infix.TheVariants.{Add}
 use Rattle.mini_syntax.specs.declared.sort.Sort.TheVariants.{Int}
-use Rattle.mini_syntax.specs.Grammar.{conjunction, relation, sum, term, factor, add}
-use Rattle.mini_syntax.specs.Grammar.{variable, assign, no_forms, form, IsProgram, InfixProgram}
+use Rattle.mini_syntax.specs.Grammar.{variable, binary, assign, no_forms, form, IsProgram, InfixProgram}
 use Rattle.mini_syntax.specs.Tokens.{name_at, number_at, mark_at, wrong_at, tokens_in}
 
 -- `int x; x := x + y;`
@@ -12,10 +12,8 @@ abbrev pub adds_undeclared : InfixProgram
 adds_undeclared = record {
   decls = record { start = 0; sort = Int; place = 4; name = codes "x"; closing = 5 } ∷ [];
   forms =
-      form
-      (assign 7 (codes "x") 9
-      (conjunction (relation (sum (add (term (factor (variable 12 (codes "x")))) 14 (factor (variable 16 (codes "y"))))))) 17)
-      no_forms;
+      form (assign 7 (codes "x") 9 (binary (variable 12 (codes "x")) 14 Add (variable 16 (codes "y"))) 17) no_forms;
+  bound = refl;
 }
 
 pub record TextsAre : Type 0 where

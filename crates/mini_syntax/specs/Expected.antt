@@ -13,13 +13,14 @@ use Rattle.mini_syntax.specs.declared.lexer.TokenKind.{TokenKind}
 use Rattle.mini_syntax.specs.declared.lexer.TokenKind.TheVariants as kind
 use Rattle.mini_syntax.specs.declared.mark.Mark.{Mark}
 use Rattle.mini_syntax.specs.declared.mark.Mark.TheVariants as mark
+use Rattle.mini_syntax.specs.declared.operator.Infix.{Infix}
 use Rattle.mini_syntax.specs.declared.word.Word.TheVariants as word
+use Rattle.mini_syntax.specs.Precedence.{compared_after, infix_of, may_follow}
 use Rattle.mini_syntax.specs.Tokens.{Token, kind_of}
 
--- an expression begins with an operand, and goes on with more of a term, of a sum, of a relation, of a conjunction, and of itself, each of
--- which may be empty
+-- an expression begins with an operand, and goes on with operators and operands, or with none
 abbrev pub expression : List Expected → List Expected
-expression rest = wants.Operand ∷ wants.MoreTerm ∷ wants.MoreSum ∷ wants.MoreRelation ∷ wants.MoreAnd ∷ wants.MoreOr ∷ rest
+expression rest = wants.Operand ∷ wants.MoreExpression false ∷ rest
 
 -- `{`, statements, `}`
 abbrev pub a_block : List Expected → List Expected
@@ -48,6 +49,11 @@ wanted test = if test then Then push.Nothing else Refused
 abbrev pub more : Bool → Push → Answer
 more test what = if test then Then what else LeftOut
 
+-- after an operand an operator may come, and then an operand and more; two comparisons want an `and` or an `or` between them
+abbrev pub infix_answer : Bool → Option Infix → Answer
+infix_answer compared None = LeftOut
+infix_answer compared (Some op) = if may_follow op compared then Then (push.OperandAndMore (compared_after op compared)) else Refused
+
 abbrev pub answer_of : Expected → TokenKind → Answer
 answer_of wants.Name kind.Name = Then push.Nothing
 answer_of wants.Name k = Refused
@@ -62,18 +68,7 @@ answer_of wants.Operand (kind.Word word.Not) = Then push.Operand
 answer_of wants.Operand (kind.Mark mark.Minus) = Then push.Operand
 answer_of wants.Operand (kind.Mark mark.Open) = Then push.Bracket
 answer_of wants.Operand k = Refused
-answer_of wants.MoreTerm (kind.Mark mark.Times) = Then push.Term
-answer_of wants.MoreTerm k = LeftOut
-answer_of wants.MoreSum (kind.Mark mark.Plus) = Then push.Sum
-answer_of wants.MoreSum (kind.Mark mark.Minus) = Then push.Sum
-answer_of wants.MoreSum k = LeftOut
-answer_of wants.MoreRelation (kind.Mark mark.AtMost) = Then push.Sum
-answer_of wants.MoreRelation (kind.Mark mark.Equals) = Then push.Sum
-answer_of wants.MoreRelation k = LeftOut
-answer_of wants.MoreAnd (kind.Word word.And) = Then push.Conjunction
-answer_of wants.MoreAnd k = LeftOut
-answer_of wants.MoreOr (kind.Word word.Or) = Then push.Expression
-answer_of wants.MoreOr k = LeftOut
+answer_of (wants.MoreExpression compared) k = infix_answer compared (infix_of k)
 answer_of wants.MoreDeclarations (kind.Word (word.Sort s)) = Then push.Declaration
 answer_of wants.MoreDeclarations k = LeftOut
 answer_of wants.MoreStatements kind.Name = Then push.Assignment
@@ -86,10 +81,7 @@ abbrev pub pushed : Push → List Expected → List Expected
 pushed push.Nothing rest = rest
 pushed push.Operand rest = wants.Operand ∷ rest
 pushed push.Bracket rest = expression (wants.Mark mark.Close ∷ rest)
-pushed push.Term rest = wants.Operand ∷ wants.MoreTerm ∷ rest
-pushed push.Sum rest = wants.Operand ∷ wants.MoreTerm ∷ wants.MoreSum ∷ rest
-pushed push.Conjunction rest = wants.Operand ∷ wants.MoreTerm ∷ wants.MoreSum ∷ wants.MoreRelation ∷ wants.MoreAnd ∷ rest
-pushed push.Expression rest = expression rest
+pushed (push.OperandAndMore compared) rest = wants.Operand ∷ wants.MoreExpression compared ∷ rest
 pushed push.Declaration rest = wants.Name ∷ wants.Mark mark.Semicolon ∷ wants.MoreDeclarations ∷ rest
 pushed push.Assignment rest = wants.Mark mark.Becomes ∷ expression (wants.Mark mark.Semicolon ∷ wants.MoreStatements ∷ rest)
 pushed push.Loop rest = expression (a_block (wants.MoreStatements ∷ rest))

@@ -8,6 +8,7 @@ pub mod Lawful
 pub mod Spelled
 -- The text of the language: tokens, grammar, and what is wrong with a text or a program.
 pub mod Tokens
+pub mod Precedence
 pub mod Grammar
 pub mod Faults
 pub mod Breaches

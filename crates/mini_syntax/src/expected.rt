@@ -7,6 +7,7 @@ ghost use Rattle.mini_syntax.specs.declared.expected.Expected.TheVariants as wan
 
 use crate::lexer::TokenKind;
 use crate::mark::Mark;
+use crate::operator::infix_of;
 use crate::word::Word;
 use stack_text::Memory;
 
@@ -21,16 +22,12 @@ pub enum Expected {
     Else,
     /// An operand: a name, a number, `true`, `false`, an operand behind `not` or `-`, or an expression in brackets.
     Operand,
-    /// More of a term: `*` and an operand, and so on, or nothing.
-    MoreTerm,
-    /// More of a sum: `+` or `-` and a term, and so on, or nothing.
-    MoreSum,
-    /// More of a relation: `<=` or `=` and a sum, or nothing.
-    MoreRelation,
-    /// More of a conjunction: `and` and a relation, and so on, or nothing.
-    MoreAnd,
-    /// More of an expression: `or` and a conjunction, and so on, or nothing.
-    MoreOr,
+    /// More of an expression: an operator and an operand, and so on, or nothing. Where a comparison came, another wants an
+    /// `and` or an `or` between.
+    MoreExpression {
+        /// Whether a comparison came since the last `and` or `or`.
+        compared: bool,
+    },
     /// Declarations, or none.
     MoreDeclarations,
     /// Statements, or none.
@@ -46,14 +43,11 @@ pub enum Push {
     Operand,
     /// An expression and its closing bracket, behind the opening one.
     Bracket,
-    /// An operand and more of the term, behind `*`.
-    Term,
-    /// A term and more of the sum, behind an operator of a sum or a relation.
-    Sum,
-    /// A relation and more of the conjunction, behind `and`.
-    Conjunction,
-    /// A conjunction and more of the expression, behind `or`.
-    Expression,
+    /// An operand and more of the expression, behind an operator.
+    OperandAndMore {
+        /// Whether a comparison came since the last `and` or `or`.
+        compared: bool,
+    },
     /// The rest of a declaration and more declarations, behind the sort.
     Declaration,
     /// The rest of an assignment and more statements, behind the name.
@@ -89,23 +83,21 @@ fn operand_answer(kind: TokenKind) -> Answer
     }
 }
 
-/// How more of a sum meets a token.
-fn sum_answer(kind: TokenKind) -> Answer
-    ensures { result ≡ answer_of wants.MoreSum kind }
+/// How more of an expression meets a token.
+fn expression_answer(compared: bool, kind: TokenKind) -> Answer
+    ensures { result ≡ answer_of (wants.MoreExpression compared) kind }
 {
-    match kind {
-        TokenKind::Mark(Mark::Plus | Mark::Minus) => Answer::Then(Push::Sum),
-        _ => Answer::LeftOut,
-    }
-}
-
-/// How more of a relation meets a token.
-fn relation_answer(kind: TokenKind) -> Answer
-    ensures { result ≡ answer_of wants.MoreRelation kind }
-{
-    match kind {
-        TokenKind::Mark(Mark::AtMost | Mark::Equals) => Answer::Then(Push::Sum),
-        _ => Answer::LeftOut,
+    match infix_of(kind) {
+        None => Answer::LeftOut,
+        Some(op) => {
+            if op.may_follow(compared) {
+                Answer::Then(Push::OperandAndMore {
+                    compared: op.compared_after(compared),
+                })
+            } else {
+                Answer::Refused
+            }
+        }
     }
 }
 
@@ -168,14 +160,7 @@ fn meet(top: Expected, kind: TokenKind) -> Answer
         Expected::Mark(mark) => mark_answer(mark, kind),
         Expected::Else => wanted(matches!(kind, TokenKind::Word(Word::Else))),
         Expected::Operand => operand_answer(kind),
-        Expected::MoreTerm => more(matches!(kind, TokenKind::Mark(Mark::Times)), Push::Term),
-        Expected::MoreSum => sum_answer(kind),
-        Expected::MoreRelation => relation_answer(kind),
-        Expected::MoreAnd => more(
-            matches!(kind, TokenKind::Word(Word::And)),
-            Push::Conjunction,
-        ),
-        Expected::MoreOr => more(matches!(kind, TokenKind::Word(Word::Or)), Push::Expression),
+        Expected::MoreExpression { compared } => expression_answer(compared, kind),
         Expected::MoreDeclarations => more(
             matches!(kind, TokenKind::Word(Word::Sort(_))),
             Push::Declaration,
@@ -193,32 +178,11 @@ fn expect(stack: &mut Vec<Expected>, what: Push) -> Result<(), Memory>
         Push::Operand => stack.extend_from_slice(&[Expected::Operand])?,
         Push::Bracket => stack.extend_from_slice(&[
             Expected::Mark(Mark::Close),
-            Expected::MoreOr,
-            Expected::MoreAnd,
-            Expected::MoreRelation,
-            Expected::MoreSum,
-            Expected::MoreTerm,
+            Expected::MoreExpression { compared: false },
             Expected::Operand,
         ])?,
-        Push::Term => stack.extend_from_slice(&[Expected::MoreTerm, Expected::Operand])?,
-        Push::Sum => stack.extend_from_slice(&[
-            Expected::MoreSum,
-            Expected::MoreTerm,
-            Expected::Operand,
-        ])?,
-        Push::Conjunction => stack.extend_from_slice(&[
-            Expected::MoreAnd,
-            Expected::MoreRelation,
-            Expected::MoreSum,
-            Expected::MoreTerm,
-            Expected::Operand,
-        ])?,
-        Push::Expression => stack.extend_from_slice(&[
-            Expected::MoreOr,
-            Expected::MoreAnd,
-            Expected::MoreRelation,
-            Expected::MoreSum,
-            Expected::MoreTerm,
+        Push::OperandAndMore { compared } => stack.extend_from_slice(&[
+            Expected::MoreExpression { compared },
             Expected::Operand,
         ])?,
         Push::Declaration => stack.extend_from_slice(&[
@@ -229,11 +193,7 @@ fn expect(stack: &mut Vec<Expected>, what: Push) -> Result<(), Memory>
         Push::Assignment => stack.extend_from_slice(&[
             Expected::MoreStatements,
             Expected::Mark(Mark::Semicolon),
-            Expected::MoreOr,
-            Expected::MoreAnd,
-            Expected::MoreRelation,
-            Expected::MoreSum,
-            Expected::MoreTerm,
+            Expected::MoreExpression { compared: false },
             Expected::Operand,
             Expected::Mark(Mark::Becomes),
         ])?,
@@ -242,11 +202,7 @@ fn expect(stack: &mut Vec<Expected>, what: Push) -> Result<(), Memory>
             Expected::Mark(Mark::CloseBlock),
             Expected::MoreStatements,
             Expected::Mark(Mark::OpenBlock),
-            Expected::MoreOr,
-            Expected::MoreAnd,
-            Expected::MoreRelation,
-            Expected::MoreSum,
-            Expected::MoreTerm,
+            Expected::MoreExpression { compared: false },
             Expected::Operand,
         ])?,
         Push::Branch => stack.extend_from_slice(&[
@@ -258,11 +214,7 @@ fn expect(stack: &mut Vec<Expected>, what: Push) -> Result<(), Memory>
             Expected::Mark(Mark::CloseBlock),
             Expected::MoreStatements,
             Expected::Mark(Mark::OpenBlock),
-            Expected::MoreOr,
-            Expected::MoreAnd,
-            Expected::MoreRelation,
-            Expected::MoreSum,
-            Expected::MoreTerm,
+            Expected::MoreExpression { compared: false },
             Expected::Operand,
         ])?,
     }

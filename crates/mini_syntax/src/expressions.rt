@@ -3,21 +3,23 @@
 ghost use Rattle.std.specs.Prelude.{◌≡◌, [], ◌∷◌, IfOk};
 ghost use Rattle.mini_syntax.specs.declared.expected.Expected.TheVariants as wants;
 ghost use Rattle.mini_syntax.specs.Expected.{expression};
+ghost use Rattle.mini_syntax.specs.Precedence.{any_level};
 ghost use Rattle.mini_syntax.specs.Scaffold.Lexemes.{left_of};
-ghost use Rattle.mini_syntax.specs.Scaffold.Phrases.{Awaits, factor_kind, is_open, is_open_at, is_open_in, more_after, Reads};
-ghost use Rattle.mini_syntax.specs.Scaffold.Phrases.{conjunctions, disjunctions, factors, relations, sums, terms};
-ghost use Rattle.mini_syntax.specs.Scaffold.Phrases.{conjunction_operator, disjunction_operator, relation_operator, sum_operator, term_operator};
+ghost use Rattle.mini_syntax.specs.Scaffold.Phrases.{Awaits, AwaitsOperand, factor_kind, infix_within, Reads};
 ghost use Rattle.mini_syntax.specs.Scaffold.Scopes.{IsScope};
 
 use crate::lexeme::Cursor;
 use crate::lexer::TokenKind;
 use crate::mark::Mark;
-use crate::operator::{Infix, Prefix};
+use crate::operator::{Infix, Prefix, infix_of};
 use crate::scope::Scope;
 use crate::typed::{Typed, number, truth, variable, with_infix, with_prefix};
 use crate::word::Word;
 use stack_text::{Breach, Memory};
 use std::alloc::Global;
+
+/// The level of the loosest operator.
+const ANY_LEVEL: u32 = 5;
 
 /// The kinds of factors, by what they begin with.
 #[derive(Clone, Copy, Debug)]
@@ -49,56 +51,12 @@ fn factor_kind(kind: TokenKind) -> Option<FactorKind>
     }
 }
 
-/// The operator between the factors of a term.
-fn term_operator(kind: TokenKind) -> Option<Infix>
-    ensures { result ≡ term_operator kind }
+/// The operator that a token of the kind is, where its level isn't higher.
+fn infix_within(level: u32, kind: TokenKind) -> Option<Infix>
+    ensures { result ≡ infix_within level kind }
 {
-    match kind {
-        TokenKind::Mark(Mark::Times) => Some(Infix::Multiply),
-        _ => None,
-    }
-}
-
-/// An operator between the terms of a sum.
-fn sum_operator(kind: TokenKind) -> Option<Infix>
-    ensures { result ≡ sum_operator kind }
-{
-    match kind {
-        TokenKind::Mark(Mark::Plus) => Some(Infix::Add),
-        TokenKind::Mark(Mark::Minus) => Some(Infix::Subtract),
-        _ => None,
-    }
-}
-
-/// An operator between the sums of a relation.
-fn relation_operator(kind: TokenKind) -> Option<Infix>
-    ensures { result ≡ relation_operator kind }
-{
-    match kind {
-        TokenKind::Mark(Mark::AtMost) => Some(Infix::AtMost),
-        TokenKind::Mark(Mark::Equals) => Some(Infix::Equals),
-        _ => None,
-    }
-}
-
-/// The operator between the relations of a conjunction.
-fn conjunction_operator(kind: TokenKind) -> Option<Infix>
-    ensures { result ≡ conjunction_operator kind }
-{
-    match kind {
-        TokenKind::Word(Word::And) => Some(Infix::And),
-        _ => None,
-    }
-}
-
-/// The operator between the conjunctions of an expression.
-fn disjunction_operator(kind: TokenKind) -> Option<Infix>
-    ensures { result ≡ disjunction_operator kind }
-{
-    match kind {
-        TokenKind::Word(Word::Or) => Some(Infix::Or),
-        _ => None,
-    }
+    let op = infix_of(kind)?;
+    if op.level() <= level { Some(op) } else { None }
 }
 
 /// Reads a factor.
@@ -112,8 +70,7 @@ fn factor(
     requires scope { IsScope scope.now }
     requires awaits { Awaits (wants.Operand ∷ []) (left_of cursor.old) }
     ensures { IfOk result
-        (Reads factors (λ tree st. st) scope.now.declared.items
-        (left_of cursor.old) (left_of cursor.new) best.old best.new) }
+        (Reads 0 scope.now.declared.items (left_of cursor.old) (left_of cursor.new) best.old best.new) }
 {
     let token = cursor.next();
     match factor_kind(token.kind) {
@@ -133,98 +90,25 @@ fn factor(
     }
 }
 
-/// Reads a term.
+/// Reads an expression whose operators have the level at most: an operand, and as long as such an operator comes, its right
+/// operand, which binds closer.
 #[cycle(expressions)]
-fn term(
+fn expression_within(
     alloc: Global,
     cursor: &mut Cursor,
     scope: &Scope,
     best: &mut Option<Breach>,
+    level: u32,
 ) -> Result<Typed, Memory>
     requires scope { IsScope scope.now }
-    requires awaits { Awaits (wants.Operand ∷ wants.MoreTerm ∷ []) (left_of cursor.old) }
+    requires awaits { AwaitsOperand (left_of cursor.old) }
     ensures { IfOk result
-        (Reads terms (λ tree st. wants.MoreTerm ∷ st) scope.now.declared.items
-        (left_of cursor.old) (left_of cursor.new) best.old best.new) }
+        (Reads level scope.now.declared.items (left_of cursor.old) (left_of cursor.new) best.old best.new) }
 {
     let mut left = factor(alloc, cursor, scope, best)?;
-    while let Some(op) = term_operator(cursor.kind()) {
+    while let Some(op) = infix_within(level, cursor.kind()) {
         let place = cursor.next().place;
-        let right = factor(alloc, cursor, scope, best)?;
-        left = with_infix(alloc, best, place, op, left, right)?;
-    }
-    Ok(left)
-}
-
-/// Reads a sum.
-#[cycle(expressions)]
-fn sum(
-    alloc: Global,
-    cursor: &mut Cursor,
-    scope: &Scope,
-    best: &mut Option<Breach>,
-) -> Result<Typed, Memory>
-    requires scope { IsScope scope.now }
-    requires awaits { Awaits (wants.Operand ∷ wants.MoreTerm ∷ wants.MoreSum ∷ []) (left_of cursor.old) }
-    ensures { IfOk result
-        (Reads sums (λ tree st. wants.MoreTerm ∷ wants.MoreSum ∷ st) scope.now.declared.items
-        (left_of cursor.old) (left_of cursor.new) best.old best.new) }
-{
-    let mut left = term(alloc, cursor, scope, best)?;
-    while let Some(op) = sum_operator(cursor.kind()) {
-        let place = cursor.next().place;
-        let right = term(alloc, cursor, scope, best)?;
-        left = with_infix(alloc, best, place, op, left, right)?;
-    }
-    Ok(left)
-}
-
-/// Reads a relation.
-#[cycle(expressions)]
-fn relation(
-    alloc: Global,
-    cursor: &mut Cursor,
-    scope: &Scope,
-    best: &mut Option<Breach>,
-) -> Result<Typed, Memory>
-    requires scope { IsScope scope.now }
-    requires awaits { Awaits
-        (wants.Operand ∷ wants.MoreTerm ∷ wants.MoreSum ∷ wants.MoreRelation ∷ []) (left_of cursor.old) }
-    ensures { IfOk result
-        (Reads relations (λ tree st. more_after (is_open tree) st) scope.now.declared.items
-        (left_of cursor.old) (left_of cursor.new) best.old best.new) }
-{
-    let left = sum(alloc, cursor, scope, best)?;
-    match relation_operator(cursor.kind()) {
-        None => Ok(left),
-        Some(op) => {
-            let place = cursor.next().place;
-            let right = sum(alloc, cursor, scope, best)?;
-            with_infix(alloc, best, place, op, left, right)
-        }
-    }
-}
-
-/// Reads a conjunction.
-#[cycle(expressions)]
-fn conjunction(
-    alloc: Global,
-    cursor: &mut Cursor,
-    scope: &Scope,
-    best: &mut Option<Breach>,
-) -> Result<Typed, Memory>
-    requires scope { IsScope scope.now }
-    requires awaits { Awaits
-        (wants.Operand ∷ wants.MoreTerm ∷ wants.MoreSum ∷ wants.MoreRelation ∷ wants.MoreAnd ∷ [])
-        (left_of cursor.old) }
-    ensures { IfOk result
-        (Reads conjunctions (λ tree st. more_after (is_open_in tree) (wants.MoreAnd ∷ st))
-        scope.now.declared.items (left_of cursor.old) (left_of cursor.new) best.old best.new) }
-{
-    let mut left = relation(alloc, cursor, scope, best)?;
-    while let Some(op) = conjunction_operator(cursor.kind()) {
-        let place = cursor.next().place;
-        let right = relation(alloc, cursor, scope, best)?;
+        let right = expression_within(alloc, cursor, scope, best, op.right_level())?;
         left = with_infix(alloc, best, place, op, left, right)?;
     }
     Ok(left)
@@ -242,14 +126,7 @@ pub(crate) fn expression(
     requires scope { IsScope scope.now }
     requires awaits { Awaits (expression []) (left_of cursor.old) }
     ensures { IfOk result
-        (Reads disjunctions (λ tree st. more_after (is_open_at tree) (wants.MoreAnd ∷ wants.MoreOr ∷ st))
-        scope.now.declared.items (left_of cursor.old) (left_of cursor.new) best.old best.new) }
+        (Reads any_level scope.now.declared.items (left_of cursor.old) (left_of cursor.new) best.old best.new) }
 {
-    let mut left = conjunction(alloc, cursor, scope, best)?;
-    while let Some(op) = disjunction_operator(cursor.kind()) {
-        let place = cursor.next().place;
-        let right = conjunction(alloc, cursor, scope, best)?;
-        left = with_infix(alloc, best, place, op, left, right)?;
-    }
-    Ok(left)
+    expression_within(alloc, cursor, scope, best, ANY_LEVEL)
 }

@@ -8,7 +8,7 @@ ghost use Rattle.mini_syntax.specs.Scaffold.Combined.{IsInfix, IsPrefix};
 ghost use Rattle.mini_syntax.specs.declared.program.Declared.{Declared};
 ghost use Rattle.mini_syntax.specs.Grammar.{number, truth, variable};
 ghost use Rattle.mini_syntax.specs.Operands.{infix_takes, prefix_takes};
-ghost use Rattle.mini_syntax.specs.Scaffold.Phrases.{factors, IsTyped};
+ghost use Rattle.mini_syntax.specs.Scaffold.Phrases.{IsTyped};
 ghost use Rattle.mini_syntax.specs.Scaffold.Scopes.{IsScope};
 
 use crate::operator::{Infix, Prefix};
@@ -33,7 +33,7 @@ pub struct Typed {
 /// A variable, where it is declared.
 pub(crate) fn variable(scope: &Scope, best: &mut Option<Breach>, place: u32, name: &[u8]) -> Typed
     requires { IsScope scope.now }
-    ensures { IsTyped factors scope.now.declared.items (variable place name.now) best.old best.new result }
+    ensures { IsTyped scope.now.declared.items (variable place name.now) best.old best.new result }
 {
     let found = scope.named(name);
     note_if(best, found.is_none(), place, 6);
@@ -78,7 +78,7 @@ fn number_of(digits: &[u8]) -> Option<u32>
 
 /// A number.
 pub(crate) fn number(best: &mut Option<Breach>, place: u32, digits: &[u8]) -> Typed
-    ensures { (ds : List Declared) → IsTyped factors ds (number place digits.now) best.old best.new result }
+    ensures { (ds : List Declared) → IsTyped ds (number place digits.now) best.old best.new result }
 {
     let found = number_of(digits);
     note_if(best, found.is_none(), place, 8);
@@ -91,7 +91,7 @@ pub(crate) fn number(best: &mut Option<Breach>, place: u32, digits: &[u8]) -> Ty
 /// A truth value.
 pub(crate) fn truth(value: bool) -> Typed
     ensures { (ds : List Declared) (place : ℕ) (best : Option Breach) →
-        IsTyped factors ds (truth place value) best best result }
+        IsTyped ds (truth place value) best best result }
 {
     Typed {
         exp: Exp::Truth(value),

@@ -1,4 +1,4 @@
-use Rattle.std.proofs.Common.{[], ◌∷◌}
+use Rattle.std.proofs.Common.{[], ◌∷◌, false}
 use Rattle.mini_syntax.specs.declared.mark.Mark.TheVariants as mark
 use Rattle.mini_syntax.specs.declared.expected.Expected.TheVariants as wants
 use Rattle.mini_syntax.proofs.MachineLaws.{stack_more}
@@ -8,28 +8,29 @@ pub returns-in_ok-extend_from_slice-in-Operand : goal.returns-in_ok-extend_from_
 returns-in_ok-extend_from_slice-in-Operand c = rw c.in-Operand.is (stack_more c.args.stack.now.items c.extend_from_slice.new.self.items (wants.Operand ∷ []) c.in_ok-extend_from_slice-in-Operand.ensures.items)
 
 pub returns-in_ok-extend_from_slice-in-Bracket : goal.returns-in_ok-extend_from_slice-in-Bracket
-returns-in_ok-extend_from_slice-in-Bracket c = rw c.in-Bracket.is (stack_more c.args.stack.now.items c.extend_from_slice-in-Bracket.new.self.items (wants.Mark mark.Close ∷ wants.MoreOr ∷ wants.MoreAnd ∷ wants.MoreRelation ∷ wants.MoreSum ∷ wants.MoreTerm ∷ wants.Operand ∷ []) c.in_ok-extend_from_slice-in-Bracket.ensures.items)
+returns-in_ok-extend_from_slice-in-Bracket c = rw c.in-Bracket.is (stack_more c.args.stack.now.items c.extend_from_slice-in-Bracket.new.self.items
+    (wants.Mark mark.Close ∷ wants.MoreExpression false ∷ wants.Operand ∷ []) c.in_ok-extend_from_slice-in-Bracket.ensures.items)
 
-pub returns-in_ok-extend_from_slice-in-Term : goal.returns-in_ok-extend_from_slice-in-Term
-returns-in_ok-extend_from_slice-in-Term c = rw c.in-Term.is (stack_more c.args.stack.now.items c.extend_from_slice-in-Term.new.self.items (wants.MoreTerm ∷ wants.Operand ∷ []) c.in_ok-extend_from_slice-in-Term.ensures.items)
-
-pub returns-in_ok-extend_from_slice-in-Sum : goal.returns-in_ok-extend_from_slice-in-Sum
-returns-in_ok-extend_from_slice-in-Sum c = rw c.in-Sum.is (stack_more c.args.stack.now.items c.extend_from_slice-in-Sum.new.self.items (wants.MoreSum ∷ wants.MoreTerm ∷ wants.Operand ∷ []) c.in_ok-extend_from_slice-in-Sum.ensures.items)
-
-pub returns-in_ok-extend_from_slice-in-Conjunction : goal.returns-in_ok-extend_from_slice-in-Conjunction
-returns-in_ok-extend_from_slice-in-Conjunction c = rw c.in-Conjunction.is (stack_more c.args.stack.now.items c.extend_from_slice-in-Conjunction.new.self.items (wants.MoreAnd ∷ wants.MoreRelation ∷ wants.MoreSum ∷ wants.MoreTerm ∷ wants.Operand ∷ []) c.in_ok-extend_from_slice-in-Conjunction.ensures.items)
-
-pub returns-in_ok-extend_from_slice-in-Expression : goal.returns-in_ok-extend_from_slice-in-Expression
-returns-in_ok-extend_from_slice-in-Expression c = rw c.in-Expression.is (stack_more c.args.stack.now.items c.extend_from_slice-in-Expression.new.self.items (wants.MoreOr ∷ wants.MoreAnd ∷ wants.MoreRelation ∷ wants.MoreSum ∷ wants.MoreTerm ∷ wants.Operand ∷ []) c.in_ok-extend_from_slice-in-Expression.ensures.items)
+pub returns-in_ok-extend_from_slice-in-OperandAndMore : goal.returns-in_ok-extend_from_slice-in-OperandAndMore
+returns-in_ok-extend_from_slice-in-OperandAndMore c = rw c.in-OperandAndMore.is
+    (stack_more c.args.stack.now.items c.extend_from_slice-in-OperandAndMore.new.self.items
+    (wants.MoreExpression c.in-OperandAndMore.compared ∷ wants.Operand ∷ []) c.in_ok-extend_from_slice-in-OperandAndMore.ensures.items)
 
 pub returns-in_ok-extend_from_slice-in-Declaration : goal.returns-in_ok-extend_from_slice-in-Declaration
 returns-in_ok-extend_from_slice-in-Declaration c = rw c.in-Declaration.is (stack_more c.args.stack.now.items c.extend_from_slice-in-Declaration.new.self.items (wants.MoreDeclarations ∷ wants.Mark mark.Semicolon ∷ wants.Name ∷ []) c.in_ok-extend_from_slice-in-Declaration.ensures.items)
 
 pub returns-in_ok-extend_from_slice-in-Assignment : goal.returns-in_ok-extend_from_slice-in-Assignment
-returns-in_ok-extend_from_slice-in-Assignment c = rw c.in-Assignment.is (stack_more c.args.stack.now.items c.extend_from_slice-in-Assignment.new.self.items (wants.MoreStatements ∷ wants.Mark mark.Semicolon ∷ wants.MoreOr ∷ wants.MoreAnd ∷ wants.MoreRelation ∷ wants.MoreSum ∷ wants.MoreTerm ∷ wants.Operand ∷ wants.Mark mark.Becomes ∷ []) c.in_ok-extend_from_slice-in-Assignment.ensures.items)
+returns-in_ok-extend_from_slice-in-Assignment c = rw c.in-Assignment.is
+    (stack_more c.args.stack.now.items c.extend_from_slice-in-Assignment.new.self.items
+    (wants.MoreStatements ∷ wants.Mark mark.Semicolon ∷ wants.MoreExpression false ∷ wants.Operand ∷ wants.Mark mark.Becomes ∷ [])
+    c.in_ok-extend_from_slice-in-Assignment.ensures.items)
 
 pub returns-in_ok-extend_from_slice-in-Loop : goal.returns-in_ok-extend_from_slice-in-Loop
-returns-in_ok-extend_from_slice-in-Loop c = rw c.in-Loop.is (stack_more c.args.stack.now.items c.extend_from_slice-in-Loop.new.self.items (wants.MoreStatements ∷ wants.Mark mark.CloseBlock ∷ wants.MoreStatements ∷ wants.Mark mark.OpenBlock ∷ wants.MoreOr ∷ wants.MoreAnd ∷ wants.MoreRelation ∷ wants.MoreSum ∷ wants.MoreTerm ∷ wants.Operand ∷ []) c.in_ok-extend_from_slice-in-Loop.ensures.items)
+returns-in_ok-extend_from_slice-in-Loop c = rw c.in-Loop.is (stack_more c.args.stack.now.items c.extend_from_slice-in-Loop.new.self.items
+    (wants.MoreStatements ∷ wants.Mark mark.CloseBlock ∷ wants.MoreStatements ∷ wants.Mark mark.OpenBlock ∷ wants.MoreExpression false ∷ wants.Operand ∷
+    []) c.in_ok-extend_from_slice-in-Loop.ensures.items)
 
 pub returns-in_ok-extend_from_slice-in-Branch : goal.returns-in_ok-extend_from_slice-in-Branch
-returns-in_ok-extend_from_slice-in-Branch c = rw c.in-Branch.is (stack_more c.args.stack.now.items c.extend_from_slice-in-Branch.new.self.items (wants.MoreStatements ∷ wants.Mark mark.CloseBlock ∷ wants.MoreStatements ∷ wants.Mark mark.OpenBlock ∷ wants.Else ∷ wants.Mark mark.CloseBlock ∷ wants.MoreStatements ∷ wants.Mark mark.OpenBlock ∷ wants.MoreOr ∷ wants.MoreAnd ∷ wants.MoreRelation ∷ wants.MoreSum ∷ wants.MoreTerm ∷ wants.Operand ∷ []) c.in_ok-extend_from_slice-in-Branch.ensures.items)
+returns-in_ok-extend_from_slice-in-Branch c = rw c.in-Branch.is (stack_more c.args.stack.now.items c.extend_from_slice-in-Branch.new.self.items
+    (wants.MoreStatements ∷ wants.Mark mark.CloseBlock ∷ wants.MoreStatements ∷ wants.Mark mark.OpenBlock ∷ wants.Else ∷ wants.Mark mark.CloseBlock ∷
+    wants.MoreStatements ∷ wants.Mark mark.OpenBlock ∷ wants.MoreExpression false ∷ wants.Operand ∷ []) c.in_ok-extend_from_slice-in-Branch.ensures.items)
