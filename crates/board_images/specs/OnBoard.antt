@@ -23,7 +23,7 @@ use Rattle.stack_build.specs.Build.{BuiltOf, source_in, built}
 use Rattle.mini_syntax.specs.Breaches.{body_of}
 use Rattle.mini_syntax.specs.Grammar.{InfixProgram}
 use Rattle.mini_gypsy.specs.Meant.{program_run}
-use Rattle.mini_texts.specs.Stored.{MeansAlways}
+use Rattle.mini_gypsy.specs.Stored.{MeansAlways}
 
 -- 1. What a board comes to.
 

@@ -25,12 +25,12 @@ use Rattle.mini_syntax.specs.declared.program.Declared.{Declared}
 use Rattle.mini_syntax.specs.Grammar.{InfixProgram}
 use Rattle.mini_syntax.specs.Language.{Stmt}
 use Rattle.mini_gypsy.specs.Lowered.{decl_of, lowered}
-use Rattle.mini_texts.specs.Readings.{Reading, faultless, faulty, lowering_by, source_for}
-use Rattle.mini_texts.specs.Stored.{MeansAlways, StandsFor, stored_text}
-use Rattle.mini_texts.proofs.PlaceLaws.{map_over}
-use Rattle.mini_texts.proofs.ReadingLaws.{read}
-use Rattle.mini_texts.proofs.RuleLaws.{procedure_same}
-use Rattle.mini_texts.proofs.StoredLaws.{stands, stored_short}
+use Rattle.mini_syntax.specs.MiniReading.{TextReading, faultless, faulty}
+use Rattle.mini_gypsy.specs.Stored.{lowering_by, MeansAlways, source_for, StandsFor, stored_text}
+use Rattle.mini_gypsy.proofs.PlaceLaws.{map_over}
+use Rattle.mini_syntax.proofs.AnswerLaws.{read}
+use Rattle.mini_gypsy.proofs.BareRuleLaws.{procedure_same}
+use Rattle.mini_gypsy.proofs.StoredLaws.{stands, stored_short}
 use Rattle.stack_build.specs.Build.{source_in}
 use Rattle.stack_build.specs.Formals.{formals_in, main_of, shown_formals}
 use Rattle.stack_build.specs.Implements.{meaning_shown, FitsFormals, Finishes, Implements}
@@ -111,7 +111,7 @@ mini_tells watches files program source (Ok text) got = by_reading (read text)
     few : length text ≤ 2 ^ 20
     few = let short : length text ≤ limit_of Infix = file.short in omega (arith, short)
 
-    by_reading : (found : Reading text) → TellsMini files program source (answer_with (set_file (Some (Source, source)) (lowered_stored (lowering_by found))) (lowered_reply source (lowering_by found)))
+    by_reading : (found : TextReading text) → TellsMini files program source (answer_with (set_file (Some (Source, source)) (lowered_stored (lowering_by found))) (lowered_reply source (lowering_by found)))
     by_reading (faultless p is) = record {
       done = λ h. record {
         text = text;

@@ -22,7 +22,7 @@ use Rattle.mini_syntax.specs.declared.program.Declared.{Declared}
 use Rattle.mini_syntax.specs.Grammar.{InfixProgram}
 use Rattle.mini_gypsy.specs.Lowered.{kind_of}
 use Rattle.mini_gypsy.specs.Meant.{program_run}
-use Rattle.mini_texts.specs.Stored.{MeansAlways}
+use Rattle.mini_gypsy.specs.Stored.{MeansAlways}
 use Rattle.command_line.specs.declared.command.Command.{Command}
 use Rattle.command_line.specs.declared.command.Command.TheVariants.{Go, Mini}
 use Rattle.command_line.specs.declared.role.Role.TheVariants.{Infix, Source, Image}

@@ -13,3 +13,7 @@ pub mod ExampleLaws
 mod ListLaws
 mod PartLaws
 pub mod LowerLaws
+pub mod BareLaws
+pub mod PlaceLaws
+pub mod BareRuleLaws
+pub mod StoredLaws

@@ -1,21 +1,22 @@
 -- What a text becomes.
-use Rattle.std.proofs.Common.{◌≡◌, ℕ, List, length, sym, ap, subst, ◌∙◌, arith}
+use Rattle.std.proofs.Common.{◌≡◌, ℕ, List, Ok, Err, length, sym, ap, subst, ◌∙◌, arith}
 use Rattle.gypsy_syntax.specs.GypsyReading.{KeepsForm}
 use Rattle.gypsy_syntax.specs.Printed.{gypsy_text}
 use Rattle.gypsy_syntax.specs.Resolved.{program_of}
 use Rattle.gypsy_syntax.specs.Sources.{SourceOf}
 use Rattle.gypsy_syntax.proofs.ReadAgainLaws.{gypsy_text_reads}
-use Rattle.mini_syntax.specs.MiniReading.{IsFault, ReadsText}
+use Rattle.mini_syntax.specs.MiniReading.{IsFault, TextReading, ReadsText, faultless, faulty}
 use Rattle.mini_syntax.specs.Breaches.{body_of, declared_of}
 use Rattle.mini_syntax.specs.declared.program.Declared.{Declared}
 use Rattle.mini_syntax.specs.declared.program.InfixProgram as made
 use Rattle.mini_syntax.specs.Grammar.{InfixProgram}
 use Rattle.mini_syntax.specs.Lawful.{IsLawful}
 use Rattle.mini_syntax.specs.Seen.ProgramView.{block_in}
-use Rattle.mini_syntax.proofs.OneAnswerLaws.{either_way}
+use Rattle.mini_syntax.proofs.OneAnswerLaws.{either_way, one_fault}
 use Rattle.mini_syntax.proofs.OneProgramLaws.{program_is}
 use Rattle.mini_gypsy.specs.Lowered.{lowered}
 use Rattle.mini_gypsy.specs.Promises.{Lowers, MeansSame}
+use Rattle.mini_gypsy.specs.Stored.{lowering_by, source_for}
 use Rattle.mini_gypsy.proofs.MeaningLaws.{means_same}
 use Rattle.mini_gypsy.proofs.TextLaws.{lowered_short}
 
@@ -47,3 +48,17 @@ one_source text s t a b =
 
 pub no_fault : (text : List ℕ) (rule place : ℕ) (s : SourceOf) → IsFault text rule place → Lowers text s → ⊥
 no_fault text rule place s f a = either_way text rule place a.program f a.faultless
+
+pub fault_read : (text : List ℕ) (rule place : ℕ) → IsFault text rule place → (found : TextReading text) → lowering_by found ≡ Err record { place = place; rule = rule }
+fault_read text rule place f (faultless p is) = absurd (either_way text rule place p f is)
+fault_read text rule place f (faulty b g) =
+    let same = one_fault text b.rule b.place rule place g f in
+    let rules = same.0 in
+    let places = same.1 in
+    λ i. Err record { place = places i; rule = rules i }
+
+pub source_read : (text : List ℕ) (s : SourceOf) → Lowers text s → (found : TextReading text) → lowering_by found ≡ Ok s
+source_read text s a (faultless p is) =
+    let same : p ≡ a.program = program_is text p a.program is.read.program a.faultless.read.program in
+    ap (λ (q : InfixProgram). Ok (source_for q)) same ∙ ap (λ (t : SourceOf). Ok t) (sym a.source)
+source_read text s a (faulty b g) = absurd (either_way text b.rule b.place a.program g a.faultless)

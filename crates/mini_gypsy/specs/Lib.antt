@@ -2,6 +2,7 @@
 pub mod Meant
 pub mod Lowered
 pub mod Promises
+pub mod Stored
 pub mod Examples
 -- The lowering with positions in place of names.
 pub mod Steps

@@ -11,6 +11,6 @@ mod statements;
 mod temporaries;
 mod values;
 
-pub use laws::{examples_compute, lowering_is_one, lowering_means_the_same};
+pub use laws::{examples_compute, lowering_is_one, lowering_means_the_same, stored_means_the_same};
 pub use lowering::lower;
 pub use mini_syntax::MiniFault;

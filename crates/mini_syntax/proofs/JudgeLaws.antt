@@ -135,7 +135,7 @@ module _ (before : List Token) (t : Token) (right : is_wrong (kind_of t) ≡ fal
           let h = nothing_else ex ey rule b in
           not_over (is_operator (kind_of t)) (operators before) 0 ez h.1 (let le : 40 ≤ operators before = h.2 in omega (arith, le))
 
-taken_one : (before : List Token) (t : Token) (old : List Expected) → taken (Some at_start) before ≡ Some old → taken (Some at_start) (before ++ t ∷ []) ≡ takes old (kind_of t)
+pub taken_one : (before : List Token) (t : Token) (old : List Expected) → taken (Some at_start) before ≡ Some old → taken (Some at_start) (before ++ t ∷ []) ≡ takes old (kind_of t)
 taken_one before t old e =
     taken_append (Some at_start) before (t ∷ []) ∙ ap (λ (o : Option (List Expected)). taken o (t ∷ [])) e ∙ taken_end (takes old (kind_of t))
   where

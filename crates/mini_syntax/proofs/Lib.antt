@@ -8,6 +8,8 @@ pub mod LimitLaws
 pub mod PrecedenceLaws
 pub mod ExpectedLaws
 pub mod GoesOnLaws
+pub mod TokenLaws
+pub mod AnswerLaws
 pub mod JudgeLaws
 pub mod OneFaultLaws
 pub mod OneProgramLaws

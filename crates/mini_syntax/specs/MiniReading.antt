@@ -1,5 +1,6 @@
 -- What reading a text returns: its program, or what is wrong with it.
 use Rattle.std.specs.Prelude.{◌≡◌, ℕ, ◌≤◌, List, [], length, Some, Result, Ok, Err}
+use Rattle.stack_text.specs.declared.breach.Breach.{Breach}
 use Rattle.stack_text.specs.Breaches.{least}
 use Rattle.mini_syntax.specs.declared.fault.MiniFault.{MiniFault}
 use Rattle.mini_syntax.specs.declared.fault.MiniFault.TheVariants.{Refused, Memory}
@@ -37,6 +38,11 @@ pub record ReadsText (text : List ℕ) (program : InfixProgram) : Type 0 where
   pub body : block_in program.body.items ≡ body_of tree
   pub lawful : IsLawful (declared_of tree) (body_of tree)
   pub short : program_bytes (declared_of tree) (body_of tree) ≤ length text
+
+-- a text is a program that breaks no rule, or has a fault
+pub data TextReading (text : List ℕ) : Type 0 where
+  faultless : (program : grammar.InfixProgram) → IsFaultless text program → TextReading text
+  faulty : (breach : Breach) → IsFault text breach.rule breach.place → TextReading text
 
 -- an error is the text's fault; out of memory alone is free
 abbrev pub RefusesText : {X : Type 0} → List ℕ → Result X MiniFault → Type 0

@@ -1,7 +1,7 @@
 //! Laws of the text. The functions do nothing: their clauses hold of all texts.
 
 ghost use Rattle.std.specs.Prelude.{◌≡◌, ℕ, List, None, Some, true};
-ghost use Rattle.mini_syntax.specs.MiniReading.{IsFault, IsFaultless};
+ghost use Rattle.mini_syntax.specs.MiniReading.{IsFault, IsFaultless, TextReading};
 ghost use Rattle.mini_syntax.specs.declared.expected.Expected.{Expected};
 ghost use Rattle.mini_syntax.specs.Examples.{TextsAre};
 ghost use Rattle.mini_syntax.specs.Expected.{at_start, is_over, taken};
@@ -26,6 +26,11 @@ pub fn texts_have_one_answer()
         (rule ≡ other) × (place ≡ there) }
     ensures either { (text : List ℕ) (rule place : ℕ) (p : InfixProgram) → IsFault text rule place →
         IsFaultless text p → ⊥ }
+{}
+
+/// Each text has an answer: it is a program that breaks no rule, or it has a fault.
+pub fn texts_have_an_answer()
+    ensures { (text : List ℕ) → TextReading text }
 {}
 
 /// Worked texts, computed: their tokens, and what is wrong with them.

@@ -21,7 +21,7 @@ mod typed;
 mod word;
 
 pub use fault::MiniFault;
-pub use laws::{examples_compute, expected_decides, texts_have_one_answer};
+pub use laws::{examples_compute, expected_decides, texts_have_an_answer, texts_have_one_answer};
 pub use operator::{Infix, Prefix};
 pub use program::{Declared, Exp, InfixProgram, Statement};
 pub use reading::read_mini;

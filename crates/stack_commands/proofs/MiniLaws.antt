@@ -4,7 +4,8 @@ use Rattle.gypsy_syntax.specs.Printed.{gypsy_text}
 use Rattle.gypsy_syntax.specs.Sources.{SourceOf}
 use Rattle.mini_syntax.specs.MiniReading.{IsFault}
 use Rattle.mini_gypsy.specs.Promises as gypsy
-use Rattle.mini_texts.proofs.ReadingLaws.{fault_read, read, source_read}
+use Rattle.mini_syntax.proofs.AnswerLaws.{read}
+use Rattle.mini_gypsy.proofs.LowerLaws.{fault_read, source_read}
 use Rattle.stack_commands.specs.declared.reply.RuleLetter.TheVariants.{Y}
 use Rattle.stack_commands.specs.declared.reply.Verdict.TheVariants as verdict
 use Rattle.stack_commands.specs.Replies.{verdict_alone}

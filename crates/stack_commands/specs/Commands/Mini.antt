@@ -3,8 +3,8 @@ use Rattle.std.specs.Prelude.{ℕ, List, Option, Some, None, Result, Ok, Err}
 use Rattle.stack_text.specs.declared.breach.Breach.{Breach}
 use Rattle.gypsy_syntax.specs.Printed.{gypsy_text}
 use Rattle.gypsy_syntax.specs.Sources.{SourceOf}
-use Rattle.mini_texts.specs.Readings.{lowering_by}
-use Rattle.mini_texts.proofs.ReadingLaws.{read}
+use Rattle.mini_gypsy.specs.Stored.{lowering_by}
+use Rattle.mini_syntax.proofs.AnswerLaws.{read}
 use Rattle.stack_commands.specs.declared.reply.RuleLetter.TheVariants.{Y}
 use Rattle.stack_commands.specs.declared.reply.Verdict.TheVariants.{Refused}
 use Rattle.stack_commands.specs.Replies.{ReplyOf, verdict_alone}

@@ -1,5 +1,6 @@
--- That a text is a source of Micro-Gypsy which means what a program of the infix language does.
-use Rattle.std.specs.Prelude.{◌≡◌, ℕ, List, [], Ok}
+-- The source that a text of the infix language becomes, and that what is stored of it means what the program does.
+use Rattle.std.specs.Prelude.{◌≡◌, ℕ, List, [], Result, Ok, Err}
+use Rattle.stack_text.specs.declared.breach.Breach.{Breach}
 use Rattle.stack_text.specs.Values.{ValueOf}
 use Rattle.gypsy_syntax.specs.GypsyReading.{gypsy_in}
 use Rattle.gypsy_syntax.specs.Places.{without_places}
@@ -12,11 +13,21 @@ use Rattle.gypsy_syntax.specs.ValuesFit.{VarsFit}
 use Rattle.gypsy_check.specs.Rules.{violations}
 use Rattle.gypsy_space.specs.Needs.{StackSizes}
 use Rattle.gypsy_semantics.specs.Meaning.{meaning}
-use Rattle.mini_syntax.specs.Breaches.{body_of}
+use Rattle.mini_syntax.specs.MiniReading.{TextReading, faultless, faulty}
+use Rattle.mini_syntax.specs.Breaches.{body_of, declared_of}
 use Rattle.mini_syntax.specs.Grammar.{InfixProgram}
 use Rattle.mini_syntax.specs.Language.{Stmt}
 use Rattle.mini_gypsy.specs.Meant.{program_run}
-use Rattle.mini_texts.specs.Readings.{source_for}
+use Rattle.mini_gypsy.specs.Lowered.{lowered}
+
+-- the source that a program becomes
+abbrev pub source_for : InfixProgram → SourceOf
+source_for program = lowered (declared_of program) (body_of program)
+
+-- that of a text, or the rule that the text breaks, and where
+abbrev pub lowering_by : {text : List ℕ} → TextReading text → Result SourceOf Breach
+lowering_by (faultless program is) = Ok (source_for program)
+lowering_by (faulty breach is) = Err breach
 
 -- what is stored of a program
 abbrev pub stored_text : InfixProgram → List ℕ

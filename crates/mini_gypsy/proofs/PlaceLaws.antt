@@ -13,7 +13,7 @@ use Rattle.gypsy_syntax.specs.Programs.{Signal, Seq, Loop, If, Begin, Call, Appl
 use Rattle.gypsy_syntax.specs.Resolved.{position_of, variable_names, condition_names, procedure_names, shape_of, item_of, items_of_all, value_items, literal_kind, literal_value, local_value, is_leave_name, is_routine_name, is_space_name, cond_of, variable_of, argument_of, statement_of, statement_of_all, procedure_of, program_of}
 use Rattle.gypsy_syntax.specs.Sources.{LiteralOf, LiteralsOf, integer, truth, character, array, no_items, item, ArgOf, variable, constant}
 use Rattle.gypsy_syntax.specs.Sources.{StmtOf, StmtsOf, no_op, signal, seq, loop, branch, begin, call, predef, no_parts, part, LocalOf, ProcOf, SourceOf}
-use Rattle.mini_texts.proofs.BareLaws.{bare_statement, bare_procedure, bare_program}
+use Rattle.mini_gypsy.proofs.BareLaws.{bare_statement, bare_procedure, bare_program}
 
 -- what a list's items give, where each is changed first to one that gives what it gave
 pub map_over : {X Y Z : Type 0} (f : Y → Z) (g : X → Y) (h : X → Z) → ((x : X) → f (g x) ≡ h x) → (xs : List X) → map f (map g xs) ≡ map h xs

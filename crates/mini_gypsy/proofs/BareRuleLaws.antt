@@ -29,7 +29,7 @@ use Rattle.gypsy_check.specs.Declarations.{is_predefined, type_at, type_of, is_c
 use Rattle.gypsy_check.specs.Rules.{literal_breaches, items_breaches, raised_breaches, handled_breaches, handlers_breaches, undeclared, is_of_type, test_breaches, actuals_breaches, data_breaches, callee_breaches, actual_name_breaches, call_breaches}
 use Rattle.gypsy_check.specs.Rules.{slots_breaches, argument_breaches, predef_breaches, statement_breaches, parts_breaches, is_reserved, condition_breaches, type_breaches, local_breaches, variable_breaches, condition_name_breaches, size_breaches, procedure_breaches, name_breaches, violations}
 use Rattle.gypsy_check.specs.Types.{same_type, is_boolean, has_length, is_of_kind, are_of_kind, item_number, suits, words_of_length, words_of_types}
-use Rattle.mini_texts.proofs.PlaceLaws.{map_over, kind_same, variables_same, conditions_same, procedures_same}
+use Rattle.mini_gypsy.proofs.PlaceLaws.{map_over, kind_same, variables_same, conditions_same, procedures_same}
 
 -- ---- breaches of the same rules
 

@@ -23,11 +23,11 @@ use Rattle.mini_gypsy.proofs.FormLaws.{lowered_fits, lowered_small}
 use Rattle.mini_gypsy.proofs.MeaningLaws.{lowered_means}
 use Rattle.mini_gypsy.proofs.RuleLaws.{lowered_clean}
 use Rattle.mini_gypsy.proofs.TextLaws.{lowered_short}
-use Rattle.mini_texts.specs.Readings.{source_for}
-use Rattle.mini_texts.specs.Stored.{MeansAlways, StandsFor, stored_text}
-use Rattle.mini_texts.proofs.BareLaws.{bare_program, same_meaning, same_shapes}
-use Rattle.mini_texts.proofs.PlaceLaws.{bare_same}
-use Rattle.mini_texts.proofs.RuleLaws.{none_broken}
+use Rattle.mini_gypsy.specs.Stored.{source_for}
+use Rattle.mini_gypsy.specs.Stored.{MeansAlways, StandsFor, stored_text}
+use Rattle.mini_gypsy.proofs.BareLaws.{bare_program, same_meaning, same_shapes}
+use Rattle.mini_gypsy.proofs.PlaceLaws.{bare_same}
+use Rattle.mini_gypsy.proofs.BareRuleLaws.{none_broken}
 
 lowered_keeps : (ds : List Declared) (s : Stmt) → IsLawful ds s → KeepsForm (lowered ds s)
 lowered_keeps ds s lawful =

@@ -11,8 +11,9 @@ use Rattle.mini_syntax.specs.Faults.{is_operator, opens_block, opens_bracket}
 use Rattle.mini_syntax.specs.Grammar.{GoesOn}
 use Rattle.mini_syntax.specs.Scaffold.Judging.{is_wrong}
 use Rattle.mini_syntax.specs.Tokens.{Token, name_at, number_at, word_at, mark_at, wrong_at, kind_of}
-use Rattle.mini_syntax.proofs.ExpectedLaws.{not_taken, taken_append}
+use Rattle.mini_syntax.proofs.ExpectedLaws.{not_taken}
 use Rattle.mini_syntax.proofs.GoesOnLaws.{goes_on}
+use Rattle.mini_syntax.proofs.JudgeLaws.{taken_one}
 
 -- ---- one token
 
@@ -50,14 +51,6 @@ pub data Judged (before : List Token) (t : Token) : Type 0 where
   breaks : (rule : ℕ) → BreaksAt before t rule → ((other : ℕ) → BreaksAt before t other → rule ≤ other) → Judged before t
   passes : (st : List Expected) → taken (Some at_start) (before ++ t ∷ []) ≡ Some st → ((rule : ℕ) → BreaksAt before t rule → ⊥) → Judged before t
 
-after_one : (before : List Token) (t : Token) (st : List Expected) → taken (Some at_start) before ≡ Some st → taken (Some at_start) (before ++ t ∷ []) ≡ takes st (kind_of t)
-after_one before t st e =
-    taken_append (Some at_start) before (t ∷ []) ∙ ap (λ (o : Option (List Expected)). taken o (t ∷ [])) e ∙ all_taken (takes st (kind_of t))
-  where
-    all_taken : (o : Option (List Expected)) → taken o [] ≡ o
-    all_taken None = refl
-    all_taken (Some st) = refl
-
 module _ (before : List Token) (t : Token) (st : List Expected) (is : taken (Some at_start) before ≡ Some st) where
   at_least_one : (rule : ℕ) → Broken before t rule → 1 ≤ rule
   at_least_one rule (wrong e h) = omega (arith, e)
@@ -82,7 +75,7 @@ module _ (before : List Token) (t : Token) (st : List Expected) (is : taken (Som
 
   module _ (right : is_wrong (kind_of t) ≡ false) (new : List Expected) (some : takes st (kind_of t) ≡ Some new) where
     further : taken (Some at_start) (before ++ t ∷ []) ≡ Some new
-    further = after_one before t st is ∙ some
+    further = taken_one before t st is ∙ some
 
     goes : GoesOn (before ++ t ∷ [])
     goes = goes_on (before ++ t ∷ []) new further
@@ -117,7 +110,7 @@ module _ (before : List Token) (t : Token) (st : List Expected) (is : taken (Som
 
   by_taken : is_wrong (kind_of t) ≡ false → (o : Option (List Expected)) → takes st (kind_of t) ≡ o → Judged before t
   by_taken right None none =
-      breaks 2 (no_program t (not_taken (before ++ t ∷ []) (after_one before t st is ∙ none))) (λ rule k. at_least_two right rule (broken before t rule k))
+      breaks 2 (no_program t (not_taken (before ++ t ∷ []) (taken_one before t st is ∙ none))) (λ rule k. at_least_two right rule (broken before t rule k))
   by_taken right (Some new) some =
       by_limits right new some (is_full (opens_bracket (kind_of t)) (open_brackets before)) (is_full (opens_block (kind_of t)) (open_blocks before))
       (is_full (is_operator (kind_of t)) (operators before)) refl refl refl
