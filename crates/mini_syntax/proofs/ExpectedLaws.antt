@@ -9,7 +9,6 @@ use Rattle.mini_syntax.specs.declared.expected.Expected.{Expected}
 use Rattle.mini_syntax.specs.declared.expected.Expected.TheVariants as wants
 use Rattle.mini_syntax.specs.declared.expected.Push.TheVariants as push
 use Rattle.mini_syntax.specs.declared.lexer.TokenKind.{TokenKind}
-use Rattle.mini_syntax.specs.declared.lexer.TokenKind.TheVariants as kind
 use Rattle.mini_syntax.specs.declared.mark.Mark.TheVariants as mark
 use Rattle.mini_syntax.specs.declared.operator.Infix.{Infix}
 use Rattle.mini_syntax.specs.declared.operator.Prefix.{Prefix}

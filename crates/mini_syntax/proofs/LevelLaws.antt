@@ -1,5 +1,5 @@
 -- An expression in the making: what was read of it, and one more operator with its right operand.
-use Rattle.std.proofs.Common.{◌≡◌, ◌≤◌, ℕ, List, [], ◌∷◌, ◌++◌, length, Option, Some, None, true, refl, sym, ap, subst, ◌∙◌, append_assoc, arith}
+use Rattle.std.proofs.Common.{◌≡◌, ◌≤◌, ℕ, List, [], ◌∷◌, ◌++◌, length, Option, Some, None, true, sym, ap, ◌∙◌, append_assoc, arith}
 use Rattle.std.specs.Prelude as std
 use Rattle.std.proofs.lemmas.List.{length-append}
 use Rattle.stack_text.specs.declared.breach.Breach.{Breach}
