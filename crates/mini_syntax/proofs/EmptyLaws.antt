@@ -1,6 +1,5 @@
 -- What an empty list of breaches says of its parts.
 use Rattle.std.proofs.Common.{◌≡◌, List, [], ◌∷◌, ◌++◌, refl}
-use Rattle.std.specs.Prelude as std
 use Rattle.stack_text.specs.declared.breach.Breach.{Breach}
 
 pub two : (a b : List Breach) → a ++ b ≡ [] → (a ≡ []) × (b ≡ [])
