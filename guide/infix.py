@@ -13,20 +13,15 @@ MARKS = ":= ; <= = + - * ( ) { }".split()
 KINDS = ["a name", "a number", *MARKS, *WORDS]
 OPERANDS = ["a name", "a number", "true", "false", "not", "-", "("]
 
-# What is expected after an operand: more of a term, a sum, a relation, a conjunction and a disjunction, each of which may be left out.
-TERM = ["operand", "more term"]
-SUM = [*TERM, "more sum"]
-CONJUNCTION = [*SUM, "more relation", "more and"]
-EXPRESSION = [*CONJUNCTION, "more or"]
+# An expression is an operand, and goes on with operators and operands, or with none. Two comparisons want an `and` or an `or` between them.
+EXPRESSION = ["operand", "more"]
+COMPARED = ["operand", "more compared"]
 BLOCK = ["{", "statements", "}"]
 # Of what may be left out, or is one of several: what is expected after each token that it takes.
 TAKES = {
     "operand": {it: [] for it in ("a name", "a number", "true", "false")} | {"not": ["operand"], "-": ["operand"], "(": [*EXPRESSION, ")"]},
-    "more term": {"*": TERM},
-    "more sum": {"+": SUM, "-": SUM},
-    "more relation": {"<=": SUM, "=": SUM},
-    "more and": {"and": CONJUNCTION},
-    "more or": {"or": EXPRESSION},
+    "more": {it: EXPRESSION for it in ("or", "and", "+", "-", "*")} | {it: COMPARED for it in ("<=", "=")},
+    "more compared": {it: EXPRESSION for it in ("or", "and")} | {it: COMPARED for it in ("+", "-", "*")},
     "declarations": {it: ["a name", ";", "declarations"] for it in ("int", "bool")},
     "statements": {
         "a name": [":=", *EXPRESSION, ";", "statements"],

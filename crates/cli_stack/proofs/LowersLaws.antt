@@ -19,13 +19,12 @@ use Rattle.gypsy_semantics.specs.Calls.{CurrentCondition}
 use Rattle.gypsy_semantics.specs.Counted.{CountedOutcome, CountedDone, CountedUnfinished, counted_meaning, uncounted, tally_of}
 use Rattle.gypsy_semantics.specs.Meaning.{Done as RunDone, meaning}
 use Rattle.gypsy_semantics.proofs.CountLaws.{meaning-uncounted}
-use Rattle.mini_syntax.specs.MiniReading.{IsFaultless}
+use Rattle.mini_syntax.specs.MiniReading.{IsFaultless, TextReading, faultless, faulty}
 use Rattle.mini_syntax.specs.Breaches.{body_of, declared_of}
 use Rattle.mini_syntax.specs.declared.program.Declared.{Declared}
 use Rattle.mini_syntax.specs.Grammar.{InfixProgram}
 use Rattle.mini_syntax.specs.Language.{Stmt}
 use Rattle.mini_gypsy.specs.Lowered.{decl_of, lowered}
-use Rattle.mini_syntax.specs.MiniReading.{TextReading, faultless, faulty}
 use Rattle.mini_gypsy.specs.Stored.{lowering_by, MeansAlways, source_for, StandsFor, stored_text}
 use Rattle.mini_gypsy.proofs.PlaceLaws.{map_over}
 use Rattle.mini_syntax.proofs.AnswerLaws.{read}
