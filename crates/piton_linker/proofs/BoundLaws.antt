@@ -1,19 +1,56 @@
 -- The words of a sound system are few enough for their sums to be numbers of 64 bits.
 use Rattle.std.proofs.Common.{◌≡◌, ℕ, zero, suc, ◌+◌, ◌<◌, ◌≤◌, List, [], ◌∷◌, length, map, refl, sym, ap, ◌∙◌, subst, arith}
-use Rattle.std.specs.Prelude.{◌*◌, ◌^◌, take, slice_get, get_or, Some, sum_by}
-use Rattle.std.proofs.lemmas.List.Sums.{sum_by-cons}
+use Rattle.std.specs.Prelude.{◌*◌, ◌^◌, take, slice_get, get_or, Some, Vec, sum_by}
+use Rattle.std.proofs.lemmas.List.Recursion.{is_sum_by}
+use Rattle.std.proofs.lemmas.List.Sums.{sum_by-cons, sum_by-take-le}
+use Rattle.std.proofs.lemmas.Simd.{map-map}
 use Rattle.piton_words.specs.declared.word.Word.{Word}
 use Rattle.piton_words.specs.declared.op.WordOp.{WordOp}
 use Rattle.piton_words.specs.declared.op.WordOp.TheVariants as word_op
 use Rattle.piton_check.specs.PitonChecking.{CheckedOf, IsChecked}
-use Rattle.piton_check.specs.Resolved.{ResolvedOf}
+use Rattle.piton_check.specs.Resolved.{ResolvedInstrOf, ResolvedProgramOf, ResolvedOf}
 use Rattle.piton_check.specs.Instruction as i
-use Rattle.piton_check.specs.Instruction.{Instruction, ProgramView, SystemView, system_view}
+use Rattle.piton_check.specs.Instruction.{Instruction, ProgramView, SystemView, instruction_view, program_view, system_view}
 use Rattle.piton_check.specs.Sound.{IsSound, IsSoundProgram, target_count, program_targets}
 use Rattle.piton_machine.specs.Fits.{Each, system_in}
+use Rattle.piton_machine.specs.Seen.Stacked.{words_in}
 use Rattle.piton_machine.proofs.SoundLaws.{all_each}
 use Rattle.piton_machine.specs.Placed.{instruction_size, instructions_size, program_size, programs_size, areas_size}
 use Rattle.piton_machine.specs.Step.{operation_cost}
+
+-- ---- sizes as sums
+
+pub instructions_sum : (is : List Instruction) → instructions_size is ≡ sum_by instruction_size is
+instructions_sum is = is_sum_by instructions_size instruction_size refl (λ x xs. refl) is
+
+pub programs_sum : (ps : List ProgramView) → programs_size ps ≡ sum_by program_size ps
+programs_sum ps = is_sum_by programs_size program_size refl (λ x xs. refl) ps
+
+pub areas_sum : (xss : List (List Word)) → areas_size xss ≡ sum_by (λ (ws : List Word). length ws) xss
+areas_sum xss = is_sum_by areas_size (λ (ws : List Word). length ws) refl (λ x xs. refl) xss
+
+-- of parts as the code has them
+pub instructions_seen : (is : List ResolvedInstrOf) → sum_by (λ (i : ResolvedInstrOf). instruction_size (instruction_view i)) is
+    ≡ instructions_size (map instruction_view is)
+instructions_seen is =
+    let size : ResolvedInstrOf → ℕ = λ i. instruction_size (instruction_view i) in
+    sym (is_sum_by (λ (js : List ResolvedInstrOf). instructions_size (map instruction_view js)) size refl (λ x xs. refl) is)
+
+pub programs_seen : (ps : List ResolvedProgramOf) → sum_by (λ (p : ResolvedProgramOf). program_size (program_view p)) ps
+    ≡ programs_size (map program_view ps)
+programs_seen ps =
+    let size : ResolvedProgramOf → ℕ = λ p. program_size (program_view p) in
+    sym (is_sum_by (λ (qs : List ResolvedProgramOf). programs_size (map program_view qs)) size refl (λ x xs. refl) ps)
+
+pub areas_seen : {Z : Type 0} (areas : List (Vec Word Z)) → sum_by (λ (a : Vec Word Z). length a.items) areas ≡ areas_size (map words_in areas)
+areas_seen {Z = Z} areas =
+    let size : Vec Word Z → ℕ = λ a. length a.items in
+    sym (is_sum_by (λ (xs : List (Vec Word Z)). areas_size (map words_in xs)) size refl (λ x xs. refl) areas)
+
+pub areas_sizes : {Z : Type 0} (areas : List (Vec Word Z)) → map (λ (a : Vec Word Z). length a.items) areas ≡ map (λ (ws : List Word). length ws) (map words_in areas)
+areas_sizes areas = sym (map-map (λ (ws : List Word). length ws) words_in areas)
+
+-- ---- few enough
 
 operation_few : (o : WordOp) → operation_cost o ≤ 7
 operation_few word_op.Eq = omega arith
@@ -91,16 +128,12 @@ programs_few : (s : SystemView) (ps : List ProgramView) → Each (IsSoundProgram
 programs_few s [] h = omega arith
 programs_few s (p ∷ ps) h = omega (arith, program_few s p h.0, programs_few s ps h.1, sum_by-cons program_targets p ps)
 
-areas_are : (areas : List (List Word)) → areas_size areas ≡ sum_by length areas
-areas_are [] = refl
-areas_are (xs ∷ areas) = omega (arith, areas_are areas, sum_by-cons (λ (ws : List Word). length ws) xs areas)
-
 pub code_few : (s : SystemView) → IsSound s → programs_size s.programs < 2 ^ 40
 code_few s sound =
     omega (arith, programs_few s s.programs (all_each (IsSoundProgram s) (IsSoundProgram s) (λ p h. h) s.programs sound.programs), sound.few_programs, sound.few_words)
 
 pub data_few : (s : SystemView) → IsSound s → areas_size s.areas < 2 ^ 40
-data_few s sound = omega (arith, areas_are s.areas, sound.few_words)
+data_few s sound = omega (arith, areas_sum s.areas, sound.few_words)
 
 -- the same of a checked system
 pub checked_programs : (c : CheckedOf) (r : ResolvedOf) → r ≡ c.resolved → IsChecked c → programs_size (system_view r).programs < 2 ^ 40
@@ -109,11 +142,16 @@ checked_programs c r same h = subst (λ (u : ResolvedOf). programs_size (system_
 pub checked_areas : (c : CheckedOf) (r : ResolvedOf) → r ≡ c.resolved → IsChecked c → areas_size (system_view r).areas < 2 ^ 40
 checked_areas c r same h = subst (λ (u : ResolvedOf). areas_size (system_view u).areas < 2 ^ 40) (sym same) (data_few (system_in c) h.sound)
 
+-- ---- the words of parts, up to one of them
+
 pub lengths_within : (is : List Instruction) (k : ℕ) → instructions_size (take k is) ≤ instructions_size is
-lengths_within [] zero = omega arith
-lengths_within [] (suc k) = omega arith
-lengths_within (x ∷ is) zero = omega arith
-lengths_within (x ∷ is) (suc k) = omega (arith, lengths_within is k)
+lengths_within is k = omega (arith, instructions_sum (take k is), instructions_sum is, sum_by-take-le instruction_size is k)
+
+pub programs_within : (ps : List ProgramView) (k : ℕ) → programs_size (take k ps) ≤ programs_size ps
+programs_within ps k = omega (arith, programs_sum (take k ps), programs_sum ps, sum_by-take-le program_size ps k)
+
+pub areas_within : (xss : List (List Word)) (k : ℕ) → areas_size (take k xss) ≤ areas_size xss
+areas_within xss k = omega (arith, areas_sum (take k xss), areas_sum xss, sum_by-take-le (λ (ws : List Word). length ws) xss k)
 
 pub programs_next : (ps : List ProgramView) (k : ℕ) (p : ProgramView) → slice_get ps k ≡ Some p → programs_size (take (k + 1) ps) ≡ programs_size (take k ps) + program_size p
 programs_next [] k p h = cc
@@ -122,27 +160,21 @@ programs_next (q ∷ ps) (suc k) p h =
     let count : suc k + 1 ≡ suc (k + 1) = omega arith in
     ap (λ n. programs_size (take n (q ∷ ps))) count ∙ omega (arith, programs_next ps k p h)
 
-pub programs_within : (ps : List ProgramView) (k : ℕ) → programs_size (take k ps) ≤ programs_size ps
-programs_within [] zero = omega arith
-programs_within [] (suc k) = omega arith
-programs_within (p ∷ ps) zero = omega arith
-programs_within (p ∷ ps) (suc k) = omega (arith, programs_within ps k)
-
-pub areas_next : (xss : List (List Word)) (k : ℕ) (xs : List Word) → slice_get xss k ≡ Some xs → areas_size (take (k + 1) xss) ≡ areas_size (take k xss) + length xs
-areas_next [] k xs h = cc
-areas_next (ys ∷ xss) zero xs h = let same : ys ≡ xs = cc in omega (arith, ap (λ (ws : List Word). length ws) same)
-areas_next (ys ∷ xss) (suc k) xs h =
-    let count : suc k + 1 ≡ suc (k + 1) = omega arith in
-    ap (λ n. areas_size (take n (ys ∷ xss))) count ∙ omega (arith, areas_next xss k xs h)
-
-pub areas_within : (xss : List (List Word)) (k : ℕ) → areas_size (take k xss) ≤ areas_size xss
-areas_within [] zero = omega arith
-areas_within [] (suc k) = omega arith
-areas_within (xs ∷ xss) zero = omega arith
-areas_within (xs ∷ xss) (suc k) = omega (arith, areas_within xss k)
-
 -- the item that a loop is at, seen through a view
 pub seen_at : {X Y : Type 0} (f : X → Y) (xs : List X) (k : ℕ) (x : X) → k < length xs → x ≡ get_or xs k x → slice_get (map f xs) k ≡ Some (f x)
 seen_at f [] k x lt is = absurd (omega arith)
 seen_at f (y ∷ xs) zero x lt is = ap (λ z. Some (f z)) (sym is)
 seen_at f (y ∷ xs) (suc k) x lt is = seen_at f xs k x (omega arith) is
+
+-- the program that a loop is at: the words before it, and those with it, which are at most the words of all
+pub record ProgramAt (ps : List ProgramView) (k : ℕ) (p : ProgramView) : Type 0 where
+  pub there : slice_get ps k ≡ Some p
+  pub next : programs_size (take (k + 1) ps) ≡ programs_size (take k ps) + program_size p
+  pub within : programs_size (take (k + 1) ps) ≤ programs_size ps
+
+pub program_at : (ps : List ResolvedProgramOf) (k : ℕ) (p : ResolvedProgramOf) → k < length ps → p ≡ get_or ps k p
+    → ProgramAt (map program_view ps) k (program_view p)
+program_at ps k p lt is =
+    let all = map program_view ps in
+    let there = seen_at program_view ps k p lt is in
+    record { there = there; next = programs_next all k (program_view p) there; within = programs_within all (k + 1) }

@@ -19,7 +19,7 @@ use Rattle.piton_linker.specs.Tables.{words_at, PieceExists}
 use Rattle.piton_linker.proofs.NameLaws.{pieces_named, prelude_named}
 
 -- the instruction at a place
-pub found_at : (is : List Instruction) (k : ℕ) → k < length is → (x : Instruction) × (slice_get is k ≡ Some x)
+found_at : (is : List Instruction) (k : ℕ) → k < length is → (x : Instruction) × (slice_get is k ≡ Some x)
 found_at [] k h = absurd (omega arith)
 found_at (x ∷ is) zero h = (x, refl)
 found_at (x ∷ is) (suc k) h = found_at is k (omega arith)

@@ -1,42 +1,37 @@
 -- What a table of addresses has, and how it grows.
-use Rattle.std.proofs.Common.{◌≡◌, ℕ, zero, suc, ◌+◌, ◌<◌, ◌≤◌, Some, List, [], ◌∷◌, ◌++◌, length, map, take, refl, ap, ◌∙◌, arith}
-use Rattle.std.specs.Prelude.{◌^◌, unwrap_or, get_or, slice_get, slice_index_or}
+use Rattle.std.proofs.Common.{◌≡◌, ℕ, zero, suc, ◌+◌, ◌<◌, ◌≤◌, Some, List, [], ◌∷◌, ◌++◌, length, map, take, refl, sym, ap, ◌∙◌, arith}
+use Rattle.std.specs.Prelude.{◌^◌, unwrap_or, get_or, slice_get, slice_index_or, sum_by}
+use Rattle.std.proofs.lemmas.List.Sums.{sum_by-cons}
 use Rattle.piton_words.specs.declared.word.Word.{Word}
 use Rattle.piton_check.specs.Instruction.{Instruction, ProgramView, SystemView}
 use Rattle.piton_machine.specs.State.{no_program, program_of}
 use Rattle.piton_machine.specs.Fits.{IsPlace}
-use Rattle.piton_machine.specs.Placed.{instruction_size, instructions_size, prelude_size, program_size, programs_size, areas_size, entry_of, address_of_place, address_of_area, areas_start, end_of}
+use Rattle.piton_machine.specs.Placed.{instruction_size, instructions_size, prelude_size, program_size, programs_size, entry_of, address_of_place, address_of_area, areas_start, end_of}
 use Rattle.piton_machine.proofs.AddressLaws.{program_there}
 use Rattle.piton_linker.specs.Tables.{TableOf, starts, row_at, place_rows, table_of, place_by, place_in}
 use Rattle.piton_machine.proofs.ReadyLaws.{area_end}
+use Rattle.piton_linker.proofs.BoundLaws.{areas_sum, instructions_sum, programs_sum}
 
 -- the next address, where so many words stand before
-pub programs_more : (a k : ℕ) (ps : List ProgramView) (p : ProgramView) → slice_get ps k ≡ Some p → take (k + 1) (starts a (map program_size ps)) ≡ take k (starts a (map program_size ps)) ++ (a + programs_size (take k ps)) ∷ []
-programs_more a k [] p h = cc
-programs_more a zero (q ∷ ps) p h = ap (λ n. n ∷ []) (omega arith)
-programs_more a (suc k) (q ∷ ps) p h =
+pub starts_more : {X : Type 0} (size : X → ℕ) (a k : ℕ) (xs : List X) → k < length xs
+    → take (k + 1) (starts a (map size xs)) ≡ take k (starts a (map size xs)) ++ (a + sum_by size (take k xs)) ∷ []
+starts_more size a k [] lt = absurd (omega arith)
+starts_more size a zero (x ∷ xs) lt = ap (λ n. n ∷ []) (omega arith)
+starts_more size a (suc k) (x ∷ xs) lt =
     let count : suc k + 1 ≡ suc (k + 1) = omega arith in
-    let place : a + program_size q + programs_size (take k ps) ≡ a + (program_size q + programs_size (take k ps)) = omega arith in
-    ap (λ n. take n (starts a (map program_size (q ∷ ps)))) count
-    ∙ ap (λ ns. a ∷ ns) (programs_more (a + program_size q) k ps p h ∙ ap (λ n. take k (starts (a + program_size q) (map program_size ps)) ++ n ∷ []) place)
+    let place : a + size x + sum_by size (take k xs) ≡ a + sum_by size (x ∷ take k xs) = omega (arith, sum_by-cons size x (take k xs)) in
+    ap (λ n. take n (starts a (map size (x ∷ xs)))) count
+    ∙ ap (λ ns. a ∷ ns) (starts_more size (a + size x) k xs (omega arith) ∙ ap (λ n. take k (starts (a + size x) (map size xs)) ++ n ∷ []) place)
 
-pub instructions_more : (a k : ℕ) (is : List Instruction) (x : Instruction) → slice_get is k ≡ Some x → take (k + 1) (starts a (map instruction_size is)) ≡ take k (starts a (map instruction_size is)) ++ (a + instructions_size (take k is)) ∷ []
-instructions_more a k [] x h = cc
-instructions_more a zero (y ∷ is) x h = ap (λ n. n ∷ []) (omega arith)
-instructions_more a (suc k) (y ∷ is) x h =
-    let count : suc k + 1 ≡ suc (k + 1) = omega arith in
-    let place : a + instruction_size y + instructions_size (take k is) ≡ a + (instruction_size y + instructions_size (take k is)) = omega arith in
-    ap (λ n. take n (starts a (map instruction_size (y ∷ is)))) count
-    ∙ ap (λ ns. a ∷ ns) (instructions_more (a + instruction_size y) k is x h ∙ ap (λ n. take k (starts (a + instruction_size y) (map instruction_size is)) ++ n ∷ []) place)
+pub programs_more : (a k : ℕ) (ps : List ProgramView) → k < length ps
+    → take (k + 1) (starts a (map program_size ps)) ≡ take k (starts a (map program_size ps)) ++ (a + programs_size (take k ps)) ∷ []
+programs_more a k ps lt =
+    starts_more program_size a k ps lt ∙ ap (λ n. take k (starts a (map program_size ps)) ++ (a + n) ∷ []) (sym (programs_sum (take k ps)))
 
-pub areas_more : (a k : ℕ) (xss : List (List Word)) (xs : List Word) → slice_get xss k ≡ Some xs → take (k + 1) (starts a (map length xss)) ≡ take k (starts a (map length xss)) ++ (a + areas_size (take k xss)) ∷ []
-areas_more a k [] xs h = cc
-areas_more a zero (ys ∷ xss) xs h = ap (λ n. n ∷ []) (omega arith)
-areas_more a (suc k) (ys ∷ xss) xs h =
-    let count : suc k + 1 ≡ suc (k + 1) = omega arith in
-    let place : a + length ys + areas_size (take k xss) ≡ a + (length ys + areas_size (take k xss)) = omega arith in
-    ap (λ n. take n (starts a (map length (ys ∷ xss)))) count
-    ∙ ap (λ ns. a ∷ ns) (areas_more (a + length ys) k xss xs h ∙ ap (λ n. take k (starts (a + length ys) (map length xss)) ++ n ∷ []) place)
+pub instructions_more : (a k : ℕ) (is : List Instruction) → k < length is
+    → take (k + 1) (starts a (map instruction_size is)) ≡ take k (starts a (map instruction_size is)) ++ (a + instructions_size (take k is)) ∷ []
+instructions_more a k is lt =
+    starts_more instruction_size a k is lt ∙ ap (λ n. take k (starts a (map instruction_size is)) ++ (a + n) ∷ []) (sym (instructions_sum (take k is)))
 
 pub rows_more : (a k : ℕ) (ps : List ProgramView) (p : ProgramView) → slice_get ps k ≡ Some p → take (k + 1) (place_rows a ps) ≡ take k (place_rows a ps) ++ row_at (a + programs_size (take k ps)) p ∷ []
 rows_more a k [] p h = cc
@@ -51,20 +46,16 @@ rows_more a (suc k) (q ∷ ps) p h =
     ∙ ap (λ ns. row_at a q ∷ ns) (rows_more (a + program_size q) k ps p h ∙ ap (λ n. take k (place_rows (a + program_size q) ps) ++ row_at n p ∷ []) place)
 
 -- look-ups
-entry_there : (a k : ℕ) (ps : List ProgramView) → k < length ps → slice_get (starts a (map program_size ps)) k ≡ Some (a + programs_size (take k ps))
-entry_there a k [] h = absurd (omega arith)
-entry_there a zero (p ∷ ps) h = ap Some (omega arith)
-entry_there a (suc k) (p ∷ ps) h = entry_there (a + program_size p) k ps (omega arith) ∙ ap Some (omega arith)
+start_there : {X : Type 0} (size : X → ℕ) (a k : ℕ) (xs : List X) → k < length xs → slice_get (starts a (map size xs)) k ≡ Some (a + sum_by size (take k xs))
+start_there size a k [] lt = absurd (omega arith)
+start_there size a zero (x ∷ xs) lt = ap Some (omega arith)
+start_there size a (suc k) (x ∷ xs) lt = start_there size (a + size x) k xs (omega arith) ∙ ap Some (omega (arith, sum_by-cons size x (take k xs)))
 
-instruction_there : (a k : ℕ) (is : List Instruction) → k < length is → slice_get (starts a (map instruction_size is)) k ≡ Some (a + instructions_size (take k is))
-instruction_there a k [] h = absurd (omega arith)
-instruction_there a zero (x ∷ is) h = ap Some (omega arith)
-instruction_there a (suc k) (x ∷ is) h = instruction_there (a + instruction_size x) k is (omega arith) ∙ ap Some (omega arith)
-
-area_there : (a k o : ℕ) (xss : List (List Word)) → o < get_or (map length xss) k 0 → slice_get (starts a (map length xss)) k ≡ Some (a + areas_size (take k xss))
-area_there a k o [] h = absurd (omega arith)
-area_there a zero o (xs ∷ xss) h = ap Some (omega arith)
-area_there a (suc k) o (xs ∷ xss) h = area_there (a + length xs) k o xss h ∙ ap Some (omega arith)
+-- a word of an area is in one of the areas
+area_below : (area offset : ℕ) (xss : List (List Word)) → offset < get_or (map length xss) area 0 → area < length xss
+area_below area offset [] h = absurd (omega arith)
+area_below zero offset (xs ∷ xss) h = omega arith
+area_below (suc area) offset (xs ∷ xss) h = omega (arith, area_below area offset xss h)
 
 row_there : (a k : ℕ) (ps : List ProgramView) → k < length ps → slice_get (place_rows a ps) k ≡ Some (row_at (a + programs_size (take k ps)) (slice_index_or ps k no_program))
 row_there a k [] h = absurd (omega arith)
@@ -72,10 +63,13 @@ row_there a zero (p ∷ ps) h = ap (λ n. Some (row_at n p)) (omega arith)
 row_there a (suc k) (p ∷ ps) h = row_there (a + program_size p) k ps (omega arith) ∙ ap (λ n. Some (row_at n (slice_index_or ps k no_program))) (omega arith)
 
 pub entry_at : (s : SystemView) (program : ℕ) → program < length s.programs → slice_get (table_of s).entries program ≡ Some (entry_of s program)
-entry_at s program h = entry_there s.base program s.programs h
+entry_at s program h =
+    start_there program_size s.base program s.programs h ∙ ap (λ n. Some (s.base + n)) (sym (programs_sum (take program s.programs)))
 
 pub area_at : (s : SystemView) (area offset : ℕ) → offset < get_or (map length s.areas) area 0 → slice_get (table_of s).areas area ≡ Some (address_of_area s area)
-area_at s area offset h = area_there (areas_start s) area offset s.areas h
+area_at s area offset h =
+    start_there (λ (ws : List Word). length ws) (areas_start s) area s.areas (area_below area offset s.areas h)
+    ∙ ap (λ n. Some (areas_start s + n)) (sym (areas_sum (take area s.areas)))
 
 -- the places of a program
 pub record RowThere (s : SystemView) (program place : ℕ) : Type 0 where
@@ -86,10 +80,12 @@ pub record RowThere (s : SystemView) (program place : ℕ) : Type 0 where
 pub place_at : (s : SystemView) (program place : ℕ) → IsPlace s program place → RowThere s program place
 place_at s program place h =
     let lt = program_there s.programs program place h in
+    let first = entry_of s program + prelude_size (program_of s program) in
+    let instructions = (program_of s program).instructions in
     record {
       row = row_at (entry_of s program) (program_of s program);
       here = row_there s.base program s.programs lt;
-      place_at = instruction_there (entry_of s program + prelude_size (program_of s program)) place (program_of s program).instructions h;
+      place_at = start_there instruction_size first place instructions h ∙ ap (λ n. Some (first + n)) (sym (instructions_sum (take place instructions)));
     }
 
 -- all addresses

@@ -1,10 +1,9 @@
 //! How many words each part of a placed system takes.
 
-ghost use Rattle.std.specs.Prelude.{◌≡◌, ◌<◌, ◌^◌, map};
+ghost use Rattle.std.specs.Prelude.{◌≡◌, ◌<◌, ◌^◌, ℕ, sum_by};
 ghost use Rattle.piton_check.specs.Instruction.{instruction_view, program_view};
 ghost use Rattle.piton_machine.specs.Fits.{system_in};
-ghost use Rattle.piton_machine.specs.Seen.Stacked.{words_in};
-ghost use Rattle.piton_machine.specs.Placed.{final_pc_of, instruction_size, instructions_size, prelude_size, program_size, programs_size, areas_size};
+ghost use Rattle.piton_machine.specs.Placed.{final_pc_of, instruction_size, prelude_size, program_size};
 ghost use Rattle.piton_machine.specs.Step.{operation_cost};
 ghost use Rattle.piton_linker.specs.Layouts.{layout_of};
 
@@ -14,23 +13,23 @@ use piton_machine::{PitonInstr, operation_cost};
 use piton_words::Word;
 
 /// Where the parts of a system are placed.
-#[tactic(auto, using(crate::proofs::BoundLaws::checked_programs, crate::proofs::BoundLaws::checked_areas))]
+#[tactic(auto, using(crate::proofs::BoundLaws::checked_programs, crate::proofs::BoundLaws::programs_seen))]
 pub fn layout(checked: &Checked) -> Layout
     ensures { result ≡ layout_of (system_in checked.now) }
 {
     let resolved = checked.resolved();
-    let code = code_size(resolved.programs.as_slice());
+    let code = total(resolved.programs.as_slice());
     layout_behind(checked, u64::from(resolved.base) + code)
 }
 
 /// The same, where it is known at which address the code has ended.
-#[tactic(auto, using(crate::proofs::BoundLaws::checked_programs, crate::proofs::BoundLaws::checked_areas))]
+#[tactic(auto, using(crate::proofs::BoundLaws::checked_programs, crate::proofs::BoundLaws::checked_areas, crate::proofs::BoundLaws::areas_seen))]
 pub fn layout_behind(checked: &Checked, final_pc: u64) -> Layout
     requires { final_pc ≡ final_pc_of (system_in checked.now) }
     ensures { result ≡ layout_of (system_in checked.now) }
 {
     let resolved = checked.resolved();
-    let words = data_size(resolved.areas.as_slice());
+    let words = total(resolved.areas.as_slice());
     let base = u64::from(resolved.base);
     let areas_start = final_pc + 1;
     let ctrl_start = areas_start + words;
@@ -46,24 +45,69 @@ pub fn layout_behind(checked: &Checked, final_pc: u64) -> Layout
     }
 }
 
-/// The words of these programs.
-fn code_size(programs: &[ResolvedProgram]) -> u64
-    requires { programs_size (map program_view programs.now) < 2 ^ 40 }
-    ensures { result ≡ programs_size (map program_view programs.now) }
+/// A part of a system that takes words of the memory.
+pub(crate) trait TakesWords {
+    /// How many words it takes.
+    ghost words: { Self → ℕ };
+
+    /// How many words it takes.
+    fn size(&self) -> u64
+        requires { words self.now < 2 ^ 40 }
+        ensures { result ≡ words self.now };
+}
+
+/// The words of all these parts.
+fn total<T: TakesWords>(parts: &[T]) -> u64
+    requires { sum_by T.words parts.now < 2 ^ 40 }
+    ensures { result ≡ sum_by T.words parts.now }
 {
     let mut sum = 0;
-    for program in programs {
-        sum += program_size(program);
+    for part in parts {
+        sum += part.size();
     }
     sum
 }
 
+impl TakesWords for ResolvedProgram {
+    ghost use Rattle.piton_check.specs.Instruction.{program_view};
+    ghost use Rattle.piton_machine.specs.Placed.{program_size};
+
+    ghost words = { λ program. program_size (program_view program) };
+
+    fn size(&self) -> u64 {
+        program_size(self)
+    }
+}
+
+impl TakesWords for ResolvedInstr {
+    ghost use Rattle.piton_check.specs.Instruction.{instruction_view};
+    ghost use Rattle.piton_machine.specs.Placed.{instruction_size};
+
+    ghost words = { λ instr. instruction_size (instruction_view instr) };
+
+    fn size(&self) -> u64 {
+        instruction_size(self)
+    }
+}
+
+// An area.
+impl TakesWords for Vec<Word> {
+    ghost use Rattle.std.specs.Prelude.{length};
+
+    ghost words = { λ area. length area.items };
+
+    fn size(&self) -> u64 {
+        self.len() as u64
+    }
+}
+
 /// The words of a program.
+#[tactic(auto, using(crate::proofs::BoundLaws::instructions_seen))]
 pub(crate) fn program_size(program: &ResolvedProgram) -> u64
     requires { program_size (program_view program.now) < 2 ^ 40 }
     ensures { result ≡ program_size (program_view program.now) }
 {
-    prelude_size(program) + instructions_size(program.instrs.as_slice())
+    prelude_size(program) + total(program.instrs.as_slice())
 }
 
 /// The words of a program's prelude.
@@ -73,30 +117,6 @@ pub(crate) fn prelude_size(program: &ResolvedProgram) -> u64
 {
     let temporaries = program.temporaries.len() as u64;
     1 + 2 * temporaries + u64::from(program.formals) + 1
-}
-
-/// The words of these instructions.
-fn instructions_size(instrs: &[ResolvedInstr]) -> u64
-    requires { instructions_size (map instruction_view instrs.now) < 2 ^ 40 }
-    ensures { result ≡ instructions_size (map instruction_view instrs.now) }
-{
-    let mut sum = 0;
-    for instr in instrs {
-        sum += instruction_size(instr);
-    }
-    sum
-}
-
-/// The words of these areas.
-fn data_size(areas: &[Vec<Word>]) -> u64
-    requires { areas_size (map words_in areas.now) < 2 ^ 40 }
-    ensures { result ≡ areas_size (map words_in areas.now) }
-{
-    let mut sum = 0;
-    for area in areas {
-        sum += area.len() as u64;
-    }
-    sum
 }
 
 /// The words of an instruction.

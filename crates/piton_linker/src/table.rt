@@ -1,18 +1,16 @@
 //! The addresses of all places, programs and areas.
 
-ghost use Rattle.std.specs.Prelude.{◌≡◌, ◌+◌, ◌<◌, ◌^◌, IfOk, map, length, get_or, slice_get};
-ghost use Rattle.piton_check.specs.Instruction.{instruction_view, program_view, system_view};
+ghost use Rattle.std.specs.Prelude.{◌≡◌, ◌+◌, ◌<◌, ◌^◌, IfOk, map, length, get_or, slice_get, sum_by};
+ghost use Rattle.piton_check.specs.Instruction.{program_view, system_view};
 ghost use Rattle.piton_machine.specs.Fits.{IsPlace};
-ghost use Rattle.piton_machine.specs.Seen.Stacked.{words_in};
-ghost use Rattle.piton_machine.specs.Placed.{instruction_size, instructions_size, program_size, programs_size, areas_size, entry_of, address_of_place, address_of_area, end_of, addresses_of};
+ghost use Rattle.piton_machine.specs.Placed.{program_size, programs_size, entry_of, address_of_place, address_of_area, end_of, addresses_of};
 ghost use Rattle.piton_linker.specs.Layouts.{layout_of};
 ghost use Rattle.piton_linker.specs.Tables.{starts, place_rows, table_of, place_in, PieceExists};
 ghost use Rattle.piton_machine.specs.Templates.{word_of};
 
 use crate::placement::Layout;
-use crate::sizes::{instruction_size, prelude_size, program_size};
-use piton_check::{Piece, Resolved, ResolvedInstr, ResolvedProgram};
-use piton_words::Word;
+use crate::sizes::{TakesWords, prelude_size, program_size};
+use piton_check::{Piece, Resolved, ResolvedProgram};
 use stack_text::Memory;
 use std::alloc::Global;
 use std::marker::Model;
@@ -44,7 +42,7 @@ pub(crate) fn tabulated(alloc: Global, checked: &Resolved, layout: Layout) -> Re
     requires layout { layout ≡ layout_of (system_view checked.now) }
     ensures { IfOk result (λ table. table ≡ table_of (system_view checked.now)) }
 {
-    let entries = entries(alloc, checked.base, checked.programs.as_slice())?;
+    let entries = starts(alloc, u64::from(checked.base), checked.programs.as_slice())?;
     let places = places(alloc, checked.base, checked.programs.as_slice())?;
     completed(alloc, checked, layout, entries, places)
 }
@@ -65,7 +63,7 @@ pub(crate) fn completed(
         ≡ place_rows (system_view checked.now).base (system_view checked.now).programs }
     ensures { IfOk result (λ table. table ≡ table_of (system_view checked.now)) }
 {
-    let areas = starts(alloc, layout.areas_start as u32, checked.areas.as_slice())?;
+    let areas = starts(alloc, layout.areas_start, checked.areas.as_slice())?;
     Ok(Table {
         entries,
         places,
@@ -77,16 +75,16 @@ pub(crate) fn completed(
     })
 }
 
-/// The addresses of these programs, the first of which stands at an address.
-fn entries(alloc: Global, base: u32, programs: &[ResolvedProgram]) -> Result<Vec<u32>, Memory>
-    requires { base + programs_size (map program_view programs.now) < 2 ^ 32 }
-    ensures { IfOk result (λ made. made.items ≡ starts base (map program_size (map program_view programs.now))) }
+/// The address of each of these parts, the first of which stands at an address.
+fn starts<T: TakesWords>(alloc: Global, first: u64, parts: &[T]) -> Result<Vec<u32>, Memory>
+    requires { first + sum_by T.words parts.now < 2 ^ 32 }
+    ensures { IfOk result (λ made. made.items ≡ starts first (map T.words parts.now)) }
 {
     let mut made = Vec::new(alloc);
-    let mut at = u64::from(base);
-    for program in programs {
+    let mut at = first;
+    for part in parts {
         made.push(at as u32)?;
-        at += program_size(program);
+        at += part.size();
     }
     Ok(made)
 }
@@ -101,36 +99,8 @@ fn places(alloc: Global, base: u32, programs: &[ResolvedProgram]) -> Result<Vec<
     let mut at = u64::from(base);
     for program in programs {
         let first = at + prelude_size(program);
-        made.push(row(alloc, first, program.instrs.as_slice())?)?;
+        made.push(starts(alloc, first, program.instrs.as_slice())?)?;
         at += program_size(program);
-    }
-    Ok(made)
-}
-
-/// The addresses of these instructions, the first of which stands at an address.
-fn row(alloc: Global, first: u64, instrs: &[ResolvedInstr]) -> Result<Vec<u32>, Memory>
-    requires { first + instructions_size (map instruction_view instrs.now) < 2 ^ 32 }
-    ensures { IfOk result (λ made. made.items ≡ starts first (map instruction_size (map instruction_view instrs.now))) }
-{
-    let mut made = Vec::new(alloc);
-    let mut at = first;
-    for instr in instrs {
-        made.push(at as u32)?;
-        at += instruction_size(instr);
-    }
-    Ok(made)
-}
-
-/// The addresses of these areas, the first of which stands at an address.
-fn starts(alloc: Global, first: u32, areas: &[Vec<Word>]) -> Result<Vec<u32>, Memory>
-    requires { first + areas_size (map words_in areas.now) < 2 ^ 32 }
-    ensures { IfOk result (λ made. made.items ≡ starts first (map length (map words_in areas.now))) }
-{
-    let mut made = Vec::new(alloc);
-    let mut at = u64::from(first);
-    for area in areas {
-        made.push(at as u32)?;
-        at += area.len() as u64;
     }
     Ok(made)
 }

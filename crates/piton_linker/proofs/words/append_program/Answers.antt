@@ -10,7 +10,7 @@ use Rattle.piton_linker.specs.Tables.{row_at, words_at}
 use Rattle.piton_linker.specs.Drafts.{drafted}
 use Rattle.piton_linker.proofs.DraftLaws.{length-drafted, is_row}
 use Rattle.piton_linker.proofs.LookupLaws.{instructions_more, whole}
-use Rattle.piton_linker.proofs.EmissionLaws.{found_at, places_next, place_here, place_known}
+use Rattle.piton_linker.proofs.EmissionLaws.{places_next, place_here, place_known}
 use Rattle.piton_linker.proofs.words.append_program.Goals as goal
 
 pub next-requires : goal.next-requires
@@ -53,13 +53,12 @@ append_place-requires-clause-row c =
     ap (λ n. s.base + n) (sym (length-drafted s new) ∙ ap length c.loop-place.invariant.words) ∙ place_here s program k (drafted s old) begin in
     let there : IsPlace s program k = omega (arith, c.loop-place-test.true, c.place_count-count.ensures) in
     let p = program_of s program in
-    let found = found_at p.instructions k there in
     let next : c.next.result ≡ address_of_place s program k = c.next.ensures ∙ ap (λ (u : ResolvedOf). u.base + length new.words) c.resolved.ensures.value ∙ at in
     let row : c.push.new.self.items ≡ take (k + 1) (row_at (entry_of s program) p) =
     c.in_ok-push.ensures.items
     ∙ ap (λ ns. ns ++ c.next.result ∷ []) c.loop-place.invariant.row
     ∙ ap (λ n. take k (row_at (entry_of s program) p) ++ n ∷ []) next
-    ∙ sym (instructions_more (entry_of s program + prelude_size p) k p.instructions found.0 found.1) in
+    ∙ sym (instructions_more (entry_of s program + prelude_size p) k p.instructions there) in
     is_row s program (k + 1) c.as_slice.result.now (c.as_slice.ensures.value ∙ row)
 
 pub loop-place-preserved : goal.loop-place-preserved
@@ -74,13 +73,12 @@ loop-place-preserved c =
     ap (λ n. s.base + n) (sym (length-drafted s new) ∙ ap length c.loop-place.invariant.words) ∙ place_here s program k (drafted s old) begin in
     let there : IsPlace s program k = omega (arith, c.loop-place-test.true, c.place_count-count.ensures) in
     let p = program_of s program in
-    let found = found_at p.instructions k there in
     let next : c.next.result ≡ address_of_place s program k = c.next.ensures ∙ ap (λ (u : ResolvedOf). u.base + length new.words) c.resolved.ensures.value ∙ at in
     let row : c.push.new.self.items ≡ take (k + 1) (row_at (entry_of s program) p) =
     c.in_ok-push.ensures.items
     ∙ ap (λ ns. ns ++ c.next.result ∷ []) c.loop-place.invariant.row
     ∙ ap (λ n. take k (row_at (entry_of s program) p) ++ n ∷ []) next
-    ∙ sym (instructions_more (entry_of s program + prelude_size p) k p.instructions found.0 found.1) in
+    ∙ sym (instructions_more (entry_of s program + prelude_size p) k p.instructions there) in
     let front = prelude_words (addresses_of s) program p in
     let back = instructions_words (addresses_of s) program (local_count p) 0 (take k p.instructions) in
     let one = words_at s program k in

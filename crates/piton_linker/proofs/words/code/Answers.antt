@@ -53,7 +53,7 @@ loop-program-preserved c =
       entries = c.in_ok-push.ensures.items
           ∙ ap (λ ns. ns ++ c.next.result ∷ []) c.loop-program.invariant.entries
           ∙ ap (λ n. take k (starts s.base (map program_size s.programs)) ++ n ∷ []) next
-          ∙ sym (programs_more s.base k s.programs p found);
+          ∙ sym (programs_more s.base k s.programs there);
       places = ap (map (λ row. row.items)) c.in_ok-push-2.ensures.items
           ∙ map_push (λ row. row.items) c.loop-program.places.items c.in_ok-append_program.field-0
           ∙ ap (λ ns. ns ++ c.in_ok-append_program.field-0.items ∷ []) c.loop-program.invariant.places
