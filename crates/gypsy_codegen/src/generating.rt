@@ -105,6 +105,8 @@ fn checked(alloc: Global, system: System) -> Result<Checked, Memory>
 /// among those that are declared, a handler's table has at most an entry for each condition of its procedure, and a raise
 /// asks the loops and the handlers round it.
 ///
+/// It is for callers outside: the program calls `generate_with`.
+///
 /// # Errors
 ///
 /// The first of these: a size that is not 1 to 65,536, a control stack or a temporary stack below main's own need, and

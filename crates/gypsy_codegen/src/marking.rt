@@ -256,6 +256,8 @@ fn procedure(marks: &mut Vec<MarkAt>, marking: &Marking) -> Result<(), Memory>
 ///
 /// The time is linear in the source.
 ///
+/// It is for callers outside: the program calls `marks_with`.
+///
 /// # Errors
 ///
 /// Out of memory.

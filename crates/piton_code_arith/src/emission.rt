@@ -45,6 +45,8 @@ pub fn append(
 }
 
 /// The pieces of the operation on words at a place of a program, as `append` appends them.
+///
+/// It is for callers outside: the linker calls `append`.
 pub fn emit(
     alloc: Global,
     checked: &Checked,
@@ -67,36 +69,26 @@ fn push_operation(pieces: &mut Vec<Piece>, op: WordOp) -> Result<(), AllocError>
 {
     match op {
         WordOp::Eq => push_code(pieces, &eq_code()),
-        WordOp::AddInt => push_code(pieces, &two_code(Op::Add)),
-        WordOp::AddNat => push_code(pieces, &two_code(Op::Add)),
-        WordOp::SubInt => push_code(pieces, &two_code(Op::Sub)),
-        WordOp::SubNat => push_code(pieces, &two_code(Op::Sub)),
-        WordOp::AddAddr => push_code(pieces, &two_code(Op::Add)),
-        WordOp::SubAddr => push_code(pieces, &two_code(Op::Sub)),
+        WordOp::AddInt | WordOp::AddNat | WordOp::AddAddr => push_code(pieces, &two_code(Op::Add)),
+        WordOp::SubInt | WordOp::SubNat | WordOp::SubAddr => push_code(pieces, &two_code(Op::Sub)),
+        WordOp::OrBitv | WordOp::OrBool => push_code(pieces, &two_code(Op::Or)),
+        WordOp::AndBitv | WordOp::AndBool => push_code(pieces, &two_code(Op::And)),
+        WordOp::XorBitv => push_code(pieces, &two_code(Op::Xor)),
         WordOp::LtInt => push_code(pieces, &lt_code(Cc::Lt)),
-        WordOp::LtNat => push_code(pieces, &lt_code(Cc::Cs)),
-        WordOp::LtAddr => push_code(pieces, &lt_code(Cc::Cs)),
-        WordOp::Add1Int => push_code(pieces, &one_code(Op::Inc)),
-        WordOp::Add1Nat => push_code(pieces, &one_code(Op::Inc)),
-        WordOp::Sub1Int => push_code(pieces, &one_code(Op::Dec)),
-        WordOp::Sub1Nat => push_code(pieces, &one_code(Op::Dec)),
+        WordOp::LtNat | WordOp::LtAddr => push_code(pieces, &lt_code(Cc::Cs)),
+        WordOp::Add1Int | WordOp::Add1Nat => push_code(pieces, &one_code(Op::Inc)),
+        WordOp::Sub1Int | WordOp::Sub1Nat => push_code(pieces, &one_code(Op::Dec)),
         WordOp::NegInt => push_code(pieces, &one_code(Op::Neg)),
+        WordOp::Mult2Nat | WordOp::LshBitv => push_code(pieces, &one_code(Op::Add)),
+        WordOp::NotBitv => push_code(pieces, &one_code(Op::Not)),
+        WordOp::RshBitv => push_code(pieces, &one_code(Op::Lsr)),
         WordOp::IntToNat => push_code(pieces, &no_op_code()),
-        WordOp::Mult2Nat => push_code(pieces, &one_code(Op::Add)),
         WordOp::AddIntWithCarry => push_code(pieces, &carry_code(Op::Addc, Cc::Vs)),
         WordOp::AddNatWithCarry => push_code(pieces, &carry_code(Op::Addc, Cc::Cs)),
         WordOp::SubIntWithCarry => push_code(pieces, &carry_code(Op::Subb, Cc::Vs)),
         WordOp::SubNatWithCarry => push_code(pieces, &carry_code(Op::Subb, Cc::Cs)),
         WordOp::Mult2NatWithCarryOut => push_code(pieces, &mult2_carry_code()),
         WordOp::Div2Nat => push_code(pieces, &div2_code()),
-        WordOp::OrBitv => push_code(pieces, &two_code(Op::Or)),
-        WordOp::AndBitv => push_code(pieces, &two_code(Op::And)),
-        WordOp::XorBitv => push_code(pieces, &two_code(Op::Xor)),
-        WordOp::OrBool => push_code(pieces, &two_code(Op::Or)),
-        WordOp::AndBool => push_code(pieces, &two_code(Op::And)),
-        WordOp::NotBitv => push_code(pieces, &one_code(Op::Not)),
-        WordOp::RshBitv => push_code(pieces, &one_code(Op::Lsr)),
-        WordOp::LshBitv => push_code(pieces, &one_code(Op::Add)),
         WordOp::NotBool => push_code(pieces, &not_bool_code()),
     }
 }

@@ -41,6 +41,8 @@ pub fn append(
 }
 
 /// The pieces of the move at a place of a program, as `append` appends them.
+///
+/// It is for callers outside: the linker calls `append`.
 pub fn emit(
     alloc: Global,
     checked: &Checked,

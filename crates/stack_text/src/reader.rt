@@ -145,6 +145,8 @@ fn read_owned<H: Heap>(heap: H, text: &[u8]) -> Result<Tree, TextFault>
 
 /// The tree of a text of at most 2^31 bytes, with the places of its atoms and lists.
 ///
+/// It is for callers outside: the program calls `read_text_tree`.
+///
 /// # Errors
 ///
 /// The first thing from the left that is wrong with the text, and where; or out of memory. The time is linear in the
