@@ -1,11 +1,14 @@
 -- The items of a list by the first, and those that follow, as they are read and printed.
 use Rattle.std.proofs.Common.{◌≡◌, ◌≢◌, ◌<◌, ◌+◌, ℕ, List, [], ◌∷◌, ◌++◌, length, drop, get_or, map, refl, sym, ap, ◌∙◌, arith}
-use Rattle.std.specs.Prelude.{◌==◌, if◌then◌else◌}
+use Rattle.std.specs.Prelude.{◌==◌, if◌then◌else◌, Result, Ok, Err}
 use Rattle.std.proofs.lemmas.Bool.{ne_eqb}
+use Rattle.stack_text.specs.declared.breach.Breach.{Breach}
 use Rattle.stack_text.specs.Trees.{Node, more}
 use Rattle.stack_text.specs.TreeText.{spaced_text, tree_text}
 use Rattle.stack_text.specs.Seen.TreeView.{node_of, nodes, nodes_of}
+use Rattle.stack_text.specs.Grammar.Judged.{Judged, ◌⊛◌}
 use Rattle.stack_text.specs.Grammar.Printed.{items_after}
+use Rattle.stack_text.specs.Grammar.Reading.{Finds}
 use Rattle.stack_text.proofs.Loops.{drop-item}
 use Rattle.stack_text.proofs.PrintLaws.{apart_by}
 use Rattle.stack_text.specs.declared.tree.TextTree.{TextTree}
@@ -23,3 +26,8 @@ items_next {X} tree xs n x out apart text all lt is apart_is text_is so_far =
     rw (text_is, apart_is, ne_eqb (n + 1) 0 (λ k. omega (arith, k))) (apart_by (n == 0) out (tree_text (tree x)) (spaced_text (nodes (map tree (drop (n + 1) xs)))))
     ∙ ap (λ (ys : List X). out ++ items_after n (nodes (map tree ys))) (sym (drop-item xs n x lt is))
     ∙ so_far
+
+-- what a reader finds is found of each value that is made of it
+pub finds_made : {X Y : Type 0} → (make : X → Y) (r : Result X Breach) (s : Judged X) → Finds (λ x. x) r s → Finds make r (Ok make ⊛ s)
+finds_made make (Ok x) s h = rw h refl
+finds_made make (Err breach) s h = (h.0, rw h.1 refl)

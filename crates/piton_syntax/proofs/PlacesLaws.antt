@@ -1,5 +1,5 @@
 -- The grammar is independent of places: a tree and the same tree without places are one value but for places, or both have faults.
-use Rattle.std.proofs.Common.{◌≡◌, ℕ, map, Option, Some, None, Ok, refl, ap}
+use Rattle.std.proofs.Common.{◌≡◌, ℕ, Bool, List, map, Option, Some, None, Ok, refl, ap}
 use Rattle.std.specs.Prelude.{option_map, ◌||◌}
 use Rattle.stack_text.specs.declared.name.Named.{Named}
 use Rattle.stack_text.specs.Names.{is_name}
@@ -15,12 +15,14 @@ use Rattle.piton_syntax.specs.declared.argument.Arguments.TheVariants.{Zero, One
 use Rattle.piton_syntax.specs.declared.op.PitonOp.{PitonOp}
 use Rattle.piton_syntax.specs.declared.tag.Tag.{Tag}
 use Rattle.piton_syntax.specs.declared.tag.Tag.TheVariants as tag
+use Rattle.piton_syntax.specs.declared.word_text.Number.{Number}
+use Rattle.piton_syntax.specs.declared.word_text.WordItem.{WordItem}
 use Rattle.piton_syntax.specs.declared.word_text.WordItem.TheVariants as item
 use Rattle.stack_text.specs.Grammar.Judged.{Judged}
 use Rattle.piton_syntax.specs.Limits.{is_small_program, is_small_system}
 use Rattle.piton_syntax.specs.Operations.{op_arguments, operation_named, tag_named, test_named}
 use Rattle.stack_text.specs.Grammar.Parts.{is_atom_of}
-use Rattle.piton_syntax.specs.Grammar.{named_of, number_of, is_true_word, is_false_word, address, program_place, item_of, word_of, is_of_kind, are_of_kind, argument_of, one, test_and_label, tested_of, pair, arguments_of, called_of, labelled_of, instruction_of, list_of, temporary_of, program_of, area_of, system_of}
+use Rattle.piton_syntax.specs.Grammar.{named_of, number_of, is_true_word, is_false_word, address, program_place, one_number, named_number, item_of, word_of, is_of_kind, are_of_kind, argument_of, one, test_and_label, tested_of, pair, arguments_of, called_of, labelled_of, instruction_of, list_of, temporary_of, program_of, area_of, system_of}
 use Rattle.piton_syntax.specs.Systems.{new_word, new_instruction, new_program, new_area, new_system, unplaced_number, unplaced_item, unplaced_word, unplaced_argument, unplaced_instruction, unplaced_temporary, unplaced_program, unplaced_area}
 use Rattle.stack_text.proofs.PlacesLaws.{same_name as same_name_or, same_list as same_list_or, IsSame, agree_if, agree_judged, same_atom, same_count, same_each, same_four, same_list_length, same_one, same_seven, same_two, unplaced_place}
 use Rattle.piton_syntax.specs.Systems.{without_places as unplaced_system}
@@ -48,38 +50,37 @@ same_number : (t : Node) → IsSame unplaced_number (number_of t) (number_of (wi
 same_number (atom p w) = agree_if _ (fits_128_bits (numeral_value w)) _ _ _ _ (record { both = refl }) (record { both = tt })
 same_number (list p ts) = record { both = refl }
 
+same_one_number : (test : List ℕ → Bool) (make : Number → WordItem) (p : ℕ) (ts : Nodes)
+    → ((m : Number) → make (unplaced_number m) ≡ unplaced_item (make m))
+    → IsSame unplaced_item (one_number test make p ts) (one_number test make 0 (all_without_places ts))
+same_one_number test make p none e = record { both = tt }
+same_one_number test make p (more n none) e =
+    agree_judged _ p 0 5 _ _ _ _ (same_atom test n) (same_one unplaced_number unplaced_item make make _ _ e (same_number n))
+same_one_number test make p (more n (more t ts)) e = record { both = tt }
+
+same_named_number : (make : Named → Number → WordItem) (p : ℕ) (ts : Nodes)
+    → ((n : Named) (m : Number) → make (unplaced_name n) (unplaced_number m) ≡ unplaced_item (make n m))
+    → IsSame unplaced_item (named_number make p ts) (named_number make 0 (all_without_places ts))
+same_named_number make p none e = record { both = tt }
+same_named_number make p (more name none) e = record { both = tt }
+same_named_number make p (more name (more n none)) e =
+    agree_judged _ p 0 5 _ _ _ _ (rw (same_atom is_name name, same_atom is_digits n) refl)
+    (same_two unplaced_name unplaced_number unplaced_item make make _ _ _ _ e (same_name name) (same_number n))
+same_named_number make p (more name (more n (more t ts))) e = record { both = tt }
+
 same_item : (k : Option Tag) (p : ℕ) (ts : Nodes) → IsSame unplaced_item (item_of k p ts) (item_of k 0 (all_without_places ts))
 same_item None p ts = record { both = tt }
-same_item (Some tag.Int) p none = record { both = tt }
-same_item (Some tag.Int) p (more n none) =
-    agree_judged _ p 0 5 _ _ _ _ (same_atom is_numeral n) (same_one unplaced_number unplaced_item item.Int item.Int _ _ (λ m. refl) (same_number n))
-same_item (Some tag.Int) p (more n (more t ts)) = record { both = tt }
-same_item (Some tag.Nat) p none = record { both = tt }
-same_item (Some tag.Nat) p (more n none) =
-    agree_judged _ p 0 5 _ _ _ _ (same_atom is_digits n) (same_one unplaced_number unplaced_item item.Nat item.Nat _ _ (λ m. refl) (same_number n))
-same_item (Some tag.Nat) p (more n (more t ts)) = record { both = tt }
-same_item (Some tag.Bitv) p none = record { both = tt }
-same_item (Some tag.Bitv) p (more n none) =
-    agree_judged _ p 0 5 _ _ _ _ (same_atom is_digits n) (same_one unplaced_number unplaced_item item.Bitv item.Bitv _ _ (λ m. refl) (same_number n))
-same_item (Some tag.Bitv) p (more n (more t ts)) = record { both = tt }
+same_item (Some tag.Int) p ts = same_one_number is_numeral item.Int p ts (λ m. refl)
+same_item (Some tag.Nat) p ts = same_one_number is_digits item.Nat p ts (λ m. refl)
+same_item (Some tag.Bitv) p ts = same_one_number is_digits item.Bitv p ts (λ m. refl)
 same_item (Some tag.Bool) p none = record { both = tt }
 same_item (Some tag.Bool) p (more b none) =
     agree_judged (λ x y. y ≡ unplaced_item x) p 0 5 (is_atom_of is_true_word b || is_atom_of is_false_word b) (is_atom_of is_true_word (without_places b) || is_atom_of is_false_word (without_places b)) _ _
     (rw (same_atom is_true_word b, same_atom is_false_word b) refl)
     (record { both = ap item.Bool (same_atom is_true_word b) })
 same_item (Some tag.Bool) p (more b (more t ts)) = record { both = tt }
-same_item (Some tag.Addr) p none = record { both = tt }
-same_item (Some tag.Addr) p (more area none) = record { both = tt }
-same_item (Some tag.Addr) p (more area (more n none)) =
-    agree_judged _ p 0 5 _ _ _ _ (rw (same_atom is_name area, same_atom is_digits n) refl)
-    (same_two unplaced_name unplaced_number unplaced_item address address _ _ _ _ (λ m k. refl) (same_name area) (same_number n))
-same_item (Some tag.Addr) p (more area (more n (more t ts))) = record { both = tt }
-same_item (Some tag.Pc) p none = record { both = tt }
-same_item (Some tag.Pc) p (more program none) = record { both = tt }
-same_item (Some tag.Pc) p (more program (more n none)) =
-    agree_judged _ p 0 5 _ _ _ _ (rw (same_atom is_name program, same_atom is_digits n) refl)
-    (same_two unplaced_name unplaced_number unplaced_item program_place program_place _ _ _ _ (λ m k. refl) (same_name program) (same_number n))
-same_item (Some tag.Pc) p (more program (more n (more t ts))) = record { both = tt }
+same_item (Some tag.Addr) p ts = same_named_number address p ts (λ n m. refl)
+same_item (Some tag.Pc) p ts = same_named_number program_place p ts (λ n m. refl)
 same_item (Some tag.Subr) p none = record { both = tt }
 same_item (Some tag.Subr) p (more program none) =
     agree_judged _ p 0 5 _ _ _ _ (same_atom is_name program) (same_one unplaced_name unplaced_item item.Subr item.Subr _ _ (λ m. refl) (same_name program))

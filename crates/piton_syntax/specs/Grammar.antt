@@ -53,18 +53,27 @@ address area offset = item.Addr area offset
 abbrev pub program_place : Named → Number → WordItem
 program_place program number = item.Pc program number
 
+-- a word of one number, whose numeral passes the test, or P5 at the word
+abbrev pub one_number : (List ℕ → Bool) → (Number → WordItem) → ℕ → Nodes → Judged WordItem
+one_number test make p (more n none) = judged p 5 (is_atom_of test n) (Ok make ⊛ number_of n)
+one_number test make p ts = fault p 5
+
+-- a word of a name, and a number in digits alone, or P5 at the word
+abbrev pub named_number : (Named → Number → WordItem) → ℕ → Nodes → Judged WordItem
+named_number make p (more name (more n none)) =
+    judged p 5 (is_atom_of is_name name && is_atom_of is_digits n) (Ok make ⊛ named_of name ⊛ number_of n)
+named_number make p ts = fault p 5
+
 -- `int N`, `nat N`, `bitv N`, `bool t`, `bool f`, `addr AREA N`, `pc PROGRAM N` or `subr PROGRAM`, or P5 at the word.
 -- Only the number of an `int` may have a sign.
 abbrev pub item_of : Option Tag → ℕ → Nodes → Judged WordItem
-item_of (Some tag.Int) p (more n none) = judged p 5 (is_atom_of is_numeral n) (Ok item.Int ⊛ number_of n)
-item_of (Some tag.Nat) p (more n none) = judged p 5 (is_atom_of is_digits n) (Ok item.Nat ⊛ number_of n)
-item_of (Some tag.Bitv) p (more n none) = judged p 5 (is_atom_of is_digits n) (Ok item.Bitv ⊛ number_of n)
+item_of (Some tag.Int) p ts = one_number is_numeral item.Int p ts
+item_of (Some tag.Nat) p ts = one_number is_digits item.Nat p ts
+item_of (Some tag.Bitv) p ts = one_number is_digits item.Bitv p ts
 item_of (Some tag.Bool) p (more b none) =
     judged p 5 (is_atom_of is_true_word b || is_atom_of is_false_word b) (Ok (item.Bool (is_atom_of is_true_word b)))
-item_of (Some tag.Addr) p (more area (more n none)) =
-    judged p 5 (is_atom_of is_name area && is_atom_of is_digits n) (Ok address ⊛ named_of area ⊛ number_of n)
-item_of (Some tag.Pc) p (more program (more n none)) =
-    judged p 5 (is_atom_of is_name program && is_atom_of is_digits n) (Ok program_place ⊛ named_of program ⊛ number_of n)
+item_of (Some tag.Addr) p ts = named_number address p ts
+item_of (Some tag.Pc) p ts = named_number program_place p ts
 item_of (Some tag.Subr) p (more program none) = judged p 5 (is_atom_of is_name program) (Ok item.Subr ⊛ named_of program)
 item_of _ p ts = fault p 5
 

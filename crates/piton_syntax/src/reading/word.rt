@@ -1,21 +1,24 @@
 //! Words.
 
-ghost use Rattle.std.specs.Prelude.{◌≡◌, ◌&&◌, Some};
+ghost use Rattle.std.specs.Prelude.{◌≡◌, ◌&&◌, if◌then◌else◌, Some};
 ghost use Rattle.stack_text.specs.Names.{is_name};
-ghost use Rattle.stack_text.specs.Numerals.{is_digits};
+ghost use Rattle.stack_text.specs.Numerals.{is_digits, is_numeral};
 ghost use Rattle.stack_text.specs.Grammar.Parts.{is_atom_of};
 ghost use Rattle.stack_text.specs.Grammar.Reading.{Finds, ReadsUnless};
 ghost use Rattle.stack_text.specs.Trees.{list};
 ghost use Rattle.stack_text.specs.Seen.TreeView.{node_of, nodes_of};
-ghost use Rattle.piton_syntax.specs.Grammar.{is_true_word, is_false_word, item_of, word_of};
+ghost use Rattle.stack_text.specs.declared.name.Named.{Named as NameOf};
+ghost use Rattle.piton_syntax.specs.Grammar.{is_true_word, is_false_word, item_of, named_number, one_number, word_of};
 ghost use Rattle.piton_syntax.specs.declared.tag.Tag.TheVariants as tags;
+ghost use Rattle.piton_syntax.specs.declared.word_text.Number.{Number as NumberOf};
+ghost use Rattle.piton_syntax.specs.declared.word_text.WordItem.{WordItem as ItemOf};
 
 use crate::reading::atom::{is_digits_atom, is_name_atom, name, number};
 use crate::tag::{Tag, tag_named};
-use crate::word_text::{WordItem, WordText};
+use crate::word_text::{Number, WordItem, WordText};
 use stack_heap::Heap;
 use stack_text::grammar::{FormFault, Part, is_numeral_atom};
-use stack_text::{Breach, TextTree};
+use stack_text::{Breach, Named, TextTree};
 
 /// P5 at a word.
 fn no_word(place: u32) -> Breach
@@ -44,46 +47,30 @@ fn is_false_atom(tree: &TextTree) -> bool
     }
 }
 
-/// An integer: one numeral.
-fn int_item(place: u32, parts: &[TextTree]) -> Result<WordItem, Breach>
-    ensures { Finds (λ item. item) result (item_of (Some tags.Int) place (nodes_of parts.now)) }
+/// Whether the tree is a numeral, which is in digits alone unless it may have a sign.
+fn is_number_atom(tree: &TextTree, may_have_sign: bool) -> bool
+    ensures { result ≡ is_atom_of (if may_have_sign then is_numeral else is_digits) (node_of tree.now) }
 {
-    if parts.len() != 1 {
-        return Err(no_word(place));
+    if may_have_sign {
+        is_numeral_atom(tree)
+    } else {
+        is_digits_atom(tree)
     }
-    let part = &parts[0];
-    if !is_numeral_atom(part) {
-        return Err(no_word(place));
-    }
-    Ok(WordItem::Int(number(part)?))
 }
 
-/// A natural number: digits alone.
-fn nat_item(place: u32, parts: &[TextTree]) -> Result<WordItem, Breach>
-    ensures { Finds (λ item. item) result (item_of (Some tags.Nat) place (nodes_of parts.now)) }
+/// The number that a word is after its tag: one numeral.
+fn one_number(place: u32, parts: &[TextTree], may_have_sign: bool) -> Result<Number, Breach>
+    ensures { (make : NumberOf → ItemOf) → Finds make result
+        (one_number (if may_have_sign then is_numeral else is_digits) make place (nodes_of parts.now)) }
 {
     if parts.len() != 1 {
         return Err(no_word(place));
     }
     let part = &parts[0];
-    if !is_digits_atom(part) {
+    if !is_number_atom(part, may_have_sign) {
         return Err(no_word(place));
     }
-    Ok(WordItem::Nat(number(part)?))
-}
-
-/// A bit vector: digits alone.
-fn bitv_item(place: u32, parts: &[TextTree]) -> Result<WordItem, Breach>
-    ensures { Finds (λ item. item) result (item_of (Some tags.Bitv) place (nodes_of parts.now)) }
-{
-    if parts.len() != 1 {
-        return Err(no_word(place));
-    }
-    let part = &parts[0];
-    if !is_digits_atom(part) {
-        return Err(no_word(place));
-    }
-    Ok(WordItem::Bitv(number(part)?))
+    number(part)
 }
 
 /// A truth value: one of its two words.
@@ -107,37 +94,42 @@ fn is_named_number(name: &TextTree, number: &TextTree) -> bool
     is_name_atom(name) && is_digits_atom(number)
 }
 
-/// An address: the name of an area, and an offset in digits alone.
+/// What a word is after its tag: a name, and a number in digits alone.
+fn named_number<H: Heap>(
+    heap: H,
+    place: u32,
+    parts: &[TextTree],
+) -> Result<(Named, Number), FormFault>
+    ensures { (make : NameOf → NumberOf → ItemOf) → ReadsUnless (H.may_refuse heap) (λ pair. make pair.0 pair.1) result
+        (named_number make place (nodes_of parts.now)) }
+{
+    if parts.len() != 2 {
+        return Err(no_word(place).into());
+    }
+    let (named, numbered) = (&parts[0], &parts[1]);
+    if !is_named_number(named, numbered) {
+        return Err(no_word(place).into());
+    }
+    let name = name(heap, named)?;
+    let number = number(numbered)?;
+    Ok((name, number))
+}
+
+/// An address: the name of an area, and an offset.
 fn addr_item<H: Heap>(heap: H, place: u32, parts: &[TextTree]) -> Result<WordItem, FormFault>
     ensures { ReadsUnless (H.may_refuse heap) (λ item. item) result
         (item_of (Some tags.Addr) place (nodes_of parts.now)) }
 {
-    if parts.len() != 2 {
-        return Err(no_word(place).into());
-    }
-    let (area, offset) = (&parts[0], &parts[1]);
-    if !is_named_number(area, offset) {
-        return Err(no_word(place).into());
-    }
-    let area = name(heap, area)?;
-    let offset = number(offset)?;
+    let (area, offset) = named_number(heap, place, parts)?;
     Ok(WordItem::Addr { area, offset })
 }
 
-/// A place: the name of a program, and the number of an instruction in digits alone.
+/// A place: the name of a program, and the number of an instruction.
 fn pc_item<H: Heap>(heap: H, place: u32, parts: &[TextTree]) -> Result<WordItem, FormFault>
     ensures { ReadsUnless (H.may_refuse heap) (λ item. item) result
         (item_of (Some tags.Pc) place (nodes_of parts.now)) }
 {
-    if parts.len() != 2 {
-        return Err(no_word(place).into());
-    }
-    let (program, at) = (&parts[0], &parts[1]);
-    if !is_named_number(program, at) {
-        return Err(no_word(place).into());
-    }
-    let program = name(heap, program)?;
-    let at = number(at)?;
+    let (program, at) = named_number(heap, place, parts)?;
     Ok(WordItem::Pc { program, at })
 }
 
@@ -167,9 +159,9 @@ fn item<H: Heap>(
 {
     match tag {
         None => Err(no_word(place).into()),
-        Some(Tag::Int) => Ok(int_item(place, parts)?),
-        Some(Tag::Nat) => Ok(nat_item(place, parts)?),
-        Some(Tag::Bitv) => Ok(bitv_item(place, parts)?),
+        Some(Tag::Int) => Ok(WordItem::Int(one_number(place, parts, true)?)),
+        Some(Tag::Nat) => Ok(WordItem::Nat(one_number(place, parts, false)?)),
+        Some(Tag::Bitv) => Ok(WordItem::Bitv(one_number(place, parts, false)?)),
         Some(Tag::Bool) => Ok(bool_item(place, parts)?),
         Some(Tag::Addr) => addr_item(heap, place, parts),
         Some(Tag::Pc) => pc_item(heap, place, parts),
