@@ -1,0 +1,65 @@
+//! A table of names.
+
+ghost use Rattle.std.specs.Prelude.{◌≡◌, ℕ, List, [], IfOk, OnOk, OnErr, is_some};
+ghost use Rattle.std.specs.Str.{bytes_eq};
+ghost use Rattle.stack_text.specs.Options.{first_or};
+ghost use Rattle.name_tables.specs.Entries.{look_up};
+
+use indexmap::IndexMap;
+use stack_text::Memory;
+use std::alloc::Global;
+use std::marker::Model;
+
+/// The value with which each name was entered first.
+///
+/// A name is found, and entered, in time proportional to its length. Contracts see the names with their values.
+#[derive(Drop)]
+pub struct NameTable<'a, V> {
+    values: IndexMap<&'a [u8], V>,
+}
+
+impl<'a, V> Model for NameTable<'a, V> {
+    ghost use Rattle.name_tables.specs.Entries.{Entries, entries_of};
+
+    ghost Value = { Entries V };
+
+    ghost view = { λ t. entries_of t.values.entries };
+}
+
+impl<'a, V> NameTable<'a, V> {
+    /// A table without names, which takes no memory until the first is entered.
+    pub fn new(alloc: Global) -> NameTable<'a, V>
+        ensures { result ≡ [] }
+    {
+        NameTable {
+            values: IndexMap::new(alloc),
+        }
+    }
+}
+
+impl<'a, V: Copy> NameTable<'a, V> {
+    /// The value with which a name was entered first, or `None` for a name that wasn't entered.
+    pub fn get(&self, name: &[u8]) -> Option<V>
+        ensures { result ≡ look_up self.now name.now }
+    {
+        self.values.get(name).copied()
+    }
+
+    /// Enters a name with its value, unless the name has one; says whether it had.
+    ///
+    /// # Errors
+    ///
+    /// `Memory` where there is none for a new name; the table is then as it was.
+    pub fn enter(&mut self, name: &'a [u8], value: V) -> Result<bool, Memory>
+        ensures known { IfOk result (λ is_known. is_known ≡ is_some (look_up self.old name.now)) }
+        ensures entered { OnOk result ((other : List ℕ) →
+            look_up self.new other ≡ first_or (look_up self.old other) (bytes_eq other name.now) value) }
+        ensures stays { OnErr result (self.new ≡ self.old) }
+    {
+        if self.values.contains_key(name) {
+            return Ok(true);
+        }
+        self.values.insert(name, value)?;
+        Ok(false)
+    }
+}
