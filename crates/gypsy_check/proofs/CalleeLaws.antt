@@ -1,54 +1,14 @@
 -- The procedures of a source by their names, one procedure after the other.
 use Rattle.std.proofs.Common.{◌≡◌, Bor, ℕ, ◌+◌, ◌<◌, length, List, [], ◌∷◌, ◌++◌, map, get_or, take, find, Option, Some, None, Bool, true, false, cond, ◌||◌, is_some, option_map, bytes_eq, refl, sym, ap, ◌∙◌}
-use Rattle.std.specs.Map.{lookup}
 use Rattle.std.proofs.lemmas.List.{take_more}
-use Rattle.indexmap.specs.IndexMap.{insert_entry}
 use Rattle.gypsy_syntax.specs.declared.proc.Proc.{Proc}
 use Rattle.gypsy_check.specs.Tables.{is_named}
 use Rattle.stack_text.specs.Options.{first_or}
-
-abbrev Key : Type 0
-Key = Bor (List ℕ)
-
-abbrev sought : List ℕ → Key → Bool
-sought name key = bytes_eq name key.now
-
-abbrev first_of : {V : Type 0} → List ℕ → List (Key × V) → Option V
-first_of name entries = lookup (sought name) entries
-
--- a name that was not there is entered after the others
-pub entered_last : {V : Type 0} (eq : Key → Key → Bool) → ((a b : Key) → eq a b ≡ bytes_eq a.now b.now) → (es : List (Key × V)) (key : Key) (v : V) → is_some (lookup (sought key.now) es) ≡ false →
-    (other : List ℕ) → lookup (sought other) (insert_entry eq es key v) ≡ first_or (lookup (sought other) es) (bytes_eq other key.now) v
-entered_last {V} eq is [] key v absent other = by_test (bytes_eq other key.now)
-  where
-    by_test : (b : Bool) → cond b (Some v) None ≡ first_or None b v
-    by_test true = refl
-    by_test false = refl
-entered_last {V} eq is (e ∷ es) key v absent other = by_test (bytes_eq key.now e.0.now) refl absent (λ none. entered_last eq is es key v none other)
-  where
-    by_other : (b : Bool) (later : Option V) → later ≡ first_or (lookup (sought other) es) (bytes_eq other key.now) v → cond b (Some e.1) later ≡ first_or (cond b (Some e.1) (lookup (sought other) es)) (bytes_eq other key.now) v
-    by_other true later h = refl
-    by_other false later h = h
-
-    by_test : (b : Bool) → bytes_eq key.now e.0.now ≡ b → is_some (cond b (Some e.1) (lookup (sought key.now) es)) ≡ false →
-        (is_some (lookup (sought key.now) es) ≡ false → lookup (sought other) (insert_entry eq es key v) ≡ first_or (lookup (sought other) es) (bytes_eq other key.now) v) →
-        lookup (sought other) (cond (eq key e.0) ((e.0, v) ∷ es) (e ∷ insert_entry eq es key v)) ≡ first_or (lookup (sought other) (e ∷ es)) (bytes_eq other key.now) v
-    by_test true h none later = absurd cc
-    by_test false h none later =
-        ap (λ (b : Bool). lookup (sought other) (cond b ((e.0, v) ∷ es) (e ∷ insert_entry eq es key v))) (is key e.0 ∙ h)
-        ∙ by_other (bytes_eq other e.0.now) (lookup (sought other) (insert_entry eq es key v)) (later none)
 
 pub past_map : {V W : Type 0} (f : V → W) (o : Option V) (b : Bool) (v : V) → option_map f (first_or o b v) ≡ first_or (option_map f o) b (f v)
 past_map f (Some x) b v = refl
 past_map f None true v = refl
 past_map f None false v = refl
-
--- the same seen through references
-pub declared : (es : List (Key × Bor Proc)) (key : Key) (proc : Bor Proc) → is_some (lookup (sought key.now) es) ≡ false →
-    (other : List ℕ) → option_map (λ (p : Bor Proc). p.now) (lookup (sought other) (insert_entry (λ a b. bytes_eq a.now b.now) es key proc)) ≡ first_or (option_map (λ (p : Bor Proc). p.now) (lookup (sought other) es)) (bytes_eq other key.now) proc.now
-declared es key proc absent other =
-    ap (option_map (λ (p : Bor Proc). p.now)) (entered_last (λ a b. bytes_eq a.now b.now) (λ a b. refl) es key proc absent other)
-    ∙ past_map (λ (p : Bor Proc). p.now) (lookup (sought other) es) (bytes_eq other key.now) proc
 
 -- ---- the first of one more
 

@@ -2,9 +2,8 @@
 use Rattle.std.specs.Prelude.{◌≡◌, ℕ, List, ◌++◌, map, find, Bool, Option, option_map}
 use Rattle.std.specs.Borrow.{Bor}
 use Rattle.std.specs.List.{list_any}
-use Rattle.std.specs.Map.{lookup}
 use Rattle.std.specs.Str.{bytes_eq}
-use Rattle.indexmap.specs.IndexMap.{IndexMap}
+use Rattle.name_tables.specs.Entries.{Entries, look_up}
 use Rattle.indexmap.specs.IndexSet.{IndexSet}
 use Rattle.stack_text.specs.declared.name.Named.{Named}
 use Rattle.gypsy_syntax.specs.declared.literal.Decl.{Decl}
@@ -25,19 +24,15 @@ abbrev pub KnowsNames : {S : Type 0} → IndexSet (Bor (List ℕ)) S → List Na
 KnowsNames set names = (name : List ℕ) → has set name ≡ is_named name names
 
 -- the procedure that the table has for a name
-abbrev pub look_up : {S : Type 0} → IndexMap (Bor (List ℕ)) (Bor Proc) S → List ℕ → Option Proc
-look_up table name = option_map (λ proc. proc.now) (lookup (λ key. bytes_eq name key.now) table.entries)
+abbrev pub procedure_in : Entries (Bor Proc) → List ℕ → Option Proc
+procedure_in table name = option_map (λ proc. proc.now) (look_up table name)
 
 -- the table has the first procedure of each name
-abbrev pub KnowsProcs : {S : Type 0} → IndexMap (Bor (List ℕ)) (Bor Proc) S → List Proc → Type 0
-KnowsProcs table procs = (name : List ℕ) → look_up table name ≡ find (λ p. bytes_eq name p.name.name) procs
+abbrev pub KnowsProcs : Entries (Bor Proc) → List Proc → Type 0
+KnowsProcs table procs = (name : List ℕ) → procedure_in table name ≡ find (λ p. bytes_eq name p.name.name) procs
 
 abbrev pub KnowsCallees : Callees → Type 0
 KnowsCallees callees = KnowsProcs callees.procs callees.source.now.procs.items
-
--- the type that the table has for a name
-abbrev pub type_in : {S : Type 0} → IndexMap (Bor (List ℕ)) TypeText S → List ℕ → Option TypeText
-type_in table name = lookup (λ key. bytes_eq name key.now) table.entries
 
 -- the variables that a procedure declares, formals before locals
 abbrev pub declared : Proc → List Decl
@@ -48,5 +43,5 @@ abbrev pub first_type : List Decl → List ℕ → Option TypeText
 first_type decls name = option_map (λ d. d.shape) (find (λ d. bytes_eq name d.name.name) decls)
 
 -- the table has the type of the first of each name
-abbrev pub KnowsTypes : {S : Type 0} → IndexMap (Bor (List ℕ)) TypeText S → List Decl → Type 0
-KnowsTypes table decls = (name : List ℕ) → type_in table name ≡ first_type decls name
+abbrev pub KnowsTypes : Entries TypeText → List Decl → Type 0
+KnowsTypes table decls = (name : List ℕ) → look_up table name ≡ first_type decls name

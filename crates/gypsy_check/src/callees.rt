@@ -6,11 +6,11 @@ ghost use Rattle.stack_text.specs.Breaches.{when, Notes};
 ghost use Rattle.gypsy_syntax.specs.Seen.SourceView.{proc_of, source_of};
 ghost use Rattle.gypsy_syntax.specs.Resolved.{procedure_named};
 ghost use Rattle.gypsy_check.specs.Declarations.{repeats};
-ghost use Rattle.gypsy_check.specs.Tables.{look_up, KnowsCallees, KnowsProcs};
+ghost use Rattle.gypsy_check.specs.Tables.{procedure_in, KnowsCallees, KnowsProcs};
 ghost use Rattle.stack_text.specs.Options.{first_or};
 
 use gypsy_syntax::{Proc, Source};
-use indexmap::IndexMap;
+use name_tables::NameTable;
 use stack_text::{Breach, Memory, Name, note_if};
 use std::alloc::Global;
 
@@ -18,7 +18,7 @@ use std::alloc::Global;
 #[derive(Drop)]
 pub(crate) struct Callees<'a> {
     pub source: &'a Source,
-    pub procs: IndexMap<&'a [u8], &'a Proc>,
+    pub procs: NameTable<'a, &'a Proc>,
 }
 
 impl<'a> Callees<'a> {
@@ -28,36 +28,31 @@ impl<'a> Callees<'a> {
         ensures { let found = procedure_named (source_of self.now.source.now) name.now in
             option_map (λ proc. proc_of proc.now) result ≡ found }
     {
-        self.procs.get(name.bytes()).copied()
+        self.procs.get(name.bytes())
     }
 }
 
 /// Enters a procedure by its name, or notes that the name was entered before.
 fn declare<'a>(
     best: &mut Option<Breach>,
-    table: &mut IndexMap<&'a [u8], &'a Proc>,
+    table: &mut NameTable<'a, &'a Proc>,
     proc: &'a Proc,
 ) -> Result<(), Memory>
     ensures entered { OnOk result
         ((other : List ℕ) →
-        look_up table.new other ≡ first_or (look_up table.old other) (bytes_eq other proc.now.name.name) proc.now) }
-    ensures noted { let is_known = is_some (look_up table.old proc.now.name.name) in
+        procedure_in table.new other ≡ first_or (procedure_in table.old other) (bytes_eq other proc.now.name.name) proc.now) }
+    ensures noted { let is_known = is_some (procedure_in table.old proc.now.name.name) in
         OnOk result (Notes best.old (when is_known proc.now.name.place 1) best.new) }
 {
-    let name = proc.name.name.bytes();
-    let is_known = table.contains_key(name);
+    let is_known = table.enter(proc.name.name.bytes(), proc)?;
     note_if(best, is_known, proc.name.place, 1);
-    if is_known {
-        return Ok(());
-    }
-    table.insert(name, proc)?;
     Ok(())
 }
 
 /// Enters each procedure by its name, or notes that the name was entered before.
 fn declare_all<'a>(
     best: &mut Option<Breach>,
-    table: &mut IndexMap<&'a [u8], &'a Proc>,
+    table: &mut NameTable<'a, &'a Proc>,
     procs: &'a [Proc],
 ) -> Result<(), Memory>
     requires { KnowsProcs table.old [] }
@@ -80,7 +75,7 @@ pub(crate) fn callees_of<'a>(
     ensures known { IfOk result KnowsCallees }
     ensures noted { OnOk result (Notes best.old (repeats 1 [] (map (λ p. p.name) source.now.procs.items)) best.new) }
 {
-    let mut procs = IndexMap::new(alloc);
+    let mut procs = NameTable::new(alloc);
     declare_all(best, &mut procs, source.procs.as_slice())?;
     Ok(Callees { source, procs })
 }

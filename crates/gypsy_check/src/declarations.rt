@@ -15,7 +15,8 @@ use crate::names::{conditions_of, variables_of};
 use crate::types::{check_type, words_of_length};
 use crate::values::check_locals;
 use gypsy_syntax::{Decl, Local, Proc, TypeText};
-use indexmap::{IndexMap, IndexSet};
+use indexmap::IndexSet;
+use name_tables::NameTable;
 use stack_text::{Breach, MOST_STACK, Memory, note_if};
 use std::alloc::Global;
 
@@ -50,7 +51,7 @@ pub(crate) fn declared_variables<'a>(
     alloc: Global,
     best: &mut Option<Breach>,
     proc: &'a Proc,
-) -> Result<IndexMap<&'a [u8], TypeText>, Memory>
+) -> Result<NameTable<'a, TypeText>, Memory>
     ensures known { IfOk result (λ variables. KnowsTypes variables (declared proc.now)) }
     ensures noted { OnOk result (Notes best.old (variable_breaches (proc_of proc.now)) best.new) }
 {

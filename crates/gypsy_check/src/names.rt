@@ -4,11 +4,13 @@ ghost use Rattle.std.specs.Prelude.{◌≡◌, ℕ, List, [], ◌++◌, ◌||◌
 ghost use Rattle.std.specs.Str.{bytes_eq};
 ghost use Rattle.stack_text.specs.Breaches.{when, Notes};
 ghost use Rattle.gypsy_check.specs.Declarations.{repeats};
-ghost use Rattle.gypsy_check.specs.Tables.{has, type_in, KnowsNames, KnowsTypes};
+ghost use Rattle.name_tables.specs.Entries.{look_up};
+ghost use Rattle.gypsy_check.specs.Tables.{has, KnowsNames, KnowsTypes};
 ghost use Rattle.stack_text.specs.Options.{first_or};
 
 use gypsy_syntax::{Decl, Local, TypeText};
-use indexmap::{IndexMap, IndexSet};
+use indexmap::IndexSet;
+use name_tables::NameTable;
 use stack_text::{Breach, Memory, Named, note_if};
 use std::alloc::Global;
 
@@ -47,23 +49,18 @@ pub(crate) fn check_repeats(
 /// Enters a variable by its name with its type, or notes that the name was entered before.
 fn declare<'a>(
     best: &mut Option<Breach>,
-    variables: &mut IndexMap<&'a [u8], TypeText>,
+    variables: &mut NameTable<'a, TypeText>,
     decl: &'a Decl,
 ) -> Result<(), Memory>
     ensures entered { OnOk result
         ((other : List ℕ) →
-        type_in variables.new other
-        ≡ first_or (type_in variables.old other) (bytes_eq other decl.now.name.name) decl.now.shape) }
-    ensures noted { let is_known = is_some (type_in variables.old decl.now.name.name) in
+        look_up variables.new other
+        ≡ first_or (look_up variables.old other) (bytes_eq other decl.now.name.name) decl.now.shape) }
+    ensures noted { let is_known = is_some (look_up variables.old decl.now.name.name) in
         OnOk result (Notes best.old (when is_known decl.now.name.place 4) best.new) }
 {
-    let name = decl.name.name.bytes();
-    let is_known = variables.contains_key(name);
+    let is_known = variables.enter(decl.name.name.bytes(), decl.shape)?;
     note_if(best, is_known, decl.name.place, 4);
-    if is_known {
-        return Ok(());
-    }
-    variables.insert(name, decl.shape)?;
     Ok(())
 }
 
@@ -73,13 +70,13 @@ pub(crate) fn variables_of<'a>(
     best: &mut Option<Breach>,
     formals: &'a [Decl],
     locals: &'a [Local],
-) -> Result<IndexMap<&'a [u8], TypeText>, Memory>
+) -> Result<NameTable<'a, TypeText>, Memory>
     ensures known { IfOk result
         (λ variables. KnowsTypes variables (formals.now ++ map (λ l. l.decl) locals.now)) }
     ensures noted { let names = map (λ d. d.name) formals.now ++ map (λ l. l.decl.name) locals.now in
         OnOk result (Notes best.old (repeats 4 [] names) best.new) }
 {
-    let mut variables = IndexMap::new(alloc);
+    let mut variables = NameTable::new(alloc);
     for formal in formals {
         declare(best, &mut variables, formal)?;
     }

@@ -6,7 +6,8 @@ ghost use Rattle.gypsy_check.specs.Declarations.{is_condition, type_of};
 ghost use Rattle.gypsy_check.specs.Tables.{KnowsNames, KnowsTypes, declared};
 
 use gypsy_syntax::{Proc, TypeText};
-use indexmap::{IndexMap, IndexSet};
+use indexmap::IndexSet;
+use name_tables::NameTable;
 use stack_text::Name;
 use std::marker::Model;
 
@@ -16,7 +17,7 @@ use std::marker::Model;
 #[derive(Drop)]
 pub(crate) struct Scope<'a> {
     proc: &'a Proc,
-    variables: IndexMap<&'a [u8], TypeText>,
+    variables: NameTable<'a, TypeText>,
     conds: IndexSet<&'a [u8]>,
 }
 
@@ -42,7 +43,7 @@ impl<'a> Scope<'a> {
     /// A procedure with its variables and conditions.
     pub(crate) fn new(
         proc: &'a Proc,
-        variables: IndexMap<&'a [u8], TypeText>,
+        variables: NameTable<'a, TypeText>,
         conds: IndexSet<&'a [u8]>,
     ) -> Scope<'a>
         requires variables { KnowsTypes variables (declared proc.now) }
@@ -60,7 +61,7 @@ impl<'a> Scope<'a> {
     pub(crate) fn type_of(&self, name: &Name) -> Option<TypeText>
         ensures { result ≡ type_of (proc_of self.now) name.now }
     {
-        self.variables.get(name.bytes()).copied()
+        self.variables.get(name.bytes())
     }
 
     /// Whether a condition of the name is declared, formal or local.

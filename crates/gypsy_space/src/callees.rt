@@ -7,7 +7,7 @@ ghost use Rattle.gypsy_syntax.specs.Seen.SourceView.{source_of};
 ghost use Rattle.gypsy_space.specs.Callees.{KnowsCallees, KnowsPositions, names_of};
 
 use gypsy_syntax::{Proc, Source};
-use indexmap::IndexMap;
+use name_tables::NameTable;
 use stack_text::{Memory, Name};
 use std::alloc::Global;
 
@@ -15,7 +15,7 @@ use std::alloc::Global;
 #[derive(Drop)]
 pub(crate) struct Callees<'a> {
     pub source: &'a Source,
-    pub positions: IndexMap<&'a [u8], u32>,
+    pub positions: NameTable<'a, u32>,
 }
 
 impl<'a> Callees<'a> {
@@ -24,21 +24,18 @@ impl<'a> Callees<'a> {
         requires { KnowsCallees self.now }
         ensures { result ≡ position_of name.now (procedure_names (source_of self.now.source.now)) }
     {
-        self.positions.get(name.bytes()).copied().unwrap_or(0)
+        self.positions.get(name.bytes()).unwrap_or(0)
     }
 }
 
 /// The position of the first procedure of each name.
-fn positions_of<'a>(alloc: Global, procs: &'a [Proc]) -> Result<IndexMap<&'a [u8], u32>, Memory>
+fn positions_of<'a>(alloc: Global, procs: &'a [Proc]) -> Result<NameTable<'a, u32>, Memory>
     requires { length procs.now ≤ 1000 }
     ensures { IfOk result (λ positions. KnowsPositions positions (names_of procs.now)) }
 {
-    let mut positions = IndexMap::new(alloc);
+    let mut positions = NameTable::new(alloc);
     for (index, proc) in procs.iter().enumerate() {
-        let name = proc.name.name.bytes();
-        if !positions.contains_key(name) {
-            positions.insert(name, index as u32)?;
-        }
+        positions.enter(proc.name.name.bytes(), index as u32)?;
     }
     Ok(positions)
 }

@@ -3,7 +3,7 @@ use Rattle.std.proofs.lemmas.List.{take_all}
 use Rattle.stack_text.specs.Breaches.{lesser_of, least}
 use Rattle.gypsy_syntax.specs.declared.proc.Proc.{Proc}
 use Rattle.gypsy_check.specs.Declarations.{repeats}
-use Rattle.gypsy_check.specs.Tables.{look_up}
+use Rattle.gypsy_check.specs.Tables.{procedure_in}
 use Rattle.gypsy_check.proofs.RepeatLaws.{noted_more, items_more}
 use Rattle.gypsy_check.proofs.CalleeLaws.{known_next, known_name}
 use Rattle.gypsy_check.proofs.callees.declare_all.Goals as goal
@@ -15,9 +15,9 @@ loop-proc-preserved c =
     let i = c.loop-proc.proc-index in
     let known = c.loop-proc.invariant.known in
     record {
-      known = known_next procs i one (look_up c.loop-proc.table) (look_up c.declare.new.table) c.loop-proc-test.true c.proc-item.is known c.in_ok-declare.ensures.entered;
-      noted = noted_more 1 (map (λ (p : Proc). p.name) (take i procs)) (map (λ (p : Proc). p.name) (take (i + 1) procs)) one.name c.args.best.now c.loop-proc.best c.declare.new.best (λ name. is_some (look_up c.loop-proc.table name))
-          (items_more (λ (p : Proc). p.name) [] procs i one c.loop-proc-test.true c.proc-item.is) (known_name procs i (look_up c.loop-proc.table) known) c.loop-proc.invariant.noted c.in_ok-declare.ensures.noted;
+      known = known_next procs i one (procedure_in c.loop-proc.table) (procedure_in c.declare.new.table) c.loop-proc-test.true c.proc-item.is known c.in_ok-declare.ensures.entered;
+      noted = noted_more 1 (map (λ (p : Proc). p.name) (take i procs)) (map (λ (p : Proc). p.name) (take (i + 1) procs)) one.name c.args.best.now c.loop-proc.best c.declare.new.best (λ name. is_some (procedure_in c.loop-proc.table name))
+          (items_more (λ (p : Proc). p.name) [] procs i one c.loop-proc-test.true c.proc-item.is) (known_name procs i (procedure_in c.loop-proc.table) known) c.loop-proc.invariant.noted c.in_ok-declare.ensures.noted;
     }
 
 pub returns-clause-noted : goal.returns-clause-noted
