@@ -1,45 +1,15 @@
 -- Tables of names, one name after the other.
 use Rattle.std.proofs.Common.{◌≡◌, Bor, ℕ, suc, ◌+◌, ◌<◌, List, [], ◌∷◌, ◌++◌, map, length, get_or, take, Option, Some, None, Bool, true, false, cond, is_some, position, refl, sym, ap, ◌∙◌, append_assoc, arith}
 use Rattle.std.specs.List.{position_from}
-use Rattle.std.specs.Map.{lookup}
 use Rattle.std.specs.Str.{bytes_eq}
 use Rattle.std.proofs.lemmas.Iterator.Adapters.{position_from-zero}
 use Rattle.std.proofs.lemmas.List.{append-nil, map_push, take_more, length-append, length-map, length-take-le}
-use Rattle.indexmap.specs.IndexMap.{insert_entry}
 use Rattle.stack_text.specs.declared.breach.Breach.{Breach}
 use Rattle.stack_text.specs.Breaches.{when, lesser_of, least, Notes}
 use Rattle.piton_check.specs.Declarations.{Declaration, is_named, first_of, repeat_of, repeats}
 use Rattle.piton_check.specs.Scaffold.Tables.{repeated}
 use Rattle.stack_text.specs.Options.{first_or}
 use Rattle.stack_text.proofs.BreachLaws.{notes_more}
-
-abbrev Key : Type 0
-Key = Bor (List ℕ)
-
-abbrev sought : List ℕ → Key → Bool
-sought name key = bytes_eq name key.now
-
--- a name that was not there is entered after the others
-pub entered : (eq : Key → Key → Bool) → ((a b : Key) → eq a b ≡ bytes_eq a.now b.now) → (es : List (Key × ℕ)) (key : Key) (p : ℕ) → is_some (lookup (sought key.now) es) ≡ false →
-    (other : List ℕ) → lookup (sought other) (insert_entry eq es key p) ≡ first_or (lookup (sought other) es) (bytes_eq other key.now) p
-entered eq is [] key p absent other = by_test (bytes_eq other key.now)
-  where
-    by_test : (b : Bool) → cond b (Some p) None ≡ first_or None b p
-    by_test true = refl
-    by_test false = refl
-entered eq is (e ∷ es) key p absent other = by_test (bytes_eq key.now e.0.now) refl absent (λ none. entered eq is es key p none other)
-  where
-    by_other : (b : Bool) (later : Option ℕ) → later ≡ first_or (lookup (sought other) es) (bytes_eq other key.now) p → cond b (Some e.1) later ≡ first_or (cond b (Some e.1) (lookup (sought other) es)) (bytes_eq other key.now) p
-    by_other true later h = refl
-    by_other false later h = h
-
-    by_test : (b : Bool) → bytes_eq key.now e.0.now ≡ b → is_some (cond b (Some e.1) (lookup (sought key.now) es)) ≡ false →
-        (is_some (lookup (sought key.now) es) ≡ false → lookup (sought other) (insert_entry eq es key p) ≡ first_or (lookup (sought other) es) (bytes_eq other key.now) p) →
-        lookup (sought other) (cond (eq key e.0) ((e.0, p) ∷ es) (e ∷ insert_entry eq es key p)) ≡ first_or (lookup (sought other) (e ∷ es)) (bytes_eq other key.now) p
-    by_test true h none later = absurd cc
-    by_test false h none later =
-        ap (λ (b : Bool). lookup (sought other) (cond b ((e.0, p) ∷ es) (e ∷ insert_entry eq es key p))) (is key e.0 ∙ h)
-        ∙ by_other (bytes_eq other e.0.now) (lookup (sought other) (insert_entry eq es key p)) (later none)
 
 -- ---- the position of one more
 

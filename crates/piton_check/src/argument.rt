@@ -9,7 +9,7 @@ ghost use Rattle.piton_check.specs.Resolved.{resolved_argument, resolved_instruc
 ghost use Rattle.piton_check.specs.Scaffold.Tables.{KnowsProgram};
 ghost use Rattle.piton_check.specs.Violations.{name_rule, argument_breaches, instruction_breaches};
 
-use crate::names::{Scope, position};
+use crate::names::Scope;
 use crate::resolved::{ResolvedArg, ResolvedInstr};
 use crate::word::{area_position, natural, program_position, word};
 use piton_syntax::{ArgKind, ArgText, Arguments, InstrText};
@@ -57,7 +57,7 @@ fn local_offset(scope: &Scope, name: &Name) -> Option<u32>
     requires { KnowsProgram scope.now }
     ensures { result ≡ first_of (local_names scope.now.program.now) name.now }
 {
-    position(&scope.locals, name.bytes())
+    scope.locals.get(name.bytes())
 }
 
 /// The position of the instruction that has a label.
@@ -65,7 +65,7 @@ fn label_place(scope: &Scope, name: &Name) -> Option<u32>
     requires { KnowsProgram scope.now }
     ensures { result ≡ first_of (label_names scope.now.program.now) name.now }
 {
-    position(&scope.labels, name.bytes())
+    scope.labels.get(name.bytes())
 }
 
 /// What a name of the kind means, if it means anything.

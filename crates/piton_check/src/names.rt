@@ -4,20 +4,20 @@ ghost use Rattle.std.specs.Prelude.{◌≡◌, ℕ, ◌+◌, ◌≤◌, ◌^◌,
 ghost use Rattle.std.specs.Str.{bytes_eq};
 ghost use Rattle.stack_text.specs.Breaches.{when, Notes};
 ghost use Rattle.piton_check.specs.Declarations.{area_name, program_name, formal_name, temporary_name, label_name, is_named, repeats};
-ghost use Rattle.piton_check.specs.Scaffold.Tables.{look_up, repeated, Knows};
+ghost use Rattle.piton_check.specs.Scaffold.Tables.{repeated, Knows};
 ghost use Rattle.stack_text.specs.Options.{first_or};
+ghost use Rattle.name_tables.specs.Entries.{look_up};
 
-use indexmap::IndexMap;
+use name_tables::NameTable;
 use piton_syntax::{Area, InstrText, Program, System, WordText};
 use stack_text::{Breach, Memory, Name, Named, note_if};
-use std::alloc::Global;
 
 /// A system with tables of its areas and programs.
 #[derive(Drop)]
 pub(crate) struct Names<'a> {
     pub system: &'a System,
-    pub areas: IndexMap<&'a [u8], u32>,
-    pub programs: IndexMap<&'a [u8], u32>,
+    pub areas: NameTable<'a, u32>,
+    pub programs: NameTable<'a, u32>,
 }
 
 /// A program with tables of its locals and labels, and the names of its system.
@@ -25,21 +25,14 @@ pub(crate) struct Names<'a> {
 pub(crate) struct Scope<'a, 'b> {
     pub names: &'b Names<'a>,
     pub program: &'a Program,
-    pub locals: IndexMap<&'a [u8], u32>,
-    pub labels: IndexMap<&'a [u8], u32>,
-}
-
-/// The position of a name.
-pub(crate) fn position(table: &IndexMap<&[u8], u32>, name: &[u8]) -> Option<u32>
-    ensures { result ≡ look_up table.now name.now }
-{
-    table.get(name).copied()
+    pub locals: NameTable<'a, u32>,
+    pub labels: NameTable<'a, u32>,
 }
 
 /// Enters a name with its position, or notes that it was entered before.
 fn declare<'a>(
     best: &mut Option<Breach>,
-    table: &mut IndexMap<&'a [u8], u32>,
+    table: &mut NameTable<'a, u32>,
     name: &'a Name,
     position: u32,
     place: u32,
@@ -50,20 +43,15 @@ fn declare<'a>(
         look_up table.new other ≡ first_or (look_up table.old other) (bytes_eq other name.now) position) }
     ensures noted { OnOk result (Notes best.old (when (is_some (look_up table.old name.now)) place rule) best.new) }
 {
-    let name = name.bytes();
-    let is_known = table.contains_key(name);
+    let is_known = table.enter(name.bytes(), position)?;
     note_if(best, is_known, place, rule);
-    if is_known {
-        return Ok(());
-    }
-    table.insert(name, position)?;
     Ok(())
 }
 
 /// The areas.
 pub(crate) fn declare_areas<'a>(
     best: &mut Option<Breach>,
-    table: &mut IndexMap<&'a [u8], u32>,
+    table: &mut NameTable<'a, u32>,
     areas: &'a [Area],
 ) -> Result<(), Memory>
     requires empty { Knows table.old [] }
@@ -80,7 +68,7 @@ pub(crate) fn declare_areas<'a>(
 /// The programs.
 pub(crate) fn declare_programs<'a>(
     best: &mut Option<Breach>,
-    table: &mut IndexMap<&'a [u8], u32>,
+    table: &mut NameTable<'a, u32>,
     programs: &'a [Program],
 ) -> Result<(), Memory>
     requires empty { Knows table.old [] }
@@ -104,7 +92,7 @@ pub(crate) fn declare_programs<'a>(
 /// The formals of a program, and after them its temporaries.
 pub(crate) fn declare_locals<'a>(
     best: &mut Option<Breach>,
-    table: &mut IndexMap<&'a [u8], u32>,
+    table: &mut NameTable<'a, u32>,
     formals: &'a [Named],
     temporaries: &'a [(Named, WordText)],
 ) -> Result<(), Memory>
@@ -134,7 +122,7 @@ pub(crate) fn declare_locals<'a>(
 /// A label, if there is one.
 fn declare_label<'a>(
     best: &mut Option<Breach>,
-    table: &mut IndexMap<&'a [u8], u32>,
+    table: &mut NameTable<'a, u32>,
     label: &'a Option<Named>,
     position: u32,
 ) -> Result<(), Memory>
@@ -152,7 +140,7 @@ fn declare_label<'a>(
 /// The labels of a program's instructions.
 pub(crate) fn declare_labels<'a>(
     best: &mut Option<Breach>,
-    table: &mut IndexMap<&'a [u8], u32>,
+    table: &mut NameTable<'a, u32>,
     instrs: &'a [InstrText],
 ) -> Result<(), Memory>
     requires empty { Knows table.old [] }

@@ -12,7 +12,7 @@ use crate::argument::instructions;
 use crate::names::{Names, Scope, declare_labels, declare_locals};
 use crate::resolved::ResolvedProgram;
 use crate::word::temporary_words;
-use indexmap::IndexMap;
+use name_tables::NameTable;
 use piton_syntax::{InstrText, PitonOp, Program};
 use stack_text::{Breach, Memory, note_if};
 use std::alloc::Global;
@@ -41,12 +41,12 @@ fn locals<'a>(
     alloc: Global,
     best: &mut Option<Breach>,
     text: &'a Program,
-) -> Result<IndexMap<&'a [u8], u32>, Memory>
+) -> Result<NameTable<'a, u32>, Memory>
     requires { IsSmall text.now }
     ensures known { IfOk result (λ table. Knows table (local_names text.now)) }
     ensures noted { OnOk result (Notes best.old (repeats 5 [] (local_names text.now)) best.new) }
 {
-    let mut table = IndexMap::new(alloc);
+    let mut table = NameTable::new(alloc);
     declare_locals(best, &mut table, &text.formals, &text.temporaries)?;
     Ok(table)
 }
@@ -56,12 +56,12 @@ fn labels<'a>(
     alloc: Global,
     best: &mut Option<Breach>,
     text: &'a Program,
-) -> Result<IndexMap<&'a [u8], u32>, Memory>
+) -> Result<NameTable<'a, u32>, Memory>
     requires { IsSmall text.now }
     ensures known { IfOk result (λ table. Knows table (label_names text.now)) }
     ensures noted { OnOk result (Notes best.old (repeats 6 [] (label_names text.now)) best.new) }
 {
-    let mut table = IndexMap::new(alloc);
+    let mut table = NameTable::new(alloc);
     declare_labels(best, &mut table, &text.instrs)?;
     Ok(table)
 }

@@ -12,7 +12,7 @@ use crate::names::{Names, declare_areas, declare_programs};
 use crate::program::programs;
 use crate::resolved::Resolved;
 use crate::word::{natural, program_position, words};
-use indexmap::IndexMap;
+use name_tables::NameTable;
 use piton_syntax::{Area, Number, Program, System};
 use piton_words::Word;
 use stack_text::{Breach, MOST_STACK, Memory, note_if};
@@ -126,9 +126,9 @@ fn names<'a>(
     ensures known { IfOk result KnowsSystem }
     ensures noted { OnOk result (Notes best.old (name_breaches system.now) best.new) }
 {
-    let mut areas = IndexMap::new(alloc);
+    let mut areas = NameTable::new(alloc);
     declare_areas(best, &mut areas, &system.areas)?;
-    let mut programs = IndexMap::new(alloc);
+    let mut programs = NameTable::new(alloc);
     declare_programs(best, &mut programs, &system.programs)?;
     Ok(Names {
         system,

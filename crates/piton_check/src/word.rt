@@ -9,7 +9,7 @@ ghost use Rattle.piton_check.specs.Resolved.{resolved_word, resolved_temporary};
 ghost use Rattle.piton_check.specs.Scaffold.Tables.{KnowsSystem};
 ghost use Rattle.piton_check.specs.Violations.{word_breaches, temporary_breaches};
 
-use crate::names::{Names, position};
+use crate::names::Names;
 use piton_syntax::{System, WordItem, WordText};
 use piton_words::Word;
 use stack_text::{Breach, Memory, Name, Named, note_if};
@@ -46,7 +46,7 @@ pub(crate) fn area_position(names: &Names, name: &Name) -> Option<u32>
     requires { KnowsSystem names.now }
     ensures { result ≡ first_of (area_names names.now.system.now) name.now }
 {
-    position(&names.areas, name.bytes())
+    names.areas.get(name.bytes())
 }
 
 /// The position of a program.
@@ -54,7 +54,7 @@ pub(crate) fn program_position(names: &Names, name: &Name) -> Option<u32>
     requires { KnowsSystem names.now }
     ensures { result ≡ first_of (program_names names.now.system.now) name.now }
 {
-    position(&names.programs, name.bytes())
+    names.programs.get(name.bytes())
 }
 
 /// How many words an area has.

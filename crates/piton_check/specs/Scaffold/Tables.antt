@@ -1,20 +1,13 @@
 -- Tables of names, each with the position of the name's first declaration.
 use Rattle.std.specs.Prelude.{◌≡◌, ℕ, ◌+◌, ◌≤◌, ◌^◌, List, [], length, slice_get, Option, Some, None, is_some}
 use Rattle.piton_syntax.specs.Systems.{ProgramOf, SystemOf}
-use Rattle.std.specs.Borrow.{Bor}
-use Rattle.std.specs.Map.{lookup}
-use Rattle.std.specs.Str.{bytes_eq}
 use Rattle.piton_syntax.specs.Limits.{most_instructions}
-use Rattle.indexmap.specs.IndexMap.{IndexMap}
+use Rattle.name_tables.specs.Entries.{Entries, look_up}
 use Rattle.stack_text.specs.declared.breach.Breach.{Breach}
 use Rattle.stack_text.specs.Breaches.{when}
 use Rattle.piton_check.specs.Declarations.{Declaration, first_of, program_names, area_names, local_names, label_names}
 use Rattle.piton_check.specs.declared.names.Names.{Names}
 use Rattle.piton_check.specs.declared.names.Scope.{Scope}
-
--- the position that a table has for a name
-abbrev pub look_up : {S : Type 0} → IndexMap (Bor (List ℕ)) ℕ S → List ℕ → Option ℕ
-look_up table name = lookup (λ key. bytes_eq name key.now) table.entries
 
 -- a name for which a position is known
 abbrev pub repeated : (List ℕ → Option ℕ) → ℕ → Declaration → List Breach
@@ -22,7 +15,7 @@ repeated known rule None = []
 repeated known rule (Some n) = when (is_some (known n.name)) n.place rule
 
 -- the table has the first position of each name
-abbrev pub Knows : {S : Type 0} → IndexMap (Bor (List ℕ)) ℕ S → List Declaration → Type 0
+abbrev pub Knows : Entries ℕ → List Declaration → Type 0
 Knows table declared = (name : List ℕ) → look_up table name ≡ first_of declared name
 
 -- the tables are those of the system
