@@ -145,7 +145,6 @@ found_at code at (y ∷ is) (suc j) x h e =
     ap (slice_get code) n ∙ found_at code (at + 1) is j x h.1 e
 
 predef_spent : (r : Predef) (e : Effect) (t : Tally) → spend (predef_cost r e).0 (predef_cost r e).1 t ≡ predef_spend r e t
-unfolding predef_spend
 predef_spent r e t = refl
 
 values_as : (x : List ValueOf) (args : List Arg) → map (value_of x) args ≡ values_of x args

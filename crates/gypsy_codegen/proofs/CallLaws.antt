@@ -80,7 +80,11 @@ words-append (x ∷ a) b = ap (λ l. Nat x ∷ l) (words-append a b)
 abbrev frame_from : List Word → ℕ → ℕ → piton.Frame
 frame_from l program place = record { locals = l; program = program; place = place }
 
-call_spent : (q : Program) (c : ℕ) (t : Tally) → spend (22 + local_words (proc_at q c) + 3 * length (proc_at q c).locals + 3 * length (proc_at q c).formals + 4 + (length (proc_at q c).locals + length (proc_at q c).formals)) (local_words (proc_at q c) + length (proc_at q c).locals + length (proc_at q c).formals + 9) t ≡ call_spend q c t
+call_spent : (q : Program) (c : ℕ) (t : Tally) →
+    let d = proc_at q c in
+    let m = length d.locals in
+    let k = length d.formals in
+    spend (26 + (local_words d + 4 * (k + m))) (9 + (local_words d + (k + m))) t ≡ call_spend q c t
 unfolding call_spend
 call_spent q c t = refl
 
@@ -224,7 +228,7 @@ module _ {q : Program} {sizes : StackSizes} {base p : ℕ} {fs : List Frame} {fr
       ap (spend last 1) (three (3 * n) n (3 * length sh) (length sh) (length ws) (length ws) u0)
       ∙ spend_two last 1 (length ws + 3 * length sh + 3 * n) (length ws + length sh + n) u0
       ∙ spend_two (length ws + 3 * length sh + 3 * n + last) (length ws + length sh + n + 1) 22 8 u
-      ∙ spend_as _ _ (22 + l + 3 * m + 3 * k + 4 + (m + k)) (l + m + k + 9) u (omega (arith, wl, sm, many, form, no_temps)) (omega (arith, wl, sm, many))
+      ∙ spend_as _ _ (26 + (l + 4 * (k + m))) (9 + (l + (k + m))) u (omega (arith, wl, sm, many, form, no_temps)) (omega (arith, wl, sm, many))
       ∙ call_spent q c u
       ∙ ap (call_spend q c) e in
       comes_on (steps_on go0 (steps_on go1 (steps_on go2 (steps_on go3 go4')))) (lands a' (copied_in q c xs x) s1 0 (open_on (body_of q c) []) u4 (call_spend q c t) (call_stack q c p xs x w cs fs s many es) tally (body_stands q c))

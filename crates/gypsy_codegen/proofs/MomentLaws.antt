@@ -260,7 +260,7 @@ module _ (q : Program) (sizes : StackSizes) where
 -- ---- what steps cost
 
 predef_spends : (r : Predef) (e : Effect) (t : Tally) → t.count < (predef_spend r e t).count
-unfolding predef_spend spend
+unfolding spend
 predef_spends r e t = let some = costs_some r e in omega (arith, some)
 
 spends : (i k : ℕ) (t : Tally) → 0 < i → t.count < (spend i k t).count

@@ -9,8 +9,10 @@ use Rattle.gypsy_syntax.specs.Programs.{Stmt, NoOp, Signal, Loop, If, Call, Appl
 use Rattle.gypsy_syntax.specs.ProgramFits.{ProgramFits}
 use Rattle.gypsy_syntax.specs.Predefined.{predef_effect}
 use Rattle.gypsy_syntax.specs.Effects.{Normal, Fault, Beyond, value_at, is_true_value}
-use Rattle.gypsy_space.specs.Costs.{Tally, spend, predef_spend, out_spend, main_spend}
+use Rattle.gypsy_space.specs.Costs.{Tally, pay, predef_spend, out_spend, main_spend}
 use Rattle.gypsy_space.specs.Needs.{StackSizes, has_room, lack_of, call_spend}
+use Rattle.gypsy_space.specs.declared.event.CostEvent.{CostEvent}
+use Rattle.gypsy_space.specs.declared.event.CostEvent.TheVariants as event
 use Rattle.gypsy_space.specs.declared.need.Lack.TheVariants.{Temporary, Control}
 use Rattle.gypsy_semantics.specs.Calls.{is_passed_on, matching, main_way, main_formals, values_of, target_of, copied_in, copied_out}
 use Rattle.gypsy_semantics.specs.Machine.{Item, Do, Back, JoinThen, JoinOne, Guard, Out, Frame, Held, State, At}
@@ -49,39 +51,39 @@ at_work s w = At s.proc s.vars w s.waiting s.spent
 abbrev pub Reaches : Top → List Item → State → Type 0
 Reaches s w g = IsShown s (at_work s w) → Leads s.source (generated_view s.source s.sizes s.base) s.piton s.spent g
 
--- the same activation goes on, with this much spent
-abbrev pub GoesOn : Top → List Item → List Item → ℕ → ℕ → Type 0
-GoesOn s w v cost steps = Reaches s w (At s.proc s.vars v s.waiting (spend cost steps s.spent))
+-- the same activation goes on, and has paid for this event
+abbrev pub GoesOn : Top → List Item → List Item → CostEvent → Type 0
+GoesOn s w v e = Reaches s w (At s.proc s.vars v s.waiting (pay e s.spent))
 
 abbrev pub NoOpRow : Type 0
-NoOpRow = (s : Top) (place : ℕ) → GoesOn s (Do (NoOp place) ∷ s.work) (settle s.work) 1 1
+NoOpRow = (s : Top) (place : ℕ) → GoesOn s (Do (NoOp place) ∷ s.work) (settle s.work) event.NoOp
 
 abbrev pub SignalRow : Type 0
 SignalRow = (s : Top) (place : ℕ) (c : ConditionOf) →
-    Reaches s (Do (Signal place c) ∷ s.work) (raise c s.proc s.vars s.work s.waiting (spend 4 3 s.spent))
+    Reaches s (Do (Signal place c) ∷ s.work) (raise c s.proc s.vars s.work s.waiting (pay event.Signal s.spent))
 
 abbrev pub LoopRow : Type 0
-LoopRow = (s : Top) (place : ℕ) (b : Stmt) → GoesOn s (Do (Loop place b) ∷ s.work) (open_on b (Back place b ∷ s.work)) 1 1
+LoopRow = (s : Top) (place : ℕ) (b : Stmt) → GoesOn s (Do (Loop place b) ∷ s.work) (open_on b (Back place b ∷ s.work)) event.LoopRound
 
 abbrev pub BackRow : Type 0
-BackRow = (s : Top) (place : ℕ) (b : Stmt) → GoesOn s (Back place b ∷ s.work) (open_on (Loop place b) s.work) 1 1
+BackRow = (s : Top) (place : ℕ) (b : Stmt) → GoesOn s (Back place b ∷ s.work) (open_on (Loop place b) s.work) event.LoopBack
 
 abbrev pub ThenRow : Type 0
 ThenRow = (s : Top) (place test : ℕ) (b c : Stmt) → is_true_value (value_at s.vars test) ≡ true →
-    GoesOn s (Do (If place test b c) ∷ s.work) (open_on b (JoinThen place c ∷ s.work)) 8 3
+    GoesOn s (Do (If place test b c) ∷ s.work) (open_on b (JoinThen place c ∷ s.work)) event.IfTrue
 
 abbrev pub ElseRow : Type 0
 ElseRow = (s : Top) (place test : ℕ) (b c : Stmt) → is_true_value (value_at s.vars test) ≡ false →
-    GoesOn s (Do (If place test b c) ∷ s.work) (open_on c (JoinOne place ∷ s.work)) 9 4
+    GoesOn s (Do (If place test b c) ∷ s.work) (open_on c (JoinOne place ∷ s.work)) event.IfFalse
 
 abbrev pub JoinThenRow : Type 0
-JoinThenRow = (s : Top) (place : ℕ) (c : Stmt) → GoesOn s (JoinThen place c ∷ s.work) (settle s.work) 2 2
+JoinThenRow = (s : Top) (place : ℕ) (c : Stmt) → GoesOn s (JoinThen place c ∷ s.work) (settle s.work) event.JoinThen
 
 abbrev pub JoinOneRow : Type 0
-JoinOneRow = (s : Top) (place : ℕ) → GoesOn s (JoinOne place ∷ s.work) (settle s.work) 1 1
+JoinOneRow = (s : Top) (place : ℕ) → GoesOn s (JoinOne place ∷ s.work) (settle s.work) event.JoinOne
 
 abbrev pub GuardRow : Type 0
-GuardRow = (s : Top) (place : ℕ) (cs : List ConditionOf) (b : Stmt) → GoesOn s (Guard place cs b ∷ s.work) (settle s.work) 2 2
+GuardRow = (s : Top) (place : ℕ) (cs : List ConditionOf) (b : Stmt) → GoesOn s (Guard place cs b ∷ s.work) (settle s.work) event.GuardNormal
 
 -- a call that has room
 abbrev pub CallRow : Type 0
@@ -95,12 +97,12 @@ CallRow = (s : Top) (place c : ℕ) (xs : List ℕ) (cs : List ConditionOf) →
 abbrev pub LackTemporaryRow : Type 0
 LackTemporaryRow = (s : Top) (place c : ℕ) (xs : List ℕ) (cs : List ConditionOf) →
     lack_of s.source s.sizes c (used s.source s.proc s.waiting) ≡ Temporary →
-    Reaches s (Do (Call place c xs cs) ∷ s.work) (raise Space s.proc s.vars s.work s.waiting (spend 15 7 s.spent))
+    Reaches s (Do (Call place c xs cs) ∷ s.work) (raise Space s.proc s.vars s.work s.waiting (pay event.LackTemporary s.spent))
 
 abbrev pub LackControlRow : Type 0
 LackControlRow = (s : Top) (place c : ℕ) (xs : List ℕ) (cs : List ConditionOf) →
     lack_of s.source s.sizes c (used s.source s.proc s.waiting) ≡ Control →
-    Reaches s (Do (Call place c xs cs) ∷ s.work) (raise Space s.proc s.vars s.work s.waiting (spend 26 11 s.spent))
+    Reaches s (Do (Call place c xs cs) ∷ s.work) (raise Space s.proc s.vars s.work s.waiting (pay event.LackControl s.spent))
 
 -- a predefined call that writes a variable, and one that raises routineerror
 abbrev pub WriteRow : Type 0
@@ -119,7 +121,7 @@ BeyondRow = (s : Top) (place : ℕ) (r : Predef) (args : List Arg) → predef_ef
 -- the end of a procedure for which another waits, in the normal condition and with a condition
 abbrev pub ReturnRow : Type 0
 ReturnRow = (s : Top) (c : ℕ) (x : List ValueOf) (w : List Item) (xs : List ℕ) (cs : List ConditionOf) (fs : List Frame) →
-    s.waiting ≡ Held c x w xs cs ∷ fs → Reaches s [] (At c (copied_out xs s.vars x) (settle w) fs (spend 12 6 s.spent))
+    s.waiting ≡ Held c x w xs cs ∷ fs → Reaches s [] (At c (copied_out xs s.vars x) (settle w) fs (pay event.EndProc s.spent))
 
 abbrev pub OutRow : Type 0
 OutRow = (s : Top) (d : ConditionOf) (c : ℕ) (x : List ValueOf) (w : List Item) (xs : List ℕ) (cs : List ConditionOf) (fs : List Frame) →
@@ -130,7 +132,7 @@ OutRow = (s : Top) (d : ConditionOf) (c : ℕ) (x : List ValueOf) (w : List Item
 -- the end of main: the system has halted, at the last of the steps
 abbrev pub EndRow : Type 0
 EndRow = (s : Top) → s.waiting ≡ [] → IsShown s (at_work s []) →
-    Halts (generated_view s.source s.sizes s.base) s.piton s.spent (main_formals s.source s.vars) None (spend 5 2 s.spent)
+    Halts (generated_view s.source s.sizes s.base) s.piton s.spent (main_formals s.source s.vars) None (pay event.EndMain s.spent)
 
 abbrev pub MainOutRow : Type 0
 MainOutRow = (s : Top) (d : ConditionOf) → s.waiting ≡ [] → IsShown s (at_work s (Out d ∷ [])) →

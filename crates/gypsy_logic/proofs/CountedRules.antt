@@ -9,7 +9,7 @@ use Rattle.gypsy_syntax.specs.Programs.{ConditionOf, Leave, Routine, Space, Decl
 use Rattle.gypsy_syntax.specs.Programs.{Stmt, Skip, NoOp, Signal, Seq, Loop, If, Begin, Call, Apply}
 use Rattle.gypsy_syntax.specs.Predefined.{predef_effect}
 use Rattle.gypsy_syntax.specs.Effects.{Effect, Normal, Fault, Beyond, no_value, value_at, is_true_value}
-use Rattle.gypsy_space.specs.Costs.{Tally, spend, start_tally, main_spend}
+use Rattle.gypsy_space.specs.Costs.{Tally, spend, start_tally, count_of, leaving, main_spend}
 use Rattle.gypsy_space.specs.Needs.{StackSizes, main_used, with_call, has_temp_room, has_ctrl_room, has_room, lack_of}
 use Rattle.gypsy_space.specs.declared.need.Lack.TheVariants.{Nothing, Temporary, Control}
 use Rattle.gypsy_semantics.specs.Calls.{CurrentCondition, has_cond, is_passed_on, values_of, target_of, copied_in, copied_out, main_start, main_formals, main_way}
@@ -228,10 +228,9 @@ module _ {q : Program} {sizes : StackSizes} {p : ℕ} {Room : StackSizes → Typ
 
 -- ---- main
 
-end_spends : (b : Bool) (t : Tally) → (main_spend b t).count ≡ t.count + (if b then 4 else 7)
+end_spends : (b : Bool) (t : Tally) → (main_spend b t).count ≡ t.count + count_of (leaving b)
 unfolding main_spend spend
-end_spends true t = refl
-end_spends false t = refl
+end_spends b t = refl
 
 ending_spends : (q : Program) (c : ConditionOf) (t : Tally) → (main_spend (is_passed_on q q.main c) t).count ≡ t.count + end_count q (Some c)
 unfolding is_passed_on

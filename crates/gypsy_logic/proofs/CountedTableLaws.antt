@@ -1,5 +1,5 @@
 -- The rows of the table with their counts.
-use Rattle.std.proofs.Common.{◌≡◌, ℕ, zero, suc, ◌+◌, ◌≤◌, List, Bool, true, false, if◌then◌else◌, Some, None, refl, ap, ◌∙◌, slice_set, arith}
+use Rattle.std.proofs.Common.{◌≡◌, ℕ, zero, suc, ◌+◌, ◌≤◌, List, Bool, true, false, Some, None, refl, ap, ◌∙◌, slice_set, arith}
 use Rattle.std.specs.Prelude.{nat_lt}
 use Rattle.stack_text.specs.Values.{ValueOf}
 use Rattle.gypsy_syntax.specs.declared.predef.Predef.{Predef}
@@ -7,7 +7,8 @@ use Rattle.gypsy_syntax.specs.Programs.{ConditionOf, Leave, Routine, Space, Decl
 use Rattle.gypsy_syntax.specs.Programs.{Stmt, Skip, NoOp, Signal, Seq, Loop, If, Begin, Call, Apply}
 use Rattle.gypsy_syntax.specs.Predefined.{predef_effect, predef_cost}
 use Rattle.gypsy_syntax.specs.Effects.{Effect, Normal, Fault, Beyond, value_at, is_true_value}
-use Rattle.gypsy_space.specs.Costs.{Tally, spend, start_tally, predef_spend, out_spend}
+use Rattle.gypsy_space.specs.Costs.{Tally, spend, start_tally, predef_spend, out_spend, raised_price, steps_of}
+use Rattle.gypsy_space.specs.declared.event.CostEvent.TheVariants as event
 use Rattle.gypsy_space.specs.Needs.{StackSizes, with_call, lack_of, call_spend}
 use Rattle.gypsy_space.specs.declared.need.Lack.{Lack}
 use Rattle.gypsy_space.specs.declared.need.Lack.TheVariants.{Nothing, Temporary, Control}
@@ -135,17 +136,16 @@ module _ (q : Program) (sizes : StackSizes) where
   unfolding call_spend
   call_spends p t = spends_so_much _ _ t
 
-  out_spends : (b : Bool) (t : Tally) → out_spend b t ≡ spend (if b then 14 else 17) (if b then 7 else 9) t
+  out_spends : (b : Bool) (t : Tally) → out_spend b t ≡ spend (raised_price b).0 (raised_price b).1 t
   unfolding out_spend
-  out_spends true t = refl
-  out_spends false t = refl
+  out_spends b t = refl
 
   return_steps : ℕ → CurrentCondition → ℕ
-  return_steps p None = 6
-  return_steps p (Some Leave) = 9
-  return_steps p (Some Routine) = 9
-  return_steps p (Some Space) = 7
-  return_steps p (Some (Declared i)) = if nat_lt i (proc_at q p).conds then 7 else 9
+  return_steps p None = steps_of event.EndProc
+  return_steps p (Some Leave) = (raised_price false).1
+  return_steps p (Some Routine) = (raised_price false).1
+  return_steps p (Some Space) = (raised_price true).1
+  return_steps p (Some (Declared i)) = (raised_price (nat_lt i (proc_at q p).conds)).1
 
   returns : (p : ℕ) (xs : List ℕ) (cs : List ConditionOf) (x y : List ValueOf) (c : CurrentCondition) (t : Tally) → counted_returned q p xs cs x (CountedDone y c t) ≡ CountedDone (copied_out xs y x) (passed q p cs c) (spend (return_count q p c) (return_steps p c) t)
   unfolding matching is_passed_on return_steps
@@ -174,7 +174,7 @@ module _ (q : Program) (sizes : StackSizes) where
   -- ---- predefined procedures
 
   applies : (place : ℕ) (r : Predef) (args : List Arg) (u : StackSizes) (x y : List ValueOf) (c : CurrentCondition) (e : Effect) → predef_effect r (values_of x args) ≡ e → ((t : Tally) → counted_applied r args e x t ≡ CountedDone y c (predef_spend r e t)) → RunsAfter q sizes u (Apply place r args) x y c (predef_count r e)
-  unfolding predef_spend predef_cost
+  unfolding predef_cost
   applies place r args u x y c e is f = from_bound (Apply place r args) u x y c (predef_count r e) 0 (predef_cost r e).1 (λ m t le.
       ap (λ (d : Effect). counted_applied r args d x t) is ∙ f t)
 

@@ -1,11 +1,12 @@
 -- How statements about programs are said with counts: what a statement ends with, and after how many instructions of the processor.
-use Rattle.std.specs.Prelude.{◌≡◌, ℕ, ◌+◌, ◌<◌, ◌≤◌, List, Some, None, ◌==◌, nat_lt, if◌then◌else◌}
+use Rattle.std.specs.Prelude.{◌≡◌, ℕ, ◌+◌, ◌<◌, ◌≤◌, List, Some, None, ◌==◌, nat_lt, true, false}
 use Rattle.stack_text.specs.Values.{ValueOf}
 use Rattle.gypsy_syntax.specs.declared.predef.Predef.{Predef}
 use Rattle.gypsy_syntax.specs.Programs.{ConditionOf, Leave, Routine, Space, Declared, Program, Stmt, proc_at, body_of}
 use Rattle.gypsy_syntax.specs.Predefined.{row_of}
 use Rattle.gypsy_syntax.specs.Effects.{Effect, Normal, Fault, Beyond, no_value}
-use Rattle.gypsy_space.specs.Costs.{Tally, spend, start_tally}
+use Rattle.gypsy_space.specs.Costs.{Tally, spend, start_tally, count_of, leaving, raised_price}
+use Rattle.gypsy_space.specs.declared.event.CostEvent.TheVariants as event
 use Rattle.gypsy_space.specs.Needs.{StackSizes, with_call, call_spend}
 use Rattle.gypsy_semantics.specs.Calls.{CurrentCondition, has_cond, copied_out}
 use Rattle.gypsy_semantics.specs.Counted.{CountedDone, counted_evaluate, counted_meaning}
@@ -31,19 +32,19 @@ call_count q p = (call_spend q p start_tally).count
 
 -- from the end of the body, by its condition: a formal one, spaceerror, or another
 abbrev pub return_count : Program → ℕ → CurrentCondition → ℕ
-return_count q p None = 12
-return_count q p (Some Leave) = 17
-return_count q p (Some Routine) = 17
-return_count q p (Some Space) = 14
-return_count q p (Some (Declared i)) = if nat_lt i (proc_at q p).conds then 14 else 17
+return_count q p None = count_of event.EndProc
+return_count q p (Some Leave) = (raised_price false).0
+return_count q p (Some Routine) = (raised_price false).0
+return_count q p (Some Space) = (raised_price true).0
+return_count q p (Some (Declared i)) = (raised_price (nat_lt i (proc_at q p).conds)).0
 
 -- from the end of main's body
 abbrev pub end_count : Program → CurrentCondition → ℕ
-end_count q None = 5
-end_count q (Some Leave) = 7
-end_count q (Some Routine) = 7
-end_count q (Some Space) = 4
-end_count q (Some (Declared i)) = if nat_lt i (proc_at q q.main).conds then 4 else 7
+end_count q None = count_of event.EndMain
+end_count q (Some Leave) = count_of (leaving false)
+end_count q (Some Routine) = count_of (leaving false)
+end_count q (Some Space) = count_of (leaving true)
+end_count q (Some (Declared i)) = count_of (leaving (nat_lt i (proc_at q q.main).conds))
 
 -- of a predefined procedure, by its outcome
 abbrev pub predef_count : Predef → Effect → ℕ
@@ -79,13 +80,13 @@ JoinedAfter j Q y c n = Q y c (n + joined c j)
 
 -- after the body of a handler
 abbrev pub HandledAfter : List ConditionOf → CountedCondition → CountedExit → CountedExit
-HandledAfter cs Arm Q y None n = Q y None (n + 2)
-HandledAfter cs Arm Q y (Some c) n = Either (has_cond c cs) (Arm y (n + 3)) (Q y (Some c) n)
+HandledAfter cs Arm Q y None n = Q y None (n + count_of event.GuardNormal)
+HandledAfter cs Arm Q y (Some c) n = Either (has_cond c cs) (Arm y (n + count_of event.Caught)) (Q y (Some c) n)
 
 -- after a round of a loop
 abbrev pub RoundAfter : CountedCondition → CountedExit → CountedExit
-RoundAfter Next Q y None n = Next y (n + 1)
-RoundAfter Next Q y (Some Leave) n = Q y None (n + 3)
+RoundAfter Next Q y None n = Next y (n + count_of event.LoopBack)
+RoundAfter Next Q y (Some Leave) n = Q y None (n + count_of event.Caught)
 RoundAfter Next Q y (Some Routine) n = Q y (Some Routine) n
 RoundAfter Next Q y (Some Space) n = Q y (Some Space) n
 RoundAfter Next Q y (Some (Declared i)) n = Q y (Some (Declared i)) n

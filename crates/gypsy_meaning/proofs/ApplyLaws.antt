@@ -5,9 +5,8 @@ use Rattle.gypsy_syntax.specs.declared.predef.Predef.{Predef}
 use Rattle.gypsy_syntax.specs.declared.predef.Predef.TheVariants as row
 use Rattle.gypsy_syntax.specs.Programs.{Arg, Lit, Routine}
 use Rattle.gypsy_syntax.specs.Effects.{Effect, Normal}
-use Rattle.gypsy_space.specs.Costs.{Tally, spend, predef_spend}
+use Rattle.gypsy_space.specs.Costs.{Tally, effect_of, spend, pay, predef_spend}
 use Rattle.gypsy_syntax.specs.Predefined.{predef_cost, effect_by, predef_effect}
-use Rattle.gypsy_space.specs.Events.{event_spend, effect_of}
 use Rattle.gypsy_space.specs.declared.event.CostEvent.{CostEvent}
 use Rattle.gypsy_space.specs.declared.event.CostEvent.TheVariants as event
 use Rattle.gypsy_space.specs.declared.event.Outcome.{Outcome}
@@ -42,7 +41,6 @@ normal_cost row.MgSimpleVariableAssignment v = refl
 normal_cost r v = refl
 
 normal_spend : (r : Predef) (v : ValueOf) (t : Tally) → predef_spend r (Normal v) t ≡ predef_spend r (Normal no_value) t
-unfolding predef_spend
 normal_spend r v t = ap (λ c. spend c.0 c.1 t) (normal_cost r v)
 
 -- a predefined call that writes
@@ -58,8 +56,8 @@ writes_law call x w u e i v a is eff at ev free wk =
           ap (λ z. Next (At p (slice_set x (target_of args) v) (settle w) fs z)) (normal_spend r v t) ∙
           ap (λ j. Next (At p (slice_set x j v) (settle w) fs (predef_spend r (Normal no_value) t))) (sym at) ∙
           ap (λ l. Next (At p (slice_set x i v) l fs (predef_spend r (Normal no_value) t))) (sym wk) ∙
-          ap (λ n. Next (At p (slice_set x i v) (u) fs (caught_spend false (event_spend q n t)))) (sym ev) ∙
-          ap (λ b. Next (At p (slice_set x i v) (u) fs (caught_spend b (event_spend q a.event t)))) (sym free),
+          ap (λ n. Next (At p (slice_set x i v) (u) fs (caught_spend false (pay n t)))) (sym ev) ∙
+          ap (λ b. Next (At p (slice_set x i v) (u) fs (caught_spend b (pay a.event t)))) (sym free),
     )
 
 abbrev pub IsFailure : Outcome → Type 0

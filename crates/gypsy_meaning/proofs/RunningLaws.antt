@@ -3,10 +3,10 @@ use Rattle.std.proofs.Common.{◌≡◌, ℕ, ◌+◌, List, length, map, slice_
 use Rattle.std.proofs.lemmas.List.{length-set}
 use Rattle.stack_text.specs.Values.{ValueOf}
 use Rattle.gypsy_syntax.specs.Programs.{Program}
-use Rattle.gypsy_space.specs.Costs.{Tally, spend, start_tally, predef_spend}
+use Rattle.gypsy_space.specs.Costs.{Tally, spend, start_tally, pay}
 use Rattle.gypsy_space.specs.Needs.{StackSizes}
 use Rattle.gypsy_space.specs.Nodes.{seen_program}
-use Rattle.gypsy_space.specs.Events.{event_count, event_spend, predef_count}
+use Rattle.gypsy_space.specs.Events.{event_count}
 use Rattle.gypsy_space.specs.declared.event.CostEvent.{CostEvent}
 use Rattle.gypsy_space.specs.declared.event.CostEvent.TheVariants as event
 use Rattle.gypsy_space.specs.declared.need.Need.{Need}
@@ -27,27 +27,11 @@ unfolding price spend
 caught_is true ns e t u h = omega (arith, h)
 caught_is false ns e t u h = h
 
-pub plain_table : (q : Program) (ns : List Need) (e : CostEvent) → IsPlain e → (t : Tally) → (event_spend q e t).count ≡ t.count + event_count ns e
-unfolding spend event_count predef_spend predef_count
-plain_table q ns event.NoOp p t = refl
-plain_table q ns event.Signal p t = refl
-plain_table q ns event.Caught p t = refl
-plain_table q ns event.LoopRound p t = refl
-plain_table q ns event.LoopBack p t = refl
-plain_table q ns event.IfTrue p t = refl
-plain_table q ns event.IfFalse p t = refl
-plain_table q ns event.JoinThen p t = refl
-plain_table q ns event.JoinOne p t = refl
-plain_table q ns event.GuardNormal p t = refl
-plain_table q ns event.LackTemporary p t = refl
-plain_table q ns event.LackControl p t = refl
-plain_table q ns (event.Call callee) p t = absurd p
-plain_table q ns event.EndMain p t = refl
-plain_table q ns event.EndProc p t = refl
-plain_table q ns event.OutFormal p t = refl
-plain_table q ns event.OutOther p t = refl
-plain_table q ns event.ReturnRaised p t = refl
-plain_table q ns (event.Predef which outcome) p t = refl
+pub plain_table : (ns : List Need) (e : CostEvent) → IsPlain e → (t : Tally) → (pay e t).count ≡ t.count + event_count ns e
+unfolding spend event_count
+plain_table ns event.NoOp p t = refl
+plain_table ns (event.Call callee) p t = absurd p
+plain_table ns e p t = refl
 
 -- what is lent stays lent
 still_lent : (p : ℕ) (x : List ValueOf) (w : List Item) (fs : List Frame) (t : Tally) → bare (At p x w (handed_back x fs) t) ≡ At p x w (handed_back x fs) start_tally
@@ -55,10 +39,10 @@ still_lent p x w fs t = ap (λ (gs : List Frame). At p x w gs start_tally) (back
 
 -- a step that changes the work alone
 advance_goes : (q : Program) (sizes : StackSizes) (ns : List Need) (a : Advance) (w : List Kept) (m : Meaning) → IsPlain a.event →
-    gypsy_step q sizes (state_of m) ≡ Next (At m.procedure (map (λ v. v.1) m.variables.items) (work_of w) (frames_in m) (caught_spend a.caught (event_spend q a.event start_tally))) → Goes q sizes m (advanced ns a w m)
+    gypsy_step q sizes (state_of m) ≡ Next (At m.procedure (map (λ v. v.1) m.variables.items) (work_of w) (frames_in m) (caught_spend a.caught (pay a.event start_tally))) → Goes q sizes m (advanced ns a w m)
 advance_goes q sizes ns a w m plain step =
-    let u = event_spend q a.event start_tally in
-    let paid : (caught_spend a.caught u).count ≡ 0 + price ns a.event a.caught = caught_is a.caught ns a.event start_tally u (plain_table q ns a.event plain start_tally) in
+    let u = pay a.event start_tally in
+    let paid : (caught_spend a.caught u).count ≡ 0 + price ns a.event a.caught = caught_is a.caught ns a.event start_tally u (plain_table ns a.event plain start_tally) in
     let cost : price ns a.event a.caught ≡ (caught_spend a.caught u).count = omega (arith, paid) in
     let x : List ValueOf = map (λ v. v.1) m.variables.items in
     let spent : Tally = caught_spend a.caught u in (
@@ -69,7 +53,7 @@ advance_goes q sizes ns a w m plain step =
     )
 
 pub step_moves : (ns : List Need) (a : Advance) (w : List Kept) (m : Meaning) → IsPlain a.event →
-    gypsy_step (seen_program m.program) (sizes_of m) (state_of m) ≡ Next (At m.procedure (map (λ v. v.1) m.variables.items) (work_of w) (frames_in m) (caught_spend a.caught (event_spend (seen_program m.program) a.event start_tally))) →
+    gypsy_step (seen_program m.program) (sizes_of m) (state_of m) ≡ Next (At m.procedure (map (λ v. v.1) m.variables.items) (work_of w) (frames_in m) (caught_spend a.caught (pay a.event start_tally))) →
     Moves m (advanced ns a w m)
 step_moves ns a w m plain step = record {
   goes = advance_goes (seen_program m.program) (sizes_of m) ns a w m plain step;
@@ -85,8 +69,8 @@ advance_moves ns a w m goes = step_moves ns a w m goes.0 (goes.1 (seen_program m
 pub write_moves : (ns : List Need) (i : ℕ) (v : ValueOf) (a : Advance) (w : List Kept) (m n : Meaning) → WritesOn (map (λ z. z.1) m.variables.items) (work_of m.work) (work_of w) i v a → map (λ w. w.1) n.variables.items ≡ slice_set (map (λ w. w.1) m.variables.items) i v → map (λ w. w.0) n.variables.items ≡ map (λ w. w.0) m.variables.items → Moves m (advanced ns a w (record m { variables = n.variables }))
 write_moves ns i v a w m n goes wrote named =
     let q = seen_program m.program in
-    let u = event_spend q a.event start_tally in
-    let paid : (caught_spend a.caught u).count ≡ 0 + price ns a.event a.caught = caught_is a.caught ns a.event start_tally u (plain_table q ns a.event goes.0 start_tally) in
+    let u = pay a.event start_tally in
+    let paid : (caught_spend a.caught u).count ≡ 0 + price ns a.event a.caught = caught_is a.caught ns a.event start_tally u (plain_table ns a.event goes.0 start_tally) in
     let cost : price ns a.event a.caught ≡ (caught_spend a.caught u).count = omega (arith, paid) in
     let spent : Tally = caught_spend a.caught u in
     let x : List ValueOf = map (λ w. w.1) m.variables.items in

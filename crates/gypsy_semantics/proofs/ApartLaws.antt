@@ -33,7 +33,6 @@ unfolding spend
 spend_apart i p t u = λ j. record { count = add_assoc t.count u.count i j; steps = add_assoc t.steps u.steps p j }
 
 predef_apart : (r : Predef) (e : Effect) (t u : Tally) → predef_spend r e (plus t u) ≡ plus t (predef_spend r e u)
-unfolding predef_spend
 predef_apart r e t u = spend_apart (predef_cost r e).0 (predef_cost r e).1 t u
 
 out_apart : (b : Bool) (t u : Tally) → out_spend b (plus t u) ≡ plus t (out_spend b u)

@@ -6,8 +6,9 @@ use Rattle.gypsy_syntax.specs.Programs.{ConditionOf, Routine, Space, Arg, Progra
 use Rattle.gypsy_syntax.specs.Programs.{Stmt, Skip, NoOp, Signal, Seq, Loop, If, Begin, Call, Apply}
 use Rattle.gypsy_syntax.specs.Predefined.{predef_effect}
 use Rattle.gypsy_syntax.specs.Effects.{Effect, Normal, Fault, Beyond, value_at, is_true_value}
-use Rattle.gypsy_space.specs.Costs.{Tally, spend, start_tally, predef_spend, out_spend, main_spend}
+use Rattle.gypsy_space.specs.Costs.{Tally, start_tally, pay, predef_spend, out_spend, main_spend}
 use Rattle.gypsy_space.specs.Needs.{StackSizes, main_used, with_call, lack_of, call_spend}
+use Rattle.gypsy_space.specs.declared.event.CostEvent.TheVariants as event
 use Rattle.gypsy_space.specs.declared.need.Lack.{Lack}
 use Rattle.gypsy_space.specs.declared.need.Lack.TheVariants.{Nothing, Temporary, Control}
 use Rattle.gypsy_semantics.specs.Calls.{CurrentCondition, has_cond, is_leave, is_passed_on, matching}
@@ -32,9 +33,9 @@ counted_then CountedUnfinished go = CountedUnfinished
 
 -- a part that a join follows
 abbrev pub counted_part : CountedOutcome → (Tally → Tally) → CountedOutcome
-counted_part (CountedDone x None t) pay = CountedDone x None (pay t)
-counted_part (CountedDone x (Some c) t) pay = CountedDone x (Some c) t
-counted_part CountedUnfinished pay = CountedUnfinished
+counted_part (CountedDone x None t) join = CountedDone x None (join t)
+counted_part (CountedDone x (Some c) t) join = CountedDone x (Some c) t
+counted_part CountedUnfinished join = CountedUnfinished
 
 abbrev pub counted_either : Bool → CountedOutcome → CountedOutcome → CountedOutcome
 counted_either true a b = a
@@ -42,16 +43,16 @@ counted_either false a b = b
 
 -- where the body's condition is in the list, the arm
 abbrev pub counted_caught : CountedOutcome → List ConditionOf → (List ValueOf → Tally → CountedOutcome) → CountedOutcome
-counted_caught (CountedDone x None t) cs arm = CountedDone x None (spend 2 2 t)
+counted_caught (CountedDone x None t) cs arm = CountedDone x None (pay event.GuardNormal t)
 counted_caught (CountedDone x (Some c) t) cs arm =
-    counted_either (has_cond c cs) (counted_part (arm x (spend 3 2 t)) (spend 1 1)) (CountedDone x (Some c) t)
+    counted_either (has_cond c cs) (counted_part (arm x (pay event.Caught t)) (pay event.JoinOne)) (CountedDone x (Some c) t)
 counted_caught CountedUnfinished cs arm = CountedUnfinished
 
 -- a round's end
 abbrev pub counted_round_end : CountedOutcome → (List ValueOf → Tally → CountedOutcome) → CountedOutcome
-counted_round_end (CountedDone x None t) again = again x (spend 1 1 t)
+counted_round_end (CountedDone x None t) again = again x (pay event.LoopBack t)
 counted_round_end (CountedDone x (Some c) t) again =
-    counted_either (is_leave c) (CountedDone x None (spend 3 2 t)) (CountedDone x (Some c) t)
+    counted_either (is_leave c) (CountedDone x None (pay event.Caught t)) (CountedDone x (Some c) t)
 counted_round_end CountedUnfinished again = CountedUnfinished
 
 -- a predefined call
@@ -62,7 +63,7 @@ counted_applied r args Beyond x t = CountedDone x (Some Routine) (predef_spend r
 
 -- a call's end
 abbrev pub counted_returned : Program → ℕ → List ℕ → List ConditionOf → List ValueOf → CountedOutcome → CountedOutcome
-counted_returned q p xs cs x (CountedDone y None t) = CountedDone (copied_out xs y x) None (spend 12 6 t)
+counted_returned q p xs cs x (CountedDone y None t) = CountedDone (copied_out xs y x) None (pay event.EndProc t)
 counted_returned q p xs cs x (CountedDone y (Some c) t) =
     CountedDone (copied_out xs y x) (Some (matching q p cs c)) (out_spend (is_passed_on q p c) t)
 counted_returned q p xs cs x CountedUnfinished = CountedUnfinished
@@ -70,24 +71,24 @@ counted_returned q p xs cs x CountedUnfinished = CountedUnfinished
 -- a call without room, by what it lacks
 abbrev pub counted_if_room : Lack → List ValueOf → Tally → CountedOutcome → CountedOutcome
 counted_if_room Nothing x t o = o
-counted_if_room Temporary x t o = CountedDone x (Some Space) (spend 15 7 t)
-counted_if_room Control x t o = CountedDone x (Some Space) (spend 26 11 t)
+counted_if_room Temporary x t o = CountedDone x (Some Space) (pay event.LackTemporary t)
+counted_if_room Control x t o = CountedDone x (Some Space) (pay event.LackControl t)
 
 -- at a bound, which falls at each further round of a loop and at each call
 abbrev pub counted_evaluate : Program → StackSizes → ℕ → CountedMeans
 counted_evaluate q sizes zero s u x t = CountedUnfinished
 counted_evaluate q sizes (suc n) Skip u x t = CountedDone x None t
-counted_evaluate q sizes (suc n) (NoOp place) u x t = CountedDone x None (spend 1 1 t)
-counted_evaluate q sizes (suc n) (Signal place c) u x t = CountedDone x (Some c) (spend 4 3 t)
+counted_evaluate q sizes (suc n) (NoOp place) u x t = CountedDone x None (pay event.NoOp t)
+counted_evaluate q sizes (suc n) (Signal place c) u x t = CountedDone x (Some c) (pay event.Signal t)
 counted_evaluate q sizes (suc n) (Seq a b) u x t =
     counted_then (counted_evaluate q sizes (suc n) a u x t) (counted_evaluate q sizes (suc n) b u)
 counted_evaluate q sizes (suc n) (Loop place s) u x t =
-    counted_round_end (counted_evaluate q sizes (suc n) s u x (spend 1 1 t)) (counted_evaluate q sizes n (Loop place s) u)
+    counted_round_end (counted_evaluate q sizes (suc n) s u x (pay event.LoopRound t)) (counted_evaluate q sizes n (Loop place s) u)
 counted_evaluate q sizes (suc n) (If place b s w) u x t =
     counted_either
     (is_true_value (value_at x b))
-    (counted_part (counted_evaluate q sizes (suc n) s u x (spend 8 3 t)) (spend 2 2))
-    (counted_part (counted_evaluate q sizes (suc n) w u x (spend 9 4 t)) (spend 1 1))
+    (counted_part (counted_evaluate q sizes (suc n) s u x (pay event.IfTrue t)) (pay event.JoinThen))
+    (counted_part (counted_evaluate q sizes (suc n) w u x (pay event.IfFalse t)) (pay event.JoinOne))
 counted_evaluate q sizes (suc n) (Begin place s cs w) u x t =
     counted_caught (counted_evaluate q sizes (suc n) s u x t) cs (counted_evaluate q sizes (suc n) w u)
 counted_evaluate q sizes (suc n) (Call place p xs cs) u x t =
@@ -100,7 +101,7 @@ counted_evaluate q sizes (suc n) (Apply place r args) u x t = counted_applied r 
 
 -- main's body, from its end on
 abbrev pub counted_main_end : Program → CountedOutcome → CountedOutcome
-counted_main_end q (CountedDone x None t) = CountedDone (main_formals q x) None (spend 5 2 t)
+counted_main_end q (CountedDone x None t) = CountedDone (main_formals q x) None (pay event.EndMain t)
 counted_main_end q (CountedDone x (Some c) t) =
     CountedDone (main_formals q x) (Some (main_way q c)) (main_spend (is_passed_on q q.main c) t)
 counted_main_end q CountedUnfinished = CountedUnfinished

@@ -6,8 +6,9 @@ use Rattle.gypsy_syntax.specs.Programs.{ConditionOf, Routine, Space, Arg, Progra
 use Rattle.gypsy_syntax.specs.Programs.{Stmt, Skip, NoOp, Signal, Seq, Loop, If, Begin, Call, Apply}
 use Rattle.gypsy_syntax.specs.Predefined.{predef_effect}
 use Rattle.gypsy_syntax.specs.Effects.{Effect, Normal, Fault, Beyond, value_at, is_true_value}
-use Rattle.gypsy_space.specs.Costs.{Tally, spend, start_tally, predef_spend, out_spend, main_spend}
+use Rattle.gypsy_space.specs.Costs.{Tally, start_tally, pay, predef_spend, out_spend, main_spend}
 use Rattle.gypsy_space.specs.Needs.{StackSizes, main_used, with_call, lack_of, call_spend}
+use Rattle.gypsy_space.specs.declared.event.CostEvent.TheVariants as event
 use Rattle.gypsy_space.specs.declared.need.Lack.{Lack}
 use Rattle.gypsy_space.specs.declared.need.Lack.TheVariants.{Nothing, Temporary, Control}
 use Rattle.gypsy_semantics.specs.Calls.{CurrentCondition, has_cond, is_leave, is_passed_on, matching}
@@ -68,11 +69,11 @@ stop_if false a b = b
 abbrev pub raise : ConditionOf → ℕ → List ValueOf → List Item → List Frame → Tally → State
 raise c p x [] fs t = At p x (Out c ∷ []) fs t
 raise c p x (Do s ∷ w) fs t = raise c p x w fs t
-raise c p x (Back place s ∷ w) fs t = stop_if (is_leave c) (At p x (settle w) fs (spend 3 2 t)) (raise c p x w fs t)
+raise c p x (Back place s ∷ w) fs t = stop_if (is_leave c) (At p x (settle w) fs (pay event.Caught t)) (raise c p x w fs t)
 raise c p x (JoinThen place v ∷ w) fs t = raise c p x w fs t
 raise c p x (JoinOne place ∷ w) fs t = raise c p x w fs t
 raise c p x (Guard place cs v ∷ w) fs t =
-    stop_if (has_cond c cs) (At p x (open_on v (JoinOne place ∷ w)) fs (spend 3 2 t)) (raise c p x w fs t)
+    stop_if (has_cond c cs) (At p x (open_on v (JoinOne place ∷ w)) fs (pay event.Caught t)) (raise c p x w fs t)
 raise c p x (Out d ∷ w) fs t = raise c p x w fs t
 
 abbrev pub either_move : Bool → Move → Move → Move
@@ -95,28 +96,28 @@ used q p (Held c x w xs cs ∷ fs) = with_call q p (used q c fs)
 abbrev pub call_step : Program → Lack → ℕ → List ℕ → List ConditionOf → ℕ → List ValueOf → List Item → List Frame → Tally → Move
 call_step q Nothing c xs cs p x w fs t =
     Next (At c (copied_in q c xs x) (open_on (body_of q c) []) (Held p x w xs cs ∷ fs) (call_spend q c t))
-call_step q Temporary c xs cs p x w fs t = Next (raise Space p x w fs (spend 15 7 t))
-call_step q Control c xs cs p x w fs t = Next (raise Space p x w fs (spend 26 11 t))
+call_step q Temporary c xs cs p x w fs t = Next (raise Space p x w fs (pay event.LackTemporary t))
+call_step q Control c xs cs p x w fs t = Next (raise Space p x w fs (pay event.LackControl t))
 
 abbrev pub do_step : Program → StackSizes → Stmt → ℕ → List ValueOf → List Item → List Frame → Tally → Move
 do_step q sizes Skip p x w fs t = Next (At p x (settle w) fs t)
-do_step q sizes (NoOp place) p x w fs t = Next (At p x (settle w) fs (spend 1 1 t))
-do_step q sizes (Signal place c) p x w fs t = Next (raise c p x w fs (spend 4 3 t))
+do_step q sizes (NoOp place) p x w fs t = Next (At p x (settle w) fs (pay event.NoOp t))
+do_step q sizes (Signal place c) p x w fs t = Next (raise c p x w fs (pay event.Signal t))
 do_step q sizes (Seq a b) p x w fs t = Next (At p x (open_on (Seq a b) w) fs t)
-do_step q sizes (Loop place s) p x w fs t = Next (At p x (open_on s (Back place s ∷ w)) fs (spend 1 1 t))
+do_step q sizes (Loop place s) p x w fs t = Next (At p x (open_on s (Back place s ∷ w)) fs (pay event.LoopRound t))
 do_step q sizes (If place b s v) p x w fs t =
     either_move
     (is_true_value (value_at x b))
-    (Next (At p x (open_on s (JoinThen place v ∷ w)) fs (spend 8 3 t)))
-    (Next (At p x (open_on v (JoinOne place ∷ w)) fs (spend 9 4 t)))
+    (Next (At p x (open_on s (JoinThen place v ∷ w)) fs (pay event.IfTrue t)))
+    (Next (At p x (open_on v (JoinOne place ∷ w)) fs (pay event.IfFalse t)))
 do_step q sizes (Begin place s cs v) p x w fs t = Next (At p x (open_on (Begin place s cs v) w) fs t)
 do_step q sizes (Call place c xs cs) p x w fs t = call_step q (lack_of q sizes c (used q p fs)) c xs cs p x w fs t
 do_step q sizes (Apply place r args) p x w fs t = apply_step r args (predef_effect r (values_of x args)) p x w fs t
 
 -- the item end
 abbrev pub end_step : Program → ℕ → List ValueOf → List Frame → Tally → Move
-end_step q p x [] t = Ended (main_formals q x) None (spend 5 2 t)
-end_step q p y (Held c x w xs cs ∷ fs) t = Next (At c (copied_out xs y x) (settle w) fs (spend 12 6 t))
+end_step q p x [] t = Ended (main_formals q x) None (pay event.EndMain t)
+end_step q p y (Held c x w xs cs ∷ fs) t = Next (At c (copied_out xs y x) (settle w) fs (pay event.EndProc t))
 
 -- the item out
 abbrev pub out_step : Program → ConditionOf → ℕ → List ValueOf → List Frame → Tally → Move
@@ -127,10 +128,10 @@ out_step q d p y (Held c x w xs cs ∷ fs) t =
 abbrev pub gypsy_step : Program → StackSizes → State → Move
 gypsy_step q sizes (At p x [] fs t) = end_step q p x fs t
 gypsy_step q sizes (At p x (Do s ∷ w) fs t) = do_step q sizes s p x w fs t
-gypsy_step q sizes (At p x (Back place s ∷ w) fs t) = Next (At p x (open_on (Loop place s) w) fs (spend 1 1 t))
-gypsy_step q sizes (At p x (JoinThen place v ∷ w) fs t) = Next (At p x (settle w) fs (spend 2 2 t))
-gypsy_step q sizes (At p x (JoinOne place ∷ w) fs t) = Next (At p x (settle w) fs (spend 1 1 t))
-gypsy_step q sizes (At p x (Guard place cs v ∷ w) fs t) = Next (At p x (settle w) fs (spend 2 2 t))
+gypsy_step q sizes (At p x (Back place s ∷ w) fs t) = Next (At p x (open_on (Loop place s) w) fs (pay event.LoopBack t))
+gypsy_step q sizes (At p x (JoinThen place v ∷ w) fs t) = Next (At p x (settle w) fs (pay event.JoinThen t))
+gypsy_step q sizes (At p x (JoinOne place ∷ w) fs t) = Next (At p x (settle w) fs (pay event.JoinOne t))
+gypsy_step q sizes (At p x (Guard place cs v ∷ w) fs t) = Next (At p x (settle w) fs (pay event.GuardNormal t))
 gypsy_step q sizes (At p x (Out c ∷ w) fs t) = out_step q c p x fs t
 
 pub data Ending : Type 0 where

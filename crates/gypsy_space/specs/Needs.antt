@@ -4,7 +4,8 @@ use Rattle.gypsy_syntax.specs.declared.predef.Predef.{Predef}
 use Rattle.gypsy_syntax.specs.Predefined.{predef_temp, predef_ctrl, predef_words}
 use Rattle.gypsy_syntax.specs.Programs.{Arg, Var, Lit, Proc, Program, proc_at, shapes_of, words_of}
 use Rattle.gypsy_syntax.specs.Programs.{Stmt, Skip, NoOp, Signal, Seq, Loop, If, Begin, Call, Apply}
-use Rattle.gypsy_space.specs.Costs.{Tally, spend}
+use Rattle.gypsy_space.specs.Costs.{Tally, spend, count_of, steps_of, variables_price}
+use Rattle.gypsy_space.specs.declared.event.CostEvent.TheVariants as event
 use Rattle.gypsy_space.specs.declared.need.Lack.{Lack}
 use Rattle.gypsy_space.specs.declared.need.Lack.TheVariants.{Nothing, Temporary, Control}
 
@@ -107,10 +108,8 @@ unfoldable pub call_spend : Program → ℕ → Tally → Tally
 unfolding spend
 call_spend q p t =
     let c = proc_at q p in
-    let l = local_words c in
-    let m = length c.locals in
-    let k = length c.formals in
-    spend (22 + l + 3 * m + 3 * k + 4 + (m + k)) (l + m + k + 9) t
+    let more = variables_price (local_words c) (vars_of c) in
+    spend (count_of (event.Call p) + more.0) (steps_of (event.Call p) + more.1) t
 
 -- Words of code.
 

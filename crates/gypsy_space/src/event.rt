@@ -1,7 +1,8 @@
 //! What costs instructions.
 
 ghost use Rattle.std.specs.Prelude.{◌≡◌, ◌≤◌};
-ghost use Rattle.gypsy_space.specs.Events.{predef_count};
+ghost use Rattle.gypsy_space.specs.Costs.{count_of};
+ghost use Rattle.gypsy_space.specs.declared.event.CostEvent.TheVariants as event;
 
 use gypsy_syntax::Predef;
 
@@ -60,9 +61,8 @@ pub enum CostEvent {
 }
 
 /// The instructions of a predefined call.
-#[tactic(auto, unfolding(crate::specs::Events::predef_count))]
 pub fn predef_count(which: Predef, outcome: Outcome) -> u64
-    ensures count { result ≡ predef_count which outcome }
+    ensures count { result ≡ count_of (event.Predef which outcome) }
     ensures bounded { result ≤ 2599 }
 {
     let row = which.row();

@@ -3,8 +3,8 @@
 ghost use Rattle.std.specs.Prelude.{◌≡◌, ℕ, ◌+◌, ◌<◌, List, length};
 ghost use Rattle.gypsy_syntax.specs.Programs.{Program};
 ghost use Rattle.gypsy_space.specs.Costs.{Tally};
-ghost use Rattle.gypsy_space.specs.Needs.{StackSizes, has_room, is_nothing, lack_of};
-ghost use Rattle.gypsy_space.specs.Events.{AreNeeds, need_of, has_room_by, lack_by, event_count, event_spend};
+ghost use Rattle.gypsy_space.specs.Needs.{StackSizes, call_spend, has_room, is_nothing, lack_of};
+ghost use Rattle.gypsy_space.specs.Events.{AreNeeds, need_of, has_room_by, lack_by, event_count};
 ghost use Rattle.gypsy_space.specs.declared.need.Need.{Need};
 ghost use Rattle.gypsy_space.specs.declared.event.CostEvent.TheVariants as event;
 
@@ -22,5 +22,5 @@ pub fn room_is_room()
 /// What a call with room costs by the needs is what it spends.
 pub fn calls_cost()
     ensures { (q : Program) (ns : List Need) (c : ℕ) (t : Tally) → AreNeeds q ns → c < length q.procs →
-        (event_spend q (event.Call c) t).count ≡ t.count + event_count ns (event.Call c) }
+        (call_spend q c t).count ≡ t.count + event_count ns (event.Call c) }
 {}

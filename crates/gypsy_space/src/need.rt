@@ -127,7 +127,7 @@ impl Needs {
             CostEvent::LackControl => 26,
             CostEvent::Call { callee } => {
                 let need = self.need_of(callee);
-                22 + need.locals_words + 4 * need.vars + 4
+                26 + (need.locals_words + 4 * need.vars)
             }
             CostEvent::Predef { which, outcome } => predef_count(which, outcome),
         }

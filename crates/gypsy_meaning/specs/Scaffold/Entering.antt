@@ -8,8 +8,7 @@ use Rattle.stack_text.specs.declared.value.Value.{Value}
 use Rattle.gypsy_syntax.specs.Effects.{value_at}
 use Rattle.gypsy_syntax.specs.ProgramFits.{Distinct, Each}
 use Rattle.gypsy_syntax.specs.Programs.{Call, Space}
-use Rattle.gypsy_space.specs.Costs.{start_tally}
-use Rattle.gypsy_space.specs.Events.{event_spend}
+use Rattle.gypsy_space.specs.Costs.{start_tally, pay}
 use Rattle.gypsy_space.specs.Nodes.{seen_cond, seen_program}
 use Rattle.gypsy_space.specs.declared.event.CostEvent.{CostEvent}
 use Rattle.gypsy_space.specs.declared.need.Need.{Need}
@@ -32,7 +31,7 @@ RaisesSpace m e =
     (i : Item) × (w : List Item) × (work_of m.work ≡ i ∷ w) ×
     (gypsy_step (seen_program m.program) (sizes_of m) (state_of m) ≡
     Next (raise Space m.procedure (map (λ v. v.1) m.variables.items) w (frames_in m)
-    (event_spend (seen_program m.program) e start_tally)))
+    (pay e start_tally)))
 
 -- all that is seen is as it was
 pub record IsUnchanged (m n : Meaning) : Type 0 where

@@ -1,6 +1,7 @@
 -- The step that ends a run, as the code has it.
-use Rattle.std.specs.Prelude.{◌≡◌, ℕ, map, length, take, Bool, true, false, Some}
+use Rattle.std.specs.Prelude.{◌≡◌, ℕ, map, length, take, Bool, Some}
 use Rattle.gypsy_syntax.specs.Programs.{proc_at}
+use Rattle.gypsy_space.specs.Costs.{count_of, leaving}
 use Rattle.gypsy_space.specs.Nodes.{seen_program}
 use Rattle.gypsy_semantics.specs.Calls.{main_formals}
 use Rattle.gypsy_meaning.specs.Seen.Running.{paid}
@@ -9,8 +10,7 @@ use Rattle.gypsy_meaning.specs.declared.running.Meaning.{Meaning}
 
 -- of a condition that leaves main: a formal one or spaceerror, or another
 abbrev pub end_price : Bool → ℕ
-end_price true = 4
-end_price false = 7
+end_price passed = count_of (leaving passed)
 
 -- ended in this way and at this cost, with main's formals
 pub record IsFinished (ending : Ending) (cost : ℕ) (m n : Meaning) : Type 0 where

@@ -4,9 +4,8 @@ use Rattle.stack_text.specs.Values.{ValueOf}
 use Rattle.gypsy_syntax.specs.Programs.{Program, Apply}
 use Rattle.gypsy_space.specs.declared.program.Application.{Application}
 use Rattle.gypsy_space.specs.Nodes.{seen_arg}
-use Rattle.gypsy_space.specs.Costs.{Tally}
+use Rattle.gypsy_space.specs.Costs.{Tally, pay}
 use Rattle.gypsy_space.specs.Needs.{StackSizes}
-use Rattle.gypsy_space.specs.Events.{event_spend}
 use Rattle.gypsy_semantics.specs.Machine.{Item, Do, Frame, At, Next, gypsy_step}
 use Rattle.gypsy_meaning.specs.Seen.Work.{caught_spend}
 use Rattle.gypsy_meaning.specs.Scaffold.Turns.{IsPlain, GoesOn}
@@ -23,7 +22,7 @@ WritesOn x w v i value a =
     IsPlain a.event ×
     ((q : Program) (sizes : StackSizes) (p : ℕ) (fs : List Frame) (t : Tally) →
     gypsy_step q sizes (At p x w fs t) ≡
-    Next (At p (slice_set x i value) v fs (caught_spend a.caught (event_spend q a.event t))))
+    Next (At p (slice_set x i value) v fs (caught_spend a.caught (pay a.event t))))
 
 abbrev pub IsApplied : List ValueOf → Application → List Item → List Item → Applied → Type 0
 IsApplied x call w v (Writes i value a) = WritesOn x (call_item call ∷ w) v i value a

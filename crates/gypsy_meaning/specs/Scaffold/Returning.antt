@@ -1,15 +1,15 @@
 -- The end of a procedure for which another waits, as the code has it.
-use Rattle.std.specs.Prelude.{◌≡◌, ℕ, map, Bool, true, false}
+use Rattle.std.specs.Prelude.{◌≡◌, ℕ, ◌+◌, map, Bool, true, false}
+use Rattle.gypsy_space.specs.Costs.{count_of, raised_price}
+use Rattle.gypsy_space.specs.declared.event.CostEvent.TheVariants as event
 use Rattle.gypsy_semantics.specs.Calls.{copied_out}
 use Rattle.gypsy_meaning.specs.declared.running.Frame.{Frame}
 use Rattle.gypsy_meaning.specs.declared.running.Meaning.{Meaning}
 
 -- what a condition costs that leaves a procedure: a formal one or spaceerror, or another, and where it was caught or not
 abbrev pub out_price : Bool → Bool → ℕ
-out_price true true = 17
-out_price true false = 14
-out_price false true = 20
-out_price false false = 17
+out_price passed true = (raised_price passed).0 + count_of event.Caught
+out_price passed false = (raised_price passed).0
 
 -- the activation goes on, with the callee's formals put back
 pub record Resumes (m n : Meaning) (f : Frame) : Type 0 where

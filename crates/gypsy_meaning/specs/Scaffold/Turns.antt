@@ -5,9 +5,8 @@ use Rattle.gypsy_syntax.specs.Programs.{ConditionOf, Program, Apply, Call, Routi
 use Rattle.gypsy_syntax.specs.declared.predef.Predef.{Predef}
 use Rattle.gypsy_space.specs.declared.event.Outcome.{Outcome}
 use Rattle.gypsy_space.specs.Nodes.{seen_cond, seen_arg}
-use Rattle.gypsy_space.specs.Costs.{Tally, predef_spend}
+use Rattle.gypsy_space.specs.Costs.{Tally, effect_of, pay, predef_spend}
 use Rattle.gypsy_space.specs.Needs.{StackSizes}
-use Rattle.gypsy_space.specs.Events.{event_spend, effect_of}
 use Rattle.gypsy_space.specs.declared.event.CostEvent.{CostEvent}
 use Rattle.gypsy_space.specs.declared.event.CostEvent.TheVariants as event
 use Rattle.gypsy_semantics.specs.Machine.{Item, Do, Frame, At, Next, gypsy_step}
@@ -30,7 +29,7 @@ abbrev pub GoesOn : List ValueOf → List Item → List Item → Advance → Typ
 GoesOn x w v a =
     IsPlain a.event ×
     ((q : Program) (sizes : StackSizes) (p : ℕ) (fs : List Frame) (t : Tally) →
-    gypsy_step q sizes (At p x w fs t) ≡ Next (At p x v fs (caught_spend a.caught (event_spend q a.event t))))
+    gypsy_step q sizes (At p x w fs t) ≡ Next (At p x v fs (caught_spend a.caught (pay a.event t))))
 
 -- and here at no cost
 abbrev pub OpensTo : List ValueOf → List Item → List Item → Type 0
@@ -42,7 +41,7 @@ abbrev pub Removes : Item → CostEvent → Type 0
 Removes i e =
     IsPlain e ×
     ((q : Program) (sizes : StackSizes) (p : ℕ) (x : List ValueOf) (w : List Item) (fs : List Frame) (t : Tally) →
-    gypsy_step q sizes (At p x (i ∷ w) fs t) ≡ Next (At p x (machine.settle w) fs (event_spend q e t)))
+    gypsy_step q sizes (At p x (i ∷ w) fs t) ≡ Next (At p x (machine.settle w) fs (pay e t)))
 
 -- a call, or a predefined call, is on top
 abbrev pub IsCall : CallSite → List Item → Type 0
@@ -76,4 +75,4 @@ RaisesOn which outcome w v a =
     IsPlain a.event ×
     ((q : Program) (p : ℕ) (x : List ValueOf) (fs : List Frame) (t : Tally) →
     machine.raise Routine p x w fs (predef_spend which (effect_of outcome) t) ≡
-    At p x v fs (caught_spend a.caught (event_spend q a.event t)))
+    At p x v fs (caught_spend a.caught (pay a.event t)))

@@ -6,10 +6,11 @@ use Rattle.std.specs.Prelude.{◌≡◌, ℕ, ◌+◌, List, map, reverse, Bool,
 use Rattle.stack_text.specs.Values.{ValueOf}
 use Rattle.gypsy_syntax.specs.Programs.{Program}
 use Rattle.gypsy_space.specs.Nodes.{seen_cond, seen_program}
-use Rattle.gypsy_space.specs.Costs.{start_tally}
+use Rattle.gypsy_space.specs.Costs.{start_tally, count_of}
 use Rattle.gypsy_space.specs.Needs.{StackSizes, stack_sizes}
 use Rattle.gypsy_space.specs.Events.{event_count}
 use Rattle.gypsy_space.specs.declared.event.CostEvent.{CostEvent}
+use Rattle.gypsy_space.specs.declared.event.CostEvent.TheVariants as event
 use Rattle.gypsy_space.specs.declared.need.Need.{Need}
 use Rattle.gypsy_semantics.specs.Calls.{CurrentCondition}
 use Rattle.gypsy_semantics.specs.Machine.{State, At, Held, Next, gypsy_step}
@@ -77,7 +78,7 @@ pub record Costs (cost : ℕ) (m n : Meaning) : Type 0 where
 
 -- of an event, and of a stop where there was one
 unfoldable pub price : List Need → CostEvent → Bool → ℕ
-price ns e true = event_count ns e + 3
+price ns e true = event_count ns e + count_of event.Caught
 price ns e false = event_count ns e
 
 -- after a step that changes the work alone

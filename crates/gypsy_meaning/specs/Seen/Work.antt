@@ -1,7 +1,8 @@
 -- What clauses see of work.
 use Rattle.std.specs.Prelude.{◌≡◌, ℕ, List, [], ◌∷◌, map, drop, take, Bool, true, false}
 use Rattle.gypsy_syntax.specs.Programs.{Stmt, Loop}
-use Rattle.gypsy_space.specs.Costs.{Tally, spend}
+use Rattle.gypsy_space.specs.Costs.{Tally, pay}
+use Rattle.gypsy_space.specs.declared.event.CostEvent.TheVariants as event
 use Rattle.gypsy_semantics.specs.Machine.{Item, opens}
 use Rattle.gypsy_semantics.specs.Machine as machine
 use Rattle.gypsy_space.specs.Nodes.{seen_cond, seen_statement, seen_statements}
@@ -37,5 +38,5 @@ OpensOn s ks ls false = ((w ws : List Item) → opens s w ws ≡ ws) × (ls ≡ 
 
 -- what a condition costs that is caught or not
 abbrev pub caught_spend : Bool → Tally → Tally
-caught_spend true t = spend 3 2 t
+caught_spend true t = pay event.Caught t
 caught_spend false t = t

@@ -1,7 +1,5 @@
 use Rattle.std.proofs.Common.{map, sym, subst, ap, ◌∙◌}
-use Rattle.gypsy_space.specs.Costs.{start_tally}
-use Rattle.gypsy_space.specs.Events.{event_spend}
-use Rattle.gypsy_space.specs.Nodes.{seen_program}
+use Rattle.gypsy_space.specs.Costs.{start_tally, pay}
 use Rattle.gypsy_meaning.specs.Seen.Held.{Moves}
 use Rattle.gypsy_semantics.specs.Machine.{Next}
 use Rattle.gypsy_meaning.specs.Seen.Running.{frames_in}
@@ -15,7 +13,7 @@ returns-clause-done c =
     let m = c.args.self.now in
     let top = c.requires.turn in
     let a : Advance = record { event = c.args.event; caught = c.in_ok-caught.caught } in
-    let spent = event_spend (seen_program m.program) c.args.event start_tally in
+    let spent = pay c.args.event start_tally in
     let P : Meaning → Type 0 = Moves m in
     subst P (sym c.advance.ensures)
     (step_moves c.args.needs.now.procedures.items a c.raise_below.new.self m c.requires.plain
