@@ -127,7 +127,8 @@ size q (Begin place s cs v) = size q s + size q v + 4
 size q (Call place c xs cs) = guard_size + (before_size q c xs + after_size cs)
 size q (Apply place r args) = length args + (lengths_of r + (test_size r + 1))
 
--- the code of a statement of procedure p, whose body has n instructions, at this place
+-- the code of a statement of procedure p, whose body has n instructions, in these scopes and at this place; jump is the place of the
+-- jump over the second statement of two
 module _ (q : Program) (p n : ℕ) where
   abbrev pub gen : List Scope → ℕ → Stmt → List Instruction
   gen env at Skip = []
@@ -136,11 +137,12 @@ module _ (q : Program) (p n : ℕ) where
   gen env at (Seq a b) = gen env at a ++ gen env (at + size q a) b
   gen env at (Loop place s) = i.NoOp ∷ (gen (InLoop (at + 1 + size q s + 1) ∷ env) (at + 1) s ++ back_code at)
   gen env at (If place b s v) =
-      i.PushLocal (offset q p b) ∷ i.FetchTempStk ∷ i.TestAndJump family.Bool test.F (at + 3 + size q s + 1) ∷
-      (gen env (at + 3) s ++ i.Jump (at + 3 + size q s + 2 + size q v) ∷ i.NoOp ∷ (gen env (at + 3 + size q s + 2) v ++ i.NoOp ∷ []))
+      let jump = at + 3 + size q s in
+      i.PushLocal (offset q p b) ∷ i.FetchTempStk ∷ i.TestAndJump family.Bool test.F (jump + 1) ∷
+      (gen env (at + 3) s ++ i.Jump (jump + 2 + size q v) ∷ i.NoOp ∷ (gen env (jump + 2) v ++ i.NoOp ∷ []))
   gen env at (Begin place s cs v) =
-      gen (InBegin cs (at + size q s + 1) ∷ env) at s ++
-      i.Jump (at + size q s + 3 + size q v) ∷ (normal_code ++ (gen env (at + size q s + 3) v ++ i.NoOp ∷ []))
+      let jump = at + size q s in
+      gen (InBegin cs (jump + 1) ∷ env) at s ++ i.Jump (jump + 3 + size q v) ∷ (normal_code ++ (gen env (jump + 3) v ++ i.NoOp ∷ []))
   gen env at (Call place c xs cs) =
       let l = local_words (proc_at q c) in
       let behind = at + guard_size + before_size q c xs in
