@@ -1,7 +1,7 @@
 //! Steps of predefined calls.
 
 ghost use Rattle.std.specs.Prelude.{◌≡◌, ◌∷◌, List, IfErr, IfOk, map};
-ghost use Rattle.gypsy_space.specs.Nodes.{seen_arg};
+ghost use Rattle.gypsy_space.specs.Nodes.{held_values, seen_arg};
 ghost use Rattle.gypsy_semantics.specs.Calls.{target_of};
 ghost use Rattle.gypsy_meaning.specs.Seen.Work.{work_of};
 ghost use Rattle.gypsy_meaning.specs.Scaffold.Turns.{RaisesOn};
@@ -60,9 +60,9 @@ pub fn application(
     call: &Application,
     work: &mut Work,
 ) -> Result<Applied, AllocError>
-    requires { Suits call.now.which (map (λ v. v.1) variables.now) call.now.args.items }
+    requires { Suits call.now.which (held_values variables.now) call.now.args.items }
     ensures done { IfOk result (λ applied. (w : List Item) → work_of work.old ≡ call_item call.now ∷ w →
-        IsApplied (map (λ v. v.1) variables.now) call.now w (work_of work.new) applied) }
+        IsApplied (held_values variables.now) call.now w (work_of work.new) applied) }
     ensures unchanged { IfErr result (λ e. work.new ≡ work.old) }
 {
     match apply(alloc, call.which, variables, call.args.as_slice())? {

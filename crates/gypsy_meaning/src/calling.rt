@@ -1,10 +1,10 @@
 //! What a step does where a procedure is called.
 
-ghost use Rattle.std.specs.Prelude.{◌≡◌, ◌<◌, ◌≤◌, ◌+◌, [], ◌∷◌, List, IfErr, IfOk, drop, length, map};
+ghost use Rattle.std.specs.Prelude.{◌≡◌, ◌<◌, ◌≤◌, ◌+◌, [], ◌∷◌, List, IfErr, IfOk, drop, length};
 ghost use Rattle.gypsy_syntax.specs.Programs.{body_of, proc_at};
 ghost use Rattle.gypsy_space.specs.Events.{AreNeeds, AreSmall, lack_by, need_at};
 ghost use Rattle.gypsy_space.specs.Needs.{stack_sizes};
-ghost use Rattle.gypsy_space.specs.Nodes.{seen_program};
+ghost use Rattle.gypsy_space.specs.Nodes.{held_names, held_values, seen_program};
 ghost use Rattle.gypsy_space.specs.declared.need.Lack.TheVariants as lack;
 ghost use Rattle.gypsy_meaning.specs.Scaffold.Entering.{AreLent, IsUnchanged, RaisesSpace, Waits, call_top, with_words};
 ghost use Rattle.gypsy_meaning.specs.Seen.Held.{IsHeld, Moves};
@@ -45,9 +45,9 @@ pub fn callee_start(
     requires there { site.now.callee < length names.now }
     requires sized { let callee = proc_at (seen_program program.now) site.now.callee in
         length (variables_of names.now site.now.callee) ≡ length site.now.actuals.items + length callee.locals }
-    ensures locals { IfOk result (λ start. drop (length site.now.actuals.items) (map (λ v. v.1) start.variables.items)
+    ensures locals { IfOk result (λ start. drop (length site.now.actuals.items) (held_values start.variables.items)
         ≡ (proc_at (seen_program program.now) site.now.callee).locals) }
-    ensures names { IfOk result (λ start. map (λ v. v.0) start.variables.items
+    ensures names { IfOk result (λ start. held_names start.variables.items
         ≡ variables_of names.now site.now.callee) }
     ensures work { IfOk result (λ start. work_of start.work
         ≡ open_on (body_of (seen_program program.now) site.now.callee) []) }

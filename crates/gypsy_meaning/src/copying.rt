@@ -2,6 +2,7 @@
 
 ghost use Rattle.std.specs.Prelude.{◌≡◌, ◌≤◌, ◌<◌, ◌+◌, ◌++◌, IfOk, OnOk, drop, length, map, slice_set};
 ghost use Rattle.gypsy_syntax.specs.Effects.{value_at};
+ghost use Rattle.gypsy_space.specs.Nodes.{held_names, held_values};
 ghost use Rattle.gypsy_meaning.specs.Scaffold.Entering.{AreLent};
 ghost use Rattle.gypsy_semantics.specs.Calls.{copied_out};
 
@@ -27,7 +28,7 @@ fn unfilled(alloc: Global, name: &Name) -> Result<(Name, Value), AllocError>
 
 /// Variables with these names, before their values are moved into them.
 fn unfilled_all(alloc: Global, names: &[Name]) -> Result<Vec<(Name, Value)>, AllocError>
-    ensures { IfOk result (λ r. map (λ v. v.0) r.items ≡ names.now) }
+    ensures { IfOk result (λ r. held_names r.items ≡ names.now) }
 {
     let mut all = Vec::new(alloc);
     for name in names {
@@ -43,9 +44,9 @@ pub fn append_locals(
     locals: &[(Name, Value)],
 ) -> Result<(), AllocError>
     requires { length names.now ≡ length locals.now }
-    ensures values { OnOk result (map (λ v. v.1) all.new.items
-        ≡ map (λ v. v.1) all.old.items ++ map (λ v. v.1) locals.now) }
-    ensures names { OnOk result (map (λ v. v.0) all.new.items ≡ map (λ v. v.0) all.old.items ++ names.now) }
+    ensures values { OnOk result (held_values all.new.items
+        ≡ held_values all.old.items ++ held_values locals.now) }
+    ensures names { OnOk result (held_names all.new.items ≡ held_names all.old.items ++ names.now) }
 {
     for (place, name) in names.iter().enumerate() {
         match locals.get(place) {
@@ -65,8 +66,8 @@ pub fn callee_variables(
     locals: &[(Name, Value)],
 ) -> Result<Vec<(Name, Value)>, AllocError>
     requires { length names.now ≡ formals + length locals.now }
-    ensures locals { IfOk result (λ r. drop formals (map (λ v. v.1) r.items) ≡ map (λ v. v.1) locals.now) }
-    ensures names { IfOk result (λ r. map (λ v. v.0) r.items ≡ names.now) }
+    ensures locals { IfOk result (λ r. drop formals (held_values r.items) ≡ held_values locals.now) }
+    ensures names { IfOk result (λ r. held_names r.items ≡ names.now) }
 {
     let mut all = unfilled_all(alloc, &names[..formals])?;
     append_locals(&mut all, &names[formals..], locals)?;
@@ -82,12 +83,12 @@ fn exchange(
 )
     requires variable { variable < length caller.old.items }
     requires place { place < length callee.old.items }
-    ensures caller { map (λ v. v.1) caller.new.items
-        ≡ slice_set (map (λ v. v.1) caller.old.items) variable (value_at (map (λ v. v.1) callee.old.items) place) }
-    ensures caller_names { map (λ v. v.0) caller.new.items ≡ map (λ v. v.0) caller.old.items }
-    ensures callee { map (λ v. v.1) callee.new.items
-        ≡ slice_set (map (λ v. v.1) callee.old.items) place (value_at (map (λ v. v.1) caller.old.items) variable) }
-    ensures callee_names { map (λ v. v.0) callee.new.items ≡ map (λ v. v.0) callee.old.items }
+    ensures caller { held_values caller.new.items
+        ≡ slice_set (held_values caller.old.items) variable (value_at (held_values callee.old.items) place) }
+    ensures caller_names { held_names caller.new.items ≡ held_names caller.old.items }
+    ensures callee { held_values callee.new.items
+        ≡ slice_set (held_values callee.old.items) place (value_at (held_values caller.old.items) variable) }
+    ensures callee_names { held_names callee.new.items ≡ held_names callee.old.items }
 {
     mem::swap(&mut caller[variable as usize].1, &mut callee[place].1);
 }
@@ -96,13 +97,13 @@ fn exchange(
 pub fn lend(caller: &mut Vec<(Name, Value)>, actuals: &[u32], callee: &mut Vec<(Name, Value)>)
     requires few { length actuals.now ≤ length callee.old.items }
     requires lent { AreLent (length caller.old.items) actuals.now }
-    ensures left { map (λ v. v.1) caller.new.items
-        ≡ copied_out actuals.now (map (λ v. v.1) callee.old.items) (map (λ v. v.1) caller.old.items) }
-    ensures left_names { map (λ v. v.0) caller.new.items ≡ map (λ v. v.0) caller.old.items }
-    ensures lent { map (λ v. v.1) callee.new.items
-        ≡ map (value_at (map (λ v. v.1) caller.old.items)) actuals.now
-        ++ drop (length actuals.now) (map (λ v. v.1) callee.old.items) }
-    ensures lent_names { map (λ v. v.0) callee.new.items ≡ map (λ v. v.0) callee.old.items }
+    ensures left { held_values caller.new.items
+        ≡ copied_out actuals.now (held_values callee.old.items) (held_values caller.old.items) }
+    ensures left_names { held_names caller.new.items ≡ held_names caller.old.items }
+    ensures lent { held_values callee.new.items
+        ≡ map (value_at (held_values caller.old.items)) actuals.now
+        ++ drop (length actuals.now) (held_values callee.old.items) }
+    ensures lent_names { held_names callee.new.items ≡ held_names callee.old.items }
 {
     for (place, actual) in actuals.iter().enumerate() {
         exchange(caller, *actual, callee, place);
@@ -111,9 +112,9 @@ pub fn lend(caller: &mut Vec<(Name, Value)>, actuals: &[u32], callee: &mut Vec<(
 
 /// Puts the values of a callee's formals back.
 pub fn copy_out(variables: &mut Vec<(Name, Value)>, actuals: &[u32], values: Vec<(Name, Value)>)
-    ensures values { map (λ v. v.1) variables.new.items
-        ≡ copied_out actuals.now (map (λ v. v.1) values.items) (map (λ v. v.1) variables.old.items) }
-    ensures names { map (λ v. v.0) variables.new.items ≡ map (λ v. v.0) variables.old.items }
+    ensures values { held_values variables.new.items
+        ≡ copied_out actuals.now (held_values values.items) (held_values variables.old.items) }
+    ensures names { held_names variables.new.items ≡ held_names variables.old.items }
 {
     let mut place: usize = 0;
     for value in values {

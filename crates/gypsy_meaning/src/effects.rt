@@ -1,10 +1,11 @@
 //! What predefined calls do.
 
-ghost use Rattle.std.specs.Prelude.{◌≡◌, ◌<◌, ◌*ℤ◌, ◌∷◌, [], IfOk, IsTrue, MatchOption, length, map, slice_set};
+ghost use Rattle.std.specs.Prelude.{◌≡◌, ◌<◌, ◌*ℤ◌, ◌∷◌, [], IfOk, IsTrue, MatchOption, length, slice_set};
 ghost use Rattle.stack_text.specs.Values.{is_item};
 ghost use Rattle.gypsy_syntax.specs.Programs.{simple};
 ghost use Rattle.gypsy_syntax.specs.Effects as effect;
 ghost use Rattle.gypsy_syntax.specs.Effects.{item_of_value, is_true_value, value_at, number_effect, truth_value, indexed, stored, no_value};
+ghost use Rattle.gypsy_space.specs.Nodes.{held_values};
 ghost use Rattle.gypsy_meaning.specs.Scaffold.PredefinedEffects.{Suits, effect_of, argument_at, applied_effect};
 
 use crate::turn::item_of;
@@ -26,7 +27,7 @@ pub enum OwnedEffect {
 
 /// The value of a variable, where there is one.
 fn variable_at(variables: &[(Name, Value)], variable: u32) -> Option<&Value>
-    ensures { let value = value_at (map (λ v. v.1) variables.now) variable in
+    ensures { let value = value_at (held_values variables.now) variable in
         MatchOption result (value ≡ no_value) (λ v. v.now ≡ value) }
 {
     match variables.get(variable as usize) {
@@ -37,7 +38,7 @@ fn variable_at(variables: &[(Name, Value)], variable: u32) -> Option<&Value>
 
 /// The value of an argument, where there is one.
 fn lent<'a>(variables: &'a [(Name, Value)], args: &'a [Argument], index: usize) -> Option<&'a Value>
-    ensures { let value = argument_at (map (λ v. v.1) variables.now) args.now index in
+    ensures { let value = argument_at (held_values variables.now) args.now index in
         MatchOption result (value ≡ no_value) (λ v. v.now ≡ value) }
 {
     match args.get(index) {
@@ -49,7 +50,7 @@ fn lent<'a>(variables: &'a [(Name, Value)], args: &'a [Argument], index: usize) 
 
 /// The item of a variable.
 pub fn item_in(variables: &[(Name, Value)], variable: u32) -> i32
-    ensures { result ≡ item_of_value (value_at (map (λ v. v.1) variables.now) variable) }
+    ensures { result ≡ item_of_value (value_at (held_values variables.now) variable) }
 {
     match variable_at(variables, variable) {
         Some(value) => item_of(value),
@@ -59,7 +60,7 @@ pub fn item_in(variables: &[(Name, Value)], variable: u32) -> i32
 
 /// The item of an argument.
 fn item_at(variables: &[(Name, Value)], args: &[Argument], index: usize) -> i32
-    ensures { result ≡ item_of_value (argument_at (map (λ v. v.1) variables.now) args.now index) }
+    ensures { result ≡ item_of_value (argument_at (held_values variables.now) args.now index) }
 {
     match lent(variables, args, index) {
         Some(value) => item_of(value),
@@ -69,7 +70,7 @@ fn item_at(variables: &[(Name, Value)], args: &[Argument], index: usize) -> i32
 
 /// Whether an argument is a Boolean that is true.
 fn truth_at(variables: &[(Name, Value)], args: &[Argument], index: usize) -> bool
-    ensures { result ≡ is_true_value (argument_at (map (λ v. v.1) variables.now) args.now index) }
+    ensures { result ≡ is_true_value (argument_at (held_values variables.now) args.now index) }
 {
     item_at(variables, args, index) == 1
 }
@@ -93,7 +94,7 @@ fn argument(
     args: &[Argument],
     index: usize,
 ) -> Result<Value, AllocError>
-    ensures { IfOk result (λ v. v ≡ argument_at (map (λ v. v.1) variables.now) args.now index) }
+    ensures { IfOk result (λ v. v ≡ argument_at (held_values variables.now) args.now index) }
 {
     match lent(variables, args, index) {
         Some(value) => value.clone(),
@@ -185,7 +186,7 @@ fn index_array(
     variables: &[(Name, Value)],
     args: &[Argument],
 ) -> Result<OwnedEffect, AllocError>
-    ensures { let value = argument_at (map (λ v. v.1) variables.now) args.now in
+    ensures { let value = argument_at (held_values variables.now) args.now in
         IfOk result (λ e. effect_of e ≡ indexed (value 1) (item_of_value (value 2))) }
 {
     let index = item_at(variables, args, 2);
@@ -201,9 +202,9 @@ fn store_in_array(
     variables: &[(Name, Value)],
     args: &[Argument],
 ) -> Result<OwnedEffect, AllocError>
-    requires { let value = argument_at (map (λ v. v.1) variables.now) args.now in
+    requires { let value = argument_at (held_values variables.now) args.now in
         IsTrue (is_item (value 0).shape.kind (item_of_value (value 2))) }
-    ensures { let value = argument_at (map (λ v. v.1) variables.now) args.now in
+    ensures { let value = argument_at (held_values variables.now) args.now in
         IfOk result (λ e. effect_of e ≡ stored (value 0) (item_of_value (value 1)) (item_of_value (value 2))) }
 {
     let index = item_at(variables, args, 1);
@@ -222,8 +223,8 @@ pub fn apply(
     variables: &[(Name, Value)],
     args: &[Argument],
 ) -> Result<OwnedEffect, AllocError>
-    requires { Suits which (map (λ v. v.1) variables.now) args.now }
-    ensures { IfOk result (λ e. effect_of e ≡ applied_effect which (map (λ v. v.1) variables.now) args.now) }
+    requires { Suits which (held_values variables.now) args.now }
+    ensures { IfOk result (λ e. effect_of e ≡ applied_effect which (held_values variables.now) args.now) }
 {
     match which {
         Predef::MgSimpleVariableAssignment | Predef::MgSimpleConstantAssignment => {

@@ -1,12 +1,12 @@
 //! Whether values and sizes suit the start of a run.
 
-ghost use Rattle.std.specs.Prelude.{◌≡◌, map};
+ghost use Rattle.std.specs.Prelude.{◌≡◌};
 ghost use Rattle.std.specs.List.{list_all};
 ghost use Rattle.gypsy_syntax.specs.ProgramFits.{ProgramFits};
 ghost use Rattle.gypsy_syntax.specs.Ranges.{is_in_range};
 ghost use Rattle.gypsy_space.specs.Events.{AreNeeds, AreSmall};
 ghost use Rattle.gypsy_space.specs.Needs.{main_need, stack_sizes};
-ghost use Rattle.gypsy_space.specs.Nodes.{seen_program};
+ghost use Rattle.gypsy_space.specs.Nodes.{held_shapes, seen_program};
 ghost use Rattle.gypsy_semantics.specs.Seen.Fitting.{are_as_many, are_values, can_start, is_value_of, same_shape, suffice};
 
 use gypsy_semantics::{control_need, main_formals, temporary_need};
@@ -57,7 +57,7 @@ fn is_value_of(shape: Shape, value: &Value) -> bool
 
 /// Whether there are as many values as formals, each of its formal's shape.
 fn are_values(formals: &[(Name, Shape)], values: &[Value]) -> bool
-    ensures { result ≡ are_values (map (λ f. f.1) formals.now) values.now }
+    ensures { result ≡ are_values (held_shapes formals.now) values.now }
 {
     let mut rest = values;
     for (_, shape) in formals {

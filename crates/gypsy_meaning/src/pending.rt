@@ -1,9 +1,9 @@
 //! The work that an activation has still to do, as a stack that steps change.
 
-ghost use Rattle.std.specs.Prelude.{◌≡◌, ◌∷◌, ◌++◌, [], ℕ, List, IfErr, IfOk, IfSome, IfNone, map, take, length, ◌-◌};
+ghost use Rattle.std.specs.Prelude.{◌≡◌, ◌∷◌, ◌++◌, [], ℕ, List, IfErr, IfOk, IfSome, IfNone, take, length, ◌-◌};
 ghost use Rattle.stack_text.specs.Values.{ValueOf};
 ghost use Rattle.gypsy_space.specs.Costs.{Tally};
-ghost use Rattle.gypsy_space.specs.Nodes.{seen_cond, seen_statement};
+ghost use Rattle.gypsy_space.specs.Nodes.{held_values, seen_cond, seen_statement};
 ghost use Rattle.gypsy_semantics.specs.Machine as machine;
 ghost use Rattle.gypsy_semantics.specs.Machine.{Frame, open_on, raise, settle};
 ghost use Rattle.gypsy_meaning.specs.Scaffold.Turns.{IsTurn, Stays};
@@ -160,7 +160,7 @@ impl Work {
 
     /// What a step does with this work. Where it changes the work alone, the work is changed.
     pub fn turn(&mut self, variables: &[(Name, Value)]) -> Result<Turn, AllocError>
-        ensures done { IfOk result (IsTurn (map (λ v. v.1) variables.now) (work_of self.old) (λ k. work_of self.new)) }
+        ensures done { IfOk result (IsTurn (held_values variables.now) (work_of self.old) (λ k. work_of self.new)) }
         ensures stays { IfOk result (Stays self.old self.new) }
         ensures unchanged { IfErr result (λ e. self.new ≡ self.old) }
     {

@@ -1,7 +1,8 @@
 //! The state of the step machine.
 
-ghost use Rattle.std.specs.Prelude.{◌≡◌, map, IfOk, IfErr};
+ghost use Rattle.std.specs.Prelude.{◌≡◌, IfOk, IfErr};
 ghost use Rattle.gypsy_space.specs.Events.{AreSmall};
+ghost use Rattle.gypsy_space.specs.Nodes.{held_values};
 ghost use Rattle.gypsy_meaning.specs.Seen.Held.{Moves};
 ghost use Rattle.gypsy_meaning.specs.Seen.Running.{paid, price};
 ghost use Rattle.gypsy_meaning.specs.Scaffold.Turns.{IsApplication};
@@ -116,7 +117,7 @@ impl Meaning {
     fn apply(&mut self, alloc: Global, needs: &Needs, call: &Application) -> Result<(), AllocError>
         requires small { AreSmall needs.now.procedures.items }
         requires turn { IsApplication call.now (work_of self.old.work) }
-        requires suits { Suits call.now.which (map (λ v. v.1) self.old.variables.items) call.now.args.items }
+        requires suits { Suits call.now.which (held_values self.old.variables.items) call.now.args.items }
         ensures done { IfOk result (λ u. Moves self.old self.new) }
         ensures unchanged { IfErr result (λ e. self.new ≡ self.old) }
     {
@@ -137,7 +138,7 @@ impl Meaning {
         needs: &Needs,
     ) -> Result<Option<Crossing>, AllocError>
         requires small { AreSmall needs.now.procedures.items }
-        requires suits { WorkSuits (map (λ v. v.1) self.old.variables.items) (work_of self.old.work) }
+        requires suits { WorkSuits (held_values self.old.variables.items) (work_of self.old.work) }
         ensures done { IfOk result (IsWithin self.old self.new) }
         ensures unchanged { IfErr result (λ e. self.new ≡ self.old) }
     {

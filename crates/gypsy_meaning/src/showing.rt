@@ -1,11 +1,11 @@
 //! What a run shows.
 
-ghost use Rattle.std.specs.Prelude.{◌≡◌, ◌+◌, ◌^◌, ◌<◌, List, map, slice_get, option_map};
+ghost use Rattle.std.specs.Prelude.{◌≡◌, ◌+◌, ◌^◌, ◌<◌, List, slice_get, option_map};
 ghost use Rattle.stack_text.specs.Values.{ValueOf};
 ghost use Rattle.gypsy_syntax.specs.Programs.{proc_at};
 ghost use Rattle.gypsy_syntax.specs.Sources.{SourceOf};
 ghost use Rattle.gypsy_space.specs.Costs.{Tally};
-ghost use Rattle.gypsy_space.specs.Nodes.{seen_cond, seen_program, seen_statement};
+ghost use Rattle.gypsy_space.specs.Nodes.{held_names, held_values, seen_cond, seen_program, seen_statement};
 ghost use Rattle.gypsy_space.specs.declared.need.Need.{Need};
 ghost use Rattle.gypsy_meaning.specs.Seen.Belongs.{BelongsTo};
 ghost use Rattle.gypsy_semantics.specs.Machine.{At, Frame, place_of, statement_place};
@@ -215,9 +215,9 @@ impl Meaning {
     /// The variables of the active procedure, formals and then locals, or main's formals at the end.
     #[tactic(auto, unfolding(crate::specs::Seen::Running::seen))]
     pub fn variables(&self) -> &[(Name, Value)]
-        ensures values { map (λ v. v.1) result.now ≡ values_at (seen self.now).stage }
+        ensures values { held_values result.now ≡ values_at (seen self.now).stage }
         ensures names { (s : SourceOf) (needs : List Need) → BelongsTo s needs self.now →
-            map (λ v. v.0) result.now ≡ names_at s (seen self.now).stage }
+            held_names result.now ≡ names_at s (seen self.now).stage }
     {
         self.variables.as_slice()
     }

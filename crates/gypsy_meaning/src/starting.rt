@@ -2,7 +2,7 @@
 
 ghost use Rattle.std.specs.Prelude.{◌≡◌, ◌+◌, ◌++◌, ◌<◌, ◌≤◌, [], IfOk, length, map, take};
 ghost use Rattle.gypsy_syntax.specs.Programs.{body_of, proc_at, words_of};
-ghost use Rattle.gypsy_space.specs.Nodes.{seen_program, seen_statement};
+ghost use Rattle.gypsy_space.specs.Nodes.{held_names, held_values, seen_program, seen_statement};
 ghost use Rattle.gypsy_semantics.specs.Calls.{main_start};
 ghost use Rattle.gypsy_semantics.specs.Machine.{open_on};
 ghost use Rattle.gypsy_meaning.specs.Seen.Named.{variables_of};
@@ -35,8 +35,8 @@ fn formals(
     values: &[Value],
 ) -> Result<Vec<(Name, Value)>, AllocError>
     requires { length values.now ≤ length names.now }
-    ensures values { IfOk result (λ r. map (λ v. v.1) r.items ≡ values.now) }
-    ensures names { IfOk result (λ r. map (λ v. v.0) r.items ≡ take (length values.now) names.now) }
+    ensures values { IfOk result (λ r. held_values r.items ≡ values.now) }
+    ensures names { IfOk result (λ r. held_names r.items ≡ take (length values.now) names.now) }
 {
     let mut formals = Vec::new(alloc);
     for (place, value) in values.iter().enumerate() {
@@ -56,8 +56,8 @@ fn variables(
     locals: &[(Name, Value)],
 ) -> Result<Vec<(Name, Value)>, AllocError>
     requires { length names.now ≡ length values.now + length locals.now }
-    ensures values { IfOk result (λ r. map (λ v. v.1) r.items ≡ values.now ++ map (λ v. v.1) locals.now) }
-    ensures names { IfOk result (λ r. map (λ v. v.0) r.items ≡ names.now) }
+    ensures values { IfOk result (λ r. held_values r.items ≡ values.now ++ held_values locals.now) }
+    ensures names { IfOk result (λ r. held_names r.items ≡ names.now) }
 {
     let mut all = formals(alloc, names, values)?;
     append_locals(&mut all, &names[values.len()..], locals)?;
@@ -75,7 +75,7 @@ pub fn names_at(names: &[Names], procedure: u32) -> &[Name]
 /// The locals of a procedure, with their initial values.
 pub fn locals_at(program: &Program, procedure: u32) -> &[(Name, Value)]
     requires { procedure < length program.now.procedures.items }
-    ensures { map (λ l. l.1) result.now ≡ (proc_at (seen_program program.now) procedure).locals }
+    ensures { held_values result.now ≡ (proc_at (seen_program program.now) procedure).locals }
 {
     program.procedures[procedure as usize].locals.as_slice()
 }
@@ -100,9 +100,9 @@ pub fn main_activation(
     requires there { program.now.main < length names.now }
     requires sized { let main = proc_at (seen_program program.now) program.now.main in
         length (variables_of names.now program.now.main) ≡ length values.now + length main.locals }
-    ensures variables { IfOk result (λ start. map (λ v. v.1) start.variables.items
+    ensures variables { IfOk result (λ start. held_values start.variables.items
         ≡ main_start (seen_program program.now) values.now) }
-    ensures names { IfOk result (λ start. map (λ v. v.0) start.variables.items
+    ensures names { IfOk result (λ start. held_names start.variables.items
         ≡ variables_of names.now program.now.main) }
     ensures work { IfOk result (λ start. work_of start.work
         ≡ open_on (body_of (seen_program program.now) program.now.main) []) }
@@ -120,8 +120,8 @@ pub fn main_activation(
 
 /// The words that variables take.
 pub fn words(variables: &[(Name, Value)]) -> u64
-    requires { words_of (map (λ v. v.shape) (map (λ v. v.1) variables.now)) ≤ 65536 }
-    ensures { result ≡ words_of (map (λ v. v.shape) (map (λ v. v.1) variables.now)) }
+    requires { words_of (map (λ v. v.shape) (held_values variables.now)) ≤ 65536 }
+    ensures { result ≡ words_of (map (λ v. v.shape) (held_values variables.now)) }
 {
     let mut words = 0;
     for (_, value) in variables {

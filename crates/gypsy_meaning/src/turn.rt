@@ -1,10 +1,10 @@
 //! What a step does with the top of the work.
 
-ghost use Rattle.std.specs.Prelude.{◌≡◌, ◌≤◌, ℕ, List, [], ◌∷◌, IfOk, length, map, take, false};
+ghost use Rattle.std.specs.Prelude.{◌≡◌, ◌≤◌, ℕ, List, [], ◌∷◌, IfOk, length, take, false};
 ghost use Rattle.stack_text.specs.Values.{ValueOf};
 ghost use Rattle.gypsy_syntax.specs.Programs as program;
 ghost use Rattle.gypsy_syntax.specs.Effects.{item_of_value, is_true_value, value_at};
-ghost use Rattle.gypsy_space.specs.Nodes.{seen_statement, seen_cond};
+ghost use Rattle.gypsy_space.specs.Nodes.{held_values, seen_cond, seen_statement};
 ghost use Rattle.gypsy_semantics.specs.Machine as machine;
 ghost use Rattle.gypsy_meaning.specs.Seen.Work.{item_of, left_by, work_of, work_on};
 ghost use Rattle.gypsy_meaning.specs.Scaffold.Turns.{GoesOn, IsTurn, Removes};
@@ -55,7 +55,7 @@ pub fn item_of(value: &Value) -> i32
 
 /// Whether a variable is a Boolean that is true.
 fn is_true(variables: &[(Name, Value)], variable: u32) -> bool
-    ensures { result ≡ is_true_value (value_at (map (λ v. v.1) variables.now) variable) }
+    ensures { result ≡ is_true_value (value_at (held_values variables.now) variable) }
 {
     item_in(variables, variable) == 1
 }
@@ -149,7 +149,7 @@ fn begin(
     requires empty { added.old.items ≡ [] }
     requires top { work_of items.now ≡ machine.Do (seen_statement node.now.value) ∷ work_of (take below items.now) }
     ensures { IfOk result
-        (IsTurn (map (λ v. v.1) variables.now) (work_of items.now) (left_by items.now added.new.items)) }
+        (IsTurn (held_values variables.now) (work_of items.now) (left_by items.now added.new.items)) }
 {
     match &**node {
         Node::NoOp(_) => removed(CostEvent::NoOp, items, below, added),
@@ -194,7 +194,7 @@ fn turn_of(
     requires empty { added.old.items ≡ [] }
     requires top { work_of items.now ≡ item_of top.now ∷ work_of (take below items.now) }
     ensures { IfOk result
-        (IsTurn (map (λ v. v.1) variables.now) (work_of items.now) (left_by items.now added.new.items)) }
+        (IsTurn (held_values variables.now) (work_of items.now) (left_by items.now added.new.items)) }
 {
     match top {
         Item::Do(node) => begin(node, variables, items, below, added),
@@ -216,7 +216,7 @@ pub fn next_turn(
 ) -> Result<Turn, AllocError>
     requires { added.old.items ≡ [] }
     ensures { IfOk result
-        (IsTurn (map (λ v. v.1) variables.now) (work_of items.now) (left_by items.now added.new.items)) }
+        (IsTurn (held_values variables.now) (work_of items.now) (left_by items.now added.new.items)) }
 {
     match items.last() {
         None => Ok(Turn::Ends),

@@ -1,18 +1,18 @@
 //! The words of both stacks that main itself needs.
 
-ghost use Rattle.std.specs.Prelude.{◌≡◌, ◌≤◌, map};
+ghost use Rattle.std.specs.Prelude.{◌≡◌, ◌≤◌};
 ghost use Rattle.gypsy_syntax.specs.ProgramFits.{ProgramFits};
 ghost use Rattle.gypsy_syntax.specs.Programs.{proc_at, words_of};
 ghost use Rattle.gypsy_space.specs.Events.{AreNeeds, AreSmall};
 ghost use Rattle.gypsy_space.specs.Needs.{main_need};
-ghost use Rattle.gypsy_space.specs.Nodes.{seen_program};
+ghost use Rattle.gypsy_space.specs.Nodes.{held_shapes, seen_program};
 
 use gypsy_space::{Needs, Program};
 use stack_text::{Name, Shape};
 
 /// Main's formals.
 pub fn main_formals(program: &Program) -> &[(Name, Shape)]
-    ensures { let q = seen_program program.now in map (λ f. f.1) result.now ≡ (proc_at q q.main).formals }
+    ensures { let q = seen_program program.now in held_shapes result.now ≡ (proc_at q q.main).formals }
 {
     match program.procedures.get(program.main as usize) {
         Some(main) => main.formals.as_slice(),
@@ -22,8 +22,8 @@ pub fn main_formals(program: &Program) -> &[(Name, Shape)]
 
 /// The words that formals take.
 fn formal_words(formals: &[(Name, Shape)]) -> u64
-    requires { words_of (map (λ f. f.1) formals.now) ≤ 65536 }
-    ensures { result ≡ words_of (map (λ f. f.1) formals.now) }
+    requires { words_of (held_shapes formals.now) ≤ 65536 }
+    ensures { result ≡ words_of (held_shapes formals.now) }
 {
     let mut words = 0;
     for (_, shape) in formals {

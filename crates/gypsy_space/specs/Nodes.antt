@@ -2,6 +2,8 @@
 use Rattle.std.specs.Prelude.{ℕ, List, [], ◌∷◌, ◌++◌, map, length}
 use Rattle.std.specs.declared.rc.Rc.{Rc}
 use Rattle.std.specs.declared.alloc.Global.{Global}
+use Rattle.stack_text.specs.declared.shape.Shape.{Shape}
+use Rattle.stack_text.specs.Values.{ValueOf}
 use Rattle.gypsy_syntax.specs.Programs.{ConditionOf, Leave, Routine, Space, Declared, Arg, Var, Lit, Stmt, Proc}
 use Rattle.gypsy_syntax.specs.Resolved.{condition_names, variable_names}
 use Rattle.gypsy_syntax.specs.Sources.{ProcOf}
@@ -47,11 +49,21 @@ abbrev pub seen_statements : List (Rc Node Global) → Stmt
 seen_statements [] = program.Skip
 seen_statements (n ∷ ns) = program.Seq (seen_statement n.value) (seen_statements ns)
 
+-- of formals and variables as they are kept: the names, and beside them the shapes or the values
+abbrev pub held_names : {N V : Type 0} → List (N × V) → List N
+held_names vs = map (λ v. v.0) vs
+
+abbrev pub held_shapes : {N : Type 0} → List (N × Shape) → List Shape
+held_shapes vs = map (λ v. v.1) vs
+
+abbrev pub held_values : {N : Type 0} → List (N × ValueOf) → List ValueOf
+held_values vs = map (λ v. v.1) vs
+
 abbrev pub seen_proc : Procedure → Proc
 seen_proc p = record {
   place = p.place;
-  formals = map (λ f. f.1) p.formals.items;
-  locals = map (λ l. l.1) p.locals.items;
+  formals = held_shapes p.formals.items;
+  locals = held_values p.locals.items;
   conds = length p.conds.items;
   local_conds = length p.local_conds.items;
   body = seen_statement p.body.value;
@@ -67,7 +79,7 @@ pub record ProcNames : Type 0 where
 
 abbrev pub seen_proc_names : Procedure → ProcNames
 seen_proc_names p = record {
-  variables = map (λ f. f.0) p.formals.items ++ map (λ l. l.0) p.locals.items;
+  variables = held_names p.formals.items ++ held_names p.locals.items;
   conditions = p.conds.items ++ p.local_conds.items;
 }
 

@@ -7,7 +7,7 @@ ghost use Rattle.gypsy_syntax.specs.Seen.SourceView.{source_of};
 ghost use Rattle.gypsy_check.specs.Accepted.{IsAccepted};
 ghost use Rattle.gypsy_space.specs.Events.{AreNeeds, AreSmall, IsSmall, need_of};
 ghost use Rattle.gypsy_space.specs.Needs.{arg_words, args_words, local_words, vars_of};
-ghost use Rattle.gypsy_space.specs.Nodes.{seen_arg, seen_program, seen_statement, seen_statements};
+ghost use Rattle.gypsy_space.specs.Nodes.{held_values, seen_arg, seen_program, seen_statement, seen_statements};
 ghost use Rattle.gypsy_space.specs.StatementNeeds.{capped, capped_need, joined, AreCapped, IsStatementNeed};
 
 use crate::need::{Need, Needs};
@@ -55,7 +55,7 @@ fn sum(left: u64, right: u64) -> u64
 
 /// The words of a procedure's locals.
 fn local_words(locals: &[(Name, Value)]) -> u64
-    ensures { result ≡ capped (words_of (map (λ v. v.shape) (map (λ v. v.1) locals.now))) }
+    ensures { result ≡ capped (words_of (map (λ v. v.shape) (held_values locals.now))) }
 {
     let mut words = 0;
     for (_, value) in locals {

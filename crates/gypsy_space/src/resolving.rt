@@ -14,7 +14,7 @@ ghost use Rattle.gypsy_syntax.specs.Resolved.{local_value, position_of, procedur
 ghost use Rattle.gypsy_syntax.specs.Resolved.{statement_of, statement_of_all, value_items, variable_names, variable_of};
 ghost use Rattle.gypsy_syntax.specs.Seen.SourceView.{arg_of, items_of_list, literal_of, local_of, parts_of_list, proc_of};
 ghost use Rattle.gypsy_syntax.specs.Seen.SourceView.{source_of, stmt_of};
-ghost use Rattle.gypsy_space.specs.Nodes.{seen_arg, seen_cond, seen_proc, seen_program, seen_statement, seen_statements};
+ghost use Rattle.gypsy_space.specs.Nodes.{held_names, held_shapes, held_values, seen_arg, seen_cond, seen_proc, seen_program, seen_statement, seen_statements};
 ghost use Rattle.gypsy_space.specs.Nodes.{declared_names, seen_proc_names};
 ghost use Rattle.gypsy_space.specs.Callees.{KnowsCallees};
 ghost use Rattle.gypsy_space.specs.CallSites.{IsCallSite};
@@ -260,8 +260,8 @@ fn arguments(alloc: Global, proc: &Proc, args: &[Arg]) -> Result<Vec<Argument>, 
 /// Each formal, with its name.
 fn formals(alloc: Global, decls: &[Decl]) -> Result<Vec<(Name, Shape)>, Memory>
     requires { All (λ d. IsTrue (has_length d.shape.length)) decls.now }
-    ensures shapes { IfOk result (λ r. map (λ f. f.1) r.items ≡ map (λ d. shape_of d.shape) decls.now) }
-    ensures names { IfOk result (λ r. map (λ f. f.0) r.items ≡ map (λ d. d.name.name) decls.now) }
+    ensures shapes { IfOk result (λ r. held_shapes r.items ≡ map (λ d. shape_of d.shape) decls.now) }
+    ensures names { IfOk result (λ r. held_names r.items ≡ map (λ d. d.name.name) decls.now) }
 {
     let mut formals = Vec::new(alloc);
     for decl in decls {
@@ -273,8 +273,8 @@ fn formals(alloc: Global, decls: &[Decl]) -> Result<Vec<(Name, Shape)>, Memory>
 /// Each local, with its name and its initial value.
 fn locals(alloc: Global, locals: &[Local]) -> Result<Vec<(Name, Value)>, Memory>
     requires { All (λ l. LocalFits (local_of l)) locals.now }
-    ensures values { IfOk result (λ r. map (λ l. l.1) r.items ≡ map local_value (map local_of locals.now)) }
-    ensures names { IfOk result (λ r. map (λ l. l.0) r.items ≡ map (λ l. l.decl.name.name) (map local_of locals.now)) }
+    ensures values { IfOk result (λ r. held_values r.items ≡ map local_value (map local_of locals.now)) }
+    ensures names { IfOk result (λ r. held_names r.items ≡ map (λ l. l.decl.name.name) (map local_of locals.now)) }
 {
     let mut values = Vec::new(alloc);
     for local in locals {

@@ -9,7 +9,7 @@ use Rattle.gypsy_syntax.specs.Effects.{value_at}
 use Rattle.gypsy_syntax.specs.ProgramFits.{Distinct, Each}
 use Rattle.gypsy_syntax.specs.Programs.{Call, Space}
 use Rattle.gypsy_space.specs.Costs.{start_tally, pay}
-use Rattle.gypsy_space.specs.Nodes.{seen_cond, seen_program}
+use Rattle.gypsy_space.specs.Nodes.{held_names, held_values, seen_cond, seen_program}
 use Rattle.gypsy_space.specs.declared.event.CostEvent.{CostEvent}
 use Rattle.gypsy_space.specs.declared.need.Need.{Need}
 use Rattle.gypsy_space.specs.declared.program.CallSite.{CallSite}
@@ -30,7 +30,7 @@ abbrev pub RaisesSpace : Meaning → CostEvent → Type 0
 RaisesSpace m e =
     (i : Item) × (w : List Item) × (work_of m.work ≡ i ∷ w) ×
     (gypsy_step (seen_program m.program) (sizes_of m) (state_of m) ≡
-    Next (raise Space m.procedure (map (λ v. v.1) m.variables.items) w (frames_in m)
+    Next (raise Space m.procedure (held_values m.variables.items) w (frames_in m)
     (pay e start_tally)))
 
 -- all that is seen is as it was
@@ -59,13 +59,13 @@ pub record Waits (m : Meaning) (callee : Vec (Name × Value)) (work : List Kept)
       used_temp = m.used_temp;
       used_ctrl = m.used_ctrl;
     } ∷ []
-    pub left : map (λ v. v.1) caller.items
-        ≡ copied_out site.value.actuals.items (map (λ v. v.1) callee.items) (map (λ v. v.1) m.variables.items)
-    pub left_names : map (λ v. v.0) caller.items ≡ map (λ v. v.0) m.variables.items
-    pub lent : map (λ v. v.1) n.variables.items
-        ≡ map (value_at (map (λ v. v.1) m.variables.items)) site.value.actuals.items
-        ++ drop (length site.value.actuals.items) (map (λ v. v.1) callee.items)
-    pub lent_names : map (λ v. v.0) n.variables.items ≡ map (λ v. v.0) callee.items
+    pub left : held_values caller.items
+        ≡ copied_out site.value.actuals.items (held_values callee.items) (held_values m.variables.items)
+    pub left_names : held_names caller.items ≡ held_names m.variables.items
+    pub lent : held_values n.variables.items
+        ≡ map (value_at (held_values m.variables.items)) site.value.actuals.items
+        ++ drop (length site.value.actuals.items) (held_values callee.items)
+    pub lent_names : held_names n.variables.items ≡ held_names callee.items
     pub work_is : n.work ≡ work
     pub others : n ≡ record m { variables = n.variables; work = n.work; waiting = n.waiting }
 

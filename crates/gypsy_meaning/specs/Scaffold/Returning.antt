@@ -1,7 +1,8 @@
 -- The end of a procedure for which another waits, as the code has it.
-use Rattle.std.specs.Prelude.{◌≡◌, ℕ, ◌+◌, map, Bool, true, false}
+use Rattle.std.specs.Prelude.{◌≡◌, ℕ, ◌+◌, Bool, true, false}
 use Rattle.gypsy_space.specs.Costs.{count_of, raised_price}
 use Rattle.gypsy_space.specs.declared.event.CostEvent.TheVariants as event
+use Rattle.gypsy_space.specs.Nodes.{held_names, held_values}
 use Rattle.gypsy_semantics.specs.Calls.{copied_out}
 use Rattle.gypsy_meaning.specs.declared.running.Frame.{Frame}
 use Rattle.gypsy_meaning.specs.declared.running.Meaning.{Meaning}
@@ -13,9 +14,9 @@ out_price passed false = (raised_price passed).0
 
 -- the activation goes on, with the callee's formals put back
 pub record Resumes (m n : Meaning) (f : Frame) : Type 0 where
-  pub values : map (λ v. v.1) n.variables.items
-      ≡ copied_out f.call.value.actuals.items (map (λ v. v.1) m.variables.items) (map (λ v. v.1) f.variables.items)
-  pub named : map (λ v. v.0) n.variables.items ≡ map (λ v. v.0) f.variables.items
+  pub values : held_values n.variables.items
+      ≡ copied_out f.call.value.actuals.items (held_values m.variables.items) (held_values f.variables.items)
+  pub named : held_names n.variables.items ≡ held_names f.variables.items
   pub procedure : n.procedure ≡ f.procedure
   pub work : n.work ≡ f.work
   pub waiting : n.waiting ≡ m.waiting

@@ -6,7 +6,7 @@ use Rattle.gypsy_syntax.specs.Resolved.{program_of}
 use Rattle.gypsy_syntax.specs.ValuesFit.{VarsFit}
 use Rattle.gypsy_check.specs.Accepted.{IsAccepted}
 use Rattle.gypsy_space.specs.Events.{AreNeeds, AreSmall}
-use Rattle.gypsy_space.specs.Nodes.{seen_program}
+use Rattle.gypsy_space.specs.Nodes.{held_names, seen_program}
 use Rattle.gypsy_space.specs.declared.need.Need.{Need}
 use Rattle.gypsy_meaning.specs.Seen.Held.{IsHeld}
 use Rattle.gypsy_semantics.specs.Room.{Suffices}
@@ -20,7 +20,7 @@ use Rattle.gypsy_meaning.specs.declared.running.Meaning.{Meaning}
 abbrev pub IsKept : Meaning → Option Ending → Type 0
 IsKept m None = IsHeld m
 IsKept m (Some e) =
-    map (λ v. v.0) m.variables.items ≡
+    held_names m.variables.items ≡
     take (length (proc_at (seen_program m.program) m.program.main).formals) (variables_of m.names.items m.program.main)
 
 -- the source is accepted, the needs are its needs, and the run is one of its program: from values that fit main's formals and

@@ -5,7 +5,7 @@ use Rattle.stack_text.specs.declared.value.Value.{Value}
 use Rattle.gypsy_syntax.specs.Programs.{Program, proc_at}
 use Rattle.gypsy_space.specs.Costs.{Tally}
 use Rattle.gypsy_space.specs.Needs.{stack_sizes}
-use Rattle.gypsy_space.specs.Nodes.{seen_program}
+use Rattle.gypsy_space.specs.Nodes.{held_names, held_values, seen_program}
 use Rattle.gypsy_semantics.specs.Machine.{Ended, gypsy_step, used}
 use Rattle.gypsy_semantics.specs.Machine as machine
 use Rattle.gypsy_meaning.specs.Seen.Named.{variables_of}
@@ -22,7 +22,7 @@ Variables = List (Name × Value)
 -- an activation of a procedure above these: its variables have their names, and these words are in use while it runs
 pub record IsActivation (q : Program) (names : List Names) (p : ℕ) (vars : Variables) (temp ctrl : ℕ) (fs : List machine.Frame) : Type 0
   where
-    pub named : map (λ v. v.0) vars ≡ variables_of names p
+    pub named : held_names vars ≡ variables_of names p
     pub used_words : used q p fs ≡ stack_sizes ctrl temp
 
 -- those that wait, the top first
@@ -59,9 +59,9 @@ pub record EndsRun (m n : Meaning) : Type 0 where
   pub ended_by : Ending
   pub ending : n.ending ≡ Some ended_by
   pub spent : Tally
-  pub ends : let x = map (λ v. v.1) n.variables.items in
+  pub ends : let x = held_values n.variables.items in
       gypsy_step (seen_program m.program) (sizes_of m) (state_of m) ≡ Ended x (way_of ended_by) spent
   pub costs : Costs spent.count m n
   pub keeps : Keeps m n
   pub named : let q = seen_program m.program in
-      map (λ v. v.0) n.variables.items ≡ take (length (proc_at q q.main).formals) (map (λ v. v.0) m.variables.items)
+      held_names n.variables.items ≡ take (length (proc_at q q.main).formals) (held_names m.variables.items)

@@ -5,7 +5,7 @@
 use Rattle.std.specs.Prelude.{◌≡◌, ℕ, ◌+◌, List, map, reverse, Bool, true, false, Option, Some, None}
 use Rattle.stack_text.specs.Values.{ValueOf}
 use Rattle.gypsy_syntax.specs.Programs.{Program}
-use Rattle.gypsy_space.specs.Nodes.{seen_cond, seen_program}
+use Rattle.gypsy_space.specs.Nodes.{held_values, seen_cond, seen_program}
 use Rattle.gypsy_space.specs.Costs.{start_tally, count_of}
 use Rattle.gypsy_space.specs.Needs.{StackSizes, stack_sizes}
 use Rattle.gypsy_space.specs.Events.{event_count}
@@ -26,7 +26,7 @@ use Rattle.gypsy_meaning.specs.declared.running.Meaning.{Meaning}
 
 abbrev pub frame_of : Frame → machine.Frame
 frame_of f =
-    Held f.procedure (map (λ v. v.1) f.variables.items) (work_of f.work)
+    Held f.procedure (held_values f.variables.items) (work_of f.work)
     f.call.value.actuals.items (map seen_cond f.call.value.conds.items)
 
 -- as they are kept, the top first: the last one is the top
@@ -38,11 +38,11 @@ abbrev pub frames_of : List ValueOf → List Frame → List machine.Frame
 frames_of y fs = handed_back y (kept_frames fs)
 
 abbrev pub frames_in : Meaning → List machine.Frame
-frames_in m = frames_of (map (λ v. v.1) m.variables.items) m.waiting.items
+frames_in m = frames_of (held_values m.variables.items) m.waiting.items
 
 -- with nothing spent
 abbrev pub state_of : Meaning → State
-state_of m = At m.procedure (map (λ v. v.1) m.variables.items) (work_of m.work) (frames_in m) start_tally
+state_of m = At m.procedure (held_values m.variables.items) (work_of m.work) (frames_in m) start_tally
 
 abbrev pub sizes_of : Meaning → StackSizes
 sizes_of m = stack_sizes m.ctrl m.temp
@@ -53,7 +53,7 @@ way_of (ending.Raised c) = Some (seen_cond c)
 
 abbrev pub stage_by : Option Ending → Meaning → Stage
 stage_by None m = Running (state_of m)
-stage_by (Some e) m = Finished (map (λ v. v.1) m.variables.items) (way_of e)
+stage_by (Some e) m = Finished (held_values m.variables.items) (way_of e)
 
 -- what a run shows
 unfoldable pub seen : Meaning → Seen
