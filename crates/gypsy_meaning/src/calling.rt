@@ -145,7 +145,7 @@ impl Meaning {
         ensures unchanged { IfErr result (λ e. IsUnchanged self.old self.new) }
     {
         let callee = site.callee;
-        // The words in use stay within these sizes, so their sums fit.
+        // For the prover alone: the words in use stay within these sizes, so their sums fit.
         let _temp = self.temp;
         let _ctrl = self.ctrl;
         let Start { variables, work } = callee_start(

@@ -204,7 +204,7 @@ impl Meaning {
         ensures { (s : SourceOf) (needs : List Need) → BelongsTo s needs self.now →
             result ≡ depth_at (seen self.now).stage }
     {
-        // Each activation takes two words of the stack whose size this is.
+        // For the prover alone: each activation takes two words of the stack whose size this is.
         let _limit = self.ctrl;
         match self.ending {
             None => above(self.waiting.len()),

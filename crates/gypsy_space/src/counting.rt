@@ -216,8 +216,7 @@ pub fn needs(alloc: Global, accepted: &Accepted) -> Result<Needs, Memory>
     ensures small { IfOk result (λ n. AreSmall n.procedures.items) }
 {
     let program = resolve(alloc, accepted)?;
-    let needs = needs_with(alloc, accepted, &program)?;
-    Ok(needs)
+    needs_with(alloc, accepted, &program)
 }
 
 /// The same, for callers that have the program of the source.
