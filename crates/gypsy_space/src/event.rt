@@ -65,10 +65,10 @@ pub fn predef_count(which: Predef, outcome: Outcome) -> u64
     ensures count { result ≡ count_of (event.Predef which outcome) }
     ensures bounded { result ≤ 2599 }
 {
-    let row = which.row();
+    let cost = which.row().cost;
     match outcome {
-        Outcome::Normal => row.normal,
-        Outcome::Fault => row.fault,
-        Outcome::Beyond => row.beyond,
+        Outcome::Normal => cost.normal(),
+        Outcome::Fault => cost.fault(),
+        Outcome::Beyond => cost.beyond(),
     }
 }

@@ -1,2 +1,3 @@
--- How clauses see a source.
+-- How clauses see a source, and the cost of a predefined procedure.
+pub mod CostView
 pub mod SourceView
