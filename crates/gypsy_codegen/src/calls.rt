@@ -5,7 +5,7 @@ ghost use Rattle.piton_syntax.specs.declared.op.PitonOp.TheVariants as op;
 ghost use Rattle.piton_check.specs.Instruction as i;
 ghost use Rattle.gypsy_syntax.specs.Programs.{proc_at, words_of};
 ghost use Rattle.gypsy_syntax.specs.ProgramFits.{Each};
-ghost use Rattle.gypsy_space.specs.Nodes.{seen_cond, seen_proc};
+ghost use Rattle.gypsy_space.specs.Nodes.{held_values, seen_cond, seen_proc};
 ghost use Rattle.gypsy_space.specs.Needs.{call_need, local_words};
 ghost use Rattle.gypsy_predef.specs.Texts.{instruction};
 ghost use Rattle.gypsy_codegen.specs.Guard.{guard_code};
@@ -97,7 +97,7 @@ fn push_words(
     instrs: &mut Vec<InstrText>,
     locals: &[(Name, Value)],
 ) -> Result<(), Memory>
-    ensures { OnOk result (instrs.new.items ≡ instrs.old.items ++ local_constants (map (λ l. l.1) locals.now)) }
+    ensures { OnOk result (instrs.new.items ≡ instrs.old.items ++ local_constants (held_values locals.now)) }
 {
     let mut words = Vec::new(alloc);
     local_words(&mut words, locals)?;
@@ -111,10 +111,10 @@ fn push_indices(
     locals: &[(Name, Value)],
     words: u64,
 ) -> Result<(), Memory>
-    requires all { words_of (map (λ v. v.shape) (map (λ l. l.1) locals.now)) ≡ words }
+    requires all { words_of (map (λ v. v.shape) (held_values locals.now)) ≡ words }
     requires few { words ≤ 65536 }
     ensures { OnOk result (instrs.new.items ≡
-        instrs.old.items ++ index_text words 0 0 (map (λ v. v.shape) (map (λ l. l.1) locals.now))) }
+        instrs.old.items ++ index_text words 0 0 (map (λ v. v.shape) (held_values locals.now))) }
 {
     let mut first = 0;
     for (number, (_, value)) in locals.iter().enumerate() {

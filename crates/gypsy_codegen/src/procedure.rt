@@ -5,7 +5,7 @@ ghost use Rattle.piton_words.specs.declared.word.Word.TheVariants.{Nat};
 ghost use Rattle.gypsy_syntax.specs.Programs.{body_of, shapes_of, words_of};
 ghost use Rattle.gypsy_syntax.specs.Seen.SourceView.{local_of, proc_of};
 ghost use Rattle.gypsy_space.specs.Events.{AreNeeds, AreSmall};
-ghost use Rattle.gypsy_space.specs.Nodes.{seen_proc, seen_program};
+ghost use Rattle.gypsy_space.specs.Nodes.{held_shapes, held_values, seen_proc, seen_program};
 ghost use Rattle.stack_text.specs.Grammar.Printed.{unplaced};
 ghost use Rattle.gypsy_codegen.specs.Lines.{labels, lines_of, tail_lines};
 ghost use Rattle.gypsy_codegen.specs.Text.{frame_texts, procedure_with, temporaries_of};
@@ -72,7 +72,7 @@ fn frame_names(
 
 /// The shapes of formals.
 fn formal_shapes(shapes: &mut Vec<Shape>, formals: &[(Name, Shape)]) -> Result<(), Memory>
-    ensures { OnOk result (shapes.new.items ≡ shapes.old.items ++ map (λ f. f.1) formals.now) }
+    ensures { OnOk result (shapes.new.items ≡ shapes.old.items ++ held_shapes formals.now) }
 {
     for (_, shape) in formals {
         shapes.push(*shape)?;
@@ -82,7 +82,7 @@ fn formal_shapes(shapes: &mut Vec<Shape>, formals: &[(Name, Shape)]) -> Result<(
 
 /// The shapes of locals.
 fn local_shapes(shapes: &mut Vec<Shape>, locals: &[(Name, Value)]) -> Result<(), Memory>
-    ensures { OnOk result (shapes.new.items ≡ shapes.old.items ++ map (λ v. v.shape) (map (λ l. l.1) locals.now)) }
+    ensures { OnOk result (shapes.new.items ≡ shapes.old.items ++ map (λ v. v.shape) (held_values locals.now)) }
 {
     for (_, value) in locals {
         shapes.push(value.shape)?;

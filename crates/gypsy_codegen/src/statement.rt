@@ -146,8 +146,7 @@ fn guarded(
 {
     let handled = Handled::new(alloc, conds.as_slice())?;
     let inner = Scopes::InBegin(&handled, first, &*scopes);
-    let next = statement(alloc, instrs, context, body, &inner, first + 2)?;
-    Ok(next)
+    statement(alloc, instrs, context, body, &inner, first + 2)
 }
 
 /// The second statement of two, and behind it the label where both go on.
@@ -205,10 +204,7 @@ pub(crate) fn statement(
             let next = parts(alloc, instrs, context, nodes, scopes, first)?;
             Ok(next)
         }
-        Node::Loop(_, body) => {
-            let next = repetition(alloc, instrs, context, body, scopes, first)?;
-            Ok(next)
-        }
+        Node::Loop(_, body) => repetition(alloc, instrs, context, body, scopes, first),
         Node::If(_, variable, yes, no) => {
             branch(alloc, instrs, context, *variable, first)?;
             let behind = statement(alloc, instrs, context, yes, scopes, first + 2)?;

@@ -3,6 +3,7 @@
 ghost use Rattle.std.specs.Prelude.{◌≡◌, ◌++◌, ◌≤◌, map, OnOk};
 ghost use Rattle.gypsy_syntax.specs.Effects.{item_of_value};
 ghost use Rattle.gypsy_syntax.specs.Programs.{words_of};
+ghost use Rattle.gypsy_space.specs.Nodes.{held_shapes, held_values};
 ghost use Rattle.gypsy_predef.specs.Runs.{word_of_item, words_of_value};
 ghost use Rattle.gypsy_codegen.specs.Scaffold.Views.{nameless, word_texts};
 ghost use Rattle.gypsy_codegen.specs.WordsOf.{words_of_values, zero_value};
@@ -54,7 +55,7 @@ fn value_words(words: &mut Vec<WordText>, value: &Value) -> Result<(), Memory>
 /// The words of locals.
 pub(crate) fn local_words(words: &mut Vec<WordText>, locals: &[(Name, Value)]) -> Result<(), Memory>
     ensures { OnOk result
-        (words.new.items ≡ words.old.items ++ word_texts (words_of_values (map (λ l. l.1) locals.now))) }
+        (words.new.items ≡ words.old.items ++ word_texts (words_of_values (held_values locals.now))) }
 {
     for (_, value) in locals {
         value_words(words, value)?;
@@ -79,7 +80,7 @@ pub(crate) fn formal_words(
     formals: &[(Name, Shape)],
 ) -> Result<(), Memory>
     ensures { OnOk result (words.new.items ≡
-        words.old.items ++ word_texts (words_of_values (map zero_value (map (λ f. f.1) formals.now)))) }
+        words.old.items ++ word_texts (words_of_values (map zero_value (held_shapes formals.now)))) }
 {
     for (_, shape) in formals {
         zero_words(words, *shape)?;
@@ -89,8 +90,8 @@ pub(crate) fn formal_words(
 
 /// How many words locals have.
 pub(crate) fn local_count(locals: &[(Name, Value)]) -> u64
-    requires { words_of (map (λ v. v.shape) (map (λ l. l.1) locals.now)) ≤ 65536 }
-    ensures { result ≡ words_of (map (λ v. v.shape) (map (λ l. l.1) locals.now)) }
+    requires { words_of (map (λ v. v.shape) (held_values locals.now)) ≤ 65536 }
+    ensures { result ≡ words_of (map (λ v. v.shape) (held_values locals.now)) }
 {
     let mut words = 0;
     for (_, value) in locals {
