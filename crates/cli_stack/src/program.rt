@@ -1,6 +1,5 @@
 //! The whole program over a shelf and a sink.
 ghost use Rattle.std.specs.Prelude.{map};
-ghost use Rattle.level_debuggers.specs.Tallies.{watching};
 ghost use Rattle.command_line.specs.CommandWords.{spelled};
 ghost use Rattle.cli_stack.specs.AnswerMeans.{AnswersMean};
 ghost use Rattle.cli_stack.specs.World.{world};
@@ -36,12 +35,12 @@ pub fn cli<S: Shelf, K: Sink>(
     // It does with its devices what is answered, and what a failure of theirs leaves is told.
     ensures promises { Promises
         (devices_of S.gave S.got K.took shelf.old shelf.new out.old out.new)
-        (spelled words.now) (map (λ w. watching (rule_of w) (tally_of w)) watches.items)
+        (spelled words.now) (map watching watches.items)
         (world (S.files shelf.old) (S.counts shelf.old) (K.taken out.old) (K.faults out.old) kept.old)
         (world (S.files shelf.new) (S.counts shelf.new) (K.taken out.new) (K.faults out.new) kept.new)
         result }
     // What is answered means what the texts of the files mean, whatever these are.
-    ensures means { AnswersMean (spelled words.now) (map (λ w. watching (rule_of w) (tally_of w)) watches.items) }
+    ensures means { AnswersMean (spelled words.now) (map watching watches.items) }
 {
     builds_implement();
     runs_are_meant();

@@ -12,9 +12,9 @@ use Rattle.level_debuggers.specs.declared.session.SessionRun.TheVariants as run
 use Rattle.level_debuggers.specs.declared.arrival.Arrival.TheVariants as arrival
 use Rattle.level_debuggers.specs.Arrivals.{IsFirstArrival, arrived, arrived_by, first_arrival}
 use Rattle.level_debuggers.specs.Levels.{LevelOf, next_of, stands_at}
-use Rattle.level_debuggers.specs.Steps.{IsAdvance}
+use Rattle.level_debuggers.specs.Steps.{IsAdvance, is_over}
 use Rattle.level_debuggers.specs.Walks.{HasMadeSome, SessionOf, Stepped, Walk, refused_after, stepped, walk}
-use Rattle.level_debuggers.proofs.WalkLaws.{IsStop, Made, step_over, step_refused, stepped_some, walk_stays}
+use Rattle.level_debuggers.proofs.WalkLaws.{IsStop, Made, made_all, step_over, step_refused, stepped_some, walk_stays}
 
 -- Of numbers from one on, the first that passes.
 module _ (p : ℕ → Bool) where
@@ -100,15 +100,24 @@ module _ (there : Place) (m n : ℕ) (old middle : SessionOf) (made : Made m old
           ∙ sym (ap (stands_at there) level_is) ∙ misses
 
   -- all steps were made, and it did not come there
-  pub misses_at_last : stands_at there middle.level ≡ false → m ≡ n → first_arrival there n old.level ≡ None
+  misses_at_last : stands_at there middle.level ≡ false → m ≡ n → first_arrival there n old.level ≡ None
   misses_at_last misses e = is_none there n old.level (λ j le. passed misses j (omega (arith, e, le)))
 
 -- it made the steps that were asked for
-pub elsewhere : (there : Place) (n : ℕ) (old new : SessionOf) (ran : SessionRun) → first_arrival there n old.level ≡ None
+elsewhere : (there : Place) (n : ℕ) (old new : SessionOf) (ran : SessionRun) → first_arrival there n old.level ≡ None
     → stepped n old ≡ record { run = ran; session = new } → arrived there n old ≡ record { arrival = arrival.Elsewhere ran; session = new }
 elsewhere there n old new ran none is =
     ap (arrived_by n old) none
     ∙ ap (λ (made : Stepped). record { arrival = arrival.Elsewhere made.run; session = made.session }) is
+
+-- it made them all, and stood at the place at none of them; how it ended is told by whether its run is over
+pub never_there : (there : Place) (m n : ℕ) (old middle : SessionOf) (over : Bool) → Made m old middle
+    → ((j : ℕ) → j < m → stands_at there (walk j old.level).level ≡ false) → stands_at there middle.level ≡ false
+    → m ≡ n → is_over (next_of middle.level) ≡ over
+    → arrived there n old ≡ record { arrival = arrival.Elsewhere (cond over (run.Ended n) (run.Moved n)); session = middle }
+never_there there m n old middle over made before misses all is =
+    elsewhere there n old middle (cond over (run.Ended n) (run.Moved n))
+    (misses_at_last there m n old middle made before misses all) (made_all m n old middle over made all is)
 
 -- what was done from where it was is no step
 module _ (there : Place) (m n : ℕ) (old middle : SessionOf) (after : LevelOf) (done : Advance) (made : Made m old middle)

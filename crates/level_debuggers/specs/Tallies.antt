@@ -27,6 +27,3 @@ noted event watch = record watch { tally = tally_step watch.rule watch.tally eve
 
 abbrev pub told : List Event → Watching → Watching
 told events watch = record watch { tally = fold (tally_step watch.rule) watch.tally events }
-
-abbrev pub watching : Rule → Tally → Watching
-watching rule tally = record { rule = rule; tally = tally }

@@ -2,23 +2,21 @@
 
 ghost use Rattle.std.specs.Prelude.{◌≡◌, ◌+◌, map, IfSome, IfNone, MatchOption, Some, None, vec_len, vec_capacity};
 ghost use Rattle.std.specs.List.{position_from};
-ghost use Rattle.level_debuggers.specs.Tallies.{noted, watching};
+ghost use Rattle.level_debuggers.specs.Tallies.{noted};
 ghost use Rattle.level_debuggers.specs.Taken.{is_same, taken};
 
 use crate::watch::{Event, Rule, Watch};
 
 /// Tells a watch a step.
 fn note(watch: &mut Box<dyn Watch>, event: &Event)
-    ensures { watching (rule_of watch.new) (tally_of watch.new)
-        ≡ noted event.now (watching (rule_of watch.old) (tally_of watch.old)) }
+    ensures { watching watch.new ≡ noted event.now (watching watch.old) }
 {
     watch.note(event);
 }
 
 /// Tells each watch a step.
 pub(crate) fn note_all(watches: &mut [Box<dyn Watch>], event: &Event)
-    ensures { map (λ w. watching (rule_of w) (tally_of w)) watches.new
-        ≡ map (noted event.now) (map (λ w. watching (rule_of w) (tally_of w)) watches.old) }
+    ensures { map watching watches.new ≡ map (noted event.now) (map watching watches.old) }
 {
     for watch in watches.iter_mut() {
         note(watch, event);
@@ -40,15 +38,14 @@ fn is_same(rule: Rule, other: Rule) -> bool
 
 /// Whether a watch has the rule.
 fn has_rule(watch: &Box<dyn Watch>, rule: Rule) -> bool
-    ensures { result ≡ is_same (watching (rule_of watch.now) (tally_of watch.now)).rule rule }
+    ensures { result ≡ is_same (watching watch.now).rule rule }
 {
     is_same(watch.rule(), rule)
 }
 
 /// The position of the first watch of a rule.
 fn place_of(watches: &[Box<dyn Watch>], rule: Rule) -> Option<usize>
-    ensures { result ≡ position_from (λ w. is_same w.rule rule) 0
-        (map (λ w. watching (rule_of w) (tally_of w)) watches.now) }
+    ensures { result ≡ position_from (λ w. is_same w.rule rule) 0 (map watching watches.now) }
 {
     for (place, watch) in watches.iter().enumerate() {
         if has_rule(watch, rule) {
@@ -60,13 +57,10 @@ fn place_of(watches: &[Box<dyn Watch>], rule: Rule) -> Option<usize>
 
 /// Takes the first watch of a rule out of a list.
 pub(crate) fn take_first(watches: &mut Vec<Box<dyn Watch>>, rule: Rule) -> Option<Box<dyn Watch>>
-    ensures none { IfNone result (taken rule (map (λ w. watching (rule_of w) (tally_of w)) watches.old.items) ≡ None) }
+    ensures none { IfNone result (taken rule (map watching watches.old.items) ≡ None) }
     ensures unchanged { IfNone result (watches.new.items ≡ watches.old.items) }
-    ensures some { IfSome result (λ first. taken rule (map (λ w. watching (rule_of w) (tally_of w)) watches.old.items)
-        ≡ Some (
-          watching (rule_of first) (tally_of first),
-          map (λ w. watching (rule_of w) (tally_of w)) watches.new.items,
-        )) }
+    ensures some { IfSome result (λ first. taken rule (map watching watches.old.items)
+        ≡ Some (watching first, map watching watches.new.items)) }
     ensures len { MatchOption result (vec_len watches.new ≡ vec_len watches.old)
         (λ first. vec_len watches.new + 1 ≡ vec_len watches.old) }
     ensures capacity { vec_capacity watches.new ≡ vec_capacity watches.old }

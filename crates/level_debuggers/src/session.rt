@@ -64,7 +64,7 @@ impl Session {
     ghost use Rattle.std.specs.Option.{option_map};
     ghost use Rattle.level_debuggers.specs.Levels.{IsRunner, has_places, level_of, program_named, show_text, up_text, words_text};
     ghost use Rattle.level_debuggers.specs.Arrivals.{arrived};
-    ghost use Rattle.level_debuggers.specs.Tallies.{noted, watching};
+    ghost use Rattle.level_debuggers.specs.Tallies.{noted};
     ghost use Rattle.level_debuggers.specs.Walks.{after_event, stepped, HasMadeSome};
     ghost use Rattle.level_debuggers.specs.Taken.{attached_by, detached_by};
     ghost use Rattle.level_debuggers.specs.Seen.Sessions.{IsSession, session_of};
@@ -77,11 +77,11 @@ impl Session {
         watches: Vec<Box<dyn Watch>>,
     ) -> Result<Session, Memory>
         requires { IsRunner runner }
-        ensures session { IfOk result (λ session. session_of (λ w. watching (rule_of w) (tally_of w)) session
+        ensures session { IfOk result (λ session. session_of (λ w. watching w) session
             ≡ record {
               level = level_of runner;
               steps = 0;
-              waiting = map (λ w. watching (rule_of w) (tally_of w)) watches.items;
+              waiting = map watching watches.items;
               attached = [];
             }) }
         ensures is { IfOk result IsSession }
@@ -101,12 +101,11 @@ impl Session {
     ///
     /// No watch of the rule waits; nothing has changed.
     pub fn attach(&mut self, rule: Rule) -> Result<(), Absent>
-        ensures attached { OnOk result (attached_by rule (session_of (λ w. watching (rule_of w) (tally_of w)) self.old)
-            ≡ Some (session_of (λ w. watching (rule_of w) (tally_of w)) self.new)) }
-        ensures absent { OnErr result (attached_by rule (session_of (λ w. watching (rule_of w) (tally_of w)) self.old)
-            ≡ None) }
-        ensures unchanged { OnErr result (session_of (λ w. watching (rule_of w) (tally_of w)) self.new
-            ≡ session_of (λ w. watching (rule_of w) (tally_of w)) self.old) }
+        ensures attached { OnOk result (attached_by rule (session_of (λ w. watching w) self.old)
+            ≡ Some (session_of (λ w. watching w) self.new)) }
+        ensures absent { OnErr result (attached_by rule (session_of (λ w. watching w) self.old) ≡ None) }
+        ensures unchanged { OnErr result (session_of (λ w. watching w) self.new
+            ≡ session_of (λ w. watching w) self.old) }
         ensures is { IsSession self.old → IsSession self.new }
     {
         let Some(watch) = take_first(&mut self.waiting, rule) else {
@@ -125,12 +124,11 @@ impl Session {
     /// No watch of the rule is attached; nothing has changed.
     pub fn detach(&mut self, rule: Rule) -> Result<Tally, Absent>
         ensures detached { IfOk result (λ tally.
-            detached_by rule (session_of (λ w. watching (rule_of w) (tally_of w)) self.old)
-            ≡ Some (tally, session_of (λ w. watching (rule_of w) (tally_of w)) self.new)) }
-        ensures absent { OnErr result (detached_by rule (session_of (λ w. watching (rule_of w) (tally_of w)) self.old)
-            ≡ None) }
-        ensures unchanged { OnErr result (session_of (λ w. watching (rule_of w) (tally_of w)) self.new
-            ≡ session_of (λ w. watching (rule_of w) (tally_of w)) self.old) }
+            detached_by rule (session_of (λ w. watching w) self.old)
+            ≡ Some (tally, session_of (λ w. watching w) self.new)) }
+        ensures absent { OnErr result (detached_by rule (session_of (λ w. watching w) self.old) ≡ None) }
+        ensures unchanged { OnErr result (session_of (λ w. watching w) self.new
+            ≡ session_of (λ w. watching w) self.old) }
         ensures is { IsSession self.old → IsSession self.new }
     {
         match take_first(&mut self.attached, rule) {
@@ -141,8 +139,8 @@ impl Session {
 
     /// Notes a step that the run has made.
     fn note(&mut self, event: &Event)
-        ensures noted { session_of (λ w. watching (rule_of w) (tally_of w)) self.new
-            ≡ after_event event.now (session_of (λ w. watching (rule_of w) (tally_of w)) self.old) }
+        ensures noted { session_of (λ w. watching w) self.new
+            ≡ after_event event.now (session_of (λ w. watching w) self.old) }
         ensures is { IsSession self.old → IsSession self.new }
     {
         self.steps = self.steps.saturating_add(1);
@@ -157,10 +155,10 @@ impl Session {
     /// Out of memory: the steps that were made stand, and a further call goes on from them (`sessions_go_on`).
     pub fn step(&mut self, alloc: Global, n: u64) -> Result<SessionRun, Memory>
         requires { IsSession self.old }
-        ensures ran { IfOk result (λ run. stepped n (session_of (λ w. watching (rule_of w) (tally_of w)) self.old)
-            ≡ record { run = run; session = session_of (λ w. watching (rule_of w) (tally_of w)) self.new }) }
-        ensures memory { OnErr result (HasMadeSome n (session_of (λ w. watching (rule_of w) (tally_of w)) self.old)
-            (session_of (λ w. watching (rule_of w) (tally_of w)) self.new)) }
+        ensures ran { IfOk result (λ run. stepped n (session_of (λ w. watching w) self.old)
+            ≡ record { run = run; session = session_of (λ w. watching w) self.new }) }
+        ensures memory { OnErr result (HasMadeSome n (session_of (λ w. watching w) self.old)
+            (session_of (λ w. watching w) self.new)) }
         ensures is { IsSession self.new }
     {
         for made in 0..n {
@@ -180,7 +178,7 @@ impl Session {
     /// Whether runs of the session's level stand at such places: those of Piton at instructions of programs, the others at
     /// numbers.
     pub fn has_places(&self, place: &Place) -> bool
-        ensures { let session = session_of (λ w. watching (rule_of w) (tally_of w)) self.now in
+        ensures { let session = session_of (λ w. watching w) self.now in
             result ≡ has_places session.level place.now }
     {
         self.level.has_places(place)
@@ -195,10 +193,10 @@ impl Session {
     pub fn until(&mut self, alloc: Global, place: &Place, limit: u64) -> Result<Arrival, Memory>
         requires { IsSession self.old }
         ensures ran { IfOk result (λ arrival.
-            arrived place.now limit (session_of (λ w. watching (rule_of w) (tally_of w)) self.old)
-            ≡ record { arrival = arrival; session = session_of (λ w. watching (rule_of w) (tally_of w)) self.new }) }
-        ensures memory { OnErr result (HasMadeSome limit (session_of (λ w. watching (rule_of w) (tally_of w)) self.old)
-            (session_of (λ w. watching (rule_of w) (tally_of w)) self.new)) }
+            arrived place.now limit (session_of (λ w. watching w) self.old)
+            ≡ record { arrival = arrival; session = session_of (λ w. watching w) self.new }) }
+        ensures memory { OnErr result (HasMadeSome limit (session_of (λ w. watching w) self.old)
+            (session_of (λ w. watching w) self.new)) }
         ensures is { IsSession self.new }
     {
         for made in 0..limit {
@@ -225,7 +223,7 @@ impl Session {
     ///
     /// The only error is out of memory.
     pub fn words(&self, alloc: Global, address: u32, count: u32) -> Result<Option<Vec<u8>>, Memory>
-        ensures { let session = session_of (λ w. watching (rule_of w) (tally_of w)) self.now in
+        ensures { let session = session_of (λ w. watching w) self.now in
             IfOk result (λ text. option_map (λ t. t.items) text ≡ words_text session.level address count) }
     {
         self.level.words(alloc, address, count)
@@ -234,7 +232,7 @@ impl Session {
     /// The name of the program at a position, in a run of Piton's machine; where there is none there, that of the main program.
     /// `None` exactly at the other levels, where runs have no programs.
     pub fn program_name(&self, program: u32) -> Option<&Name>
-        ensures { let session = session_of (λ w. watching (rule_of w) (tally_of w)) self.now in
+        ensures { let session = session_of (λ w. watching w) self.now in
             option_map (λ name. name.now) result ≡ program_named session.level program }
     {
         self.level.program_name(program)
@@ -248,7 +246,7 @@ impl Session {
     /// The only error is out of memory.
     pub fn show(&self, alloc: Global) -> Result<Vec<u8>, Memory>
         requires { IsSession self.now }
-        ensures { let session = session_of (λ w. watching (rule_of w) (tally_of w)) self.now in
+        ensures { let session = session_of (λ w. watching w) self.now in
             IfOk result (λ text. text.items ≡ show_text session.level session.steps) }
     {
         self.level.show(alloc, self.steps)
@@ -265,7 +263,7 @@ impl Session {
     ///
     /// The only error is out of memory.
     pub fn up(&self, alloc: Global) -> Result<Vec<u8>, Memory>
-        ensures { let session = session_of (λ w. watching (rule_of w) (tally_of w)) self.now in
+        ensures { let session = session_of (λ w. watching w) self.now in
             IfOk result (λ text. text.items ≡ up_text session.level) }
     {
         self.level.up(alloc)
@@ -274,7 +272,7 @@ impl Session {
     /// Hands the run back as it stands: a session can begin with it again. Each watch, waiting or attached, is dropped. It
     /// takes no memory.
     pub fn finish(self) -> Runner
-        ensures level { level_of result ≡ (session_of (λ w. watching (rule_of w) (tally_of w)) self).level }
+        ensures level { level_of result ≡ (session_of (λ w. watching w) self).level }
         ensures is { IsSession self → IsRunner result }
     {
         self.level.into_runner()

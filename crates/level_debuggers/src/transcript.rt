@@ -2,7 +2,6 @@
 
 ghost use Rattle.std.specs.Prelude.{◌≡◌, ◌++◌, IfOk, OnErr};
 ghost use Rattle.level_debuggers.specs.Seen.Sessions.{IsSession, session_of};
-ghost use Rattle.level_debuggers.specs.Tallies.{watching};
 ghost use Rattle.level_debuggers.specs.Transcripts.{IsLeftBy, IsLeftIn, IsSaid, arrival_end, arrival_text, attach_said, attached_word, detach_said, followed, rule_of_word, run_end, run_text, said_to, until_said, words_said};
 ghost use Rattle.level_debuggers.specs.Levels.{words_text};
 ghost use Rattle.level_debuggers.specs.Walks.{HasMadeSome};
@@ -78,12 +77,10 @@ fn push_attach(
 ) -> Result<Option<ScriptEnd>, Memory>
     requires { IsSession session.old }
     ensures said { IfOk result (λ end.
-        IsSaid (attach_said line watch
-        (session_of (λ w. watching (rule_of w) (tally_of w)) session.old))
-        text.old.items text.new.items end
-        (session_of (λ w. watching (rule_of w) (tally_of w)) session.new)) }
-    ensures memory { OnErr result (session_of (λ w. watching (rule_of w) (tally_of w)) session.new
-        ≡ (attach_said line watch (session_of (λ w. watching (rule_of w) (tally_of w)) session.old)).session) }
+        IsSaid (attach_said line watch (session_of (λ w. watching w) session.old))
+        text.old.items text.new.items end (session_of (λ w. watching w) session.new)) }
+    ensures memory { OnErr result (session_of (λ w. watching w) session.new
+        ≡ (attach_said line watch (session_of (λ w. watching w) session.old)).session) }
     ensures is { IsSession session.new }
 {
     match session.attach(rule_of_word(watch)) {
@@ -105,12 +102,10 @@ fn push_detach(
 ) -> Result<Option<ScriptEnd>, Memory>
     requires { IsSession session.old }
     ensures said { IfOk result (λ end.
-        IsSaid (detach_said line watch
-        (session_of (λ w. watching (rule_of w) (tally_of w)) session.old))
-        text.old.items text.new.items end
-        (session_of (λ w. watching (rule_of w) (tally_of w)) session.new)) }
-    ensures memory { OnErr result (session_of (λ w. watching (rule_of w) (tally_of w)) session.new
-        ≡ (detach_said line watch (session_of (λ w. watching (rule_of w) (tally_of w)) session.old)).session) }
+        IsSaid (detach_said line watch (session_of (λ w. watching w) session.old))
+        text.old.items text.new.items end (session_of (λ w. watching w) session.new)) }
+    ensures memory { OnErr result (session_of (λ w. watching w) session.new
+        ≡ (detach_said line watch (session_of (λ w. watching w) session.old)).session) }
     ensures is { IsSession session.new }
 {
     let rule = rule_of_word(watch);
@@ -132,8 +127,7 @@ fn push_words(
     count: u32,
     text: &mut Vec<u8>,
 ) -> Result<Option<ScriptEnd>, Memory>
-    ensures { let session = session_of
-        (λ w. watching (rule_of w) (tally_of w)) session.now in
+    ensures { let session = session_of (λ w. watching w) session.now in
         IfOk result (λ end. IsSaid (words_said line session (words_text session.level address count))
         text.old.items text.new.items end session) }
 {
@@ -176,13 +170,10 @@ fn push_until(
 ) -> Result<Option<ScriptEnd>, Memory>
     requires { IsSession session.old }
     ensures said { IfOk result (λ end.
-        IsSaid (until_said line place.now limit
-        (session_of (λ w. watching (rule_of w) (tally_of w)) session.old))
-        text.old.items text.new.items end
-        (session_of (λ w. watching (rule_of w) (tally_of w)) session.new)) }
+        IsSaid (until_said line place.now limit (session_of (λ w. watching w) session.old))
+        text.old.items text.new.items end (session_of (λ w. watching w) session.new)) }
     ensures memory { OnErr result (HasMadeSome limit
-        (session_of (λ w. watching (rule_of w) (tally_of w)) session.old)
-        (session_of (λ w. watching (rule_of w) (tally_of w)) session.new)) }
+        (session_of (λ w. watching w) session.old) (session_of (λ w. watching w) session.new)) }
     ensures is { IsSession session.new }
 {
     if !session.has_places(place) {
@@ -201,13 +192,10 @@ pub fn push_answer(
 ) -> Result<Option<ScriptEnd>, Memory>
     requires { IsSession session.old }
     ensures said { IfOk result (λ end.
-        IsSaid (said_to line.now
-        (session_of (λ w. watching (rule_of w) (tally_of w)) session.old))
-        text.old.items text.new.items end
-        (session_of (λ w. watching (rule_of w) (tally_of w)) session.new)) }
+        IsSaid (said_to line.now (session_of (λ w. watching w) session.old))
+        text.old.items text.new.items end (session_of (λ w. watching w) session.new)) }
     ensures memory { OnErr result (IsLeftBy line.now.line line.now.command
-        (session_of (λ w. watching (rule_of w) (tally_of w)) session.old)
-        (session_of (λ w. watching (rule_of w) (tally_of w)) session.new)) }
+        (session_of (λ w. watching w) session.old) (session_of (λ w. watching w) session.new)) }
     ensures is { IsSession session.new }
 {
     match &line.command {
@@ -248,17 +236,14 @@ pub fn follow(
 ) -> Result<ScriptEnd, Memory>
     requires { IsSession session.old }
     ensures followed { IfOk result (λ end.
-        followed text.old.items lines.now
-        (session_of (λ w. watching (rule_of w) (tally_of w)) session.old)
+        followed text.old.items lines.now (session_of (λ w. watching w) session.old)
         ≡ record {
           text = text.new.items;
           end = end;
-          session =
-              session_of (λ w. watching (rule_of w) (tally_of w)) session.new;
+          session = session_of (λ w. watching w) session.new;
         }) }
     ensures memory { OnErr result (IsLeftIn lines.now
-        (session_of (λ w. watching (rule_of w) (tally_of w)) session.old)
-        (session_of (λ w. watching (rule_of w) (tally_of w)) session.new)) }
+        (session_of (λ w. watching w) session.old) (session_of (λ w. watching w) session.new)) }
     ensures is { IsSession session.new }
 {
     for line in lines {

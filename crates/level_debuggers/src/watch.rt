@@ -38,27 +38,21 @@ pub struct Tally {
 
 /// Is told each step of a run, and keeps a tally by its rule.
 pub trait Watch: Drop {
-    ghost use Rattle.level_debuggers.specs.declared.watch.Rule.{Rule};
-    ghost use Rattle.level_debuggers.specs.declared.watch.Tally.{Tally};
     ghost use Rattle.std.specs.Prelude.{◌≡◌};
-    ghost use Rattle.level_debuggers.specs.Tallies.{tally_step};
+    ghost use Rattle.level_debuggers.specs.Tallies.{Watching, noted};
 
-    /// What it keeps.
-    ghost rule_of: { Self → Rule };
-
-    /// What it has kept so far.
-    ghost tally_of: { Self → Tally };
+    /// What clauses see of it: its rule, and what it has kept so far.
+    ghost watching: { Self → Watching };
 
     /// The rule by which it keeps its tally.
     fn rule(&self) -> Rule
-        ensures { result ≡ rule_of self.now };
+        ensures { result ≡ (watching self.now).rule };
 
     /// Tells it a step. It takes no memory.
     fn note(&mut self, event: &Event)
-        ensures rule { rule_of self.new ≡ rule_of self.old }
-        ensures tally { tally_of self.new ≡ tally_step (rule_of self.old) (tally_of self.old) event.now };
+        ensures { watching self.new ≡ noted event.now (watching self.old) };
 
     /// What it has kept.
     fn tally(&self) -> Tally
-        ensures { result ≡ tally_of self.now };
+        ensures { result ≡ (watching self.now).tally };
 }

@@ -1,25 +1,36 @@
 //! A watch of each rule.
 
 ghost use Rattle.std.specs.Prelude.{◌≡◌, drop, ◌++◌, ◌∷◌, []};
-ghost use Rattle.level_debuggers.specs.Tallies.{no_events};
 
 use crate::watch::{Event, Rule, Tally, Watch};
-use std::marker::Model;
+use std::marker::{Model, PhantomData};
 
-/// The tally of no events.
-const NO_EVENTS: Tally = Tally {
-    count: 0,
-    peak: 0,
-    last: [0; 8],
-};
+/// A rule, as a type: the one that a watch keeps its tally by.
+pub trait TallyRule {
+    ghost use Rattle.std.specs.Prelude.{◌≡◌};
+    ghost use Rattle.level_debuggers.specs.declared.watch.Rule.{Rule};
+    ghost use Rattle.level_debuggers.specs.Tallies.{tally_step};
 
-/// Counts the events.
-#[derive(Drop)]
-pub struct CountWatch {
-    tally: Tally,
+    /// The rule.
+    ghost rule: { Rule };
+
+    /// The rule.
+    fn rule() -> Rule
+        ensures { result ≡ rule };
+
+    /// Adds an event to a tally.
+    fn add(tally: &mut Tally, event: &Event)
+        ensures { tally.new ≡ tally_step rule tally.old event.now };
 }
 
-impl Model for CountWatch {
+/// A watch of one rule.
+#[derive(Drop)]
+pub struct RuleWatch<R> {
+    tally: Tally,
+    rule: PhantomData<R>,
+}
+
+impl<R> Model for RuleWatch<R> {
     ghost use Rattle.level_debuggers.specs.declared.watch.Tally.{Tally};
 
     ghost Value = { Tally };
@@ -27,168 +38,125 @@ impl Model for CountWatch {
     ghost view = { λ watch. watch.tally };
 }
 
-impl CountWatch {
+impl<R> RuleWatch<R> {
+    ghost use Rattle.std.specs.Prelude.{◌≡◌};
+    ghost use Rattle.level_debuggers.specs.Tallies.{no_events};
+
     /// One that was told nothing.
-    pub fn new() -> CountWatch
+    pub fn new() -> RuleWatch<R>
         ensures { result ≡ no_events }
     {
-        CountWatch { tally: NO_EVENTS }
+        RuleWatch {
+            tally: Tally {
+                count: 0,
+                peak: 0,
+                last: [0; 8],
+            },
+            rule: PhantomData,
+        }
     }
 }
 
-impl Watch for CountWatch {
-    ghost use Rattle.level_debuggers.specs.declared.watch.Rule.TheVariants.{Count};
-
-    ghost rule_of = { λ _. Count };
-
-    ghost tally_of = { λ tally. tally };
+impl<R: TallyRule> Watch for RuleWatch<R> {
+    ghost watching = { λ tally. record { rule = R.rule; tally = tally } };
 
     fn rule(&self) -> Rule {
+        R::rule()
+    }
+
+    fn note(&mut self, event: &Event) {
+        R::add(&mut self.tally, event);
+    }
+
+    fn tally(&self) -> Tally {
+        self.tally
+    }
+}
+
+/// The rule of `CountWatch`.
+pub struct CountRule;
+
+impl TallyRule for CountRule {
+    ghost use Rattle.level_debuggers.specs.declared.watch.Rule.TheVariants.{Count};
+
+    ghost rule = { Count };
+
+    fn rule() -> Rule {
         Rule::Count
     }
 
-    fn note(&mut self, _event: &Event) {
-        self.tally.count = self.tally.count.saturating_add(1);
-    }
-
-    fn tally(&self) -> Tally {
-        self.tally
+    fn add(tally: &mut Tally, _event: &Event) {
+        tally.count = tally.count.saturating_add(1);
     }
 }
 
-/// Adds up what the events cost.
-#[derive(Drop)]
-pub struct CostWatch {
-    tally: Tally,
-}
+/// The rule of `CostWatch`.
+pub struct CostRule;
 
-impl Model for CostWatch {
-    ghost use Rattle.level_debuggers.specs.declared.watch.Tally.{Tally};
-
-    ghost Value = { Tally };
-
-    ghost view = { λ watch. watch.tally };
-}
-
-impl CostWatch {
-    /// One that was told nothing.
-    pub fn new() -> CostWatch
-        ensures { result ≡ no_events }
-    {
-        CostWatch { tally: NO_EVENTS }
-    }
-}
-
-impl Watch for CostWatch {
+impl TallyRule for CostRule {
     ghost use Rattle.level_debuggers.specs.declared.watch.Rule.TheVariants.{Cost};
 
-    ghost rule_of = { λ _. Cost };
+    ghost rule = { Cost };
 
-    ghost tally_of = { λ tally. tally };
-
-    fn rule(&self) -> Rule {
+    fn rule() -> Rule {
         Rule::Cost
     }
 
-    fn note(&mut self, event: &Event) {
-        self.tally.count = self.tally.count.saturating_add(event.cost);
-    }
-
-    fn tally(&self) -> Tally {
-        self.tally
+    fn add(tally: &mut Tally, event: &Event) {
+        tally.count = tally.count.saturating_add(event.cost);
     }
 }
 
-/// Keeps the greatest depth.
-#[derive(Drop)]
-pub struct PeakWatch {
-    tally: Tally,
-}
+/// The rule of `PeakWatch`.
+pub struct PeakRule;
 
-impl Model for PeakWatch {
-    ghost use Rattle.level_debuggers.specs.declared.watch.Tally.{Tally};
-
-    ghost Value = { Tally };
-
-    ghost view = { λ watch. watch.tally };
-}
-
-impl PeakWatch {
-    /// One that was told nothing.
-    pub fn new() -> PeakWatch
-        ensures { result ≡ no_events }
-    {
-        PeakWatch { tally: NO_EVENTS }
-    }
-}
-
-impl Watch for PeakWatch {
+impl TallyRule for PeakRule {
     ghost use Rattle.level_debuggers.specs.declared.watch.Rule.TheVariants.{Peak};
 
-    ghost rule_of = { λ _. Peak };
+    ghost rule = { Peak };
 
-    ghost tally_of = { λ tally. tally };
-
-    fn rule(&self) -> Rule {
+    fn rule() -> Rule {
         Rule::Peak
     }
 
-    fn note(&mut self, event: &Event) {
-        self.tally.count = self.tally.count.saturating_add(1);
-        self.tally.peak = self.tally.peak.max(event.depth);
-    }
-
-    fn tally(&self) -> Tally {
-        self.tally
+    fn add(tally: &mut Tally, event: &Event) {
+        tally.count = tally.count.saturating_add(1);
+        tally.peak = tally.peak.max(event.depth);
     }
 }
 
-/// Keeps the places of the latest eight events.
-#[derive(Drop)]
-pub struct LastWatch {
-    tally: Tally,
-}
+/// The rule of `LastWatch`.
+pub struct LastRule;
 
-impl Model for LastWatch {
-    ghost use Rattle.level_debuggers.specs.declared.watch.Tally.{Tally};
-
-    ghost Value = { Tally };
-
-    ghost view = { λ watch. watch.tally };
-}
-
-impl LastWatch {
-    /// One that was told nothing.
-    pub fn new() -> LastWatch
-        ensures { result ≡ no_events }
-    {
-        LastWatch { tally: NO_EVENTS }
-    }
-}
-
-impl Watch for LastWatch {
+impl TallyRule for LastRule {
     ghost use Rattle.level_debuggers.specs.declared.watch.Rule.TheVariants.{Last};
 
-    ghost rule_of = { λ _. Last };
+    ghost rule = { Last };
 
-    ghost tally_of = { λ tally. tally };
-
-    fn rule(&self) -> Rule {
+    fn rule() -> Rule {
         Rule::Last
     }
 
-    fn note(&mut self, event: &Event) {
-        self.tally = Tally {
-            count: self.tally.count.saturating_add(1),
-            peak: self.tally.peak,
-            last: with_last(&self.tally.last, event.place),
+    fn add(tally: &mut Tally, event: &Event) {
+        *tally = Tally {
+            count: tally.count.saturating_add(1),
+            peak: tally.peak,
+            last: with_last(&tally.last, event.place),
         };
     }
-
-    fn tally(&self) -> Tally {
-        self.tally
-    }
 }
+
+/// Counts the events.
+pub type CountWatch = RuleWatch<CountRule>;
+
+/// Adds up what the events cost.
+pub type CostWatch = RuleWatch<CostRule>;
+
+/// Keeps the greatest depth.
+pub type PeakWatch = RuleWatch<PeakRule>;
+
+/// Keeps the places of the latest eight events.
+pub type LastWatch = RuleWatch<LastRule>;
 
 /// The places without the first, and a place behind them.
 fn with_last(places: &[u32; 8], place: u32) -> [u32; 8]

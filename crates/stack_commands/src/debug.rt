@@ -4,7 +4,7 @@ ghost use Rattle.gypsy_space.specs.Needs.{stack_sizes};
 ghost use Rattle.gypsy_syntax.specs.Seen.SourceView.{source_of};
 ghost use Rattle.level_debuggers.specs.Levels.{IsRunner, level_of};
 ghost use Rattle.level_debuggers.specs.Seen.Sessions.{session_of};
-ghost use Rattle.level_debuggers.specs.Tallies.{Watching, watching};
+ghost use Rattle.level_debuggers.specs.Tallies.{Watching};
 ghost use Rattle.stack_build.specs.Starts.{GivesStart};
 ghost use Rattle.debug_script.specs.Scripts.{fault_of, script_of};
 ghost use Rattle.command_line.specs.declared.role.Role.TheVariants as Role;
@@ -181,8 +181,7 @@ fn refused_script(alloc: Global, fault: ScriptFault) -> Result<Plan, Memory>
 
 /// How the command ends with its script.
 pub(crate) fn end_verdict(session: &Session, end: ScriptEnd) -> Result<Verdict, Memory>
-    ensures { let session = session_of
-        (λ w. watching (rule_of (w.vtable, w.value)) (tally_of (w.vtable, w.value))) session.now in
+    ensures { let session = session_of (λ w. watching (w.vtable, w.value)) session.now in
         IfOk result (λ verdict. verdict ≡ end_verdict session.level end) }
 {
     match end {

@@ -5,7 +5,6 @@ ghost use Rattle.stack_shelf.specs.Shelf.{appended, PrefixAppended};
 ghost use Rattle.command_line.specs.Devices.{lines_of, took_each};
 ghost use Rattle.level_debuggers.specs.Levels.{IsRunner};
 ghost use Rattle.level_debuggers.specs.Seen.Sessions.{IsSession, session_of};
-ghost use Rattle.level_debuggers.specs.Tallies.{watching};
 ghost use Rattle.level_debuggers.specs.Transcripts.{followed};
 ghost use Rattle.stack_commands.specs.Commands.Debug.{end_verdict, followed_reply};
 ghost use Rattle.stack_commands.specs.Plans.{script_run_reply};
@@ -30,12 +29,10 @@ fn print_answers<K: Sink>(
 ) -> Result<ScriptEnd, PutFault>
     requires { IsSession session.old }
     ensures all { IfOk result (λ end. AllPrinted K.took out.old out.new (K.taken out.old) (K.taken out.new)
-        (followed [] lines.now (session_of
-        (λ w. watching (rule_of (w.vtable, w.value)) (tally_of (w.vtable, w.value))) session.old)) end
-        (session_of (λ w. watching (rule_of (w.vtable, w.value)) (tally_of (w.vtable, w.value))) session.new)) }
+        (followed [] lines.now (session_of (λ w. watching (w.vtable, w.value)) session.old)) end
+        (session_of (λ w. watching (w.vtable, w.value)) session.new)) }
     ensures prefix { OnErr result (PrefixAppended (K.taken out.old) (K.taken out.new)
-        (followed [] lines.now (session_of
-        (λ w. watching (rule_of (w.vtable, w.value)) (tally_of (w.vtable, w.value))) session.old)).text) }
+        (followed [] lines.now (session_of (λ w. watching (w.vtable, w.value)) session.old)).text) }
     ensures failed { IsErrOf result PutFault.Failed → Rose (K.faults out.old) (K.faults out.new) }
     ensures faults { K.faults out.old ≤ K.faults out.new }
 {
@@ -61,17 +58,13 @@ fn print_end<K: Sink>(
     end: ScriptEnd,
     out: &mut K,
 ) -> Result<Status, PutFault>
-    ensures ends { let session = session_of
-        (λ w. watching (rule_of (w.vtable, w.value)) (tally_of (w.vtable, w.value))) session.now in
+    ensures ends { let session = session_of (λ w. watching (w.vtable, w.value)) session.now in
         IfOk result (λ status. status ≡ status_of (end_verdict session.level end)) }
-    ensures ok { let session = session_of
-        (λ w. watching (rule_of (w.vtable, w.value)) (tally_of (w.vtable, w.value))) session.now in
+    ensures ok { let session = session_of (λ w. watching (w.vtable, w.value)) session.now in
         OnOk result (K.taken out.new ≡ appended (K.taken out.old) (verdict_line (end_verdict session.level end))) }
-    ensures lines { let session = session_of
-        (λ w. watching (rule_of (w.vtable, w.value)) (tally_of (w.vtable, w.value))) session.now in
+    ensures lines { let session = session_of (λ w. watching (w.vtable, w.value)) session.now in
         OnOk result (out.new ≡ took_each K.took out.old (lines_of (verdict_line (end_verdict session.level end)))) }
-    ensures prefix { let session = session_of
-        (λ w. watching (rule_of (w.vtable, w.value)) (tally_of (w.vtable, w.value))) session.now in
+    ensures prefix { let session = session_of (λ w. watching (w.vtable, w.value)) session.now in
         OnErr result (PrefixAppended (K.taken out.old) (K.taken out.new)
         (verdict_line (end_verdict session.level end))) }
     ensures failed { IsErrOf result PutFault.Failed → Rose (K.faults out.old) (K.faults out.new) }
@@ -95,17 +88,17 @@ fn print_reply<K: Sink>(
     out: &mut K,
 ) -> Result<Status, PutFault>
     requires { IsSession session.old }
-    ensures ends { let reply = followed_reply (followed [] lines.now (session_of
-        (λ w. watching (rule_of (w.vtable, w.value)) (tally_of (w.vtable, w.value))) session.old)) in
+    ensures ends { let reply = followed_reply
+        (followed [] lines.now (session_of (λ w. watching (w.vtable, w.value)) session.old)) in
         IfOk result (λ status. status ≡ status_of reply.verdict) }
-    ensures ok { let reply = followed_reply (followed [] lines.now (session_of
-        (λ w. watching (rule_of (w.vtable, w.value)) (tally_of (w.vtable, w.value))) session.old)) in
+    ensures ok { let reply = followed_reply
+        (followed [] lines.now (session_of (λ w. watching (w.vtable, w.value)) session.old)) in
         OnOk result (K.taken out.new ≡ appended (K.taken out.old) (reply_text reply)) }
-    ensures lines { let reply = followed_reply (followed [] lines.now (session_of
-        (λ w. watching (rule_of (w.vtable, w.value)) (tally_of (w.vtable, w.value))) session.old)) in
+    ensures lines { let reply = followed_reply
+        (followed [] lines.now (session_of (λ w. watching (w.vtable, w.value)) session.old)) in
         OnOk result (out.new ≡ took_each K.took out.old (lines_of (reply_text reply))) }
-    ensures prefix { let reply = followed_reply (followed [] lines.now (session_of
-        (λ w. watching (rule_of (w.vtable, w.value)) (tally_of (w.vtable, w.value))) session.old)) in
+    ensures prefix { let reply = followed_reply
+        (followed [] lines.now (session_of (λ w. watching (w.vtable, w.value)) session.old)) in
         OnErr result (PrefixAppended (K.taken out.old) (K.taken out.new) (reply_text reply)) }
     ensures failed { IsErrOf result PutFault.Failed → Rose (K.faults out.old) (K.faults out.new) }
     ensures faults { K.faults out.old ≤ K.faults out.new }
@@ -129,13 +122,13 @@ pub fn tell_session<K: Sink>(
 ) -> Result<Status, PutFault>
     requires { IsRunner run.runner }
     ensures ends { IfOk result (λ status. status ≡ status_of
-        (script_run_reply (map (λ w. watching (rule_of w) (tally_of w)) watches.items) run).verdict) }
+        (script_run_reply (map watching watches.items) run).verdict) }
     ensures ok { OnOk result (K.taken out.new ≡ appended (K.taken out.old)
-        (reply_text (script_run_reply (map (λ w. watching (rule_of w) (tally_of w)) watches.items) run))) }
+        (reply_text (script_run_reply (map watching watches.items) run))) }
     ensures lines { OnOk result (out.new ≡ took_each K.took out.old (lines_of
-        (reply_text (script_run_reply (map (λ w. watching (rule_of w) (tally_of w)) watches.items) run)))) }
+        (reply_text (script_run_reply (map watching watches.items) run)))) }
     ensures prefix { OnErr result (PrefixAppended (K.taken out.old) (K.taken out.new)
-        (reply_text (script_run_reply (map (λ w. watching (rule_of w) (tally_of w)) watches.items) run))) }
+        (reply_text (script_run_reply (map watching watches.items) run))) }
     ensures failed { IsErrOf result PutFault.Failed → Rose (K.faults out.old) (K.faults out.new) }
     ensures faults { K.faults out.old ≤ K.faults out.new }
 {

@@ -1,6 +1,5 @@
 //! Prints how a command ended, and keeps its machine.
 ghost use Rattle.std.specs.Prelude.{◌≡◌, IfOk, Some, map};
-ghost use Rattle.level_debuggers.specs.Tallies.{watching};
 ghost use Rattle.stack_commands.specs.Plans.{IsEnding};
 ghost use Rattle.cli_stack.specs.World.{out_of};
 ghost use Rattle.cli_stack.specs.RepliesTo.{TookLines};
@@ -115,7 +114,7 @@ pub fn conclude<K: Sink>(
 ) -> Status
     requires { IfOk ran IsEnding }
     ensures { Concludes (TookLines K.took out.old out.new)
-        (conclusion_of (replied (map (λ w. watching (rule_of w) (tally_of w)) watches.items) ran)) result
+        (conclusion_of (replied (map watching watches.items) ran)) result
         (out_of (K.taken out.old) (K.faults out.old) kept.old)
         (out_of (K.taken out.new) (K.faults out.new) kept.new) }
 {

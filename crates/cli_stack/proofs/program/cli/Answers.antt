@@ -1,5 +1,5 @@
 use Rattle.std.proofs.Common.{List, map}
-use Rattle.level_debuggers.specs.Tallies.{Watching, watching}
+use Rattle.level_debuggers.specs.Tallies.{Watching}
 use Rattle.command_line.specs.CommandWords.{spelled}
 use Rattle.command_line.specs.CommandRows.{command_of}
 use Rattle.cli_stack.proofs.AnswerLaws.{answers_mean, answers_tell}
@@ -10,7 +10,7 @@ use Rattle.cli_stack.proofs.program.cli.Goals as goal
 pub returns-clause-promises : goal.returns-clause-promises
 returns-clause-promises g c =
     let command = command_of (spelled c.args.words.now) in
-    let watches : List Watching = map (λ w. watching ((goal.Watch-dyn g (w.vtable, w.value)).rule_of w.value) ((goal.Watch-dyn g (w.vtable, w.value)).tally_of w.value)) c.args.watches.items in
+    let watches : List Watching = map (λ w. (goal.Watch-dyn g (w.vtable, w.value)).watching w.value) c.args.watches.items in
     let built = c.builds_implement.ensures in (
       c.conclude.result,
       c.code.ensures,
@@ -20,7 +20,7 @@ returns-clause-promises g c =
 
 pub returns-clause-means : goal.returns-clause-means
 returns-clause-means g c =
-    let watches : List Watching = map (λ w. watching ((goal.Watch-dyn g (w.vtable, w.value)).rule_of w.value) ((goal.Watch-dyn g (w.vtable, w.value)).tally_of w.value)) c.args.watches.items in
+    let watches : List Watching = map (λ w. (goal.Watch-dyn g (w.vtable, w.value)).watching w.value) c.args.watches.items in
     let built = c.builds_implement.ensures in
     answers_mean built.implements built.values c.runs_are_meant.ensures c.placed_are_words.ensures
     c.moments_are_said.ensures.built c.moments_are_said.ensures.ends

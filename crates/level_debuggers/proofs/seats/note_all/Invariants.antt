@@ -1,10 +1,10 @@
 use Rattle.std.proofs.Common.{◌≡◌, map}
-use Rattle.level_debuggers.specs.Tallies.{noted, watching}
+use Rattle.level_debuggers.specs.Tallies.{noted}
 use Rattle.level_debuggers.proofs.NotedLaws.{changed}
 use Rattle.level_debuggers.proofs.seats.note_all.Given as goal
 
 abbrev pub invariant-loop-watch : goal.invariant-loop-watch
 invariant-loop-watch g l =
-    map (λ w. watching ((goal.Watch-dyn g (w.vtable, w.value)).rule_of w.value) ((goal.Watch-dyn g (w.vtable, w.value)).tally_of w.value)) l.watches
+    map (λ w. (goal.Watch-dyn g (w.vtable, w.value)).watching w.value) l.watches
     ≡ changed (noted l.event) l.watch-index
-    (map (λ w. watching ((goal.Watch-dyn g (w.vtable, w.value)).rule_of w.value) ((goal.Watch-dyn g (w.vtable, w.value)).tally_of w.value)) l.initial.watches)
+    (map (λ w. (goal.Watch-dyn g (w.vtable, w.value)).watching w.value) l.initial.watches)

@@ -1,15 +1,14 @@
-use Rattle.level_debuggers.specs.Tallies.{watching}
 use Rattle.level_debuggers.proofs.TakenLaws.{next_place, found_place}
 use Rattle.level_debuggers.proofs.seats.place_of.Goals as goal
 
 pub returns-then-has_rule : goal.returns-then-has_rule
 returns-then-has_rule g c =
     found_place c.args.watches.now c.index-watches-place.result
-    (λ w. watching ((goal.Watch-dyn g (w.vtable, w.value)).rule_of w.value) ((goal.Watch-dyn g (w.vtable, w.value)).tally_of w.value))
+    (λ w. (goal.Watch-dyn g (w.vtable, w.value)).watching w.value)
     c.args.rule c.loop-place.place _ c.loop-place-test.true c.index-watches-place.is c.loop-place.invariant c.if-has_rule.ensures
 
 pub loop-place-preserved : goal.loop-place-preserved
 loop-place-preserved g c =
     next_place c.args.watches.now c.index-watches-place.result
-    (λ w. watching ((goal.Watch-dyn g (w.vtable, w.value)).rule_of w.value) ((goal.Watch-dyn g (w.vtable, w.value)).tally_of w.value))
+    (λ w. (goal.Watch-dyn g (w.vtable, w.value)).watching w.value)
     c.args.rule c.loop-place.place _ c.loop-place-test.true c.index-watches-place.is c.loop-place.invariant c.if-has_rule.ensures

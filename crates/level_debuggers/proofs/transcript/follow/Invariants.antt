@@ -1,6 +1,5 @@
 use Rattle.std.proofs.Common.{◌≡◌, drop}
 use Rattle.level_debuggers.specs.Seen.Sessions.{IsSession, session_of}
-use Rattle.level_debuggers.specs.Tallies.{watching}
 use Rattle.level_debuggers.specs.Walks.{SessionOf}
 use Rattle.level_debuggers.specs.Transcripts.{IsLeftIn, followed}
 use Rattle.level_debuggers.proofs.transcript.follow.Given as goal
@@ -9,13 +8,13 @@ abbrev pub invariant-loop-line : goal.invariant-loop-line
 invariant-loop-line g l = record {
   followed :
       followed l.text.items (drop l.line-index l.lines)
-      (session_of (λ w. watching ((goal.Watch-dyn g (w.vtable, w.value)).rule_of w.value) ((goal.Watch-dyn g (w.vtable, w.value)).tally_of w.value)) l.session)
+      (session_of (λ w. (goal.Watch-dyn g (w.vtable, w.value)).watching w.value) l.session)
       ≡ followed l.initial.text.items l.lines
-      (session_of (λ w. watching ((goal.Watch-dyn g (w.vtable, w.value)).rule_of w.value) ((goal.Watch-dyn g (w.vtable, w.value)).tally_of w.value)) l.initial.session);
+      (session_of (λ w. (goal.Watch-dyn g (w.vtable, w.value)).watching w.value) l.initial.session);
   left :
       (left : SessionOf) → IsLeftIn (drop l.line-index l.lines)
-      (session_of (λ w. watching ((goal.Watch-dyn g (w.vtable, w.value)).rule_of w.value) ((goal.Watch-dyn g (w.vtable, w.value)).tally_of w.value)) l.session) left
+      (session_of (λ w. (goal.Watch-dyn g (w.vtable, w.value)).watching w.value) l.session) left
       → IsLeftIn l.lines
-      (session_of (λ w. watching ((goal.Watch-dyn g (w.vtable, w.value)).rule_of w.value) ((goal.Watch-dyn g (w.vtable, w.value)).tally_of w.value)) l.initial.session) left;
+      (session_of (λ w. (goal.Watch-dyn g (w.vtable, w.value)).watching w.value) l.initial.session) left;
   is : IsSession l.session;
 }

@@ -1,7 +1,6 @@
 use Rattle.std.proofs.Common.{Result, Ok, Err, ap, subst}
 use Rattle.std.specs.Prelude.{OnErr}
 use Rattle.level_debuggers.specs.Seen.Sessions.{session_of}
-use Rattle.level_debuggers.specs.Tallies.{watching}
 use Rattle.level_debuggers.specs.Arrivals.{Arrived}
 use Rattle.level_debuggers.specs.Walks.{HasMadeSome, SessionOf}
 use Rattle.level_debuggers.proofs.ArrivalLaws.{arrived_some}
@@ -14,8 +13,7 @@ on_any (Err e) p = p
 
 pub returns-clause-memory : goal.returns-clause-memory
 returns-clause-memory g c =
-    let old = (session_of (λ w. watching ((goal.Watch-dyn g (w.vtable, w.value)).rule_of w.value)
-    ((goal.Watch-dyn g (w.vtable, w.value)).tally_of w.value)) c.args.session.now) in
+    let old = (session_of (λ w. (goal.Watch-dyn g (w.vtable, w.value)).watching w.value) c.args.session.now) in
     on_any c.push_arrival.result
     (subst (λ (left : SessionOf). HasMadeSome c.args.limit old left) (ap (λ (made : Arrived). made.session) c.in_ok-arrival.ensures.ran)
     (arrived_some c.args.place.now c.args.limit old))

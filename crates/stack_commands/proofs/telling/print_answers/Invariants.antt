@@ -1,7 +1,6 @@
 use Rattle.std.proofs.Common.{◌≤◌, drop}
 use Rattle.std.specs.Prelude.{[]}
 use Rattle.level_debuggers.specs.Seen.Sessions.{IsSession, session_of}
-use Rattle.level_debuggers.specs.Tallies.{watching}
 use Rattle.level_debuggers.specs.Transcripts.{followed}
 use Rattle.stack_commands.proofs.TranscriptLaws.{SoFar}
 use Rattle.stack_commands.proofs.telling.print_answers.Given as goal
@@ -12,9 +11,9 @@ invariant-loop-line g l =
     record {
       so_far :
           SoFar sink.took l.initial.out l.out (sink.taken l.initial.out) (sink.taken l.out)
-          (followed [] l.lines (session_of (λ w. watching ((goal.Watch-dyn g (w.vtable, w.value)).rule_of w.value) ((goal.Watch-dyn g (w.vtable, w.value)).tally_of w.value)) l.initial.session))
+          (followed [] l.lines (session_of (λ w. (goal.Watch-dyn g (w.vtable, w.value)).watching w.value) l.initial.session))
           (drop l.line-index l.lines)
-          (session_of (λ w. watching ((goal.Watch-dyn g (w.vtable, w.value)).rule_of w.value) ((goal.Watch-dyn g (w.vtable, w.value)).tally_of w.value)) l.session);
+          (session_of (λ w. (goal.Watch-dyn g (w.vtable, w.value)).watching w.value) l.session);
       faults : sink.faults l.initial.out ≤ sink.faults l.out;
       is : IsSession l.session;
     }

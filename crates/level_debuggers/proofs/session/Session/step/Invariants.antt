@@ -1,4 +1,3 @@
-use Rattle.level_debuggers.specs.Tallies.{watching}
 use Rattle.level_debuggers.specs.Seen.Sessions.{IsSession, session_of}
 use Rattle.level_debuggers.proofs.WalkLaws.{Made}
 use Rattle.level_debuggers.proofs.session.Session.step.Given as goal
@@ -7,7 +6,7 @@ abbrev pub invariant-loop-made : goal.invariant-loop-made
 invariant-loop-made g l = record {
   made :
       Made l.made
-      (session_of (λ w. watching ((goal.Watch-dyn g (w.vtable, w.value)).rule_of w.value) ((goal.Watch-dyn g (w.vtable, w.value)).tally_of w.value)) l.initial.self)
-      (session_of (λ w. watching ((goal.Watch-dyn g (w.vtable, w.value)).rule_of w.value) ((goal.Watch-dyn g (w.vtable, w.value)).tally_of w.value)) l.self);
+      (session_of (λ w. (goal.Watch-dyn g (w.vtable, w.value)).watching w.value) l.initial.self)
+      (session_of (λ w. (goal.Watch-dyn g (w.vtable, w.value)).watching w.value) l.self);
   is : IsSession l.self;
 }

@@ -1,6 +1,5 @@
 use Rattle.std.proofs.Common.{◌≡◌, ◌<◌, ℕ, false}
 use Rattle.level_debuggers.specs.Levels.{stands_at}
-use Rattle.level_debuggers.specs.Tallies.{watching}
 use Rattle.level_debuggers.specs.Walks.{walk}
 use Rattle.level_debuggers.specs.Seen.Belonging.{level_seen}
 use Rattle.level_debuggers.specs.Seen.Sessions.{IsSession, session_of}
@@ -11,9 +10,8 @@ abbrev pub invariant-loop-made : goal.invariant-loop-made
 invariant-loop-made g l = record {
   made :
       Made l.made
-      (session_of (λ w. watching ((goal.Watch-dyn g (w.vtable, w.value)).rule_of w.value)
-      ((goal.Watch-dyn g (w.vtable, w.value)).tally_of w.value)) l.initial.self)
-      (session_of (λ w. watching ((goal.Watch-dyn g (w.vtable, w.value)).rule_of w.value) ((goal.Watch-dyn g (w.vtable, w.value)).tally_of w.value)) l.self);
+      (session_of (λ w. (goal.Watch-dyn g (w.vtable, w.value)).watching w.value) l.initial.self)
+      (session_of (λ w. (goal.Watch-dyn g (w.vtable, w.value)).watching w.value) l.self);
   before : (j : ℕ) → j < l.made → stands_at l.place (walk j (level_seen l.initial.self.level)).level ≡ false;
   is : IsSession l.self;
 }
