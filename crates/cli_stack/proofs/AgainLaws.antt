@@ -44,13 +44,13 @@ use Rattle.command_line.specs.Roles.{limit_of}
 use Rattle.command_line.specs.Gathered.{text_or_end}
 use Rattle.command_line.specs.CommandFiles.{inputs_of, output_of}
 use Rattle.command_line.proofs.FileLaws.{was_short}
-use Rattle.stack_commands.specs.Replies.{status_of, reply_text, all_said, judgement_reply}
-use Rattle.stack_commands.specs.Commands.Asm.{assembled_stored}
+use Rattle.command_replies.specs.Replies.{status_of, reply_text, all_said, judgement_reply}
+use Rattle.command_replies.specs.Commands.Asm.{assembled_stored}
 use Rattle.stack_commands.specs.Commands.Build.{image_stored, build_reply}
 use Rattle.stack_commands.specs.Commands.Cert.{yes_or_no, judged_reply, certificate_reply, cert_reply_by}
 use Rattle.stack_commands.specs.Commands.Need.{sizes_text, bounds_stored, bounds_reply, certified_stored, certified_reply, need_stored_by, need_reply_by}
 use Rattle.stack_commands.specs.Commands.SourceText.{accepted_in, unless_refused}
-use Rattle.stack_commands.specs.Commands.Unasm.{printed_stored, printed_reply}
+use Rattle.command_replies.specs.Commands.Unasm.{printed_stored, printed_reply}
 use Rattle.stack_commands.specs.Prepared.{stored_by, reply_by}
 use Rattle.cli_stack.specs.Again.{HasBytes, AssembledIsTheSame, NeedIsCertified, ChecksAsBuild, CheckIsOfBuild}
 use Rattle.cli_stack.specs.Answer.{Answer, set_file, answer_with, answer_on, files_after}

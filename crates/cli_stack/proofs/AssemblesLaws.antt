@@ -31,8 +31,8 @@ use Rattle.command_line.specs.Roles.{limit_of}
 use Rattle.command_line.specs.Gathered.{text_or_end}
 use Rattle.command_line.specs.CommandFiles.{inputs_of, output_of}
 use Rattle.command_line.proofs.FileLaws.{was_short}
-use Rattle.stack_commands.specs.Commands.Asm.{assembled_stored}
-use Rattle.stack_commands.specs.Commands.Unasm.{printed_stored}
+use Rattle.command_replies.specs.Commands.Asm.{assembled_stored}
+use Rattle.command_replies.specs.Commands.Unasm.{printed_stored}
 use Rattle.stack_commands.specs.Prepared.{stored_by}
 use Rattle.cli_stack.specs.Answer.{set_file, answer_on, answer_to}
 use Rattle.cli_stack.specs.Assembles.{HoldsAssembled, SpellsAgain, HoldsAssembly, StoresAssembled, StoresAssembly, Assembles}

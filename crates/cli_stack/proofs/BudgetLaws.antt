@@ -45,14 +45,14 @@ use Rattle.command_line.specs.declared.role.Role.TheVariants.{Source, Piton, Val
 use Rattle.command_line.specs.declared.status.Status.TheVariants.{Done, Unfinished}
 use Rattle.command_line.specs.CommandFiles.{inputs_of, output_of, task_inputs}
 use Rattle.command_line.specs.Gathered.{Texts, gathered, text_of, texts_of}
-use Rattle.stack_commands.specs.declared.reply.Verdict.{Verdict}
+use Rattle.command_replies.specs.declared.reply.Verdict.{Verdict}
 use Rattle.stack_commands.specs.declared.turns.tasks.TasksFault.{TasksFault}
-use Rattle.stack_commands.specs.Replies.{ReplyOf, reply_text, status_of}
+use Rattle.command_replies.specs.Replies.{ReplyOf, reply_text, status_of}
 use Rattle.stack_commands.specs.Commands.Go.{go_reply}
 use Rattle.stack_commands.specs.Commands.Mean.{mean_accepted_reply, mean_end_reply, mean_ran_reply, mean_run_reply, mean_started_reply}
-use Rattle.stack_commands.specs.Commands.PitonText.{checked_in}
-use Rattle.stack_commands.specs.Commands.Prun.{checked_run_reply, ran_reply, run_end_reply, system_run_reply}
-use Rattle.stack_commands.specs.Commands.Run.{end_reply, outcome_reply, run_reply, values_reply, image_reply}
+use Rattle.command_replies.specs.Commands.PitonText.{checked_in}
+use Rattle.command_replies.specs.Commands.Prun.{checked_run_reply, ran_reply, run_end_reply, system_run_reply}
+use Rattle.command_replies.specs.Commands.Run.{end_reply, outcome_reply, run_reply, values_reply, image_reply}
 use Rattle.stack_commands.specs.Commands.SourceText.{accepted_in}
 use Rattle.stack_commands.specs.Commands.Turns.{is_end, last_round, round_line, task_text, tasks_of, tasks_reply, tasks_text, tasks_verdict, turns_by}
 use Rattle.stack_commands.specs.Prepared.{stored_by, reply_by}

@@ -35,11 +35,11 @@ use Rattle.command_line.specs.declared.role.Role.TheVariants.{TaskSource, TaskVa
 use Rattle.command_line.specs.CommandFiles.{task_inputs, inputs_of}
 use Rattle.command_line.specs.Gathered.{Texts, texts_of, gathered}
 use Rattle.stack_commands.specs.declared.turns.tasks.TasksFault.{TasksFault}
-use Rattle.stack_commands.specs.declared.reply.Verdict.{Verdict}
-use Rattle.stack_commands.specs.declared.reply.Verdict.TheVariants.{Done, SomeUnfinished}
+use Rattle.command_replies.specs.declared.reply.Verdict.{Verdict}
+use Rattle.command_replies.specs.declared.reply.Verdict.TheVariants.{Done, SomeUnfinished}
 use Rattle.command_line.specs.declared.status.Status.TheVariants as exit
-use Rattle.stack_commands.specs.Replies.{ReplyOf, reply_text, status_of, verdict_line}
-use Rattle.stack_commands.specs.Commands.Run.{run_reply}
+use Rattle.command_replies.specs.Replies.{ReplyOf, reply_text, status_of, verdict_line}
+use Rattle.command_replies.specs.Commands.Run.{run_reply}
 use Rattle.stack_commands.specs.Prepared.{reply_by}
 use Rattle.cli_stack.specs.Answer.{answer_with, answer_on, answer_to}
 use Rattle.cli_stack.specs.Turns.{TaskOf, IsTask, AreTasks, TellsTask, TellsInTurn, IsDoneWithin, TellsTasks, TellsEach}

@@ -34,10 +34,10 @@ use Rattle.command_line.specs.CommandFiles.{inputs_of}
 use Rattle.command_line.specs.Ends.{end_status}
 use Rattle.command_line.specs.Gathered.{Texts, text_or_end}
 use Rattle.command_line.specs.Roles.{limit_of}
-use Rattle.stack_commands.specs.declared.reply.Verdict.TheVariants as verdict
-use Rattle.stack_commands.specs.Replies.{ReplyOf, status_of, verdict_line}
+use Rattle.command_replies.specs.declared.reply.Verdict.TheVariants as verdict
+use Rattle.command_replies.specs.Replies.{ReplyOf, status_of, verdict_line}
 use Rattle.stack_commands.specs.Commands.Go.{go_reply}
-use Rattle.stack_commands.specs.Commands.Run.{end_reply, run_reply, values_reply, image_file_reply}
+use Rattle.command_replies.specs.Commands.Run.{end_reply, run_reply, values_reply, image_file_reply}
 use Rattle.stack_commands.specs.Commands.SourceText.{build_verdict}
 use Rattle.stack_commands.specs.Prepared.{reply_by}
 use Rattle.cli_stack.specs.Answer.{answer_with, answer_on, answer_to}

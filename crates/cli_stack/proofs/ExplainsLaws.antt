@@ -67,11 +67,11 @@ use Rattle.command_line.specs.declared.words.reader.Level.{Level}
 use Rattle.command_line.specs.declared.words.reader.Level.TheVariants.{Gypsy, Piton, Fm9001}
 use Rattle.command_line.specs.CommandFiles.{inputs_of}
 use Rattle.command_line.specs.Gathered.{Texts, gathered}
-use Rattle.stack_commands.specs.declared.reply.Verdict.{Verdict}
-use Rattle.stack_commands.specs.Replies.{ReplyOf, reply_text, verdict_line}
+use Rattle.command_replies.specs.declared.reply.Verdict.{Verdict}
+use Rattle.command_replies.specs.Replies.{ReplyOf, reply_text, verdict_line}
 use Rattle.stack_commands.specs.Commands.SourceText.{accepted_in}
 use Rattle.stack_commands.specs.Commands.Debug.{end_verdict, error_verdict, lines_reply, or_verdict, run_at, run_in, script_reply, session_on, session_reply}
-use Rattle.stack_commands.specs.declared.reply.Verdict.TheVariants as verdict
+use Rattle.command_replies.specs.declared.reply.Verdict.TheVariants as verdict
 use Rattle.piton_machine.specs.declared.error_kind.ErrorKind.{ErrorKind}
 use Rattle.stack_commands.specs.Prepared.{reply_by}
 use Rattle.cli_stack.specs.Answer.{answer_on, answer_to}

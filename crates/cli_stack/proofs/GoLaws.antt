@@ -17,8 +17,8 @@ use Rattle.command_line.specs.declared.early_end.EarlyEnd.{EarlyEnd}
 use Rattle.command_line.specs.declared.early_end.EarlyEnd.TheVariants as early
 use Rattle.command_line.specs.declared.status.Status.TheVariants.{Done}
 use Rattle.command_line.specs.Ends.{end_status}
-use Rattle.stack_commands.specs.Replies.{status_of}
-use Rattle.stack_commands.specs.Commands.Run.{run_reply, values_reply}
+use Rattle.command_replies.specs.Replies.{status_of}
+use Rattle.command_replies.specs.Commands.Run.{run_reply, values_reply}
 use Rattle.stack_commands.specs.Commands.SourceText.{build_verdict}
 use Rattle.stack_commands.specs.Commands.Go.{go_reply}
 use Rattle.cli_stack.specs.Answer.{Answer, answer_with}

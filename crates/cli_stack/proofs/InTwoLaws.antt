@@ -16,10 +16,10 @@ use Rattle.command_line.specs.Roles.{limit_of}
 use Rattle.command_line.specs.Gathered.{text_or_end}
 use Rattle.command_line.specs.CommandFiles.{inputs_of, output_of}
 use Rattle.command_line.proofs.FileLaws.{was_short}
-use Rattle.stack_commands.specs.Replies.{ReplyOf}
+use Rattle.command_replies.specs.Replies.{ReplyOf}
 use Rattle.stack_commands.specs.Commands.Build.{image_stored, build_reply}
 use Rattle.stack_commands.specs.Commands.Go.{go_reply}
-use Rattle.stack_commands.specs.Commands.Run.{image_reply, image_file_reply}
+use Rattle.command_replies.specs.Commands.Run.{image_reply, image_file_reply}
 use Rattle.stack_commands.specs.Prepared.{stored_by, reply_by}
 use Rattle.cli_stack.specs.Answer.{Answer, set_file, answer_with, answer_on, files_after}
 use Rattle.cli_stack.specs.FilesAndSizes.{IsReadable}

@@ -18,7 +18,7 @@ use Rattle.piton_check.specs.Resolved.{resolved}
 use Rattle.piton_check.specs.Violations.{violations}
 use Rattle.piton_check.proofs.CheckedLaws.{checked_from}
 use Rattle.stack_build.proofs.KnownLaws.{tree_is_well_formed}
-use Rattle.stack_commands.specs.Commands.PitonText.{checked_unless, checked_by, checked_in}
+use Rattle.command_replies.specs.Commands.PitonText.{checked_unless, checked_by, checked_in}
 
 -- a system that is read keeps the form
 text_keeps_form : (text : List ℕ) → length text ≤ 2 ^ 31 → (system : SystemOf) → piton_in text ≡ Ok system → KeepsForm system

@@ -34,11 +34,11 @@ use Rattle.command_line.specs.Gathered.{Texts, text_or_end}
 use Rattle.command_line.specs.CommandFiles.{inputs_of, output_of}
 use Rattle.stack_text.specs.Lines.{line}
 use Rattle.command_line.proofs.FileLaws.{was_short}
-use Rattle.stack_commands.specs.declared.reply.Verdict.{Verdict}
-use Rattle.stack_commands.specs.declared.reply.Verdict.TheVariants.{Done}
-use Rattle.stack_commands.specs.Replies.{ReplyOf, status_of, verdict_line}
-use Rattle.stack_commands.specs.Commands.Run.{outcome_reply, run_reply, image_file_reply}
-use Rattle.stack_commands.specs.Commands.PitonText.{checked_in}
+use Rattle.command_replies.specs.declared.reply.Verdict.{Verdict}
+use Rattle.command_replies.specs.declared.reply.Verdict.TheVariants.{Done}
+use Rattle.command_replies.specs.Replies.{ReplyOf, status_of, verdict_line}
+use Rattle.command_replies.specs.Commands.Run.{outcome_reply, run_reply, image_file_reply}
+use Rattle.command_replies.specs.Commands.PitonText.{checked_in}
 use Rattle.stack_commands.specs.Commands.Pbuild.{is_large, checked_stored}
 use Rattle.stack_commands.specs.Prepared.{stored_by, reply_by}
 use Rattle.cli_stack.specs.Answer.{set_file, answer_on, answer_to}

@@ -47,7 +47,7 @@ use Rattle.command_line.specs.Ends.{end_status}
 use Rattle.command_line.specs.Gathered.{text_or_end}
 use Rattle.command_line.specs.Roles.{limit_of}
 use Rattle.command_line.proofs.FileLaws.{was_short}
-use Rattle.stack_commands.specs.Commands.Mini.{lowering_of, lowered_stored, lowered_reply}
+use Rattle.command_replies.specs.Commands.Mini.{lowering_of, lowered_stored, lowered_reply}
 use Rattle.stack_commands.specs.Prepared.{stored_by, reply_by}
 use Rattle.cli_stack.specs.Answer.{Answer, set_file, answer_with, answer_on, answer_to}
 use Rattle.cli_stack.specs.Implements.{HoldsImplementation, StoresImplementation}

@@ -50,11 +50,11 @@ use Rattle.command_line.specs.declared.role.Role.TheVariants as role
 use Rattle.command_line.specs.Gathered.{Texts, text_of, texts_of}
 use Rattle.stack_commands.specs.declared.turns.tasks.TasksFault.{TasksFault}
 use Rattle.stack_commands.specs.declared.turns.tasks.TasksFault.TheVariants as tasks_fault
-use Rattle.stack_commands.specs.declared.reply.Reply.{Reply}
-use Rattle.stack_commands.specs.declared.reply.SizeOf.TheVariants.{Words}
-use Rattle.stack_commands.specs.declared.reply.Verdict.{Verdict}
-use Rattle.stack_commands.specs.declared.reply.Verdict.TheVariants as verdict
-use Rattle.stack_commands.specs.Replies.{ReplyOf, reply_of, status_of, verdict_alone, judgement_reply, built_reply}
+use Rattle.command_replies.specs.declared.reply.Reply.{Reply}
+use Rattle.command_replies.specs.declared.reply.SizeOf.TheVariants.{Words}
+use Rattle.command_replies.specs.declared.reply.Verdict.{Verdict}
+use Rattle.command_replies.specs.declared.reply.Verdict.TheVariants as verdict
+use Rattle.command_replies.specs.Replies.{ReplyOf, reply_of, status_of, verdict_alone, judgement_reply, built_reply, written_reply}
 use Rattle.stack_commands.specs.Prepared.{reply_by}
 use Rattle.stack_commands.specs.Commands.Go.{go_reply}
 use Rattle.stack_commands.specs.Commands.Big.{go_on_source, big_reply}
@@ -62,15 +62,15 @@ use Rattle.stack_commands.specs.Commands.Build.{build_reply}
 use Rattle.stack_commands.specs.Commands.Debug.{run_in, lines_reply, script_reply, session_reply}
 use Rattle.stack_commands.specs.Commands.Mean.{mean_end_reply, mean_run_reply, mean_started_reply, mean_accepted_reply}
 use Rattle.stack_commands.specs.Commands.Pbuild.{is_large, linked_reply, checked_reply}
-use Rattle.stack_commands.specs.Commands.Pit.{written_reply, pit_reply}
-use Rattle.stack_commands.specs.Commands.PitonText.{checked_in}
-use Rattle.stack_commands.specs.Commands.Prun.{run_end_reply, checked_run_reply, system_run_reply}
-use Rattle.stack_commands.specs.Commands.Run.{end_reply, run_reply, values_reply, image_reply}
-use Rattle.stack_commands.specs.Commands.Show.{listing_reply}
-use Rattle.stack_commands.specs.Commands.Migrate.{migrated_reply}
-use Rattle.stack_commands.specs.Commands.Asm.{assembled_reply}
-use Rattle.stack_commands.specs.Commands.Mini.{lowering_of, lowered_reply}
-use Rattle.stack_commands.specs.Commands.Unasm.{printed_reply}
+use Rattle.stack_commands.specs.Commands.Pit.{pit_reply}
+use Rattle.command_replies.specs.Commands.PitonText.{checked_in}
+use Rattle.command_replies.specs.Commands.Prun.{run_end_reply, checked_run_reply, system_run_reply}
+use Rattle.command_replies.specs.Commands.Run.{end_reply, run_reply, values_reply, image_reply}
+use Rattle.command_replies.specs.Commands.Show.{listing_reply}
+use Rattle.command_replies.specs.Commands.Migrate.{migrated_reply}
+use Rattle.command_replies.specs.Commands.Asm.{assembled_reply}
+use Rattle.command_replies.specs.Commands.Mini.{lowering_of, lowered_reply}
+use Rattle.command_replies.specs.Commands.Unasm.{printed_reply}
 use Rattle.stack_commands.specs.Commands.Need.{bounds_reply, certified_reply, need_reply_by}
 use Rattle.stack_commands.specs.Commands.Cert.{judged_reply, certificate_reply, cert_reply_by}
 use Rattle.stack_commands.specs.Commands.SourceText.{accepted_in}

@@ -39,9 +39,9 @@ use Rattle.command_line.specs.declared.command.TaskFiles.{TaskFiles}
 use Rattle.command_line.specs.declared.status.Status.TheVariants.{Done}
 use Rattle.command_line.specs.Gathered.{Texts}
 use Rattle.command_line.specs.CommandFiles.{task_inputs, inputs_of, output_of}
-use Rattle.stack_commands.specs.declared.reply.Verdict.{Verdict}
-use Rattle.stack_commands.specs.declared.reply.Verdict.TheVariants as verdict
-use Rattle.stack_commands.specs.Replies.{ReplyOf, status_of, verdict_line}
+use Rattle.command_replies.specs.declared.reply.Verdict.{Verdict}
+use Rattle.command_replies.specs.declared.reply.Verdict.TheVariants as verdict
+use Rattle.command_replies.specs.Replies.{ReplyOf, status_of, verdict_line}
 use Rattle.stack_commands.specs.Commands.SourceText.{unless_refused, accepted_in}
 use Rattle.stack_commands.specs.Commands.Mean.{said_text, mean_end_reply, mean_run_reply, mean_started_reply, mean_accepted_reply, mean_reply}
 use Rattle.stack_commands.specs.Prepared.{reply_by}

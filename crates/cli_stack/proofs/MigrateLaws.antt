@@ -25,9 +25,9 @@ use Rattle.command_line.specs.Roles.{limit_of}
 use Rattle.command_line.specs.Gathered.{text_or_end}
 use Rattle.command_line.specs.CommandFiles.{inputs_of, output_of}
 use Rattle.command_line.proofs.FileLaws.{was_short}
-use Rattle.stack_commands.specs.Replies.{status_of}
-use Rattle.stack_commands.specs.Commands.Migrate.{migrated_stored, migrated_reply}
-use Rattle.stack_commands.specs.Commands.Run.{run_reply, values_reply, image_reply}
+use Rattle.command_replies.specs.Replies.{status_of}
+use Rattle.command_replies.specs.Commands.Migrate.{migrated_stored, migrated_reply}
+use Rattle.command_replies.specs.Commands.Run.{run_reply, values_reply, image_reply}
 use Rattle.stack_commands.specs.Prepared.{stored_by, reply_by}
 use Rattle.cli_stack.specs.Answer.{Answer, set_file, answer_with, answer_on, files_after}
 use Rattle.cli_stack.specs.Again.{HasBytes, MigratedRunsTheSame}

@@ -47,14 +47,14 @@ use Rattle.command_line.specs.Roles.{limit_of}
 use Rattle.command_line.specs.Gathered.{text_or_end}
 use Rattle.command_line.specs.CommandFiles.{inputs_of, output_of}
 use Rattle.command_line.proofs.FileLaws.{was_short}
-use Rattle.stack_commands.specs.declared.reply.SizeOf.TheVariants as size
-use Rattle.stack_commands.specs.declared.reply.Verdict.{Verdict}
-use Rattle.stack_commands.specs.declared.reply.Verdict.TheVariants as verdict
-use Rattle.stack_commands.specs.Replies.{verdict_alone, built_reply}
+use Rattle.command_replies.specs.declared.reply.SizeOf.TheVariants as size
+use Rattle.command_replies.specs.declared.reply.Verdict.{Verdict}
+use Rattle.command_replies.specs.declared.reply.Verdict.TheVariants as verdict
+use Rattle.command_replies.specs.Replies.{verdict_alone, built_reply}
 use Rattle.stack_commands.specs.Commands.Build.{image_stored, build_reply}
 use Rattle.stack_commands.specs.Commands.Pbuild.{linked_stored, linked_reply, checked_stored, checked_reply}
 use Rattle.stack_commands.specs.Commands.Pit.{pit_stored, pit_reply}
-use Rattle.stack_commands.specs.Commands.PitonText.{checked_unless, checked_by, checked_in}
+use Rattle.command_replies.specs.Commands.PitonText.{checked_unless, checked_by, checked_in}
 use Rattle.stack_commands.specs.Prepared.{stored_by, reply_by}
 use Rattle.cli_stack.specs.Answer.{Answer, set_file, answer_with, answer_on, files_after}
 use Rattle.cli_stack.specs.InARow.{EndsAlike}

@@ -16,12 +16,12 @@ use Rattle.command_line.specs.Ends.{end_status, end_line}
 use Rattle.command_line.specs.CommandFiles.{input_names, file_names}
 use Rattle.command_line.proofs.PrintLaws.{nothing_printed}
 use Rattle.cli_stack.specs.declared.driver.conclude.Conclusion.{Conclusion}
-use Rattle.stack_commands.specs.declared.plan.Ending.{Ending}
-use Rattle.stack_commands.specs.declared.reply.Reply.{Reply}
-use Rattle.stack_commands.specs.declared.reply.Verdict.{Verdict}
-use Rattle.stack_commands.specs.declared.reply.Verdict.TheVariants as verdict
-use Rattle.stack_commands.specs.Plans.{ending_reply}
-use Rattle.stack_commands.specs.Replies.{ReplyOf, status_of, reply_of}
+use Rattle.stack_commands.specs.declared.work.Ending.{Ending}
+use Rattle.command_replies.specs.declared.reply.Reply.{Reply}
+use Rattle.command_replies.specs.declared.reply.Verdict.{Verdict}
+use Rattle.command_replies.specs.declared.reply.Verdict.TheVariants as verdict
+use Rattle.stack_commands.specs.Works.{ending_reply}
+use Rattle.command_replies.specs.Replies.{ReplyOf, status_of, reply_of}
 use Rattle.cli_stack.specs.Answer.{Answer, early_answer, files_after, answer_by, answer_to}
 use Rattle.cli_stack.specs.World.{World}
 use Rattle.cli_stack.specs.Promises.{KeepsWithFiles, IsTooLong, KeepsPromises}

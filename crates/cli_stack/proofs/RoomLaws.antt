@@ -54,9 +54,9 @@ use Rattle.command_line.specs.CommandFiles.{inputs_of, output_of}
 use Rattle.command_line.specs.Ends.{end_status, end_line}
 use Rattle.command_line.specs.Gathered.{text_or_end}
 use Rattle.command_line.proofs.FileLaws.{was_short}
-use Rattle.stack_commands.specs.declared.reply.Verdict.TheVariants as verdict
-use Rattle.stack_commands.specs.Replies.{status_of, verdict_line, reply_text}
-use Rattle.stack_commands.specs.Commands.Run.{end_reply, run_reply}
+use Rattle.command_replies.specs.declared.reply.Verdict.TheVariants as verdict
+use Rattle.command_replies.specs.Replies.{status_of, verdict_line, reply_text}
+use Rattle.command_replies.specs.Commands.Run.{end_reply, run_reply}
 use Rattle.stack_commands.specs.Commands.SourceText.{build_verdict, unless_refused, accepted_in}
 use Rattle.stack_commands.specs.Commands.Need.{bounds_stored, bounds_reply, certified_stored, certified_reply, need_stored_by, need_reply_by}
 use Rattle.stack_commands.specs.Commands.Cert.{yes_or_no, judged_reply, certificate_reply, cert_reply_by}

@@ -43,23 +43,22 @@ use Rattle.command_line.specs.declared.role.Role.TheVariants as role
 use Rattle.command_line.specs.declared.status.Status.TheVariants.{Size, Usage}
 use Rattle.command_line.specs.Gathered.{Texts, text_of}
 use Rattle.command_line.specs.CommandFiles.{output_of}
-use Rattle.stack_commands.specs.declared.reply.Reply.{Reply}
-use Rattle.stack_commands.specs.declared.reply.Verdict.{Verdict}
-use Rattle.stack_commands.specs.declared.reply.Verdict.TheVariants as verdict
-use Rattle.stack_commands.specs.Replies.{ReplyOf, reply_of, status_of, verdict_alone, judgement_reply}
+use Rattle.command_replies.specs.declared.reply.Reply.{Reply}
+use Rattle.command_replies.specs.declared.reply.Verdict.{Verdict}
+use Rattle.command_replies.specs.declared.reply.Verdict.TheVariants as verdict
+use Rattle.command_replies.specs.Replies.{ReplyOf, reply_of, status_of, verdict_alone, judgement_reply, written_reply}
 use Rattle.stack_commands.specs.Prepared.{reply_by}
-use Rattle.stack_commands.specs.Commands.Run.{end_reply, run_reply, values_reply, image_reply}
-use Rattle.stack_commands.specs.Commands.Show.{listing_reply}
-use Rattle.stack_commands.specs.Commands.Migrate.{migrated_reply}
-use Rattle.stack_commands.specs.Commands.Asm.{assembled_reply}
-use Rattle.stack_commands.specs.Commands.Mini.{lowering_of, lowered_reply}
-use Rattle.stack_commands.specs.Commands.Unasm.{printed_reply}
+use Rattle.command_replies.specs.Commands.Run.{end_reply, run_reply, values_reply, image_reply}
+use Rattle.command_replies.specs.Commands.Show.{listing_reply}
+use Rattle.command_replies.specs.Commands.Migrate.{migrated_reply}
+use Rattle.command_replies.specs.Commands.Asm.{assembled_reply}
+use Rattle.command_replies.specs.Commands.Mini.{lowering_of, lowered_reply}
+use Rattle.command_replies.specs.Commands.Unasm.{printed_reply}
 use Rattle.stack_commands.specs.Commands.Need.{bounds_reply, certified_reply, need_reply_by}
 use Rattle.stack_commands.specs.Commands.Cert.{judged_reply, certificate_reply, cert_reply_by}
-use Rattle.stack_commands.specs.Commands.Prun.{run_end_reply, checked_run_reply, system_run_reply}
+use Rattle.command_replies.specs.Commands.Prun.{run_end_reply, checked_run_reply, system_run_reply}
 use Rattle.stack_commands.specs.Commands.SourceText.{build_verdict, unless_refused, accepted_in}
-use Rattle.stack_commands.specs.Commands.Pit.{written_reply}
-use Rattle.stack_commands.specs.Commands.PitonText.{piton_verdict, checked_unless, checked_by, checked_in}
+use Rattle.command_replies.specs.Commands.PitonText.{piton_verdict, checked_unless, checked_by, checked_in}
 use Rattle.cli_stack.specs.Causes.{HasSizes}
 use Rattle.cli_stack.proofs.MachineLaws.{RepliesToSome}
 

@@ -25,7 +25,7 @@ use Rattle.command_line.specs.Gathered.{AreRead, Texts, texts_of, gathered}
 use Rattle.command_line.proofs.TaskLaws.{sources_read, values_read}
 use Rattle.stack_commands.specs.declared.turns.tasks.TasksFault.{TasksFault}
 use Rattle.stack_commands.specs.declared.turns.tasks.TasksFault.TheVariants.{Count, Large, Memory}
-use Rattle.stack_commands.specs.Replies.{status_of}
+use Rattle.command_replies.specs.Replies.{status_of}
 use Rattle.stack_commands.specs.Prepared.{reply_by}
 use Rattle.stack_commands.specs.Commands.Turns.{image_or_fault, images_from, word_count, small_enough, values_or_fault, tasks_from, tasks_of, fault_reply, turns_by, turns_reply}
 use Rattle.cli_stack.specs.Answer.{answer_on, answer_to}

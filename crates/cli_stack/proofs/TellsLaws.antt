@@ -30,11 +30,11 @@ use Rattle.command_line.specs.declared.words.reader.Level.{Level}
 use Rattle.command_line.specs.Roles.{limit_of}
 use Rattle.command_line.specs.Gathered.{Texts, text_or_end, gathered}
 use Rattle.command_line.specs.CommandFiles.{task_inputs, inputs_of, output_of}
-use Rattle.stack_commands.specs.declared.reply.Verdict.{Verdict}
-use Rattle.stack_commands.specs.declared.reply.Verdict.TheVariants.{Done}
-use Rattle.stack_commands.specs.Replies.{ReplyOf, status_of, verdict_line}
+use Rattle.command_replies.specs.declared.reply.Verdict.{Verdict}
+use Rattle.command_replies.specs.declared.reply.Verdict.TheVariants.{Done}
+use Rattle.command_replies.specs.Replies.{ReplyOf, status_of, verdict_line}
 use Rattle.stack_commands.specs.Commands.Go.{go_reply}
-use Rattle.stack_commands.specs.Commands.Run.{outcome_reply, run_reply, image_file_reply}
+use Rattle.command_replies.specs.Commands.Run.{outcome_reply, run_reply, image_file_reply}
 use Rattle.stack_commands.specs.Prepared.{reply_by}
 use Rattle.cli_stack.specs.Answer.{answer_with, answer_on, answer_to}
 use Rattle.cli_stack.specs.Tells.{IsBuilt, IsRead, TellsMeaning, HasImage, TellsMeanings}

@@ -11,8 +11,8 @@ use Rattle.command_line.specs.CommandRows.{command_of}
 use Rattle.command_line.specs.CommandFiles.{inputs_of, output_of}
 use Rattle.command_line.specs.Gathered.{Texts, gathered}
 use Rattle.command_line.specs.Ends.{end_status, end_line}
-use Rattle.stack_commands.specs.declared.reply.Verdict.TheVariants.{Usage}
-use Rattle.stack_commands.specs.Replies.{ReplyOf, verdict_alone, reply_text, status_of}
+use Rattle.command_replies.specs.declared.reply.Verdict.TheVariants.{Usage}
+use Rattle.command_replies.specs.Replies.{ReplyOf, verdict_alone, reply_text, status_of}
 use Rattle.stack_commands.specs.Prepared.{stored_by, reply_by}
 
 -- how the program ends: its status, what it prints, the file that it sets, and the state of the machine that was run

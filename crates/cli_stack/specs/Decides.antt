@@ -15,8 +15,8 @@ use Rattle.command_line.specs.declared.command.Command.{Command}
 use Rattle.command_line.specs.declared.command.Command.TheVariants.{Run, Go}
 use Rattle.command_line.specs.declared.role.Role.TheVariants.{Values}
 use Rattle.command_line.specs.declared.status.Status.TheVariants.{Unfinished}
-use Rattle.stack_commands.specs.declared.reply.Verdict.TheVariants as verdict
-use Rattle.stack_commands.specs.Replies.{verdict_line}
+use Rattle.command_replies.specs.declared.reply.Verdict.TheVariants as verdict
+use Rattle.command_replies.specs.Replies.{verdict_line}
 use Rattle.cli_stack.specs.Answer.{Answer}
 use Rattle.cli_stack.specs.FilesAndSizes.{IsReadable}
 use Rattle.cli_stack.specs.Kept.{IsRunEnd}

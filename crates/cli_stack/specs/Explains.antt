@@ -34,7 +34,7 @@ use Rattle.command_line.specs.declared.command.Command.TheVariants.{Debug}
 use Rattle.command_line.specs.declared.role.Role.TheVariants.{Script}
 use Rattle.command_line.specs.declared.words.reader.Level.{Level}
 use Rattle.command_line.specs.declared.words.reader.Level.TheVariants.{Gypsy, Piton, Fm9001}
-use Rattle.stack_commands.specs.declared.reply.Verdict.TheVariants.{Done}
+use Rattle.command_replies.specs.declared.reply.Verdict.TheVariants.{Done}
 use Rattle.stack_commands.specs.Commands.Debug.{lines_reply, run_in}
 use Rattle.cli_stack.specs.Answer.{Answer}
 use Rattle.cli_stack.specs.Decides.{IsReadyToRun}

@@ -20,7 +20,7 @@ use Rattle.command_line.specs.declared.role.Role.TheVariants.{Piton, Image, Valu
 use Rattle.command_line.specs.declared.status.Status.TheVariants.{Done}
 use Rattle.command_line.specs.Roles.{limit_of}
 use Rattle.stack_text.specs.Lines.{line}
-use Rattle.stack_commands.specs.Commands.PitonText.{checked_in}
+use Rattle.command_replies.specs.Commands.PitonText.{checked_in}
 use Rattle.cli_stack.specs.Answer.{Answer, answer_to}
 use Rattle.cli_stack.specs.FilesAndSizes.{ReadsFile, StoresFile, IsReadable}
 

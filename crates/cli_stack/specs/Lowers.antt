@@ -27,9 +27,9 @@ use Rattle.command_line.specs.declared.command.Command.{Command}
 use Rattle.command_line.specs.declared.command.Command.TheVariants.{Go, Mini}
 use Rattle.command_line.specs.declared.role.Role.TheVariants.{Infix, Source, Image}
 use Rattle.command_line.specs.declared.status.Status.TheVariants.{Done, Refused}
-use Rattle.stack_commands.specs.declared.reply.RuleLetter.TheVariants.{Y}
-use Rattle.stack_commands.specs.declared.reply.Verdict.TheVariants as verdict
-use Rattle.stack_commands.specs.Replies.{verdict_line}
+use Rattle.command_replies.specs.declared.reply.RuleLetter.TheVariants.{Y}
+use Rattle.command_replies.specs.declared.reply.Verdict.TheVariants as verdict
+use Rattle.command_replies.specs.Replies.{verdict_line}
 use Rattle.cli_stack.specs.Answer.{Answer}
 use Rattle.cli_stack.specs.Tells.{TellsMeaning}
 use Rattle.cli_stack.specs.Decides.{IsReadyToRun, TellsUnfinished}

@@ -19,8 +19,8 @@ use Rattle.command_line.specs.declared.command.Command.{Command}
 use Rattle.command_line.specs.declared.command.Command.TheVariants.{Go, Need, Cert}
 use Rattle.command_line.specs.declared.role.Role.TheVariants.{Source}
 use Rattle.command_line.specs.declared.status.Status.TheVariants.{Done, Recursive}
-use Rattle.stack_commands.specs.declared.reply.Verdict.TheVariants as verdict
-use Rattle.stack_commands.specs.Replies.{verdict_line}
+use Rattle.command_replies.specs.declared.reply.Verdict.TheVariants as verdict
+use Rattle.command_replies.specs.Replies.{verdict_line}
 use Rattle.stack_commands.specs.Commands.Need.{sizes_text}
 use Rattle.cli_stack.specs.Answer.{Answer, answer_to}
 use Rattle.cli_stack.specs.Tells.{TellsMeaning}

@@ -14,7 +14,7 @@ use Rattle.command_line.specs.declared.command.Command.TheVariants.{Pit, Build, 
 use Rattle.command_line.specs.declared.role.Role.TheVariants.{Piton}
 use Rattle.command_line.specs.declared.status.Status.TheVariants.{Done}
 use Rattle.command_line.specs.Roles.{limit_of}
-use Rattle.stack_commands.specs.Commands.PitonText.{checked_in}
+use Rattle.command_replies.specs.Commands.PitonText.{checked_in}
 use Rattle.cli_stack.specs.Answer.{Answer, answer_to}
 use Rattle.cli_stack.specs.InARow.{EndsAlike, answer_after}
 

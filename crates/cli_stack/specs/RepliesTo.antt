@@ -8,9 +8,9 @@ use Rattle.command_line.specs.declared.status.Status.TheVariants.{Size}
 use Rattle.command_line.specs.CommandFiles.{inputs_of, output_of}
 use Rattle.command_line.specs.Devices.{gave_each, lines_of, took_each}
 use Rattle.command_line.specs.Gathered.{Texts, AreShort, roles_of}
-use Rattle.stack_commands.specs.declared.reply.Verdict.TheVariants.{Usage}
+use Rattle.command_replies.specs.declared.reply.Verdict.TheVariants.{Usage}
 use Rattle.stack_commands.specs.Prepared.{reply_by, stored_by}
-use Rattle.stack_commands.specs.Replies.{ReplyOf, reply_text, status_of, verdict_alone}
+use Rattle.command_replies.specs.Replies.{ReplyOf, reply_text, status_of, verdict_alone}
 use Rattle.cli_stack.specs.Answer.{set_file}
 use Rattle.cli_stack.specs.Agrees.{HoldsMachine}
 use Rattle.cli_stack.specs.Causes.{HasSizes}

@@ -17,9 +17,9 @@ use Rattle.stack_build.proofs.ImageBytes.{file_few}
 use Rattle.stack_build.proofs.ImageLimits.{placed_fits}
 use Rattle.command_line.specs.declared.role.Role.TheVariants.{Image}
 use Rattle.command_line.specs.Roles.{limit_of}
-use Rattle.stack_commands.specs.declared.reply.SizeOf.TheVariants.{Words}
-use Rattle.stack_commands.specs.declared.reply.Verdict.TheVariants.{Size}
-use Rattle.stack_commands.specs.Replies.{verdict_alone}
+use Rattle.command_replies.specs.declared.reply.SizeOf.TheVariants.{Words}
+use Rattle.command_replies.specs.declared.reply.Verdict.TheVariants.{Size}
+use Rattle.command_replies.specs.Replies.{verdict_alone}
 use Rattle.stack_commands.specs.Commands.Pbuild.{is_large, linked_stored, linked_reply}
 
 -- the image keeps the limits of images

@@ -17,7 +17,7 @@ use Rattle.level_debuggers.proofs.FollowLaws.{last_line, next_line, no_line}
 use Rattle.level_debuggers.proofs.LineLaws.{both}
 use Rattle.command_line.specs.declared.status.Status.{Status}
 use Rattle.stack_commands.specs.Commands.Debug.{end_verdict, followed_reply, lines_reply, session_on}
-use Rattle.stack_commands.specs.Replies.{ReplyOf, reply_text, status_of, verdict_line}
+use Rattle.command_replies.specs.Replies.{ReplyOf, reply_text, status_of, verdict_line}
 use Rattle.stack_commands.specs.Scaffold.Transcript.{AllPrinted}
 
 -- What was said and printed so far; these lines are left, for the session that is left, and all together is what a whole script says.

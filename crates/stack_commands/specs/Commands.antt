@@ -1,22 +1,13 @@
--- A page for each command, and what those that read a source or a Piton text share.
+-- A page for each command that reads a source or builds an image, and what those that read a source share.
 pub mod SourceText
 pub mod Check
 pub mod Mean
 pub mod Pit
 pub mod Build
-pub mod PitonText
-pub mod Pcheck
-pub mod Prun
 pub mod Pbuild
-pub mod Run
 pub mod Go
-pub mod Show
-pub mod Migrate
-pub mod Asm
-pub mod Unasm
 pub mod Need
 pub mod Cert
 pub mod Debug
 pub mod Turns
 pub mod Big
-pub mod Mini

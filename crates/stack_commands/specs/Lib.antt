@@ -1,7 +1,6 @@
 -- what `prepare` and `finish` promise
 pub mod Prepared
-pub mod Replies
-pub mod Plans
+pub mod Works
 -- In folders: the commands, scaffold.
 pub mod Commands
 pub mod Scaffold

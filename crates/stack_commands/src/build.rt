@@ -2,12 +2,12 @@
 ghost use Rattle.std.specs.Prelude.{◌≡◌, ◌≤◌, ◌^◌, Some, IfOk, length};
 ghost use Rattle.stack_build.specs.Build.{built};
 ghost use Rattle.stack_commands.specs.Commands.Build.{image_stored, build_reply};
-ghost use Rattle.stack_commands.specs.Plans.{pending_reply};
-ghost use Rattle.stack_commands.specs.Replies.{built_reply};
+ghost use Rattle.command_replies.specs.Plans.{pending_reply};
+ghost use Rattle.command_replies.specs.Replies.{built_reply};
 
-use crate::plan::Plan;
 use crate::source_text::refused;
 use command_line::StackSize;
+use command_replies::Plan;
 use stack_build::{Built, Origins, build_with_origins};
 use stack_text::{Memory, Seq};
 use std::alloc::Global;

@@ -3,13 +3,12 @@ ghost use Rattle.std.specs.Prelude.{◌≡◌, ◌≤◌, ◌^◌, None, IfOk, l
 ghost use Rattle.gypsy_syntax.specs.Seen.SourceView.{source_of};
 ghost use Rattle.gypsy_space.specs.Needs.{stack_sizes};
 ghost use Rattle.stack_commands.specs.Commands.Cert.{yes_or_no, certificate_reply, cert_reply};
-ghost use Rattle.stack_commands.specs.Plans.{pending_reply};
-ghost use Rattle.stack_commands.specs.Replies.{all_said};
+ghost use Rattle.command_replies.specs.Plans.{pending_reply};
+ghost use Rattle.command_replies.specs.Replies.{all_said};
 
-use crate::plan::Plan;
-use crate::reply::Verdict;
 use crate::source_text::read_accepted;
 use command_line::StackSize;
+use command_replies::{Plan, Verdict};
 use gypsy_check::Accepted;
 use gypsy_space::needs;
 use space_cert::{CertTextFault, accepts, read_certificate};

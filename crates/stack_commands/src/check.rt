@@ -1,10 +1,10 @@
 //! The command `check`.
 ghost use Rattle.std.specs.Prelude.{◌≡◌, ◌≤◌, ◌^◌, None, IfOk, length};
 ghost use Rattle.stack_commands.specs.Commands.Check.{check_reply};
-ghost use Rattle.stack_commands.specs.Plans.{pending_reply};
+ghost use Rattle.command_replies.specs.Plans.{pending_reply};
 
-use crate::plan::Plan;
 use crate::source_text::read_accepted;
+use command_replies::Plan;
 use stack_text::Memory;
 use std::alloc::Global;
 

@@ -4,13 +4,13 @@ ghost use Rattle.fm_loader.specs.Values.{values_in};
 ghost use Rattle.stack_build.specs.Build.{built};
 ghost use Rattle.stack_commands.specs.Commands.Build.{image_stored};
 ghost use Rattle.stack_commands.specs.Commands.Go.{go_reply};
-ghost use Rattle.stack_commands.specs.Commands.Run.{values_reply};
-ghost use Rattle.stack_commands.specs.Plans.{pending_reply};
+ghost use Rattle.command_replies.specs.Commands.Run.{values_reply};
+ghost use Rattle.command_replies.specs.Plans.{pending_reply};
 
-use crate::plan::Plan;
-use crate::run::begin;
 use crate::source_text::refused;
 use command_line::StackSize;
+use command_replies::Plan;
+use command_replies::run::begin;
 use fm_image::Image;
 use stack_build::{Built, build};
 use stack_text::{Memory, Seq};

@@ -4,46 +4,35 @@
 ghost use Rattle.std.specs.Prelude.{◌≡◌, List, IfOk};
 ghost use Rattle.level_debuggers.specs.Tallies.{Watching};
 ghost use Rattle.stack_commands.specs.Prepared.{stored_by, reply_by};
-ghost use Rattle.stack_commands.specs.Replies.{reply_of};
-ghost use Rattle.stack_commands.specs.Plans.{IsEnding, IsLeft, ending_reply, left_reply, pending_reply};
+ghost use Rattle.command_replies.specs.Replies.{reply_of};
+ghost use Rattle.stack_commands.specs.Works.{IsEnding, IsLeft, ending_reply, left_reply};
 
-mod asm;
 mod big;
 mod build;
 mod cert;
 mod check;
 mod debug;
 mod go;
-mod image_run;
 mod mean;
-mod migrate;
-mod mini;
 mod need;
 mod pbuild;
-mod pcheck;
 mod pit;
-mod piton_text;
-mod plan;
-mod prun;
-mod reply;
-mod run;
 mod script_run;
-mod show;
 mod source_text;
 mod telling;
 mod turns;
-mod unasm;
+mod work;
 
 use command_line::{Command, Role, Texts};
-pub use image_run::ImageRun;
-use plan::planned;
-pub use plan::{Ending, Left, Pending, Plan, Work};
-pub use reply::{Reply, RuleLetter, SizeOf, Verdict};
+use command_replies::{asm, complete, migrate, mini, pcheck, prun, run, show, unasm};
+pub use command_replies::{ImageRun, Pending, Plan, Reply, RuleLetter, SizeOf, Verdict};
 pub use script_run::ScriptRun;
 use stack_text::Memory;
 use std::alloc::Global;
 pub use telling::tell_session;
 pub use turns::TasksFault;
+use work::planned;
+pub use work::{Ending, Left, Work};
 
 /// What a command stores, and what is left to do.
 #[tactic(auto, unfolding(crate::specs::Prepared::stored_by, crate::specs::Prepared::reply_by))]
@@ -121,16 +110,6 @@ pub fn prepare(alloc: Global, command: &Command, texts: &Texts) -> Result<Work, 
             texts.of(Role::Infix),
             name,
         )?)),
-    }
-}
-
-/// The reply of what a plan has left.
-fn complete(alloc: Global, pending: Pending) -> Result<Reply, Memory>
-    ensures { IfOk result (λ reply. reply_of reply ≡ pending_reply pending) }
-{
-    match pending {
-        Pending::Reply(reply) => Ok(reply),
-        Pending::Run(run) => run::run_image(alloc, &run),
     }
 }
 

@@ -5,12 +5,11 @@ ghost use Rattle.gypsy_space.specs.Needs.{stack_sizes};
 ghost use Rattle.gypsy_meaning.specs.Seen.Belongs.{BelongsTo};
 ghost use Rattle.gypsy_meaning.specs.Seen.Running.{seen};
 ghost use Rattle.stack_commands.specs.Commands.Mean.{said_text, ended_text, mean_end_reply, mean_run_reply, mean_source_reply, mean_reply};
-ghost use Rattle.stack_commands.specs.Plans.{pending_reply};
+ghost use Rattle.command_replies.specs.Plans.{pending_reply};
 
-use crate::plan::Plan;
-use crate::reply::Verdict;
 use crate::source_text::{read_accepted, start_verdict};
 use command_line::StackSize;
+use command_replies::{Plan, Verdict};
 use display_maps::push_run;
 use gypsy_check::Accepted;
 use gypsy_meaning::Meaning;

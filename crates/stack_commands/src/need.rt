@@ -6,12 +6,11 @@ ghost use Rattle.gypsy_space.specs.Events.{AreNeeds, AreSmall};
 ghost use Rattle.space_cert.specs.CertText.{certificate_text};
 ghost use Rattle.space_cert.specs.Covers.{as_words, sizes_for};
 ghost use Rattle.stack_commands.specs.Commands.Need.{sizes_text, certified_stored, certified_reply, need_stored, need_reply};
-ghost use Rattle.stack_commands.specs.Plans.{pending_reply};
-ghost use Rattle.stack_commands.specs.Replies.{all_said};
+ghost use Rattle.command_replies.specs.Plans.{pending_reply};
+ghost use Rattle.command_replies.specs.Replies.{all_said};
 
-use crate::plan::{Pending, Plan};
-use crate::reply::{Reply, Verdict};
 use crate::source_text::read_accepted;
+use command_replies::{Pending, Plan, Reply, Verdict};
 use gypsy_check::Accepted;
 use gypsy_space::{Needs, needs};
 use gypsy_syntax::Proc;

@@ -3,11 +3,9 @@ ghost use Rattle.std.specs.Prelude.{◌≡◌, ◌≤◌, ◌^◌, IfOk, length}
 ghost use Rattle.piton_check.specs.PitonChecking.{IsChecked};
 ghost use Rattle.piton_machine.specs.Fits.{system_in};
 ghost use Rattle.stack_commands.specs.Commands.Pbuild.{linked_stored, linked_reply, pbuild_stored, pbuild_reply};
-ghost use Rattle.stack_commands.specs.Plans.{pending_reply};
+ghost use Rattle.command_replies.specs.Plans.{pending_reply};
 
-use crate::piton_text::read_checked;
-use crate::plan::Plan;
-use crate::reply::{SizeOf, Verdict};
+use command_replies::{Plan, SizeOf, Verdict, read_checked};
 use piton_check::Checked;
 use piton_linker::LinkFault;
 use stack_build::linked_image;

@@ -3,12 +3,13 @@ ghost use Rattle.std.specs.Prelude.{◌≡◌, ◌≤◌, ◌^◌, Some, IfOk, l
 ghost use Rattle.piton_syntax.specs.PitonReading.{KeepsForm};
 ghost use Rattle.piton_syntax.specs.Printed.{piton_text};
 ghost use Rattle.stack_build.specs.Build.{compiled};
-ghost use Rattle.stack_commands.specs.Commands.Pit.{written_reply, pit_stored, pit_reply};
-ghost use Rattle.stack_commands.specs.Plans.{pending_reply};
+ghost use Rattle.command_replies.specs.Replies.{written_reply};
+ghost use Rattle.stack_commands.specs.Commands.Pit.{pit_stored, pit_reply};
+ghost use Rattle.command_replies.specs.Plans.{pending_reply};
 
-use crate::plan::Plan;
 use crate::source_text::refused;
 use command_line::{FileName, StackSize};
+use command_replies::Plan;
 use piton_syntax::{System, print_piton};
 use stack_build::compile;
 use stack_text::{Memory, Seq};

@@ -2,12 +2,11 @@
 ghost use Rattle.std.specs.Prelude.{◌≡◌, ◌≤◌, ◌^◌, Some, None, IfOk, length};
 ghost use Rattle.stack_build.specs.Build.{fault_of};
 ghost use Rattle.stack_build.specs.Starts.{start_fault_of};
-ghost use Rattle.stack_commands.specs.Plans.{pending_reply};
-ghost use Rattle.stack_commands.specs.Replies.{verdict_alone};
+ghost use Rattle.command_replies.specs.Plans.{pending_reply};
+ghost use Rattle.command_replies.specs.Replies.{verdict_alone};
 ghost use Rattle.stack_commands.specs.Commands.SourceText.{build_verdict, start_verdict, accepted_in, found_source};
 
-use crate::plan::Plan;
-use crate::reply::{RuleLetter, SizeOf, Verdict, text_rule_number};
+use command_replies::{Plan, RuleLetter, SizeOf, Verdict, text_rule_number};
 use gypsy_check::Accepted;
 use stack_build::{BuildFault, StartFault, accept};
 use stack_text::Memory;

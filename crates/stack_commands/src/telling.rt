@@ -7,8 +7,8 @@ ghost use Rattle.level_debuggers.specs.Levels.{IsRunner};
 ghost use Rattle.level_debuggers.specs.Seen.Sessions.{IsSession, session_of};
 ghost use Rattle.level_debuggers.specs.Transcripts.{followed};
 ghost use Rattle.stack_commands.specs.Commands.Debug.{end_verdict, followed_reply};
-ghost use Rattle.stack_commands.specs.Plans.{script_run_reply};
-ghost use Rattle.stack_commands.specs.Replies.{reply_text, status_of, verdict_line};
+ghost use Rattle.stack_commands.specs.Works.{script_run_reply};
+ghost use Rattle.command_replies.specs.Replies.{reply_text, status_of, verdict_line};
 ghost use Rattle.stack_commands.specs.Scaffold.Transcript.{AllPrinted};
 
 use crate::debug::end_verdict;

@@ -3,20 +3,19 @@ ghost use Rattle.std.specs.Prelude.{◌≡◌, ◌≤◌, ◌^◌, All, Some, No
 ghost use Rattle.gypsy_space.specs.Needs.{stack_sizes};
 ghost use Rattle.command_line.specs.declared.role.Role.TheVariants.{TaskSource, TaskValues};
 ghost use Rattle.command_line.specs.Gathered.{texts_of};
-ghost use Rattle.stack_commands.specs.Plans.{pending_reply};
-ghost use Rattle.stack_commands.specs.Replies.{reply_of};
+ghost use Rattle.command_replies.specs.Plans.{pending_reply};
+ghost use Rattle.command_replies.specs.Replies.{reply_of};
 ghost use Rattle.stack_commands.specs.Commands.Turns.{turns_reply, fault_reply};
 ghost use Rattle.stack_commands.specs.Scaffold.Tasks.{fault_of};
 
 mod rounds;
 mod tasks;
 
-use crate::plan::{Pending, Plan};
-use crate::reply::{Reply, SizeOf, Verdict};
 use crate::turns::rounds::run_by_turns;
 pub use crate::turns::tasks::TasksFault;
 use crate::turns::tasks::new_tasks;
 use command_line::{Role, StackSize, Texts, TurnLength};
+use command_replies::{Pending, Plan, Reply, SizeOf, Verdict};
 use stack_text::{Memory, Seq};
 use std::alloc::Global;
 

@@ -14,10 +14,10 @@ use Rattle.command_line.specs.Devices.{EndsAtOne}
 use Rattle.command_line.specs.Ends.{end_status, end_line}
 use Rattle.command_line.specs.CommandFiles.{input_names, file_names}
 use Rattle.cli_stack.specs.declared.driver.conclude.Conclusion.{Conclusion}
-use Rattle.stack_commands.specs.declared.plan.Ending.{Ending}
-use Rattle.stack_commands.specs.declared.reply.Reply.{Reply}
-use Rattle.stack_commands.specs.Plans.{ending_reply}
-use Rattle.stack_commands.specs.Replies.{status_of, verdict_line, reply_of}
+use Rattle.stack_commands.specs.declared.work.Ending.{Ending}
+use Rattle.command_replies.specs.declared.reply.Reply.{Reply}
+use Rattle.stack_commands.specs.Works.{ending_reply}
+use Rattle.command_replies.specs.Replies.{status_of, verdict_line, reply_of}
 use Rattle.cli_stack.specs.Answer.{Answer, answer_with, early_answer, answer_by, files_after}
 use Rattle.cli_stack.specs.World.{ShelfOf, OutOf}
 use Rattle.cli_stack.specs.Remains.{HoldsPart}

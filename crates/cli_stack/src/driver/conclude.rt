@@ -1,6 +1,6 @@
 //! Prints how a command ended, and keeps its machine.
 ghost use Rattle.std.specs.Prelude.{◌≡◌, IfOk, Some, map};
-ghost use Rattle.stack_commands.specs.Plans.{IsEnding};
+ghost use Rattle.stack_commands.specs.Works.{IsEnding};
 ghost use Rattle.cli_stack.specs.World.{out_of};
 ghost use Rattle.cli_stack.specs.RepliesTo.{TookLines};
 ghost use Rattle.cli_stack.specs.Scaffold.Driver.{machine_kept, conclusion_of, replied, Concludes};

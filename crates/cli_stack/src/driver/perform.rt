@@ -5,8 +5,8 @@ ghost use Rattle.stack_shelf.specs.Causes.{NoneFell};
 ghost use Rattle.command_line.specs.CommandWords.{spelled};
 ghost use Rattle.command_line.specs.CommandRows.{command_of};
 ghost use Rattle.cli_stack.specs.World.{shelf_of};
-ghost use Rattle.stack_commands.specs.Plans.{IsEnding, ending_reply};
-ghost use Rattle.stack_commands.specs.Replies.{reply_of};
+ghost use Rattle.stack_commands.specs.Works.{IsEnding, ending_reply};
+ghost use Rattle.command_replies.specs.Replies.{reply_of};
 ghost use Rattle.cli_stack.specs.RepliesTo.{IsReplyTo};
 ghost use Rattle.cli_stack.specs.Scaffold.Driver.{Leaves, HasReason, replied};
 

@@ -8,7 +8,7 @@ use Rattle.gypsy_space.specs.Needs.{stack_sizes}
 use Rattle.gypsy_gen.specs.Large.{large_of}
 use Rattle.stack_build.specs.Build.{source_built}
 use Rattle.stack_text.specs.Lines.{line}
-use Rattle.stack_commands.specs.Replies.{ReplyOf}
+use Rattle.command_replies.specs.Replies.{ReplyOf}
 use Rattle.stack_commands.specs.Commands.Go.{go_reply}
 
 -- a reply with a text before all that it says

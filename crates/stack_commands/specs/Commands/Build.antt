@@ -2,7 +2,7 @@
 use Rattle.std.specs.Prelude.{ℕ, List, Option, Some, None, Result, Ok, Err}
 use Rattle.stack_build.specs.declared.fault.BuildFault.{BuildFault}
 use Rattle.stack_build.specs.Build.{BuiltOf}
-use Rattle.stack_commands.specs.Replies.{ReplyOf, verdict_alone, built_reply}
+use Rattle.command_replies.specs.Replies.{ReplyOf, verdict_alone, built_reply}
 use Rattle.stack_commands.specs.Commands.SourceText.{build_verdict}
 
 -- what is stored

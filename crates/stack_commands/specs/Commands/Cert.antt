@@ -7,9 +7,9 @@ use Rattle.space_cert.specs.Accepting.{is_covered}
 use Rattle.space_cert.specs.CertText.{bounds_in}
 use Rattle.space_cert.specs.Covers.{Bounds}
 use Rattle.stack_text.specs.Lines.{line}
-use Rattle.stack_commands.specs.declared.reply.Verdict.{Verdict}
-use Rattle.stack_commands.specs.declared.reply.Verdict.TheVariants.{Certificate}
-use Rattle.stack_commands.specs.Replies.{ReplyOf, verdict_alone, all_said}
+use Rattle.command_replies.specs.declared.reply.Verdict.{Verdict}
+use Rattle.command_replies.specs.declared.reply.Verdict.TheVariants.{Certificate}
+use Rattle.command_replies.specs.Replies.{ReplyOf, verdict_alone, all_said}
 use Rattle.stack_commands.specs.Commands.SourceText.{accepted_in}
 
 abbrev pub yes_or_no : Bool → List ℕ

@@ -1,6 +1,6 @@
 -- The command `check`.
 use Rattle.std.specs.Prelude.{ℕ, List}
-use Rattle.stack_commands.specs.Replies.{ReplyOf, judgement_reply}
+use Rattle.command_replies.specs.Replies.{ReplyOf, judgement_reply}
 use Rattle.stack_commands.specs.Commands.SourceText.{accepted_in}
 
 -- the judgement of a source's text

@@ -20,9 +20,9 @@ use Rattle.stack_build.specs.declared.start_fault.StartFault.{StartFault}
 use Rattle.stack_build.specs.Starts.{gypsy_start, system_start, image_start}
 use Rattle.command_line.specs.declared.words.reader.Level.{Level}
 use Rattle.command_line.specs.declared.words.reader.Level.TheVariants.{Gypsy, Piton, Fm9001}
-use Rattle.stack_commands.specs.declared.reply.Verdict.{Verdict}
-use Rattle.stack_commands.specs.declared.reply.Verdict.TheVariants.{Done, Usage, Outside, Error, Script}
-use Rattle.stack_commands.specs.Replies.{ReplyOf, verdict_alone}
+use Rattle.command_replies.specs.declared.reply.Verdict.{Verdict}
+use Rattle.command_replies.specs.declared.reply.Verdict.TheVariants.{Done, Usage, Outside, Error, Script}
+use Rattle.command_replies.specs.Replies.{ReplyOf, verdict_alone}
 use Rattle.stack_commands.specs.Commands.SourceText.{accepted_in, start_verdict}
 
 -- 1. The run that a session begins with.

@@ -3,8 +3,8 @@ use Rattle.std.specs.Prelude.{ℕ, List, Result, Ok, Err}
 use Rattle.fm_loader.specs.Values.{values_in}
 use Rattle.stack_build.specs.declared.fault.BuildFault.{BuildFault}
 use Rattle.stack_build.specs.Build.{BuiltOf}
-use Rattle.stack_commands.specs.Replies.{ReplyOf, verdict_alone}
-use Rattle.stack_commands.specs.Commands.Run.{values_reply}
+use Rattle.command_replies.specs.Replies.{ReplyOf, verdict_alone}
+use Rattle.command_replies.specs.Commands.Run.{values_reply}
 use Rattle.stack_commands.specs.Commands.SourceText.{build_verdict}
 
 -- what is replied

@@ -13,9 +13,9 @@ use Rattle.display_maps.specs.Running.{run_lines}
 use Rattle.stack_build.specs.declared.start_fault.StartFault.{StartFault}
 use Rattle.stack_build.specs.Starts.{gypsy_start}
 use Rattle.stack_text.specs.Lines.{line}
-use Rattle.stack_commands.specs.declared.reply.Verdict.{Verdict}
-use Rattle.stack_commands.specs.declared.reply.Verdict.TheVariants.{Unfinished}
-use Rattle.stack_commands.specs.Replies.{ReplyOf, verdict_alone, all_said}
+use Rattle.command_replies.specs.declared.reply.Verdict.{Verdict}
+use Rattle.command_replies.specs.declared.reply.Verdict.TheVariants.{Unfinished}
+use Rattle.command_replies.specs.Replies.{ReplyOf, verdict_alone, all_said}
 use Rattle.stack_commands.specs.Commands.SourceText.{accepted_in, start_verdict}
 
 -- so many steps at this cost, a condition, and variables by their names and values

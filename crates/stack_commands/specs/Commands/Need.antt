@@ -8,9 +8,9 @@ use Rattle.space_cert.specs.CertText.{certificate_text}
 use Rattle.space_cert.specs.Certified.{certified}
 use Rattle.space_cert.specs.Covers.{Bounds, sizes_for}
 use Rattle.stack_text.specs.Lines.{line}
-use Rattle.stack_commands.specs.declared.reply.Verdict.{Verdict}
-use Rattle.stack_commands.specs.declared.reply.Verdict.TheVariants.{Recursive}
-use Rattle.stack_commands.specs.Replies.{ReplyOf, verdict_alone, all_said}
+use Rattle.command_replies.specs.declared.reply.Verdict.{Verdict}
+use Rattle.command_replies.specs.declared.reply.Verdict.TheVariants.{Recursive}
+use Rattle.command_replies.specs.Replies.{ReplyOf, verdict_alone, all_said}
 use Rattle.stack_commands.specs.Commands.SourceText.{accepted_in}
 
 -- the sizes of both stacks

@@ -7,11 +7,11 @@ use Rattle.piton_check.specs.Instruction.{SystemView}
 use Rattle.piton_machine.specs.Fits.{system_in}
 use Rattle.piton_machine.specs.Placed.{placed}
 use Rattle.stack_build.specs.Image.{linked_image}
-use Rattle.stack_commands.specs.declared.reply.SizeOf.TheVariants.{Words}
-use Rattle.stack_commands.specs.declared.reply.Verdict.{Verdict}
-use Rattle.stack_commands.specs.declared.reply.Verdict.TheVariants.{Size}
-use Rattle.stack_commands.specs.Replies.{ReplyOf, verdict_alone, built_reply}
-use Rattle.stack_commands.specs.Commands.PitonText.{checked_in}
+use Rattle.command_replies.specs.declared.reply.SizeOf.TheVariants.{Words}
+use Rattle.command_replies.specs.declared.reply.Verdict.{Verdict}
+use Rattle.command_replies.specs.declared.reply.Verdict.TheVariants.{Size}
+use Rattle.command_replies.specs.Replies.{ReplyOf, verdict_alone, built_reply}
+use Rattle.command_replies.specs.Commands.PitonText.{checked_in}
 
 -- more words than a window has
 abbrev pub is_large : SystemView → Bool

@@ -1,20 +1,15 @@
 -- The command `pit`.
-use Rattle.std.specs.Prelude.{ℕ, List, ◌++◌, Option, Some, None, Result, Ok, Err, codes}
+use Rattle.std.specs.Prelude.{ℕ, List, Option, Some, None, Result, Ok, Err}
 use Rattle.piton_syntax.specs.Printed.{piton_text}
 use Rattle.piton_syntax.specs.Systems.{SystemOf}
 use Rattle.stack_build.specs.declared.fault.BuildFault.{BuildFault}
-use Rattle.stack_text.specs.Lines.{line}
-use Rattle.stack_commands.specs.Replies.{ReplyOf, verdict_alone, all_said}
+use Rattle.command_replies.specs.Replies.{ReplyOf, verdict_alone, written_reply}
 use Rattle.stack_commands.specs.Commands.SourceText.{build_verdict}
 
 -- what is stored: the text of the generated system
 abbrev pub pit_stored : Result SystemOf BuildFault → Option (List ℕ)
 pit_stored (Err fault) = None
 pit_stored (Ok system) = Some (piton_text system)
-
--- under which name it was stored
-abbrev pub written_reply : List ℕ → ReplyOf
-written_reply name = all_said (line (codes "written " ++ name))
 
 abbrev pub pit_reply : List ℕ → Result SystemOf BuildFault → ReplyOf
 pit_reply name (Err fault) = verdict_alone (build_verdict fault)

@@ -8,11 +8,11 @@ use Rattle.stack_build.specs.declared.fault.BuildFault.TheVariants.{Text, Form, 
 use Rattle.stack_build.specs.Build.{source_in}
 use Rattle.stack_build.specs.declared.start_fault.StartFault.{StartFault}
 use Rattle.stack_build.specs.declared.start_fault.StartFault.TheVariants.{Build, Values}
-use Rattle.stack_commands.specs.declared.reply.RuleLetter.TheVariants.{G, M, S}
-use Rattle.stack_commands.specs.declared.reply.SizeOf.TheVariants as size
-use Rattle.stack_commands.specs.declared.reply.Verdict.{Verdict}
-use Rattle.stack_commands.specs.declared.reply.Verdict.TheVariants as verdict
-use Rattle.stack_commands.specs.Replies.{text_rule_number}
+use Rattle.command_replies.specs.declared.reply.RuleLetter.TheVariants.{G, M, S}
+use Rattle.command_replies.specs.declared.reply.SizeOf.TheVariants as size
+use Rattle.command_replies.specs.declared.reply.Verdict.{Verdict}
+use Rattle.command_replies.specs.declared.reply.Verdict.TheVariants as verdict
+use Rattle.command_replies.specs.Replies.{text_rule_number}
 
 -- how a command ends where nothing is built; sizes that no stack has are no words of a command, and no definition runs out of memory
 abbrev pub build_verdict : BuildFault → Verdict

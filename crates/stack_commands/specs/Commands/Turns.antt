@@ -21,11 +21,11 @@ use Rattle.stack_build.specs.declared.fault.BuildFault.{BuildFault}
 use Rattle.stack_build.specs.Build.{BuiltOf, built}
 use Rattle.stack_commands.specs.declared.turns.tasks.TasksFault.{TasksFault}
 use Rattle.stack_commands.specs.declared.turns.tasks.TasksFault.TheVariants.{Count, Refused, Large, Memory}
-use Rattle.stack_commands.specs.declared.reply.SizeOf.TheVariants as size
-use Rattle.stack_commands.specs.declared.reply.Verdict.{Verdict}
-use Rattle.stack_commands.specs.declared.reply.Verdict.TheVariants.{Done, Usage, Values, Size, SomeUnfinished}
-use Rattle.stack_commands.specs.Replies.{ReplyOf, verdict_alone, reply_text}
-use Rattle.stack_commands.specs.Commands.Run.{run_reply}
+use Rattle.command_replies.specs.declared.reply.SizeOf.TheVariants as size
+use Rattle.command_replies.specs.declared.reply.Verdict.{Verdict}
+use Rattle.command_replies.specs.declared.reply.Verdict.TheVariants.{Done, Usage, Values, Size, SomeUnfinished}
+use Rattle.command_replies.specs.Replies.{ReplyOf, verdict_alone, reply_text}
+use Rattle.command_replies.specs.Commands.Run.{run_reply}
 use Rattle.stack_commands.specs.Commands.SourceText.{build_verdict}
 
 -- 1. The tasks: an image and values for each source, or the first fault. Tasks are counted from 0 here, and from 1 in what is printed.

@@ -10,8 +10,8 @@ use Rattle.fm_turns.specs.declared.task.Task.TheVariants.{Running, Ended, Spent,
 use Rattle.fm_turns.specs.EqualTurns.{AreAll}
 use Rattle.fm_turns.specs.OwnMachines.{own_machine}
 use Rattle.fm_turns.specs.Turns.{TurnsOf, rounds_of, states_of}
-use Rattle.stack_commands.specs.declared.reply.Verdict.TheVariants as verdict
-use Rattle.stack_commands.specs.Replies.{ReplyOf, verdict_line}
+use Rattle.command_replies.specs.declared.reply.Verdict.TheVariants as verdict
+use Rattle.command_replies.specs.Replies.{ReplyOf, verdict_line}
 use Rattle.stack_commands.specs.Commands.Turns.{round_line, tasks_verdict}
 
 -- rounds with turns of one length were made, as many as it takes

@@ -9,8 +9,8 @@ ghost use Rattle.stack_build.specs.Build.{built};
 ghost use Rattle.stack_commands.specs.Commands.Turns.{image_or_fault, images_from, word_count, small_enough, values_or_fault, tasks_from, tasks_of};
 ghost use Rattle.stack_commands.specs.Scaffold.Tasks.{fault_of, AreReady};
 
-use crate::reply::Verdict;
 use crate::source_text::verdict_of;
+use command_replies::Verdict;
 use fm_image::Image;
 use fm_loader::{ValuesFault, read_image_values};
 use fm_words::MOST_WINDOW;

@@ -1,0 +1,2 @@
+pub mod MiniLaws
+pub mod PitonTextLaws

@@ -1,0 +1,36 @@
+//! What commands reply, and the commands that read no source of Micro-Gypsy: what each makes of its texts.
+#![tactic(auto)]
+
+ghost use Rattle.std.specs.Prelude.{◌≡◌, IfOk};
+ghost use Rattle.command_replies.specs.Plans.{pending_reply};
+ghost use Rattle.command_replies.specs.Replies.{reply_of};
+
+pub mod asm;
+mod image_run;
+pub mod migrate;
+pub mod mini;
+pub mod pcheck;
+mod piton_text;
+mod plan;
+pub mod prun;
+mod reply;
+pub mod run;
+pub mod show;
+pub mod unasm;
+
+pub use image_run::ImageRun;
+pub use piton_text::read_checked;
+pub use plan::{Pending, Plan};
+pub use reply::{Reply, RuleLetter, SizeOf, Verdict, text_rule_number};
+use stack_text::Memory;
+use std::alloc::Global;
+
+/// The reply of what a plan has left.
+pub fn complete(alloc: Global, pending: Pending) -> Result<Reply, Memory>
+    ensures { IfOk result (λ reply. reply_of reply ≡ pending_reply pending) }
+{
+    match pending {
+        Pending::Reply(reply) => Ok(reply),
+        Pending::Run(run) => run::run_image(alloc, &run),
+    }
+}

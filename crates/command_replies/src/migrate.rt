@@ -1,0 +1,38 @@
+//! The command `migrate`.
+ghost use Rattle.std.specs.Prelude.{◌≡◌, Some, IfOk};
+ghost use Rattle.fm_image.specs.Limits.{in_version_2};
+ghost use Rattle.fm_image.specs.Spelling.{spelling};
+ghost use Rattle.command_replies.specs.Commands.Migrate.{migrate_stored, migrate_reply};
+ghost use Rattle.command_replies.specs.Replies.{written_reply};
+ghost use Rattle.command_replies.specs.Plans.{pending_reply};
+
+use crate::plan::Plan;
+use crate::reply::Verdict;
+use command_line::FileName;
+use fm_image::{Image, ImageFault, in_version_2, read_image, write_image};
+use stack_text::{Memory, Seq};
+use std::alloc::Global;
+
+/// What `migrate` stores under this name, and what is left to do.
+pub fn prepare(alloc: Global, image: &[u8], name: &FileName) -> Result<Plan, Memory>
+    ensures stored { IfOk result (λ plan. plan.stored ≡ migrate_stored image.now) }
+    ensures reply { IfOk result (λ plan. pending_reply plan.pending ≡ migrate_reply name.now image.now) }
+{
+    match read_image(alloc, image) {
+        Ok(image) => store(alloc, image, name),
+        Err(ImageFault::Refused { rule, place }) => {
+            Ok(Plan::verdict_alone(alloc, Verdict::Image { rule, place }))
+        }
+        Err(ImageFault::Memory) => Err(Memory),
+    }
+}
+
+/// Stores the file of an image in version 2, and says under which name.
+fn store(alloc: Global, image: Image, name: &FileName) -> Result<Plan, Memory>
+    ensures stored { IfOk result (λ plan. plan.stored ≡ Some (spelling (in_version_2 image))) }
+    ensures reply { IfOk result (λ plan. pending_reply plan.pending ≡ written_reply name.now) }
+{
+    let image = in_version_2(image);
+    let file = Seq::from_vec(write_image(alloc, &image)?);
+    Plan::written(alloc, name, file)
+}

@@ -1,0 +1,25 @@
+//! The command `show`.
+ghost use Rattle.std.specs.Prelude.{◌≡◌, None, IfOk};
+ghost use Rattle.command_replies.specs.Commands.Show.{show_reply};
+ghost use Rattle.command_replies.specs.Plans.{pending_reply};
+
+use crate::plan::Plan;
+use crate::reply::Verdict;
+use fm_image::{ImageFault, read_image};
+use fm_show::show_image;
+use stack_text::{Memory, Seq};
+use std::alloc::Global;
+
+/// What is left of `show` once its text is there.
+pub fn prepare(alloc: Global, image: &[u8]) -> Result<Plan, Memory>
+    ensures stored { IfOk result (λ plan. plan.stored ≡ None) }
+    ensures reply { IfOk result (λ plan. pending_reply plan.pending ≡ show_reply image.now) }
+{
+    match read_image(alloc, image) {
+        Ok(image) => Ok(Plan::all_said(Seq::from_vec(show_image(alloc, &image)?))),
+        Err(ImageFault::Refused { rule, place }) => {
+            Ok(Plan::verdict_alone(alloc, Verdict::Image { rule, place }))
+        }
+        Err(ImageFault::Memory) => Err(Memory),
+    }
+}

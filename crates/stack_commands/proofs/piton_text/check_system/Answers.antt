@@ -1,5 +1,0 @@
-use Rattle.stack_commands.proofs.PitonTextLaws.{is_checked}
-use Rattle.stack_commands.proofs.piton_text.check_system.Goals as goal
-
-pub returns-in-Ok-clause-found : goal.returns-in-Ok-clause-found
-returns-in-Ok-clause-found c = is_checked c.args.system c.in-Ok.checked c.in-Ok.ensures.checked c.in-Ok.ensures.kept

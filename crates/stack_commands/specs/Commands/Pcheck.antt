@@ -1,8 +1,0 @@
--- The command `pcheck`.
-use Rattle.std.specs.Prelude.{ℕ, List}
-use Rattle.stack_commands.specs.Replies.{ReplyOf, judgement_reply}
-use Rattle.stack_commands.specs.Commands.PitonText.{checked_in}
-
--- the judgement of a Piton text
-abbrev pub pcheck_reply : List ℕ → ReplyOf
-pcheck_reply text = judgement_reply (checked_in text)
