@@ -30,3 +30,4 @@ pub mod SizeLaws
 pub mod PlacesLaws
 pub mod PartTextLaws
 pub mod SharedLaws
+pub mod ReaderLaws

@@ -3,3 +3,4 @@ pub mod Judged
 pub mod Reading
 pub mod Parts
 pub mod Printed
+pub mod TextReaders
