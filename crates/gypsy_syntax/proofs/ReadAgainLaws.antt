@@ -1,20 +1,17 @@
 -- The text that is printed for a source is read as that source but for places.
-use Rattle.std.proofs.Common.{◌≡◌, ℕ, List, [], ◌∷◌, Option, Some, None, true, false, Ok, refl, ap, ◌∙◌}
+use Rattle.std.proofs.Common.{◌≡◌, ℕ, List, [], ◌∷◌, Option, Some, None, true, false, refl, ap}
 use Rattle.std.specs.Prelude.{ℤ, Bool, codes, drop}
 use Rattle.stack_text.specs.Trees.{atom, list}
-use Rattle.stack_text.specs.Trees.{ReadsAs as TreeReadsAs, without_places as unplaced_tree, all_without_places}
+use Rattle.stack_text.specs.Trees.{without_places as unplaced_tree, all_without_places}
 use Rattle.stack_text.specs.Scaffold.Spellings.{Spells}
 use Rattle.stack_text.specs.declared.shape.Kind.{Kind}
 use Rattle.stack_text.proofs.SpellingLaws.{spelled_is_read}
-use Rattle.stack_text.proofs.TreeInLaws.{tree_in-TreeOf}
 use Rattle.stack_text.specs.Grammar.Printed.{lines_text, name_tree}
-use Rattle.stack_text.proofs.PlacesLaws.{same_lifted}
+use Rattle.stack_text.proofs.ReaderLaws.{read_back}
 use Rattle.stack_text.proofs.PartTextLaws.{spells_list, unplaced_all}
 use Rattle.stack_text.proofs.PrintLaws.{Spells-tree_text}
 use Rattle.gypsy_syntax.specs.declared.literal.Decl.{Decl}
-use Rattle.gypsy_syntax.specs.GypsyReading.{KeepsForm, ReadsAs, gypsy_by, judgement}
-use Rattle.gypsy_syntax.specs.Grammar.{source_in}
-use Rattle.gypsy_syntax.specs.Places.{without_places}
+use Rattle.gypsy_syntax.specs.GypsyReading.{KeepsForm, ReadsAs, gypsy_reader}
 use Rattle.gypsy_syntax.specs.Printed.{type_tree_by, truth_tree, literal_tree, literal_trees, arg_tree, decl_tree, local_tree, stmt_tree, stmt_trees, proc_tree, proc_text, source_head, tree_of, gypsy_text}
 use Rattle.gypsy_syntax.specs.Sources.{LiteralOf, LiteralsOf, integer, truth, character, array, no_items, item, ArgOf, variable, constant}
 use Rattle.gypsy_syntax.specs.Sources.{StmtOf, StmtsOf, no_op, signal, seq, loop, branch, begin, call, predef, no_parts, part, LocalOf, ProcOf, SourceOf}
@@ -78,12 +75,8 @@ plain_source s = rw (unplaced_all proc_tree plain_proc s.procs) refl
 
 -- ---- the text is read again
 
-read_as : (text : List ℕ) (s : SourceOf) → TreeReadsAs text (tree_of s) → source_in (tree_of s) ≡ Ok (without_places s) → ReadsAs text s
-read_as text s h reads =
-    let same : source_in (unplaced_tree h.0) ≡ Ok (without_places s) = ap source_in (h.2 ∙ plain_source s) ∙ reads in
-    let found = same_lifted without_places (source_in h.0) (source_in (unplaced_tree h.0)) (without_places s) (same_source h.0) same in
-    (found.0, ap gypsy_by (tree_in-TreeOf text h.0 h.1) ∙ ap judgement found.1, found.2)
-
 pub gypsy_text_reads : (s : SourceOf) → KeepsForm s → ReadsAs (gypsy_text s) s
 gypsy_text_reads s form =
-    read_as (gypsy_text s) s (spelled_is_read (tree_of s) (lines_text proc_text (source_head s) s.procs) (10 ∷ []) form.well_formed (spells_source s) (tt, tt)) form.reads
+    let text : List ℕ = lines_text proc_text (source_head s) s.procs in
+    let read = spelled_is_read (tree_of s) text (10 ∷ []) form.well_formed (spells_source s) (tt, tt) in
+    read_back gypsy_reader same_source (gypsy_text s) s read (plain_source s) form.reads

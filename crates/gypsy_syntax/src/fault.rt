@@ -36,9 +36,10 @@ pub enum GypsyFault {
 
 impl From<TextFault> for GypsyFault {
     ghost use Rattle.std.specs.Prelude.{◌≡◌};
-    ghost use Rattle.gypsy_syntax.specs.GypsyReading.{fault_of_text};
+    ghost use Rattle.stack_text.specs.Grammar.TextReaders.{fault_of_text};
+    ghost use Rattle.gypsy_syntax.specs.GypsyReading.{gypsy_reader};
 
-    ghost from_gives = { λ e f. f ≡ fault_of_text e };
+    ghost from_gives = { λ e f. f ≡ fault_of_text gypsy_reader e };
 
     fn from(error: TextFault) -> GypsyFault {
         match error {
@@ -50,9 +51,10 @@ impl From<TextFault> for GypsyFault {
 
 impl From<FormFault> for GypsyFault {
     ghost use Rattle.std.specs.Prelude.{◌≡◌};
-    ghost use Rattle.gypsy_syntax.specs.GypsyReading.{fault_of_form};
+    ghost use Rattle.stack_text.specs.Grammar.TextReaders.{fault_of_form};
+    ghost use Rattle.gypsy_syntax.specs.GypsyReading.{gypsy_reader};
 
-    ghost from_gives = { λ e f. f ≡ fault_of_form e };
+    ghost from_gives = { λ e f. f ≡ fault_of_form gypsy_reader e };
 
     fn from(error: FormFault) -> GypsyFault {
         match error {

@@ -3,7 +3,6 @@ pub mod ArgumentLaws
 pub mod InstructionLaws
 pub mod ProgramLaws
 pub mod RiseLaws
-pub mod AnswerLaws
 pub mod PlacesLaws
 pub mod PrintingLaws
 pub mod KeepsLaws

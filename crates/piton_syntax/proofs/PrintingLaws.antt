@@ -1,12 +1,11 @@
 -- The text that is printed for a system is read as that system but for places.
-use Rattle.std.proofs.Common.{◌≡◌, ℕ, List, [], ◌∷◌, drop, map, Option, Some, None, true, false, Ok, refl, ap, ◌∙◌}
+use Rattle.std.proofs.Common.{◌≡◌, ℕ, List, [], ◌∷◌, drop, map, Option, Some, None, true, false, refl}
 use Rattle.std.specs.Prelude.{codes}
 use Rattle.stack_text.specs.Trees.{Node, atom}
-use Rattle.stack_text.specs.Trees.{ReadsAs as TreeReadsAs, without_places as unplaced_tree}
+use Rattle.stack_text.specs.Trees.{without_places as unplaced_tree}
 use Rattle.stack_text.specs.TreeText.{tree_text}
 use Rattle.stack_text.specs.Scaffold.Spellings.{Spells}
 use Rattle.stack_text.proofs.SpellingLaws.{spelled_is_read}
-use Rattle.stack_text.proofs.TreeInLaws.{tree_in-TreeOf}
 use Rattle.stack_text.specs.Grammar.Printed.{lines_text, name_tree, tree_of_all}
 use Rattle.piton_syntax.specs.declared.argument.ArgText.{ArgText}
 use Rattle.piton_syntax.specs.declared.argument.ArgText.TheVariants as arg
@@ -14,13 +13,12 @@ use Rattle.piton_syntax.specs.declared.word_text.WordItem.{WordItem}
 use Rattle.piton_syntax.specs.declared.word_text.WordItem.TheVariants as item
 use Rattle.piton_syntax.specs.declared.word_text.WordText.{WordText}
 use Rattle.stack_text.specs.declared.name.Named.{Named}
-use Rattle.piton_syntax.specs.PitonReading.{KeepsForm, ReadsAs, judgement, piton_by}
-use Rattle.piton_syntax.specs.Grammar.{system_of}
-use Rattle.piton_syntax.specs.Systems.{InstrOf, ProgramOf, AreaOf, SystemOf, without_places}
+use Rattle.piton_syntax.specs.PitonReading.{KeepsForm, ReadsAs, piton_reader}
+use Rattle.piton_syntax.specs.Systems.{InstrOf, ProgramOf, AreaOf, SystemOf}
 use Rattle.piton_syntax.specs.Printed.{item_tree, word_tree, argument_tree, labelled_tree, instruction_tree, temporary_tree, program_tree, area_tree, system_head, tree_of, program_text, piton_text}
 use Rattle.stack_text.proofs.PartTextLaws.{spells_list, unplaced_all}
 use Rattle.stack_text.proofs.PrintLaws.{Spells-tree_text}
-use Rattle.stack_text.proofs.PlacesLaws.{same_lifted}
+use Rattle.stack_text.proofs.ReaderLaws.{read_back}
 use Rattle.piton_syntax.proofs.PlacesLaws.{same_system}
 
 -- ---- the text spells the tree
@@ -76,12 +74,8 @@ unplaced_system s =
 
 -- ---- the text is read again
 
-read_as : (text : List ℕ) (s : SystemOf) → TreeReadsAs text (tree_of s) → system_of (tree_of s) ≡ Ok (without_places s) → ReadsAs text s
-read_as text s h reads =
-    let same : system_of (unplaced_tree h.0) ≡ Ok (without_places s) = ap system_of (h.2 ∙ unplaced_system s) ∙ reads in
-    let found = same_lifted without_places (system_of h.0) (system_of (unplaced_tree h.0)) (without_places s) (same_system h.0) same in
-    (found.0, ap piton_by (tree_in-TreeOf text h.0 h.1) ∙ ap judgement found.1, found.2)
-
 pub piton_text_reads : (s : SystemOf) → KeepsForm s → ReadsAs (piton_text s) s
 piton_text_reads s form =
-    read_as (piton_text s) s (spelled_is_read (tree_of s) (lines_text program_text (system_head s) s.programs) (10 ∷ []) form.well_formed (spells_system s) (tt, tt)) form.reads
+    let text : List ℕ = lines_text program_text (system_head s) s.programs in
+    let read = spelled_is_read (tree_of s) text (10 ∷ []) form.well_formed (spells_system s) (tt, tt) in
+    read_back piton_reader same_system (piton_text s) s read (unplaced_system s) form.reads

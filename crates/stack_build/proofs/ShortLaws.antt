@@ -7,16 +7,8 @@ use Rattle.std.proofs.lemmas.List.{length-map}
 use Rattle.stack_text.specs.declared.breach.Breach.{Breach}
 use Rattle.stack_text.specs.declared.name.Named.{Named}
 use Rattle.stack_text.specs.declared.shape.Shape.{Shape}
-use Rattle.stack_text.specs.declared.text_fault.TextRule.{TextRule}
 use Rattle.stack_text.specs.Breaches.{least}
-use Rattle.stack_text.specs.TextFaults.{text_fault}
-use Rattle.stack_text.specs.Tokens.{between, tokens}
-use Rattle.stack_text.specs.TreeIn.{first_item, items_of, tree_in}
-use Rattle.stack_text.specs.Results.{unless_fault}
-use Rattle.stack_text.specs.Trees.{Node, TreeOf}
-use Rattle.stack_text.specs.Grammar.Judged.{Judged}
-use Rattle.stack_text.proofs.FaultLaws.{no_fault_has_tree}
-use Rattle.stack_text.proofs.TreeInLaws.{tree_in-TreeOf}
+use Rattle.stack_text.proofs.ReaderLaws.{TreeOf-tree_in, value_tree}
 use Rattle.fm_image.specs.declared.procedure.Mark.{Mark}
 use Rattle.fm_image.specs.Image.{ImageOf}
 use Rattle.fm_image.specs.Limits.{Tables, no_tables, tables_of, is_place}
@@ -25,8 +17,7 @@ use Rattle.display_maps.specs.Reading.{space_name}
 use Rattle.piton_check.specs.Instruction.{SystemView}
 use Rattle.gypsy_syntax.specs.declared.literal.Decl.{Decl}
 use Rattle.gypsy_syntax.specs.declared.fault.GypsyFault.{GypsyFault}
-use Rattle.gypsy_syntax.specs.GypsyReading.{judgement, gypsy_by, gypsy_in}
-use Rattle.gypsy_syntax.specs.Grammar as grammar
+use Rattle.gypsy_syntax.specs.GypsyReading.{gypsy_in, gypsy_reader}
 use Rattle.gypsy_syntax.specs.Programs.{Proc, Program, Stmt, body_of, no_proc, proc_at, shapes_of}
 use Rattle.gypsy_syntax.specs.Resolved.{condition_names, procedure_of, program_of, statement_of, statement_of_all, variable_names}
 use Rattle.gypsy_syntax.specs.Sources.{StmtOf, StmtsOf, no_op, signal, seq, loop, branch, begin, call, predef, no_parts, part, LocalOf, ProcOf, SourceOf}
@@ -45,32 +36,14 @@ use Rattle.stack_build.proofs.TextLaws.{marks_in, marks_in_all, StandsBelow, All
 -- ---- the source of a text
 
 text_is_light : (text : List ℕ) (source : SourceOf) → source_in text ≡ Ok source → LightSource (length text) (length text) source
-unfolding source_in tree_in
+unfolding source_in
 text_is_light text source is = by_reading (gypsy_in text) refl is
   where
-    of_tree : (t : Node) → tree_in text ≡ Ok t → TreeOf text t
-    of_tree t there = by_fault (text_fault text) refl there
-      where
-        by_fault : (fault : Option (TextRule × ℕ)) → text_fault text ≡ fault → unless_fault fault (first_item (items_of (tokens between 0 text))) ≡ Ok t → TreeOf text t
-        by_fault (Some fault) none h = absurd cc
-        by_fault None none h =
-            let found = no_fault_has_tree text none in
-            let both : Ok found.0 ≡ Ok t = sym (tree_in-TreeOf text found.0 found.1) ∙ there in
-            let same : found.0 ≡ t = cc in
-            subst (TreeOf text) same found.1
-
-    by_judgement : (t : Node) → TreeOf text t → (judged : Judged SourceOf) → grammar.source_in t ≡ judged → judgement judged ≡ Ok source → LightSource (length text) (length text) source
-    by_judgement t tree (Ok s) reads h = let same : s ≡ source = cc in tree_is_light text t source tree (reads ∙ ap (λ (x : SourceOf). Ok x) same)
-    by_judgement t tree (Err faults) reads h = absurd cc
-
-    by_tree : (found : Result Node (TextRule × ℕ)) → tree_in text ≡ found → gypsy_by found ≡ Ok source → LightSource (length text) (length text) source
-    by_tree (Ok t) there h = by_judgement t (of_tree t there) (grammar.source_in t) refl h
-    by_tree (Err fault) there h = absurd cc
-
     by_breach : (s : SourceOf) → gypsy_in text ≡ Ok s → (breach : Option Breach) → accepted_unless s breach ≡ Ok source → LightSource (length text) (length text) source
     by_breach s reads None h =
         let same : s ≡ source = cc in
-        by_tree (tree_in text) refl (reads ∙ ap (λ (x : SourceOf). Ok x) same)
+        let found = value_tree gypsy_reader text source (reads ∙ ap (λ (x : SourceOf). Ok x) same) in
+        tree_is_light text found.0 source (TreeOf-tree_in text found.0 found.1) found.2
     by_breach s reads (Some breach) h = absurd cc
 
     by_reading : (found : Result SourceOf GypsyFault) → gypsy_in text ≡ found → accepted_by found ≡ Ok source → LightSource (length text) (length text) source

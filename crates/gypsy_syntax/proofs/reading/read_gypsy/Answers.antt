@@ -1,20 +1,31 @@
+use Rattle.std.proofs.Common.{refl}
 use Rattle.std.proofs.lemmas.Result.{err_from_is_err_and}
 use Rattle.stack_text.specs.Seen.TreeView.{node_of}
 use Rattle.gypsy_syntax.specs.Seen.SourceView.{source_of}
-use Rattle.gypsy_syntax.proofs.AnswerLaws.{text_at_fault, tree_at_fault}
+use Rattle.stack_text.proofs.ReaderLaws.{TellsFaults, text_at_fault, tree_at_fault}
+use Rattle.gypsy_syntax.specs.GypsyReading.{fault_of, gypsy_reader}
 use Rattle.gypsy_syntax.proofs.KeepsLaws.{read_keeps}
+use Rattle.gypsy_syntax.proofs.RiseLaws.{source_up}
 use Rattle.gypsy_syntax.proofs.reading.read_gypsy.Goals as goal
+
+tells : TellsFaults gypsy_reader fault_of
+tells = record { of_text = λ rule place. refl; of_form = λ rule place. refl; of_memory = refl }
 
 pub returns-in_err-tree : goal.returns-in_err-tree
 returns-in_err-tree g c =
     let p = err_from_is_err_and c.from_residual.result c.from_residual.ensures.1 in
-    record { value = rw (p.1, p.2) (text_at_fault (g.H.Heap.may_refuse c.args.heap) c.in_err-tree.field-0.0 c.args.text.now c.in_err-tree.ensures.value); keeps = rw p.1 tt }
+    record {
+      value = rw (p.1, p.2) (text_at_fault gypsy_reader fault_of tells (g.H.Heap.may_refuse c.args.heap) c.in_err-tree.field-0.0
+          c.args.text.now c.in_err-tree.ensures.value);
+      keeps = rw p.1 tt;
+    }
 
 pub returns-in_err-source : goal.returns-in_err-source
 returns-in_err-source g c =
     let p = err_from_is_err_and c.from_residual-in_err-source.result c.from_residual-in_err-source.ensures.1 in
     record {
-      value = rw (p.1, p.2) (tree_at_fault (g.H.Heap.may_refuse c.args.heap) c.in_err-source.field-0.0 c.args.text.now (node_of c.in_ok-tree.tree) c.in_ok-tree.ensures.value c.in_ok-tree.ensures.order c.in_err-source.ensures);
+      value = rw (p.1, p.2) (tree_at_fault gypsy_reader fault_of tells source_up (g.H.Heap.may_refuse c.args.heap) c.in_err-source.field-0.0
+          c.args.text.now (node_of c.in_ok-tree.tree) c.in_ok-tree.ensures.value c.in_ok-tree.ensures.order c.in_err-source.ensures);
       keeps = rw p.1 tt;
     }
 
