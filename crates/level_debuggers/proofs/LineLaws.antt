@@ -13,7 +13,7 @@ use Rattle.piton_words.specs.declared.word.Word.{Word}
 use Rattle.piton_syntax.specs.Systems.{SystemOf}
 use Rattle.piton_machine.specs.State.{PitonState, locals_of}
 use Rattle.piton_machine.specs.Fits.{system_in}
-use Rattle.piton_show.specs.NamedWords.{program_name, word_text, words_line}
+use Rattle.piton_check.specs.NamedWords.{program_name_at, word_text, words_line}
 use Rattle.display_maps.specs.declared.shown.Shown.{Shown}
 use Rattle.display_maps.specs.Report.{VariableOf, condition_line, lines_of_reading, reading_lines, shown_text, value_text, variable_line}
 use Rattle.display_maps.specs.Reading.{reading, word_in}
@@ -107,7 +107,7 @@ locals_are_lines system (name ∷ names) (word ∷ words) =
 
 abbrev piton_place : SystemOf → PitonState → List ℕ
 piton_place system state =
-    codes "at " ++ program_name system state.program ++ codes " " ++ decimal state.place ++ codes " frames " ++ decimal (length state.frames)
+    codes "at " ++ program_name_at system state.program ++ codes " " ++ decimal state.place ++ codes " frames " ++ decimal (length state.frames)
 
 piton_is_lines : (system : SystemOf) (state : PitonState) → AreLines (piton_listing system state)
 piton_is_lines system state =

@@ -10,7 +10,7 @@ use Rattle.gypsy_meaning.specs.Seen.Running.{seen}
 use Rattle.piton_machine.specs.Fits.{system_in}
 use Rattle.piton_machine.specs.Placed.{placed}
 use Rattle.piton_machine.specs.Seen.StateView.{IsSeen}
-use Rattle.piton_show.specs.NamedWords.{program_name}
+use Rattle.piton_check.specs.NamedWords.{program_name_at}
 use Rattle.level_debuggers.specs.declared.runner.Runner.{Runner}
 use Rattle.level_debuggers.specs.declared.runner.Runner.TheVariants as runner
 use Rattle.level_debuggers.specs.Steps.{Next, Over, Stops, Makes}
@@ -52,7 +52,7 @@ next_of (Fm run) = lifted Fm (fm_next run)
 
 -- the name of the program at a position, of a run that has programs
 abbrev pub program_named : LevelOf → ℕ → Option (List ℕ)
-program_named (Piton run) program = Some (program_name run.checked.system program)
+program_named (Piton run) program = Some (program_name_at run.checked.system program)
 program_named level program = None
 
 -- what is shown of a run, after so many steps of its session

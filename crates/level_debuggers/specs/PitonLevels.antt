@@ -7,7 +7,7 @@ use Rattle.fm_image.specs.Image.{ImageOf}
 use Rattle.stack_text.specs.Lines.{line}
 use Rattle.piton_words.specs.declared.word.Word.{Word}
 use Rattle.piton_syntax.specs.Systems.{ProgramOf, SystemOf}
-use Rattle.piton_show.specs.NamedWords.{program_name, word_text, words_line}
+use Rattle.piton_check.specs.NamedWords.{program_name_at, word_text, words_line}
 use Rattle.piton_check.specs.PitonChecking.{CheckedOf}
 use Rattle.piton_machine.specs.declared.error_kind.ErrorKind.{ErrorKind}
 use Rattle.piton_machine.specs.State.{Frame, PitonState, locals_of}
@@ -49,7 +49,7 @@ piton_next level = piton_from level level.seen.state.frames
 abbrev pub piton_stands : PitonLevelOf → List ℕ → ℕ → Bool
 piton_stands level program number =
     let state = level.seen.state in
-    not (piton_over level) && bytes_eq (program_name level.checked.system state.program) program && state.place == number
+    not (piton_over level) && bytes_eq (program_name_at level.checked.system state.program) program && state.place == number
 
 -- ---- what is shown
 
@@ -75,7 +75,7 @@ local_lines system (name ∷ names) (word ∷ words) = local_line system name wo
 abbrev pub place_line : SystemOf → PitonState → List ℕ
 place_line system state =
     if length state.frames == 0 then codes "halted\n"
-    else line (codes "at " ++ program_name system state.program ++ codes " " ++ decimal state.place
+    else line (codes "at " ++ program_name_at system state.program ++ codes " " ++ decimal state.place
     ++ codes " frames " ++ decimal (length state.frames))
 
 -- the place, the locals of the newest frame, and the stack from the bottom up

@@ -9,10 +9,9 @@ use crate::texts::{mark_text, no_mark};
 use crate::watch::Event;
 use display_maps::{Reading, push_reading, read_from};
 use fm_image::Image;
-use piton_check::Checked;
+use piton_check::{Checked, program_name};
 use piton_linker::PlacedSystem;
 use piton_machine::{State, Stepped};
-use piton_show::program_name;
 use piton_words::Word;
 use stack_text::{Memory, Name};
 use std::alloc::Global;
@@ -45,7 +44,7 @@ impl PitonLevel {
     ghost use Rattle.piton_machine.specs.Seen.StateView.{IsSeen};
     ghost use Rattle.piton_machine.specs.Placed.{address_of_place, placed, addresses_of, areas_start};
     ghost use Rattle.piton_machine.specs.State.{locals_of};
-    ghost use Rattle.piton_show.specs.NamedWords.{program_name};
+    ghost use Rattle.piton_check.specs.NamedWords.{program_name_at};
     ghost use Rattle.level_debuggers.specs.Steps.{IsAdvance};
     ghost use Rattle.level_debuggers.specs.Levels.{IsRunner, Piton, level_of};
     ghost use Rattle.level_debuggers.specs.PitonLevels.{piton_listing, piton_next, piton_over, piton_stands};
@@ -111,7 +110,7 @@ impl PitonLevel {
 
     /// The name of the program at a position.
     pub(crate) fn program_name(&self, program: u32) -> &Name
-        ensures { result.now ≡ program_name self.now.checked.system program }
+        ensures { result.now ≡ program_name_at self.now.checked.system program }
     {
         program_name(self.placed.checked().system(), program)
     }

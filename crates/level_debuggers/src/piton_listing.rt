@@ -3,8 +3,8 @@
 ghost use Rattle.std.specs.Prelude.{◌≡◌, ◌++◌, IfOk, OnOk, map, slice_get};
 ghost use Rattle.level_debuggers.specs.PitonLevels.{local_names, names_of, local_line, local_lines, place_line, piton_listing};
 
+use piton_check::{program_name, push_word, words_line};
 use piton_machine::State;
-use piton_show::{program_name, push_word, words_line};
 use piton_syntax::{Program, System};
 use piton_words::Word;
 use stack_text::{Memory, Name};

@@ -8,5 +8,6 @@ pub mod Instruction
 pub mod Sound
 pub mod PitonChecking
 pub mod Places
+pub mod NamedWords
 -- In folders: scaffold.
 pub mod Scaffold

@@ -9,7 +9,7 @@ use Rattle.piton_machine.specs.declared.stepped.PitonRun.{PitonRun}
 use Rattle.piton_machine.specs.declared.stepped.PitonRun.TheVariants.{Halted, Spent, Error}
 use Rattle.piton_machine.specs.Fits.{system_in}
 use Rattle.piton_machine.specs.Seen.StateView.{Seen, Ran, state_run, opening}
-use Rattle.piton_show.specs.NamedWords.{program_name, words_line}
+use Rattle.piton_check.specs.NamedWords.{program_name_at, words_line}
 use Rattle.stack_text.specs.Lines.{line}
 use Rattle.command_replies.specs.declared.reply.Verdict.{Verdict}
 use Rattle.command_replies.specs.declared.reply.Verdict.TheVariants as verdict
@@ -32,7 +32,7 @@ abbrev pub run_end_reply : SystemOf → ℕ → PitonRun → Seen → ReplyOf
 run_end_reply system limit Halted seen = all_said (halted_text system seen)
 run_end_reply system limit Spent seen = verdict_alone (verdict.Unfinished limit)
 run_end_reply system limit (Error kind) seen =
-    verdict_alone (verdict.Error kind (program_name system seen.state.program) seen.state.place seen.steps)
+    verdict_alone (verdict.Error kind (program_name_at system seen.state.program) seen.state.place seen.steps)
 
 abbrev pub ran_reply : SystemOf → ℕ → Ran → ReplyOf
 ran_reply system limit ran = run_end_reply system limit ran.run ran.seen

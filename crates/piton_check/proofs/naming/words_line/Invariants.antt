@@ -1,7 +1,7 @@
 use Rattle.std.proofs.Common.{◌≡◌, ◌++◌, ◌∷◌, drop}
 use Rattle.std.specs.List.{flat_map}
-use Rattle.piton_show.specs.NamedWords.{word_text}
-use Rattle.piton_show.proofs.named_words.words_line.Given as goal
+use Rattle.piton_check.specs.NamedWords.{word_text}
+use Rattle.piton_check.proofs.naming.words_line.Given as goal
 
 -- the text so far, and that of the words that are left, are that of all
 abbrev pub invariant-loop-word : goal.invariant-loop-word

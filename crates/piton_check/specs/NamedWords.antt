@@ -15,11 +15,11 @@ use Rattle.piton_syntax.specs.Systems.{AreaOf, ProgramOf, SystemOf}
 
 -- The name of the area or the program at a position. Where there is none, which no word of a run names, the main program's name
 -- stands for it.
-abbrev pub area_name : SystemOf → ℕ → List ℕ
-area_name system area = unwrap_or (option_map (λ (a : AreaOf). a.name.name) (slice_get system.areas area)) system.main.name
+abbrev pub area_name_at : SystemOf → ℕ → List ℕ
+area_name_at system area = unwrap_or (option_map (λ (a : AreaOf). a.name.name) (slice_get system.areas area)) system.main.name
 
-abbrev pub program_name : SystemOf → ℕ → List ℕ
-program_name system program =
+abbrev pub program_name_at : SystemOf → ℕ → List ℕ
+program_name_at system program =
     unwrap_or (option_map (λ (p : ProgramOf). p.name.name) (slice_get system.programs program)) system.main.name
 
 -- with 0 for its place
@@ -31,9 +31,9 @@ named_item system (word.Int number) = item.Int (number_item number)
 named_item system (word.Nat number) = item.Nat (number_item (pos number))
 named_item system (word.Bitv number) = item.Bitv (number_item (pos number))
 named_item system (word.Bool truth) = item.Bool truth
-named_item system (word.Addr area offset) = item.Addr (unplaced (area_name system area)) (number_item (pos offset))
-named_item system (word.Pc program place) = item.Pc (unplaced (program_name system program)) (number_item (pos place))
-named_item system (word.Subr program) = item.Subr (unplaced (program_name system program))
+named_item system (word.Addr area offset) = item.Addr (unplaced (area_name_at system area)) (number_item (pos offset))
+named_item system (word.Pc program place) = item.Pc (unplaced (program_name_at system program)) (number_item (pos place))
+named_item system (word.Subr program) = item.Subr (unplaced (program_name_at system program))
 
 abbrev pub named_word : SystemOf → Word → WordText
 named_word system word = record { place = 0; item = named_item system word }

@@ -1,7 +1,7 @@
 //! Words as the text of Piton has them, with names in place of positions.
 ghost use Rattle.std.specs.Prelude.{◌≡◌, ◌++◌, pos, IfOk, OnOk, slice_get};
 ghost use Rattle.std.specs.Option.{option_map};
-ghost use Rattle.piton_show.specs.NamedWords.{area_name, program_name, number_item, named_item, named_word, word_text, words_line};
+ghost use Rattle.piton_check.specs.NamedWords.{area_name_at, program_name_at, number_item, named_item, named_word, word_text, words_line};
 
 use piton_syntax::{Area, Number, Program, System, WordItem, WordText};
 use piton_words::Word;
@@ -24,7 +24,7 @@ fn name_of_program(programs: &[Program], program: u32) -> Option<&Name>
 
 /// The name of the area at a position; where there is none, that of the main program.
 fn area_name(system: &System, area: u32) -> &Name
-    ensures { result.now ≡ area_name system.now area }
+    ensures { result.now ≡ area_name_at system.now area }
 {
     match name_of_area(&system.areas, area) {
         Some(name) => name,
@@ -34,7 +34,7 @@ fn area_name(system: &System, area: u32) -> &Name
 
 /// The name of the program at a position; where there is none, that of the main program.
 pub fn program_name(system: &System, program: u32) -> &Name
-    ensures { result.now ≡ program_name system.now program }
+    ensures { result.now ≡ program_name_at system.now program }
 {
     match name_of_program(&system.programs, program) {
         Some(name) => name,
