@@ -18,14 +18,14 @@ use Rattle.fm_turns.specs.EqualTurns.{whole_run}
 use Rattle.fm_turns.specs.Starting.{NewTask}
 use Rattle.piton_check.specs.Instruction.{SystemView}
 use Rattle.piton_check.specs.PitonChecking.{CheckedOf}
-use Rattle.piton_machine.specs.declared.error_kind.ErrorKind.{ErrorKind}
-use Rattle.piton_machine.specs.declared.stepped.PitonRun.{PitonRun}
-use Rattle.piton_machine.specs.declared.stepped.PitonRun.TheVariants as piton_run
-use Rattle.piton_machine.specs.Fits.{system_in}
-use Rattle.piton_machine.specs.Seen.StateView as piton
-use Rattle.piton_machine.specs.Seen.StateView.{state_run, seen_step}
-use Rattle.piton_machine.specs.State as piton_state
-use Rattle.piton_machine.proofs.SeenLaws.{stays}
+use Rattle.piton_semantics.specs.declared.error_kind.ErrorKind.{ErrorKind}
+use Rattle.piton_semantics.specs.declared.stepped.PitonRun.{PitonRun}
+use Rattle.piton_semantics.specs.declared.stepped.PitonRun.TheVariants as piton_run
+use Rattle.piton_semantics.specs.Fits.{system_in}
+use Rattle.piton_semantics.specs.Seen.StateView as piton
+use Rattle.piton_semantics.specs.Seen.StateView.{state_run, seen_step}
+use Rattle.piton_semantics.specs.State as piton_state
+use Rattle.piton_semantics.proofs.SeenLaws.{stays}
 use Rattle.piton_syntax.specs.Systems.{SystemOf}
 use Rattle.gypsy_syntax.specs.Sources.{SourceOf}
 use Rattle.gypsy_space.specs.Needs.{StackSizes, stack_sizes}

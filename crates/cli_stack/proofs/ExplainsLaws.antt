@@ -72,7 +72,7 @@ use Rattle.command_replies.specs.Replies.{ReplyOf, reply_text, verdict_line}
 use Rattle.stack_commands.specs.Commands.SourceText.{accepted_in}
 use Rattle.stack_commands.specs.Commands.Debug.{end_verdict, error_verdict, lines_reply, or_verdict, run_at, run_in, script_reply, session_on, session_reply}
 use Rattle.command_replies.specs.declared.reply.Verdict.TheVariants as verdict
-use Rattle.piton_machine.specs.declared.error_kind.ErrorKind.{ErrorKind}
+use Rattle.piton_semantics.specs.declared.error_kind.ErrorKind.{ErrorKind}
 use Rattle.stack_commands.specs.Prepared.{reply_by}
 use Rattle.cli_stack.specs.Answer.{answer_on, answer_to}
 use Rattle.cli_stack.specs.FilesAndSizes.{IsReadable}

@@ -16,8 +16,8 @@ use Rattle.fm_image.proofs.ImageLaws.{spelled_reads}
 use Rattle.fm_loader.specs.Loaded as loader
 use Rattle.fm_loader.specs.Values.{values_in}
 use Rattle.piton_check.specs.PitonChecking.{CheckedOf, IsChecked}
-use Rattle.piton_machine.specs.Fits.{IsInitialStack, system_in}
-use Rattle.piton_machine.specs.Placed.{placed}
+use Rattle.piton_semantics.specs.Fits.{IsInitialStack, system_in}
+use Rattle.piton_semantics.specs.Placed.{placed}
 use Rattle.piton_linker.specs.Theorem.{ComesToStand}
 use Rattle.piton_linker.proofs.ProcessorLaws.{checked_runs}
 use Rattle.fm_machine.specs.State.{Fm}

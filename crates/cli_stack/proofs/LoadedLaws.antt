@@ -4,10 +4,10 @@ use Rattle.fm_words.specs.Code.{no_flags}
 use Rattle.fm_loader.specs.Loaded as loader
 use Rattle.piton_check.specs.PitonChecking.{CheckedOf, IsChecked}
 use Rattle.piton_check.specs.Instruction.{SystemView}
-use Rattle.piton_machine.specs.Fits.{system_in}
-use Rattle.piton_machine.specs.Placed.{placed, loaded}
-use Rattle.piton_machine.proofs.SizeLaws.{length-placed}
-use Rattle.piton_machine.proofs.SoundLaws.{known}
+use Rattle.piton_semantics.specs.Fits.{system_in}
+use Rattle.piton_semantics.specs.Placed.{placed, loaded}
+use Rattle.piton_semantics.proofs.SizeLaws.{length-placed}
+use Rattle.piton_semantics.proofs.SoundLaws.{known}
 use Rattle.stack_build.specs.Image.{linked_image}
 use Rattle.stack_build.proofs.Windows.{all_stand}
 

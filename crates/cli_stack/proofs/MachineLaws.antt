@@ -17,12 +17,12 @@ use Rattle.stack_text.specs.Values.{ValueOf}
 use Rattle.piton_syntax.specs.Systems.{SystemOf}
 use Rattle.piton_check.specs.PitonChecking.{CheckedOf}
 use Rattle.piton_check.specs.Instruction.{SystemView}
-use Rattle.piton_machine.specs.Fits.{system_in}
-use Rattle.piton_machine.specs.Placed.{placed}
-use Rattle.piton_machine.specs.declared.stepped.PitonRun.{PitonRun}
-use Rattle.piton_machine.specs.declared.stepped.PitonRun.TheVariants as piton_run
-use Rattle.piton_machine.specs.Seen.StateView.{Ran, state_run, opening}
-use Rattle.piton_machine.specs.Seen.StateView.{Seen as PitonSeen}
+use Rattle.piton_semantics.specs.Fits.{system_in}
+use Rattle.piton_semantics.specs.Placed.{placed}
+use Rattle.piton_semantics.specs.declared.stepped.PitonRun.{PitonRun}
+use Rattle.piton_semantics.specs.declared.stepped.PitonRun.TheVariants as piton_run
+use Rattle.piton_semantics.specs.Seen.StateView.{Ran, state_run, opening}
+use Rattle.piton_semantics.specs.Seen.StateView.{Seen as PitonSeen}
 use Rattle.gypsy_syntax.specs.Resolved.{procedure_names, program_of}
 use Rattle.gypsy_syntax.specs.Sources.{SourceOf}
 use Rattle.space_cert.specs.Certified.{certified}

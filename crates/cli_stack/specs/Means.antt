@@ -12,7 +12,7 @@ use Rattle.gypsy_semantics.specs.Counted.{instruction_count}
 use Rattle.gypsy_semantics.specs.Meaning.{Done as MeaningDone, meaning}
 use Rattle.gypsy_semantics.specs.Seen.RunView.{Stage, Finished, IsEnd, opening, meaning_run, values_at}
 use Rattle.gypsy_semantics.specs.Seen.Shown.{condition_at, names_at}
-use Rattle.piton_machine.specs.Seen.StateView.{saturated}
+use Rattle.piton_semantics.specs.Seen.StateView.{saturated}
 use Rattle.stack_build.specs.Build.{source_in}
 use Rattle.stack_build.specs.Image.{formal_slots}
 use Rattle.command_line.specs.declared.command.Command.{Command}

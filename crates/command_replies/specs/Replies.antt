@@ -4,8 +4,8 @@ use Rattle.std.specs.Option.{option_map}
 use Rattle.std.specs.Fmt.{decimal}
 use Rattle.fm_machine.specs.State.{Fm, MachineOf}
 use Rattle.fm_show.specs.Digits.{hex_digits}
-use Rattle.piton_machine.specs.declared.error_kind.ErrorKind.{ErrorKind}
-use Rattle.piton_machine.specs.declared.error_kind.ErrorKind.TheVariants as kind
+use Rattle.piton_semantics.specs.declared.error_kind.ErrorKind.{ErrorKind}
+use Rattle.piton_semantics.specs.declared.error_kind.ErrorKind.TheVariants as kind
 use Rattle.stack_text.specs.declared.text_fault.TextRule.{TextRule}
 use Rattle.stack_text.specs.declared.text_fault.TextRule.TheVariants as text
 use Rattle.command_line.specs.declared.status.Status.{Status}

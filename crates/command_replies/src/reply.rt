@@ -7,7 +7,7 @@ ghost use Rattle.command_replies.specs.Replies.{letter_text, text_rule_number, s
 use command_line::Status;
 use fm_machine::Machine;
 use fm_show::hex_digits;
-use piton_machine::ErrorKind;
+use piton_semantics::ErrorKind;
 use stack_text::{Memory, Name, Seq, TextRule};
 use std::alloc::Global;
 

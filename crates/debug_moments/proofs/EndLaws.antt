@@ -21,13 +21,13 @@ use Rattle.piton_words.specs.declared.word.Word.{Word}
 use Rattle.piton_words.specs.declared.word.Word.TheVariants.{Nat}
 use Rattle.piton_check.specs.Instruction.{SystemView}
 use Rattle.piton_check.specs.PitonChecking.{CheckedOf}
-use Rattle.piton_machine.specs.Addresses.{Addresses, numbers, word_number}
-use Rattle.piton_machine.specs.Fits.{system_in}
-use Rattle.piton_machine.specs.Law.{Steps, advanced}
-use Rattle.piton_machine.specs.Placed.{addresses_of, areas_start, ctrl_start, end_of, temp_start}
-use Rattle.piton_machine.specs.Seen.StateView.{Seen, opening, started}
-use Rattle.piton_machine.specs.State as piton
-use Rattle.piton_machine.specs.State.{PitonState}
+use Rattle.piton_semantics.specs.Addresses.{Addresses, numbers, word_number}
+use Rattle.piton_semantics.specs.Fits.{system_in}
+use Rattle.piton_semantics.specs.Law.{Steps, advanced}
+use Rattle.piton_semantics.specs.Placed.{addresses_of, areas_start, ctrl_start, end_of, temp_start}
+use Rattle.piton_semantics.specs.Seen.StateView.{Seen, opening, started}
+use Rattle.piton_semantics.specs.State as piton
+use Rattle.piton_semantics.specs.State.{PitonState}
 use Rattle.gypsy_syntax.specs.declared.literal.Decl.{Decl}
 use Rattle.gypsy_syntax.specs.Programs.{Proc, Program, proc_at, shapes_of, words_of}
 use Rattle.gypsy_syntax.specs.Resolved.{program_of, shape_of}

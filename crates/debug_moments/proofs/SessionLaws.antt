@@ -12,11 +12,11 @@ use Rattle.display_maps.specs.Reading.{reading}
 use Rattle.display_maps.specs.ReadingAt.{ReadingAtOf, reading_at, read_from}
 use Rattle.display_maps.specs.Report.{lines_of_reading}
 use Rattle.piton_check.specs.Instruction.{SystemView}
-use Rattle.piton_machine.specs.declared.error_kind.ErrorKind.{ErrorKind}
-use Rattle.piton_machine.specs.Fits.{system_in}
-use Rattle.piton_machine.specs.Law.{Steps, advanced}
-use Rattle.piton_machine.specs.Seen.StateView.{Seen, opening, seen_step, started}
-use Rattle.piton_machine.specs.State as piton
+use Rattle.piton_semantics.specs.declared.error_kind.ErrorKind.{ErrorKind}
+use Rattle.piton_semantics.specs.Fits.{system_in}
+use Rattle.piton_semantics.specs.Law.{Steps, advanced}
+use Rattle.piton_semantics.specs.Seen.StateView.{Seen, opening, seen_step, started}
+use Rattle.piton_semantics.specs.State as piton
 use Rattle.gypsy_syntax.specs.Programs.{Program}
 use Rattle.gypsy_syntax.specs.Resolved.{program_of}
 use Rattle.gypsy_semantics.specs.Machine.{At, Move}

@@ -12,9 +12,9 @@ use Rattle.fm_machine.specs.State.{word_at}
 use Rattle.piton_words.specs.declared.word.Word.{Word}
 use Rattle.piton_words.specs.declared.word.Word.TheVariants.{Nat}
 use Rattle.piton_check.specs.Instruction.{SystemView}
-use Rattle.piton_machine.specs.Addresses.{Addresses, numbers, word_number}
-use Rattle.piton_machine.specs.Placed.{address_of_place, addresses_of, areas_start}
-use Rattle.piton_machine.specs.State.{PitonState, element, locals_of}
+use Rattle.piton_semantics.specs.Addresses.{Addresses, numbers, word_number}
+use Rattle.piton_semantics.specs.Placed.{address_of_place, addresses_of, areas_start}
+use Rattle.piton_semantics.specs.State.{PitonState, element, locals_of}
 use Rattle.gypsy_syntax.specs.Effects.{value_at}
 use Rattle.gypsy_syntax.specs.ValuesFit.{ValueFits, VarsFit}
 use Rattle.gypsy_syntax.specs.Programs.{Program, proc_at, shapes_of}

@@ -6,8 +6,8 @@ use Rattle.fm_loader.specs.Loaded.{loaded}
 use Rattle.display_maps.specs.ReadingAt.{reading_at_text}
 use Rattle.display_maps.specs.Report.{lines_of_reading}
 use Rattle.piton_check.specs.PitonChecking.{CheckedOf}
-use Rattle.piton_machine.specs.Fits.{system_in}
-use Rattle.piton_machine.specs.Seen.StateView.{opening}
+use Rattle.piton_semantics.specs.Fits.{system_in}
+use Rattle.piton_semantics.specs.Seen.StateView.{opening}
 use Rattle.gypsy_syntax.specs.Resolved.{program_of}
 use Rattle.gypsy_syntax.specs.Sources.{SourceOf}
 use Rattle.gypsy_check.specs.Accepted.{IsAccepted}

@@ -7,10 +7,10 @@ use Rattle.piton_check.specs.PitonChecking.{CheckedOf, IsChecked}
 use Rattle.piton_check.specs.Instruction.{SystemView, system_view}
 use Rattle.piton_check.specs.Resolved.{resolved}
 use Rattle.piton_syntax.specs.Systems.{SystemOf}
-use Rattle.piton_machine.specs.State as state
-use Rattle.piton_machine.specs.Placed.{program_size}
-use Rattle.piton_machine.specs.Fits.{system_in}
-use Rattle.piton_machine.specs.Seen.StateView.{started}
+use Rattle.piton_semantics.specs.State as state
+use Rattle.piton_semantics.specs.Placed.{program_size}
+use Rattle.piton_semantics.specs.Fits.{system_in}
+use Rattle.piton_semantics.specs.Seen.StateView.{started}
 use Rattle.gypsy_syntax.specs.Programs.{Program}
 use Rattle.gypsy_syntax.specs.Resolved.{procedure_of, program_of}
 use Rattle.gypsy_syntax.specs.Sources.{SourceOf}

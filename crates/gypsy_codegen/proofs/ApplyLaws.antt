@@ -13,9 +13,9 @@ use Rattle.piton_words.specs.declared.word.Word.{Word}
 use Rattle.piton_words.specs.declared.word.Word.TheVariants.{Int}
 use Rattle.piton_check.specs.Instruction as i
 use Rattle.piton_check.specs.Instruction.{Instruction, ProgramView}
-use Rattle.piton_machine.specs.State as piton
-use Rattle.piton_machine.specs.State.{element, program_of}
-use Rattle.piton_machine.specs.Law.{Steps}
+use Rattle.piton_semantics.specs.State as piton
+use Rattle.piton_semantics.specs.State.{element, program_of}
+use Rattle.piton_semantics.specs.Law.{Steps}
 use Rattle.gypsy_syntax.specs.declared.predef.Predef.{Predef}
 use Rattle.gypsy_syntax.specs.declared.predef.Predef.TheVariants as row
 use Rattle.gypsy_syntax.specs.declared.slot.Form.{Form}

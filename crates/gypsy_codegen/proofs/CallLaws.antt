@@ -9,7 +9,7 @@ use Rattle.piton_words.specs.declared.word.Word.{Word}
 use Rattle.piton_words.specs.declared.word.Word.TheVariants.{Nat}
 use Rattle.piton_check.specs.Instruction as i
 use Rattle.piton_check.specs.Instruction.{Instruction}
-use Rattle.piton_machine.specs.State as piton
+use Rattle.piton_semantics.specs.State as piton
 use Rattle.gypsy_syntax.specs.Programs.{ConditionOf, Leave, Routine, Space, Declared, Program, proc_at, body_of, shapes_of, conds_of, Call}
 use Rattle.gypsy_syntax.specs.ProgramFits.{CallFits}
 use Rattle.gypsy_syntax.specs.Effects.{value_at}

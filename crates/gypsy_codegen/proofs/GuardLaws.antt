@@ -11,15 +11,15 @@ use Rattle.piton_syntax.specs.declared.test_kind.TestKind.TheVariants as test
 use Rattle.piton_check.specs.Instruction as i
 use Rattle.piton_check.specs.Instruction.{Instruction, ProgramView, SystemView}
 use Rattle.stack_text.specs.Values.{ValueOf}
-use Rattle.piton_machine.specs.declared.error_kind.ErrorKind.{ErrorKind}
-use Rattle.piton_machine.specs.declared.error_kind.ErrorKind.TheVariants.{TempFull}
-use Rattle.piton_machine.specs.State as piton
-use Rattle.piton_machine.specs.State.{Frame, PitonState, program_of, instruction_at, ctrl_used}
-use Rattle.piton_machine.specs.Views.{◌>>=◌, test_of, then_on, where_true, Operands}
-use Rattle.piton_machine.specs.InstructionRows.{row_of, to_next}
-use Rattle.piton_machine.specs.Step.{piton_step, piton_run, cost_of, cost_from, cost_at, step_cost}
-use Rattle.piton_machine.specs.Law.{Steps, none, more}
-use Rattle.piton_machine.proofs.RowLaws.{step_is, does_push, does_test_and_jump, does_apply}
+use Rattle.piton_semantics.specs.declared.error_kind.ErrorKind.{ErrorKind}
+use Rattle.piton_semantics.specs.declared.error_kind.ErrorKind.TheVariants.{TempFull}
+use Rattle.piton_semantics.specs.State as piton
+use Rattle.piton_semantics.specs.State.{Frame, PitonState, program_of, instruction_at, ctrl_used}
+use Rattle.piton_semantics.specs.Views.{◌>>=◌, test_of, then_on, where_true, Operands}
+use Rattle.piton_semantics.specs.InstructionRows.{row_of, to_next}
+use Rattle.piton_semantics.specs.Step.{piton_step, piton_run, cost_of, cost_from, cost_at, step_cost}
+use Rattle.piton_semantics.specs.Law.{Steps, none, more}
+use Rattle.piton_semantics.proofs.RowLaws.{step_is, does_push, does_test_and_jump, does_apply}
 use Rattle.gypsy_syntax.specs.Programs.{Program, proc_at, shapes_of}
 use Rattle.gypsy_syntax.specs.ValuesFit.{VarsFit}
 use Rattle.gypsy_space.specs.Costs.{Tally, spend}

@@ -9,8 +9,8 @@ use Rattle.stack_text.specs.Values.{ValueOf, item_count}
 use Rattle.stack_text.proofs.SharedLaws.{get_below, get_front, get_after, get_map}
 use Rattle.piton_words.specs.declared.word.Word.{Word}
 use Rattle.piton_words.specs.declared.word.Word.TheVariants.{Nat}
-use Rattle.piton_machine.specs.State as piton
-use Rattle.piton_machine.specs.State.{element, ctrl_used}
+use Rattle.piton_semantics.specs.State as piton
+use Rattle.piton_semantics.specs.State.{element, ctrl_used}
 use Rattle.gypsy_syntax.specs.Programs.{Program, Proc, proc_at, shapes_of, words_of}
 use Rattle.gypsy_syntax.specs.ProgramFits.{ProgramFits}
 use Rattle.gypsy_syntax.specs.ValuesFit.{ValueFits, VarsFit}

@@ -1,8 +1,8 @@
 -- The marks of a generated program ascend.
 use Rattle.std.proofs.Common.{◌≡◌, ℕ, zero, suc, ◌+◌, ◌<◌, ◌≤◌, List, [], ◌∷◌, ◌++◌, ◌⊎◌, length, flat_map, refl, sym, ap, ◌∙◌, subst, inl, inr, ⊎_elim, arith, length-append}
 use Rattle.piton_check.specs.Instruction.{ProgramView}
-use Rattle.piton_machine.specs.State.{program_of}
-use Rattle.piton_machine.specs.Fits.{IsPlace}
+use Rattle.piton_semantics.specs.State.{program_of}
+use Rattle.piton_semantics.specs.Fits.{IsPlace}
 use Rattle.gypsy_syntax.specs.Programs.{Program, proc_at, body_of}
 use Rattle.gypsy_syntax.specs.Programs.{Stmt, Skip, NoOp, Signal, Seq, Loop, If, Begin, Call, Apply}
 use Rattle.gypsy_syntax.specs.ProgramFits.{Each}

@@ -7,9 +7,9 @@ use Rattle.stack_text.proofs.SharedLaws.{get_below}
 use Rattle.piton_words.specs.declared.word.Word.{Word}
 use Rattle.piton_words.specs.declared.word.Word.TheVariants.{Nat}
 use Rattle.piton_check.specs.Instruction.{SystemView}
-use Rattle.piton_machine.specs.State as piton
-use Rattle.piton_machine.specs.State.{PitonState, locals_of}
-use Rattle.piton_machine.specs.Law.{Steps}
+use Rattle.piton_semantics.specs.State as piton
+use Rattle.piton_semantics.specs.State.{PitonState, locals_of}
+use Rattle.piton_semantics.specs.Law.{Steps}
 use Rattle.gypsy_syntax.specs.declared.predef.Predef.{Predef}
 use Rattle.gypsy_syntax.specs.Programs.{ConditionOf, Routine, Space, Arg, Proc, Program, proc_at, shapes_of, body_of}
 use Rattle.gypsy_syntax.specs.Programs.{Stmt, Skip, NoOp, Signal, Seq, Loop, If, Begin, Call, Apply}

@@ -9,8 +9,8 @@ use Rattle.piton_words.specs.declared.word.Word.{Word}
 use Rattle.piton_words.specs.declared.word.Word.TheVariants.{Nat}
 use Rattle.piton_check.specs.Instruction as i
 use Rattle.piton_check.specs.Instruction.{Instruction}
-use Rattle.piton_machine.specs.State as piton
-use Rattle.piton_machine.specs.State.{locals_of}
+use Rattle.piton_semantics.specs.State as piton
+use Rattle.piton_semantics.specs.State.{locals_of}
 use Rattle.gypsy_syntax.specs.Programs.{Program, proc_at, shapes_of, words_of, Arg, Var, Lit}
 use Rattle.gypsy_syntax.specs.ProgramFits.{ProgramFits}
 use Rattle.gypsy_syntax.specs.ValuesFit.{VarsFit}

@@ -7,11 +7,11 @@ use Rattle.stack_text.specs.Values.{ValueOf, item_count}
 use Rattle.stack_text.proofs.SharedLaws.{get_below}
 use Rattle.piton_words.specs.declared.word.Word.TheVariants.{Nat}
 use Rattle.piton_check.specs.Instruction.{SystemView, ProgramView}
-use Rattle.piton_machine.specs.State as piton
-use Rattle.piton_machine.specs.State.{PitonState, program_of, element}
-use Rattle.piton_machine.specs.Seen.StateView.{opening}
-use Rattle.piton_machine.proofs.RunLaws.{halts}
-use Rattle.piton_machine.specs.Law.{Steps}
+use Rattle.piton_semantics.specs.State as piton
+use Rattle.piton_semantics.specs.State.{PitonState, program_of, element}
+use Rattle.piton_semantics.specs.Seen.StateView.{opening}
+use Rattle.piton_semantics.proofs.RunLaws.{halts}
+use Rattle.piton_semantics.specs.Law.{Steps}
 use Rattle.gypsy_syntax.specs.Programs.{Program, proc_at, body_of, shapes_of}
 use Rattle.gypsy_syntax.specs.ProgramFits.{ProgramFits}
 use Rattle.gypsy_space.specs.Costs.{Tally, spend, start_tally}
@@ -120,7 +120,7 @@ module _ (q : Program) (sizes : StackSizes) (base : ℕ) (bodies : PredefsRun) (
       move_halts a (tally_of g) (gypsy_step q sizes g) (run q sizes j) (step_keeps q sizes fits g sf) (step_room q sizes g sr) (λ b h. run_halts j b h) (steps_follow bodies q sizes base a g fits sz.small sf sr sh)
 
   reached : (a : PitonState) (g k : State) → StateFits q g → StateRoom q sizes g → Shows q a g → Reached q sizes g k → Leads q (generated_view q sizes base) a (tally_of g) k
-  reached a g k sf sr sh same = record { steps = 0; cost = 0; to = a; runs = Rattle.piton_machine.specs.Law.none; tally = spend_none _; shows = sh }
+  reached a g k sf sr sh same = record { steps = 0; cost = 0; to = a; runs = Rattle.piton_semantics.specs.Law.none; tally = spend_none _; shows = sh }
   reached a g k sf sr sh (later {h = h} e rest) =
       let mf = subst (MoveFits q) e (step_keeps q sizes fits g sf) in
       let mr = subst (MoveRoom q sizes) e (step_room q sizes g sr) in

@@ -8,7 +8,7 @@ use Rattle.piton_words.specs.declared.word.Word.{Word}
 use Rattle.piton_words.specs.declared.word.Word.TheVariants.{Nat}
 use Rattle.piton_check.specs.Instruction as i
 use Rattle.piton_check.specs.Instruction.{Instruction, ProgramView}
-use Rattle.piton_machine.specs.Placed.{instructions_size, program_size}
+use Rattle.piton_semantics.specs.Placed.{instructions_size, program_size}
 use Rattle.gypsy_syntax.specs.declared.predef.Predef.{Predef}
 use Rattle.gypsy_syntax.specs.declared.predef.Predef.TheVariants as row
 use Rattle.gypsy_syntax.specs.Programs.{ConditionOf, Routine, Space, Arg, Var, Lit, Program, proc_at, body_of, shapes_of}

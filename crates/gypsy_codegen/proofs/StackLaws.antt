@@ -6,8 +6,8 @@ use Rattle.stack_text.specs.declared.shape.Shape.{Shape}
 use Rattle.stack_text.specs.Values.{ValueOf, item_count}
 use Rattle.stack_text.proofs.SharedLaws.{get_front, get_after}
 use Rattle.piton_words.specs.declared.word.Word.{Word}
-use Rattle.piton_machine.specs.State.{element, with_element}
-use Rattle.piton_machine.proofs.ElementLaws.{element_top, element_below, with_element_top, with_element_below}
+use Rattle.piton_semantics.specs.State.{element, with_element}
+use Rattle.piton_semantics.proofs.ElementLaws.{element_top, element_below, with_element_top, with_element_below}
 use Rattle.gypsy_syntax.specs.Programs.{words_of}
 use Rattle.gypsy_syntax.specs.ValuesFit.{ValueFits, VarsFit}
 use Rattle.gypsy_syntax.specs.Effects.{value_at}

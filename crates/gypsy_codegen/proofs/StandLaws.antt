@@ -11,7 +11,7 @@ use Rattle.piton_syntax.specs.declared.test_kind.TestFamily.TheVariants as famil
 use Rattle.piton_syntax.specs.declared.test_kind.TestKind.TheVariants as test
 use Rattle.piton_check.specs.Instruction as i
 use Rattle.piton_check.specs.Instruction.{Instruction, SystemView}
-use Rattle.piton_machine.specs.State as piton
+use Rattle.piton_semantics.specs.State as piton
 use Rattle.gypsy_syntax.specs.declared.predef.Predef.{Predef}
 use Rattle.gypsy_syntax.specs.declared.predef.Predef.TheVariants as row
 use Rattle.gypsy_syntax.specs.Programs.{ConditionOf, Arg, Routine, Space, Program, proc_at, body_of, shapes_of}

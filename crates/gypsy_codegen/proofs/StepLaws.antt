@@ -13,13 +13,13 @@ use Rattle.piton_syntax.specs.declared.test_kind.TestFamily.TheVariants as famil
 use Rattle.piton_syntax.specs.declared.test_kind.TestKind.TheVariants as test
 use Rattle.piton_check.specs.Instruction as i
 use Rattle.piton_check.specs.Instruction.{Instruction, ProgramView, SystemView}
-use Rattle.piton_machine.specs.State as piton
-use Rattle.piton_machine.specs.State.{PitonState, program_of, instruction_at, locals_of, element, ctrl_used}
-use Rattle.piton_machine.specs.Views.{test_of, then_on, Operands}
-use Rattle.piton_machine.specs.InstructionRows.{row_of, ret}
-use Rattle.piton_machine.specs.Step.{cost_of, cost_from, cost_at, step_cost}
-use Rattle.piton_machine.specs.Law.{Steps, none, more}
-use Rattle.piton_machine.proofs.RowLaws.{step_is, does_push, does_push_local, does_push_global, does_pop_global, does_push_temp_stk_index, does_fetch_temp_stk, does_pop_star, does_jump_case, does_test_and_jump, does_call, does_apply}
+use Rattle.piton_semantics.specs.State as piton
+use Rattle.piton_semantics.specs.State.{PitonState, program_of, instruction_at, locals_of, element, ctrl_used}
+use Rattle.piton_semantics.specs.Views.{test_of, then_on, Operands}
+use Rattle.piton_semantics.specs.InstructionRows.{row_of, ret}
+use Rattle.piton_semantics.specs.Step.{cost_of, cost_from, cost_at, step_cost}
+use Rattle.piton_semantics.specs.Law.{Steps, none, more}
+use Rattle.piton_semantics.proofs.RowLaws.{step_is, does_push, does_push_local, does_push_global, does_pop_global, does_push_temp_stk_index, does_fetch_temp_stk, does_pop_star, does_jump_case, does_test_and_jump, does_call, does_apply}
 use Rattle.gypsy_syntax.specs.declared.predef.Predef.{Predef}
 use Rattle.gypsy_syntax.specs.declared.predef.Predef.TheVariants as row
 use Rattle.gypsy_syntax.specs.Programs.{Program}

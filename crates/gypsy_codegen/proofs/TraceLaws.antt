@@ -6,9 +6,9 @@ use Rattle.stack_text.specs.Values.{ValueOf, item_count}
 use Rattle.stack_text.proofs.SharedLaws.{get_below}
 use Rattle.piton_words.specs.declared.word.Word.{Word}
 use Rattle.piton_check.specs.Instruction.{SystemView}
-use Rattle.piton_machine.specs.State as piton
-use Rattle.piton_machine.specs.State.{element}
-use Rattle.piton_machine.specs.Law.{Steps}
+use Rattle.piton_semantics.specs.State as piton
+use Rattle.piton_semantics.specs.State.{element}
+use Rattle.piton_semantics.specs.Law.{Steps}
 use Rattle.gypsy_syntax.specs.Programs.{Program, proc_at, shapes_of}
 use Rattle.gypsy_syntax.specs.Effects.{value_at}
 use Rattle.gypsy_syntax.specs.ValuesFit.{VarsFit}

@@ -5,10 +5,10 @@ use Rattle.stack_text.specs.declared.shape.Shape.{Shape}
 use Rattle.stack_text.specs.Values.{ValueOf}
 use Rattle.piton_words.specs.declared.word.Word.{Word}
 use Rattle.piton_words.specs.declared.word.Word.TheVariants.{Int, Nat, Bool as Truth}
-use Rattle.piton_machine.specs.State as piton
-use Rattle.piton_machine.specs.State.{PitonState}
-use Rattle.piton_machine.specs.InstructionRows.{Row}
-use Rattle.piton_machine.specs.Step.{piton_run, run_cost}
+use Rattle.piton_semantics.specs.State as piton
+use Rattle.piton_semantics.specs.State.{PitonState}
+use Rattle.piton_semantics.specs.InstructionRows.{Row}
+use Rattle.piton_semantics.specs.Step.{piton_run, run_cost}
 use Rattle.gypsy_syntax.specs.declared.predef.Predef.TheVariants as row
 use Rattle.gypsy_syntax.specs.Programs.{Leave, Routine, Declared, Var, Lit, Proc, Program, simple}
 use Rattle.gypsy_syntax.specs.Programs.{Stmt, NoOp, Signal, Seq, Loop, If, Begin, Call, Apply}

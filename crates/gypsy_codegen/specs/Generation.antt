@@ -8,10 +8,10 @@ use Rattle.stack_text.specs.Gives as common
 use Rattle.stack_text.specs.Values.{ValueOf}
 use Rattle.piton_syntax.specs.Systems.{SystemOf}
 use Rattle.piton_check.specs.PitonChecking.{CheckedOf}
-use Rattle.piton_machine.specs.State as state
-use Rattle.piton_machine.specs.Placed.{program_size}
-use Rattle.piton_machine.specs.Fits.{system_in}
-use Rattle.piton_machine.specs.Seen.StateView.{started}
+use Rattle.piton_semantics.specs.State as state
+use Rattle.piton_semantics.specs.Placed.{program_size}
+use Rattle.piton_semantics.specs.Fits.{system_in}
+use Rattle.piton_semantics.specs.Seen.StateView.{started}
 use Rattle.gypsy_syntax.specs.Sources.{SourceOf}
 use Rattle.gypsy_syntax.specs.Programs.{Program, proc_at}
 use Rattle.gypsy_syntax.specs.Resolved.{program_of}

@@ -3,11 +3,11 @@ use Rattle.std.specs.Prelude.{◌≡◌, ℕ, ◌+◌, ◌-◌, ◌<◌, ◌≤�
 use Rattle.piton_words.specs.declared.word.Word.TheVariants.{Nat}
 use Rattle.piton_check.specs.Instruction as i
 use Rattle.piton_check.specs.Instruction.{SystemView}
-use Rattle.piton_machine.specs.declared.error_kind.ErrorKind.TheVariants.{TempFull}
-use Rattle.piton_machine.specs.State.{Frame, PitonState, program_of, ctrl_used}
-use Rattle.piton_machine.specs.InstructionRows.{row_of, to_next}
-use Rattle.piton_machine.specs.Step.{piton_run}
-use Rattle.piton_machine.specs.Law.{Steps}
+use Rattle.piton_semantics.specs.declared.error_kind.ErrorKind.TheVariants.{TempFull}
+use Rattle.piton_semantics.specs.State.{Frame, PitonState, program_of, ctrl_used}
+use Rattle.piton_semantics.specs.InstructionRows.{row_of, to_next}
+use Rattle.piton_semantics.specs.Step.{piton_run}
+use Rattle.piton_semantics.specs.Law.{Steps}
 use Rattle.stack_text.specs.Values.{ValueOf}
 use Rattle.gypsy_syntax.specs.Programs.{ConditionOf, Program, Call}
 use Rattle.gypsy_space.specs.Costs.{Tally}

@@ -1,7 +1,7 @@
 -- Closed programs: their marks, and the moments of a run.
 use Rattle.std.specs.Prelude.{◌≡◌, ℕ, pos, List, [], ◌∷◌, map, None}
 use Rattle.stack_text.specs.declared.shape.Kind.TheVariants.{Integer, Boolean}
-use Rattle.piton_machine.specs.Placed.{address_of_place}
+use Rattle.piton_semantics.specs.Placed.{address_of_place}
 use Rattle.gypsy_syntax.specs.declared.predef.Predef.TheVariants as row
 use Rattle.gypsy_syntax.specs.Programs.{Leave, Routine, Var, Lit, Program, simple}
 use Rattle.gypsy_syntax.specs.Programs.{NoOp, Signal, Seq, Loop, If, Begin, Call, Apply}

@@ -3,7 +3,7 @@
 use Rattle.std.specs.Prelude.{◌≡◌, ℕ, ◌+◌, ◌<◌, List, [], ◌∷◌, ◌++◌, ◌⊎◌, length, flat_map}
 use Rattle.std.specs.List.{Contains}
 use Rattle.stack_text.specs.Values.{ValueOf}
-use Rattle.piton_machine.specs.Fits.{IsPlace}
+use Rattle.piton_semantics.specs.Fits.{IsPlace}
 use Rattle.gypsy_syntax.specs.Programs.{Program, proc_at, body_of}
 use Rattle.gypsy_syntax.specs.Programs.{Stmt, Skip, NoOp, Signal, Seq, Loop, If, Begin, Call, Apply}
 use Rattle.gypsy_syntax.specs.ProgramFits.{Each, ProgramFits}

@@ -2,7 +2,7 @@
 use Rattle.std.specs.Prelude.{◌≡◌, ℕ, ◌≤◌, List, [], ◌∷◌, true, false, Some, None, slice_set}
 use Rattle.stack_text.specs.SharedLimits.{most_stack}
 use Rattle.stack_text.specs.Values.{ValueOf}
-use Rattle.piton_machine.specs.State.{PitonState}
+use Rattle.piton_semantics.specs.State.{PitonState}
 use Rattle.gypsy_syntax.specs.declared.predef.Predef.{Predef}
 use Rattle.gypsy_syntax.specs.Programs.{ConditionOf, Routine, Space, Arg, Program, body_of}
 use Rattle.gypsy_syntax.specs.Programs.{Stmt, NoOp, Signal, Loop, If, Call, Apply}

@@ -5,9 +5,9 @@ use Rattle.stack_text.specs.Values.{ValueOf}
 use Rattle.piton_words.specs.declared.word.Word.{Word}
 use Rattle.piton_words.specs.declared.word.Word.TheVariants.{Nat}
 use Rattle.piton_check.specs.Instruction.{SystemView}
-use Rattle.piton_machine.specs.State as piton
-use Rattle.piton_machine.specs.State.{PitonState}
-use Rattle.piton_machine.specs.Law.{Steps}
+use Rattle.piton_semantics.specs.State as piton
+use Rattle.piton_semantics.specs.State.{PitonState}
+use Rattle.piton_semantics.specs.Law.{Steps}
 use Rattle.gypsy_syntax.specs.Programs.{Program, proc_at, shapes_of}
 use Rattle.gypsy_syntax.specs.ProgramFits.{ProgramFits}
 use Rattle.gypsy_syntax.specs.Effects.{value_at}

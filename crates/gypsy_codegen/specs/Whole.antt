@@ -6,11 +6,11 @@ use Rattle.stack_text.specs.Values.{ValueOf}
 use Rattle.piton_words.specs.declared.word.Word.{Word}
 use Rattle.piton_words.specs.declared.word.Word.TheVariants.{Nat}
 use Rattle.piton_check.specs.Instruction.{SystemView}
-use Rattle.piton_machine.specs.State as piton
-use Rattle.piton_machine.specs.State.{PitonState}
-use Rattle.piton_machine.specs.declared.stepped.PitonRun.TheVariants.{Halted}
-use Rattle.piton_machine.specs.Seen.StateView.{started, opening, state_run}
-use Rattle.piton_machine.specs.Law.{Steps, advanced}
+use Rattle.piton_semantics.specs.State as piton
+use Rattle.piton_semantics.specs.State.{PitonState}
+use Rattle.piton_semantics.specs.declared.stepped.PitonRun.TheVariants.{Halted}
+use Rattle.piton_semantics.specs.Seen.StateView.{started, opening, state_run}
+use Rattle.piton_semantics.specs.Law.{Steps, advanced}
 use Rattle.gypsy_syntax.specs.Programs.{ConditionOf, Program, proc_at, shapes_of, body_of}
 use Rattle.gypsy_syntax.specs.ProgramFits.{ProgramFits, Misses}
 use Rattle.gypsy_syntax.specs.Effects.{value_at}

@@ -12,11 +12,11 @@ use Rattle.piton_words.specs.declared.outcome.Outcome.TheVariants.{One}
 use Rattle.piton_syntax.specs.declared.test_kind.TestFamily.TheVariants as family
 use Rattle.piton_syntax.specs.declared.test_kind.TestKind.TheVariants as test
 use Rattle.piton_check.specs.Instruction.{Instruction, SystemView, PushConstant, PushLocal, PushGlobal, Apply, TestAndJump, Call}
-use Rattle.piton_machine.specs.State.{Frame, PitonState, program_of, instruction_at, word_at, with_word}
-use Rattle.piton_machine.specs.Views.{then_on, test_of}
-use Rattle.piton_machine.specs.Law.{Steps, none}
+use Rattle.piton_semantics.specs.State.{Frame, PitonState, program_of, instruction_at, word_at, with_word}
+use Rattle.piton_semantics.specs.Views.{then_on, test_of}
+use Rattle.piton_semantics.specs.Law.{Steps, none}
 use Rattle.piton_words.specs.OperationRows as words
-use Rattle.piton_machine.proofs.RowLaws.{does_push, does_push_local, does_push_global, does_test_and_jump, does_apply}
+use Rattle.piton_semantics.proofs.RowLaws.{does_push, does_push_local, does_push_global, does_test_and_jump, does_apply}
 use Rattle.gypsy_syntax.specs.declared.slot.Form.{Form}
 use Rattle.gypsy_syntax.specs.declared.slot.Form.TheVariants.{Simple, Array, Literal}
 use Rattle.gypsy_syntax.specs.declared.slot.Slot.{Slot}

@@ -14,9 +14,9 @@ use Rattle.piton_syntax.specs.declared.test_kind.TestFamily.TheVariants as famil
 use Rattle.piton_syntax.specs.declared.test_kind.TestKind.TheVariants as test
 use Rattle.piton_check.specs.Instruction as i
 use Rattle.piton_check.specs.Instruction.{SystemView}
-use Rattle.piton_machine.specs.State.{Frame, PitonState, element, with_element, with_word}
-use Rattle.piton_machine.specs.Views.{then_on, test_of, is_negative}
-use Rattle.piton_machine.specs.Law.{Steps, none}
+use Rattle.piton_semantics.specs.State.{Frame, PitonState, element, with_element, with_word}
+use Rattle.piton_semantics.specs.Views.{then_on, test_of, is_negative}
+use Rattle.piton_semantics.specs.Law.{Steps, none}
 use Rattle.gypsy_syntax.specs.declared.predef.Predef.TheVariants as row
 use Rattle.gypsy_predef.specs.Bodies.{body_of}
 use Rattle.gypsy_predef.proofs.RunningLaws.{Called, program_is, joined, counted, within, afterwards, At, gets, puts, fails, pushes, pushes_local, pops_local, sets_local, jumps, goes_to, passes, drops, applies_one, applies_two, applies_three}

@@ -19,7 +19,7 @@ use Rattle.stack_text.specs.Results.{◌>>=◌}
 use Rattle.piton_words.specs.Views.{where_true}
 use Rattle.piton_syntax.specs.declared.test_kind.TestFamily.TheVariants as family
 use Rattle.piton_syntax.specs.declared.test_kind.TestKind.TheVariants as test
-use Rattle.piton_machine.specs.Views.{then_on, test_of, is_negative}
+use Rattle.piton_semantics.specs.Views.{then_on, test_of, is_negative}
 use Rattle.gypsy_syntax.specs.Ranges.{is_in_range}
 use Rattle.gypsy_syntax.specs.Effects.{same_int}
 use Rattle.gypsy_predef.specs.Runs.{word_of_item}

@@ -10,7 +10,7 @@ use Rattle.std.proofs.Math.Nat.{mul-le-mul_left}
 use borrow.Author.Differences.{up, down, sum_is_lem, product_is, same_in}
 use Rattle.fm_words.specs.Word.{is_int, wrapped}
 use Rattle.fm_words.proofs.WordLaws.{is_int_from_fits, fits_signed}
-use Rattle.piton_machine.specs.Views.{is_negative}
+use Rattle.piton_semantics.specs.Views.{is_negative}
 
 -- ---- sums and products
 

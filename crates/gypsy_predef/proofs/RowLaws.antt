@@ -3,7 +3,7 @@ use Rattle.std.proofs.Common.{◌≡◌, ℕ, ◌+◌, ◌≤◌, ◌<◌, ◌^�
 use Rattle.std.specs.Prelude.{slice_get, slice_set, nat_lt, get_or, if◌then◌else◌}
 use Rattle.std.proofs.lemmas.Bool.{lt-ltb, ltb-true}
 use Rattle.std.proofs.lemmas.List.{map-set, length-map}
-use Rattle.piton_machine.specs.Views.{is_negative}
+use Rattle.piton_semantics.specs.Views.{is_negative}
 use Rattle.gypsy_syntax.specs.Programs.{simple}
 use Rattle.stack_text.specs.declared.shape.Kind.{Kind}
 use Rattle.stack_text.specs.declared.shape.Kind.TheVariants.{Integer, Boolean}
@@ -20,8 +20,8 @@ use Rattle.fm_words.specs.Word.{are_same_ints, is_int, wrapped}
 use Rattle.piton_syntax.specs.declared.test_kind.TestFamily.TheVariants as family
 use Rattle.piton_syntax.specs.declared.test_kind.TestKind.TheVariants as test
 use Rattle.piton_check.specs.Instruction.{ProgramView, SystemView, Call}
-use Rattle.piton_machine.specs.State.{Frame, PitonState, instruction_at, ctrl_used, with_element}
-use Rattle.piton_machine.specs.Law.{Steps}
+use Rattle.piton_semantics.specs.State.{Frame, PitonState, instruction_at, ctrl_used, with_element}
+use Rattle.piton_semantics.specs.Law.{Steps}
 use Rattle.gypsy_syntax.specs.declared.slot.Form.TheVariants.{Simple, Array, Literal}
 use Rattle.gypsy_syntax.specs.declared.predef.Predef.{Predef}
 use Rattle.gypsy_syntax.specs.declared.predef.Predef.TheVariants as row

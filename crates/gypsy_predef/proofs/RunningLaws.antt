@@ -11,12 +11,12 @@ use Rattle.piton_syntax.specs.declared.test_kind.TestFamily.{TestFamily}
 use Rattle.piton_syntax.specs.declared.test_kind.TestKind.{TestKind}
 use Rattle.piton_check.specs.Instruction as i
 use Rattle.piton_check.specs.Instruction.{Instruction, ProgramView, SystemView}
-use Rattle.piton_machine.specs.State.{Frame, PitonState, program_of, instruction_at, ctrl_used, element, with_element, with_word}
-use Rattle.piton_machine.specs.Views.{then_on, words_taken, operands_of, test_of}
-use Rattle.piton_machine.specs.InstructionRows.{does_grow, results_on, row_of}
-use Rattle.piton_machine.specs.Step.{piton_step, step_cost, cost_of, cost_at, operation_cost}
-use Rattle.piton_machine.specs.Law.{Steps, none, more}
-use Rattle.piton_machine.proofs.RowLaws.{step_is, does_push, does_push_local, does_pop_local, does_set_local, does_pop_global, does_fetch_temp_stk, does_deposit_temp_stk, does_test_and_jump, does_call, does_apply}
+use Rattle.piton_semantics.specs.State.{Frame, PitonState, program_of, instruction_at, ctrl_used, element, with_element, with_word}
+use Rattle.piton_semantics.specs.Views.{then_on, words_taken, operands_of, test_of}
+use Rattle.piton_semantics.specs.InstructionRows.{does_grow, results_on, row_of}
+use Rattle.piton_semantics.specs.Step.{piton_step, step_cost, cost_of, cost_at, operation_cost}
+use Rattle.piton_semantics.specs.Law.{Steps, none, more}
+use Rattle.piton_semantics.proofs.RowLaws.{step_is, does_push, does_push_local, does_pop_local, does_set_local, does_pop_global, does_fetch_temp_stk, does_deposit_temp_stk, does_test_and_jump, does_call, does_apply}
 
 -- a step whose instruction is known, before other steps
 pub step_first : {s : SystemView} {j n : ℕ} {q r : PitonState} (p : PitonState) (body : ProgramView) (f : Frame) (fs : List Frame) (ins : Instruction) →
@@ -25,7 +25,7 @@ pub step_first : {s : SystemView} {j n : ℕ} {q r : PitonState} (p : PitonState
 step_first {s} {j} {n} {q} {r} p body f fs ins is frames at row rest =
     let there : instruction_at s p.program p.place ≡ Some ins = ap (λ (b : ProgramView). slice_get b.instructions p.place) is ∙ at in
     let step : piton_step s p ≡ Ok q = step_is s p f fs ins frames there ∙ row in
-    let cost : step_cost s p ≡ cost_of s p ins = ap (Rattle.piton_machine.specs.Step.cost_from s p) frames ∙ ap (cost_at s p) there in
+    let cost : step_cost s p ≡ cost_of s p ins = ap (Rattle.piton_semantics.specs.Step.cost_from s p) frames ∙ ap (cost_at s p) there in
     subst (λ i. Steps s (suc j) (i + n) p r) cost (more f fs frames step rest)
 
 -- Steps, and then others.

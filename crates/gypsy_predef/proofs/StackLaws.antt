@@ -5,8 +5,8 @@ use Rattle.std.proofs.lemmas.Bool.{lt-ltb}
 use Rattle.std.proofs.lemmas.Option.{slice_get_within, slice_get-get_or, get_or_from_slice_get}
 use Rattle.std.proofs.lemmas.List.{get_or-set_other, get_or-set_same, set-get_or}
 use Rattle.piton_words.specs.declared.word.Word.{Word}
-use Rattle.piton_machine.specs.State.{element, with_element}
-use Rattle.piton_machine.proofs.ElementLaws.{element_below}
+use Rattle.piton_semantics.specs.State.{element, with_element}
+use Rattle.piton_semantics.proofs.ElementLaws.{element_below}
 use Rattle.gypsy_predef.specs.Runs.{Holds, with_elements}
 
 -- an element that is there lies below the top, and is the word at its distance from the top

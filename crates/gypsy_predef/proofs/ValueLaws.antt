@@ -9,7 +9,7 @@ use Rattle.stack_text.specs.Values.{ValueOf, item_count}
 use Rattle.stack_text.proofs.SharedLaws.{one_item}
 use Rattle.piton_words.specs.declared.word.Word.{Word}
 use Rattle.piton_words.specs.declared.word.Word.TheVariants.{Bool as Truth}
-use Rattle.piton_machine.specs.State.{element}
+use Rattle.piton_semantics.specs.State.{element}
 use Rattle.gypsy_syntax.specs.declared.slot.Form.TheVariants.{Simple, Array}
 use Rattle.gypsy_syntax.specs.declared.slot.Slot.{Slot}
 use Rattle.gypsy_syntax.specs.Programs.{simple}

@@ -11,8 +11,8 @@ use Rattle.piton_syntax.specs.declared.test_kind.TestFamily.TheVariants as famil
 use Rattle.piton_syntax.specs.declared.test_kind.TestKind.TheVariants as test
 use Rattle.piton_check.specs.Instruction.{Instruction, ProgramView, SystemView, PushConstant}
 use Rattle.piton_check.specs.Instruction.{PushLocal, PushGlobal, Apply, TestAndJump, Call}
-use Rattle.piton_machine.specs.State.{Frame, PitonState, instruction_at, ctrl_used, word_at, with_word}
-use Rattle.piton_machine.specs.Law.{Steps}
+use Rattle.piton_semantics.specs.State.{Frame, PitonState, instruction_at, ctrl_used, word_at, with_word}
+use Rattle.piton_semantics.specs.Law.{Steps}
 use Rattle.gypsy_syntax.specs.declared.slot.Form.{Form}
 use Rattle.gypsy_syntax.specs.declared.slot.Form.TheVariants.{Simple, Array, Literal}
 use Rattle.gypsy_syntax.specs.declared.slot.Slot.{Slot}

@@ -8,8 +8,8 @@ use Rattle.piton_check.specs.Violations.{program_breaches}
 use Rattle.piton_syntax.specs.Fits.{FitsProgram}
 use Rattle.piton_check.specs.Resolved.{resolved, resolved_program}
 use Rattle.piton_check.specs.Instruction.{program_view, system_view}
-use Rattle.piton_machine.specs.State.{Frame, PitonState}
-use Rattle.piton_machine.specs.Law.{Steps}
+use Rattle.piton_semantics.specs.State.{Frame, PitonState}
+use Rattle.piton_semantics.specs.Law.{Steps}
 use Rattle.gypsy_syntax.specs.declared.predef.Predef.{Predef}
 use Rattle.gypsy_syntax.specs.Predefined.{slots_of, predef_effect, predef_cost, predef_number}
 use Rattle.gypsy_predef.specs.Bodies.{body_of}

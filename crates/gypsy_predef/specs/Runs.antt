@@ -8,8 +8,8 @@ use Rattle.stack_text.specs.Values.{ValueOf, item_count}
 use Rattle.piton_words.specs.declared.word.Word.{Word}
 use Rattle.piton_words.specs.declared.word.Word.TheVariants.{Int, Nat, Bool as Truth}
 use Rattle.piton_check.specs.Instruction.{SystemView, Call}
-use Rattle.piton_machine.specs.State.{Frame, PitonState, instruction_at, ctrl_used, element, with_element, with_word}
-use Rattle.piton_machine.specs.Law.{Steps}
+use Rattle.piton_semantics.specs.State.{Frame, PitonState, instruction_at, ctrl_used, element, with_element, with_word}
+use Rattle.piton_semantics.specs.Law.{Steps}
 use Rattle.gypsy_syntax.specs.declared.slot.Form.{Form}
 use Rattle.gypsy_syntax.specs.declared.slot.Form.TheVariants.{Simple, Array, Literal}
 use Rattle.gypsy_syntax.specs.declared.slot.Slot.{Slot}

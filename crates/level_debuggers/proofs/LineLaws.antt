@@ -11,8 +11,8 @@ use Rattle.fm_show.specs.Disassembly.{register_name}
 use Rattle.fm_show.specs.Listing.{count_line, flag_letters, flags_line, machine_listing, numbered_lines, register_line, register_lines}
 use Rattle.piton_words.specs.declared.word.Word.{Word}
 use Rattle.piton_syntax.specs.Systems.{SystemOf}
-use Rattle.piton_machine.specs.State.{PitonState, locals_of}
-use Rattle.piton_machine.specs.Fits.{system_in}
+use Rattle.piton_semantics.specs.State.{PitonState, locals_of}
+use Rattle.piton_semantics.specs.Fits.{system_in}
 use Rattle.piton_check.specs.NamedWords.{program_name_at, word_text, words_line}
 use Rattle.display_maps.specs.declared.shown.Shown.{Shown}
 use Rattle.display_maps.specs.Report.{VariableOf, condition_line, lines_of_reading, reading_lines, shown_text, value_text, variable_line}

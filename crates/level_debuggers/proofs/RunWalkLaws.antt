@@ -7,13 +7,13 @@ use Rattle.fm_machine.specs.Run.{Avoids, fm_run, pc_of}
 use Rattle.fm_machine.specs.Step.{fm_step, then_on}
 use Rattle.fm_machine.specs.declared.fault.Outside.{Outside}
 use Rattle.piton_check.specs.Instruction.{SystemView}
-use Rattle.piton_machine.specs.declared.error_kind.ErrorKind.{ErrorKind}
-use Rattle.piton_machine.specs.Fits.{system_in}
-use Rattle.piton_machine.specs.Law.{Steps, none, more, advanced}
-use Rattle.piton_machine.specs.Seen.StateView.{Seen, saturated, seen_after, seen_from, seen_step}
-use Rattle.piton_machine.specs.State.{Frame, PitonState}
-use Rattle.piton_machine.specs.Step.{piton_step, step_cost}
-use Rattle.piton_machine.specs.Views as views
+use Rattle.piton_semantics.specs.declared.error_kind.ErrorKind.{ErrorKind}
+use Rattle.piton_semantics.specs.Fits.{system_in}
+use Rattle.piton_semantics.specs.Law.{Steps, none, more, advanced}
+use Rattle.piton_semantics.specs.Seen.StateView.{Seen, saturated, seen_after, seen_from, seen_step}
+use Rattle.piton_semantics.specs.State.{Frame, PitonState}
+use Rattle.piton_semantics.specs.Step.{piton_step, step_cost}
+use Rattle.piton_semantics.specs.Views as views
 use Rattle.level_debuggers.specs.declared.watch.Event.{Event}
 use Rattle.level_debuggers.specs.FmLevels.{FmLevelOf, fm_after, fm_event}
 use Rattle.level_debuggers.specs.Levels.{LevelOf, Piton, Fm, lifted, next_of, stands_at}

@@ -7,9 +7,9 @@ use Rattle.fm_show.specs.Listing.{machine_listing}
 use Rattle.gypsy_syntax.specs.Seen.SourceView.{source_of}
 use Rattle.gypsy_meaning.specs.Seen.Belongs.{BelongsTo}
 use Rattle.gypsy_meaning.specs.Seen.Running.{seen}
-use Rattle.piton_machine.specs.Fits.{system_in}
-use Rattle.piton_machine.specs.Placed.{placed}
-use Rattle.piton_machine.specs.Seen.StateView.{IsSeen}
+use Rattle.piton_semantics.specs.Fits.{system_in}
+use Rattle.piton_semantics.specs.Placed.{placed}
+use Rattle.piton_semantics.specs.Seen.StateView.{IsSeen}
 use Rattle.piton_check.specs.NamedWords.{program_name_at}
 use Rattle.level_debuggers.specs.declared.runner.Runner.{Runner}
 use Rattle.level_debuggers.specs.declared.runner.Runner.TheVariants as runner

@@ -9,11 +9,11 @@ use Rattle.piton_words.specs.declared.word.Word.{Word}
 use Rattle.piton_syntax.specs.Systems.{ProgramOf, SystemOf}
 use Rattle.piton_check.specs.NamedWords.{program_name_at, word_text, words_line}
 use Rattle.piton_check.specs.PitonChecking.{CheckedOf}
-use Rattle.piton_machine.specs.declared.error_kind.ErrorKind.{ErrorKind}
-use Rattle.piton_machine.specs.State.{Frame, PitonState, locals_of}
-use Rattle.piton_machine.specs.Step.{step_cost}
-use Rattle.piton_machine.specs.Fits.{system_in}
-use Rattle.piton_machine.specs.Seen.StateView.{Seen, seen_step}
+use Rattle.piton_semantics.specs.declared.error_kind.ErrorKind.{ErrorKind}
+use Rattle.piton_semantics.specs.State.{Frame, PitonState, locals_of}
+use Rattle.piton_semantics.specs.Step.{step_cost}
+use Rattle.piton_semantics.specs.Fits.{system_in}
+use Rattle.piton_semantics.specs.Seen.StateView.{Seen, seen_step}
 use Rattle.level_debuggers.specs.declared.watch.Event.{Event}
 use Rattle.level_debuggers.specs.declared.advance.Stop.TheVariants as stop
 use Rattle.level_debuggers.specs.Steps.{Next, Over, Stops, Makes}

@@ -13,10 +13,10 @@ use Rattle.display_maps.specs.ReadingAt.{StandingOf, read_from}
 use Rattle.display_maps.specs.Report.{lines_of_reading}
 use Rattle.piton_words.specs.declared.word.Word.{Word}
 use Rattle.piton_check.specs.Instruction.{SystemView}
-use Rattle.piton_machine.specs.State.{PitonState, locals_of}
-use Rattle.piton_machine.specs.Fits.{system_in}
-use Rattle.piton_machine.specs.Addresses.{numbers}
-use Rattle.piton_machine.specs.Placed.{address_of_place, addresses_of, areas_start, end_of}
+use Rattle.piton_semantics.specs.State.{PitonState, locals_of}
+use Rattle.piton_semantics.specs.Fits.{system_in}
+use Rattle.piton_semantics.specs.Addresses.{numbers}
+use Rattle.piton_semantics.specs.Placed.{address_of_place, addresses_of, areas_start, end_of}
 use Rattle.level_debuggers.specs.PitonLevels.{PitonLevelOf, piton_over}
 use Rattle.level_debuggers.specs.Texts.{mark_text, no_mark}
 

@@ -3,9 +3,9 @@ use Rattle.std.specs.Prelude.{◌≡◌, ◌^◌, ◌<◌, ℕ, Ok, length}
 use Rattle.fm_machine.specs.State as machine
 use Rattle.fm_machine.specs.Run.{Avoids, IsFirst, fm_run}
 use Rattle.debug_script.specs.declared.command.Place.TheVariants.{Number}
-use Rattle.piton_machine.specs.Fits.{system_in}
-use Rattle.piton_machine.specs.Law.{Steps, advanced}
-use Rattle.piton_machine.specs.State.{PitonState}
+use Rattle.piton_semantics.specs.Fits.{system_in}
+use Rattle.piton_semantics.specs.Law.{Steps, advanced}
+use Rattle.piton_semantics.specs.State.{PitonState}
 use Rattle.level_debuggers.specs.Arrivals.{IsFirstArrival}
 use Rattle.level_debuggers.specs.FmLevels.{FmLevelOf}
 use Rattle.level_debuggers.specs.Levels.{LevelOf, Piton, Fm}

@@ -2,7 +2,7 @@
 
 use crate::session::SessionRun;
 use crate::watch::Event;
-use piton_machine::ErrorKind;
+use piton_semantics::ErrorKind;
 
 /// Why the next step of a run is refused.
 #[derive(Clone, Copy)]

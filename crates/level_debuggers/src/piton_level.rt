@@ -11,7 +11,8 @@ use display_maps::{Reading, push_reading, read_from};
 use fm_image::Image;
 use piton_check::{Checked, program_name};
 use piton_linker::PlacedSystem;
-use piton_machine::{State, Stepped};
+use piton_machine::State;
+use piton_semantics::Stepped;
 use piton_words::Word;
 use stack_text::{Memory, Name};
 use std::alloc::Global;
@@ -26,8 +27,8 @@ pub(crate) struct PitonLevel {
 }
 
 impl Model for PitonLevel {
-    ghost use Rattle.piton_machine.specs.Fits.{system_in};
-    ghost use Rattle.piton_machine.specs.Seen.StateView.{IsSeen};
+    ghost use Rattle.piton_semantics.specs.Fits.{system_in};
+    ghost use Rattle.piton_semantics.specs.Seen.StateView.{IsSeen};
     ghost use Rattle.level_debuggers.specs.PitonLevels.{PitonLevelOf};
 
     ghost Value = { PitonLevelOf };
@@ -39,11 +40,11 @@ impl Model for PitonLevel {
 
 impl PitonLevel {
     ghost use Rattle.std.specs.Prelude.{◌≡◌, ◌≤◌, ◌^◌, IfOk, slice_get};
-    ghost use Rattle.piton_machine.specs.Addresses.{numbers};
-    ghost use Rattle.piton_machine.specs.Fits.{Each, IsWordOf, system_in};
-    ghost use Rattle.piton_machine.specs.Seen.StateView.{IsSeen};
-    ghost use Rattle.piton_machine.specs.Placed.{address_of_place, placed, addresses_of, areas_start};
-    ghost use Rattle.piton_machine.specs.State.{locals_of};
+    ghost use Rattle.piton_semantics.specs.Addresses.{numbers};
+    ghost use Rattle.piton_semantics.specs.Fits.{Each, IsWordOf, system_in};
+    ghost use Rattle.piton_semantics.specs.Seen.StateView.{IsSeen};
+    ghost use Rattle.piton_semantics.specs.Placed.{address_of_place, placed, addresses_of, areas_start};
+    ghost use Rattle.piton_semantics.specs.State.{locals_of};
     ghost use Rattle.piton_check.specs.NamedWords.{program_name_at};
     ghost use Rattle.level_debuggers.specs.Steps.{IsAdvance};
     ghost use Rattle.level_debuggers.specs.Levels.{IsRunner, Piton, level_of};

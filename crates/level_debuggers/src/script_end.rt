@@ -1,6 +1,6 @@
 //! How scripts end.
 
-use piton_machine::ErrorKind;
+use piton_semantics::ErrorKind;
 
 /// How a script ends. A place and a number of steps are those of the session's answer.
 #[derive(Clone, Copy, Debug, PartialEq, Eq)]

@@ -9,7 +9,7 @@ use crate::runner::Runner;
 use crate::seats::{note_all, take_first};
 use crate::watch::{Event, Rule, Tally, Watch};
 use debug_script::Place;
-use piton_machine::ErrorKind;
+use piton_semantics::ErrorKind;
 use stack_text::{Memory, Name};
 use std::alloc::Global;
 use thiserror::Error;

@@ -1,8 +1,8 @@
 //! Sessions that no command makes: of a run that another session handed back, of a system that comes to an error, of a machine that leaves its window.
 
 ghost use Rattle.std.specs.Prelude.{◌≤◌, ◌^◌, IfOk};
-ghost use Rattle.piton_machine.specs.Fits.{system_in};
-ghost use Rattle.piton_machine.specs.Placed.{placed};
+ghost use Rattle.piton_semantics.specs.Fits.{system_in};
+ghost use Rattle.piton_semantics.specs.Placed.{placed};
 ghost use Rattle.level_debuggers.specs.Levels.{IsRunner};
 ghost use Rattle.level_debuggers.specs.Seen.Sessions.{IsSession};
 
@@ -15,7 +15,8 @@ use gypsy_syntax::read_gypsy;
 use level_debuggers::{Runner, Session, SessionRun};
 use piton_check::{Checked, check as check_system};
 use piton_linker::link;
-use piton_machine::{ErrorKind, State};
+use piton_machine::State;
+use piton_semantics::ErrorKind;
 use piton_syntax::read_piton;
 use std::alloc::Global;
 use std::test::Fail;

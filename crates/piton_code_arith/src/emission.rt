@@ -1,12 +1,12 @@
 //! The pieces of the operations on words.
 
 ghost use Rattle.std.specs.Prelude.{◌≡◌, ◌++◌, ◌^◌, ◌≤◌, IfOk, OnOk};
-ghost use Rattle.piton_machine.specs.Fits.{system_in};
-ghost use Rattle.piton_machine.specs.Groups.{IsOfGroup};
-ghost use Rattle.piton_machine.specs.Placed.{placed};
-ghost use Rattle.piton_machine.specs.Stands.{DoesStepsAt};
-ghost use Rattle.piton_machine.specs.Templates.{code_pieces, operation_code, pieces_at};
-ghost use Rattle.piton_machine.specs.declared.group.Group.TheVariants.{Word};
+ghost use Rattle.piton_semantics.specs.Fits.{system_in};
+ghost use Rattle.piton_semantics.specs.Groups.{IsOfGroup};
+ghost use Rattle.piton_semantics.specs.Placed.{placed};
+ghost use Rattle.piton_semantics.specs.Stands.{DoesStepsAt};
+ghost use Rattle.piton_semantics.specs.Templates.{code_pieces, operation_code, pieces_at};
+ghost use Rattle.piton_semantics.specs.declared.group.Group.TheVariants.{Word};
 
 use fm_code::template::{
     carry_code, div2_code, eq_code, lt_code, mult2_carry_code, no_op_code, not_bool_code, one_code,
@@ -14,7 +14,7 @@ use fm_code::template::{
 };
 use fm_words::{Cc, Op};
 use piton_check::{Checked, Piece, word_operation};
-use piton_machine::{instruction, push_code};
+use piton_semantics::{instruction, push_code};
 use piton_words::WordOp;
 use stack_text::Memory;
 use std::alloc::{AllocError, Global};

@@ -6,9 +6,9 @@ use Rattle.piton_check.specs.PitonChecking.{CheckedOf, IsChecked}
 use Rattle.piton_check.specs.Instruction.{Instruction, SystemView, system_view}
 use Rattle.piton_check.specs.Resolved.{ResolvedOf}
 use Rattle.piton_check.specs.Sound.{IsSound}
-use Rattle.piton_machine.specs.State.{program_of, instruction_at, variables_of}
-use Rattle.piton_machine.specs.Fits.{system_in}
-use Rattle.piton_machine.proofs.SoundLaws.{known}
+use Rattle.piton_semantics.specs.State.{program_of, instruction_at, variables_of}
+use Rattle.piton_semantics.specs.Fits.{system_in}
+use Rattle.piton_semantics.proofs.SoundLaws.{known}
 
 pub next_fits : (s : SystemView) → IsSound s → (program place : ℕ) (instruction : Instruction) → instruction_at s program place ≡ Some instruction → place + 1 < 2 ^ 32
 next_fits s sound program place instruction e =

@@ -3,13 +3,13 @@
 ghost use Rattle.std.specs.Prelude.{◌≡◌, ◌+◌, ◌++◌, ◌^◌, ◌<◌, ◌≤◌, IfOk, OnOk, map};
 ghost use Rattle.piton_check.specs.Instruction.{place_of};
 ghost use Rattle.piton_check.specs.declared.piece.Piece.TheVariants.{Place};
-ghost use Rattle.piton_machine.specs.Fits.{system_in};
-ghost use Rattle.piton_machine.specs.Groups.{IsOfGroup, only_of};
-ghost use Rattle.piton_machine.specs.PitonInstr.{decoded_view};
-ghost use Rattle.piton_machine.specs.Placed.{placed};
-ghost use Rattle.piton_machine.specs.Stands.{DoesStepsAt};
-ghost use Rattle.piton_machine.specs.Templates.{condition_of, jump_case_pieces, pieces_of, pieces_at};
-ghost use Rattle.piton_machine.specs.declared.group.Group.TheVariants.{Jump};
+ghost use Rattle.piton_semantics.specs.Fits.{system_in};
+ghost use Rattle.piton_semantics.specs.Groups.{IsOfGroup, only_of};
+ghost use Rattle.piton_semantics.specs.PitonInstr.{decoded_view};
+ghost use Rattle.piton_semantics.specs.Placed.{placed};
+ghost use Rattle.piton_semantics.specs.Stands.{DoesStepsAt};
+ghost use Rattle.piton_semantics.specs.Templates.{condition_of, jump_case_pieces, pieces_of, pieces_at};
+ghost use Rattle.piton_semantics.specs.declared.group.Group.TheVariants.{Jump};
 
 use crate::row::{
     push_call, push_jump_if_top, push_pop_call, push_ret, push_table_jump, push_test,
@@ -18,7 +18,7 @@ use fm_code::template::{no_op_code, popj_code};
 use fm_code::word::{literal_at, mov, reg};
 use fm_words::Cc;
 use piton_check::{Checked, Piece, ResolvedArg};
-use piton_machine::{PitonInstr, instruction, literal_pieces, place_of, push_code, variables};
+use piton_semantics::{PitonInstr, instruction, literal_pieces, place_of, push_code, variables};
 use piton_syntax::TestKind;
 use stack_text::Memory;
 use std::alloc::{AllocError, Global};

@@ -1,13 +1,13 @@
 //! The prelude of a program: the pieces before its first instruction.
 
 ghost use Rattle.std.specs.Prelude.{◌≡◌, ◌<◌, ◌≤◌, ◌+◌, ◌++◌, IfOk, OnOk, length};
-ghost use Rattle.piton_machine.specs.Fits.{system_in};
-ghost use Rattle.piton_machine.specs.State.{program_of};
-ghost use Rattle.piton_machine.specs.Templates.{temporary_pieces, entered_pieces, prelude_pieces};
+ghost use Rattle.piton_semantics.specs.Fits.{system_in};
+ghost use Rattle.piton_semantics.specs.State.{program_of};
+ghost use Rattle.piton_semantics.specs.Templates.{temporary_pieces, entered_pieces, prelude_pieces};
 
 use fm_code::word::{literal, mov, pop, push, reg};
 use piton_check::{Checked, Piece};
-use piton_machine::{literal_pieces, word_piece};
+use piton_semantics::{literal_pieces, word_piece};
 use piton_words::Word;
 use stack_text::Memory;
 use std::alloc::Global;

@@ -1,7 +1,7 @@
 //! The pieces of jumps and calls, by the forms that several share.
 
 ghost use Rattle.std.specs.Prelude.{◌≡◌, ◌++◌, ◌<◌, OnOk};
-ghost use Rattle.piton_machine.specs.Templates.{jump_if_top_pieces, jump_case_pieces, call_pieces, test_pieces, pop_call_pieces, ret_pieces};
+ghost use Rattle.piton_semantics.specs.Templates.{jump_if_top_pieces, jump_case_pieces, call_pieces, test_pieces, pop_call_pieces, ret_pieces};
 
 use fm_code::word::{
     ALL_FLAGS, FLAG_Z, add, at, literal, literal_at, mov, pop, push, reg, setting, when,

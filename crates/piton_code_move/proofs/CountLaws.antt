@@ -3,8 +3,8 @@ use Rattle.std.proofs.Common.{◌≡◌, ℕ, ◌≤◌, Some, subst}
 use Rattle.piton_check.specs.Instruction as i
 use Rattle.piton_check.specs.Instruction.{Instruction, SystemView}
 use Rattle.piton_check.specs.Sound.{IsSound, IsPlaced}
-use Rattle.piton_machine.specs.State.{program_of, instruction_at}
-use Rattle.piton_machine.proofs.SoundLaws.{placed_at}
+use Rattle.piton_semantics.specs.State.{program_of, instruction_at}
+use Rattle.piton_semantics.proofs.SoundLaws.{placed_at}
 
 pub few_at : (s : SystemView) → IsSound s → (program place : ℕ) (instruction : Instruction) → instruction_at s program place ≡ Some instruction → (n : ℕ) → instruction ≡ i.PushTempStkIndex n → n ≤ 65536
 few_at s sound program place instruction there n same =

@@ -2,19 +2,19 @@
 
 ghost use Rattle.std.specs.Prelude.{◌≡◌, ◌+◌, ◌++◌, ◌^◌, ◌<◌, ◌≤◌, ℕ, IfOk, OnOk};
 ghost use Rattle.piton_check.specs.Instruction.{PushTempStkIndex};
-ghost use Rattle.piton_machine.specs.Fits.{system_in};
-ghost use Rattle.piton_machine.specs.Groups.{IsOfGroup, only_of};
-ghost use Rattle.piton_machine.specs.PitonInstr.{decoded_view};
-ghost use Rattle.piton_machine.specs.Placed.{placed};
-ghost use Rattle.piton_machine.specs.Stands.{DoesStepsAt};
-ghost use Rattle.piton_machine.specs.Templates.{pieces_of, pieces_at};
-ghost use Rattle.piton_machine.specs.declared.group.Group.TheVariants.{Move};
+ghost use Rattle.piton_semantics.specs.Fits.{system_in};
+ghost use Rattle.piton_semantics.specs.Groups.{IsOfGroup, only_of};
+ghost use Rattle.piton_semantics.specs.PitonInstr.{decoded_view};
+ghost use Rattle.piton_semantics.specs.Placed.{placed};
+ghost use Rattle.piton_semantics.specs.Stands.{DoesStepsAt};
+ghost use Rattle.piton_semantics.specs.Templates.{pieces_of, pieces_at};
+ghost use Rattle.piton_semantics.specs.declared.group.Group.TheVariants.{Move};
 
 use crate::row::{push_end, push_free, push_global, push_local};
 use fm_code::template::{deposit_code, fetch_code, no_op_code, pop_code, popn_code};
 use fm_code::word::{add, at, literal, mov, pop, push, reg, sub};
 use piton_check::{Checked, Piece};
-use piton_machine::{PitonInstr, instruction, literal_pieces, push_code, word_piece};
+use piton_semantics::{PitonInstr, instruction, literal_pieces, push_code, word_piece};
 use stack_text::Memory;
 use std::alloc::{AllocError, Global};
 

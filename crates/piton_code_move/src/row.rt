@@ -1,7 +1,7 @@
 //! The pieces of moves, by the forms that several share.
 
 ghost use Rattle.std.specs.Prelude.{◌≡◌, ◌++◌, ◌<◌, OnOk};
-ghost use Rattle.piton_machine.specs.Templates.{local_pieces, global_pieces, end_pieces, free_pieces};
+ghost use Rattle.piton_semantics.specs.Templates.{local_pieces, global_pieces, end_pieces, free_pieces};
 
 use fm_code::word::{add, literal, mov, push, reg, sub};
 use piton_check::Piece;

@@ -4,8 +4,8 @@ use Rattle.std.specs.Prelude.{get_or, slice_get}
 use Rattle.std.proofs.lemmas.List.{append-nil, length-reverse, get_or-reverse}
 use Rattle.piton_words.specs.declared.word.Word.{Word}
 use Rattle.piton_check.specs.Instruction.{SystemView}
-use Rattle.piton_machine.specs.Addresses.{word_number, numbers}
-use Rattle.piton_machine.specs.Placed.{addresses_of}
+use Rattle.piton_semantics.specs.Addresses.{word_number, numbers}
+use Rattle.piton_semantics.specs.Placed.{addresses_of}
 use Rattle.piton_linker.specs.Tables.{areas_words}
 
 pub numbers_more : (s : SystemView) (k w : ℕ) (ws : List Word) (d : Word) → w ≡ word_number (addresses_of s) (get_or ws k d) → k < length ws → numbers (addresses_of s) (take k ws) ++ w ∷ [] ≡ numbers (addresses_of s) (take (k + 1) ws)

@@ -7,12 +7,12 @@ use Rattle.std.proofs.Math.Seq.{set-append_seam}
 use Rattle.piton_check.specs.declared.piece.Piece.{Piece}
 use Rattle.piton_check.specs.declared.piece.Piece.TheVariants.{Code, Number, Place, Entry, Area, TempEnd, TempStart, CtrlStart, Table}
 use Rattle.piton_check.specs.Instruction.{Instruction, SystemView}
-use Rattle.piton_machine.specs.Fits.{Each}
-use Rattle.piton_machine.proofs.EachLaws.{each_append}
-use Rattle.piton_machine.specs.Addresses.{Addresses}
-use Rattle.piton_machine.specs.State.{program_of}
-use Rattle.piton_machine.specs.Placed.{entry_of, address_of_place, instruction_size, instructions_size, prelude_size, addresses_of}
-use Rattle.piton_machine.specs.Templates.{word_of}
+use Rattle.piton_semantics.specs.Fits.{Each}
+use Rattle.piton_semantics.proofs.EachLaws.{each_append}
+use Rattle.piton_semantics.specs.Addresses.{Addresses}
+use Rattle.piton_semantics.specs.State.{program_of}
+use Rattle.piton_semantics.specs.Placed.{entry_of, address_of_place, instruction_size, instructions_size, prelude_size, addresses_of}
+use Rattle.piton_semantics.specs.Templates.{word_of}
 use Rattle.piton_linker.specs.declared.draft.FixUp.{FixUp}
 use Rattle.piton_linker.specs.Tables.{starts, row_at, PieceExists}
 use Rattle.piton_linker.specs.Drafts.{IsRow, known_word, DraftOf, filled, drafted, IsFixUp, IsDraft}

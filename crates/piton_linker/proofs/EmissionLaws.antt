@@ -6,15 +6,15 @@ use Rattle.piton_check.specs.PitonChecking.{CheckedOf, IsChecked}
 use Rattle.piton_check.specs.Resolved.{ResolvedOf}
 use Rattle.piton_check.specs.Instruction.{Instruction, ProgramView, SystemView, system_view}
 use Rattle.piton_check.specs.Sound.{IsSound, local_count}
-use Rattle.piton_machine.specs.State.{program_of, instruction_at}
-use Rattle.piton_machine.specs.Fits.{Each, IsPlace, system_in}
-use Rattle.piton_machine.proofs.SoundLaws.{known}
-use Rattle.piton_machine.specs.Addresses.{Addresses}
-use Rattle.piton_machine.specs.Placed.{entry_of, address_of_place, final_pc_of, prelude_size, instruction_size, instructions_size, programs_size, addresses_of}
-use Rattle.piton_machine.specs.Templates.{pieces_of, pieces_by, pieces_at, prelude_pieces, words_of, template, prelude_words, instructions_words, program_words, programs_words}
-use Rattle.piton_machine.proofs.SizeLaws.{length-words_of, length-template, length-prelude_pieces, length-prelude_words, length-instructions_words, length-programs_words}
-use Rattle.piton_machine.proofs.AddressLaws.{program_there}
-use Rattle.piton_machine.proofs.ReadyLaws.{programs_end}
+use Rattle.piton_semantics.specs.State.{program_of, instruction_at}
+use Rattle.piton_semantics.specs.Fits.{Each, IsPlace, system_in}
+use Rattle.piton_semantics.proofs.SoundLaws.{known}
+use Rattle.piton_semantics.specs.Addresses.{Addresses}
+use Rattle.piton_semantics.specs.Placed.{entry_of, address_of_place, final_pc_of, prelude_size, instruction_size, instructions_size, programs_size, addresses_of}
+use Rattle.piton_semantics.specs.Templates.{pieces_of, pieces_by, pieces_at, prelude_pieces, words_of, template, prelude_words, instructions_words, program_words, programs_words}
+use Rattle.piton_semantics.proofs.SizeLaws.{length-words_of, length-template, length-prelude_pieces, length-prelude_words, length-instructions_words, length-programs_words}
+use Rattle.piton_semantics.proofs.AddressLaws.{program_there}
+use Rattle.piton_semantics.proofs.ReadyLaws.{programs_end}
 use Rattle.piton_linker.specs.Tables.{words_at, PieceExists}
 use Rattle.piton_linker.proofs.NameLaws.{pieces_named, prelude_named}
 

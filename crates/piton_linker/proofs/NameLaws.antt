@@ -2,19 +2,19 @@
 use Rattle.std.proofs.Common.{◌≡◌, ℕ, zero, suc, ◌+◌, ◌<◌, Some, List, [], ◌∷◌, ◌++◌, length, map, take, sym, ap, ◌∙◌, arith}
 use Rattle.std.specs.Prelude.{get_or, slice_get, replicate}
 use Rattle.std.proofs.lemmas.Option.{slice_get-get_or}
-use Rattle.piton_machine.specs.Placed.{addresses_of}
+use Rattle.piton_semantics.specs.Placed.{addresses_of}
 use Rattle.piton_words.specs.declared.word.Word.{Word}
 use Rattle.piton_words.specs.declared.word.Word.TheVariants.{Int, Nat, Bitv, Bool as Truth, Addr, Pc, Subr}
-use Rattle.piton_machine.specs.Templates.{operation_code}
+use Rattle.piton_semantics.specs.Templates.{operation_code}
 use Rattle.fm_code.specs.InstructionWords.{mov, push, pop, literal}
 use Rattle.piton_check.specs.Instruction as i
 use Rattle.piton_check.specs.Instruction.{Instruction, ProgramView, SystemView}
-use Rattle.piton_machine.specs.Fits.{Each, IsPlace, IsWordOf, IsInstructionOf}
-use Rattle.piton_machine.proofs.EachLaws.{each_append}
+use Rattle.piton_semantics.specs.Fits.{Each, IsPlace, IsWordOf, IsInstructionOf}
+use Rattle.piton_semantics.proofs.EachLaws.{each_append}
 use Rattle.piton_check.specs.declared.piece.Piece.{Piece}
 use Rattle.piton_check.specs.declared.piece.Piece.TheVariants.{Code, Place}
-use Rattle.piton_machine.specs.Templates.{word_piece, code_pieces, literal_pieces, pieces_of, temporary_pieces, prelude_pieces}
-use Rattle.piton_machine.specs.Templates.{word_of, words_of}
+use Rattle.piton_semantics.specs.Templates.{word_piece, code_pieces, literal_pieces, pieces_of, temporary_pieces, prelude_pieces}
+use Rattle.piton_semantics.specs.Templates.{word_of, words_of}
 use Rattle.piton_linker.specs.Tables.{PieceExists}
 
 pub word_named : (s : SystemView) (w : Word) → IsWordOf s w → PieceExists s (word_piece w)

@@ -3,9 +3,9 @@ use Rattle.std.proofs.Common.{◌≡◌, ℕ, suc, ◌+◌, Some, List, [], ◌�
 use Rattle.std.specs.Prelude.{slice_get}
 use Rattle.std.proofs.lemmas.Option.{get_or_from_slice_get}
 use Rattle.piton_check.specs.Instruction.{Instruction, ProgramView, SystemView}
-use Rattle.piton_machine.specs.State.{no_program, program_of}
-use Rattle.piton_machine.specs.Placed.{instruction_size, prelude_size, program_size, entry_of, address_of_place}
-use Rattle.piton_machine.proofs.PlacingLaws.{size_next}
+use Rattle.piton_semantics.specs.State.{no_program, program_of}
+use Rattle.piton_semantics.specs.Placed.{instruction_size, prelude_size, program_size, entry_of, address_of_place}
+use Rattle.piton_semantics.proofs.PlacingLaws.{size_next}
 use Rattle.piton_linker.specs.Layouts.{places_from, places_of}
 use Rattle.piton_linker.specs.Tables.{starts, place_rows, table_of}
 use Rattle.piton_linker.proofs.BoundLaws.{programs_next}

@@ -10,23 +10,23 @@ use Rattle.fm_code.proofs.RunLaws.{arrives_then, arrives_at_once}
 use Rattle.piton_check.specs.Instruction.{SystemView}
 use Rattle.piton_check.specs.PitonChecking.{CheckedOf, IsChecked}
 use Rattle.piton_check.specs.Sound.{IsSound}
-use Rattle.piton_machine.specs.State.{Frame, PitonState}
-use Rattle.piton_machine.specs.Views.{then_on}
-use Rattle.piton_machine.specs.InstructionRows.{Row}
-use Rattle.piton_machine.specs.Step.{piton_step, piton_run, step_cost, run_cost, cost_after}
-use Rattle.piton_machine.specs.Seen.StateView.{started}
-use Rattle.piton_machine.specs.Fits.{IsPlace, IsState, system_in}
-use Rattle.piton_machine.specs.Placed.{placed, final_pc_of, end_of, addresses_of, loaded}
-use Rattle.piton_machine.specs.Stands.{address_from, Stands, Simulates}
-use Rattle.piton_machine.proofs.KeepLaws.{step_kept}
-use Rattle.piton_machine.proofs.RunLaws.{run_kept}
-use Rattle.piton_machine.proofs.SeenLaws.{opening_seen}
-use Rattle.piton_machine.proofs.SoundLaws.{known, words_known}
-use Rattle.piton_machine.proofs.SizeLaws.{code_ends}
-use Rattle.piton_machine.proofs.OpeningLaws.{opening_stands}
-use Rattle.piton_machine.proofs.ReadyLaws.{place_below, end_fits}
-use Rattle.piton_machine.proofs.StepViewLaws.{refused, by_ok}
-use Rattle.piton_machine.proofs.StepLaws.{step_simulated}
+use Rattle.piton_semantics.specs.State.{Frame, PitonState}
+use Rattle.piton_semantics.specs.Views.{then_on}
+use Rattle.piton_semantics.specs.InstructionRows.{Row}
+use Rattle.piton_semantics.specs.Step.{piton_step, piton_run, step_cost, run_cost, cost_after}
+use Rattle.piton_semantics.specs.Seen.StateView.{started}
+use Rattle.piton_semantics.specs.Fits.{IsPlace, IsState, system_in}
+use Rattle.piton_semantics.specs.Placed.{placed, final_pc_of, end_of, addresses_of, loaded}
+use Rattle.piton_semantics.specs.Stands.{address_from, Stands, Simulates}
+use Rattle.piton_semantics.proofs.KeepLaws.{step_kept}
+use Rattle.piton_semantics.proofs.RunLaws.{run_kept}
+use Rattle.piton_semantics.proofs.SeenLaws.{opening_seen}
+use Rattle.piton_semantics.proofs.SoundLaws.{known, words_known}
+use Rattle.piton_semantics.proofs.SizeLaws.{code_ends}
+use Rattle.piton_semantics.proofs.OpeningLaws.{opening_stands}
+use Rattle.piton_semantics.proofs.ReadyLaws.{place_below, end_fits}
+use Rattle.piton_semantics.proofs.StepViewLaws.{refused, by_ok}
+use Rattle.piton_semantics.proofs.StepLaws.{step_simulated}
 use Rattle.piton_linker.specs.Theorem.{RunsOnProcessor, PitonRunsOnProcessor}
 
 module _ (s : SystemView) (sound : IsSound s) (fits_in : end_of s < 2 ^ 32) where

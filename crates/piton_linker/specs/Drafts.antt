@@ -3,10 +3,10 @@ use Rattle.std.specs.Prelude.{◌≡◌, ℕ, ◌+◌, ◌<◌, List, [], ◌∷
 use Rattle.piton_check.specs.declared.piece.Piece.{Piece}
 use Rattle.piton_check.specs.declared.piece.Piece.TheVariants.{Code, Number, Place, Table}
 use Rattle.piton_check.specs.Instruction.{SystemView}
-use Rattle.piton_machine.specs.Fits.{Each}
-use Rattle.piton_machine.specs.Addresses.{Addresses}
-use Rattle.piton_machine.specs.Placed.{address_of_place, addresses_of}
-use Rattle.piton_machine.specs.Templates.{word_of}
+use Rattle.piton_semantics.specs.Fits.{Each}
+use Rattle.piton_semantics.specs.Addresses.{Addresses}
+use Rattle.piton_semantics.specs.Placed.{address_of_place, addresses_of}
+use Rattle.piton_semantics.specs.Templates.{word_of}
 use Rattle.piton_linker.specs.declared.draft.FixUp.{FixUp}
 use Rattle.piton_linker.specs.Tables.{PieceExists}
 

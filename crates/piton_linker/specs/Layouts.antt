@@ -5,7 +5,7 @@ use Rattle.piton_linker.specs.declared.fault.LinkFault.{LinkFault}
 use Rattle.piton_linker.specs.declared.fault.LinkFault.TheVariants.{Large, Memory}
 use Rattle.piton_linker.specs.declared.placement.Layout.{Layout}
 use Rattle.piton_check.specs.Instruction.{Instruction, ProgramView, SystemView}
-use Rattle.piton_machine.specs.Placed.{placed, final_pc_of, areas_start, ctrl_start, temp_start, end_of, address_of_place}
+use Rattle.piton_semantics.specs.Placed.{placed, final_pc_of, areas_start, ctrl_start, temp_start, end_of, address_of_place}
 
 -- where the parts of a placed system begin
 abbrev pub layout_of : SystemView → Layout

@@ -2,16 +2,16 @@
 
 ghost use Rattle.std.specs.Prelude.{◌≡◌, ◌++◌, ◌<◌, ◌^◌, OnOk, map, reverse};
 ghost use Rattle.piton_check.specs.Instruction.{system_view};
-ghost use Rattle.piton_machine.specs.Fits.{Each, IsWordOf};
-ghost use Rattle.piton_machine.specs.Seen.Stacked.{words_in};
-ghost use Rattle.piton_machine.specs.Addresses.{word_number, numbers};
-ghost use Rattle.piton_machine.specs.Placed.{end_of, addresses_of};
+ghost use Rattle.piton_semantics.specs.Fits.{Each, IsWordOf};
+ghost use Rattle.piton_semantics.specs.Seen.StateView.{words_in};
+ghost use Rattle.piton_semantics.specs.Addresses.{word_number, numbers};
+ghost use Rattle.piton_semantics.specs.Placed.{end_of, addresses_of};
 ghost use Rattle.piton_linker.specs.Tables.{areas_words};
 ghost use Rattle.piton_linker.specs.Tables.{table_of};
 
 use crate::table::{Table, word};
 use piton_check::Resolved;
-use piton_machine::word_piece;
+use piton_semantics::word_piece;
 use piton_words::Word;
 use stack_text::Memory;
 

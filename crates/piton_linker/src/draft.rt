@@ -2,9 +2,9 @@
 
 ghost use Rattle.std.specs.Prelude.{◌≡◌, ◌+◌, ◌<◌, ◌^◌, ◌++◌, ◌∷◌, [], OnOk, length};
 ghost use Rattle.piton_check.specs.Instruction.{system_view};
-ghost use Rattle.piton_machine.specs.Fits.{Each};
-ghost use Rattle.piton_machine.specs.Placed.{end_of, addresses_of};
-ghost use Rattle.piton_machine.specs.Templates.{word_of, words_of};
+ghost use Rattle.piton_semantics.specs.Fits.{Each};
+ghost use Rattle.piton_semantics.specs.Placed.{end_of, addresses_of};
+ghost use Rattle.piton_semantics.specs.Templates.{word_of, words_of};
 ghost use Rattle.piton_linker.specs.Drafts.{IsRow, known_place, known_word, filled, drafted, IsFixUp, IsDraft};
 ghost use Rattle.piton_linker.specs.Tables.{table_of, PieceExists};
 

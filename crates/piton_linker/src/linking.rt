@@ -2,8 +2,8 @@
 
 ghost use Rattle.std.specs.Prelude.{◌≡◌, ◌≤◌, IfOk, IfErr, map};
 ghost use Rattle.fm_words.specs.WindowLimit.{most_window};
-ghost use Rattle.piton_machine.specs.Fits.{system_in};
-ghost use Rattle.piton_machine.specs.Placed.{placed};
+ghost use Rattle.piton_semantics.specs.Fits.{system_in};
+ghost use Rattle.piton_semantics.specs.Placed.{placed};
 ghost use Rattle.piton_linker.specs.Layouts.{layout_of, places_of, trimmed, IsFault};
 ghost use Rattle.piton_linker.specs.Theorem.{RunsOnProcessor};
 

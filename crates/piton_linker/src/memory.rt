@@ -1,10 +1,10 @@
 //! All words of a placed system.
 
 ghost use Rattle.std.specs.Prelude.{◌≡◌, ◌+◌, ◌-◌, ◌++◌, ◌<◌, ◌^◌, IfOk, OnOk, length, replicate, reverse, take};
-ghost use Rattle.piton_machine.specs.Fits.{system_in};
-ghost use Rattle.piton_machine.specs.State.{program_of};
-ghost use Rattle.piton_machine.specs.Addresses.{numbers};
-ghost use Rattle.piton_machine.specs.Placed.{end_of, final_pc_of, first_frame, first_frame_at, first_top, address_of_place, placed_registers, placed, addresses_of, code_of};
+ghost use Rattle.piton_semantics.specs.Fits.{system_in};
+ghost use Rattle.piton_semantics.specs.State.{program_of};
+ghost use Rattle.piton_semantics.specs.Addresses.{numbers};
+ghost use Rattle.piton_semantics.specs.Placed.{end_of, final_pc_of, first_frame, first_frame_at, first_top, address_of_place, placed_registers, placed, addresses_of, code_of};
 ghost use Rattle.piton_linker.specs.Tables.{areas_words};
 ghost use Rattle.piton_linker.specs.Layouts.{layout_of, trimmed};
 ghost use Rattle.piton_linker.specs.Tables.{table_of};

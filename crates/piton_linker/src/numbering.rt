@@ -23,8 +23,8 @@ pub struct PlacedSystem {
 impl Model for PlacedSystem {
     ghost use Rattle.std.specs.Prelude.{◌≡◌, ◌≤◌, ◌^◌};
     ghost use Rattle.piton_check.specs.PitonChecking.{CheckedOf};
-    ghost use Rattle.piton_machine.specs.Fits.{system_in};
-    ghost use Rattle.piton_machine.specs.Placed.{placed};
+    ghost use Rattle.piton_semantics.specs.Fits.{system_in};
+    ghost use Rattle.piton_semantics.specs.Placed.{placed};
     ghost use Rattle.piton_linker.specs.Layouts.{layout_of};
     ghost use Rattle.piton_linker.specs.Tables.{table_of};
 
@@ -38,9 +38,9 @@ impl Model for PlacedSystem {
 
 impl PlacedSystem {
     ghost use Rattle.std.specs.Prelude.{◌≡◌, ◌≤◌, ◌^◌, IfOk};
-    ghost use Rattle.piton_machine.specs.Fits.{Each, IsWordOf, system_in};
-    ghost use Rattle.piton_machine.specs.Addresses.{numbers, word_number};
-    ghost use Rattle.piton_machine.specs.Placed.{addresses_of, placed};
+    ghost use Rattle.piton_semantics.specs.Fits.{Each, IsWordOf, system_in};
+    ghost use Rattle.piton_semantics.specs.Addresses.{numbers, word_number};
+    ghost use Rattle.piton_semantics.specs.Placed.{addresses_of, placed};
     ghost use Rattle.piton_linker.specs.Layouts.{layout_of};
 
     /// A checked system with its addresses. The time is linear in the system's programs, instructions and areas.

@@ -2,14 +2,14 @@
 
 ghost use Rattle.std.specs.Prelude.{◌≡◌, ◌<◌, ◌^◌, ℕ, sum_by};
 ghost use Rattle.piton_check.specs.Instruction.{instruction_view, program_view};
-ghost use Rattle.piton_machine.specs.Fits.{system_in};
-ghost use Rattle.piton_machine.specs.Placed.{final_pc_of, instruction_size, prelude_size, program_size};
-ghost use Rattle.piton_machine.specs.Step.{operation_cost};
+ghost use Rattle.piton_semantics.specs.Fits.{system_in};
+ghost use Rattle.piton_semantics.specs.Placed.{final_pc_of, instruction_size, prelude_size, program_size};
+ghost use Rattle.piton_semantics.specs.Step.{operation_cost};
 ghost use Rattle.piton_linker.specs.Layouts.{layout_of};
 
 use crate::placement::Layout;
 use piton_check::{Checked, ResolvedInstr, ResolvedProgram};
-use piton_machine::{PitonInstr, operation_cost};
+use piton_semantics::{PitonInstr, operation_cost};
 use piton_words::Word;
 
 /// Where the parts of a system are placed.
@@ -70,7 +70,7 @@ fn total<T: TakesWords>(parts: &[T]) -> u64
 
 impl TakesWords for ResolvedProgram {
     ghost use Rattle.piton_check.specs.Instruction.{program_view};
-    ghost use Rattle.piton_machine.specs.Placed.{program_size};
+    ghost use Rattle.piton_semantics.specs.Placed.{program_size};
 
     ghost words = { λ program. program_size (program_view program) };
 
@@ -81,7 +81,7 @@ impl TakesWords for ResolvedProgram {
 
 impl TakesWords for ResolvedInstr {
     ghost use Rattle.piton_check.specs.Instruction.{instruction_view};
-    ghost use Rattle.piton_machine.specs.Placed.{instruction_size};
+    ghost use Rattle.piton_semantics.specs.Placed.{instruction_size};
 
     ghost words = { λ instr. instruction_size (instruction_view instr) };
 

@@ -2,11 +2,11 @@
 
 ghost use Rattle.std.specs.Prelude.{◌≡◌, ◌+◌, ◌<◌, ◌^◌, IfOk, map, length, get_or, slice_get, sum_by};
 ghost use Rattle.piton_check.specs.Instruction.{program_view, system_view};
-ghost use Rattle.piton_machine.specs.Fits.{IsPlace};
-ghost use Rattle.piton_machine.specs.Placed.{program_size, programs_size, entry_of, address_of_place, address_of_area, end_of, addresses_of};
+ghost use Rattle.piton_semantics.specs.Fits.{IsPlace};
+ghost use Rattle.piton_semantics.specs.Placed.{program_size, programs_size, entry_of, address_of_place, address_of_area, end_of, addresses_of};
 ghost use Rattle.piton_linker.specs.Layouts.{layout_of};
 ghost use Rattle.piton_linker.specs.Tables.{starts, place_rows, table_of, place_in, PieceExists};
-ghost use Rattle.piton_machine.specs.Templates.{word_of};
+ghost use Rattle.piton_semantics.specs.Templates.{word_of};
 
 use crate::placement::Layout;
 use crate::sizes::{TakesWords, prelude_size, program_size};

@@ -2,16 +2,15 @@
 
 ghost use Rattle.std.specs.Prelude.{◌≡◌, ◌==◌, ◌+◌, ◌^◌, ◌<◌, ◌≤◌, ℕ, IfErr, OnOk, OnErr, length};
 ghost use Rattle.piton_check.specs.Instruction.{system_view};
-ghost use Rattle.piton_machine.specs.PitonInstr.{decoded_view};
-ghost use Rattle.piton_machine.specs.State.{variables_of};
-ghost use Rattle.piton_machine.specs.InstructionRows.{row_of};
-ghost use Rattle.piton_machine.specs.Step.{operation_cost, variables_on_top, cost_of};
+ghost use Rattle.piton_semantics.specs.PitonInstr.{decoded_view};
+ghost use Rattle.piton_semantics.specs.State.{variables_of};
+ghost use Rattle.piton_semantics.specs.InstructionRows.{row_of};
+ghost use Rattle.piton_semantics.specs.Step.{variables_on_top, cost_of};
 
-use crate::error_kind::ErrorKind;
-use crate::piton_instr::PitonInstr;
 use crate::state::State;
 use piton_check::Resolved;
-use piton_words::{Word, WordOp};
+use piton_semantics::{ErrorKind, PitonInstr, operation_cost, variables};
+use piton_words::Word;
 
 impl State {
     /// An instruction done.
@@ -127,36 +126,5 @@ impl State {
             Some(Word::Subr { program }) => variables(checked, program),
             _ => 0,
         }
-    }
-}
-
-/// How many locals a program has.
-pub fn variables(checked: &Resolved, program: u32) -> u64
-    requires { (program : ℕ) → variables_of (system_view checked.now) program ≤ 400 }
-    ensures value { result ≡ variables_of (system_view checked.now) program }
-    ensures few { result ≤ 400 }
-{
-    match checked.programs.get(program as usize) {
-        Some(found) => u64::from(found.formals) + found.temporaries.len() as u64,
-        None => 0,
-    }
-}
-
-/// What an operation on words costs: as many instructions as it has words of code.
-pub fn operation_cost(op: WordOp) -> u64
-    ensures { result ≡ operation_cost op }
-{
-    match op {
-        WordOp::Eq => 4,
-        WordOp::LtInt
-        | WordOp::LtNat
-        | WordOp::LtAddr
-        | WordOp::Mult2NatWithCarryOut
-        | WordOp::Div2Nat => 5,
-        WordOp::AddIntWithCarry
-        | WordOp::AddNatWithCarry
-        | WordOp::SubIntWithCarry
-        | WordOp::SubNatWithCarry => 7,
-        _ => 1,
     }
 }

@@ -1,21 +1,18 @@
 //! The state of a run.
 
-ghost use Rattle.std.specs.Prelude.{◌≡◌, ◌≤◌, [], IfOk, length, reverse, slice_index_or, option_map};
-ghost use Rattle.piton_machine.specs.Fits.{Each, IsWellFormed, IsWordOf};
-ghost use Rattle.piton_check.specs.Instruction.{system_view, instruction_view};
-ghost use Rattle.piton_machine.specs.Fits.{system_in, IsInitialStack};
-ghost use Rattle.piton_machine.specs.Seen.StateView.{IsSeen, seen_step, answer_of, left_of, state_run, opening};
-ghost use Rattle.piton_machine.specs.Groups.{resolved_at};
-ghost use Rattle.piton_machine.specs.State.{instruction_at, locals_of};
-ghost use Rattle.piton_machine.specs.Step.{step_cost};
+ghost use Rattle.std.specs.Prelude.{◌≡◌, ◌≤◌, [], IfOk, length, reverse, slice_index_or};
+ghost use Rattle.piton_semantics.specs.Fits.{Each, IsWellFormed, IsWordOf};
+ghost use Rattle.piton_check.specs.Instruction.{system_view};
+ghost use Rattle.piton_semantics.specs.Fits.{system_in, IsInitialStack};
+ghost use Rattle.piton_semantics.specs.Seen.StateView.{IsSeen, seen_step, answer_of, left_of, state_run, opening};
+ghost use Rattle.piton_semantics.specs.State.{locals_of};
+ghost use Rattle.piton_semantics.specs.Step.{step_cost};
 
 use crate::areas::Areas;
-use crate::error_kind::ErrorKind;
 use crate::frames::Frames;
-use crate::piton_instr::PitonInstr;
 use crate::stack::Stack;
-use crate::stepped::{PitonRun, Stepped};
-use piton_check::{Checked, Resolved, ResolvedInstr};
+use piton_check::{Checked, Resolved};
+use piton_semantics::{ErrorKind, PitonInstr, PitonRun, Stepped, instruction};
 use piton_words::Word;
 use stack_text::Memory;
 use std::alloc::Global;
@@ -36,7 +33,7 @@ pub struct State {
 }
 
 impl Model for State {
-    ghost use Rattle.piton_machine.specs.Seen.StateView.{Seen};
+    ghost use Rattle.piton_semantics.specs.Seen.StateView.{Seen};
 
     ghost Value = { Seen };
 
@@ -45,7 +42,7 @@ impl Model for State {
 
 impl State {
     /// The opening state of a system. All memory of its runs is taken here.
-    #[tactic(auto, using(crate::proofs::SoundLaws::checked_known))]
+    #[tactic(auto, using(piton_semantics::proofs::SoundLaws::checked_known))]
     pub fn start(alloc: Global, checked: &Checked) -> Result<State, Memory>
         ensures opening { IfOk result (λ v. v ≡ opening (system_in checked.now) (system_in checked.now).stack) }
         ensures fits { IfOk result (λ v. IsSeen (system_in checked.now) v) }
@@ -56,7 +53,7 @@ impl State {
 
     /// The opening state of a system with another initial stack, from the bottom up: one that is as long as the system's, of
     /// words that name what there is.
-    #[tactic(auto, using(crate::proofs::SoundLaws::checked_known, crate::proofs::SoundLaws::initial_room, crate::proofs::SoundLaws::initial_words))]
+    #[tactic(auto, using(piton_semantics::proofs::SoundLaws::checked_known, piton_semantics::proofs::SoundLaws::initial_room, piton_semantics::proofs::SoundLaws::initial_words))]
     pub fn start_with(alloc: Global, checked: &Checked, stack: &[Word]) -> Result<State, Memory>
         requires { IsInitialStack (system_in checked.now) stack.now }
         ensures opening { IfOk result (λ v. v ≡ opening (system_in checked.now) stack.now) }
@@ -66,7 +63,7 @@ impl State {
     }
 
     /// One step. An error changes nothing, and a halted state stays as it is.
-    #[tactic(auto, using(crate::proofs::SoundLaws::checked_known))]
+    #[tactic(auto, using(piton_semantics::proofs::SoundLaws::checked_known))]
     #[inline(never)]
     pub fn step(&mut self, checked: &Checked) -> Stepped
         requires { IsSeen (system_in checked.now) self.old }
@@ -78,7 +75,7 @@ impl State {
     }
 
     /// At most `limit` steps, until the state has halted or a step is refused.
-    #[tactic(auto, using(crate::proofs::SoundLaws::checked_known))]
+    #[tactic(auto, using(piton_semantics::proofs::SoundLaws::checked_known))]
     pub fn run(&mut self, checked: &Checked, limit: u64) -> PitonRun
         requires { IsSeen (system_in checked.now) self.old }
         ensures ran { state_run (system_in checked.now) limit self.old ≡ record { run = result; seen = self.new } }
@@ -88,7 +85,7 @@ impl State {
     }
 
     /// What the next step costs, in instructions of the processor; 0 where the state has halted.
-    #[tactic(auto, using(crate::proofs::SoundLaws::checked_known))]
+    #[tactic(auto, using(piton_semantics::proofs::SoundLaws::checked_known))]
     pub fn step_cost(&self, checked: &Checked) -> u64
         ensures { result ≡ step_cost (system_in checked.now) self.now.state }
     {
@@ -135,7 +132,7 @@ impl State {
     }
 
     /// One step.
-    #[tactic(auto, unfolding(crate::specs::Views::then_on))]
+    #[tactic(auto, unfolding(piton_semantics::specs::Views::then_on))]
     #[inline(always)]
     fn stepped(&mut self, checked: &Resolved) -> Stepped
         requires sound { IsWellFormed (system_view checked.now) }
@@ -234,17 +231,4 @@ impl State {
     {
         self.areas.words(area)
     }
-}
-
-/// The instruction at a place of a program.
-pub fn instruction(checked: &Resolved, program: u32, place: u32) -> Option<&ResolvedInstr>
-    ensures instruction { option_map (λ instr. instruction_view instr.now) result ≡
-        instruction_at (system_view checked.now) program place }
-    ensures resolved { option_map (λ instr. instr.now) result ≡ resolved_at checked.now program place }
-{
-    checked
-        .programs
-        .get(program as usize)?
-        .instrs
-        .get(place as usize)
 }

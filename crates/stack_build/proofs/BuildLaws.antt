@@ -11,8 +11,8 @@ use Rattle.fm_image.specs.Spelling.{spelling}
 use Rattle.piton_syntax.specs.Systems.{SystemOf}
 use Rattle.piton_check.specs.PitonChecking.{CheckedOf, IsChecked}
 use Rattle.piton_check.specs.Instruction.{SystemView}
-use Rattle.piton_machine.specs.Fits.{system_in}
-use Rattle.piton_machine.specs.Placed.{placed}
+use Rattle.piton_semantics.specs.Fits.{system_in}
+use Rattle.piton_semantics.specs.Placed.{placed}
 use Rattle.piton_linker.specs.declared.fault.LinkFault.{LinkFault}
 use Rattle.piton_linker.specs.declared.fault.LinkFault.TheVariants as link
 use Rattle.piton_linker.specs.Layouts.{IsFault}

@@ -14,7 +14,7 @@ use Rattle.fm_image.specs.Spelling.{number_bytes, numbers_bytes, name_bytes, cou
 use Rattle.fm_image.proofs.LimitLaws.{limits_of, sixteen, condition_count, slot_count, word_count}
 use Rattle.piton_check.specs.Instruction.{SystemView}
 use Rattle.piton_check.specs.Sound.{IsSound}
-use Rattle.piton_machine.specs.Placed.{placed}
+use Rattle.piton_semantics.specs.Placed.{placed}
 use Rattle.gypsy_syntax.specs.declared.literal.Decl.{Decl}
 use Rattle.stack_build.specs.Image.{image_with}
 use Rattle.stack_build.specs.Scaffold.Showing.{Shows}

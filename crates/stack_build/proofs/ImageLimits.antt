@@ -20,9 +20,9 @@ use Rattle.fm_image.proofs.NameLaws.{fits_window, slots_fit, conditions_fit}
 use Rattle.display_maps.specs.Reading.{space_name}
 use Rattle.piton_check.specs.Instruction.{SystemView}
 use Rattle.piton_check.specs.Sound.{IsSound}
-use Rattle.piton_machine.specs.Placed.{placed, final_pc_of, areas_start, end_of}
-use Rattle.piton_machine.proofs.SizeLaws.{length-placed}
-use Rattle.piton_machine.proofs.SoundLaws.{known}
+use Rattle.piton_semantics.specs.Placed.{placed, final_pc_of, areas_start, end_of}
+use Rattle.piton_semantics.proofs.SizeLaws.{length-placed}
+use Rattle.piton_semantics.proofs.SoundLaws.{known}
 use Rattle.gypsy_syntax.specs.declared.literal.Decl.{Decl}
 use Rattle.gypsy_syntax.specs.Sources.{ProcOf, LocalOf, SourceOf}
 use Rattle.gypsy_syntax.specs.Programs.{Proc, Program, proc_at, words_of}

@@ -8,7 +8,7 @@ use Rattle.piton_words.specs.declared.word.Word.{Word}
 use Rattle.piton_words.specs.declared.word.Word.TheVariants as word
 use Rattle.piton_check.specs.Instruction.{SystemView}
 use Rattle.piton_check.specs.Sound.{Exists}
-use Rattle.piton_machine.specs.Fits.{IsInitialStack}
+use Rattle.piton_semantics.specs.Fits.{IsInitialStack}
 use Rattle.gypsy_syntax.specs.ProgramFits.{Each}
 use Rattle.gypsy_syntax.specs.ValuesFit.{ValueFits, VarsFit}
 use Rattle.gypsy_codegen.specs.WordsOf.{words_of_values}

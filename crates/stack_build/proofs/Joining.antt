@@ -15,11 +15,11 @@ use Rattle.display_maps.specs.Reading.{word_or_zero, variable_of, condition_of}
 use Rattle.piton_words.specs.declared.word.Word.{Word}
 use Rattle.piton_check.specs.Instruction.{SystemView}
 use Rattle.piton_check.specs.Sound.{IsSound}
-use Rattle.piton_machine.specs.Addresses.{word_number, numbers}
-use Rattle.piton_machine.specs.Placed.{areas_start, end_of, addresses_of, final_pc_of, loaded}
-use Rattle.piton_machine.specs.Seen.StateView.{started}
-use Rattle.piton_machine.proofs.RunLaws.{steps_run, steps_cost}
-use Rattle.piton_machine.proofs.SoundLaws.{known}
+use Rattle.piton_semantics.specs.Addresses.{word_number, numbers}
+use Rattle.piton_semantics.specs.Placed.{areas_start, end_of, addresses_of, final_pc_of, loaded}
+use Rattle.piton_semantics.specs.Seen.StateView.{started}
+use Rattle.piton_semantics.proofs.RunLaws.{steps_run, steps_cost}
+use Rattle.piton_semantics.proofs.SoundLaws.{known}
 use Rattle.piton_linker.specs.Theorem.{ComesToStand, RunsOnProcessor}
 use Rattle.gypsy_syntax.specs.declared.literal.Decl.{Decl}
 use Rattle.gypsy_syntax.specs.ProgramFits.{Each}

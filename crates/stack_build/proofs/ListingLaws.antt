@@ -15,10 +15,10 @@ use Rattle.fm_image.specs.Limits.{Tables, no_tables, is_place}
 use Rattle.fm_image.specs.Procedure.{ProcedureOf}
 use Rattle.display_maps.specs.Reading.{space_name}
 use Rattle.piton_check.specs.Instruction.{Instruction, ProgramView, SystemView}
-use Rattle.piton_machine.specs.State.{program_of as program_in}
-use Rattle.piton_machine.specs.Fits.{IsPlace}
-use Rattle.piton_machine.specs.Placed.{address_of_place}
-use Rattle.piton_machine.proofs.AddressLaws.{program_there}
+use Rattle.piton_semantics.specs.State.{program_of as program_in}
+use Rattle.piton_semantics.specs.Fits.{IsPlace}
+use Rattle.piton_semantics.specs.Placed.{address_of_place}
+use Rattle.piton_semantics.proofs.AddressLaws.{program_there}
 use Rattle.piton_linker.specs.Layouts.{places_from, places_of}
 use Rattle.gypsy_syntax.specs.ProgramFits.{Each}
 use Rattle.gypsy_syntax.specs.Programs.{Proc, Program, no_proc, proc_at, shapes_of}

@@ -12,10 +12,10 @@ use Rattle.fm_loader.specs.Loaded as loader
 use Rattle.piton_words.specs.declared.word.Word.{Word}
 use Rattle.fm_image.specs.Limits.{Tables}
 use Rattle.piton_check.specs.Instruction.{SystemView}
-use Rattle.piton_machine.specs.Fits.{IsWellFormed}
-use Rattle.piton_machine.specs.Addresses.{word_number, numbers}
-use Rattle.piton_machine.specs.Placed.{code_of, addresses_of, first_frame, first_frame_at, first_top, ctrl_start, temp_start, end_of, words_with, placed, loaded}
-use Rattle.piton_machine.proofs.SizeLaws.{length-placed}
+use Rattle.piton_semantics.specs.Fits.{IsWellFormed}
+use Rattle.piton_semantics.specs.Addresses.{word_number, numbers}
+use Rattle.piton_semantics.specs.Placed.{code_of, addresses_of, first_frame, first_frame_at, first_top, ctrl_start, temp_start, end_of, words_with, placed, loaded}
+use Rattle.piton_semantics.proofs.SizeLaws.{length-placed}
 use Rattle.gypsy_syntax.specs.declared.literal.Decl.{Decl}
 use Rattle.gypsy_syntax.specs.ProgramFits.{Each}
 use Rattle.gypsy_syntax.specs.ValuesFit.{ValueFits, VarsFit}

@@ -27,15 +27,15 @@ use Rattle.piton_words.specs.declared.word.Word.{Word}
 use Rattle.piton_words.specs.declared.word.Word.TheVariants.{Nat}
 use Rattle.piton_check.specs.Instruction.{SystemView}
 use Rattle.piton_check.specs.Sound.{IsSound}
-use Rattle.piton_machine.specs.State as piton
-use Rattle.piton_machine.specs.State.{PitonState, locals_of, element}
-use Rattle.piton_machine.specs.Addresses.{Addresses, word_number, numbers}
-use Rattle.piton_machine.specs.Law.{Steps}
-use Rattle.piton_machine.specs.Placed.{areas_start, end_of, addresses_of, final_pc_of, address_of_place, loaded}
-use Rattle.piton_machine.specs.Seen.StateView.{started}
-use Rattle.piton_machine.specs.Stands.{Stands, frame_words, pointer_to, address_from, return_address}
-use Rattle.piton_machine.proofs.RunLaws.{steps_run, steps_cost}
-use Rattle.piton_machine.proofs.SoundLaws.{known}
+use Rattle.piton_semantics.specs.State as piton
+use Rattle.piton_semantics.specs.State.{PitonState, locals_of, element}
+use Rattle.piton_semantics.specs.Addresses.{Addresses, word_number, numbers}
+use Rattle.piton_semantics.specs.Law.{Steps}
+use Rattle.piton_semantics.specs.Placed.{areas_start, end_of, addresses_of, final_pc_of, address_of_place, loaded}
+use Rattle.piton_semantics.specs.Seen.StateView.{started}
+use Rattle.piton_semantics.specs.Stands.{Stands, frame_words, pointer_to, address_from, return_address}
+use Rattle.piton_semantics.proofs.RunLaws.{steps_run, steps_cost}
+use Rattle.piton_semantics.proofs.SoundLaws.{known}
 use Rattle.piton_linker.specs.Theorem.{ComesToStand, RunsOnProcessor}
 use Rattle.gypsy_syntax.specs.Programs.{Proc, Program, proc_at, shapes_of}
 use Rattle.gypsy_syntax.specs.Ranges.{is_in_range}

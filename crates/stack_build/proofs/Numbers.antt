@@ -8,7 +8,7 @@ use Rattle.stack_text.specs.declared.shape.Kind.TheVariants.{Integer, Boolean, C
 use Rattle.stack_text.specs.declared.shape.Shape.{Shape}
 use Rattle.stack_text.specs.Values.{ValueOf}
 use Rattle.fm_words.specs.Word.{word_of_int}
-use Rattle.piton_machine.specs.Addresses.{Addresses, word_number, numbers}
+use Rattle.piton_semantics.specs.Addresses.{Addresses, word_number, numbers}
 use Rattle.gypsy_syntax.specs.ProgramFits.{Each}
 use Rattle.gypsy_syntax.specs.Ranges.{is_in_range}
 use Rattle.gypsy_syntax.specs.ValuesFit.{ValueFits, VarsFit}

@@ -5,8 +5,8 @@ use Rattle.fm_image.specs.declared.slot.Slot.{Slot}
 use Rattle.fm_image.specs.Image.{ImageOf}
 use Rattle.fm_image.specs.Limits.{Tables, are_tables, is_image}
 use Rattle.piton_check.specs.PitonChecking.{CheckedOf, IsChecked}
-use Rattle.piton_machine.specs.Fits.{system_in}
-use Rattle.piton_machine.specs.Placed.{placed, areas_start, end_of}
+use Rattle.piton_semantics.specs.Fits.{system_in}
+use Rattle.piton_semantics.specs.Placed.{placed, areas_start, end_of}
 use Rattle.piton_linker.specs.declared.placement.Layout.{Layout}
 use Rattle.piton_linker.specs.Layouts.{layout_of}
 use Rattle.piton_linker.proofs.ProcessorLaws.{checked_end}

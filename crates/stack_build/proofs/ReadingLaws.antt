@@ -21,8 +21,8 @@ use Rattle.display_maps.specs.ReadingAt as reading
 use Rattle.display_maps.specs.ValueReading.{value_shown}
 use Rattle.display_maps.proofs.ItemLaws.{items_read}
 use Rattle.piton_check.specs.Instruction.{SystemView}
-use Rattle.piton_machine.specs.Placed.{address_of_place, areas_start}
-use Rattle.piton_machine.proofs.AddressLaws.{same_places}
+use Rattle.piton_semantics.specs.Placed.{address_of_place, areas_start}
+use Rattle.piton_semantics.proofs.AddressLaws.{same_places}
 use Rattle.gypsy_syntax.specs.Programs.{Leave, Routine, Space, Declared, Proc, Program, no_proc, proc_at, shapes_of, conds_of}
 use Rattle.gypsy_syntax.specs.ProgramFits.{Each}
 use Rattle.gypsy_syntax.specs.ValuesFit.{ValueFits, VarsFit}

@@ -2,8 +2,8 @@
 use Rattle.std.proofs.Common.{map, refl, sym, subst}
 use Rattle.fm_machine.specs.State.{Fm}
 use Rattle.piton_check.specs.Instruction.{SystemView}
-use Rattle.piton_machine.proofs.ReadyLaws.{end_fits}
-use Rattle.piton_machine.specs.Step.{run_cost}
+use Rattle.piton_semantics.proofs.ReadyLaws.{end_fits}
+use Rattle.piton_semantics.specs.Step.{run_cost}
 use Rattle.piton_linker.specs.Theorem.{ComesToStand, PitonRunsOnProcessor}
 use Rattle.gypsy_codegen.specs.Acceptable.{GeneratedIsAcceptable}
 use Rattle.gypsy_codegen.specs.Generated.{generated_view}

@@ -15,8 +15,8 @@ use Rattle.fm_loader.specs.Rules.{fault_of as values_rule}
 use Rattle.fm_loader.specs.Values.{values_in}
 use Rattle.piton_words.specs.declared.word.Word.{Word}
 use Rattle.piton_check.specs.Instruction.{SystemView}
-use Rattle.piton_machine.specs.Fits.{IsInitialStack, system_in}
-use Rattle.piton_machine.specs.Placed.{placed}
+use Rattle.piton_semantics.specs.Fits.{IsInitialStack, system_in}
+use Rattle.piton_semantics.specs.Placed.{placed}
 use Rattle.gypsy_syntax.specs.Sources.{SourceOf}
 use Rattle.gypsy_syntax.specs.Programs.{proc_at}
 use Rattle.gypsy_syntax.specs.Resolved.{program_of}

@@ -22,10 +22,10 @@ use Rattle.fm_image.proofs.NameLaws.{conditions_fit, fits_frame, variables_fit, 
 use Rattle.display_maps.specs.Reading.{space_name}
 use Rattle.piton_check.specs.Instruction.{Instruction, ProgramView, SystemView}
 use Rattle.piton_check.specs.Sound.{IsSound}
-use Rattle.piton_machine.specs.State.{program_of as program_in}
-use Rattle.piton_machine.specs.Fits.{IsPlace}
-use Rattle.piton_machine.specs.Placed.{placed, instructions_size, program_size, programs_size, address_of_place, final_pc_of}
-use Rattle.piton_machine.proofs.AddressLaws.{offset_of, sum_below, programs_offset, length_at, program_there}
+use Rattle.piton_semantics.specs.State.{program_of as program_in}
+use Rattle.piton_semantics.specs.Fits.{IsPlace}
+use Rattle.piton_semantics.specs.Placed.{placed, instructions_size, program_size, programs_size, address_of_place, final_pc_of}
+use Rattle.piton_semantics.proofs.AddressLaws.{offset_of, sum_below, programs_offset, length_at, program_there}
 use Rattle.gypsy_syntax.specs.declared.literal.Decl.{Decl}
 use Rattle.gypsy_syntax.specs.Fits.{FitsDecl, FitsLocal, FitsProcedure}
 use Rattle.gypsy_syntax.specs.ProgramFits.{Each}

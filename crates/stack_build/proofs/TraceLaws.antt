@@ -13,12 +13,12 @@ use Rattle.fm_image.specs.Image.{ImageOf}
 use Rattle.fm_loader.specs.Loaded as loader
 use Rattle.display_maps.specs.Reading.{word_in}
 use Rattle.piton_check.specs.Instruction.{SystemView}
-use Rattle.piton_machine.specs.State as piton
-use Rattle.piton_machine.specs.State.{PitonState}
-use Rattle.piton_machine.specs.Addresses.{word_number, numbers}
-use Rattle.piton_machine.specs.Placed.{end_of, addresses_of, loaded}
-use Rattle.piton_machine.specs.Stands.{Stands, frame_words, pointer_to, return_address}
-use Rattle.piton_machine.proofs.ReadyLaws.{end_fits}
+use Rattle.piton_semantics.specs.State as piton
+use Rattle.piton_semantics.specs.State.{PitonState}
+use Rattle.piton_semantics.specs.Addresses.{word_number, numbers}
+use Rattle.piton_semantics.specs.Placed.{end_of, addresses_of, loaded}
+use Rattle.piton_semantics.specs.Stands.{Stands, frame_words, pointer_to, return_address}
+use Rattle.piton_semantics.proofs.ReadyLaws.{end_fits}
 use Rattle.piton_linker.specs.Theorem.{PitonRunsOnProcessor}
 use Rattle.gypsy_syntax.specs.Programs.{Program, proc_at, shapes_of}
 use Rattle.gypsy_syntax.specs.ValuesFit.{ValueFits}

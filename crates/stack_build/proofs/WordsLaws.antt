@@ -21,14 +21,14 @@ use Rattle.piton_syntax.specs.declared.test_kind.TestKind.TheVariants as test
 use Rattle.piton_check.specs.Instruction as i
 use Rattle.piton_check.specs.Instruction.{Instruction, ProgramView, SystemView}
 use Rattle.piton_check.specs.Sound.{IsPlaced, IsSoundProgram, IsSound, local_count}
-use Rattle.piton_machine.specs.State.{program_of}
-use Rattle.piton_machine.specs.Fits.{Each, IsWordOf}
-use Rattle.piton_machine.specs.Addresses.{word_number, numbers}
-use Rattle.piton_machine.specs.Templates.{operation_code, condition_of, words_of, prelude_words, template, instructions_words, program_words, programs_words, test_pieces}
-use Rattle.piton_machine.specs.Placed.{program_size, programs_size, entry_of, address_of_place, final_pc_of, address_of_area, ctrl_start, temp_start, end_of, addresses_of, code_of, first_frame, first_frame_at, first_top, placed}
-use Rattle.piton_machine.proofs.PieceLaws.{codes_are, jump_case_is, prelude_is}
-use Rattle.piton_machine.proofs.ReadyLaws.{area_end}
-use Rattle.piton_machine.proofs.SoundLaws.{all_each, word_known, words_known, known}
+use Rattle.piton_semantics.specs.State.{program_of}
+use Rattle.piton_semantics.specs.Fits.{Each, IsWordOf}
+use Rattle.piton_semantics.specs.Addresses.{word_number, numbers}
+use Rattle.piton_semantics.specs.Templates.{operation_code, condition_of, words_of, prelude_words, template, instructions_words, program_words, programs_words, test_pieces}
+use Rattle.piton_semantics.specs.Placed.{program_size, programs_size, entry_of, address_of_place, final_pc_of, address_of_area, ctrl_start, temp_start, end_of, addresses_of, code_of, first_frame, first_frame_at, first_top, placed}
+use Rattle.piton_semantics.proofs.PieceLaws.{codes_are, jump_case_is, prelude_is}
+use Rattle.piton_semantics.proofs.ReadyLaws.{area_end}
+use Rattle.piton_semantics.proofs.SoundLaws.{all_each, word_known, words_known, known}
 use Rattle.piton_linker.specs.Layouts.{trimmed}
 use Rattle.piton_linker.proofs.BoundLaws.{lengths_within, programs_within, areas_within}
 use Rattle.piton_linker.proofs.TrimLaws.{trimmed-rest}

@@ -11,7 +11,7 @@ use Rattle.fm_image.specs.Spelling.{Spelled, spelling}
 use Rattle.piton_syntax.specs.Systems.{SystemOf}
 use Rattle.piton_check.specs.PitonChecking.{CheckedOf}
 use Rattle.piton_check.specs.Resolved.{resolved}
-use Rattle.piton_machine.specs.Placed.{placed}
+use Rattle.piton_semantics.specs.Placed.{placed}
 use Rattle.piton_linker.specs.declared.fault.LinkFault.{LinkFault}
 use Rattle.piton_linker.specs.declared.fault.LinkFault.TheVariants as link
 use Rattle.gypsy_syntax.specs.declared.fault.GypsyFault.{GypsyFault}

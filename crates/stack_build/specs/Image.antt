@@ -12,7 +12,7 @@ use Rattle.fm_image.specs.Bare.{bare_image}
 use Rattle.fm_image.specs.Procedure.{ProcedureOf}
 use Rattle.display_maps.specs.Reading.{space_name}
 use Rattle.piton_check.specs.Instruction.{SystemView}
-use Rattle.piton_machine.specs.Placed.{placed, address_of_place, areas_start, end_of}
+use Rattle.piton_semantics.specs.Placed.{placed, address_of_place, areas_start, end_of}
 use Rattle.piton_linker.specs.Layouts.{trimmed}
 use Rattle.gypsy_syntax.specs.declared.literal.Decl.{Decl}
 use Rattle.gypsy_syntax.specs.Programs.{Program, proc_at, shapes_of}

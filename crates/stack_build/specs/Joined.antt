@@ -3,7 +3,7 @@ use Rattle.std.specs.Prelude.{◌≡◌, ℕ, ◌≤◌, ◌^◌, List, length, 
 use Rattle.fm_words.specs.WindowLimit.{most_window}
 use Rattle.stack_text.specs.Values.{ValueOf}
 use Rattle.fm_loader.specs.Values.{values_in}
-use Rattle.piton_machine.specs.Placed.{placed}
+use Rattle.piton_semantics.specs.Placed.{placed}
 use Rattle.gypsy_syntax.specs.Sources.{SourceOf}
 use Rattle.gypsy_syntax.specs.Resolved.{program_of}
 use Rattle.gypsy_check.specs.Accepted.{IsAccepted}

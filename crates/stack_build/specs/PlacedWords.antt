@@ -4,7 +4,7 @@ use Rattle.fm_words.specs.WindowLimit.{most_window}
 use Rattle.fm_image.specs.Spelling.{are_words}
 use Rattle.piton_check.specs.Instruction.{SystemView}
 use Rattle.piton_check.specs.Sound.{IsSound}
-use Rattle.piton_machine.specs.Placed.{placed}
+use Rattle.piton_semantics.specs.Placed.{placed}
 use Rattle.piton_linker.specs.Layouts.{trimmed}
 
 -- the registers and the words that an image of a sound system has are numbers of 32 bits

@@ -7,7 +7,7 @@ use Rattle.fm_machine.specs.State.{Fm}
 use Rattle.fm_image.specs.Image.{ImageOf}
 use Rattle.display_maps.specs.ReadingAt.{StandingOf, ItemsOf, ReadingAtOf, condition_word, read_from, reading_at}
 use Rattle.display_maps.specs.ValueReading.{value_shown}
-use Rattle.piton_machine.specs.Placed.{address_of_place}
+use Rattle.piton_semantics.specs.Placed.{address_of_place}
 use Rattle.gypsy_syntax.specs.Programs.{Program, proc_at, shapes_of}
 use Rattle.gypsy_syntax.specs.Effects.{value_at}
 use Rattle.gypsy_syntax.specs.Resolved.{procedure_names, program_of}

@@ -5,10 +5,10 @@ use Rattle.stack_text.specs.Values.{ValueOf}
 use Rattle.fm_image.specs.Image.{ImageOf}
 use Rattle.fm_loader.specs.Loaded.{loaded}
 use Rattle.piton_check.specs.Instruction.{SystemView}
-use Rattle.piton_machine.specs.Placed.{placed}
-use Rattle.piton_machine.specs.Seen.StateView.{started}
-use Rattle.piton_machine.specs.State.{PitonState}
-use Rattle.piton_machine.specs.Step.{piton_run, run_cost}
+use Rattle.piton_semantics.specs.Placed.{placed}
+use Rattle.piton_semantics.specs.Seen.StateView.{started}
+use Rattle.piton_semantics.specs.State.{PitonState}
+use Rattle.piton_semantics.specs.Step.{piton_run, run_cost}
 use Rattle.piton_linker.specs.Theorem.{ComesToStand}
 use Rattle.gypsy_check.specs.Accepted.{IsAccepted}
 use Rattle.gypsy_codegen.specs.Acceptable.{LimitsFit}

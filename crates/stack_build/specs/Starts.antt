@@ -12,9 +12,9 @@ use Rattle.fm_loader.specs.Loaded.{loaded}
 use Rattle.fm_loader.specs.Values.{values_in}
 use Rattle.piton_words.specs.declared.word.Word.{Word}
 use Rattle.piton_check.specs.PitonChecking.{CheckedOf}
-use Rattle.piton_machine.specs.Fits.{IsInitialStack, system_in}
-use Rattle.piton_machine.specs.Placed.{placed}
-use Rattle.piton_machine.specs.Seen.StateView.{opening as piton_opening}
+use Rattle.piton_semantics.specs.Fits.{IsInitialStack, system_in}
+use Rattle.piton_semantics.specs.Placed.{placed}
+use Rattle.piton_semantics.specs.Seen.StateView.{opening as piton_opening}
 use Rattle.gypsy_syntax.specs.Sources.{SourceOf}
 use Rattle.gypsy_syntax.specs.Resolved.{program_of}
 use Rattle.gypsy_space.specs.Needs.{StackSizes, main_need}

@@ -10,7 +10,7 @@ use Rattle.fm_image.specs.Image.{ImageOf}
 use Rattle.fm_loader.specs.Loaded.{loaded}
 use Rattle.display_maps.specs.Reading.{word_in}
 use Rattle.display_maps.specs.ReadingAt.{word_below}
-use Rattle.piton_machine.specs.Placed.{placed}
+use Rattle.piton_semantics.specs.Placed.{placed}
 use Rattle.gypsy_syntax.specs.Programs.{Program, proc_at, shapes_of}
 use Rattle.gypsy_syntax.specs.Effects.{value_at}
 use Rattle.gypsy_syntax.specs.Resolved.{program_of}

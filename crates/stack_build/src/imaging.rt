@@ -2,8 +2,8 @@
 ghost use Rattle.std.specs.Prelude.{◌≡◌, ◌≤◌, ◌^◌, ◌∷◌, IfOk, IfErr, map};
 ghost use Rattle.display_maps.specs.Reading.{space_name};
 ghost use Rattle.piton_check.specs.PitonChecking.{IsChecked};
-ghost use Rattle.piton_machine.specs.Fits.{system_in};
-ghost use Rattle.piton_machine.specs.Placed.{placed};
+ghost use Rattle.piton_semantics.specs.Fits.{system_in};
+ghost use Rattle.piton_semantics.specs.Placed.{placed};
 ghost use Rattle.piton_linker.specs.Layouts.{places_of, IsFault};
 ghost use Rattle.piton_linker.specs.Theorem.{RunsOnProcessor};
 ghost use Rattle.gypsy_syntax.specs.Resolved.{program_of, shape_of};

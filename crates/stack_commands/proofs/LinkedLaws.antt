@@ -7,8 +7,8 @@ use Rattle.fm_image.specs.Spelling.{spelling, Spelled}
 use Rattle.fm_image.proofs.LimitLaws.{from_limits}
 use Rattle.piton_check.specs.PitonChecking.{CheckedOf, IsChecked}
 use Rattle.piton_check.specs.Instruction.{SystemView}
-use Rattle.piton_machine.specs.Fits.{system_in}
-use Rattle.piton_machine.specs.Placed.{placed}
+use Rattle.piton_semantics.specs.Fits.{system_in}
+use Rattle.piton_semantics.specs.Placed.{placed}
 use Rattle.piton_linker.specs.declared.fault.LinkFault.TheVariants.{Large}
 use Rattle.piton_linker.specs.Layouts.{trimmed, IsFault}
 use Rattle.stack_build.specs.Image.{linked_image}

@@ -1,7 +1,7 @@
 //! The command `pbuild`.
 ghost use Rattle.std.specs.Prelude.{◌≡◌, ◌≤◌, ◌^◌, IfOk, length};
 ghost use Rattle.piton_check.specs.PitonChecking.{IsChecked};
-ghost use Rattle.piton_machine.specs.Fits.{system_in};
+ghost use Rattle.piton_semantics.specs.Fits.{system_in};
 ghost use Rattle.stack_commands.specs.Commands.Pbuild.{linked_stored, linked_reply, pbuild_stored, pbuild_reply};
 ghost use Rattle.command_replies.specs.Plans.{pending_reply};
 

@@ -5,10 +5,10 @@ use Rattle.std.specs.Fmt.{decimal}
 use Rattle.piton_words.specs.declared.word.Word.{Word}
 use Rattle.piton_syntax.specs.Systems.{AreaOf, SystemOf}
 use Rattle.piton_check.specs.PitonChecking.{CheckedOf}
-use Rattle.piton_machine.specs.declared.stepped.PitonRun.{PitonRun}
-use Rattle.piton_machine.specs.declared.stepped.PitonRun.TheVariants.{Halted, Spent, Error}
-use Rattle.piton_machine.specs.Fits.{system_in}
-use Rattle.piton_machine.specs.Seen.StateView.{Seen, Ran, state_run, opening}
+use Rattle.piton_semantics.specs.declared.stepped.PitonRun.{PitonRun}
+use Rattle.piton_semantics.specs.declared.stepped.PitonRun.TheVariants.{Halted, Spent, Error}
+use Rattle.piton_semantics.specs.Fits.{system_in}
+use Rattle.piton_semantics.specs.Seen.StateView.{Seen, Ran, state_run, opening}
 use Rattle.piton_check.specs.NamedWords.{program_name_at, words_line}
 use Rattle.stack_text.specs.Lines.{line}
 use Rattle.command_replies.specs.declared.reply.Verdict.{Verdict}

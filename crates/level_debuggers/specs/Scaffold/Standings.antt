@@ -1,8 +1,8 @@
 -- Where a state stands, as the code reads it.
 use Rattle.fm_machine.specs.State.{word_at}
 use Rattle.display_maps.specs.ReadingAt.{StandingOf}
-use Rattle.piton_machine.specs.Fits.{system_in}
-use Rattle.piton_machine.specs.Placed.{areas_start}
+use Rattle.piton_semantics.specs.Fits.{system_in}
+use Rattle.piton_semantics.specs.Placed.{areas_start}
 use Rattle.level_debuggers.specs.declared.piton_standing.PitonAt.{PitonAt}
 use Rattle.level_debuggers.specs.PitonReadings.{piton_at}
 

@@ -7,7 +7,7 @@ use Rattle.stack_text.specs.SharedLimits.{most_array, most_declared}
 use Rattle.stack_text.specs.Names.{is_name}
 use Rattle.stack_text.specs.declared.shape.Shape.{Shape}
 use Rattle.piton_check.specs.Instruction.{SystemView}
-use Rattle.piton_machine.specs.Placed.{areas_size}
+use Rattle.piton_semantics.specs.Placed.{areas_size}
 use Rattle.gypsy_syntax.specs.declared.literal.Decl.{Decl}
 use Rattle.gypsy_syntax.specs.ProgramFits.{Each}
 use Rattle.gypsy_syntax.specs.Programs.{words_of}

@@ -15,7 +15,7 @@ use Rattle.level_debuggers.specs.Levels as level
 use Rattle.level_debuggers.specs.Levels.{LevelOf, level_of, program_named}
 use Rattle.level_debuggers.specs.Tallies.{Watching}
 use Rattle.level_debuggers.specs.Walks.{SessionOf}
-use Rattle.piton_machine.specs.declared.error_kind.ErrorKind.{ErrorKind}
+use Rattle.piton_semantics.specs.declared.error_kind.ErrorKind.{ErrorKind}
 use Rattle.stack_build.specs.declared.start_fault.StartFault.{StartFault}
 use Rattle.stack_build.specs.Starts.{gypsy_start, system_start, image_start}
 use Rattle.command_line.specs.declared.words.reader.Level.{Level}

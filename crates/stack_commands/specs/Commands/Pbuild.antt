@@ -4,8 +4,8 @@ use Rattle.fm_words.specs.WindowLimit.{most_window}
 use Rattle.fm_image.specs.Spelling.{spelling}
 use Rattle.piton_check.specs.PitonChecking.{CheckedOf}
 use Rattle.piton_check.specs.Instruction.{SystemView}
-use Rattle.piton_machine.specs.Fits.{system_in}
-use Rattle.piton_machine.specs.Placed.{placed}
+use Rattle.piton_semantics.specs.Fits.{system_in}
+use Rattle.piton_semantics.specs.Placed.{placed}
 use Rattle.stack_build.specs.Image.{linked_image}
 use Rattle.command_replies.specs.declared.reply.SizeOf.TheVariants.{Words}
 use Rattle.command_replies.specs.declared.reply.Verdict.{Verdict}

@@ -1,7 +1,7 @@
 use Rattle.std.proofs.Common.{◌≡◌, ◌≤◌, ◌+◌, length, arith}
 use Rattle.std.proofs.lemmas.Grind.{common_steps}
 use Rattle.piton_check.specs.Instruction.{system_view}
-use Rattle.piton_machine.specs.State.{variables_of}
+use Rattle.piton_semantics.specs.State.{variables_of}
 use Rattle.piton_code_jump.proofs.CountLaws.{checked_few}
 use Rattle.piton_code_jump.proofs.entry.prelude.Goals as goal
 

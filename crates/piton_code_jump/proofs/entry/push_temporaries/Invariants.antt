@@ -1,5 +1,5 @@
 use Rattle.std.proofs.Common.{◌≡◌, ◌-◌, ◌++◌, drop}
-use Rattle.piton_machine.specs.Templates.{temporary_pieces}
+use Rattle.piton_semantics.specs.Templates.{temporary_pieces}
 use Rattle.piton_code_jump.proofs.entry.push_temporaries.Given as goal
 
 -- the temporaries from the last on

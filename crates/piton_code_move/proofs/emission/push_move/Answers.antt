@@ -1,5 +1,5 @@
 use Rattle.std.proofs.Common.{◌≤◌, ap, arith}
-use Rattle.piton_machine.specs.PitonInstr.{decoded_view}
+use Rattle.piton_semantics.specs.PitonInstr.{decoded_view}
 use Rattle.piton_code_move.proofs.emission.push_move.Goals as goal
 
 pub overflow_add-index : goal.overflow_add-index

@@ -1,10 +1,10 @@
 use Rattle.std.proofs.Common.{◌++◌, map, take, ap, sym, ◌∙◌, subst, append_assoc}
 use Rattle.piton_check.specs.Instruction.{system_view}
-use Rattle.piton_machine.specs.Fits.{Each, IsWordOf}
-use Rattle.piton_machine.specs.Seen.Stacked.{words_in}
-use Rattle.piton_machine.proofs.EachLaws.{each_get}
-use Rattle.piton_machine.specs.Addresses.{numbers}
-use Rattle.piton_machine.specs.Placed.{addresses_of}
+use Rattle.piton_semantics.specs.Fits.{Each, IsWordOf}
+use Rattle.piton_semantics.specs.Seen.StateView.{words_in}
+use Rattle.piton_semantics.proofs.EachLaws.{each_get}
+use Rattle.piton_semantics.specs.Addresses.{numbers}
+use Rattle.piton_semantics.specs.Placed.{addresses_of}
 use Rattle.piton_linker.specs.Tables.{areas_words}
 use Rattle.piton_linker.proofs.BoundLaws.{seen_at}
 use Rattle.piton_linker.proofs.DataLaws.{areas_more}

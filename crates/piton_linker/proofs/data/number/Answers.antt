@@ -1,8 +1,8 @@
 use Rattle.std.proofs.Common.{◌∙◌, ap, sym, subst}
-use Rattle.piton_machine.specs.Placed.{addresses_of}
+use Rattle.piton_semantics.specs.Placed.{addresses_of}
 use Rattle.piton_check.specs.Instruction.{system_view}
-use Rattle.piton_machine.specs.Templates.{word_of}
-use Rattle.piton_machine.proofs.PieceLaws.{word_is}
+use Rattle.piton_semantics.specs.Templates.{word_of}
+use Rattle.piton_semantics.proofs.PieceLaws.{word_is}
 use Rattle.piton_linker.specs.Tables.{PieceExists}
 use Rattle.piton_linker.proofs.NameLaws.{word_named}
 use Rattle.piton_linker.proofs.data.number.Goals as goal

@@ -2,8 +2,8 @@ use Rattle.std.proofs.Common.{◌≡◌, ◌+◌, length, take, set, get_or, ap,
 use Rattle.piton_check.specs.declared.piece.Piece.TheVariants.{Code}
 use Rattle.piton_check.specs.Resolved.{ResolvedOf}
 use Rattle.piton_check.specs.Instruction.{system_view}
-use Rattle.piton_machine.specs.Placed.{addresses_of}
-use Rattle.piton_machine.specs.Templates.{word_of}
+use Rattle.piton_semantics.specs.Placed.{addresses_of}
+use Rattle.piton_semantics.specs.Templates.{word_of}
 use Rattle.piton_linker.specs.declared.draft.FixUp.{FixUp}
 use Rattle.piton_linker.specs.Drafts.{filled}
 use Rattle.piton_linker.proofs.DraftLaws.{length-filled, filled_next, fixup_at}

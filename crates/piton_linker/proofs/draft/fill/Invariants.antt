@@ -1,6 +1,6 @@
 use Rattle.std.proofs.Common.{◌≡◌, take}
 use Rattle.piton_check.specs.Instruction.{system_view}
-use Rattle.piton_machine.specs.Placed.{addresses_of}
+use Rattle.piton_semantics.specs.Placed.{addresses_of}
 use Rattle.piton_linker.specs.Drafts.{filled}
 use Rattle.piton_linker.proofs.draft.fill.Given as goal
 

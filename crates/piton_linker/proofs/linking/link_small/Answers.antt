@@ -1,10 +1,10 @@
 use Rattle.std.proofs.Common.{◌≡◌, length, ap, sym, ◌∙◌, arith}
 use Rattle.piton_check.specs.Instruction.{system_view}
 use Rattle.piton_check.specs.Resolved.{ResolvedOf}
-use Rattle.piton_machine.specs.Fits.{system_in}
+use Rattle.piton_semantics.specs.Fits.{system_in}
 use Rattle.piton_linker.specs.Tables.{TableOf, table_of}
-use Rattle.piton_machine.specs.Placed.{addresses_of, programs_size}
-use Rattle.piton_machine.proofs.SizeLaws.{length-programs_words}
+use Rattle.piton_semantics.specs.Placed.{addresses_of, programs_size}
+use Rattle.piton_semantics.proofs.SizeLaws.{length-programs_words}
 use Rattle.piton_linker.proofs.DraftLaws.{length-drafted}
 use Rattle.piton_linker.proofs.PlaceLaws.{rows_are}
 use Rattle.piton_linker.proofs.ProcessorLaws.{checked_runs, checked_end}

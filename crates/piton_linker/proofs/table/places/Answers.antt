@@ -3,7 +3,7 @@ use Rattle.std.proofs.lemmas.List.{length-map, map_push}
 use Rattle.std.proofs.lemmas.Simd.{map-map}
 use Rattle.piton_check.specs.Instruction.{program_view, instruction_view}
 use Rattle.piton_check.specs.Resolved.{ResolvedInstrOf, ResolvedProgramOf}
-use Rattle.piton_machine.specs.Placed.{programs_size, prelude_size, instruction_size, instructions_size}
+use Rattle.piton_semantics.specs.Placed.{programs_size, prelude_size, instruction_size, instructions_size}
 use Rattle.piton_linker.specs.Tables.{place_rows, starts}
 use Rattle.piton_linker.proofs.BoundLaws.{instructions_seen, program_at}
 use Rattle.piton_linker.proofs.LookupLaws.{rows_more, whole_rows}

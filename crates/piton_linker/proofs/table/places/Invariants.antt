@@ -1,6 +1,6 @@
 use Rattle.std.proofs.Common.{◌≡◌, ◌+◌, map, take}
 use Rattle.piton_check.specs.Instruction.{program_view}
-use Rattle.piton_machine.specs.Placed.{programs_size}
+use Rattle.piton_semantics.specs.Placed.{programs_size}
 use Rattle.piton_linker.specs.Tables.{place_rows}
 use Rattle.piton_linker.proofs.table.places.Given as goal
 

@@ -2,10 +2,10 @@ use Rattle.std.proofs.Common.{◌≡◌, ◌+◌, ◌≤◌, ◌++◌, ◌∷◌
 use Rattle.std.proofs.lemmas.List.{length-map}
 use Rattle.piton_check.specs.Resolved.{ResolvedOf}
 use Rattle.piton_check.specs.Sound.{local_count}
-use Rattle.piton_machine.specs.Fits.{system_in, IsPlace}
-use Rattle.piton_machine.specs.State.{program_of}
-use Rattle.piton_machine.specs.Placed.{entry_of, address_of_place, addresses_of, instruction_size, prelude_size}
-use Rattle.piton_machine.specs.Templates.{prelude_words, instructions_words}
+use Rattle.piton_semantics.specs.Fits.{system_in, IsPlace}
+use Rattle.piton_semantics.specs.State.{program_of}
+use Rattle.piton_semantics.specs.Placed.{entry_of, address_of_place, addresses_of, instruction_size, prelude_size}
+use Rattle.piton_semantics.specs.Templates.{prelude_words, instructions_words}
 use Rattle.piton_linker.specs.Tables.{row_at, words_at}
 use Rattle.piton_linker.specs.Drafts.{drafted}
 use Rattle.piton_linker.proofs.DraftLaws.{length-drafted, is_row}

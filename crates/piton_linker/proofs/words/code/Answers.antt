@@ -2,10 +2,10 @@ use Rattle.std.proofs.Common.{◌≡◌, ◌+◌, ◌<◌, ◌≤◌, ◌++◌, 
 use Rattle.std.proofs.lemmas.List.{length-map, map_push}
 use Rattle.std.proofs.lemmas.Option.{slice_get-get_or}
 use Rattle.piton_check.specs.Resolved.{ResolvedOf}
-use Rattle.piton_machine.specs.Fits.{system_in}
-use Rattle.piton_machine.specs.State.{no_program, program_of}
-use Rattle.piton_machine.specs.Placed.{entry_of, addresses_of, program_size}
-use Rattle.piton_machine.specs.Templates.{program_words, programs_words}
+use Rattle.piton_semantics.specs.Fits.{system_in}
+use Rattle.piton_semantics.specs.State.{no_program, program_of}
+use Rattle.piton_semantics.specs.Placed.{entry_of, addresses_of, program_size}
+use Rattle.piton_semantics.specs.Templates.{program_words, programs_words}
 use Rattle.piton_linker.specs.Tables.{starts, place_rows}
 use Rattle.piton_linker.proofs.BoundLaws.{programs_within}
 use Rattle.piton_linker.proofs.DraftLaws.{length-drafted}

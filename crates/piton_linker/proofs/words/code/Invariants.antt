@@ -1,7 +1,7 @@
 use Rattle.std.proofs.Common.{◌≡◌, map, take}
-use Rattle.piton_machine.specs.Fits.{system_in}
-use Rattle.piton_machine.specs.Placed.{addresses_of, program_size}
-use Rattle.piton_machine.specs.Templates.{programs_words}
+use Rattle.piton_semantics.specs.Fits.{system_in}
+use Rattle.piton_semantics.specs.Placed.{addresses_of, program_size}
+use Rattle.piton_semantics.specs.Templates.{programs_words}
 use Rattle.piton_linker.specs.Tables.{starts, place_rows}
 use Rattle.piton_linker.specs.Drafts.{drafted, IsDraft}
 use Rattle.piton_linker.proofs.words.code.Given as goal

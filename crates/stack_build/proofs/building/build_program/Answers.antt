@@ -1,7 +1,7 @@
 use Rattle.std.proofs.Common.{subst}
 use Rattle.std.proofs.lemmas.Result.{err_from_is_err_and}
 use Rattle.piton_check.specs.PitonChecking.{IsChecked}
-use Rattle.piton_machine.specs.Fits.{system_in}
+use Rattle.piton_semantics.specs.Fits.{system_in}
 use Rattle.gypsy_space.specs.Needs.{stack_sizes}
 use Rattle.gypsy_syntax.specs.Seen.SourceView.{source_of}
 use Rattle.stack_build.proofs.BuildLaws.{generating_fails, linking_fails, built_is}

@@ -1,5 +1,5 @@
 use Rattle.std.proofs.Common.{ap, length, List, ℕ}
-use Rattle.piton_machine.specs.Fits.{system_in}
+use Rattle.piton_semantics.specs.Fits.{system_in}
 use Rattle.stack_build.proofs.ImageLimits.{placed_fits}
 use Rattle.stack_build.proofs.imaging.placed_image.Goals as goal
 

@@ -1,4 +1,4 @@
-use Rattle.piton_machine.specs.Placed.{placed}
+use Rattle.piton_semantics.specs.Placed.{placed}
 use Rattle.stack_build.proofs.WordsLaws.{words-trimmed, placed_are_words, registers_are_words}
 use Rattle.stack_build.proofs.law.placed_are_words.Goals as goal
 

@@ -1,5 +1,5 @@
 use Rattle.std.proofs.Common.{◌∙◌, sym, subst}
-use Rattle.piton_machine.specs.Fits.{system_in}
+use Rattle.piton_semantics.specs.Fits.{system_in}
 use Rattle.piton_linker.specs.Layouts.{IsFault}
 use Rattle.stack_commands.proofs.LinkedLaws.{small_stored, large_stored, large_reply}
 use Rattle.stack_commands.proofs.pbuild.link_system.Goals as goal

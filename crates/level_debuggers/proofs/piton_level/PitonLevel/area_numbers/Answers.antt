@@ -1,10 +1,10 @@
 use Rattle.std.proofs.Common.{◌≡◌, ◌∙◌, List, subst, rules}
 use Rattle.std.specs.Prelude.{IfOk}
 use Rattle.piton_words.specs.declared.word.Word.{Word}
-use Rattle.piton_machine.specs.Addresses.{numbers}
-use Rattle.piton_machine.specs.Fits.{system_in}
-use Rattle.piton_machine.specs.Placed.{addresses_of}
-use Rattle.piton_machine.specs.Seen.StateView.{IsSeen}
+use Rattle.piton_semantics.specs.Addresses.{numbers}
+use Rattle.piton_semantics.specs.Fits.{system_in}
+use Rattle.piton_semantics.specs.Placed.{addresses_of}
+use Rattle.piton_semantics.specs.Seen.StateView.{IsSeen}
 use Rattle.level_debuggers.specs.PitonReadings.{area_words}
 use Rattle.level_debuggers.proofs.AreaLaws.{known_words}
 use Rattle.level_debuggers.proofs.piton_level.PitonLevel.area_numbers.Goals as goal

@@ -2,9 +2,9 @@ use Rattle.std.proofs.Common.{◌≡◌, ◌+◌, ◌++◌, ◌∷◌, [], lengt
 use Rattle.std.proofs.lemmas.List.{length-take-le}
 use Rattle.piton_check.specs.declared.piece.Piece.TheVariants.{Code}
 use Rattle.piton_check.specs.Instruction.{system_view}
-use Rattle.piton_machine.specs.Placed.{addresses_of}
-use Rattle.piton_machine.specs.Templates.{word_of, words_of}
-use Rattle.piton_machine.proofs.SizeLaws.{length-words_of}
+use Rattle.piton_semantics.specs.Placed.{addresses_of}
+use Rattle.piton_semantics.specs.Templates.{word_of, words_of}
+use Rattle.piton_semantics.proofs.SizeLaws.{length-words_of}
 use Rattle.piton_linker.specs.Drafts.{drafted}
 use Rattle.piton_linker.proofs.NameLaws.{words_more_by}
 use Rattle.piton_linker.proofs.DraftLaws.{length-drafted}

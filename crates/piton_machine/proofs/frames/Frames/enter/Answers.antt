@@ -3,8 +3,8 @@ use Rattle.std.specs.Prelude.{◌*◌, if◌then◌else◌}
 use Rattle.std.proofs.lemmas.List.{length-reverse}
 use Rattle.stack_text.proofs.SharedLaws.{reverse_snoc}
 use Rattle.piton_machine.specs.declared.frames.Link.{Link}
-use Rattle.piton_machine.specs.State.{Frame, ctrl_used}
-use Rattle.piton_machine.specs.Seen.Stacked.{FramesIn, AreLinks}
+use Rattle.piton_semantics.specs.State.{Frame, ctrl_used}
+use Rattle.piton_machine.specs.Stacked.{FramesIn, AreLinks}
 use Rattle.piton_machine.proofs.FrameLaws.{frames_used, entered_frames, entered_links}
 use Rattle.piton_machine.proofs.frames.Frames.enter.Goals as goal
 

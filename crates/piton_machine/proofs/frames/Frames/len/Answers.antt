@@ -1,6 +1,6 @@
 use Rattle.std.proofs.Common.{ap, ◌∙◌, length, reverse, sym}
 use Rattle.std.proofs.lemmas.List.{length-reverse}
-use Rattle.piton_machine.specs.Seen.Stacked.{FramesIn}
+use Rattle.piton_machine.specs.Stacked.{FramesIn}
 use Rattle.piton_machine.proofs.FrameLaws.{frames_count}
 use Rattle.piton_machine.proofs.frames.Frames.len.Goals as goal
 

@@ -1,7 +1,7 @@
 use Rattle.std.proofs.Common.{ap, ◌∙◌, ◌≡◌, ◌<◌, List, reverse, arith}
 use Rattle.std.specs.Prelude.{slice_get, Some}
-use Rattle.piton_machine.specs.State.{Frame}
-use Rattle.piton_machine.specs.Seen.Stacked.{FramesIn}
+use Rattle.piton_semantics.specs.State.{Frame}
+use Rattle.piton_machine.specs.Stacked.{FramesIn}
 use Rattle.piton_machine.proofs.FrameLaws.{last_link, set_newest}
 use Rattle.piton_machine.proofs.frames.Frames.set_local.Goals as goal
 

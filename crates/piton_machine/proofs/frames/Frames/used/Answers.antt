@@ -1,7 +1,7 @@
 use Rattle.std.proofs.Common.{ap, reverse, arith}
 use Rattle.std.proofs.lemmas.List.{length-reverse}
-use Rattle.piton_machine.specs.State.{ctrl_used}
-use Rattle.piton_machine.specs.Seen.Stacked.{FramesIn}
+use Rattle.piton_semantics.specs.State.{ctrl_used}
+use Rattle.piton_machine.specs.Stacked.{FramesIn}
 use Rattle.piton_machine.proofs.FrameLaws.{frames_used}
 use Rattle.piton_machine.proofs.frames.Frames.used.Goals as goal
 
