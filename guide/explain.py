@@ -2,7 +2,7 @@
 
     explain.py STATUS END WORD..    END is the end of what was printed, the words those of the command line
 
-The sentences are those of docs/ERRORS.md.
+The sentences are those of docs/program/errors.md.
 """
 import os
 import re
@@ -16,7 +16,7 @@ import infix
 import sources
 from catalog import GUIDE, expected, plain, read_catalog
 
-PAGE = GUIDE.parent / "docs/ERRORS.md"
+PAGE = GUIDE.parent / "docs/program/errors.md"
 # Stands for a space at which no line is broken.
 UNBROKEN = "\0"
 # How much of a long line is shown, in characters, and a row of bytes.

@@ -74,7 +74,7 @@ def page(catalog):
     yield "Two examples:"
     yield from (f"    {own(it)}" for it in catalog.own["try"].examples + catalog.commands["go"].examples)
     yield ""
-    yield "docs/cli.md has it all; docs/ERRORS.md explains each refusal; docs/page.md is on pages."
+    yield "docs/program/cli.md has it all; docs/program/errors.md explains each refusal; docs/program/page.md is on pages."
 
 
 def command_page(catalog, command):

@@ -1,4 +1,4 @@
-"""What may come at a place of an infix program that is refused, by the grammar of docs/mini.md, and what is often meant there.
+"""What may come at a place of an infix program that is refused, by the grammar of docs/languages/mini.md, and what is often meant there.
 
 What is still expected is a stack, as in crates/mini_syntax/specs/Expected.antt: a token is taken exactly where some program goes on with it.
 """

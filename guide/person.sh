@@ -7,7 +7,7 @@ guide() {
     for python in /usr/bin/python3 "$(type -P python3)"; do
         [ -x "$python" ] && { "$python" -S -E -s -B "$here/guide/$1.py" "${@:2}"; return; }
     done
-    say "this needs Python 3, which isn't there. docs/cli.md and docs/ERRORS.md have the same"
+    say "this needs Python 3, which isn't there. docs/program/cli.md and docs/program/errors.md have the same"
     return 70
 }
 

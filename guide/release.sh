@@ -45,7 +45,7 @@ This is the verified short stack, for Linux on x86-64. The program is crates/cli
 $(proof_lines)
 
 What was proved: each function of the crates of this commit meets its contract. README.md has the theorem that the contract of the program's top
-call states, what has to be believed and what is trusted, and docs/PROMISES.md each promise. The sources and the proofs aren't here: they are
+call states, what has to be believed and what is trusted, and docs/proved/promises.md each promise. The sources and the proofs aren't here: they are
 the commit's.
 
 To check: ./stack --version compares the program with the sum above. Whoever wants the proof itself takes the commit and the kit, and says
@@ -107,7 +107,7 @@ be_install() {
     stage "$folder"
     mkdir -p "$1/bin" "$1/share/man/man1" "$1/share/bash-completion/completions" || exit 70
     ln -sfn ../lib/verified-short-stack/stack "$1/bin/stack" || exit 70
-    cp "$folder/docs/stack.1" "$1/share/man/man1/stack.1" || exit 70
+    cp "$folder/docs/program/stack.1" "$1/share/man/man1/stack.1" || exit 70
     ln -sfn ../../../lib/verified-short-stack/guide/completion.bash "$1/share/bash-completion/completions/stack" || exit 70
     say "$1/bin/stack is installed, with its manual page and its completion. All else of it lies in $folder"
     exit 0

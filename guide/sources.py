@@ -1,11 +1,11 @@
-"""What belongs at a place of a source of Micro-Gypsy that is refused, as far as the rule, what stands there and docs/GYPSY.md tell."""
+"""What belongs at a place of a source of Micro-Gypsy that is refused, as far as the rule, what stands there and docs/languages/gypsy.md tell."""
 import re
 from difflib import get_close_matches
 from functools import cache
 
 from catalog import GUIDE
 
-LANGUAGE = GUIDE.parent / "docs/GYPSY.md"
+LANGUAGE = GUIDE.parent / "docs/languages/gypsy.md"
 TOKEN = re.compile(rb";[^\n]*|[()]|[^\s();]+")
 TYPES = {"int": "integer", "bool": "boolean", "char": "character", "string": "(array character LENGTH)", "real": "integer", "float": "integer"}
 WHILE = "A while is a loop that is left: (loop (seq (mg-integer-le b y x) (if b (signal leave) (no-op)) ..)) goes on while x < y."
@@ -114,7 +114,7 @@ def statement_lines(head):
         yield ELSEWHERE[head]
     elif meant:
         yield f"Was {' or '.join(meant)} meant?"
-    yield "docs/GYPSY.md, How to write, has loops, expressions and ifs of other languages."
+    yield "docs/languages/gypsy.md, How to write, has loops, expressions and ifs of other languages."
 
 
 def condition_lines(head, token):

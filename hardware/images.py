@@ -1,6 +1,6 @@
 """Images and values as the board of this folder is loaded with them, and its memory as the report of a run.
 
-Not proved: docs/image-file.md, docs/values.md and docs/cli.md say what `cli_stack` makes of the same files, and .ci/checks/circuit.sh
+Not proved: docs/languages/image-file.md, docs/languages/values.md and docs/program/cli.md say what `cli_stack` makes of the same files, and .ci/checks/circuit.sh
 compares the two.
 """
 import re

@@ -1,5 +1,5 @@
 #!/usr/bin/env bash
-# The commands that README.md and docs/WALK.md, cli.md, debug.md, space.md and turns.md show, run in a folder of their own: what they print, their
+# The commands that README.md and docs/learn/walk.md, cli.md, debug.md, space.md and turns.md show, run in a folder of their own: what they print, their
 # statuses, and the images' sizes. What documents show as transcripts is run by examples.sh.
 set -u
 export STACK_EXPLAIN=0
@@ -49,7 +49,7 @@ misses() {
     [ ! -e "$1" ] || { echo "$1 was stored"; failed=1; }
 }
 
-# One assignment: docs/WALK.md, the first walk.
+# One assignment: docs/learn/walk.md, the first walk.
 seven=$'finished 28\ncondition normal\nx = 7'
 wants 0 "$seven" go examples/first/seven.gypsy examples/first/nine.values 100 100 1000000 seven.image
 holds seven.image 3994
@@ -85,7 +85,7 @@ wants 0 $'stepped 8\nat 104 depth 2\ncondition routineerror\ny = 2000000000\nste
 wants 0 $'stepped 70\nat up 8 frames 2\nstep = (nat 1)\ny = (nat 0)\nstack (int 2000000000) (int 2000000000)' $(moment piton)
 wants 0 $'stepped 199\ncount 199\nr0 000003c1\nr1 000003c1\nr2 000003cb\nr3 00000000\nr4 ee6b2800\n'"$(zeros 5 14)"$'\nr15 00000084\nflags ---z' $(moment fm9001)
 
-# A call that has no room: the third walk, and docs/debug.md.
+# A call that has no room: the third walk, and docs/program/debug.md.
 no_room=$'condition spaceerror\nn = 0'
 wants 0 $'finished 423\ncondition normal\nn = 0' go examples/calls/down.gypsy examples/calls/down.values 24 10 1000 down.image
 wants 0 $'finished 350\n'"$no_room" go examples/calls/down.gypsy examples/calls/down.values 23 10 1000 down.image
@@ -94,7 +94,7 @@ wants 0 "written down.piton" pit examples/calls/down.gypsy 23 10 down.piton
 wants 0 $'attached last\nstepped 8\nlast 48 134 164 183 213 134 164 183\ntop\nstepped 1\ntop' debug gypsy examples/calls/down.gypsy examples/calls/down.values 23 10 examples/sessions/last.script
 wants 0 $'finished 356\ncondition normal\nn = 0' go examples/conditions/caught.gypsy examples/calls/down.values 23 10 1000 down.image
 
-# Piton by hand: docs/cli.md.
+# Piton by hand: docs/program/cli.md.
 wants 0 "ok" pcheck examples/piton/less.piton
 wants 0 $'halted 4\ncounted 7\nstack (nat 2)' prun examples/piton/less.piton 4
 wants 5 "unfinished 3" prun examples/piton/less.piton 3
@@ -102,7 +102,7 @@ wants 0 "built 18" pbuild examples/piton/less.piton less.image
 holds less.image 172
 wants 0 "finished 7" run less.image examples/piton/none.values 7
 
-# An assembly text and back, and certificates: docs/cli.md.
+# An assembly text and back, and certificates: docs/program/cli.md.
 wants 0 "built 17" asm examples/assembly/sum.asm sum.image
 wants 0 "finished 23" run sum.image examples/piton/none.values 23
 wants 5 "unfinished 22" run sum.image examples/piton/none.values 22
@@ -117,7 +117,7 @@ wants 0 "no" cert examples/conditions/count.gypsy count.cert 12 5
 wants 17 "recursive p" need examples/calls/down.gypsy none.cert
 misses none.cert
 
-# A program of the infix language: docs/cli.md.
+# A program of the infix language: docs/program/cli.md.
 wants 0 "written squares.gypsy" mini examples/infix/squares.mini squares.gypsy
 wants 0 "ok" check squares.gypsy
 tells $'condition normal\nx = 0\ns = 14' go squares.gypsy examples/infix/squares.values 300 300 1000000 squares.image
@@ -127,7 +127,7 @@ printf 'int x; x := x + y;' >unknown.mini
 wants 2 "refused Y6 at 16" mini unknown.mini none.gypsy
 misses none.gypsy
 
-# A session at each level: docs/debug.md.
+# A session at each level: docs/program/debug.md.
 session() { echo "debug $1 examples/first/seven.gypsy examples/first/nine.values 7 3 examples/sessions/steps.script"; }
 attached=$'attached last\nattached peak'
 read_up=$'condition normal\nx = 7'
@@ -137,7 +137,7 @@ wants 0 "$attached"$'\nstepped 5\ncount 5\nr0 0000034b\nr1 0000034a\nr2 0000034e
 printf 'attach count\nstep 28\ndetach count\ndetach count' >twice.script
 wants 13 $'attached count\nstepped 28 ended\ncount 28\nscript D5 at line 4' debug fm9001 examples/first/seven.gypsy examples/first/nine.values 7 3 twice.script
 
-# Two programs by turns: docs/turns.md.
+# Two programs by turns: docs/program/turns.md.
 by_turns=$'task 1 round 3\nfinished 28\ncondition normal\nx = 7\ntask 2 round 43\nfinished 423\ncondition normal\nn = 0'
 wants 0 "$by_turns" turns 10 1000 24 10 examples/first/seven.gypsy examples/first/nine.values examples/calls/down.gypsy examples/calls/down.values
 

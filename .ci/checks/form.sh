@@ -31,19 +31,19 @@ mistake 'Answer.antt: it imports scaffold of stack_text' crates/cli_stack/specs/
 mistake 'crates/fm_words/src/lib.rt:[0-9]*: a clause of 1[0-9]* characters' crates/fm_words/src/lib.rt "    ensures { $(printf %0120d 0) }"
 mistake "crates/fm_words/src/word.rt: it imports used_by_nothing and doesn't use it" crates/fm_words/src/word.rt \
     'ghost use Rattle.std.specs.Prelude.{used_by_nothing};'
-mistake 'docs/RELATED.md:[0-9]*: a table row without its head' docs/RELATED.md '' '| a row | of no table |'
-mistake 'docs/LIMITS.md:[0-9]*: the crate fm_words has no not_there_either' docs/LIMITS.md '| 9 | of what | said | `fm_words` (`not_there_either`) | | |'
-mistake 'docs/LIMITS.md:[0-9]*: there is no crates/fm_words/specs/Nothing.antt' docs/LIMITS.md '| 9 | of what | said | `fm_words/specs/Nothing`: `nowhere` | | |'
-mistake 'docs/PROMISES.md: the crate nobody is missing' crates.txt 'nobody: stack_text'
+mistake 'docs/proved/related.md:[0-9]*: a table row without its head' docs/proved/related.md '' '| a row | of no table |'
+mistake 'docs/working/limits.md:[0-9]*: the crate fm_words has no not_there_either' docs/working/limits.md '| 9 | of what | said | `fm_words` (`not_there_either`) | | |'
+mistake 'docs/working/limits.md:[0-9]*: there is no crates/fm_words/specs/Nothing.antt' docs/working/limits.md '| 9 | of what | said | `fm_words/specs/Nothing`: `nowhere` | | |'
+mistake 'docs/proved/promises.md: the crate nobody is missing' crates.txt 'nobody: stack_text'
 echo 'pub word_bits : ℕ' >>crates/fm_machine/specs/Masks.antt
 sed -i 's/ lines of definitions in 2/ lines of definitions in 9/' README.md
 further+=('README.md: the theorem rests on [0-9,]* lines of definitions in [0-9]* files')
-sed -i '/^| `stack_build.Moments.KeepsMoments` |/s/ | [0-9,]* |$/ | 1 |/' docs/PROMISES.md
-further+=('docs/PROMISES.md:[0-9]*: stack_build.Moments.KeepsMoments rests on ')
+sed -i '/^| `stack_build.Moments.KeepsMoments` |/s/ | [0-9,]* |$/ | 1 |/' docs/proved/promises.md
+further+=('docs/proved/promises.md:[0-9]*: stack_build.Moments.KeepsMoments rests on ')
 printf -- '-- %0200d\n' 0 >>crates/fm_words/specs/Word.antt
 echo 'pub served_by_nothing : 0 ≡ 0' >crates/fm_words/proofs/NothingLaws.antt
-echo '[a page](nowhere.md), [a heading](cli.md#nowhere), and `docs/nowhere.md`' >>docs/GLOSSARY.md
-echo '| 9 | it bounds | said | `fm_words/specs/Word`: `nowhere` | | |' >>docs/LIMITS.md
+echo '[a page](nowhere.md), [a heading](promises.md#nowhere), and `docs/nowhere.md`' >>docs/proved/glossary.md
+echo '| 9 | it bounds | said | `fm_words/specs/Word`: `nowhere` | | |' >>docs/working/limits.md
 yes word | head -n 1301 >>README.md
 sed -i 's/^does lists an image$/does prints an image/' guide/commands.txt
 sed -i 's/^const BUDGET: u64 = 1000;$/const BUDGET: u64 = 2000;/' crates/example_client/src/main.rt
@@ -51,10 +51,10 @@ git init -q && git add -A
 told=$(python3 .ci/tools/form.py; python3 .ci/tools/help_pages.py)
 for wanted in 'crates/fm_words/specs/Word.antt:[0-9]*: 203 characters' 'NothingLaws.antt: no proof cites this lemma module' \
     'NothingLaws.antt: it has no sentence at its head' 'NothingLaws.antt:1: nothing uses served_by_nothing' \
-    'docs/GLOSSARY.md:[0-9]*: the link nowhere.md leads to nothing' \
-    'docs/GLOSSARY.md:[0-9]*: docs/cli.md has no heading for #nowhere' 'docs/GLOSSARY.md:[0-9]*: there is no docs/nowhere.md' \
-    'docs/LIMITS.md:[0-9]*: .*Word.antt has no nowhere' 'README.md: it has 2,[0-9]* words' "docs/cli.md isn't as guide" \
-    "docs/use-the-crates.md:[0-9]*: the listing isn't in crates/example_client/src/main.rt"; do
+    'docs/proved/glossary.md:[0-9]*: the link nowhere.md leads to nothing' \
+    'docs/proved/glossary.md:[0-9]*: docs/proved/promises.md has no heading for #nowhere' 'docs/proved/glossary.md:[0-9]*: there is no docs/nowhere.md' \
+    'docs/working/limits.md:[0-9]*: .*Word.antt has no nowhere' 'README.md: it has 2,[0-9]* words' "docs/program/cli.md isn't as guide" \
+    "docs/working/use-the-crates.md:[0-9]*: the listing isn't in crates/example_client/src/main.rt"; do
     grep -q "$wanted" <<<"$told" || {
         echo "form: a mistake isn't told: $wanted"
         status=1

@@ -10,7 +10,7 @@ caller=$folder/caller
 export STUB=$folder/stub TMPDIR=$folder/tmp
 unset RATTLE_KIT STACK_TRIAL STACK_PROVE STACK_EXPLAIN
 mkdir -p "$copy" "$folder/kit/bin" "$folder/empty"
-(cd "$top" && git ls-files -z stack guide docs/ERRORS.md HANDLES crates.txt crates examples | xargs -0 cp --parents -t "$copy") || exit 1
+(cd "$top" && git ls-files -z stack guide docs/program/errors.md HANDLES crates.txt crates examples | xargs -0 cp --parents -t "$copy") || exit 1
 cp "$top/.ci/tools/stub_kit.sh" "$folder/kit/bin/rt"
 bare_path=$(tr : '\n' <<<"$PATH" | while read -r one; do [ -x "$one/rt" ] || echo "$one"; done | paste -sd :)
 # The crates of the program, as the kit finds them: each behind those that it stands on.

@@ -1,5 +1,5 @@
 #!/usr/bin/env bash
-# The program where the system gives little: the stack of docs/LIMITS.md, a limit for the length of files, an end by a signal while it stores.
+# The program where the system gives little: the stack of docs/working/limits.md, a limit for the length of files, an end by a signal while it stores.
 set -u
 export STACK_EXPLAIN=0
 top=$(cd "$(dirname "${BASH_SOURCE[0]}")/../.." && pwd)

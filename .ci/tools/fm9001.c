@@ -1,4 +1,4 @@
-/* The FM9001 in C, written plainly from the tables of docs/fm9001.md: what runs are compared with.
+/* The FM9001 in C, written plainly from the tables of docs/languages/fm9001.md: what runs are compared with.
 
    Standard input has machines, one after the other, each as numbers in decimal: base, size, final program counter, budget, sixteen registers,
    flags (8 for c, 4 for v, 2 for n, 1 for z), and the words of the window from the base on. For each machine it prints what `run` of an image

@@ -1,4 +1,4 @@
-"""The FM9001 in Python, by the tables of docs/fm9001.md, with the cycles of docs/circuit.md: what the circuit is compared with."""
+"""The FM9001 in Python, by the tables of docs/languages/fm9001.md, with the cycles of docs/proved/circuit.md: what the circuit is compared with."""
 from dataclasses import dataclass
 
 WORDS = 2**32

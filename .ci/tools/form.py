@@ -40,11 +40,11 @@ PAGES_OF_RULES = re.compile(r"crates/gypsy_logic/proofs/\w*Rules\.antt$")
 THEOREM = "stack_build.Implements.Implements"
 README = Path("README.md")
 README_WORDS = 1300
-LIMITS = Path("docs/LIMITS.md")
+LIMITS = Path("docs/working/limits.md")
 LIMIT_AT = re.compile(r"`(\w+/(?:specs|src)/[\w/.]+)`: ((?:`\w+`(?:, )?)+)")
 LIMIT_AGAIN = re.compile(r"`(\w+)` \(((?:`\w+`(?:, )?)+)\)")
 # What is promised, and what has to be read to know what the theorem says.
-PROMISES = Path("docs/PROMISES.md")
+PROMISES = Path("docs/proved/promises.md")
 READING_ROW = re.compile(r"\|[^|]*\|([^|]*/specs/[^|]*)\| ([\d,]+) \|$")
 FIGURES_ROW = re.compile(r"\| `(\w+\.[\w.]+\.\w+)` \|.*\| ([\d,]+) \| ([\d,]+) \| ([\d,]+) \|$")
 

@@ -1,5 +1,5 @@
 #!/usr/bin/env python3
-"""Compares the tables of docs/cli.md, and docs/stack.1, with guide/commands.txt, of which they are made. Prints a line for each difference.
+"""Compares the tables of docs/program/cli.md, and docs/program/stack.1, with guide/commands.txt, of which they are made. Prints a line for each difference.
 
 With --write the two pages are written anew. The exit status is 1 where there is a difference that --write doesn't mend.
 """
@@ -14,7 +14,7 @@ sys.path.insert(0, str(TOP / "guide"))
 from arguments import parser_of  # noqa: E402
 from catalog import plain, read_catalog, row  # noqa: E402
 
-CLI, MANUAL = TOP / "docs/cli.md", TOP / "docs/stack.1"
+CLI, MANUAL = TOP / "docs/program/cli.md", TOP / "docs/program/stack.1"
 # Beside the script.
 FILES = [
     ("PROVED", "of a release: which commit it is, and how its program was proved."),
@@ -29,7 +29,7 @@ def table(head, rows):
 
 
 def tables_of(catalog):
-    """The tables of docs/cli.md, each with its head."""
+    """The tables of docs/program/cli.md, each with its head."""
     commands = [f"| `{row(it)}` | {it.does} | {it.prints} |" for it in catalog.commands.values()]
     numbers = [(name, it) for name, it in catalog.words.items() if it.kind == "number"]
     grouped = groupby(numbers, lambda it: (it[1].range, it[1].means))
@@ -56,7 +56,7 @@ def limits(page, catalog):
     for name, word in catalog.words.items():
         shown = [line.split("|")[3].strip() for line in roles.splitlines() if re.search(rf"\b{name}\b(?! of)", line)]
         if word.limit and f"{word.limit:,}" not in shown:
-            yield f"docs/cli.md: the limit of {name} is {word.limit:,} in guide/commands.txt, and {', '.join(shown)} in the table of roles"
+            yield f"docs/program/cli.md: the limit of {name} is {word.limit:,} in guide/commands.txt, and {', '.join(shown)} in the table of roles"
 
 
 def roff(text):
@@ -85,7 +85,7 @@ def manual(catalog):
     lines += [".SH WORDS OF THE SCRIPT", *entries((it.row, it.does + ".") for it in catalog.own.values())]
     lines += [".SH WORDS", *entries(words), ".SH EXIT STATUS", *entries(statuses), ".SH ENVIRONMENT", *entries(catalog.variables.items())]
     lines += [".SH FILES", *entries(FILES), ".SH EXAMPLES", ".nf", *map(roff, examples), ".fi"]
-    lines += [".SH SEE ALSO", "docs/cli.md, docs/ERRORS.md, README.md"]
+    lines += [".SH SEE ALSO", "docs/program/cli.md, docs/program/errors.md, README.md"]
     return "\n".join(lines) + "\n"
 
 

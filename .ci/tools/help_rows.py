@@ -1,7 +1,7 @@
 #!/usr/bin/env python3
 """Tries what the script `stack` tells a person, with the built program: the sentence of each rule and of each other last line, the help,
 the slips that lose a file, long runs, mistakes of beginners, what may come in an infix program, runs with few words, and the transcript of
-docs/ERRORS.md. What is told changes no byte of standard output, and no status.
+docs/program/errors.md. What is told changes no byte of standard output, and no status.
 
 Prints a line for each row that fails, and how many rows there were of each theme. The exit status is 1 where one failed.
 """
@@ -32,10 +32,10 @@ from catalog import plain, read_catalog  # noqa: E402
 from rows import bytes_of, rows_of  # noqa: E402
 
 PROGRAM = TOP / "crates/cli_stack/out/cli_stack"
-PAGE = (TOP / "docs/ERRORS.md").read_text()
+PAGE = (TOP / "docs/program/errors.md").read_text()
 # The pages that define the rules, in a table each; three rules are named beside it.
 OF_SESSIONS = {"D4", "D5", "D7"}
-RULE_PAGES = "text-form GYPSY piton asm values image-file debug space mini"
+RULE_PAGES = "text-form gypsy piton asm values image-file debug space mini"
 # What judges the example of a rule, by its letter: the example is the file `t`, and `s` is the source of the values.
 JUDGES = {
     **dict.fromkeys("GMS", "check t"), **dict.fromkeys("PQ", "pcheck t"), "A": "asm t o", "V": "mean s t 100 100 0", "I": "show t",
@@ -155,8 +155,8 @@ class Rows:
         """Each rule of the pages has its sentence, and its example is refused by it."""
         judged = set(JUDGES) - (set() if "mini" in self.catalog.commands else {"Y"})
         rows = [it for it in rules_of_page() if it[0][0] in judged]
-        pages = [TOP / f"docs/{it}.md" for it in RULE_PAGES.split()]
-        defined = {it for page in pages if page.exists() for it in re.findall(r"^\| ([A-Z]\d+) \|", page.read_text(), re.M)} | OF_SESSIONS
+        pages = [page for it in RULE_PAGES.split() for page in TOP.glob(f"docs/*/{it}.md")]
+        defined = {it for page in pages for it in re.findall(r"^\| ([A-Z]\d+) \|", page.read_text(), re.M)} | OF_SESSIONS
         differing = {it for it in defined if it[0] in judged} ^ {rule for rule, *_ in rows}
         self.note("rules", not differing, "the rules of the pages", differing)
         with ThreadPoolExecutor(4) as pool:

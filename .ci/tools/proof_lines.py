@@ -1,5 +1,5 @@
 #!/usr/bin/env python3
-"""Counts the lines that the specification and the proof of each proved example take, and keeps the table in docs/verifying.md.
+"""Counts the lines that the specification and the proof of each proved example take, and keeps the table in docs/proved/verifying.md.
 
     python3 .ci/tools/proof_lines.py [--write]
 
@@ -16,7 +16,7 @@ from arguments import parser_of
 
 TOP = Path(__file__).resolve().parents[2]
 CRATE = TOP / "crates" / "proved_programs"
-PAGE = TOP / "docs" / "verifying.md"
+PAGE = TOP / "docs/proved/verifying.md"
 PARTS = ("Laws", "Rules", "Runs")
 TEXT_OF = re.compile(r"^-- The text of (\S+) and its program")
 ROW = re.compile(r"^(\| `(examples/\S+)` \|.*\|) \d+ \| \d+ \|$")

@@ -4,7 +4,7 @@
 Each seed makes a program that breaks no rule, and values for its variables. `mini` has to store a source of Micro-Gypsy; `mean` and `go` of
 that source have to tell the variables and the condition with which the evaluator ends, and the same count. Programs that run too long are thrown
 away. Then each program is damaged a few times, by a token or a byte; `mini` has to store it or to refuse it as the reader does, which goes by the
-rules Y1 to Y9 of docs/mini.md.
+rules Y1 to Y9 of docs/languages/mini.md.
 """
 import subprocess
 import sys

@@ -2,7 +2,7 @@
 """Tries the program where the system gives little: a small stack, little memory, a reader that leaves, a limit for the length of files, an end by a
 signal while a file is stored, and files that can't give way to new ones.
 
-The least stack, in KB, is that of docs/LIMITS.md: with it the deepest texts of each language end as with a large one. Prints a line for each row
+The least stack, in KB, is that of docs/working/limits.md: with it the deepest texts of each language end as with a large one. Prints a line for each row
 that fails, and how many rows there were. The exit status is 1 where one failed. Where it runs as root, what rights forbid is tried as nobody.
 """
 import os
@@ -291,7 +291,7 @@ def main():
         for name, files, line in COMMANDS:
             print(f"{rows.least_stack(files, line):5} KB  {name}: {line}", flush=True)
         return 0
-    limits = (TOP / "docs/LIMITS.md").read_text()
+    limits = (TOP / "docs/working/limits.md").read_text()
     rows.stacks(int(ROW.search(limits).group(1)))
     rows.sessions(int(SESSION.search(limits).group(1)))
     rows.file_limits()

@@ -1,4 +1,4 @@
-"""Images by their fields: those that are refused, those cut short, the largest, words as instructions, readings, and those of docs/image-file.md
+"""Images by their fields: those that are refused, those cut short, the largest, words as instructions, readings, and those of docs/languages/image-file.md
 and of `build`. Places and texts were worked out by hand from the format of image files.
 """
 import re
@@ -191,7 +191,7 @@ def largest_listing(printed):
     return len(lines) == 3 + 16 + 1 + 1 + 200 + 200 + SIZE and lines[-1] == b"fffffffe 000fffff MOVE[cc]{cvnz} (r15)+,#-1"
 
 
-# 3. Words as instructions: those that docs/fm9001.md explains, each operation, each store condition, each set of flags, and modes, registers
+# 3. Words as instructions: those that docs/languages/fm9001.md explains, each operation, each store condition, each set of flags, and modes, registers
 # and immediates. In the last, bits 28 to 31, and without an immediate bits 6 to 8, are passed over.
 
 
@@ -269,8 +269,8 @@ SEVEN = (TOP / "examples/first/seven.gypsy").read_bytes()
 
 
 def documented():
-    """The bytes of the example in docs/image-file.md: each place of the file with what stands there. The words have a table of their own."""
-    text = (TOP / "docs/image-file.md").read_text().split("## An example, byte by byte")[1].split("\n## ")[0]
+    """The bytes of the example in docs/languages/image-file.md: each place of the file with what stands there. The words have a table of their own."""
+    text = (TOP / "docs/languages/image-file.md").read_text().split("## An example, byte by byte")[1].split("\n## ")[0]
     base, start, factor = 10, 0, 1
     for line in text.splitlines():
         cells = [it.strip() for it in line.strip("|").split("|")]
@@ -323,11 +323,11 @@ def begins_alike(wanted):
 
 
 def built():
-    """The image of SEVEN as docs/image-file.md has it, and with two numbers changed; and where NOTHING has its end and its condition."""
+    """The image of SEVEN as docs/languages/image-file.md has it, and with two numbers changed; and where NOTHING has its end and its condition."""
     wanted = list(documented())
     assert sum(len(content) for _, content in wanted) > 350, "the page has another form"
     build = Run(b"build s 7 3 i", b"built 849\n", stored="i", content=begins_alike(wanted))
-    yield Row("images.py: docs/image-file.md", {"s": SEVEN}, [build])
+    yield Row("images.py: docs/languages/image-file.md", {"s": SEVEN}, [build])
     places = [(16, numbers(826)), (88, numbers(827))]
     build = Run(b"build s 2 1 i", b"built 831\n", stored="i", content=begins_alike(places))
     yield Row("images.py: the end and the condition's address", {"s": b"(program main\n(proc main () () () () (no-op)))\n"}, [build])

@@ -1,4 +1,4 @@
-"""The code of each instruction of Piton, as the tables of docs/fm9001.md have it: its words in the image of a system that has the instruction, and its
+"""The code of each instruction of Piton, as the tables of docs/languages/fm9001.md have it: its words in the image of a system that has the instruction, and its
 text in the listing of that image.
 """
 import re
@@ -6,7 +6,7 @@ from functools import partial
 
 from rows import TOP, Row, Run
 
-PAGE = "docs/fm9001.md"
+PAGE = "docs/languages/fm9001.md"
 
 # The instructions of each row of a table whose first cell has other words than operations; a prelude is a program's.
 TESTS = {"zero": ["int", "nat"], "not-zero": ["int", "nat"], "f": ["bool"], "t": ["bool"], "all-zero": ["bitv"], "not-all-zero": ["bitv"]}

@@ -1,7 +1,7 @@
 #!/usr/bin/env python3
 """Writes loop.image: the loop of four instructions, with 50,000,000 rounds, which are 200 million steps.
 
-docs/image-file.md has the fields. Run it in this folder.
+docs/languages/image-file.md has the fields. Run it in this folder.
 """
 import struct
 

@@ -5,7 +5,7 @@
 
 `run` makes the steps of four images: a loop of four instructions, a linked loop of Micro-Gypsy, a large generated program that runs once, and
 a linked loop of Piton. INTERPRETER takes an image of version 1 and a budget, and makes the same steps. What a run with a budget of no step
-takes is left out. Both tables are printed as docs/benchmarks.md has them.
+takes is left out. Both tables are printed as docs/working/benchmarks.md has them.
 
 Without --times, `mean` and `prun` make the steps of the second and the last one's texts, too; wanted is valgrind. With it the loops have
 forty times as many rounds, and all programs take turns: the time of a process is its own and the system's.

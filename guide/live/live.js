@@ -58,7 +58,7 @@ onmessage = async ({ data: { bytes, given } }) => {
     return [before.length, before.split("\n").length, before.length - before.lastIndexOf("\n")];
   };
 
-  // What the rule or the last line of a refusal means: the sentences of docs/ERRORS.md.
+  // What the rule or the last line of a refusal means: the sentences of docs/program/errors.md.
   const sentence = (line) => {
     const [, rule] = line.match(/^(?:refused|values) ([A-Z]\d+) at \d+$/) ?? [];
     if (rule) return `${rule}: ${rules[rule]}`;

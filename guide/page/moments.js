@@ -4,7 +4,7 @@
 //
 // The answers are texts: `source`, `values`, and `infix` where the source was made of one; `pit`, `show`, `run` as these commands printed or stored
 // them; `fm9001`, `piton` and `gypsy`, of sessions of `debug` that show each moment; `counts`, what the steps of the source cost up to each; `cost`,
-// what the steps of Piton cost together; `memory`, the words of both stacks after each instruction that writes, and `parts`, which words: docs/page.md.
+// what the steps of Piton cost together; `memory`, the words of both stacks after each instruction that writes, and `parts`, which words: docs/program/page.md.
 
 class Differs extends Error {}
 
@@ -47,7 +47,7 @@ const readTree = (text) => {
 const spelled = (tree) => tree.text ?? `(${tree.items.map(spelled).join(" ")})`;
 const headOf = (tree) => tree.items?.[0]?.text ?? "";
 
-// ---- Where the code of Piton's instructions is: docs/fm9001.md, "The code of Piton's instructions" ----
+// ---- Where the code of Piton's instructions is: docs/languages/fm9001.md, "The code of Piton's instructions" ----
 
 const LENGTHS = {
   1: `pop no-op int-to-nat popj add-int add-nat add-addr sub-int sub-nat sub-addr add1-int add1-nat sub1-int sub1-nat neg-int mult2-nat lsh-bitv
@@ -260,7 +260,7 @@ const spansOf = (listing, lists) => {
   return places.map((it) => [it, headOf(lists.get(it)) === "proc" ? lists.get(it).items[1].end : lists.get(it).end]);
 };
 
-// The statements of an infix program, docs/mini.md: where each begins, where it or its head ends, and its blocks.
+// The statements of an infix program, docs/languages/mini.md: where each begins, where it or its head ends, and its blocks.
 const readInfix = (text) => {
   const tokens = [...text.matchAll(/[A-Za-z]\w*|\d+|:=|<=|\S/g)].map((it) => ({ text: it[0], at: it.index, end: it.index + it[0].length }));
   const found = [];
@@ -298,7 +298,7 @@ const readInfix = (text) => {
   return [block(null), found];
 };
 
-// Which lowered statements each statement of an infix program has become: "The lowered source" in docs/mini.md.
+// Which lowered statements each statement of an infix program has become: "The lowered source" in docs/languages/mini.md.
 const tieInfix = (statements, lowered) => {
   demand(headOf(lowered) === "seq" && headOf(lowered.items[1]) === "no-op", "a block is lowered to a sequence");
   const rest = lowered.items.slice(2);

@@ -22,7 +22,7 @@ use std::alloc::Global;
 /// and is as it was in every other case. `watches` are those that a debug session may attach; no other command looks at
 /// them.
 ///
-/// `Status` lists the exit statuses, and `docs/cli.md` when each of them occurs. `specs/Promises.antt` has what the program
+/// `Status` lists the exit statuses, and `docs/program/cli.md` when each of them occurs. `specs/Promises.antt` has what the program
 /// does with its devices, and `specs/AnswerMeans.antt` what its answers mean, each one by one, under the names of its fields.
 pub fn cli<S: Shelf, K: Sink>(
     alloc: Global,

@@ -197,7 +197,7 @@ fn assembled(alloc: Global, text: &[u8]) -> Result<Image, AsmFault>
 }
 
 /// The image that an assembly text spells. The text has fewer than 2^32 bytes, so that each place has 32 bits; its form is
-/// in `docs/asm.md`.
+/// in `docs/languages/asm.md`.
 ///
 /// # Errors
 ///

@@ -1,4 +1,4 @@
-//! Which statement is due, and what breaks rule 2 or 3 of `docs/asm.md`. A rule is its number, as in `Breach`.
+//! Which statement is due, and what breaks rule 2 or 3 of `docs/languages/asm.md`. A rule is its number, as in `Breach`.
 
 ghost use Rattle.std.specs.Prelude.{◌≡◌, option_map};
 ghost use Rattle.fm_asm.specs.Values.{value_of};

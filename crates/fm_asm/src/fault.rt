@@ -7,7 +7,7 @@ use thiserror::Error;
 /// Why no image was assembled: the least fault of the text, place before rule; or out of memory.
 #[derive(Clone, Copy, Debug, PartialEq, Eq, Error)]
 pub enum AsmFault {
-    /// The text breaks a rule of `docs/asm.md`, 1 for A1 to 7 for A7, at the place of the first byte of a line, counted from
+    /// The text breaks a rule of `docs/languages/asm.md`, 1 for A1 to 7 for A7, at the place of the first byte of a line, counted from
     /// 0; where a statement of the header is missing, at the number of the text's bytes.
     #[error("assembly A{rule} at {place}")]
     Refused { rule: u8, place: u32 },

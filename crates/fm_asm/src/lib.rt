@@ -1,6 +1,6 @@
 //! An assembler for the FM9001 and its inverse: images from text, and plain images as text.
 //!
-//! `docs/asm.md` has the form of texts and the rules by which a text is refused.
+//! `docs/languages/asm.md` has the form of texts and the rules by which a text is refused.
 #![tactic(auto)]
 
 mod assembling;

@@ -7,7 +7,7 @@ use stack_text::Memory;
 use std::alloc::{AllocError, AllocFailed};
 use thiserror::Error;
 
-/// A rule of image files. `docs/image-file.md` lists them, from I1 on, in this order.
+/// A rule of image files. `docs/languages/image-file.md` lists them, from I1 on, in this order.
 #[derive(Clone, Copy, Debug, PartialEq, Eq)]
 pub enum Rule {
     /// I1: the magic is another.
@@ -61,7 +61,7 @@ pub struct Refusal {
 /// Why no image was read: the first fault of the bytes from the left, or out of memory.
 #[derive(Clone, Copy, Debug, PartialEq, Eq, Error)]
 pub enum ImageFault {
-    /// The bytes break rule I1 to I9 of `docs/image-file.md`, at a place that is counted in bytes from 0.
+    /// The bytes break rule I1 to I9 of `docs/languages/image-file.md`, at a place that is counted in bytes from 0.
     #[error("image I{rule} at {place}")]
     Refused { rule: u8, place: u64 },
     /// An allocation failed.

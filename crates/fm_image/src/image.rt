@@ -12,7 +12,7 @@ use stack_text::Name;
 use std::alloc::Global;
 use std::marker::Model;
 
-/// What the FM9001 is loaded with. The limits that `docs/image-file.md` gives for its fields hold of every image.
+/// What the FM9001 is loaded with. The limits that `docs/languages/image-file.md` gives for its fields hold of every image.
 ///
 /// Contracts see an image as a record of the same fields, with lists in place of the vectors.
 #[derive(Debug, Drop)]

@@ -1,6 +1,6 @@
 //! Image files: what the FM9001 is loaded with, read from bytes and written as bytes.
 //!
-//! `docs/image-file.md` lists the fields and the rules by which a file is refused.
+//! `docs/languages/image-file.md` lists the fields and the rules by which a file is refused.
 #![tactic(auto)]
 
 mod code;

@@ -554,7 +554,7 @@ fn image<H: Heap>(heap: H, end: usize, left: &[u8]) -> Result<Image, ImageFault>
 ///
 /// # Errors
 ///
-/// The first rule of `docs/image-file.md` that the bytes break, read from left to right, and its place; or out
+/// The first rule of `docs/languages/image-file.md` that the bytes break, read from left to right, and its place; or out
 /// of memory.
 pub fn read_image<H: Heap>(heap: H, bytes: &[u8]) -> Result<Image, ImageFault>
     // What is read is spelled so, each byte of the file.

@@ -7,7 +7,7 @@ use stack_text::Memory;
 use std::alloc::{AllocError, AllocFailed};
 use thiserror::Error;
 
-/// A rule of values files. `docs/values.md` lists them, from V1 on, in this order.
+/// A rule of values files. `docs/languages/values.md` lists them, from V1 on, in this order.
 #[derive(Clone, Copy, Debug, PartialEq, Eq)]
 pub enum Rule {
     /// V1: the text is no list of entries.

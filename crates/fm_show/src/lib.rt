@@ -1,6 +1,6 @@
 //! The FM9001 as text: a word as the instruction that it is, and a machine or an image as lines.
 //!
-//! `docs/fm9001.md` has the notation, with examples.
+//! `docs/languages/fm9001.md` has the notation, with examples.
 #![tactic(auto)]
 
 mod digits;

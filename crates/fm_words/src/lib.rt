@@ -2,7 +2,7 @@
 //!
 //! The processor is that of Brock, Hunt and Kaufmann, "The FM9001 Microprocessor Proof"
 //! (Computational Logic, Technical Report 86). The numbers of the operations, of the conditions
-//! and of the fields are this repository's, and `docs/fm9001.md` lists them.
+//! and of the fields are this repository's, and `docs/languages/fm9001.md` lists them.
 #![tactic(auto)]
 
 mod condition;

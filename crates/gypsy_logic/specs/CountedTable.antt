@@ -1,4 +1,4 @@
--- After how many instructions each statement ends, in the rows of the table in docs/step-machine.md.
+-- After how many instructions each statement ends, in the rows of the table in docs/proved/meaning.md.
 use Rattle.std.specs.Prelude.{◌≡◌, ℕ, ◌+◌, List, true, false, Some, None, slice_set}
 use Rattle.stack_text.specs.Values.{ValueOf}
 use Rattle.gypsy_syntax.specs.declared.predef.Predef.{Predef}

@@ -1,4 +1,4 @@
--- What each statement does, in the rows of the table in docs/GYPSY.md. A bound stands in none of them.
+-- What each statement does, in the rows of the table in docs/languages/gypsy.md. A bound stands in none of them.
 use Rattle.std.specs.Prelude.{◌≡◌, ℕ, List, true, false, Some, None, slice_set}
 use Rattle.stack_text.specs.Values.{ValueOf}
 use Rattle.gypsy_syntax.specs.declared.predef.Predef.{Predef}
