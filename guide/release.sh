@@ -33,8 +33,8 @@ say_version() {
 
 # What a release has, beside the program and PROVED: nothing that wants the rest of the repository.
 released_files() {
-    git -C "$here" ls-files -- stack guide docs ':!docs/bench' examples README.md 2>/dev/null | grep . ||
-        (cd "$here" && find stack guide docs examples README.md -type f ! -name '*.pyc' ! -path 'docs/bench/*')
+    git -C "$here" ls-files -- stack guide docs examples README.md 2>/dev/null | grep . ||
+        (cd "$here" && find stack guide docs examples README.md -type f ! -name '*.pyc')
 }
 
 # Says what the release is, and how it was proved.

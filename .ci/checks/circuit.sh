@@ -21,7 +21,7 @@ look() {
 # Without words the program only says how it is used. So it is built where it isn't built yet.
 "$top/stack" >/dev/null
 program=$top/crates/cli_stack/out/cli_stack
-look "the pictures" python3 "$tools/circuit_pictures.py" --check
+look "the pictures" python3 "$top/tools/circuit_pictures.py" --check
 look "the circuit in Icarus Verilog" python3 "$tools/circuit.py" "$program" --simulator icarus "$@"
 look "the circuit in Verilator" python3 "$tools/circuit.py" "$program" --simulator verilator "$@"
 look "the values of Verilog's expressions" python3 "$tools/verilog_values.py" "$@"

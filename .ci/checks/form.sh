@@ -6,8 +6,8 @@ cd "$(dirname "${BASH_SOURCE[0]}")/../.." || exit 1
 status=0
 export PYTHONDONTWRITEBYTECODE=1
 python3 .ci/tools/form.py || status=1
-python3 .ci/tools/proof_lines.py || status=1
-python3 .ci/tools/help_pages.py || status=1
+python3 tools/proof_lines.py || status=1
+python3 tools/help_pages.py || status=1
 python3 .ci/tools/memory_sources.py || status=1
 
 # In a copy with mistakes each of them is told.
@@ -48,7 +48,7 @@ yes word | head -n 1301 >>README.md
 sed -i 's/^does lists an image$/does prints an image/' guide/commands.txt
 sed -i 's/^const BUDGET: u64 = 1000;$/const BUDGET: u64 = 2000;/' crates/example_client/src/main.rt
 git init -q && git add -A
-told=$(python3 .ci/tools/form.py; python3 .ci/tools/help_pages.py)
+told=$(python3 .ci/tools/form.py; python3 tools/help_pages.py)
 for wanted in 'crates/fm_words/specs/Word.antt:[0-9]*: 203 characters' 'NothingLaws.antt: no proof cites this lemma module' \
     'NothingLaws.antt: it has no sentence at its head' 'NothingLaws.antt:1: nothing uses served_by_nothing' \
     'docs/proved/glossary.md:[0-9]*: the link nowhere.md leads to nothing' \

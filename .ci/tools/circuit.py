@@ -31,11 +31,14 @@ TOP = Path(__file__).resolve().parents[2]
 HARDWARE = TOP / "hardware"
 sys.path[:0] = [str(HARDWARE), str(TOP / ".ci/tools")]
 import random_sources
-from arguments import parser_of
-from arguments import program as executable
-from fm9001 import CONDITIONS, MASK, OPERATIONS, PC, SIGN, Machine, flag_letters
-from images import Image, Refused, loaded, read_image, read_values, reading
-from simulation import NETLIST, PROCESSOR, NotSimulated, Simulated, compiled, missing_packages, report, simulate, write_words
+
+sys.path.append(str(Path(__file__).resolve().parents[2] / "tools"))
+
+from arguments import parser_of  # noqa: E402
+from arguments import program as executable  # noqa: E402
+from fm9001 import CONDITIONS, MASK, OPERATIONS, PC, SIGN, Machine, flag_letters  # noqa: E402
+from images import Image, Refused, loaded, read_image, read_values, reading  # noqa: E402
+from simulation import NETLIST, PROCESSOR, NotSimulated, Simulated, compiled, missing_packages, report, simulate, write_words  # noqa: E402
 
 STACK = 300             # words of each stack, of the examples
 BUDGET = 10**6          # instructions that no example comes to

@@ -15,9 +15,11 @@ import sys
 import tempfile
 from pathlib import Path
 
-from arguments import parser_of
-from arguments import program as executable
-from tried import statuses
+sys.path.append(str(Path(__file__).resolve().parents[2] / "tools"))
+
+from arguments import parser_of  # noqa: E402
+from arguments import program as executable  # noqa: E402
+from tried import statuses  # noqa: E402
 
 SECONDS, KILOBYTES = 1.0, 64 * 1024
 # In how many parts the damaged files of one file are tried, so that all processors have work to the end.

@@ -13,9 +13,11 @@ import tempfile
 from dataclasses import dataclass
 from pathlib import Path
 
-from arguments import file, parser_of
-from arguments import program as executable
-from tried import trials
+sys.path.append(str(Path(__file__).resolve().parents[2] / "tools"))
+
+from arguments import file, parser_of  # noqa: E402
+from arguments import program as executable  # noqa: E402
+from tried import trials  # noqa: E402
 
 TOP = Path(__file__).resolve().parents[2]
 NEVER = None

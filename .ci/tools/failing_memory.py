@@ -12,9 +12,11 @@ import sys
 import tempfile
 from pathlib import Path
 
-from arguments import file, parser_of
-from arguments import program as executable
-from tried import trials
+sys.path.append(str(Path(__file__).resolve().parents[2] / "tools"))
+
+from arguments import file, parser_of  # noqa: E402
+from arguments import program as executable  # noqa: E402
+from tried import trials  # noqa: E402
 
 NO_MEMORY = 14
 # A count that no allocation has, or a program that passes over most failures, would show nothing.

@@ -9,9 +9,11 @@ from functools import cache
 from itertools import combinations
 from pathlib import Path
 
-import crate_table
-from arguments import parser_of
-from believe import Walk
+sys.path.append(str(Path(__file__).resolve().parents[2] / "tools"))
+
+import crate_table  # noqa: E402
+from arguments import parser_of  # noqa: E402
+from believe import Walk  # noqa: E402
 
 SPEC_WIDTH = 140
 CLAUSE_WIDTH = 120
@@ -19,7 +21,7 @@ DEFINITION = re.compile(r"^\s*(?:abbrev |unfoldable )?pub (?:record |data |abbre
 CITATION = re.compile(r"(?:Rattle\.\w+|crate)(?:\.|::)proofs(?:\.|::)([A-Z]\w*)")
 LINK = re.compile(r"\]\(([^)\s]+)\)")
 LISTING = re.compile(r"^`(crates/[\w./-]+)`:\n\n```\w*\n(.*?^)```$", re.M | re.S)
-NAMED_PATH = re.compile(r"`((?:crates|docs|examples|conformance|\.ci)/[\w./-]+)`")
+NAMED_PATH = re.compile(r"`((?:bench|crates|docs|examples|conformance|guide|hardware|tools|\.ci)/[\w./-]+)`")
 LEMMA = re.compile(r"(  )?(?:abbrev |unfoldable )?(?:pub )?([^\s:(){}]+) : ")
 TOKEN = re.compile(r"[^\s(){};,.:\[\]λ]+")
 GHOST_USE = re.compile(r"^ *ghost use [^{;]*\{([^}]*)\};\n", re.M)
@@ -266,7 +268,7 @@ def check_figures():
             if f"| {figures} |" not in line:
                 say(f"{path}:{number}", f"{row.group(1)} rests on | {figures} |; write that")
             for finding in walk.findings():
-                say(".ci/tools/believe.py", finding)
+                say("tools/believe.py", finding)
 
 
 def check_readme():

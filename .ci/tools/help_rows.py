@@ -26,6 +26,9 @@ sys.path[:0] = [str(TOP / "guide"), str(TOP / "conformance")]
 import explain  # noqa: E402
 import help as usage  # noqa: E402
 import infix  # noqa: E402
+
+sys.path.append(str(Path(__file__).resolve().parents[2] / "tools"))
+
 from arguments import parser_of  # noqa: E402
 from arguments import program as executable  # noqa: E402
 from catalog import plain, read_catalog  # noqa: E402

@@ -13,9 +13,11 @@ from importlib.machinery import SourceFileLoader
 from importlib.util import module_from_spec, spec_from_loader
 from pathlib import Path
 
-import browsers
-from arguments import file, parser_of
-from browsers import Chromium, Fault
+sys.path.append(str(Path(__file__).resolve().parents[2] / "tools"))
+
+import browsers  # noqa: E402
+from arguments import file, parser_of  # noqa: E402
+from browsers import Chromium, Fault  # noqa: E402
 
 CONFORMANCE = Path(__file__).resolve().parent.parent.parent / "conformance"
 # The largest images are a while in a browser.

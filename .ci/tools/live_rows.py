@@ -18,6 +18,9 @@ sys.path.insert(0, str(TOP / "guide"))
 
 import live  # noqa: E402
 import page  # noqa: E402
+
+sys.path.append(str(Path(__file__).resolve().parents[2] / "tools"))
+
 from arguments import file, parser_of  # noqa: E402
 from arguments import program as executable  # noqa: E402
 from browsers import Chromium, Firefox  # noqa: E402

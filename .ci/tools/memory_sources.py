@@ -17,7 +17,9 @@ from collections import defaultdict
 from dataclasses import dataclass, field
 from pathlib import Path
 
-from arguments import parser_of
+sys.path.append(str(Path(__file__).resolve().parents[2] / "tools"))
+
+from arguments import parser_of  # noqa: E402
 
 TOP = Path(__file__).resolve().parents[2]
 OWN = {"Memory", "OutOfMemory"}

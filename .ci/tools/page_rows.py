@@ -18,9 +18,11 @@ import sys
 import tempfile
 from pathlib import Path
 
-from arguments import parser_of
-from arguments import program as executable
-from browsers import Chromium
+sys.path.append(str(Path(__file__).resolve().parents[2] / "tools"))
+
+from arguments import parser_of  # noqa: E402
+from arguments import program as executable  # noqa: E402
+from browsers import Chromium  # noqa: E402
 
 TOP = Path(__file__).resolve().parent.parent.parent
 EXAMPLES = TOP / "examples"

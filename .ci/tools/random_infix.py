@@ -13,7 +13,9 @@ from dataclasses import dataclass
 from pathlib import Path
 from random import Random
 
-from arguments import seeds_of
+sys.path.append(str(Path(__file__).resolve().parents[2] / "tools"))
+
+from arguments import seeds_of  # noqa: E402
 
 LEAST, GREATEST = -2**31, 2**31 - 1
 MOST_NUMBER, MOST_NAME, MOST_NESTED, MOST_OPERATORS, MOST_VARIABLES = GREATEST, 60, 40, 40, 100

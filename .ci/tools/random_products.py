@@ -10,7 +10,9 @@ import tempfile
 from pathlib import Path
 from random import Random
 
-from arguments import drawn_of
+sys.path.append(str(Path(__file__).resolve().parents[2] / "tools"))
+
+from arguments import drawn_of  # noqa: E402
 
 LEAST, GREATEST = -2**31, 2**31 - 1
 EDGES = [edge + by for edge in (LEAST, -2**16, -46341, 0, 46341, 2**16, GREATEST) for by in (-1, 0, 1) if LEAST <= edge + by <= GREATEST]

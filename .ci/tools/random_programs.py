@@ -16,7 +16,10 @@ from pathlib import Path
 from random import Random
 
 import fm9001
-from arguments import drawn_of
+
+sys.path.append(str(Path(__file__).resolve().parents[2] / "tools"))
+
+from arguments import drawn_of  # noqa: E402
 
 HERE = Path(__file__).resolve().parent
 BUDGET = 3000

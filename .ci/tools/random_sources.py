@@ -14,7 +14,9 @@ from functools import cached_property
 from pathlib import Path
 from random import Random
 
-from arguments import seeds_of
+sys.path.append(str(Path(__file__).resolve().parents[2] / "tools"))
+
+from arguments import seeds_of  # noqa: E402
 
 LEAST, GREATEST = -2**31, 2**31 - 1
 MOST_WORDS = 65536      # of a stack

@@ -11,7 +11,9 @@ import tempfile
 from pathlib import Path
 from random import Random
 
-from arguments import drawn_of
+sys.path.append(str(Path(__file__).resolve().parents[2] / "tools"))
+
+from arguments import drawn_of  # noqa: E402
 
 NO_ADDRESS = 0xFFFFFFFF
 IGNORED = 0xF00001C0    # bits of a word that an instruction passes over, where its first operand is no immediate

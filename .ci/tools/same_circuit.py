@@ -18,8 +18,11 @@ from pathlib import Path
 
 sys.dont_write_bytecode = True
 sys.path.insert(0, str(Path(__file__).resolve().parents[2] / "hardware"))
-from arguments import file, parser_of
-from simulation import NETLIST, PROCESSOR
+
+sys.path.append(str(Path(__file__).resolve().parents[2] / "tools"))
+
+from arguments import file, parser_of  # noqa: E402
+from simulation import NETLIST, PROCESSOR  # noqa: E402
 
 SECONDS = 1800
 # Yosys would give the phases numbers of its own, and those couldn't be compared.

@@ -17,8 +17,10 @@ import tempfile
 import time
 from pathlib import Path
 
-from arguments import parser_of
-from arguments import program as executable
+sys.path.append(str(Path(__file__).resolve().parents[2] / "tools"))
+
+from arguments import parser_of  # noqa: E402
+from arguments import program as executable  # noqa: E402
 
 TOP = Path(__file__).resolve().parents[2]
 ROW = re.compile(r"^\| (\d+) KB \|", re.M)

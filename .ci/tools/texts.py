@@ -7,7 +7,9 @@ import re
 import sys
 from pathlib import Path
 
-from arguments import parser_of
+sys.path.append(str(Path(__file__).resolve().parents[2] / "tools"))
+
+from arguments import parser_of  # noqa: E402
 
 NAMED = re.compile(r"^-- The text of (\S+) and its program")
 LINE = re.compile(r'^ *(?:codes "(.*)" \+\+ )?10 ∷')

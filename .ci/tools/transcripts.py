@@ -14,8 +14,10 @@ import sys
 import tempfile
 from pathlib import Path
 
-from arguments import file, parser_of
-from arguments import program as executable
+sys.path.append(str(Path(__file__).resolve().parents[2] / "tools"))
+
+from arguments import file, parser_of  # noqa: E402
+from arguments import program as executable  # noqa: E402
 
 TOP = Path(__file__).resolve().parents[2]
 BLOCK = re.compile(r"^```console\n(.*?)^```$", re.M | re.S)

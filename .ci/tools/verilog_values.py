@@ -15,7 +15,9 @@ import sys
 import tempfile
 from pathlib import Path
 
-from arguments import parser_of
+sys.path.append(str(Path(__file__).resolve().parents[2] / "tools"))
+
+from arguments import parser_of  # noqa: E402
 
 # The operators of two operands, with how tightly they bind.
 OPERATORS = {"sum": ("+", 7), "equal": ("==", 6), "and": ("&", 5), "xor": ("^", 4), "or": ("|", 3), "both": ("&&", 2)}

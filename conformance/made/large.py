@@ -1,4 +1,4 @@
-"""Files at their limits, texts at the limits of each layer, and long runs. docs/bench/limits.py times the texts and the runs. A text is a
+"""Files at their limits, texts at the limits of each layer, and long runs. bench/limits.py times the texts and the runs. A text is a
 function, since some have 16 MiB. In the words of a command line `t` is the text and `v` the values; `i` and `o` are files that are stored.
 """
 from rows import TOP, Row, Run

@@ -8,7 +8,7 @@ import sys
 from itertools import groupby
 from pathlib import Path
 
-TOP = Path(__file__).resolve().parent.parent.parent
+TOP = Path(__file__).resolve().parents[1]
 sys.path.insert(0, str(TOP / "guide"))
 
 from arguments import parser_of  # noqa: E402
@@ -21,7 +21,7 @@ FILES = [
     ("guide/completion.bash", "completes the words in bash."),
     ("crates/cli_stack/out/cli_stack", "the program."),
 ]
-MEND = "run  python3 .ci/tools/help_pages.py --write"
+MEND = "run  python3 tools/help_pages.py --write"
 
 
 def table(head, rows):
@@ -74,7 +74,7 @@ def manual(catalog):
     words = [(name, f"{it.range or 'a file'}: {it.means}") for name, it in catalog.words.items()]
     statuses = [(f"{it.number}  {it.line}" if "`" in it.line else f"{it.number}", it.means) for it in catalog.statuses]
     examples = list(dict.fromkeys(it for command in catalog.commands.values() for it in command.examples))
-    lines = ['.\\" Made of guide/commands.txt by .ci/tools/help_pages.py', ".TH STACK 1", ".SH NAME"]
+    lines = ['.\\" Made of guide/commands.txt by tools/help_pages.py', ".TH STACK 1", ".SH NAME"]
     lines += ["stack \\- compiles, links, runs and shows programs of the verified short stack", ".SH SYNOPSIS"]
     lines += [".B ./stack", ".I COMMAND WORD ..", ".br", ".B ./stack help", ".RI [ COMMAND ]", ".SH DESCRIPTION"]
     lines += ["The script starts the proved program in the current folder. What isn't built yet runs unproved, as a trial, and"]

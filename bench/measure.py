@@ -4,7 +4,7 @@ import subprocess
 import sys
 from pathlib import Path
 
-sys.path.append(str(Path(__file__).resolve().parents[2] / ".ci/tools"))
+sys.path.append(str(Path(__file__).resolve().parents[1] / "tools"))
 from arguments import parser_of  # noqa: E402
 from arguments import program as executable  # noqa: E402
 

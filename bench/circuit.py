@@ -1,7 +1,7 @@
 #!/usr/bin/env python3
 """What Yosys and nextpnr make of the processor for an iCE40, and how fast Verilator is beside the emulator.
 
-    python3 docs/bench/circuit.py [PROGRAM]
+    python3 bench/circuit.py [PROGRAM]
 
 The processor alone is synthesised, and the board with 2,048 words of memory, which is placed on an HX8K in the package ct256. With PROGRAM,
 the built `cli_stack`, the loop of loop_image.py is run for so many rounds by `run` and by bench.v in Verilator, by turns, three times each.
@@ -18,7 +18,7 @@ from pathlib import Path
 
 sys.dont_write_bytecode = True
 HERE = Path(__file__).resolve().parent
-HARDWARE = HERE.parents[1] / "hardware"
+HARDWARE = HERE.parent / "hardware"
 sys.path.insert(0, str(HARDWARE))
 from images import read_image
 from measure import executable, parser_of

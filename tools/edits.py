@@ -1,8 +1,8 @@
 #!/usr/bin/env python3
 """Tries the edits of .ci/edits, which the gate leaves out: each must be refused, as those in the crates' folders must-fail.
 
-    python3 .ci/tools/edits.py [CRATE ..]
-    python3 .ci/tools/edits.py CRATE EDIT
+    python3 tools/edits.py [CRATE ..]
+    python3 tools/edits.py CRATE EDIT
 
 With a crate and the name of one of its edits, which may be one of the gate's too, it makes that edit in a copy of the repository and has the
 function that it changes checked, by `rt check --only`. What the prover says is printed whole, with its counterexample where it has one. Crates
@@ -22,7 +22,7 @@ from pathlib import Path
 
 from arguments import parser_of
 
-TOP = Path(__file__).resolve().parents[2]
+TOP = Path(__file__).resolve().parents[1]
 EDITS = TOP / ".ci" / "edits"
 PASSED = "refused, as it must be"
 START = "rt: must-fail "

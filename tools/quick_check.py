@@ -1,7 +1,7 @@
 #!/usr/bin/env python3
 """Checks one crate, or some of its functions, by the prover itself: the crates below come as the libraries of another clone, or as sources.
 
-    python3 .ci/tools/quick_check.py [--libraries CLONE] [--source NAME ..] CRATE [FLAG ..]
+    python3 tools/quick_check.py [--libraries CLONE] [--source NAME ..] CRATE [FLAG ..]
 
 CLONE is a clone in which `rt ci` was run: it leaves each crate's library in `crates/NAME/out/rlib`. A crate below that has none there, or
 that is named by `--source`, is read as this checkout has it, and trusted; without `--libraries` all are. So a crate is checked while those
@@ -17,7 +17,7 @@ from pathlib import Path
 
 from arguments import folder, parser_of
 
-TOP = Path(__file__).resolve().parents[2]
+TOP = Path(__file__).resolve().parents[1]
 
 
 def uses():

@@ -1,7 +1,7 @@
 #!/usr/bin/env python3
 """Draws the phases and the data paths of the processor, from its Verilog text: docs/pictures/phases.svg and data-paths.svg.
 
-    python3 .ci/tools/circuit_pictures.py [--check]
+    python3 tools/circuit_pictures.py [--check]
 
 Where boxes and lines are is said here; that there are these phases, boxes and lines and no others is read from the text, and the script
 stops where the two differ. --check compares the files and stores nothing.
@@ -13,7 +13,7 @@ from pathlib import Path
 from xml.sax.saxutils import escape
 
 sys.dont_write_bytecode = True
-TOP = Path(__file__).resolve().parents[2]
+TOP = Path(__file__).resolve().parents[1]
 sys.path.insert(0, str(TOP / "hardware"))
 from arguments import parser_of
 from simulation import PROCESSOR
@@ -283,7 +283,7 @@ def main() -> int:
         if not is_check:
             path.write_text(text)
         elif not path.is_file() or path.read_text() != text:
-            print(f"{path.relative_to(TOP)} isn't current: run  python3 .ci/tools/circuit_pictures.py")
+            print(f"{path.relative_to(TOP)} isn't current: run  python3 tools/circuit_pictures.py")
             failed = True
     return 1 if failed else 0
 

@@ -17,10 +17,10 @@ import programs
 from large_files import image
 from measure import program_parser
 
-sys.path.append(str(Path(__file__).resolve().parents[2] / ".ci/tools"))
+sys.path.append(str(Path(__file__).resolve().parents[1] / ".ci/tools"))
 from counted_rows import counts_in  # noqa: E402
 
-COUNTING = Path(__file__).resolve().parents[2] / ".ci/tools/counting_allocations.c"
+COUNTING = Path(__file__).resolve().parents[1] / ".ci/tools/counting_allocations.c"
 SIZES = [1 << 13, 1 << 16, 1 << 20]
 BUDGET = 10_000_000
 COMMANDS = [

@@ -1,7 +1,7 @@
 #!/usr/bin/env python3
 """What a step takes: the computer's instructions, by callgrind, so on any machine alike; or with --times nanoseconds, on a quiet machine.
 
-    python3 docs/bench/steps.py [--times] PROGRAM [INTERPRETER ..]
+    python3 bench/steps.py [--times] PROGRAM [INTERPRETER ..]
 
 `run` makes the steps of four images: a loop of four instructions, a linked loop of Micro-Gypsy, a large generated program that runs once, and
 a linked loop of Piton. INTERPRETER takes an image of version 1 and a budget, and makes the same steps. What a run with a budget of no step

@@ -10,7 +10,7 @@ import tempfile
 from pathlib import Path
 
 sys.dont_write_bytecode = True
-CONFORMANCE = Path(__file__).resolve().parents[2] / "conformance"
+CONFORMANCE = Path(__file__).resolve().parents[1] / "conformance"
 sys.path[:0] = [str(CONFORMANCE), str(CONFORMANCE / "made")]
 import large
 from measure import program_parser, start, taken

@@ -1,7 +1,7 @@
 #!/usr/bin/env python3
 """Makes a crate's functions generic over the heap: the part of that work that is the same in each crate.
 
-    python3 .ci/tools/to_heap.py CRATE
+    python3 tools/to_heap.py CRATE
 
 A function that takes `alloc: Global`, and one that appends to `out`, `text` and their like, a `&mut Vec<u8>`, and can run out of memory, takes
 `heap: H` with `H: Heap`; what it calls is called with the heap, and takes memory by the heap's methods; the words of its clauses say when memory may
@@ -15,7 +15,7 @@ from pathlib import Path
 
 from arguments import parser_of
 
-TOP = Path(__file__).resolve().parents[2]
+TOP = Path(__file__).resolve().parents[1]
 FACT = "(H.may_refuse heap)"
 WORDS = {"Reads": "ReadsUnless", "Returns": "ReturnsUnless", "Gives": "GivesUnless", "Fails": "FailsUnless", "OnOk": "OnOkUnless"}
 CAN_FAIL = r"(?:Memory|AllocError|\w*Fault)"

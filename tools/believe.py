@@ -1,7 +1,7 @@
 #!/usr/bin/env python3
 """What a statement rests on: each definition that it reaches, with the enums and structs of the code that these name.
 
-    python3 .ci/tools/believe.py [--pages] [--text] [--check] CRATE.PAGE.NAME ..
+    python3 tools/believe.py [--pages] [--text] [--check] CRATE.PAGE.NAME ..
 
 as stack_build.Implements.Implements. Without a flag it prints how many lines they have. Lines of definitions are counted with the
 comments on them, without imports and empty lines; enums and structs with their documents, without attributes and methods. --pages prints
@@ -19,7 +19,7 @@ from pathlib import Path
 
 from arguments import parser_of
 
-CRATES = Path(__file__).resolve().parents[2] / "crates"
+CRATES = Path(__file__).resolve().parents[1] / "crates"
 IMPORT = re.compile(r"(?:pub )?use Rattle\.(\w+)\.specs\.([\w.]+?)(?:\.\{(.*)\}| as (\w+))?$")
 DECLARED = re.compile(r"declared\.[a-z0-9_.]+\.([A-Z]\w*)")
 MODULE = re.compile(r"module _ ")

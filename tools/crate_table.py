@@ -81,7 +81,7 @@ def findings_of(lines, entries, below):
         table += [("crate", name, place) for name in names]
         for name in names:
             if name in below and cells[COLUMN] != cell_of(nearest(name, below)):
-                yield f"{place}: {name} stands on {cell_of(nearest(name, below)) or 'nothing'}; run  python3 .ci/tools/crate_table.py --write"
+                yield f"{place}: {name} stands on {cell_of(nearest(name, below)) or 'nothing'}; run  python3 tools/crate_table.py --write"
     for kind, name in entries:
         times = sum((it[0], it[1]) == (kind, name) for it in table)
         if times != 1:

@@ -1,7 +1,7 @@
 #!/usr/bin/env python3
 """Counts the lines that the specification and the proof of each proved example take, and keeps the table in docs/proved/verifying.md.
 
-    python3 .ci/tools/proof_lines.py [--write]
+    python3 tools/proof_lines.py [--write]
 
 A row of the table names the example's file first, and ends with both numbers of lines: those of crates/proved_programs/specs/NAME.antt and
 of NAMELaws.antt, NAMERules.antt and NAMERuns.antt in crates/proved_programs/proofs, without imports, comments and blank lines, where
@@ -14,7 +14,7 @@ from pathlib import Path
 
 from arguments import parser_of
 
-TOP = Path(__file__).resolve().parents[2]
+TOP = Path(__file__).resolve().parents[1]
 CRATE = TOP / "crates" / "proved_programs"
 PAGE = TOP / "docs/proved/verifying.md"
 PARTS = ("Laws", "Rules", "Runs")

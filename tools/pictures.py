@@ -1,7 +1,7 @@
 #!/usr/bin/env python3
 """Makes the pictures of the documents anew, of pages of runs in a Chromium without a window.
 
-    python3 .ci/tools/pictures.py PROGRAM
+    python3 tools/pictures.py PROGRAM
 
 Each goes to docs/pictures. Where there is a pngquant (Debian has it) they have 128 colours, and are a third as large.
 """
@@ -16,7 +16,7 @@ from arguments import parser_of
 from arguments import program as executable
 from browsers import Chromium
 
-TOP = Path(__file__).resolve().parent.parent.parent
+TOP = Path(__file__).resolve().parents[1]
 PICTURES = TOP / "docs/pictures"
 MOST_BYTES = 150_000
 
