@@ -25,9 +25,11 @@ mistake 'crates/fm_words/specs: are_same is defined at ' crates/fm_words/specs/W
 mistake 'Masks.antt:[0-9]*: word_bits is defined at crates/fm_words/specs/Word.antt:[0-9]* too' crates/fm_words/specs/Word.antt 'pub word_bits : ℕ'
 mistake 'same_names.txt: never_there has one meaning now' .ci/tools/same_names.txt '== no reason' never_there
 mistake 'crates/fm_words/specs: Word and Words differ by an ending' crates/fm_words/specs/Words.antt 'pub nothing_at_all : ℕ'
-mistake 'stack_text/specs/Lib.antt:[0-9]*: move Trees to crates/stack_text/specs/Scaffold' crates/stack_text/specs/Lib.antt \
-    '-- Scaffold: what only private functions and lemmas say.' 'pub mod Trees' 'pub mod Names'
-mistake 'Answer.antt: it imports scaffold of stack_text' crates/cli_stack/specs/Answer.antt 'use Rattle.stack_text.specs.Scaffold.OpenLists.{opened}'
+mkdir crates/stack_text/specs/Alone
+mistake 'crates/stack_text/specs/Alone: a folder of one page' crates/stack_text/specs/Alone/Only.antt 'pub only_one : ℕ'
+mistake 'stack_text/specs/Lib.antt:[0-9]*: move Trees to crates/stack_text/specs/Internal' crates/stack_text/specs/Lib.antt \
+    '-- Internal: what only private functions and lemmas say.' 'pub mod Trees' 'pub mod Names'
+mistake 'Answer.antt: it imports OpenLists, which is internal to stack_text' crates/cli_stack/specs/Answer.antt 'use Rattle.stack_text.specs.Internal.OpenLists.{opened}'
 mistake 'crates/fm_words/src/lib.rt:[0-9]*: a clause of 1[0-9]* characters' crates/fm_words/src/lib.rt "    ensures { $(printf %0120d 0) }"
 mistake "crates/fm_words/src/word.rt: it imports used_by_nothing and doesn't use it" crates/fm_words/src/word.rt \
     'ghost use Rattle.std.specs.Prelude.{used_by_nothing};'

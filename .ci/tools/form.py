@@ -29,11 +29,11 @@ ANY_USE = re.compile(r"^ *(?:pub )?(?:ghost )?use [^;]*;\n", re.M)
 PAGES_IN_ONE_FOLDER = 8
 # The comments in `specs/Lib.antt` under which pages stood that have a folder now.
 GROUPS = {
-    "Seen": re.compile(r"-- (how|what) clauses see\b", re.I),
-    "Scaffold": re.compile(r"-- (scaffold\b|what (only )?private functions\b)", re.I),
+    "Views": re.compile(r"-- (how|what) clauses see\b", re.I),
+    "Internal": re.compile(r"-- (internal\b|what (only )?private functions\b)", re.I),
     "Commands": re.compile(r"-- a page for each command\b", re.I),
 }
-SCAFFOLD = re.compile(r"^ *(?:pub )?(?:ghost )?use Rattle\.(\w+)\.specs\.Scaffold\.", re.M)
+IMPORTED_PAGE = re.compile(r"^ *(?:pub )?(?:ghost )?use Rattle\.(\w+)\.specs\.(Internal\.)?(\w+)", re.M)
 ENDINGS = ("ings", "ing", "ed", "es", "e", "s", "er")
 # Lemmas that stand for themselves: `outcome_is` joins a run's relation to its function.
 KEPT_LEMMAS = {"outcome_is"}
@@ -135,7 +135,7 @@ def is_modules(path):
 
 
 def check_folders():
-    """In a crate of many pages the folder says what a page is for; what is promised doesn't stand on scaffold."""
+    """In a crate of many pages the folder says what a page is for; what is promised doesn't stand on what is internal."""
     pages = defaultdict(list)
     for path in tracked("crates/*/specs/*.antt"):
         if path.name != "Lib.antt" and not is_modules(path):
@@ -151,21 +151,40 @@ def check_folders():
             if path.parent == other.parent and fronts(path.stem) & fronts(other.stem):
                 say(path.parent, f"{path.stem} and {other.stem} differ by an ending; give them names that say what they hold")
     for path in tracked("crates/*.antt", "crates/*.rt"):
-        for crate in SCAFFOLD.findall(path.read_text()):
-            below = path.is_relative_to(Path("crates", crate, "specs/Scaffold"))
-            if path.parts[2] == "specs" and not below or path.parts[2] == "src" and path.parts[1] != crate:
-                say(path, f"it imports scaffold of {crate}; that page belongs in its specs or in Seen")
+        for crate, folder, page in IMPORTED_PAGE.findall(path.read_text()):
+            if not folder and page not in internal_pages(crate):
+                continue
+            within = path.is_relative_to(Path("crates", crate, "specs")) and ("Internal" in path.parts or path.stem in internal_pages(crate))
+            if path.parts[2] == "specs" and not within or path.parts[2] == "src" and path.parts[1] != crate:
+                say(path, f"it imports {page}, which is internal to {crate}; that page belongs in its specs or in Views")
 
 
-def check_groups(lib):
-    """No page stands in `specs` itself under a comment that is a folder's."""
-    comment = ""
-    for number, line in enumerate(lib.read_text().splitlines(), 1):
+@cache
+def internal_pages(crate):
+    """The pages of a crate that stand in `specs` itself, and in its list under a comment that calls them internal."""
+    return {page for page, _ in listed_pages(Path("crates", crate, "specs/Lib.antt"))["Internal"]}
+
+
+def listed_pages(lib):
+    """The pages of a list that stand under the comment of a folder, with their lines, by the folder's name."""
+    comment, found = "", defaultdict(list)
+    for number, line in enumerate(lib.read_text().splitlines() if lib.is_file() else [], 1):
         if line.startswith("--"):
             comment = line
         folder = next((folder for folder, shape in GROUPS.items() if shape.match(comment)), None)
         if folder and line.startswith("pub mod "):
-            say(f"{lib}:{number}", f"move {line.split()[2]} to {lib.parent}/{folder}")
+            found[folder].append((line.split()[2], number))
+    return found
+
+
+def check_groups(lib):
+    """Pages of one kind have a folder, whose name says which; a single one stands in `specs` itself."""
+    for folder, pages in listed_pages(lib).items():
+        for page, number in pages if len(pages) > 1 else []:
+            say(f"{lib}:{number}", f"move {page} to {lib.parent}/{folder}")
+    for page in sorted(lib.parent.glob("*/*.antt")):
+        if len(list(page.parent.glob("*.antt"))) == 1:
+            say(page.parent, f"a folder of one page; move it to {lib.parent}")
 
 
 def check_clauses():

@@ -15,7 +15,7 @@ use Rattle.gypsy_semantics.specs.Calls.{CurrentCondition}
 use Rattle.gypsy_semantics.specs.Machine.{Item, Frame, At, Move, Next, Ended}
 use Rattle.gypsy_semantics.specs.Meaning.{Done}
 use Rattle.gypsy_codegen.specs.Moments.{moment_from}
-use Rattle.gypsy_semantics.specs.Seen.Moments.{NeverEnds}
+use Rattle.gypsy_semantics.specs.Views.Moments.{NeverEnds}
 use Rattle.stack_build.specs.Implements.{FitsFormals, Finishes, Implements, meaning_shown}
 use Rattle.stack_build.specs.Moments.{MemoryReads, KeepsMoments}
 use Rattle.stack_build.specs.StaysUnfinished.{StaysUnfinished}

@@ -1,6 +1,6 @@
 //! What the images of sources do on the board.
 #![tactic(auto)]
 
-mod law;
+mod laws;
 
-pub use law::{built_on_board, spelled_on_board};
+pub use laws::{built_on_board, spelled_on_board};

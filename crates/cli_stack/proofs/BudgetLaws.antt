@@ -22,8 +22,8 @@ use Rattle.piton_semantics.specs.declared.error_kind.ErrorKind.{ErrorKind}
 use Rattle.piton_semantics.specs.declared.stepped.PitonRun.{PitonRun}
 use Rattle.piton_semantics.specs.declared.stepped.PitonRun.TheVariants as piton_run
 use Rattle.piton_semantics.specs.Fits.{system_in}
-use Rattle.piton_semantics.specs.Seen.StateView as piton
-use Rattle.piton_semantics.specs.Seen.StateView.{state_run, seen_step}
+use Rattle.piton_semantics.specs.StateView as piton
+use Rattle.piton_semantics.specs.StateView.{state_run, seen_step}
 use Rattle.piton_semantics.specs.State as piton_state
 use Rattle.piton_semantics.proofs.SeenLaws.{stays}
 use Rattle.piton_syntax.specs.Systems.{SystemOf}
@@ -33,7 +33,7 @@ use Rattle.gypsy_semantics.specs.declared.answers.MeanRun.{MeanRun}
 use Rattle.gypsy_semantics.specs.declared.answers.MeanRun.TheVariants as mean_run
 use Rattle.gypsy_semantics.specs.declared.answers.Moved.{Moved}
 use Rattle.gypsy_semantics.specs.declared.answers.Moved.TheVariants as moved
-use Rattle.gypsy_semantics.specs.Seen.RunView.{Seen, Stage, Running, Finished, answer_from, answer_of, end_by, left_from, left_of, meaning_run, ran_on}
+use Rattle.gypsy_semantics.specs.Views.RunView.{Seen, Stage, Running, Finished, answer_from, answer_of, end_by, left_from, left_of, meaning_run, ran_on}
 use Rattle.stack_build.specs.Starts.{gypsy_start}
 use Rattle.stack_build.specs.declared.start_fault.StartFault.{StartFault}
 use Rattle.stack_build.specs.declared.fault.BuildFault.{BuildFault}

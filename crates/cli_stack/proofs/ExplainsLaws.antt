@@ -22,8 +22,8 @@ use Rattle.gypsy_space.specs.Needs.{StackSizes, stack_sizes}
 use Rattle.gypsy_space.specs.Costs.{Tally}
 use Rattle.gypsy_semantics.specs.Calls.{CurrentCondition}
 use Rattle.gypsy_semantics.specs.Machine.{State, Move, Next, Ended}
-use Rattle.gypsy_semantics.specs.Seen.Moments.{moment_from}
-use Rattle.gypsy_semantics.specs.Seen.RunView.{Seen, spent_at}
+use Rattle.gypsy_semantics.specs.Views.Moments.{moment_from}
+use Rattle.gypsy_semantics.specs.Views.RunView.{Seen, spent_at}
 use Rattle.stack_build.specs.Build.{BuiltOf, BuildsText, built, source_built, source_in}
 use Rattle.stack_build.specs.declared.fault.BuildFault.{BuildFault}
 use Rattle.stack_build.specs.Image.{places_fit}

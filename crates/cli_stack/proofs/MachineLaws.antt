@@ -21,8 +21,8 @@ use Rattle.piton_semantics.specs.Fits.{system_in}
 use Rattle.piton_semantics.specs.Placed.{placed}
 use Rattle.piton_semantics.specs.declared.stepped.PitonRun.{PitonRun}
 use Rattle.piton_semantics.specs.declared.stepped.PitonRun.TheVariants as piton_run
-use Rattle.piton_semantics.specs.Seen.StateView.{Ran, state_run, opening}
-use Rattle.piton_semantics.specs.Seen.StateView.{Seen as PitonSeen}
+use Rattle.piton_semantics.specs.StateView.{Ran, state_run, opening}
+use Rattle.piton_semantics.specs.StateView.{Seen as PitonSeen}
 use Rattle.gypsy_syntax.specs.Resolved.{procedure_names, program_of}
 use Rattle.gypsy_syntax.specs.Sources.{SourceOf}
 use Rattle.space_cert.specs.Certified.{certified}
@@ -31,7 +31,7 @@ use Rattle.space_cert.specs.Covers.{Bounds}
 use Rattle.gypsy_space.specs.Needs.{StackSizes as StackWords, stack_sizes}
 use Rattle.gypsy_semantics.specs.declared.answers.MeanRun.{MeanRun}
 use Rattle.gypsy_semantics.specs.declared.answers.MeanRun.TheVariants as mean_run
-use Rattle.gypsy_semantics.specs.Seen.RunView.{Seen as MeanSeen, Ran as MeanRan, meaning_run as mean_run_of}
+use Rattle.gypsy_semantics.specs.Views.RunView.{Seen as MeanSeen, Ran as MeanRan, meaning_run as mean_run_of}
 use Rattle.gypsy_gen.specs.Large.{large_of}
 use Rattle.debug_script.specs.declared.fault.ScriptFault.{ScriptFault}
 use Rattle.debug_script.specs.declared.reading.Line.{Line}

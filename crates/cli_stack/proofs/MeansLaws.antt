@@ -14,13 +14,13 @@ use Rattle.gypsy_semantics.specs.declared.answers.MeanRun.{MeanRun}
 use Rattle.gypsy_semantics.specs.declared.answers.MeanRun.TheVariants as run
 use Rattle.gypsy_semantics.specs.declared.answers.Moved.{Moved}
 use Rattle.gypsy_semantics.specs.declared.answers.Moved.TheVariants as moved
-use Rattle.gypsy_semantics.specs.Seen.RunAgrees.{MeansEnd, EndAgrees, RunAgrees}
+use Rattle.gypsy_semantics.specs.Views.RunAgrees.{MeansEnd, EndAgrees, RunAgrees}
 use Rattle.gypsy_semantics.specs.Room.{Suffices}
 use Rattle.gypsy_semantics.specs.Calls.{CurrentCondition}
 use Rattle.gypsy_semantics.specs.Counted.{instruction_count}
 use Rattle.gypsy_semantics.specs.Meaning.{Done as MeaningDone, meaning}
-use Rattle.gypsy_semantics.specs.Seen.RunView.{Seen, Ran, Stage, Running, Finished, IsOfRun, IsEnd, answer_from, answer_of, end_by, left_from, left_of, opening, ran_on, meaning_run, values_at}
-use Rattle.gypsy_semantics.specs.Seen.Shown.{condition_at, names_at}
+use Rattle.gypsy_semantics.specs.Views.RunView.{Seen, Ran, Stage, Running, Finished, IsOfRun, IsEnd, answer_from, answer_of, end_by, left_from, left_of, opening, ran_on, meaning_run, values_at}
+use Rattle.gypsy_semantics.specs.Views.Shown.{condition_at, names_at}
 use Rattle.gypsy_semantics.proofs.ReachLaws.{opening_reached, completes}
 use Rattle.gypsy_semantics.proofs.RunLaws.{run_agrees}
 use Rattle.gypsy_semantics.proofs.SeenLaws.{run_same}

@@ -17,7 +17,7 @@ use Rattle.command_line.proofs.GatherLaws.{rose_from}
 use Rattle.stack_commands.specs.Prepared.{stored_by}
 use Rattle.cli_stack.specs.Answer.{Answer, answer_to, answer_on, set_file}
 use Rattle.cli_stack.specs.World.{ShelfOf, shelf_of}
-use Rattle.cli_stack.specs.Scaffold.Driver.{HasReason, LeavesAs, Leaves}
+use Rattle.cli_stack.specs.Driver.{HasReason, LeavesAs, Leaves}
 
 -- the file that it writes is one of its files
 own : (command : Command) (output : Role × List ℕ) → output_of command ≡ Some output → Contains (file_names (Some command)) output.1

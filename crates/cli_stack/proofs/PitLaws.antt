@@ -19,7 +19,7 @@ use Rattle.piton_check.specs.Resolved.{resolved}
 use Rattle.piton_check.specs.Violations.{violations}
 use Rattle.piton_semantics.specs.Fits.{system_in}
 use Rattle.piton_semantics.specs.Placed.{placed}
-use Rattle.piton_semantics.specs.Seen.StateView.{started}
+use Rattle.piton_semantics.specs.StateView.{started}
 use Rattle.gypsy_syntax.specs.Resolved.{program_of}
 use Rattle.gypsy_syntax.specs.Sources.{SourceOf}
 use Rattle.gypsy_check.specs.Accepted.{IsAccepted}

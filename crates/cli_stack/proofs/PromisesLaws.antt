@@ -31,7 +31,7 @@ use Rattle.cli_stack.specs.Causes.{RoseAt}
 use Rattle.cli_stack.specs.Agrees.{HoldsMachine, Agrees}
 use Rattle.cli_stack.specs.Tells.{TellsMeanings}
 use Rattle.cli_stack.specs.RepliesTo.{Devices, IsReplyTo, Replies, TookLines}
-use Rattle.cli_stack.specs.Scaffold.Driver.{HasReason, LeavesAs, Leaves, machine_kept, conclusion_of, replied, Stopped, NotBegun, Concludes}
+use Rattle.cli_stack.specs.Driver.{HasReason, LeavesAs, Leaves, machine_kept, conclusion_of, replied, Stopped, NotBegun, Concludes}
 use Rattle.cli_stack.proofs.CompletesLaws.{completes}
 use Rattle.cli_stack.proofs.MachineLaws.{RepliesToSome, only_runs}
 use Rattle.cli_stack.proofs.SizeLaws.{has_sizes}

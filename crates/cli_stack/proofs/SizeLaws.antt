@@ -32,8 +32,8 @@ use Rattle.gypsy_check.specs.Rules.{violations as gypsy_violations}
 use Rattle.piton_semantics.specs.declared.stepped.PitonRun.{PitonRun}
 use Rattle.piton_semantics.specs.declared.stepped.PitonRun.TheVariants as piton_run
 use Rattle.piton_semantics.specs.Fits.{system_in}
-use Rattle.piton_semantics.specs.Seen.StateView.{Ran, state_run, opening}
-use Rattle.piton_semantics.specs.Seen.StateView.{Seen as PitonSeen}
+use Rattle.piton_semantics.specs.StateView.{Ran, state_run, opening}
+use Rattle.piton_semantics.specs.StateView.{Seen as PitonSeen}
 use Rattle.gypsy_space.specs.Needs.{StackSizes as StackWords, stack_sizes}
 use Rattle.level_debuggers.specs.Tallies.{Watching}
 use Rattle.stack_build.specs.Build.{source_in, reading_fault, accepted_unless, accepted_by}

@@ -11,8 +11,8 @@ use Rattle.gypsy_space.specs.Costs.{Tally}
 use Rattle.gypsy_space.specs.Needs.{StackSizes, stack_sizes}
 use Rattle.gypsy_semantics.specs.Calls.{CurrentCondition}
 use Rattle.gypsy_semantics.specs.Machine.{State, Next, Ended}
-use Rattle.gypsy_semantics.specs.Seen.Moments.{moment_from}
-use Rattle.gypsy_semantics.specs.Seen.RunView.{spent_at}
+use Rattle.gypsy_semantics.specs.Views.Moments.{moment_from}
+use Rattle.gypsy_semantics.specs.Views.RunView.{spent_at}
 use Rattle.stack_build.specs.Implements.{meaning_shown}
 use Rattle.debug_script.specs.declared.command.Place.{Place}
 use Rattle.debug_script.specs.declared.command.Place.TheVariants.{Number}

@@ -25,5 +25,5 @@ pub mod InARow
 pub mod Again
 pub mod OneResult
 pub mod PitAndPbuild
--- In a folder: scaffold.
-pub mod Scaffold
+-- Internal: what only private functions and lemmas say.
+pub mod Driver

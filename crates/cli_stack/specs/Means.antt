@@ -10,9 +10,9 @@ use Rattle.gypsy_semantics.specs.Room.{Suffices}
 use Rattle.gypsy_semantics.specs.Calls.{CurrentCondition}
 use Rattle.gypsy_semantics.specs.Counted.{instruction_count}
 use Rattle.gypsy_semantics.specs.Meaning.{Done as MeaningDone, meaning}
-use Rattle.gypsy_semantics.specs.Seen.RunView.{Stage, Finished, IsEnd, opening, meaning_run, values_at}
-use Rattle.gypsy_semantics.specs.Seen.Shown.{condition_at, names_at}
-use Rattle.piton_semantics.specs.Seen.StateView.{saturated}
+use Rattle.gypsy_semantics.specs.Views.RunView.{Stage, Finished, IsEnd, opening, meaning_run, values_at}
+use Rattle.gypsy_semantics.specs.Views.Shown.{condition_at, names_at}
+use Rattle.piton_semantics.specs.StateView.{saturated}
 use Rattle.stack_build.specs.Build.{source_in}
 use Rattle.stack_build.specs.Image.{formal_slots}
 use Rattle.command_line.specs.declared.command.Command.{Command}

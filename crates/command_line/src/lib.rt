@@ -5,7 +5,7 @@
 mod command;
 mod early_end;
 mod fetching;
-mod law;
+mod laws;
 mod printing;
 mod role;
 mod status;
@@ -16,7 +16,7 @@ mod words;
 pub use command::{Command, TaskFiles};
 pub use early_end::EarlyEnd;
 pub use fetching::gather;
-pub use law::texts_are_read;
+pub use laws::texts_are_read;
 pub use printing::print;
 pub use role::{Role, RoleFile};
 pub use status::{Status, exit_code};

@@ -1,7 +1,7 @@
 //! The command `mini`.
 ghost use Rattle.std.specs.Prelude.{◌≡◌, ◌≤◌, ◌^◌, Some, IfOk, length};
 ghost use Rattle.gypsy_syntax.specs.Printed.{gypsy_text};
-ghost use Rattle.gypsy_syntax.specs.Seen.SourceView.{source_of};
+ghost use Rattle.gypsy_syntax.specs.Views.SourceView.{source_of};
 ghost use Rattle.command_replies.specs.Commands.Mini.{mini_stored, mini_reply};
 ghost use Rattle.command_replies.specs.Replies.{written_reply};
 ghost use Rattle.command_replies.specs.Plans.{pending_reply};

@@ -25,7 +25,7 @@ use Rattle.piton_semantics.specs.Addresses.{Addresses, numbers, word_number}
 use Rattle.piton_semantics.specs.Fits.{system_in}
 use Rattle.piton_semantics.specs.Law.{Steps, advanced}
 use Rattle.piton_semantics.specs.Placed.{addresses_of, areas_start, ctrl_start, end_of, temp_start}
-use Rattle.piton_semantics.specs.Seen.StateView.{Seen, opening, started}
+use Rattle.piton_semantics.specs.StateView.{Seen, opening, started}
 use Rattle.piton_semantics.specs.State as piton
 use Rattle.piton_semantics.specs.State.{PitonState}
 use Rattle.gypsy_syntax.specs.declared.literal.Decl.{Decl}
@@ -49,7 +49,7 @@ use Rattle.gypsy_codegen.proofs.StackLaws.{values_words}
 use Rattle.stack_build.specs.Formals.{formal_conditions, formal_conditions_in, formals_in, shown_conditions, shown_formals}
 use Rattle.stack_build.specs.Image.{image_of, image_with, slots_from, source_tables}
 use Rattle.stack_build.specs.Implements.{meaning_shown, variable_shown, way_shown}
-use Rattle.stack_build.specs.Scaffold.Showing.{shapes_in}
+use Rattle.stack_build.specs.Internal.Showing.{shapes_in}
 use Rattle.stack_build.specs.Starts.{main_words}
 use Rattle.stack_build.proofs.Ending.{EndsWell, ends_well, way_read}
 use Rattle.stack_build.proofs.MainLaws.{main_is}

@@ -15,12 +15,12 @@ use Rattle.piton_check.specs.Instruction.{SystemView}
 use Rattle.piton_semantics.specs.declared.error_kind.ErrorKind.{ErrorKind}
 use Rattle.piton_semantics.specs.Fits.{system_in}
 use Rattle.piton_semantics.specs.Law.{Steps, advanced}
-use Rattle.piton_semantics.specs.Seen.StateView.{Seen, opening, seen_step, started}
+use Rattle.piton_semantics.specs.StateView.{Seen, opening, seen_step, started}
 use Rattle.piton_semantics.specs.State as piton
 use Rattle.gypsy_syntax.specs.Programs.{Program}
 use Rattle.gypsy_syntax.specs.Resolved.{program_of}
 use Rattle.gypsy_semantics.specs.Machine.{At, Move}
-use Rattle.gypsy_semantics.specs.Seen.RunView.{spent_at}
+use Rattle.gypsy_semantics.specs.Views.RunView.{spent_at}
 use Rattle.gypsy_codegen.specs.Acceptable.{GeneratedIsAcceptable}
 use Rattle.gypsy_codegen.specs.Generated.{generated_view}
 use Rattle.gypsy_codegen.specs.Moments.{ComesToMark, EachMomentIsReached, HasMoment}

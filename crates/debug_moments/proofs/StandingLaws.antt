@@ -22,7 +22,7 @@ use Rattle.gypsy_syntax.specs.Resolved.{program_of}
 use Rattle.gypsy_syntax.specs.Sources.{SourceOf}
 use Rattle.gypsy_space.specs.Needs.{StackSizes}
 use Rattle.gypsy_semantics.specs.Machine.{Frame, Item}
-use Rattle.gypsy_semantics.specs.Seen.RunView.{top_way}
+use Rattle.gypsy_semantics.specs.Views.RunView.{top_way}
 use Rattle.gypsy_semantics.proofs.EffectLaws.{value_fits}
 use Rattle.gypsy_predef.specs.Runs.{word_of_item, words_of_value}
 use Rattle.gypsy_codegen.specs.Generated.{offset, generated_view}

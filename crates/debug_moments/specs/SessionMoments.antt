@@ -7,7 +7,7 @@ use Rattle.display_maps.specs.ReadingAt.{reading_at_text}
 use Rattle.display_maps.specs.Report.{lines_of_reading}
 use Rattle.piton_check.specs.PitonChecking.{CheckedOf}
 use Rattle.piton_semantics.specs.Fits.{system_in}
-use Rattle.piton_semantics.specs.Seen.StateView.{opening}
+use Rattle.piton_semantics.specs.StateView.{opening}
 use Rattle.gypsy_syntax.specs.Resolved.{program_of}
 use Rattle.gypsy_syntax.specs.Sources.{SourceOf}
 use Rattle.gypsy_check.specs.Accepted.{IsAccepted}
@@ -15,7 +15,7 @@ use Rattle.gypsy_space.specs.Needs.{StackSizes}
 use Rattle.gypsy_space.specs.Costs.{Tally}
 use Rattle.gypsy_semantics.specs.Calls.{CurrentCondition}
 use Rattle.gypsy_semantics.specs.Machine.{State, At, Next, Ended}
-use Rattle.gypsy_semantics.specs.Seen.RunView.{spent_at}
+use Rattle.gypsy_semantics.specs.Views.RunView.{spent_at}
 use Rattle.gypsy_codegen.specs.Generated.{generated_view}
 use Rattle.gypsy_codegen.specs.Moments.{moment_from}
 use Rattle.gypsy_codegen.specs.Whole.{SizesFit}

@@ -1,6 +1,6 @@
 //! What a session of a source's run says at each moment of the source's step machine.
 #![tactic(auto)]
 
-mod law;
+mod laws;
 
-pub use law::moments_are_said;
+pub use laws::moments_are_said;

@@ -10,7 +10,7 @@ mod fault;
 mod instruction;
 mod judging;
 mod labels;
-mod law;
+mod laws;
 mod line;
 mod operand;
 mod printing;
@@ -20,5 +20,5 @@ mod value;
 
 pub use assembling::assemble;
 pub use fault::AsmFault;
-pub use law::{assembled_as_spelled, printed_again};
+pub use laws::{assembled_as_spelled, printed_again};
 pub use printing::{plain, print_asm};

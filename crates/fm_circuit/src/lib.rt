@@ -2,12 +2,12 @@
 #![tactic(auto)]
 
 mod circuit;
-mod law;
+mod laws;
 mod processor;
 mod rows;
 mod wire;
 
 pub use circuit::{Driver, Pin, pin_width};
-pub use law::{begins, ceases, ends, faults, fitting, runs, settles, sized, steps};
+pub use laws::{begins, ceases, ends, faults, fitting, runs, settles, sized, steps};
 pub use processor::driver;
 pub use wire::{Wire, width, wires};

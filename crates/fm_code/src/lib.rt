@@ -7,10 +7,10 @@
 //! Everything is said of numbers; how they stand for Piton's words is for the crates above.
 #![tactic(auto)]
 
-mod law;
+mod laws;
 /// The words of the instructions whose code has no literal, as arrays.
 pub mod template;
 /// Instruction words, each by the operation, the target and the source that one writes.
 pub mod word;
 
-pub use law::{jump_rows, move_rows, test_rows, word_rows};
+pub use laws::{jump_rows, move_rows, test_rows, word_rows};

@@ -1,6 +1,6 @@
 //! The circuit's words as gates, and the netlist of them.
 #![tactic(auto)]
 
-mod law;
+mod laws;
 
-pub use law::{goes_on, lowered, runs};
+pub use laws::{goes_on, lowered, runs};

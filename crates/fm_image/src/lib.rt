@@ -6,7 +6,7 @@
 mod code;
 mod fault;
 mod image;
-mod law;
+mod laws;
 mod limit;
 mod procedure;
 mod reading;
@@ -16,7 +16,7 @@ mod writing;
 
 pub use fault::ImageFault;
 pub use image::{Image, bare_image, in_version_2};
-pub use law::one_spelling;
+pub use laws::one_spelling;
 pub use limit::{MAGIC, MARKED_VERSION, UNMARKED_VERSION, is_size};
 pub use procedure::{Mark, ProcInfo, VarInfo};
 pub use reading::read_image;

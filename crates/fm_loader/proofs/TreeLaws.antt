@@ -4,7 +4,7 @@ use Rattle.std.proofs.lemmas.List.{drop_all, append-nil}
 use Rattle.stack_text.proofs.Loops.{drop-item}
 use Rattle.stack_text.proofs.ResultLoops.{with_front}
 use Rattle.stack_text.specs.Trees.{Node, more}
-use Rattle.stack_text.specs.Seen.TreeView.{node_of, nodes_of}
+use Rattle.stack_text.specs.Views.TreeView.{node_of, nodes_of}
 use Rattle.stack_text.specs.declared.tree.TextTree.{TextTree}
 use Rattle.fm_loader.specs.declared.parsed.Scalar.{Scalar}
 use Rattle.fm_loader.specs.declared.parsed.Entry.{Entry}

@@ -3,7 +3,7 @@
 ghost use Rattle.std.specs.Prelude.{◌≡◌, IsTrue, option_map};
 ghost use Rattle.stack_text.specs.Gives as memory;
 ghost use Rattle.stack_text.specs.Numerals.{is_numeral, numeral_value};
-ghost use Rattle.stack_text.specs.Seen.TreeView.{node_of, nodes_of};
+ghost use Rattle.stack_text.specs.Views.TreeView.{node_of, nodes_of};
 ghost use Rattle.fm_loader.specs.Rules.{GivesValuesUnless};
 ghost use Rattle.fm_loader.specs.Parsed.{in_32_bits, character_of, scalar_of, scalar_at, scalars_of, parsed_value, name_at, pair_of, entry_of};
 ghost use Rattle.fm_loader.specs.Values.{entries_of, entry_at};

@@ -1,7 +1,7 @@
 //! Reading the values of an image's variables.
 
 ghost use Rattle.std.specs.Prelude.{◌≤◌, ◌^◌, length, IfOk};
-ghost use Rattle.stack_text.specs.Seen.TreeView.{node_of};
+ghost use Rattle.stack_text.specs.Views.TreeView.{node_of};
 ghost use Rattle.fm_loader.specs.Rules.{GivesValuesUnless};
 ghost use Rattle.fm_loader.specs.Loaded.{Fits};
 ghost use Rattle.fm_loader.specs.Values.{values_at, values_in, HaveOwnNames};

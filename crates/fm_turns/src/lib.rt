@@ -8,7 +8,7 @@
 mod context;
 mod copying;
 mod fault;
-mod law;
+mod laws;
 mod round;
 mod starting;
 mod task;
@@ -16,6 +16,6 @@ mod turning;
 mod turns;
 
 pub use fault::TurnsFault;
-pub use law::{each_as_alone, each_ends_as_alone};
+pub use laws::{each_as_alone, each_ends_as_alone};
 pub use task::Task;
 pub use turns::Turns;

@@ -11,7 +11,7 @@ use Rattle.gypsy_syntax.specs.declared.literal.TypeText.{TypeText}
 use Rattle.gypsy_syntax.specs.declared.proc.Proc.{Proc}
 use Rattle.gypsy_syntax.specs.Resolved.{literal_kind, variable_types}
 use Rattle.gypsy_syntax.specs.Sources.{LocalOf}
-use Rattle.gypsy_syntax.specs.Seen.SourceView.{literal_of, local_of, proc_of, items_of_list}
+use Rattle.gypsy_syntax.specs.Views.SourceView.{literal_of, local_of, proc_of, items_of_list}
 use Rattle.gypsy_syntax.proofs.ViewLaws.{literal_of-list}
 use Rattle.gypsy_check.specs.Types.{is_of_kind, are_of_kind, item_number, suits, words_of_types}
 use Rattle.gypsy_check.specs.Rules.{type_breaches}

@@ -11,7 +11,7 @@ use Rattle.gypsy_syntax.specs.declared.literal.Decl.{Decl}
 use Rattle.gypsy_syntax.specs.declared.literal.Local.{Local}
 use Rattle.gypsy_syntax.specs.declared.proc.Proc.{Proc}
 use Rattle.gypsy_syntax.specs.Sources.{LocalOf, ProcOf}
-use Rattle.gypsy_syntax.specs.Seen.SourceView.{local_of, proc_of}
+use Rattle.gypsy_syntax.specs.Views.SourceView.{local_of, proc_of}
 use Rattle.gypsy_check.specs.Declarations.{type_at, type_of, is_condition}
 
 shift : (p l : ℕ) → cond (nat_lt (1 + p) (suc l)) (Some (1 + p)) None ≡ option_map suc (cond (nat_lt p l) (Some p) None)

@@ -19,7 +19,7 @@ use Rattle.gypsy_syntax.specs.declared.slot.Slot.{Slot}
 use Rattle.gypsy_syntax.specs.declared.statement.Arg.{Arg}
 use Rattle.gypsy_syntax.specs.declared.statement.Stmt.{Stmt}
 use Rattle.gypsy_syntax.specs.Sources.{arg_place, LocalOf, ProcOf, SourceOf}
-use Rattle.gypsy_syntax.specs.Seen.SourceView.{literal_of, local_of, proc_of, items_of_list, arg_of, stmt_of, parts_of_list}
+use Rattle.gypsy_syntax.specs.Views.SourceView.{literal_of, local_of, proc_of, items_of_list, arg_of, stmt_of, parts_of_list}
 use Rattle.gypsy_syntax.proofs.ViewLaws.{literal_of-list, stmt_of-seq}
 use Rattle.gypsy_check.specs.Declarations.{type_of}
 use Rattle.gypsy_check.specs.Types.{same_type}

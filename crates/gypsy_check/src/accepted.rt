@@ -2,7 +2,7 @@
 
 ghost use Rattle.std.specs.Prelude.{◌≡◌, IfErr, IfOk};
 ghost use Rattle.gypsy_syntax.specs.GypsyReading.{KeepsForm};
-ghost use Rattle.gypsy_syntax.specs.Seen.SourceView.{source_of};
+ghost use Rattle.gypsy_syntax.specs.Views.SourceView.{source_of};
 ghost use Rattle.gypsy_check.specs.Accepted.{IsAccepted};
 ghost use Rattle.gypsy_check.specs.GypsyChecking.{IsLeast};
 
@@ -22,7 +22,7 @@ pub struct Accepted {
 }
 
 impl Model for Accepted {
-    ghost use Rattle.gypsy_syntax.specs.Seen.SourceView.{source_of};
+    ghost use Rattle.gypsy_syntax.specs.Views.SourceView.{source_of};
     ghost use Rattle.gypsy_syntax.specs.declared.proc.Source.{Source};
     ghost use Rattle.gypsy_check.specs.Accepted.{IsAccepted};
     ghost use Rattle.gypsy_syntax.specs.contracts.literal.Literal as literal;

@@ -3,7 +3,7 @@
 ghost use Rattle.std.specs.Prelude.{◌≡◌, ℕ, List, [], map, is_some, IfOk, OnOk, option_map};
 ghost use Rattle.std.specs.Str.{bytes_eq};
 ghost use Rattle.stack_text.specs.Breaches.{when, Notes};
-ghost use Rattle.gypsy_syntax.specs.Seen.SourceView.{proc_of, source_of};
+ghost use Rattle.gypsy_syntax.specs.Views.SourceView.{proc_of, source_of};
 ghost use Rattle.gypsy_syntax.specs.Resolved.{procedure_named};
 ghost use Rattle.gypsy_check.specs.Declarations.{repeats};
 ghost use Rattle.gypsy_check.specs.Tables.{procedure_in, KnowsCallees, KnowsProcs};

@@ -4,7 +4,7 @@ ghost use Rattle.std.specs.Prelude.{◌≡◌, ◌+◌, ◌≤◌, ◌++◌, nat
 ghost use Rattle.std.specs.List.{flat_map};
 ghost use Rattle.stack_text.specs.Breaches.{Notes};
 ghost use Rattle.gypsy_syntax.specs.Resolved.{variable_types};
-ghost use Rattle.gypsy_syntax.specs.Seen.SourceView.{proc_of};
+ghost use Rattle.gypsy_syntax.specs.Views.SourceView.{proc_of};
 ghost use Rattle.gypsy_check.specs.Declarations.{conditions_of};
 ghost use Rattle.gypsy_check.specs.Rules.{condition_breaches, condition_name_breaches, size_breaches, type_breaches, variable_breaches};
 ghost use Rattle.gypsy_check.specs.Tables.{KnowsNames, KnowsTypes, declared};

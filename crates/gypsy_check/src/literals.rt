@@ -7,7 +7,7 @@ ghost use Rattle.stack_text.specs.Breaches.{Notes};
 ghost use Rattle.gypsy_syntax.specs.Ranges.{is_in_range};
 ghost use Rattle.gypsy_syntax.specs.Resolved.{literal_kind};
 ghost use Rattle.gypsy_syntax.specs.Sources.{literal_place};
-ghost use Rattle.gypsy_syntax.specs.Seen.SourceView.{literal_of};
+ghost use Rattle.gypsy_syntax.specs.Views.SourceView.{literal_of};
 ghost use Rattle.gypsy_check.specs.Rules.{literal_breaches};
 
 use gypsy_syntax::Literal;

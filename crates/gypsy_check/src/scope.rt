@@ -1,7 +1,7 @@
 //! The names that a procedure declares.
 
 ghost use Rattle.std.specs.Prelude.{◌≡◌, ◌++◌};
-ghost use Rattle.gypsy_syntax.specs.Seen.SourceView.{proc_of};
+ghost use Rattle.gypsy_syntax.specs.Views.SourceView.{proc_of};
 ghost use Rattle.gypsy_check.specs.Declarations.{is_condition, type_of};
 ghost use Rattle.gypsy_check.specs.Tables.{KnowsNames, KnowsTypes, declared};
 

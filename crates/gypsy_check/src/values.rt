@@ -5,7 +5,7 @@ ghost use Rattle.std.specs.List.{flat_map, list_all};
 ghost use Rattle.std.specs.Ordering.{int_eq};
 ghost use Rattle.stack_text.specs.Breaches.{Notes};
 ghost use Rattle.gypsy_syntax.specs.Resolved.{literal_kind};
-ghost use Rattle.gypsy_syntax.specs.Seen.SourceView.{literal_of, local_of};
+ghost use Rattle.gypsy_syntax.specs.Views.SourceView.{literal_of, local_of};
 ghost use Rattle.gypsy_check.specs.Rules.{local_breaches};
 ghost use Rattle.gypsy_check.specs.Types.{is_of_kind, suits};
 

@@ -3,7 +3,7 @@
 ghost use Rattle.std.specs.Prelude.{◌≡◌, length, map};
 ghost use Rattle.std.specs.List.{flat_map};
 ghost use Rattle.stack_text.specs.Breaches.{Notes};
-ghost use Rattle.gypsy_syntax.specs.Seen.SourceView.{proc_of};
+ghost use Rattle.gypsy_syntax.specs.Views.SourceView.{proc_of};
 ghost use Rattle.gypsy_check.specs.Rules.{actuals_breaches, test_breaches, undeclared};
 
 use crate::scope::Scope;

@@ -10,7 +10,7 @@ use Rattle.piton_syntax.specs.Systems.{SystemOf}
 use Rattle.piton_semantics.specs.State as state
 use Rattle.piton_semantics.specs.Placed.{program_size}
 use Rattle.piton_semantics.specs.Fits.{system_in}
-use Rattle.piton_semantics.specs.Seen.StateView.{started}
+use Rattle.piton_semantics.specs.StateView.{started}
 use Rattle.gypsy_syntax.specs.Programs.{Program}
 use Rattle.gypsy_syntax.specs.Resolved.{procedure_of, program_of}
 use Rattle.gypsy_syntax.specs.Sources.{SourceOf}
@@ -29,7 +29,7 @@ use Rattle.stack_text.specs.Results.{unless_fault}
 use Rattle.gypsy_codegen.specs.Generated.{count_from, generated_view}
 use Rattle.gypsy_codegen.specs.Sizes.{ProceduresTakeWords}
 use Rattle.gypsy_codegen.specs.Text.{generated}
-use Rattle.gypsy_codegen.specs.Scaffold.Views.{AreModest, words_together}
+use Rattle.gypsy_codegen.specs.Internal.Views.{AreModest, words_together}
 use Rattle.gypsy_codegen.specs.Whole.{RunsTo}
 use Rattle.gypsy_codegen.specs.Moments.{moment_from, HasMoment, EachMomentIsReached}
 use Rattle.gypsy_codegen.specs.WordsOf.{words_of_values}

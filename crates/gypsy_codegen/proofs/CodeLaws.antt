@@ -26,7 +26,7 @@ use Rattle.gypsy_codegen.specs.WordsOf.{words_of_values, local_shapes, starts}
 use Rattle.gypsy_codegen.specs.Guard.{guard_code}
 use Rattle.gypsy_codegen.specs.Generated.{push_words, push_indices, push_actuals}
 use Rattle.gypsy_codegen.specs.Lines.{unmarked, before_code, lines_of}
-use Rattle.gypsy_codegen.specs.Scaffold.Views.{nameless, half_guard, word_constant, local_constants, index_text}
+use Rattle.gypsy_codegen.specs.Internal.Views.{nameless, half_guard, word_constant, local_constants, index_text}
 use Rattle.gypsy_codegen.specs.Written.{Names, Line, Plain, Marked, written, written_word}
 
 pub plain_both : (n : Names) (a b : List Instruction) → map (written n) (unmarked (a ++ b)) ≡ map (written n) (unmarked a) ++ map (written n) (unmarked b)

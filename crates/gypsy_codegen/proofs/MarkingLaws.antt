@@ -9,7 +9,7 @@ use Rattle.gypsy_codegen.specs.declared.marking.MarkAt.{MarkAt}
 use Rattle.gypsy_codegen.specs.Acceptable.{total_words}
 use Rattle.gypsy_codegen.specs.Generated.{size, count_from}
 use Rattle.gypsy_codegen.specs.Marks.{procedure_marks, marks_of}
-use Rattle.gypsy_codegen.specs.Scaffold.Views.{NamesAreThere}
+use Rattle.gypsy_codegen.specs.Internal.Views.{NamesAreThere}
 use Rattle.gypsy_codegen.specs.WordsOf.{words_of_values}
 use Rattle.gypsy_codegen.proofs.CountLaws.{code_few}
 use Rattle.gypsy_codegen.proofs.FineLaws.{words_sized}

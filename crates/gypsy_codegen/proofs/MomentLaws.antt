@@ -27,7 +27,7 @@ use Rattle.gypsy_semantics.specs.Machine.{Item, Do, Back, JoinThen, JoinOne, Gua
 use Rattle.gypsy_semantics.specs.Machine.{opens, settle, open_on, stop_if, raise, either_move, apply_step, call_step, do_step}
 use Rattle.gypsy_semantics.specs.Machine.{gypsy_step, used, Ending, Over, Going, run, go_on, start}
 use Rattle.gypsy_semantics.specs.Kept.{FramesFit, StateFits, MoveFits}
-use Rattle.gypsy_semantics.specs.Seen.RunView.{spent_at, top_way}
+use Rattle.gypsy_semantics.specs.Views.RunView.{spent_at, top_way}
 use Rattle.gypsy_semantics.proofs.Keeping.{step_keeps, start_fits}
 use Rattle.gypsy_semantics.proofs.Runs.{agree}
 use Rattle.gypsy_semantics.proofs.LendingLaws.{actuals_length}

@@ -9,7 +9,7 @@ use Rattle.piton_words.specs.declared.word.Word.TheVariants.{Nat}
 use Rattle.piton_check.specs.Instruction.{SystemView, ProgramView}
 use Rattle.piton_semantics.specs.State as piton
 use Rattle.piton_semantics.specs.State.{PitonState, program_of, element}
-use Rattle.piton_semantics.specs.Seen.StateView.{opening}
+use Rattle.piton_semantics.specs.StateView.{opening}
 use Rattle.piton_semantics.proofs.RunLaws.{halts}
 use Rattle.piton_semantics.specs.Law.{Steps}
 use Rattle.gypsy_syntax.specs.Programs.{Program, proc_at, body_of, shapes_of}

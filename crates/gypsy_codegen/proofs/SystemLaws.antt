@@ -46,7 +46,7 @@ use Rattle.gypsy_predef.specs.Resolving.{BodiesFit, BodiesKeepRules, BodiesResol
 use Rattle.gypsy_codegen.specs.Generated.{generated_program, count_from, opening_words, generated_view}
 use Rattle.gypsy_codegen.specs.Written.{Names, written_word}
 use Rattle.gypsy_codegen.specs.Text.{program_texts, area_texts, frame_texts, names_with, written_procedure, written_procedures, written_area, generated}
-use Rattle.piton_semantics.specs.Seen.StateView.{started}
+use Rattle.piton_semantics.specs.StateView.{started}
 use Rattle.gypsy_semantics.specs.Calls.{main_start}
 use Rattle.gypsy_codegen.specs.WordsOf.{words_of_values}
 use Rattle.gypsy_codegen.specs.Whole.{RunsTo}

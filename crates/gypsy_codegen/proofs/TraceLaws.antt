@@ -15,7 +15,7 @@ use Rattle.gypsy_syntax.specs.ValuesFit.{VarsFit}
 use Rattle.gypsy_semantics.specs.Calls.{copied_out}
 use Rattle.gypsy_semantics.specs.Kept.{FramesFit}
 use Rattle.gypsy_semantics.specs.Machine.{Frame, Held, At, Move, Next, Ended, start, used}
-use Rattle.gypsy_semantics.specs.Seen.RunView.{handed_back}
+use Rattle.gypsy_semantics.specs.Views.RunView.{handed_back}
 use Rattle.gypsy_semantics.proofs.EffectLaws.{value_fits}
 use Rattle.gypsy_predef.specs.Runs.{Holds, words_of_value}
 use Rattle.gypsy_codegen.specs.Generated.{generated_view}

@@ -16,7 +16,7 @@ use Rattle.gypsy_syntax.specs.declared.slot.Slot.{Slot}
 use Rattle.gypsy_syntax.specs.Predefined.{predefs, predef_name, slots_of}
 use Rattle.gypsy_syntax.specs.Programs.{Proc as Main}
 use Rattle.gypsy_syntax.specs.declared.proc.Proc.{Proc}
-use Rattle.gypsy_syntax.specs.Seen.SourceView.{proc_of}
+use Rattle.gypsy_syntax.specs.Views.SourceView.{proc_of}
 use Rattle.stack_text.proofs.Loops.{drop-item}
 use Rattle.stack_text.specs.Grammar.Printed.{unplaced}
 use Rattle.stack_text.proofs.SharedLaws.{get_below}
@@ -31,7 +31,7 @@ use Rattle.gypsy_predef.specs.Texts.{body_texts, number}
 use Rattle.gypsy_codegen.specs.Acceptable.{total_words}
 use Rattle.gypsy_codegen.specs.Generated.{opening_words}
 use Rattle.gypsy_codegen.specs.Text.{procedure_with, procedures_with, program_texts, names_with, written_procedures, generated}
-use Rattle.gypsy_codegen.specs.Scaffold.Views.{HasWord, ArgHasWord, NamesAreThere, IsWritable, AreWritable, nameless, opening_text, area_text}
+use Rattle.gypsy_codegen.specs.Internal.Views.{HasWord, ArgHasWord, NamesAreThere, IsWritable, AreWritable, nameless, opening_text, area_text}
 use Rattle.gypsy_codegen.specs.WordsOf.{words_of_values, zero_value}
 use Rattle.gypsy_codegen.specs.Written.{written_word}
 use Rattle.gypsy_codegen.proofs.CallLaws.{values-split}

@@ -3,7 +3,7 @@ use Rattle.std.specs.Prelude.{◌≡◌, ◌<◌, get_or, ℕ, ◌+◌, ◌≤�
 use Rattle.fm_words.specs.WindowLimit.{most_window}
 use Rattle.stack_text.specs.SharedLimits.{most_stack}
 use Rattle.stack_text.specs.Values.{ValueOf}
-use Rattle.piton_semantics.specs.Seen.StateView.{started}
+use Rattle.piton_semantics.specs.StateView.{started}
 use Rattle.piton_syntax.specs.PitonReading.{KeepsForm}
 use Rattle.piton_check.specs.Violations.{violations}
 use Rattle.piton_check.specs.Resolved.{resolved}

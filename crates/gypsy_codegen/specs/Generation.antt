@@ -11,7 +11,7 @@ use Rattle.piton_check.specs.PitonChecking.{CheckedOf}
 use Rattle.piton_semantics.specs.State as state
 use Rattle.piton_semantics.specs.Placed.{program_size}
 use Rattle.piton_semantics.specs.Fits.{system_in}
-use Rattle.piton_semantics.specs.Seen.StateView.{started}
+use Rattle.piton_semantics.specs.StateView.{started}
 use Rattle.gypsy_syntax.specs.Sources.{SourceOf}
 use Rattle.gypsy_syntax.specs.Programs.{Program, proc_at}
 use Rattle.gypsy_syntax.specs.Resolved.{program_of}

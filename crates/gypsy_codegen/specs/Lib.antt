@@ -24,5 +24,5 @@ pub mod TextExamples
 pub mod MarkExamples
 -- What it returns.
 pub mod Generation
--- In folders: scaffold.
-pub mod Scaffold
+-- In folders: what is internal.
+pub mod Internal

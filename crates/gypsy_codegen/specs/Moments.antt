@@ -14,8 +14,8 @@ use Rattle.gypsy_syntax.specs.ValuesFit.{VarsFit}
 use Rattle.gypsy_space.specs.Costs.{Tally}
 use Rattle.gypsy_space.specs.Needs.{StackSizes, vars_of}
 use Rattle.gypsy_semantics.specs.Machine.{Item, Frame, Held, State, At, Move, Next, Ended, gypsy_step}
-pub use Rattle.gypsy_semantics.specs.Seen.Moments.{moment, moment_from, moved_on}
-use Rattle.gypsy_semantics.specs.Seen.RunView.{spent_at, top_way}
+pub use Rattle.gypsy_semantics.specs.Views.Moments.{moment, moment_from, moved_on}
+use Rattle.gypsy_semantics.specs.Views.RunView.{spent_at, top_way}
 use Rattle.gypsy_predef.specs.Runs.{Holds, words_of_value}
 use Rattle.gypsy_codegen.specs.WordsOf.{number_of_way}
 use Rattle.gypsy_codegen.specs.Generated.{offset, generated_view}

@@ -15,7 +15,7 @@ use Rattle.gypsy_syntax.specs.ValuesFit.{VarsFit}
 use Rattle.gypsy_space.specs.Costs.{Tally}
 use Rattle.gypsy_space.specs.Needs.{StackSizes, vars_of}
 use Rattle.gypsy_semantics.specs.Machine.{Frame, Held, Move, At, Next, Ended}
-use Rattle.gypsy_semantics.specs.Seen.RunView.{handed_back}
+use Rattle.gypsy_semantics.specs.Views.RunView.{handed_back}
 use Rattle.gypsy_predef.specs.Runs.{Holds, words_of_value}
 use Rattle.gypsy_codegen.specs.Generated.{offset, generated_view}
 use Rattle.gypsy_codegen.specs.Moments.{moment_from}

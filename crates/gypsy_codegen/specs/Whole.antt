@@ -9,7 +9,7 @@ use Rattle.piton_check.specs.Instruction.{SystemView}
 use Rattle.piton_semantics.specs.State as piton
 use Rattle.piton_semantics.specs.State.{PitonState}
 use Rattle.piton_semantics.specs.declared.stepped.PitonRun.TheVariants.{Halted}
-use Rattle.piton_semantics.specs.Seen.StateView.{started, opening, state_run}
+use Rattle.piton_semantics.specs.StateView.{started, opening, state_run}
 use Rattle.piton_semantics.specs.Law.{Steps, advanced}
 use Rattle.gypsy_syntax.specs.Programs.{ConditionOf, Program, proc_at, shapes_of, body_of}
 use Rattle.gypsy_syntax.specs.ProgramFits.{ProgramFits, Misses}

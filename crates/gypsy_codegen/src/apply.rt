@@ -8,7 +8,7 @@ ghost use Rattle.gypsy_syntax.specs.Predefined.{predef_number, can_fail};
 ghost use Rattle.gypsy_predef.specs.Calls.{test_code};
 ghost use Rattle.gypsy_codegen.specs.Generated.{arg_length, length_code, push_args};
 ghost use Rattle.gypsy_codegen.specs.Lines.{apply_code};
-ghost use Rattle.gypsy_codegen.specs.Scaffold.Views.{ArgHasWord, code_in, env, IsReady, program_in};
+ghost use Rattle.gypsy_codegen.specs.Internal.Views.{ArgHasWord, code_in, env, IsReady, program_in};
 
 use crate::calls::{call_program, push_local};
 use crate::context::{Context, Scopes, label_to, shape_at};

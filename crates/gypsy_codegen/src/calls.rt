@@ -11,8 +11,8 @@ ghost use Rattle.gypsy_predef.specs.Texts.{instruction};
 ghost use Rattle.gypsy_codegen.specs.Guard.{guard_code};
 ghost use Rattle.gypsy_codegen.specs.Generated.{offset, push_actuals};
 ghost use Rattle.gypsy_codegen.specs.Lines.{after_lines, before_code, label_to, marked_raises, raise_labels};
-ghost use Rattle.gypsy_codegen.specs.Scaffold.Views.{code_in, env, half_guard, HasWord, index_text, IsReady, local_constants, names_of};
-ghost use Rattle.gypsy_codegen.specs.Scaffold.Views.{program_in, raise_text, word_constant};
+ghost use Rattle.gypsy_codegen.specs.Internal.Views.{code_in, env, half_guard, HasWord, index_text, IsReady, local_constants, names_of};
+ghost use Rattle.gypsy_codegen.specs.Internal.Views.{program_in, raise_text, word_constant};
 ghost use Rattle.gypsy_codegen.specs.WordsOf.{local_shapes, number_of};
 ghost use Rattle.gypsy_codegen.specs.Written.{label_arg, written};
 

@@ -7,7 +7,7 @@ ghost use Rattle.gypsy_space.specs.Needs.{call_need};
 ghost use Rattle.gypsy_space.specs.Nodes.{seen_cond, seen_proc, seen_program};
 ghost use Rattle.gypsy_codegen.specs.Generated.{offset};
 ghost use Rattle.gypsy_codegen.specs.Lines.{label_to};
-ghost use Rattle.gypsy_codegen.specs.Scaffold.Views.{env, IsReady, program_in};
+ghost use Rattle.gypsy_codegen.specs.Internal.Views.{env, IsReady, program_in};
 ghost use Rattle.gypsy_codegen.specs.WordsOf.{number_of};
 
 use crate::handled::Handled;

@@ -6,17 +6,17 @@ ghost use Rattle.piton_check.specs.PitonChecking.{IsChecked};
 ghost use Rattle.piton_check.specs.Violations.{violations};
 ghost use Rattle.gypsy_syntax.specs.ProgramFits.{ProgramFits};
 ghost use Rattle.gypsy_syntax.specs.Resolved.{program_of};
-ghost use Rattle.gypsy_syntax.specs.Seen.SourceView.{source_of};
+ghost use Rattle.gypsy_syntax.specs.Views.SourceView.{source_of};
 ghost use Rattle.gypsy_check.specs.Accepted.{IsAccepted};
 ghost use Rattle.gypsy_space.specs.Events.{AreNeeds, AreSmall};
 ghost use Rattle.gypsy_space.specs.Needs.{stack_sizes};
 ghost use Rattle.gypsy_space.specs.Nodes.{seen_program};
 ghost use Rattle.gypsy_codegen.specs.Generation.{GivesGenerated, SystemImplements, TakesCodeWords};
 ghost use Rattle.gypsy_codegen.specs.Generation.{are_sizes, generation, size_fault};
-ghost use Rattle.gypsy_codegen.specs.Scaffold.Views.{AreModest, words_together};
+ghost use Rattle.gypsy_codegen.specs.Internal.Views.{AreModest, words_together};
 
 use crate::fault::GenFault;
-use crate::law::{
+use crate::laws::{
     generated_is_acceptable, moments_are_reached, procedures_take_words, source_runs,
 };
 use crate::system::system;

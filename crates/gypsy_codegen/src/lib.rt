@@ -10,7 +10,7 @@ mod context;
 mod fault;
 mod generating;
 mod handled;
-mod law;
+mod laws;
 mod lines;
 mod marking;
 mod procedure;
@@ -20,7 +20,7 @@ mod words;
 
 pub use fault::GenFault;
 pub use generating::{generate, generate_with};
-pub use law::{
+pub use laws::{
     examples_compute, generated_is_acceptable, guards_tell_room, meaning_runs, moments_are_marked,
     moments_are_reached, moments_have_frames, procedures_take_words, raise_follows, rows_follow,
     shown_states_read, source_runs, states_are_shown, steps_cost, steps_follow,

@@ -6,7 +6,7 @@ ghost use Rattle.piton_syntax.specs.declared.op.PitonOp.TheVariants as op;
 ghost use Rattle.piton_syntax.specs.declared.word_text.WordItem.TheVariants as item;
 ghost use Rattle.stack_text.specs.Grammar.Printed.{unplaced};
 ghost use Rattle.gypsy_predef.specs.Texts.{instruction, constant, of_name, condition_area, number};
-ghost use Rattle.gypsy_codegen.specs.Scaffold.Views.{labelled};
+ghost use Rattle.gypsy_codegen.specs.Internal.Views.{labelled};
 ghost use Rattle.gypsy_codegen.specs.Written.{label_name, label_arg, name_in};
 
 use gypsy_predef::instruction_text;

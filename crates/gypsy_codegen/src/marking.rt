@@ -3,16 +3,16 @@
 ghost use Rattle.std.specs.Prelude.{◌≡◌, ◌+◌, ◌^◌, ◌++◌, ◌∷◌, [], ◌<◌, ◌≤◌, length, OnOk, IfOk};
 ghost use Rattle.gypsy_syntax.specs.Programs.{body_of, proc_at};
 ghost use Rattle.gypsy_syntax.specs.Resolved.{program_of};
-ghost use Rattle.gypsy_syntax.specs.Seen.SourceView.{source_of};
+ghost use Rattle.gypsy_syntax.specs.Views.SourceView.{source_of};
 ghost use Rattle.gypsy_check.specs.Accepted.{IsAccepted};
 ghost use Rattle.gypsy_space.specs.Events.{AreNeeds};
 ghost use Rattle.gypsy_space.specs.Nodes.{seen_program, seen_statement, seen_statements};
 ghost use Rattle.gypsy_predef.specs.Bodies.{lengths_of};
 ghost use Rattle.gypsy_codegen.specs.Acceptable.{total_words};
 ghost use Rattle.gypsy_codegen.specs.Generated.{size, test_size};
-ghost use Rattle.gypsy_codegen.specs.Scaffold.Listing.{IsKnown, application_of, call_of, marked_program};
+ghost use Rattle.gypsy_codegen.specs.Internal.Listing.{IsKnown, application_of, call_of, marked_program};
 ghost use Rattle.gypsy_codegen.specs.Marks.{mark_at, marks_of, procedure_marks, statement_marks, tail_marks};
-ghost use Rattle.gypsy_codegen.specs.Scaffold.Views.{NamesAreThere};
+ghost use Rattle.gypsy_codegen.specs.Internal.Views.{NamesAreThere};
 ghost use Rattle.gypsy_codegen.specs.WordsOf.{words_of_values};
 
 use crate::apply::can_fail;

@@ -11,8 +11,8 @@ ghost use Rattle.gypsy_space.specs.Nodes.{seen_cond, seen_statement, seen_statem
 ghost use Rattle.gypsy_predef.specs.Texts.{instruction};
 ghost use Rattle.gypsy_codegen.specs.Generated.{InBegin, offset};
 ghost use Rattle.gypsy_codegen.specs.Lines.{labels, lines};
-ghost use Rattle.gypsy_codegen.specs.Scaffold.Views.{code_in, env, HasWord, IsReady, labelled, NamesAreThere, names_of};
-ghost use Rattle.gypsy_codegen.specs.Scaffold.Views.{normal_text, program_in, statement_text};
+ghost use Rattle.gypsy_codegen.specs.Internal.Views.{code_in, env, HasWord, IsReady, labelled, NamesAreThere, names_of};
+ghost use Rattle.gypsy_codegen.specs.Internal.Views.{normal_text, program_in, statement_text};
 ghost use Rattle.gypsy_codegen.specs.Written.{label_arg, Marked, written};
 
 use crate::apply::apply;

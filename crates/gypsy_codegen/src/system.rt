@@ -3,14 +3,14 @@
 ghost use Rattle.std.specs.Prelude.{◌≡◌, ◌^◌, ◌++◌, ◌≤◌, length, map, pos, OnOk, IfOk};
 ghost use Rattle.gypsy_check.specs.Accepted.{IsAccepted};
 ghost use Rattle.gypsy_syntax.specs.Resolved.{program_of};
-ghost use Rattle.gypsy_syntax.specs.Seen.SourceView.{proc_of, source_of};
+ghost use Rattle.gypsy_syntax.specs.Views.SourceView.{proc_of, source_of};
 ghost use Rattle.gypsy_space.specs.Events.{AreNeeds, AreSmall};
 ghost use Rattle.gypsy_space.specs.Needs.{stack_sizes};
 ghost use Rattle.gypsy_space.specs.Nodes.{seen_proc, seen_program};
 ghost use Rattle.gypsy_predef.specs.Texts.{body_texts, number};
 ghost use Rattle.gypsy_codegen.specs.Acceptable.{total_words};
 ghost use Rattle.gypsy_codegen.specs.Text.{generated, procedures_with, program_texts};
-ghost use Rattle.gypsy_codegen.specs.Scaffold.Views.{AreWritable, area_text, opening_text};
+ghost use Rattle.gypsy_codegen.specs.Internal.Views.{AreWritable, area_text, opening_text};
 
 use crate::context::{NORMAL, procedure_at};
 use crate::procedure::procedure;

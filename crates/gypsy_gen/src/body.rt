@@ -3,7 +3,7 @@
 ghost use Rattle.std.specs.Prelude.{◌≡◌, IfOk, map, [], ◌∷◌};
 ghost use Rattle.gypsy_syntax.specs.Made.{new_predef, new_seq};
 ghost use Rattle.gypsy_syntax.specs.Sources.{no_op};
-ghost use Rattle.gypsy_syntax.specs.Seen.SourceView.{arg_of, stmt_of};
+ghost use Rattle.gypsy_syntax.specs.Views.SourceView.{arg_of, stmt_of};
 ghost use Rattle.gypsy_gen.specs.Parts.{body_of, argument, body};
 
 use crate::parts::Variable;

@@ -5,6 +5,6 @@
 //! `gypsy_semantics`.
 #![tactic(auto)]
 
-mod law;
+mod laws;
 
-pub use law::{statements_follow_table, statements_keep_others, statements_take_counts};
+pub use laws::{statements_follow_table, statements_keep_others, statements_take_counts};

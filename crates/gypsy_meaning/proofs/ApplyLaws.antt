@@ -13,9 +13,9 @@ use Rattle.gypsy_space.specs.declared.event.Outcome.{Outcome}
 use Rattle.gypsy_space.specs.declared.event.Outcome.TheVariants as outcome
 use Rattle.gypsy_space.specs.declared.program.Application.{Application}
 use Rattle.gypsy_semantics.specs.Machine.{Item, Frame, At, Next, settle, raise, apply_step}
-use Rattle.gypsy_meaning.specs.Seen.Work.{work_of, caught_spend}
-use Rattle.gypsy_meaning.specs.Scaffold.Turns.{IsPlain, GoesOn, RaisesOn}
-use Rattle.gypsy_meaning.specs.Scaffold.PredefinedSteps.{call_item, WritesOn, IsApplied}
+use Rattle.gypsy_meaning.specs.Views.Work.{work_of, caught_spend}
+use Rattle.gypsy_meaning.specs.Internal.Turns.{IsPlain, GoesOn, RaisesOn}
+use Rattle.gypsy_meaning.specs.Internal.PredefinedSteps.{call_item, WritesOn, IsApplied}
 use Rattle.gypsy_meaning.specs.declared.applying.Applied.{Applied}
 use Rattle.gypsy_meaning.specs.declared.applying.Applied.TheVariants.{Writes, Fails}
 use Rattle.gypsy_meaning.specs.declared.turn.Advance.{Advance}
@@ -23,7 +23,7 @@ use Rattle.gypsy_syntax.specs.Effects.{value_at, no_value}
 use Rattle.gypsy_space.specs.declared.program.Argument.{Argument}
 use Rattle.gypsy_space.specs.Nodes.{seen_arg}
 use Rattle.gypsy_semantics.specs.Calls.{value_of, values_of, target_of}
-use Rattle.gypsy_meaning.specs.Scaffold.PredefinedEffects.{applied_effect}
+use Rattle.gypsy_meaning.specs.Internal.PredefinedEffects.{applied_effect}
 
 pub value_listed : (x : List ValueOf) (args : List Arg) (i : ℕ) → value_of x (get_or args i (Lit no_value)) ≡ value_at (values_of x args) i
 unfolding values_of

@@ -20,15 +20,15 @@ use Rattle.gypsy_space.specs.declared.need.Lack.TheVariants.{Nothing, Temporary,
 use Rattle.gypsy_space.specs.declared.need.Need.{Need}
 use Rattle.gypsy_space.specs.declared.program.CallSite.{CallSite}
 use Rattle.gypsy_space.proofs.EventLaws.{call_table, lack_same}
-use Rattle.gypsy_meaning.specs.Scaffold.Entering.{RaisesSpace, Waits, call_top, with_words}
+use Rattle.gypsy_meaning.specs.Internal.Entering.{RaisesSpace, Waits, call_top, with_words}
 use Rattle.gypsy_semantics.specs.Calls.{copied_in, copied_out}
-use Rattle.gypsy_meaning.specs.Seen.Held.{AreActivations, IsActivation, IsHeld, Moves}
+use Rattle.gypsy_meaning.specs.Views.Held.{AreActivations, IsActivation, IsHeld, Moves}
 use Rattle.gypsy_semantics.specs.Machine.{Item, At, call_step, gypsy_step, open_on, used}
 use Rattle.gypsy_semantics.specs.Machine as machine
-use Rattle.gypsy_meaning.specs.Seen.Named.{variables_of}
-use Rattle.gypsy_meaning.specs.Seen.Running.{Goes, frames_in, frames_of, kept_frames, sizes_of, state_of, paid}
-use Rattle.gypsy_semantics.specs.Seen.RunView.{added, handed_back}
-use Rattle.gypsy_meaning.specs.Seen.Work.{work_of}
+use Rattle.gypsy_meaning.specs.Views.Named.{variables_of}
+use Rattle.gypsy_meaning.specs.Views.Running.{Goes, frames_in, frames_of, kept_frames, sizes_of, state_of, paid}
+use Rattle.gypsy_semantics.specs.Views.RunView.{added, handed_back}
+use Rattle.gypsy_meaning.specs.Views.Work.{work_of}
 use Rattle.gypsy_meaning.specs.declared.names.Names.{Names}
 use Rattle.gypsy_meaning.specs.declared.running.Frame.{Frame}
 use Rattle.gypsy_meaning.specs.declared.running.Meaning.{Meaning}

@@ -12,13 +12,13 @@ use Rattle.gypsy_space.specs.declared.event.CostEvent.TheVariants as event
 use Rattle.gypsy_space.specs.declared.need.Need.{Need}
 use Rattle.gypsy_space.specs.declared.program.Condition.{Condition}
 use Rattle.gypsy_semantics.specs.Calls.{is_passed_on, main_formals, main_way}
-use Rattle.gypsy_meaning.specs.Scaffold.Finishing.{IsFinished, end_price}
-use Rattle.gypsy_meaning.specs.Seen.Held.{EndsRun, Keeps}
+use Rattle.gypsy_meaning.specs.Internal.Finishing.{IsFinished, end_price}
+use Rattle.gypsy_meaning.specs.Views.Held.{EndsRun, Keeps}
 use Rattle.gypsy_semantics.specs.Machine.{Item, Out, At, Ended, gypsy_step}
 use Rattle.gypsy_semantics.specs.Machine as machine
-use Rattle.gypsy_meaning.specs.Seen.Running.{frames_in, frames_of, sizes_of, state_of, way_of, paid}
-use Rattle.gypsy_semantics.specs.Seen.RunView.{added}
-use Rattle.gypsy_meaning.specs.Seen.Work.{work_of}
+use Rattle.gypsy_meaning.specs.Views.Running.{frames_in, frames_of, sizes_of, state_of, way_of, paid}
+use Rattle.gypsy_semantics.specs.Views.RunView.{added}
+use Rattle.gypsy_meaning.specs.Views.Work.{work_of}
 use Rattle.gypsy_meaning.specs.declared.running.Ending.{Ending}
 use Rattle.gypsy_meaning.specs.declared.running.Ending.TheVariants as ending
 use Rattle.gypsy_meaning.specs.declared.running.Meaning.{Meaning}

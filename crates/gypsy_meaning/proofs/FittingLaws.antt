@@ -14,7 +14,7 @@ use Rattle.gypsy_space.specs.Events.{AreNeeds, need_at, need_of}
 use Rattle.gypsy_space.specs.Needs.{StackSizes, main_need, main_used}
 use Rattle.gypsy_space.specs.declared.need.Need.{Need}
 use Rattle.gypsy_space.proofs.SmallLaws.{words_of-append}
-use Rattle.gypsy_semantics.specs.Seen.Fitting.{CanStart, are_as_many, are_values, can_start, is_value_of, same_shape, suffice}
+use Rattle.gypsy_semantics.specs.Views.Fitting.{CanStart, are_as_many, are_values, can_start, is_value_of, same_shape, suffice}
 
 shapes_same : (a b : Shape) → same_shape a b ≡ true → a ≡ b
 shapes_same a b e =

@@ -7,8 +7,8 @@ use Rattle.gypsy_syntax.specs.Programs.{Program, no_proc, proc_at}
 use Rattle.gypsy_syntax.specs.Resolved.{condition_names, local_value, procedure_of, program_of, shape_of, variable_names}
 use Rattle.gypsy_space.specs.Nodes.{seen_proc, seen_program}
 use Rattle.gypsy_space.specs.declared.program.Program.{Program as Code}
-use Rattle.gypsy_meaning.specs.Seen.Named.{NamesOf, conditions_of, proc_names, seen_names, shown_names, variables_of}
-use Rattle.gypsy_semantics.specs.Seen.Shown.{conditions_at, variables_at}
+use Rattle.gypsy_meaning.specs.Views.Named.{NamesOf, conditions_of, proc_names, seen_names, shown_names, variables_of}
+use Rattle.gypsy_semantics.specs.Views.Shown.{conditions_at, variables_at}
 use Rattle.gypsy_meaning.specs.declared.names.Names.{Names}
 
 module _ (s : SourceOf) (names : List Names) (same : map seen_names names ≡ map proc_names s.procs) where

@@ -10,7 +10,7 @@ use Rattle.gypsy_space.specs.declared.program.Node.{Node}
 use Rattle.gypsy_space.specs.Nodes.{seen_statement, seen_statements}
 use Rattle.gypsy_space.proofs.NodeLaws.{statements_at}
 use Rattle.gypsy_semantics.specs.Machine.{Item, Do, opens}
-use Rattle.gypsy_meaning.specs.Seen.Work.{item_of, left_by, work_of, work_on, OpensOn}
+use Rattle.gypsy_meaning.specs.Views.Work.{item_of, left_by, work_of, work_on, OpensOn}
 use Rattle.gypsy_meaning.specs.declared.work.Item.{Item as Kept}
 
 -- more items on top

@@ -15,15 +15,15 @@ use Rattle.gypsy_space.specs.Nodes.{seen_arg, seen_program}
 use Rattle.gypsy_space.specs.declared.need.Need.{Need}
 use Rattle.gypsy_space.specs.declared.program.Argument.{Argument}
 use Rattle.gypsy_space.specs.declared.program.CallSite.{CallSite}
-use Rattle.gypsy_meaning.specs.Scaffold.PredefinedEffects.{Suits}
-use Rattle.gypsy_meaning.specs.Scaffold.Entering.{AreLent, call_top}
+use Rattle.gypsy_meaning.specs.Internal.PredefinedEffects.{Suits}
+use Rattle.gypsy_meaning.specs.Internal.Entering.{AreLent, call_top}
 use Rattle.gypsy_semantics.specs.Calls.{values_of}
 use Rattle.gypsy_semantics.specs.Kept.{WorkFits}
 use Rattle.gypsy_semantics.specs.Machine.{Item}
-use Rattle.gypsy_meaning.specs.Seen.Named.{variables_of}
-use Rattle.gypsy_meaning.specs.Scaffold.Stepping.{IsReady}
-use Rattle.gypsy_meaning.specs.Scaffold.Within.{WorkSuits}
-use Rattle.gypsy_meaning.specs.Seen.Work.{work_of}
+use Rattle.gypsy_meaning.specs.Views.Named.{variables_of}
+use Rattle.gypsy_meaning.specs.Internal.Stepping.{IsReady}
+use Rattle.gypsy_meaning.specs.Internal.Within.{WorkSuits}
+use Rattle.gypsy_meaning.specs.Views.Work.{work_of}
 use Rattle.gypsy_meaning.specs.declared.running.Meaning.{Meaning}
 use Rattle.gypsy_meaning.proofs.ApplyLaws.{value_listed}
 use Rattle.gypsy_semantics.proofs.EffectLaws.{stored_item}

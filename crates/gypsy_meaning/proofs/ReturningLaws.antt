@@ -10,14 +10,14 @@ use Rattle.gypsy_space.specs.Events.{event_count}
 use Rattle.gypsy_space.specs.declared.event.CostEvent.TheVariants as event
 use Rattle.gypsy_space.specs.declared.need.Need.{Need}
 use Rattle.gypsy_semantics.specs.Calls.{copied_out, is_passed_on, matching}
-use Rattle.gypsy_meaning.specs.Seen.Held.{AreActivations, IsActivation, IsHeld, Keeps, Moves}
+use Rattle.gypsy_meaning.specs.Views.Held.{AreActivations, IsActivation, IsHeld, Keeps, Moves}
 use Rattle.gypsy_semantics.specs.Machine.{Item, Out, State, At, Next, gypsy_step, settle, raise, used}
 use Rattle.gypsy_semantics.specs.Machine as machine
-use Rattle.gypsy_meaning.specs.Seen.Named.{variables_of}
-use Rattle.gypsy_meaning.specs.Scaffold.Returning.{Resumes, out_price}
-use Rattle.gypsy_meaning.specs.Seen.Running.{frame_of, frames_in, frames_of, kept_frames, sizes_of, state_of, paid}
-use Rattle.gypsy_semantics.specs.Seen.RunView.{added, bare, handed_back}
-use Rattle.gypsy_meaning.specs.Seen.Work.{caught_spend, work_of}
+use Rattle.gypsy_meaning.specs.Views.Named.{variables_of}
+use Rattle.gypsy_meaning.specs.Internal.Returning.{Resumes, out_price}
+use Rattle.gypsy_meaning.specs.Views.Running.{frame_of, frames_in, frames_of, kept_frames, sizes_of, state_of, paid}
+use Rattle.gypsy_semantics.specs.Views.RunView.{added, bare, handed_back}
+use Rattle.gypsy_meaning.specs.Views.Work.{caught_spend, work_of}
 use Rattle.gypsy_meaning.specs.declared.names.Names.{Names}
 use Rattle.gypsy_meaning.specs.declared.running.Frame.{Frame}
 use Rattle.gypsy_meaning.specs.declared.running.Meaning.{Meaning}

@@ -11,12 +11,12 @@ use Rattle.gypsy_space.specs.declared.event.CostEvent.{CostEvent}
 use Rattle.gypsy_space.specs.declared.event.CostEvent.TheVariants as event
 use Rattle.gypsy_space.specs.declared.need.Need.{Need}
 use Rattle.gypsy_semantics.specs.Machine.{Item, Frame, At, Next, gypsy_step}
-use Rattle.gypsy_meaning.specs.Seen.Work.{work_of, caught_spend}
-use Rattle.gypsy_meaning.specs.Scaffold.Turns.{IsPlain, GoesOn, OpensTo}
-use Rattle.gypsy_meaning.specs.Scaffold.PredefinedSteps.{WritesOn}
-use Rattle.gypsy_semantics.specs.Seen.RunView.{added, bare, handed_back}
-use Rattle.gypsy_meaning.specs.Seen.Held.{Moves}
-use Rattle.gypsy_meaning.specs.Seen.Running.{price, advanced, Goes, frames_in, kept_frames, sizes_of, state_of, paid}
+use Rattle.gypsy_meaning.specs.Views.Work.{work_of, caught_spend}
+use Rattle.gypsy_meaning.specs.Internal.Turns.{IsPlain, GoesOn, OpensTo}
+use Rattle.gypsy_meaning.specs.Internal.PredefinedSteps.{WritesOn}
+use Rattle.gypsy_semantics.specs.Views.RunView.{added, bare, handed_back}
+use Rattle.gypsy_meaning.specs.Views.Held.{Moves}
+use Rattle.gypsy_meaning.specs.Views.Running.{price, advanced, Goes, frames_in, kept_frames, sizes_of, state_of, paid}
 use Rattle.gypsy_meaning.specs.declared.turn.Advance.{Advance}
 use Rattle.gypsy_meaning.specs.declared.running.Meaning.{Meaning}
 use Rattle.gypsy_meaning.specs.declared.work.Item.{Item as Kept}

@@ -10,13 +10,13 @@ use Rattle.gypsy_space.specs.Needs.{StackSizes, ctrl_need, main_used, with_call}
 use Rattle.gypsy_space.specs.Nodes.{seen_program, seen_statements}
 use Rattle.gypsy_space.specs.declared.need.Need.{Need}
 use Rattle.gypsy_space.specs.declared.program.Node.{Node}
-use Rattle.gypsy_meaning.specs.Seen.Belongs.{BelongsTo, IsKept}
+use Rattle.gypsy_meaning.specs.Views.Belongs.{BelongsTo, IsKept}
 use Rattle.gypsy_semantics.specs.Room.{HaveWords}
 use Rattle.gypsy_semantics.specs.Machine.{Frame, Held, statement_place, used}
-use Rattle.gypsy_meaning.specs.Seen.Named.{conditions_of, current_or, shown_names, variables_of}
-use Rattle.gypsy_meaning.specs.Seen.Running.{frame_of, frames_in, kept_frames, seen, sizes_of, stage_by}
-use Rattle.gypsy_semantics.specs.Seen.RunView.{depth_at, procedure_at, way_at}
-use Rattle.gypsy_semantics.specs.Seen.Shown.{condition_at, conditions_at, current_by, named_or, names_at}
+use Rattle.gypsy_meaning.specs.Views.Named.{conditions_of, current_or, shown_names, variables_of}
+use Rattle.gypsy_meaning.specs.Views.Running.{frame_of, frames_in, kept_frames, seen, sizes_of, stage_by}
+use Rattle.gypsy_semantics.specs.Views.RunView.{depth_at, procedure_at, way_at}
+use Rattle.gypsy_semantics.specs.Views.Shown.{condition_at, conditions_at, current_by, named_or, names_at}
 use Rattle.gypsy_semantics.specs.declared.conditions.Current.{Current}
 use Rattle.gypsy_semantics.specs.declared.conditions.Current.TheVariants as current
 use Rattle.gypsy_meaning.specs.declared.running.Ending.{Ending}

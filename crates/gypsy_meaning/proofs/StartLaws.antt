@@ -16,15 +16,15 @@ use Rattle.gypsy_space.specs.Needs.{main_used, stack_sizes}
 use Rattle.gypsy_space.specs.Nodes.{seen_program}
 use Rattle.gypsy_space.specs.declared.need.Need.{Need}
 use Rattle.gypsy_space.specs.declared.program.Program.{Program as Code}
-use Rattle.gypsy_meaning.specs.Seen.Belongs.{BelongsTo, IsKept}
+use Rattle.gypsy_meaning.specs.Views.Belongs.{BelongsTo, IsKept}
 use Rattle.gypsy_semantics.specs.Room.{Suffices}
 use Rattle.gypsy_semantics.specs.Calls.{main_start}
-use Rattle.gypsy_meaning.specs.Seen.Held.{AreActivations, IsHeld}
+use Rattle.gypsy_meaning.specs.Views.Held.{AreActivations, IsHeld}
 use Rattle.gypsy_semantics.specs.Machine.{At, Frame, Item, open_on, start, used}
-use Rattle.gypsy_meaning.specs.Seen.Named.{proc_names, seen_names, unnamed, variables_of}
-use Rattle.gypsy_meaning.specs.Seen.Running.{frames_in, frames_of, kept_frames, seen, sizes_of, stage_by}
-use Rattle.gypsy_semantics.specs.Seen.RunView.{Running, after, opening}
-use Rattle.gypsy_meaning.specs.Seen.Work.{work_of}
+use Rattle.gypsy_meaning.specs.Views.Named.{proc_names, seen_names, unnamed, variables_of}
+use Rattle.gypsy_meaning.specs.Views.Running.{frames_in, frames_of, kept_frames, seen, sizes_of, stage_by}
+use Rattle.gypsy_semantics.specs.Views.RunView.{Running, after, opening}
+use Rattle.gypsy_meaning.specs.Views.Work.{work_of}
 use Rattle.gypsy_meaning.specs.declared.names.Names.{Names}
 use Rattle.gypsy_meaning.specs.declared.running.Frame.{Frame as Waiting}
 use Rattle.gypsy_meaning.specs.declared.running.Meaning.{Meaning}

@@ -7,22 +7,22 @@ use Rattle.gypsy_syntax.specs.Programs.{Program, proc_at}
 use Rattle.gypsy_syntax.specs.Resolved.{program_of}
 use Rattle.gypsy_syntax.specs.ValuesFit.{VarsFit}
 use Rattle.gypsy_space.specs.Events.{AreNeeds}
-use Rattle.gypsy_meaning.specs.Seen.Belongs.{BelongsTo, IsKept, IsRunOf}
+use Rattle.gypsy_meaning.specs.Views.Belongs.{BelongsTo, IsKept, IsRunOf}
 use Rattle.gypsy_semantics.specs.Room.{Suffices}
-use Rattle.gypsy_semantics.specs.Seen.RunView.{StageFits}
+use Rattle.gypsy_semantics.specs.Views.RunView.{StageFits}
 use Rattle.gypsy_semantics.specs.Kept.{FramesFit, StateFits}
 use Rattle.gypsy_space.specs.Costs.{start_tally}
 use Rattle.gypsy_space.specs.Needs.{StackSizes, stack_sizes}
 use Rattle.gypsy_space.specs.Nodes.{seen_program}
 use Rattle.gypsy_space.specs.declared.need.Need.{Need}
-use Rattle.gypsy_meaning.specs.Scaffold.Entering.{IsUnchanged}
-use Rattle.gypsy_meaning.specs.Seen.Held.{AreActivations, EndsRun, IsActivation, Keeps, Moves}
+use Rattle.gypsy_meaning.specs.Internal.Entering.{IsUnchanged}
+use Rattle.gypsy_meaning.specs.Views.Held.{AreActivations, EndsRun, IsActivation, Keeps, Moves}
 use Rattle.gypsy_semantics.specs.Machine.{At, Ended, Move, Next, gypsy_step}
-use Rattle.gypsy_meaning.specs.Seen.Named.{seen_names, variables_of}
-use Rattle.gypsy_meaning.specs.Seen.Running.{Costs, frames_of, kept_frames, seen, sizes_of, stage_by, state_of, way_of}
-use Rattle.gypsy_semantics.specs.Seen.RunView.{Finished, Running, Seen, Stage, added, after, after_move, answer_by, answer_from, answer_of, bare, is_over, left_from, left_of, opening, spent_at}
-use Rattle.gypsy_meaning.specs.Scaffold.Stepping.{Does, IsReady}
-use Rattle.gypsy_meaning.specs.Seen.Work.{work_of}
+use Rattle.gypsy_meaning.specs.Views.Named.{seen_names, variables_of}
+use Rattle.gypsy_meaning.specs.Views.Running.{Costs, frames_of, kept_frames, seen, sizes_of, stage_by, state_of, way_of}
+use Rattle.gypsy_semantics.specs.Views.RunView.{Finished, Running, Seen, Stage, added, after, after_move, answer_by, answer_from, answer_of, bare, is_over, left_from, left_of, opening, spent_at}
+use Rattle.gypsy_meaning.specs.Internal.Stepping.{Does, IsReady}
+use Rattle.gypsy_meaning.specs.Views.Work.{work_of}
 use Rattle.gypsy_semantics.specs.declared.answers.Moved.{Moved}
 use Rattle.gypsy_semantics.specs.declared.answers.Moved.TheVariants as moved
 use Rattle.gypsy_meaning.specs.declared.running.Ending.{Ending}

@@ -7,7 +7,7 @@ use Rattle.gypsy_syntax.specs.Programs.{Stmt}
 use Rattle.gypsy_space.specs.declared.program.Node.{Node}
 use Rattle.gypsy_space.specs.Nodes.{seen_statements}
 use Rattle.gypsy_semantics.specs.Machine.{Item, Do, settle}
-use Rattle.gypsy_meaning.specs.Scaffold.Turns.{GoesOn, IsTurn, OpensTo}
+use Rattle.gypsy_meaning.specs.Internal.Turns.{GoesOn, IsTurn, OpensTo}
 use Rattle.gypsy_meaning.specs.declared.turn.Advance.{Advance}
 use Rattle.gypsy_meaning.specs.declared.turn.Turn.{Turn}
 use Rattle.gypsy_meaning.specs.declared.turn.Turn.TheVariants as turn

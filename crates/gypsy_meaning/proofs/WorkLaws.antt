@@ -5,7 +5,7 @@ use Rattle.gypsy_syntax.specs.Programs.{ConditionOf, Stmt}
 use Rattle.gypsy_space.specs.Costs.{Tally, spend}
 use Rattle.gypsy_semantics.specs.Calls.{has_cond, is_leave}
 use Rattle.gypsy_semantics.specs.Machine.{Item, Frame, Do, Back, JoinOne, Guard, At, opens, open_on, settle, raise, stop_if}
-use Rattle.gypsy_meaning.specs.Seen.Work.{item_of, left_by, work_of, work_on, OpensOn}
+use Rattle.gypsy_meaning.specs.Views.Work.{item_of, left_by, work_of, work_on, OpensOn}
 use Rattle.gypsy_meaning.specs.declared.work.Item.{Item as Kept}
 use Rattle.gypsy_meaning.specs.declared.work.Item.TheVariants as kept
 use Rattle.gypsy_space.specs.declared.program.Condition.{Condition}

@@ -1,3 +1,3 @@
--- In folders: how clauses see the code, scaffold.
-pub mod Seen
-pub mod Scaffold
+-- In folders: how clauses see the code, what is internal.
+pub mod Views
+pub mod Internal

@@ -3,11 +3,11 @@
 ghost use Rattle.std.specs.Prelude.{◌≡◌, ◌∷◌, List, IfErr, IfOk, map};
 ghost use Rattle.gypsy_space.specs.Nodes.{held_values, seen_arg};
 ghost use Rattle.gypsy_semantics.specs.Calls.{target_of};
-ghost use Rattle.gypsy_meaning.specs.Seen.Work.{work_of};
-ghost use Rattle.gypsy_meaning.specs.Scaffold.Turns.{RaisesOn};
+ghost use Rattle.gypsy_meaning.specs.Views.Work.{work_of};
+ghost use Rattle.gypsy_meaning.specs.Internal.Turns.{RaisesOn};
 ghost use Rattle.gypsy_semantics.specs.Machine.{Item};
-ghost use Rattle.gypsy_meaning.specs.Scaffold.PredefinedSteps.{IsApplied, call_item};
-ghost use Rattle.gypsy_meaning.specs.Scaffold.PredefinedEffects.{Suits};
+ghost use Rattle.gypsy_meaning.specs.Internal.PredefinedSteps.{IsApplied, call_item};
+ghost use Rattle.gypsy_meaning.specs.Internal.PredefinedEffects.{Suits};
 
 use crate::effects::{OwnedEffect, apply};
 use crate::pending::Work;

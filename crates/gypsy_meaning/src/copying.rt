@@ -3,7 +3,7 @@
 ghost use Rattle.std.specs.Prelude.{◌≡◌, ◌≤◌, ◌<◌, ◌+◌, ◌++◌, IfOk, OnOk, drop, length, map, slice_set};
 ghost use Rattle.gypsy_syntax.specs.Effects.{value_at};
 ghost use Rattle.gypsy_space.specs.Nodes.{held_names, held_values};
-ghost use Rattle.gypsy_meaning.specs.Scaffold.Entering.{AreLent};
+ghost use Rattle.gypsy_meaning.specs.Internal.Entering.{AreLent};
 ghost use Rattle.gypsy_semantics.specs.Calls.{copied_out};
 
 use crate::effects::simple_value;

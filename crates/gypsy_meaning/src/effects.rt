@@ -6,7 +6,7 @@ ghost use Rattle.gypsy_syntax.specs.Programs.{simple};
 ghost use Rattle.gypsy_syntax.specs.Effects as effect;
 ghost use Rattle.gypsy_syntax.specs.Effects.{item_of_value, is_true_value, value_at, number_effect, truth_value, indexed, stored, no_value};
 ghost use Rattle.gypsy_space.specs.Nodes.{held_values};
-ghost use Rattle.gypsy_meaning.specs.Scaffold.PredefinedEffects.{Suits, effect_of, argument_at, applied_effect};
+ghost use Rattle.gypsy_meaning.specs.Internal.PredefinedEffects.{Suits, effect_of, argument_at, applied_effect};
 
 use crate::turn::item_of;
 use gypsy_space::Argument;
@@ -216,7 +216,7 @@ fn store_in_array(
 }
 
 /// What a predefined call does.
-#[tactic(auto, unfolding(crate::specs::Scaffold::PredefinedEffects::applied_effect, gypsy_syntax::specs::Predefined::effect_by, crate::specs::Scaffold::PredefinedEffects::Suits))]
+#[tactic(auto, unfolding(crate::specs::Internal::PredefinedEffects::applied_effect, gypsy_syntax::specs::Predefined::effect_by, crate::specs::Internal::PredefinedEffects::Suits))]
 pub fn apply(
     alloc: Global,
     which: Predef,

@@ -5,10 +5,10 @@ ghost use Rattle.gypsy_syntax.specs.Programs.{proc_at};
 ghost use Rattle.gypsy_space.specs.Events.{AreSmall};
 ghost use Rattle.gypsy_space.specs.Nodes.{seen_cond, seen_program};
 ghost use Rattle.gypsy_semantics.specs.Calls.{main_way};
-ghost use Rattle.gypsy_meaning.specs.Scaffold.Finishing.{IsFinished, end_price};
-ghost use Rattle.gypsy_meaning.specs.Seen.Held.{EndsRun};
-ghost use Rattle.gypsy_meaning.specs.Scaffold.Turns.{Leaves};
-ghost use Rattle.gypsy_meaning.specs.Seen.Work.{work_of};
+ghost use Rattle.gypsy_meaning.specs.Internal.Finishing.{IsFinished, end_price};
+ghost use Rattle.gypsy_meaning.specs.Views.Held.{EndsRun};
+ghost use Rattle.gypsy_meaning.specs.Internal.Turns.{Leaves};
+ghost use Rattle.gypsy_meaning.specs.Views.Work.{work_of};
 
 use crate::running::{Ending, Meaning};
 use gypsy_semantics::is_passed_on;

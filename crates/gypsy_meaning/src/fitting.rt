@@ -7,7 +7,7 @@ ghost use Rattle.gypsy_syntax.specs.Ranges.{is_in_range};
 ghost use Rattle.gypsy_space.specs.Events.{AreNeeds, AreSmall};
 ghost use Rattle.gypsy_space.specs.Needs.{main_need, stack_sizes};
 ghost use Rattle.gypsy_space.specs.Nodes.{held_shapes, seen_program};
-ghost use Rattle.gypsy_semantics.specs.Seen.Fitting.{are_as_many, are_values, can_start, is_value_of, same_shape, suffice};
+ghost use Rattle.gypsy_semantics.specs.Views.Fitting.{are_as_many, are_values, can_start, is_value_of, same_shape, suffice};
 
 use gypsy_semantics::{control_need, main_formals, temporary_need};
 use gypsy_space::{Needs, Program};
@@ -46,7 +46,7 @@ fn same_shape(left: Shape, right: Shape) -> bool
 }
 
 /// Whether a value is one of the shape.
-#[tactic(auto, unfolding(gypsy_semantics::specs::Seen::Fitting::is_value_of))]
+#[tactic(auto, unfolding(gypsy_semantics::specs::Views::Fitting::is_value_of))]
 fn is_value_of(shape: Shape, value: &Value) -> bool
     ensures { result ≡ is_value_of shape value.now }
 {

@@ -3,8 +3,8 @@
 ghost use Rattle.std.specs.Prelude.{ℕ, List};
 ghost use Rattle.gypsy_syntax.specs.Sources.{SourceOf};
 ghost use Rattle.gypsy_space.specs.declared.need.Need.{Need};
-ghost use Rattle.gypsy_semantics.specs.Seen.RunView.{IsOfRun, Seen, left_of, meaning_run};
-ghost use Rattle.gypsy_meaning.specs.Seen.Belongs.{BelongsTo, IsRunOf};
+ghost use Rattle.gypsy_semantics.specs.Views.RunView.{IsOfRun, Seen, left_of, meaning_run};
+ghost use Rattle.gypsy_meaning.specs.Views.Belongs.{BelongsTo, IsRunOf};
 ghost use Rattle.gypsy_meaning.specs.declared.running.Meaning.{Meaning};
 
 /// No step and no run changes the program, the sizes or the values with which a run was started; and what belongs to a

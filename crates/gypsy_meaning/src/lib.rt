@@ -1,6 +1,6 @@
 //! Runs of programs of Micro-Gypsy: the step machine as code.
 //!
-//! What it follows is defined in `gypsy_semantics`; `specs/Seen` says how a run is seen, and what belongs together.
+//! What it follows is defined in `gypsy_semantics`; `specs/Views` says how a run is seen, and what belongs together.
 #![tactic(auto)]
 
 mod applying;

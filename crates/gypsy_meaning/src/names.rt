@@ -1,8 +1,8 @@
 //! The names that are shown.
 
 ghost use Rattle.std.specs.Prelude.{◌≡◌, ◌++◌, IfOk, OnOk, map};
-ghost use Rattle.gypsy_syntax.specs.Seen.SourceView.{local_of, proc_of, source_of};
-ghost use Rattle.gypsy_meaning.specs.Seen.Named.{proc_names, seen_names, shown_names, unnamed};
+ghost use Rattle.gypsy_syntax.specs.Views.SourceView.{local_of, proc_of, source_of};
+ghost use Rattle.gypsy_meaning.specs.Views.Named.{proc_names, seen_names, shown_names, unnamed};
 
 use gypsy_semantics::Current;
 use gypsy_syntax::{Decl, Local, Proc, Source};

@@ -6,8 +6,8 @@ ghost use Rattle.gypsy_space.specs.Costs.{Tally};
 ghost use Rattle.gypsy_space.specs.Nodes.{held_values, seen_cond, seen_statement};
 ghost use Rattle.gypsy_semantics.specs.Machine as machine;
 ghost use Rattle.gypsy_semantics.specs.Machine.{Frame, open_on, raise, settle};
-ghost use Rattle.gypsy_meaning.specs.Scaffold.Turns.{IsTurn, Stays};
-ghost use Rattle.gypsy_meaning.specs.Seen.Work.{caught_spend, item_of, work_of};
+ghost use Rattle.gypsy_meaning.specs.Internal.Turns.{IsTurn, Stays};
+ghost use Rattle.gypsy_meaning.specs.Views.Work.{caught_spend, item_of, work_of};
 
 use crate::turn::{Turn, next_turn};
 use crate::work::{Item, open, raise, settled};

@@ -3,12 +3,12 @@
 ghost use Rattle.std.specs.Prelude.{◌≡◌, IfOk, IfErr};
 ghost use Rattle.gypsy_space.specs.Events.{AreSmall};
 ghost use Rattle.gypsy_space.specs.Nodes.{held_values};
-ghost use Rattle.gypsy_meaning.specs.Seen.Held.{Moves};
-ghost use Rattle.gypsy_meaning.specs.Seen.Running.{paid, price};
-ghost use Rattle.gypsy_meaning.specs.Scaffold.Turns.{IsApplication};
-ghost use Rattle.gypsy_meaning.specs.Scaffold.Within.{IsWithin, WorkSuits};
-ghost use Rattle.gypsy_meaning.specs.Seen.Work.{work_of};
-ghost use Rattle.gypsy_meaning.specs.Scaffold.PredefinedEffects.{Suits};
+ghost use Rattle.gypsy_meaning.specs.Views.Held.{Moves};
+ghost use Rattle.gypsy_meaning.specs.Views.Running.{paid, price};
+ghost use Rattle.gypsy_meaning.specs.Internal.Turns.{IsApplication};
+ghost use Rattle.gypsy_meaning.specs.Internal.Within.{IsWithin, WorkSuits};
+ghost use Rattle.gypsy_meaning.specs.Views.Work.{work_of};
+ghost use Rattle.gypsy_meaning.specs.Internal.PredefinedEffects.{Suits};
 
 use crate::applying::{Applied, application};
 use crate::names::{Names, Unnamed};
@@ -95,7 +95,7 @@ pub struct Meaning {
 }
 
 /// What an event costs, and a condition's stop where there was one.
-#[tactic(auto, unfolding(crate::specs::Seen::Running::price))]
+#[tactic(auto, unfolding(crate::specs::Views::Running::price))]
 fn price(needs: &Needs, event: CostEvent, caught: bool) -> u64
     requires { AreSmall needs.now.procedures.items }
     ensures { result ≡ price needs.now.procedures.items event caught }

@@ -7,13 +7,13 @@ ghost use Rattle.gypsy_syntax.specs.Sources.{SourceOf};
 ghost use Rattle.gypsy_space.specs.Costs.{Tally};
 ghost use Rattle.gypsy_space.specs.Nodes.{held_names, held_values, seen_cond, seen_program, seen_statement};
 ghost use Rattle.gypsy_space.specs.declared.need.Need.{Need};
-ghost use Rattle.gypsy_meaning.specs.Seen.Belongs.{BelongsTo};
+ghost use Rattle.gypsy_meaning.specs.Views.Belongs.{BelongsTo};
 ghost use Rattle.gypsy_semantics.specs.Machine.{At, Frame, place_of, statement_place};
-ghost use Rattle.gypsy_meaning.specs.Seen.Named.{conditions_of, current_or};
-ghost use Rattle.gypsy_meaning.specs.Seen.Running.{seen};
-ghost use Rattle.gypsy_semantics.specs.Seen.RunView.{depth_at, is_over, place_at, procedure_at, top_way, values_at, way_at};
-ghost use Rattle.gypsy_semantics.specs.Seen.Shown.{condition_at, names_at};
-ghost use Rattle.gypsy_meaning.specs.Seen.Work.{work_of};
+ghost use Rattle.gypsy_meaning.specs.Views.Named.{conditions_of, current_or};
+ghost use Rattle.gypsy_meaning.specs.Views.Running.{seen};
+ghost use Rattle.gypsy_semantics.specs.Views.RunView.{depth_at, is_over, place_at, procedure_at, top_way, values_at, way_at};
+ghost use Rattle.gypsy_semantics.specs.Views.Shown.{condition_at, names_at};
+ghost use Rattle.gypsy_meaning.specs.Views.Work.{work_of};
 
 use crate::names::Names;
 use crate::pending::Work;
@@ -115,7 +115,7 @@ fn above(waiting: usize) -> u32
 
 impl Meaning {
     /// Whether the step that ends the run was made.
-    #[tactic(auto, unfolding(crate::specs::Seen::Running::seen))]
+    #[tactic(auto, unfolding(crate::specs::Views::Running::seen))]
     pub fn ended(&self) -> bool
         ensures { result ≡ is_over (seen self.now).stage }
     {
@@ -123,7 +123,7 @@ impl Meaning {
     }
 
     /// How many steps were made; it stays at 2^64 - 1.
-    #[tactic(auto, unfolding(crate::specs::Seen::Running::seen))]
+    #[tactic(auto, unfolding(crate::specs::Views::Running::seen))]
     pub fn steps(&self) -> u64
         ensures { result ≡ (seen self.now).steps }
     {
@@ -131,7 +131,7 @@ impl Meaning {
     }
 
     /// What they cost in instructions; it stays at 2^64 - 1.
-    #[tactic(auto, unfolding(crate::specs::Seen::Running::seen))]
+    #[tactic(auto, unfolding(crate::specs::Views::Running::seen))]
     pub fn counted(&self) -> u64
         ensures { result ≡ (seen self.now).counted }
     {
@@ -139,7 +139,7 @@ impl Meaning {
     }
 
     /// What the last step that was made cost in instructions, and 0 before the first.
-    #[tactic(auto, unfolding(crate::specs::Seen::Running::seen))]
+    #[tactic(auto, unfolding(crate::specs::Views::Running::seen))]
     pub fn cost(&self) -> u64
         ensures { result ≡ (seen self.now).cost }
     {
@@ -147,7 +147,7 @@ impl Meaning {
     }
 
     /// The procedure that is active, or main at the end.
-    #[tactic(auto, unfolding(crate::specs::Seen::Running::seen))]
+    #[tactic(auto, unfolding(crate::specs::Views::Running::seen))]
     fn active(&self) -> u32
         ensures { result ≡ procedure_at (seen self.now).program (seen self.now).stage }
     {
@@ -158,7 +158,7 @@ impl Meaning {
     }
 
     /// The condition of the run.
-    #[tactic(auto, unfolding(crate::specs::Seen::Running::seen))]
+    #[tactic(auto, unfolding(crate::specs::Views::Running::seen))]
     fn way(&self) -> Option<Condition>
         ensures { option_map seen_cond result ≡ way_at (seen self.now).stage }
     {
@@ -189,7 +189,7 @@ impl Meaning {
     }
 
     /// The byte place of what the next step does, or of main at the end.
-    #[tactic(auto, unfolding(crate::specs::Seen::Running::seen))]
+    #[tactic(auto, unfolding(crate::specs::Views::Running::seen))]
     pub fn place(&self) -> u32
         ensures { result ≡ place_at (seen self.now).program (seen self.now).stage }
     {
@@ -213,7 +213,7 @@ impl Meaning {
     }
 
     /// The variables of the active procedure, formals and then locals, or main's formals at the end.
-    #[tactic(auto, unfolding(crate::specs::Seen::Running::seen))]
+    #[tactic(auto, unfolding(crate::specs::Views::Running::seen))]
     pub fn variables(&self) -> &[(Name, Value)]
         ensures values { held_values result.now ≡ values_at (seen self.now).stage }
         ensures names { (s : SourceOf) (needs : List Need) → BelongsTo s needs self.now →

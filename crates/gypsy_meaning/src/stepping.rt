@@ -2,10 +2,10 @@
 
 ghost use Rattle.std.specs.Prelude.{◌≡◌, [], IfErr, IfOk};
 ghost use Rattle.gypsy_space.specs.Nodes.{seen_cond};
-ghost use Rattle.gypsy_meaning.specs.Scaffold.Entering.{IsUnchanged};
-ghost use Rattle.gypsy_meaning.specs.Scaffold.Turns.{IsCall, Leaves};
-ghost use Rattle.gypsy_meaning.specs.Scaffold.Stepping.{Does, IsReady};
-ghost use Rattle.gypsy_meaning.specs.Seen.Work.{work_of};
+ghost use Rattle.gypsy_meaning.specs.Internal.Entering.{IsUnchanged};
+ghost use Rattle.gypsy_meaning.specs.Internal.Turns.{IsCall, Leaves};
+ghost use Rattle.gypsy_meaning.specs.Internal.Stepping.{Does, IsReady};
+ghost use Rattle.gypsy_meaning.specs.Views.Work.{work_of};
 
 use crate::running::{Crossing, Meaning};
 use gypsy_semantics::Moved;

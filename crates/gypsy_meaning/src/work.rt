@@ -6,7 +6,7 @@ ghost use Rattle.gypsy_space.specs.Costs.{Tally};
 ghost use Rattle.gypsy_semantics.specs.Machine as machine;
 ghost use Rattle.gypsy_semantics.specs.Machine.{open_on, settle, raise, Frame};
 ghost use Rattle.gypsy_space.specs.Nodes.{seen_cond, seen_statement, seen_statements};
-ghost use Rattle.gypsy_meaning.specs.Seen.Work.{item_of, left_by, work_of, work_on, caught_spend, OpensOn};
+ghost use Rattle.gypsy_meaning.specs.Views.Work.{item_of, left_by, work_of, work_on, caught_spend, OpensOn};
 
 use gypsy_semantics::{is_among, is_leave};
 use gypsy_space::{Condition, Node};

@@ -21,7 +21,7 @@ use Rattle.gypsy_semantics.specs.Kept.{FramesFit}
 use Rattle.gypsy_semantics.specs.Machine.{Item, Do, Back, JoinThen, JoinOne, Guard, Out, Frame, Held, State, At, Move, Next, Ended, Ending, go_on}
 use Rattle.gypsy_semantics.specs.Machine.{open_on, settle, stop_if, raise, either_move, apply_step, used, call_step, do_step, end_step, out_step, gypsy_step, run}
 use Rattle.gypsy_semantics.specs.Room.{HasWords, HaveWords}
-use Rattle.gypsy_semantics.specs.Seen.RunView.{handed_back, lending, lending_move}
+use Rattle.gypsy_semantics.specs.Views.RunView.{handed_back, lending, lending_move}
 use Rattle.gypsy_semantics.proofs.Keeping.{copies_back}
 
 -- Writes.

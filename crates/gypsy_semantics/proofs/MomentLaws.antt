@@ -5,8 +5,8 @@ use Rattle.gypsy_syntax.specs.Programs.{Program}
 use Rattle.gypsy_space.specs.Costs.{Tally, start_tally}
 use Rattle.gypsy_space.specs.Needs.{StackSizes}
 use Rattle.gypsy_semantics.specs.Machine.{At, Ended, Frame, Item, Move, Next, State, gypsy_step}
-use Rattle.gypsy_semantics.specs.Seen.Moments.{IsMoment, moment, moment_from, moved_on, shown_stage, spent_by}
-use Rattle.gypsy_semantics.specs.Seen.RunView.{Running, Seen, Shows, Stage, added, after, after_move, left_from, left_of, lending, lending_move, opening}
+use Rattle.gypsy_semantics.specs.Views.Moments.{IsMoment, moment, moment_from, moved_on, shown_stage, spent_by}
+use Rattle.gypsy_semantics.specs.Views.RunView.{Running, Seen, Shows, Stage, added, after, after_move, left_from, left_of, lending, lending_move, opening}
 use Rattle.gypsy_semantics.proofs.ApartLaws.{add_to, plus-nothing, step_apart}
 use Rattle.gypsy_semantics.proofs.LendingLaws.{back_again, step_lent}
 use Rattle.gypsy_semantics.proofs.SeenLaws.{after_last, after_same}

@@ -9,8 +9,8 @@ use Rattle.gypsy_semantics.specs.Calls.{CurrentCondition}
 use Rattle.gypsy_semantics.specs.Meaning.{Done, meaning}
 use Rattle.gypsy_semantics.specs.Counted.{CountedDone, CountedOutcome, CountedUnfinished, counted_meaning, tally_of, uncounted}
 use Rattle.gypsy_semantics.specs.Machine.{At, Ended, Frame, Going, Item, Move, Next, Over, State, go_on, gypsy_step, run, start}
-use Rattle.gypsy_semantics.specs.Seen.RunView.{Finished, IsEnd, Running, Seen, Shows, Stage, added, after, after_move, answer_by, answer_from, answer_of, bare, end_by, handed_back, left_from, left_of, opening, ran_on, meaning_run}
-use Rattle.gypsy_semantics.specs.Seen.RunAgrees.{MeansEnd}
+use Rattle.gypsy_semantics.specs.Views.RunView.{Finished, IsEnd, Running, Seen, Shows, Stage, added, after, after_move, answer_by, answer_from, answer_of, bare, end_by, handed_back, left_from, left_of, opening, ran_on, meaning_run}
+use Rattle.gypsy_semantics.specs.Views.RunAgrees.{MeansEnd}
 use Rattle.gypsy_semantics.proofs.ApartLaws.{add, add_to, plus, plus-nothing, step_apart}
 use Rattle.gypsy_semantics.proofs.CountLaws.{meaning-uncounted}
 use Rattle.gypsy_semantics.proofs.LendingLaws.{run_lent}

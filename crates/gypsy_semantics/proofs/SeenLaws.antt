@@ -5,11 +5,11 @@ use Rattle.gypsy_syntax.specs.ProgramFits.{ProgramFits}
 use Rattle.gypsy_syntax.specs.Programs.{Program, proc_at}
 use Rattle.gypsy_syntax.specs.ValuesFit.{VarsFit}
 use Rattle.gypsy_space.specs.Needs.{StackSizes, main_need}
-use Rattle.gypsy_semantics.specs.Seen.RunView.{StageFits}
+use Rattle.gypsy_semantics.specs.Views.RunView.{StageFits}
 use Rattle.gypsy_semantics.specs.Kept.{MoveFits}
 use Rattle.gypsy_semantics.specs.Room.{MoveRoom, StateRoom}
 use Rattle.gypsy_semantics.specs.Machine.{At, Ended, Move, Next, gypsy_step}
-use Rattle.gypsy_semantics.specs.Seen.RunView.{Finished, IsOfRun, Running, Seen, Stage, after, after_move, answer_of, left_from, left_of, opening, ran_on, meaning_run}
+use Rattle.gypsy_semantics.specs.Views.RunView.{Finished, IsOfRun, Running, Seen, Stage, after, after_move, answer_of, left_from, left_of, opening, ran_on, meaning_run}
 use Rattle.gypsy_semantics.specs.declared.answers.Moved.{Moved}
 use Rattle.gypsy_semantics.specs.declared.answers.Moved.TheVariants as moved
 use Rattle.gypsy_semantics.proofs.Keeping.{start_fits, step_keeps}

@@ -7,4 +7,4 @@ pub mod Agree
 pub mod Kept
 pub mod Room
 -- In a folder: how clauses see a run.
-pub mod Seen
+pub mod Views

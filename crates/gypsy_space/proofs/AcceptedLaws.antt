@@ -27,7 +27,7 @@ use Rattle.gypsy_syntax.specs.ValuesFit.{ValueFits}
 use Rattle.gypsy_syntax.specs.Resolved.{argument_of, condition_names, item_of, items_of_all, local_value, place_among, position_of, procedure_of, program_of, statement_of, statement_of_all, value_items, variable_names, variable_types}
 use Rattle.gypsy_syntax.specs.Sources.{LiteralOf, integer, truth, character, array, ArgOf, variable, constant, LocalOf, ProcOf, SourceOf}
 use Rattle.gypsy_syntax.specs.Sources.{StmtOf, StmtsOf, no_op, signal, seq, loop, branch, begin, call, predef, no_parts, part}
-use Rattle.gypsy_syntax.specs.Seen.SourceView.{items_of_list, literal_of, parts_of_list, stmt_of}
+use Rattle.gypsy_syntax.specs.Views.SourceView.{items_of_list, literal_of, parts_of_list, stmt_of}
 use Rattle.gypsy_syntax.proofs.FitsLaws.{keeps_fits}
 use Rattle.gypsy_syntax.proofs.RangeLaws.{range_item}
 use Rattle.gypsy_check.specs.Accepted.{IsAccepted}

@@ -9,7 +9,7 @@ use Rattle.gypsy_syntax.specs.declared.literal.Decl.{Decl}
 use Rattle.gypsy_syntax.specs.declared.literal.Local.{Local}
 use Rattle.gypsy_syntax.specs.declared.proc.Proc.{Proc}
 use Rattle.gypsy_syntax.specs.Resolved.{condition_names, place_among, position_of, variable_names}
-use Rattle.gypsy_syntax.specs.Seen.SourceView.{local_of, proc_of}
+use Rattle.gypsy_syntax.specs.Views.SourceView.{local_of, proc_of}
 use Rattle.gypsy_syntax.specs.Sources.{LocalOf}
 use Rattle.gypsy_check.proofs.LookupLaws.{place_cons, place_nil}
 

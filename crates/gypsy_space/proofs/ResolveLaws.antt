@@ -7,7 +7,7 @@ use Rattle.stack_text.proofs.Loops.{drop-item}
 use Rattle.gypsy_syntax.specs.declared.statement.Stmt.{Stmt as Text}
 use Rattle.gypsy_syntax.specs.Programs.{Stmt, Skip, Seq}
 use Rattle.gypsy_syntax.specs.Resolved.{statement_of, statement_of_all}
-use Rattle.gypsy_syntax.specs.Seen.SourceView.{parts_of_list, stmt_of}
+use Rattle.gypsy_syntax.specs.Views.SourceView.{parts_of_list, stmt_of}
 use Rattle.gypsy_syntax.specs.Sources.{ProcOf, SourceOf}
 use Rattle.gypsy_space.specs.declared.program.Node.{Node}
 use Rattle.gypsy_space.specs.Nodes.{seen_statement, seen_statements}

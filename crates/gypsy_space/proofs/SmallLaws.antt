@@ -5,7 +5,7 @@ use Rattle.std.proofs.lemmas.List.{length-map}
 use Rattle.stack_text.specs.declared.name.Named.{Named}
 use Rattle.stack_text.specs.declared.shape.Shape.{Shape}
 use Rattle.stack_text.specs.Trees.{node_count, node_counts}
-use Rattle.stack_text.specs.Seen.TreeView.{nodes}
+use Rattle.stack_text.specs.Views.TreeView.{nodes}
 use Rattle.stack_text.specs.Values.{item_count}
 use Rattle.stack_text.specs.Grammar.Printed.{name_tree}
 use Rattle.gypsy_syntax.specs.GypsyReading.{KeepsForm}

@@ -2,10 +2,10 @@
 pub mod Costs
 pub mod Needs
 pub mod Events
+pub mod Callees
 -- How clauses see resolved programs.
 pub mod Nodes
--- Scaffold: what only private functions and lemmas say.
+-- Internal: what only private functions and lemmas say.
 pub mod StatementNeeds
 pub mod CallSites
-pub mod Callees
 pub mod Resolvable

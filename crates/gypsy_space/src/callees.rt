@@ -3,7 +3,7 @@
 ghost use Rattle.std.specs.Prelude.{◌≡◌, ◌≤◌, IfOk, length};
 ghost use Rattle.gypsy_syntax.specs.Fits.{FitsForm};
 ghost use Rattle.gypsy_syntax.specs.Resolved.{position_of, procedure_names};
-ghost use Rattle.gypsy_syntax.specs.Seen.SourceView.{source_of};
+ghost use Rattle.gypsy_syntax.specs.Views.SourceView.{source_of};
 ghost use Rattle.gypsy_space.specs.Callees.{KnowsCallees, KnowsPositions, names_of};
 
 use gypsy_syntax::{Proc, Source};

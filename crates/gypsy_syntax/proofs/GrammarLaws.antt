@@ -4,7 +4,7 @@ use Rattle.std.proofs.Math.Dec.{eqb}
 use Rattle.std.proofs.lemmas.Bool.{ne_eqb, le-leb, lt-leb}
 use Rattle.std.specs.Prelude.{codes, false, nat_le, true}
 use Rattle.stack_text.specs.Trees.{Nodes, list, none, more}
-use Rattle.stack_text.specs.Seen.TreeView.{node_of, nodes_of}
+use Rattle.stack_text.specs.Views.TreeView.{node_of, nodes_of}
 use Rattle.stack_text.specs.declared.tree.TextTree.{TextTree, Atom}
 use Rattle.stack_text.proofs.TreeViewLaws.{node_of-atom}
 use Rattle.stack_text.specs.Grammar.Judged.{◌⊛◌, each_of, fault, front, judged}
@@ -22,7 +22,7 @@ use Rattle.gypsy_syntax.specs.declared.statement.Stmt.{Stmt}
 use Rattle.gypsy_syntax.specs.declared.statement.Stmt.TheVariants.{Seq as MadeSeq}
 use Rattle.gypsy_syntax.specs.Grammar.{form_in, is_empty_list, is_word, literal_in, named_in, procedure_in, simple_in, source_in, statement_in, statements_in}
 use Rattle.gypsy_syntax.specs.Made.{new_seq, new_source}
-use Rattle.gypsy_syntax.specs.Seen.SourceView.{literal_of, stmt_of}
+use Rattle.gypsy_syntax.specs.Views.SourceView.{literal_of, stmt_of}
 use Rattle.gypsy_syntax.proofs.ViewLaws.{list_is_new, seq_is_new}
 
 pub no_items : (place n : ℕ) (ts : List TextTree) → n ≡ length ts → eqb n 0 ≡ is_empty_list (list place (nodes_of ts))

@@ -13,7 +13,7 @@ use Rattle.stack_text.specs.declared.shape.Kind.TheVariants.{Integer, Boolean, C
 use Rattle.stack_text.specs.Names.{is_name, is_truth_word}
 use Rattle.stack_text.specs.Numerals.{is_digits, is_numeral, numeral_value, fits_128_bits, IsNumber}
 use Rattle.stack_text.specs.Trees.{Node, Nodes, atom, list, none, more, place_of, IsWellFormed}
-use Rattle.stack_text.specs.Seen.TreeView.{nodes}
+use Rattle.stack_text.specs.Views.TreeView.{nodes}
 use Rattle.std.proofs.lemmas.Bool.{and_parts}
 use Rattle.stack_text.proofs.NumeralLaws.{digit_in_range}
 use Rattle.stack_text.proofs.AtomLaws.{name_is_run, numeral_is_run}

@@ -5,7 +5,7 @@ use Rattle.std.specs.Prelude.{ℤ, ◌&&◌}
 use Rattle.std.proofs.lemmas.Bool.{le-leb}
 use Rattle.stack_text.specs.declared.name.Named.{Named}
 use Rattle.stack_text.specs.Trees.{Node, Nodes, list, none, more, depth, depths, node_count, AtomsAreRuns, AllAtomsAreRuns}
-use Rattle.stack_text.specs.Seen.TreeView.{nodes}
+use Rattle.stack_text.specs.Views.TreeView.{nodes}
 use Rattle.stack_text.specs.Grammar.Judged.{front, each_of}
 use Rattle.stack_text.specs.Grammar.Parts.{count_of}
 use Rattle.stack_text.specs.Grammar.Printed.{list_tree, name_tree, unplaced_name}

@@ -3,7 +3,7 @@ use Rattle.std.proofs.Common.{◌≡◌, ℕ, List, [], ◌∷◌, Option, Some,
 use Rattle.std.specs.Prelude.{ℤ, Bool, codes, drop}
 use Rattle.stack_text.specs.Trees.{atom, list}
 use Rattle.stack_text.specs.Trees.{without_places as unplaced_tree, all_without_places}
-use Rattle.stack_text.specs.Scaffold.Spellings.{Spells}
+use Rattle.stack_text.specs.Internal.Spellings.{Spells}
 use Rattle.stack_text.specs.declared.shape.Kind.{Kind}
 use Rattle.stack_text.proofs.SpellingLaws.{spelled_is_read}
 use Rattle.stack_text.specs.Grammar.Printed.{lines_text, name_tree}

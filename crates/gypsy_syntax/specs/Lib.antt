@@ -17,4 +17,4 @@ pub mod ProgramFits
 pub mod Effects
 pub mod Predefined
 -- In folders: how clauses see the code.
-pub mod Seen
+pub mod Views

@@ -7,7 +7,7 @@ use Rattle.piton_check.specs.PitonChecking.{CheckedOf, IsChecked}
 use Rattle.piton_check.specs.Resolved.{ResolvedOf}
 use Rattle.piton_check.specs.Instruction.{SystemView, system_view}
 use Rattle.piton_semantics.specs.Fits.{Each, IsWordOf, system_in}
-use Rattle.piton_semantics.specs.Seen.StateView.{Seen, IsSeen}
+use Rattle.piton_semantics.specs.StateView.{Seen, IsSeen}
 use Rattle.piton_semantics.proofs.EachLaws.{each_append}
 use Rattle.level_debuggers.specs.PitonReadings.{area_words}
 

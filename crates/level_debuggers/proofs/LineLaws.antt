@@ -19,8 +19,8 @@ use Rattle.display_maps.specs.Report.{VariableOf, condition_line, lines_of_readi
 use Rattle.display_maps.specs.Reading.{reading, word_in}
 use Rattle.display_maps.specs.ReadingAt.{ReadingAtOf, read_from, read_variable, reading_at}
 use Rattle.display_maps.specs.Running.{condition_shown, run_lines, variables_shown}
-use Rattle.gypsy_semantics.specs.Seen.RunView.{depth_at, place_at, values_at}
-use Rattle.gypsy_semantics.specs.Seen.Shown.{condition_at, names_at}
+use Rattle.gypsy_semantics.specs.Views.RunView.{depth_at, place_at, values_at}
+use Rattle.gypsy_semantics.specs.Views.Shown.{condition_at, names_at}
 use Rattle.debug_script.specs.declared.command.Command.{Command}
 use Rattle.debug_script.specs.declared.command.Command.TheVariants as command
 use Rattle.debug_script.specs.declared.command.Place.{Place}

@@ -10,7 +10,7 @@ use Rattle.piton_check.specs.Instruction.{SystemView}
 use Rattle.piton_semantics.specs.declared.error_kind.ErrorKind.{ErrorKind}
 use Rattle.piton_semantics.specs.Fits.{system_in}
 use Rattle.piton_semantics.specs.Law.{Steps, none, more, advanced}
-use Rattle.piton_semantics.specs.Seen.StateView.{Seen, saturated, seen_after, seen_from, seen_step}
+use Rattle.piton_semantics.specs.StateView.{Seen, saturated, seen_after, seen_from, seen_step}
 use Rattle.piton_semantics.specs.State.{Frame, PitonState}
 use Rattle.piton_semantics.specs.Step.{piton_step, step_cost}
 use Rattle.piton_semantics.specs.Views as views

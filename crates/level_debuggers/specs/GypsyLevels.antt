@@ -4,8 +4,8 @@ use Rattle.std.specs.Fmt.{decimal}
 use Rattle.stack_text.specs.Lines.{line}
 use Rattle.display_maps.specs.Running.{run_lines}
 use Rattle.gypsy_syntax.specs.Sources.{SourceOf}
-use Rattle.gypsy_semantics.specs.Seen.RunView.{Seen, left_of, is_over, place_at, depth_at, values_at}
-use Rattle.gypsy_semantics.specs.Seen.Shown.{condition_at, names_at}
+use Rattle.gypsy_semantics.specs.Views.RunView.{Seen, left_of, is_over, place_at, depth_at, values_at}
+use Rattle.gypsy_semantics.specs.Views.Shown.{condition_at, names_at}
 use Rattle.level_debuggers.specs.declared.watch.Event.{Event}
 use Rattle.level_debuggers.specs.Steps.{Next, Over, Makes}
 

@@ -4,12 +4,12 @@ use Rattle.debug_script.specs.declared.command.Place.{Place}
 use Rattle.debug_script.specs.declared.command.Place.TheVariants as place
 use Rattle.fm_words.specs.WindowLimit.{most_window}
 use Rattle.fm_show.specs.Listing.{machine_listing}
-use Rattle.gypsy_syntax.specs.Seen.SourceView.{source_of}
-use Rattle.gypsy_meaning.specs.Seen.Belongs.{BelongsTo}
-use Rattle.gypsy_meaning.specs.Seen.Running.{seen}
+use Rattle.gypsy_syntax.specs.Views.SourceView.{source_of}
+use Rattle.gypsy_meaning.specs.Views.Belongs.{BelongsTo}
+use Rattle.gypsy_meaning.specs.Views.Running.{seen}
 use Rattle.piton_semantics.specs.Fits.{system_in}
 use Rattle.piton_semantics.specs.Placed.{placed}
-use Rattle.piton_semantics.specs.Seen.StateView.{IsSeen}
+use Rattle.piton_semantics.specs.StateView.{IsSeen}
 use Rattle.piton_check.specs.NamedWords.{program_name_at}
 use Rattle.level_debuggers.specs.declared.runner.Runner.{Runner}
 use Rattle.level_debuggers.specs.declared.runner.Runner.TheVariants as runner

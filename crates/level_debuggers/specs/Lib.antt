@@ -14,6 +14,7 @@ pub mod Transcripts
 pub mod ScriptSteps
 pub mod WholeLines
 pub mod RunWalks
--- In folders: how clauses see the code, scaffold.
-pub mod Seen
-pub mod Scaffold
+-- In folders: how clauses see the code.
+pub mod Views
+-- Internal: what only private functions and lemmas say.
+pub mod Standings

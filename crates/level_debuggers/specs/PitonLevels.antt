@@ -13,7 +13,7 @@ use Rattle.piton_semantics.specs.declared.error_kind.ErrorKind.{ErrorKind}
 use Rattle.piton_semantics.specs.State.{Frame, PitonState, locals_of}
 use Rattle.piton_semantics.specs.Step.{step_cost}
 use Rattle.piton_semantics.specs.Fits.{system_in}
-use Rattle.piton_semantics.specs.Seen.StateView.{Seen, seen_step}
+use Rattle.piton_semantics.specs.StateView.{Seen, seen_step}
 use Rattle.level_debuggers.specs.declared.watch.Event.{Event}
 use Rattle.level_debuggers.specs.declared.advance.Stop.TheVariants as stop
 use Rattle.level_debuggers.specs.Steps.{Next, Over, Stops, Makes}

@@ -1,6 +1,6 @@
 -- What watches make of events.
 use Rattle.std.specs.Prelude.{◌+◌, max, List, [], ◌∷◌, ◌++◌, drop, fold, replicate}
-use Rattle.piton_semantics.specs.Seen.StateView.{saturated}
+use Rattle.piton_semantics.specs.StateView.{saturated}
 use Rattle.level_debuggers.specs.declared.watch.Event.{Event}
 use Rattle.level_debuggers.specs.declared.watch.Tally.{Tally}
 use Rattle.level_debuggers.specs.declared.watch.Rule.{Rule}

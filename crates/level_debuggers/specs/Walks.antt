@@ -1,6 +1,6 @@
 -- Runs of several steps.
 use Rattle.std.specs.Prelude.{◌≡◌, ◌≤◌, ℕ, zero, suc, ◌+◌, ◌==◌, List, [], ◌∷◌, length, map, if◌then◌else◌}
-use Rattle.piton_semantics.specs.Seen.StateView.{saturated}
+use Rattle.piton_semantics.specs.StateView.{saturated}
 use Rattle.level_debuggers.specs.declared.watch.Event.{Event}
 use Rattle.level_debuggers.specs.declared.advance.Stop.{Stop}
 use Rattle.level_debuggers.specs.declared.advance.Stop.TheVariants as stop

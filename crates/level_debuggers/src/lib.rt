@@ -5,7 +5,7 @@ mod advance;
 mod arrival;
 mod fm_level;
 mod gypsy_level;
-mod law;
+mod laws;
 mod level;
 mod piton_level;
 mod piton_listing;
@@ -22,7 +22,7 @@ mod watch;
 mod watches;
 
 pub use arrival::Arrival;
-pub use law::{answers_are_lines, runs_walk, scripts_walk, sessions_go_on};
+pub use laws::{answers_are_lines, runs_walk, scripts_walk, sessions_go_on};
 pub use runner::Runner;
 pub use script_end::ScriptEnd;
 pub use session::{Absent, Session, SessionRun};

@@ -28,7 +28,7 @@ pub(crate) struct PitonLevel {
 
 impl Model for PitonLevel {
     ghost use Rattle.piton_semantics.specs.Fits.{system_in};
-    ghost use Rattle.piton_semantics.specs.Seen.StateView.{IsSeen};
+    ghost use Rattle.piton_semantics.specs.StateView.{IsSeen};
     ghost use Rattle.level_debuggers.specs.PitonLevels.{PitonLevelOf};
 
     ghost Value = { PitonLevelOf };
@@ -42,7 +42,7 @@ impl PitonLevel {
     ghost use Rattle.std.specs.Prelude.{◌≡◌, ◌≤◌, ◌^◌, IfOk, slice_get};
     ghost use Rattle.piton_semantics.specs.Addresses.{numbers};
     ghost use Rattle.piton_semantics.specs.Fits.{Each, IsWordOf, system_in};
-    ghost use Rattle.piton_semantics.specs.Seen.StateView.{IsSeen};
+    ghost use Rattle.piton_semantics.specs.StateView.{IsSeen};
     ghost use Rattle.piton_semantics.specs.Placed.{address_of_place, placed, addresses_of, areas_start};
     ghost use Rattle.piton_semantics.specs.State.{locals_of};
     ghost use Rattle.piton_check.specs.NamedWords.{program_name_at};
@@ -50,7 +50,7 @@ impl PitonLevel {
     ghost use Rattle.level_debuggers.specs.Levels.{IsRunner, Piton, level_of};
     ghost use Rattle.level_debuggers.specs.PitonLevels.{piton_listing, piton_next, piton_over, piton_stands};
     ghost use Rattle.level_debuggers.specs.PitonReadings.{area_words, element_numbers, is_covered, piton_at, piton_end, piton_reading_of, piton_up};
-    ghost use Rattle.level_debuggers.specs.Scaffold.Standings.{standing_of};
+    ghost use Rattle.level_debuggers.specs.Standings.{standing_of};
 
     /// The level of a run, with its system's addresses. The only error is out of memory.
     pub(crate) fn new(

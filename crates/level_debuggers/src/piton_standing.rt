@@ -12,7 +12,7 @@ pub(crate) struct PitonAt<'a> {
 }
 
 impl<'a> Standing for PitonAt<'a> {
-    ghost use Rattle.level_debuggers.specs.Scaffold.Standings.{standing_of};
+    ghost use Rattle.level_debuggers.specs.Standings.{standing_of};
 
     ghost standing = { standing_of };
 

@@ -67,7 +67,7 @@ impl Session {
     ghost use Rattle.level_debuggers.specs.Tallies.{noted};
     ghost use Rattle.level_debuggers.specs.Walks.{after_event, stepped, HasMadeSome};
     ghost use Rattle.level_debuggers.specs.Taken.{attached_by, detached_by};
-    ghost use Rattle.level_debuggers.specs.Seen.Sessions.{IsSession, session_of};
+    ghost use Rattle.level_debuggers.specs.Views.Sessions.{IsSession, session_of};
 
     /// A session of a runner that has made no step, with these watches waiting. Room for all of them to be attached is
     /// taken here, and that of the addresses of a system of Piton.

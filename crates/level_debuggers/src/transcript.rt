@@ -1,7 +1,7 @@
 //! Scripts, line by line.
 
 ghost use Rattle.std.specs.Prelude.{◌≡◌, ◌++◌, IfOk, OnErr};
-ghost use Rattle.level_debuggers.specs.Seen.Sessions.{IsSession, session_of};
+ghost use Rattle.level_debuggers.specs.Views.Sessions.{IsSession, session_of};
 ghost use Rattle.level_debuggers.specs.Transcripts.{IsLeftBy, IsLeftIn, IsSaid, arrival_end, arrival_text, attach_said, attached_word, detach_said, followed, rule_of_word, run_end, run_text, said_to, until_said, words_said};
 ghost use Rattle.level_debuggers.specs.Levels.{words_text};
 ghost use Rattle.level_debuggers.specs.Walks.{HasMadeSome};

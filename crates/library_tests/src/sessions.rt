@@ -4,7 +4,7 @@ ghost use Rattle.std.specs.Prelude.{◌≤◌, ◌^◌, IfOk};
 ghost use Rattle.piton_semantics.specs.Fits.{system_in};
 ghost use Rattle.piton_semantics.specs.Placed.{placed};
 ghost use Rattle.level_debuggers.specs.Levels.{IsRunner};
-ghost use Rattle.level_debuggers.specs.Seen.Sessions.{IsSession};
+ghost use Rattle.level_debuggers.specs.Views.Sessions.{IsSession};
 
 use fm_image::{Image, read_image};
 use fm_machine::Machine;

@@ -7,7 +7,7 @@ use Rattle.gypsy_syntax.specs.Sources.{LocalOf, StmtOf}
 use Rattle.mini_syntax.specs.declared.program.Statement.{Statement}
 use Rattle.mini_syntax.specs.declared.sort.Sort.{Sort}
 use Rattle.mini_gypsy.specs.Lowered.{locals_from, statement_parts, temporary_local}
-use Rattle.mini_syntax.specs.Seen.ProgramView.{block_in, statement_in}
+use Rattle.mini_syntax.specs.ProgramView.{block_in, statement_in}
 use Rattle.mini_syntax.specs.Sorted.{AreFine}
 use Rattle.mini_syntax.specs.Sorted.{depths}
 

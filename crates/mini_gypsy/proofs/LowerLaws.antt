@@ -11,7 +11,7 @@ use Rattle.mini_syntax.specs.declared.program.Declared.{Declared}
 use Rattle.mini_syntax.specs.declared.program.InfixProgram as made
 use Rattle.mini_syntax.specs.Grammar.{InfixProgram}
 use Rattle.mini_syntax.specs.Lawful.{IsLawful}
-use Rattle.mini_syntax.specs.Seen.ProgramView.{block_in}
+use Rattle.mini_syntax.specs.ProgramView.{block_in}
 use Rattle.mini_syntax.proofs.OneAnswerLaws.{either_way, one_fault}
 use Rattle.mini_syntax.proofs.OneProgramLaws.{program_is}
 use Rattle.mini_gypsy.specs.Lowered.{lowered}

@@ -4,7 +4,7 @@ use Rattle.std.proofs.lemmas.List.{map-append}
 use Rattle.gypsy_syntax.specs.declared.statement.Stmt.{Stmt as Made}
 use Rattle.gypsy_syntax.specs.Made.{new_predef, new_seq}
 use Rattle.gypsy_syntax.specs.Sources.{loop, no_op, StmtOf}
-use Rattle.gypsy_syntax.specs.Seen.SourceView.{stmt_of}
+use Rattle.gypsy_syntax.specs.Views.SourceView.{stmt_of}
 use Rattle.mini_syntax.specs.declared.operator.Infix.{Infix}
 use Rattle.mini_syntax.specs.declared.operator.Prefix.{Prefix}
 use Rattle.mini_syntax.specs.declared.sort.Sort.{Sort}

@@ -8,7 +8,7 @@ use Rattle.gypsy_syntax.specs.Resolved.{program_of}
 use Rattle.gypsy_syntax.specs.Sources.{SourceOf}
 use Rattle.gypsy_space.specs.Needs.{StackSizes}
 use Rattle.gypsy_semantics.specs.Calls.{CurrentCondition}
-use Rattle.gypsy_semantics.specs.Seen.Fitting.{CanStart}
+use Rattle.gypsy_semantics.specs.Views.Fitting.{CanStart}
 use Rattle.gypsy_semantics.specs.Meaning.{Done, meaning}
 use Rattle.mini_syntax.specs.MiniReading.{IsFaultless}
 use Rattle.mini_syntax.specs.Breaches.{body_of, declared_of}

@@ -1,13 +1,13 @@
 //! The source that a program becomes.
 
 ghost use Rattle.std.specs.Prelude.{◌≡◌, ◌≤◌, ◌^◌, IfOk, length};
-ghost use Rattle.gypsy_syntax.specs.Seen.SourceView.{proc_of, source_of};
+ghost use Rattle.gypsy_syntax.specs.Views.SourceView.{proc_of, source_of};
 ghost use Rattle.gypsy_check.specs.Accepted.{IsAccepted};
 ghost use Rattle.mini_syntax.specs.Lawful.{IsLawful};
 ghost use Rattle.mini_gypsy.specs.Lowered.{lowered, main_procedure};
 ghost use Rattle.mini_gypsy.specs.Promises.{Lowers};
 ghost use Rattle.mini_syntax.specs.MiniReading.{RefusesText};
-ghost use Rattle.mini_syntax.specs.Seen.ProgramView.{block_in};
+ghost use Rattle.mini_syntax.specs.ProgramView.{block_in};
 
 use crate::statements::block;
 use crate::temporaries::{formals, temporaries};

@@ -3,7 +3,7 @@
 ghost use Rattle.std.specs.Prelude.{◌≡◌, IfOk, [], ◌∷◌};
 ghost use Rattle.gypsy_syntax.specs.Made.{new_predef};
 ghost use Rattle.gypsy_syntax.specs.Sources.{constant, variable};
-ghost use Rattle.gypsy_syntax.specs.Seen.SourceView.{literal_of, stmt_of};
+ghost use Rattle.gypsy_syntax.specs.Views.SourceView.{literal_of, stmt_of};
 
 use gypsy_syntax::{Arg, Literal, Predef, Stmt};
 use stack_text::{Memory, Named};

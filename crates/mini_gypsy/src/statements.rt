@@ -3,12 +3,12 @@
 ghost use Rattle.std.specs.Prelude.{◌≡◌, ◌<◌, ◌++◌, IfOk, OnOk, [], ◌∷◌, length, map, slice_get, Some};
 ghost use Rattle.gypsy_syntax.specs.Made.{new_seq};
 ghost use Rattle.gypsy_syntax.specs.Sources.{loop, no_op};
-ghost use Rattle.gypsy_syntax.specs.Seen.SourceView.{stmt_of};
+ghost use Rattle.gypsy_syntax.specs.Views.SourceView.{stmt_of};
 ghost use Rattle.mini_syntax.specs.declared.sort.Sort.TheVariants.{Bool};
 ghost use Rattle.mini_syntax.specs.Language.{Assign};
 ghost use Rattle.mini_gypsy.specs.Lowered.{block_parts, choice_parts, leave, set_name, statement_parts, temporary_name, value_parts};
 ghost use Rattle.mini_syntax.specs.Lawful.{nth_name};
-ghost use Rattle.mini_syntax.specs.Seen.ProgramView.{block_in, exp_of, statement_in};
+ghost use Rattle.mini_syntax.specs.ProgramView.{block_in, exp_of, statement_in};
 ghost use Rattle.mini_syntax.specs.Sorted.{AreFine, IsFine};
 ghost use Rattle.mini_syntax.specs.Operands.{sort_of};
 

@@ -3,7 +3,7 @@
 ghost use Rattle.std.specs.Prelude.{◌≡◌, ◌++◌, ◌<◌, IfOk, OnOk, length, map};
 ghost use Rattle.stack_text.specs.Grammar.Printed.{unplaced};
 ghost use Rattle.gypsy_syntax.specs.Made.{new_decl, new_simple};
-ghost use Rattle.gypsy_syntax.specs.Seen.SourceView.{local_of};
+ghost use Rattle.gypsy_syntax.specs.Views.SourceView.{local_of};
 ghost use Rattle.mini_gypsy.specs.Lowered.{decl_of, kind_of, locals_from, temporaries, temporary_local, temporary_name};
 ghost use Rattle.mini_syntax.specs.Lawful.{nth_name};
 ghost use Rattle.mini_syntax.specs.Sorted.{depths};

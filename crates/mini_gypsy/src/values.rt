@@ -4,11 +4,11 @@ ghost use Rattle.std.specs.Prelude.{◌≡◌, ◌+◌, ◌<◌, ◌≤◌, ◌+
 ghost use Rattle.gypsy_syntax.specs.declared.predef.Predef.TheVariants as row;
 ghost use Rattle.gypsy_syntax.specs.Made.{new_predef};
 ghost use Rattle.gypsy_syntax.specs.Sources.{constant, integer, truth};
-ghost use Rattle.gypsy_syntax.specs.Seen.SourceView.{stmt_of};
+ghost use Rattle.gypsy_syntax.specs.Views.SourceView.{stmt_of};
 ghost use Rattle.mini_syntax.specs.declared.sort.Sort.TheVariants.{Bool, Int};
 ghost use Rattle.mini_gypsy.specs.Lowered.{argument, set_name, temporary_name, value_parts};
 ghost use Rattle.mini_syntax.specs.Lawful.{nth_name};
-ghost use Rattle.mini_syntax.specs.Seen.ProgramView.{exp_of};
+ghost use Rattle.mini_syntax.specs.ProgramView.{exp_of};
 ghost use Rattle.mini_syntax.specs.Sorted.{depth as depth_of, IsSorted};
 ghost use Rattle.mini_gypsy.specs.Steps.{infix_row, prefix_row};
 ghost use Rattle.mini_syntax.specs.Sorted.{depths};

@@ -16,9 +16,9 @@ use Rattle.mini_syntax.specs.declared.operator.Infix.{Infix}
 use Rattle.mini_syntax.specs.declared.operator.Prefix.{Prefix}
 use Rattle.mini_syntax.specs.declared.operator.Prefix.TheVariants as before
 use Rattle.mini_syntax.specs.Expected.{is_over, may_be_empty, same_mark, taken, takes}
-use Rattle.mini_syntax.specs.Scaffold.Lexemes.{next_kind}
+use Rattle.mini_syntax.specs.Internal.Lexemes.{next_kind}
 use Rattle.mini_syntax.specs.Precedence.{compared_after, infix_of, may_follow}
-use Rattle.mini_syntax.specs.Scaffold.Phrases.{Completes, factor_kind, sort_declared, statement_kind}
+use Rattle.mini_syntax.specs.Internal.Phrases.{Completes, factor_kind, sort_declared, statement_kind}
 use Rattle.mini_syntax.specs.Tokens.{Token, mark_at, word_at, kind_of, place_of, token_of}
 use Rattle.mini_syntax.proofs.ExpectedLaws.{Leads, none_follows, none_taken, operator_refused, operator_taken}
 use Rattle.mini_syntax.proofs.GoesOnLaws.{bytes_of, same_marks, token_is}

@@ -11,8 +11,8 @@ use Rattle.mini_syntax.specs.declared.typed.Typed.{Typed}
 use Rattle.mini_syntax.specs.Breaches.{expression_breaches, expression_sort, infix_breaches, prefix_breaches}
 use Rattle.mini_syntax.specs.Grammar.{Expression, unary, binary}
 use Rattle.mini_syntax.specs.Language.{Before, Between}
-use Rattle.mini_syntax.specs.Scaffold.Combined.{IsInfix, IsPrefix}
-use Rattle.mini_syntax.specs.Scaffold.Phrases.{IsTyped}
+use Rattle.mini_syntax.specs.Internal.Combined.{IsInfix, IsPrefix}
+use Rattle.mini_syntax.specs.Internal.Phrases.{IsTyped}
 
 module _ (ds : List Declared) (place : ℕ) (b1 b2 b3 : Option Breach) where
   pub unary_typed : (op : Prefix) (e : Expression) (operand typed : Typed) → IsTyped ds e b1 b2 operand → IsPrefix place op operand b2 b3 typed →

@@ -15,11 +15,11 @@ use Rattle.mini_syntax.specs.Expected.{at_start, is_over, taken, takes}
 use Rattle.mini_syntax.specs.Faults.{AreFree, BreaksAt, BreaksFirst, EndsEarly, blocks, brackets, count_of, no_program, no_token, open_blocks, open_brackets, operators, too_many}
 use Rattle.mini_syntax.specs.Faults.{begins_expression, closes_block, closes_bracket, is_operator, opens_block, opens_bracket}
 use Rattle.mini_syntax.specs.Grammar.{GoesOn, IsProgram, InfixProgram}
-use Rattle.mini_syntax.specs.Scaffold.Judging.{counted, IsBelow, counts_of, is_over_limit, is_wrong, Judges, limit_of, tally}
-use Rattle.mini_syntax.specs.Scaffold.Judging as judging
-use Rattle.mini_syntax.specs.Scaffold.Lexemes.{token_seen}
+use Rattle.mini_syntax.specs.Internal.Judging.{counted, IsBelow, counts_of, is_over_limit, is_wrong, Judges, limit_of, tally}
+use Rattle.mini_syntax.specs.Internal.Judging as judging
+use Rattle.mini_syntax.specs.Internal.Lexemes.{token_seen}
 use Rattle.mini_syntax.specs.Tokens.{Token, name_at, number_at, word_at, mark_at, wrong_at, kind_of, place_of, token_of, tokens, tokens_in, between}
-use Rattle.mini_syntax.specs.Scaffold.TokenSpans.{FindsToken, token_in}
+use Rattle.mini_syntax.specs.Internal.TokenSpans.{FindsToken, token_in}
 use Rattle.mini_syntax.proofs.ExpectedLaws.{end_of, not_taken, over_end, program_taken, taken_append}
 use Rattle.mini_syntax.proofs.GoesOnLaws.{goes_on, is_whole}
 use Rattle.mini_syntax.proofs.LimitLaws.{count_append, operators_append}

@@ -23,8 +23,8 @@ use Rattle.mini_syntax.specs.Operands.{prefix_takes, infix_takes, prefix_sort, i
 use Rattle.mini_syntax.specs.Language.{Exp}
 use Rattle.mini_syntax.specs.Language as language
 use Rattle.mini_syntax.specs.Lawful.{AreApart, IsLawful, levels, part_count, nth_name}
-use Rattle.mini_syntax.specs.Scaffold.Limits.{expression_operators}
-use Rattle.mini_syntax.specs.Scaffold.Limits.{form_blocks, block_blocks, forms_blocks, FormIsSmall, BlockIsSmall, FormsAreSmall, KeepsLimits}
+use Rattle.mini_syntax.specs.Internal.Limits.{expression_operators}
+use Rattle.mini_syntax.specs.Internal.Limits.{form_blocks, block_blocks, forms_blocks, FormIsSmall, BlockIsSmall, FormsAreSmall, KeepsLimits}
 use Rattle.mini_syntax.specs.Names.{is_variable_name}
 use Rattle.mini_syntax.specs.Sorted.{depth, IsSorted, IsFine, AreFine}
 use Rattle.mini_syntax.proofs.EmptyLaws.{two, three}

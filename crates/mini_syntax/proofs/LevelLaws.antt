@@ -12,9 +12,9 @@ use Rattle.mini_syntax.specs.declared.typed.Typed.{Typed}
 use Rattle.mini_syntax.specs.Expected.{expression}
 use Rattle.mini_syntax.specs.Grammar.{Expression, binary, binds, expression_level, expression_tokens}
 use Rattle.mini_syntax.specs.Precedence.{compared_after, infix_of, infix_token, level_of, right_level}
-use Rattle.mini_syntax.specs.Scaffold.Combined.{IsInfix}
-use Rattle.mini_syntax.specs.Scaffold.Lexemes.{next_kind, token_seen}
-use Rattle.mini_syntax.specs.Scaffold.Phrases.{Awaits, AwaitsOperand, Completes, IsTyped, Reads, infix_within}
+use Rattle.mini_syntax.specs.Internal.Combined.{IsInfix}
+use Rattle.mini_syntax.specs.Internal.Lexemes.{next_kind, token_seen}
+use Rattle.mini_syntax.specs.Internal.Phrases.{Awaits, AwaitsOperand, Completes, IsTyped, Reads, infix_within}
 use Rattle.mini_syntax.specs.Tokens.{Token}
 use Rattle.mini_syntax.proofs.AwaitLaws.{Operates, moved, operates}
 use Rattle.mini_syntax.proofs.ExpectedLaws.{expression_leads}

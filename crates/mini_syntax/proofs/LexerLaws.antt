@@ -16,7 +16,7 @@ use Rattle.mini_syntax.specs.declared.mark.Mark.{Mark}
 use Rattle.mini_syntax.specs.Names.{is_word_byte}
 use Rattle.mini_syntax.specs.Tokens.{Token, number_at, mark_at, Mode, after_fresh, begins, fresh, is_blank, is_pair, mark_of, mark_token, next, longest_run, tokens, word_kind, word_token}
 use Rattle.mini_syntax.specs.Tokens as mode
-use Rattle.mini_syntax.specs.Scaffold.TokenSpans.{FindsToken, run_mode, run_test}
+use Rattle.mini_syntax.specs.Internal.TokenSpans.{FindsToken, run_mode, run_test}
 use Rattle.mini_syntax.proofs.SpanLaws.{no_pair}
 
 -- ---- one byte

@@ -18,8 +18,8 @@ use Rattle.mini_syntax.specs.Grammar.{Expression, unary, binary, group, expressi
 use Rattle.mini_syntax.specs.Grammar.{Form, assign, loop, branch, Block, block, Forms, no_forms, form, Decl, InfixProgram, GoesOn, IsProgram}
 use Rattle.mini_syntax.specs.Grammar.{form_tokens, block_tokens, forms_tokens, decl_tokens, decls_tokens, program_tokens}
 use Rattle.mini_syntax.specs.Precedence.{infix_token}
-use Rattle.mini_syntax.specs.Scaffold.Limits.{expression_operators, expression_brackets, IsSmall, FormIsSmall, BlockIsSmall, FormsAreSmall}
-use Rattle.mini_syntax.specs.Scaffold.Limits.{form_blocks, block_blocks, forms_blocks}
+use Rattle.mini_syntax.specs.Internal.Limits.{expression_operators, expression_brackets, IsSmall, FormIsSmall, BlockIsSmall, FormsAreSmall}
+use Rattle.mini_syntax.specs.Internal.Limits.{form_blocks, block_blocks, forms_blocks}
 use Rattle.mini_syntax.specs.Tokens.{Token, name_at, word_at, mark_at, kind_of, tokens_in}
 use Rattle.mini_syntax.proofs.SpanLaws.{IsShort, text_is_lawful}
 

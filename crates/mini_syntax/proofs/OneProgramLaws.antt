@@ -18,7 +18,7 @@ use Rattle.mini_syntax.specs.Grammar.{Expression, variable, number, truth, unary
 use Rattle.mini_syntax.specs.Grammar.{Form, assign, loop, branch, Block, block, Forms, no_forms, form, Decl, InfixProgram, IsProgram}
 use Rattle.mini_syntax.specs.Grammar.{form_binds, block_binds, forms_bind, form_tokens, block_tokens, forms_tokens, decls_tokens, program_tokens}
 use Rattle.mini_syntax.specs.Precedence.{any_level, infix_of, infix_token, level_of}
-use Rattle.mini_syntax.specs.Scaffold.Lexemes.{next_kind}
+use Rattle.mini_syntax.specs.Internal.Lexemes.{next_kind}
 use Rattle.mini_syntax.specs.Tokens.{Token, name_at, number_at, word_at, mark_at, kind_of, place_of}
 use Rattle.mini_syntax.proofs.PrecedenceLaws.{bound_parts, infix_place, infix_seen, left_below, level_in, one_above}
 

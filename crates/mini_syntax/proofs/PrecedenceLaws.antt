@@ -11,7 +11,7 @@ use Rattle.mini_syntax.specs.declared.operator.Infix.TheVariants.{Or, And, AtMos
 use Rattle.mini_syntax.specs.declared.word.Word.TheVariants as word
 use Rattle.mini_syntax.specs.Grammar.{Expression, binary, binds, expression_level}
 use Rattle.mini_syntax.specs.Precedence.{any_level, compared_after, infix_of, infix_token, left_level, level_of, may_follow, right_level}
-use Rattle.mini_syntax.specs.Scaffold.Phrases.{within}
+use Rattle.mini_syntax.specs.Internal.Phrases.{within}
 use Rattle.mini_syntax.specs.Tokens.{kind_of, place_of, token_of}
 
 -- ---- tokens

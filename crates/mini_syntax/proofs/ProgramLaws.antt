@@ -6,7 +6,7 @@ use Rattle.stack_text.specs.Breaches.{least, lesser_of}
 use Rattle.stack_text.proofs.BreachLaws.{none_least, notes_more}
 use Rattle.mini_syntax.specs.MiniReading.{IsFault, IsRead, ReadsText, RefusesText, of_program, of_tokens}
 use Rattle.mini_syntax.specs.Breaches.{body_of, breaches, declared_of, decls_breaches, forms_breaches, forms_stmt}
-use Rattle.mini_syntax.specs.Scaffold.Declaring.{ReadsDecls, ReadsProgram, are_proper}
+use Rattle.mini_syntax.specs.Internal.Declaring.{ReadsDecls, ReadsProgram, are_proper}
 use Rattle.mini_syntax.specs.declared.fault.MiniFault.{MiniFault}
 use Rattle.mini_syntax.specs.declared.fault.MiniFault.TheVariants.{Memory, Refused}
 use Rattle.mini_syntax.specs.declared.lexeme.Lexeme.{Lexeme}
@@ -15,10 +15,10 @@ use Rattle.mini_syntax.specs.declared.program.Statement.{Statement}
 use Rattle.mini_syntax.specs.declared.reading.Reading.{Reading}
 use Rattle.mini_syntax.specs.Faults.{AreFree}
 use Rattle.mini_syntax.specs.Grammar.{IsProgram, InfixProgram, decls_tokens, forms_tokens, program_tokens}
-use Rattle.mini_syntax.specs.Scaffold.Judging.{Refuses}
-use Rattle.mini_syntax.specs.Scaffold.Lexemes.{token_seen}
-use Rattle.mini_syntax.specs.Scaffold.Phrases.{ReadsForms}
-use Rattle.mini_syntax.specs.Seen.ProgramView.{block_in}
+use Rattle.mini_syntax.specs.Internal.Judging.{Refuses}
+use Rattle.mini_syntax.specs.Internal.Lexemes.{token_seen}
+use Rattle.mini_syntax.specs.Internal.Phrases.{ReadsForms}
+use Rattle.mini_syntax.specs.ProgramView.{block_in}
 use Rattle.mini_syntax.specs.Tokens.{Token, between, tokens_in}
 use Rattle.mini_syntax.proofs.LimitLaws.{free_is_lawful}
 use Rattle.mini_syntax.proofs.SpanLaws.{all_good, tokens_few}

@@ -10,7 +10,7 @@ use Rattle.stack_text.proofs.BreachLaws.{notes_more, notes_none}
 use Rattle.mini_syntax.specs.Breaches.{assigns_breaches, block_breaches, block_stmt, declared_by, decl_breaches, decls_breaches, expression_breaches}
 use Rattle.mini_syntax.specs.Breaches.{expression_exp, expression_sort, form_breaches, form_stmt, forms_breaches, forms_stmt, or_first, sort_named}
 use Rattle.mini_syntax.specs.Breaches.{test_breaches, variable_named}
-use Rattle.mini_syntax.specs.Scaffold.Declaring.{ReadsDecl, ReadsDecls}
+use Rattle.mini_syntax.specs.Internal.Declaring.{ReadsDecl, ReadsDecls}
 use Rattle.mini_syntax.specs.declared.expected.Expected.{Expected}
 use Rattle.mini_syntax.specs.declared.expected.Expected.TheVariants as wants
 use Rattle.mini_syntax.specs.declared.lexeme.Lexeme.{Lexeme}
@@ -30,9 +30,9 @@ use Rattle.mini_syntax.specs.Grammar.{block_tokens, decl_tokens, decls_tokens, e
 use Rattle.mini_syntax.specs.Language.{Exp, Stmt, Nothing, Then}
 use Rattle.mini_syntax.specs.Language as language
 use Rattle.mini_syntax.specs.Precedence.{any_level, infix_of}
-use Rattle.mini_syntax.specs.Scaffold.Lexemes.{next_kind, token_seen}
-use Rattle.mini_syntax.specs.Scaffold.Phrases.{Completes, IsTyped, Reads, ReadsBlock, ReadsForm, ReadsForms}
-use Rattle.mini_syntax.specs.Seen.ProgramView.{block_in, exp_of, statement_in}
+use Rattle.mini_syntax.specs.Internal.Lexemes.{next_kind, token_seen}
+use Rattle.mini_syntax.specs.Internal.Phrases.{Completes, IsTyped, Reads, ReadsBlock, ReadsForm, ReadsForms}
+use Rattle.mini_syntax.specs.ProgramView.{block_in, exp_of, statement_in}
 use Rattle.mini_syntax.specs.Tokens.{Token, name_at, word_at, mark_at, kind_of, token_of}
 use Rattle.mini_syntax.proofs.AwaitLaws.{moved, no_operator}
 use Rattle.mini_syntax.proofs.ExpectedLaws.{expression_leads}

@@ -14,7 +14,7 @@ use Rattle.stack_text.proofs.NumberedNameLaws.{letter_passes}
 use Rattle.mini_syntax.specs.Breaches.{breaches, body_of, decls_breaches, declared_by, declared_of, variable_named, sort_named, infix_breaches, prefix_breaches, assigns_breaches, test_breaches}
 use Rattle.mini_syntax.specs.Breaches.{expression_breaches, expression_sort, expression_exp}
 use Rattle.mini_syntax.specs.Breaches.{form_breaches, block_breaches, forms_breaches, form_stmt, block_stmt, forms_stmt}
-use Rattle.mini_syntax.specs.Scaffold.Declaring.{are_proper, is_proper}
+use Rattle.mini_syntax.specs.Internal.Declaring.{are_proper, is_proper}
 use Rattle.mini_syntax.specs.declared.lexer.TokenKind.TheVariants as kind
 use Rattle.mini_syntax.specs.declared.mark.Mark.{Mark}
 use Rattle.mini_syntax.specs.declared.mark.Mark.TheVariants as mark
@@ -33,7 +33,7 @@ use Rattle.mini_syntax.specs.Grammar.{form_tokens, block_tokens, forms_tokens, d
 use Rattle.mini_syntax.specs.Language.{Exp, Stmt}
 use Rattle.mini_syntax.specs.Language as language
 use Rattle.mini_syntax.specs.Lawful.{IsLawful, part_count, size_of}
-use Rattle.mini_syntax.specs.Scaffold.Limits.{FormsAreSmall, forms_blocks}
+use Rattle.mini_syntax.specs.Internal.Limits.{FormsAreSmall, forms_blocks}
 use Rattle.mini_syntax.specs.Names.{is_variable_name, is_word_byte, spelling, word_named, words}
 use Rattle.mini_syntax.specs.Precedence.{infix_token}
 use Rattle.mini_syntax.specs.Spelled.{bytes_of_all, declared_bytes, exp_bytes, program_bytes, stmt_bytes, token_bytes}

@@ -6,8 +6,8 @@ use Rattle.stack_text.specs.declared.breach.Breach.{Breach}
 use Rattle.stack_text.specs.Breaches.{Notes, when}
 use Rattle.stack_text.proofs.BreachLaws.{notes_more}
 use Rattle.mini_syntax.specs.Breaches.{decl_breaches, variable_named}
-use Rattle.mini_syntax.specs.Scaffold.Combined.{IsPrefix}
-use Rattle.mini_syntax.specs.Scaffold.Declaring.{ReadsDecl, ReadsDecls, are_proper, is_proper}
+use Rattle.mini_syntax.specs.Internal.Combined.{IsPrefix}
+use Rattle.mini_syntax.specs.Internal.Declaring.{ReadsDecl, ReadsDecls, are_proper, is_proper}
 use Rattle.mini_syntax.specs.declared.expected.Expected.{Expected}
 use Rattle.mini_syntax.specs.declared.expected.Expected.TheVariants as wants
 use Rattle.mini_syntax.specs.declared.lexeme.Lexeme.{Lexeme}
@@ -25,10 +25,10 @@ use Rattle.mini_syntax.specs.declared.word.Word.TheVariants as word
 use Rattle.mini_syntax.specs.Expected.{a_block, at_start, expression, may_be_empty, taken, takes}
 use Rattle.mini_syntax.specs.Grammar.{unary, group, prefix_token, Decl, InfixProgram}
 use Rattle.mini_syntax.specs.Grammar.{block_tokens, decl_tokens, decls_tokens, expression_tokens, form_tokens, forms_tokens, program_tokens}
-use Rattle.mini_syntax.specs.Scaffold.Lexemes.{next_kind, token_seen}
+use Rattle.mini_syntax.specs.Internal.Lexemes.{next_kind, token_seen}
 use Rattle.mini_syntax.specs.Names.{is_variable_name}
 use Rattle.mini_syntax.specs.Precedence.{any_level, infix_of}
-use Rattle.mini_syntax.specs.Scaffold.Phrases.{Awaits, Completes, Reads, ReadsBlock, ReadsForm, ReadsForms, factor_kind}
+use Rattle.mini_syntax.specs.Internal.Phrases.{Awaits, Completes, Reads, ReadsBlock, ReadsForm, ReadsForms, factor_kind}
 use Rattle.mini_syntax.specs.Tokens.{Token, name_at, word_at, mark_at, kind_of, place_of}
 use Rattle.mini_syntax.proofs.AwaitLaws.{after_mark, moved, next_is_else, next_is_mark, next_is_name, next_is_operand, not_over, prefix_kind, stepped}
 use Rattle.mini_syntax.proofs.ExpectedLaws.{block_leads, decl_leads, decls_lead, end_of, form_leads, forms_leads, over_end, program_taken}

@@ -9,7 +9,7 @@ use Rattle.mini_syntax.specs.Expected.{at_start, taken, takes}
 use Rattle.mini_syntax.specs.Faults.{BreaksAt, blocks, brackets, no_program, no_token, open_blocks, open_brackets, operators, too_many}
 use Rattle.mini_syntax.specs.Faults.{is_operator, opens_block, opens_bracket}
 use Rattle.mini_syntax.specs.Grammar.{GoesOn}
-use Rattle.mini_syntax.specs.Scaffold.Judging.{is_wrong}
+use Rattle.mini_syntax.specs.Internal.Judging.{is_wrong}
 use Rattle.mini_syntax.specs.Tokens.{Token, name_at, number_at, word_at, mark_at, wrong_at, kind_of}
 use Rattle.mini_syntax.proofs.ExpectedLaws.{not_taken}
 use Rattle.mini_syntax.proofs.GoesOnLaws.{goes_on}

@@ -5,7 +5,7 @@ use Rattle.mini_syntax.specs.declared.program.Statement.{Row_of-Statement, end_o
 use Rattle.mini_syntax.specs.declared.program.Statement.TheBlock.{hidden-the_row-Statement-0}
 use Rattle.mini_syntax.specs.declared.program.Statement.TheVariants.{While as MadeWhile, If as MadeIf}
 use Rattle.mini_syntax.specs.Language.{Then, While, If}
-use Rattle.mini_syntax.specs.Seen.ProgramView.{block_in, exp_of, row_in, statement_in}
+use Rattle.mini_syntax.specs.ProgramView.{block_in, exp_of, row_in, statement_in}
 
 row_listed : (n : _) (k : Row_of-Statement n) → row_in k ≡ block_in (items-the_row-Statement n k)
 row_listed n end_of-Statement = refl

@@ -15,6 +15,7 @@ pub mod Breaches
 pub mod Expected
 pub mod MiniReading
 pub mod Examples
--- In folders: how clauses see the code, scaffold.
-pub mod Seen
-pub mod Scaffold
+-- In folders: what is internal.
+pub mod Internal
+-- How clauses see the code's programs.
+pub mod ProgramView

@@ -10,7 +10,7 @@ use Rattle.mini_syntax.specs.Faults.{AreFree, IsTextFault}
 use Rattle.mini_syntax.specs.Grammar.{IsProgram}
 use Rattle.mini_syntax.specs.Grammar as grammar
 use Rattle.mini_syntax.specs.Lawful.{IsLawful}
-use Rattle.mini_syntax.specs.Seen.ProgramView.{block_in}
+use Rattle.mini_syntax.specs.ProgramView.{block_in}
 use Rattle.mini_syntax.specs.Spelled.{program_bytes}
 use Rattle.mini_syntax.specs.Tokens.{tokens_in}
 

@@ -4,9 +4,9 @@ ghost use Rattle.std.specs.Prelude.{◌≡◌, [], ◌∷◌, IfOk};
 ghost use Rattle.mini_syntax.specs.declared.expected.Expected.TheVariants as wants;
 ghost use Rattle.mini_syntax.specs.Expected.{expression};
 ghost use Rattle.mini_syntax.specs.Precedence.{any_level};
-ghost use Rattle.mini_syntax.specs.Scaffold.Lexemes.{left_of};
-ghost use Rattle.mini_syntax.specs.Scaffold.Phrases.{Awaits, AwaitsOperand, factor_kind, infix_within, Reads};
-ghost use Rattle.mini_syntax.specs.Scaffold.Scopes.{IsScope};
+ghost use Rattle.mini_syntax.specs.Internal.Lexemes.{left_of};
+ghost use Rattle.mini_syntax.specs.Internal.Phrases.{Awaits, AwaitsOperand, factor_kind, infix_within, Reads};
+ghost use Rattle.mini_syntax.specs.Internal.Scopes.{IsScope};
 
 use crate::lexeme::Cursor;
 use crate::lexer::TokenKind;

@@ -5,10 +5,10 @@ ghost use Rattle.mini_syntax.specs.declared.fault.MiniFault.TheVariants.{Refused
 ghost use Rattle.mini_syntax.specs.Expected.{at_start};
 ghost use Rattle.mini_syntax.specs.Faults.{AreFree, begins_expression, closes_block, closes_bracket, is_operator, opens_block, opens_bracket};
 ghost use Rattle.mini_syntax.specs.Grammar.{IsProgram, InfixProgram};
-ghost use Rattle.mini_syntax.specs.Scaffold.Judging.{counted, counts_of, IsBelow, is_over_limit, Judges, limit_of, Refuses, tally};
-ghost use Rattle.mini_syntax.specs.Scaffold.Lexemes.{token_seen};
+ghost use Rattle.mini_syntax.specs.Internal.Judging.{counted, counts_of, IsBelow, is_over_limit, Judges, limit_of, Refuses, tally};
+ghost use Rattle.mini_syntax.specs.Internal.Lexemes.{token_seen};
 ghost use Rattle.mini_syntax.specs.Tokens.{tokens_in};
-ghost use Rattle.mini_syntax.specs.Scaffold.TokenSpans.{token_in};
+ghost use Rattle.mini_syntax.specs.Internal.TokenSpans.{token_in};
 
 use crate::expected::{Expected, is_over, take};
 use crate::fault::MiniFault;

@@ -76,7 +76,7 @@ pub struct InfixProgram {
 
 impl Exp {
     ghost use Rattle.std.specs.Prelude.{◌≡◌};
-    ghost use Rattle.mini_syntax.specs.Seen.ProgramView.{exp_of};
+    ghost use Rattle.mini_syntax.specs.ProgramView.{exp_of};
     ghost use Rattle.mini_syntax.specs.Operands.{sort_of};
 
     /// The sort of what the expression is worth.

@@ -2,12 +2,12 @@
 
 ghost use Rattle.std.specs.Prelude.{◌≡◌, ◌<◌, ◌≤◌, ◌^◌, [], ◌∷◌, length, map, IfOk, OnOk, Some, true};
 ghost use Rattle.mini_syntax.specs.MiniReading.{ReadsText, RefusesText};
-ghost use Rattle.mini_syntax.specs.Scaffold.Declaring.{are_proper, ReadsDecl, ReadsDecls, ReadsProgram};
+ghost use Rattle.mini_syntax.specs.Internal.Declaring.{are_proper, ReadsDecl, ReadsDecls, ReadsProgram};
 ghost use Rattle.mini_syntax.specs.declared.expected.Expected.TheVariants as wants;
 ghost use Rattle.mini_syntax.specs.Grammar as grammar;
-ghost use Rattle.mini_syntax.specs.Scaffold.Lexemes.{left_of, next_kind, token_seen};
-ghost use Rattle.mini_syntax.specs.Scaffold.Phrases.{Awaits, sort_declared};
-ghost use Rattle.mini_syntax.specs.Scaffold.Scopes.{IsScope};
+ghost use Rattle.mini_syntax.specs.Internal.Lexemes.{left_of, next_kind, token_seen};
+ghost use Rattle.mini_syntax.specs.Internal.Phrases.{Awaits, sort_declared};
+ghost use Rattle.mini_syntax.specs.Internal.Scopes.{IsScope};
 
 use crate::blocks::statements;
 use crate::fault::MiniFault;

@@ -4,7 +4,7 @@ ghost use Rattle.std.specs.Prelude.{◌≡◌, ℕ, ◌<◌, ◌^◌, List, ◌+
 ghost use Rattle.std.specs.Str.{bytes_eq};
 ghost use Rattle.mini_syntax.specs.Breaches.{or_first, variable_named};
 ghost use Rattle.mini_syntax.specs.declared.program.Declared.{Declared};
-ghost use Rattle.mini_syntax.specs.Scaffold.Scopes.{IsScope, look_up};
+ghost use Rattle.mini_syntax.specs.Internal.Scopes.{IsScope, look_up};
 ghost use Rattle.stack_text.specs.Options.{first_or};
 
 use crate::program::Declared;

@@ -4,12 +4,12 @@ ghost use Rattle.std.specs.Prelude.{◌≡◌, ℕ, ◌*◌, ◌+◌, ◌-◌, �
 ghost use Rattle.stack_text.specs.Breaches.{Notes};
 ghost use Rattle.stack_text.specs.declared.breach.Breach.{Breach};
 ghost use Rattle.mini_syntax.specs.Breaches.{infix_breaches, is_too_large, number_of, prefix_breaches};
-ghost use Rattle.mini_syntax.specs.Scaffold.Combined.{IsInfix, IsPrefix};
+ghost use Rattle.mini_syntax.specs.Internal.Combined.{IsInfix, IsPrefix};
 ghost use Rattle.mini_syntax.specs.declared.program.Declared.{Declared};
 ghost use Rattle.mini_syntax.specs.Grammar.{number, truth, variable};
 ghost use Rattle.mini_syntax.specs.Operands.{infix_takes, prefix_takes};
-ghost use Rattle.mini_syntax.specs.Scaffold.Phrases.{IsTyped};
-ghost use Rattle.mini_syntax.specs.Scaffold.Scopes.{IsScope};
+ghost use Rattle.mini_syntax.specs.Internal.Phrases.{IsTyped};
+ghost use Rattle.mini_syntax.specs.Internal.Scopes.{IsScope};
 
 use crate::operator::{Infix, Prefix};
 use crate::program::Exp;

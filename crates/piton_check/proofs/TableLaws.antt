@@ -7,7 +7,7 @@ use Rattle.std.proofs.lemmas.List.{append-nil, map_push, take_more, length-appen
 use Rattle.stack_text.specs.declared.breach.Breach.{Breach}
 use Rattle.stack_text.specs.Breaches.{when, lesser_of, least, Notes}
 use Rattle.piton_check.specs.Declarations.{Declaration, is_named, first_of, repeat_of, repeats}
-use Rattle.piton_check.specs.Scaffold.Tables.{repeated}
+use Rattle.piton_check.specs.Tables.{repeated}
 use Rattle.stack_text.specs.Options.{first_or}
 use Rattle.stack_text.proofs.BreachLaws.{notes_more}
 

@@ -9,5 +9,5 @@ pub mod Sound
 pub mod PitonChecking
 pub mod Places
 pub mod NamedWords
--- In folders: scaffold.
-pub mod Scaffold
+-- Internal: what only private functions and lemmas say.
+pub mod Tables

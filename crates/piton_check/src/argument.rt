@@ -6,7 +6,7 @@ ghost use Rattle.stack_text.specs.Breaches.{Notes};
 ghost use Rattle.piton_check.specs.Declarations.{label_names, local_names, first_of};
 ghost use Rattle.piton_check.specs.Meaning.{count_of, name_kind, name_of};
 ghost use Rattle.piton_check.specs.Resolved.{resolved_argument, resolved_instruction};
-ghost use Rattle.piton_check.specs.Scaffold.Tables.{KnowsProgram};
+ghost use Rattle.piton_check.specs.Tables.{KnowsProgram};
 ghost use Rattle.piton_check.specs.Violations.{name_rule, argument_breaches, instruction_breaches};
 
 use crate::names::Scope;

@@ -7,7 +7,7 @@
 mod argument;
 mod checked;
 mod fault;
-mod law;
+mod laws;
 mod names;
 mod naming;
 mod piece;
@@ -19,7 +19,7 @@ mod word_names;
 
 pub use checked::{Checked, check};
 pub use fault::CheckFault;
-pub use law::places_change_nothing;
+pub use laws::places_change_nothing;
 pub use naming::{program_name, push_word, words_line};
 pub use piece::Piece;
 pub use resolved::{Resolved, ResolvedArg, ResolvedInstr, ResolvedProgram};

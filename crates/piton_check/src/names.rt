@@ -4,7 +4,7 @@ ghost use Rattle.std.specs.Prelude.{◌≡◌, ℕ, ◌+◌, ◌≤◌, ◌^◌,
 ghost use Rattle.std.specs.Str.{bytes_eq};
 ghost use Rattle.stack_text.specs.Breaches.{when, Notes};
 ghost use Rattle.piton_check.specs.Declarations.{area_name, program_name, formal_name, temporary_name, label_name, is_named, repeats};
-ghost use Rattle.piton_check.specs.Scaffold.Tables.{repeated, Knows};
+ghost use Rattle.piton_check.specs.Tables.{repeated, Knows};
 ghost use Rattle.stack_text.specs.Options.{first_or};
 ghost use Rattle.name_tables.specs.Entries.{look_up};
 

@@ -5,7 +5,7 @@ ghost use Rattle.std.specs.List.{flat_map};
 ghost use Rattle.stack_text.specs.Breaches.{Notes};
 ghost use Rattle.piton_check.specs.Resolved.{resolved_program};
 ghost use Rattle.piton_check.specs.Declarations.{label_names, local_names, repeats};
-ghost use Rattle.piton_check.specs.Scaffold.Tables.{IsSmall, AreSmall, Knows, KnowsSystem, KnowsProgram};
+ghost use Rattle.piton_check.specs.Tables.{IsSmall, AreSmall, Knows, KnowsSystem, KnowsProgram};
 ghost use Rattle.piton_check.specs.Violations.{is_end, end_breaches, program_breaches};
 
 use crate::argument::instructions;

@@ -5,7 +5,7 @@ ghost use Rattle.std.specs.List.{flat_map};
 ghost use Rattle.std.specs.Option.{option_map};
 ghost use Rattle.stack_text.specs.Breaches.{when, Notes};
 ghost use Rattle.piton_check.specs.Resolved.{resolved, resolved_area, resolved_number};
-ghost use Rattle.piton_check.specs.Scaffold.Tables.{IsSmallSystem, KnowsSystem};
+ghost use Rattle.piton_check.specs.Tables.{IsSmallSystem, KnowsSystem};
 ghost use Rattle.piton_check.specs.Violations.{area_breaches, first_frame, is_within, main_breaches, main_of, name_breaches, part_breaches, size_breaches, violations};
 
 use crate::names::{Names, declare_areas, declare_programs};

@@ -6,7 +6,7 @@ ghost use Rattle.stack_text.specs.Breaches.{Notes};
 ghost use Rattle.piton_check.specs.Declarations.{area_names, program_names, first_of};
 ghost use Rattle.piton_check.specs.Meaning.{natural, integer, position_in, area_lengths, program_lengths, word_of};
 ghost use Rattle.piton_check.specs.Resolved.{resolved_word, resolved_temporary};
-ghost use Rattle.piton_check.specs.Scaffold.Tables.{KnowsSystem};
+ghost use Rattle.piton_check.specs.Tables.{KnowsSystem};
 ghost use Rattle.piton_check.specs.Violations.{word_breaches, temporary_breaches};
 
 use crate::names::Names;

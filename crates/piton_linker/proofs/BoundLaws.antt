@@ -13,7 +13,7 @@ use Rattle.piton_check.specs.Instruction as i
 use Rattle.piton_check.specs.Instruction.{Instruction, ProgramView, SystemView, instruction_view, program_view, system_view}
 use Rattle.piton_check.specs.Sound.{IsSound, IsSoundProgram, target_count, program_targets}
 use Rattle.piton_semantics.specs.Fits.{Each, system_in}
-use Rattle.piton_semantics.specs.Seen.StateView.{words_in}
+use Rattle.piton_semantics.specs.StateView.{words_in}
 use Rattle.piton_semantics.proofs.SoundLaws.{all_each}
 use Rattle.piton_semantics.specs.Placed.{instruction_size, instructions_size, program_size, programs_size, areas_size}
 use Rattle.piton_semantics.specs.Step.{operation_cost}

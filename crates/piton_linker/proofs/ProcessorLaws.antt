@@ -14,7 +14,7 @@ use Rattle.piton_semantics.specs.State.{Frame, PitonState}
 use Rattle.piton_semantics.specs.Views.{then_on}
 use Rattle.piton_semantics.specs.InstructionRows.{Row}
 use Rattle.piton_semantics.specs.Step.{piton_step, piton_run, step_cost, run_cost, cost_after}
-use Rattle.piton_semantics.specs.Seen.StateView.{started}
+use Rattle.piton_semantics.specs.StateView.{started}
 use Rattle.piton_semantics.specs.Fits.{IsPlace, IsState, system_in}
 use Rattle.piton_semantics.specs.Placed.{placed, final_pc_of, end_of, addresses_of, loaded}
 use Rattle.piton_semantics.specs.Stands.{address_from, Stands, Simulates}

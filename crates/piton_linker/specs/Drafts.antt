@@ -1,4 +1,4 @@
--- Scaffold: what a pass over the programs leaves open, and how that is filled once all addresses are known.
+-- Internal: what a pass over the programs leaves open, and how that is filled once all addresses are known.
 use Rattle.std.specs.Prelude.{◌≡◌, ℕ, ◌+◌, ◌<◌, List, [], ◌∷◌, length, slice_get, slice_set, Option, Some, None, ◌==◌, if◌then◌else◌}
 use Rattle.piton_check.specs.declared.piece.Piece.{Piece}
 use Rattle.piton_check.specs.declared.piece.Piece.TheVariants.{Code, Number, Place, Table}

@@ -1,6 +1,6 @@
 -- What the crate promises: what linking returns, and the theorem.
 pub mod Layouts
 pub mod Theorem
--- Scaffold: what only private functions say.
+-- Internal: what only private functions say.
 pub mod Tables
 pub mod Drafts

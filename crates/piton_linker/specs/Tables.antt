@@ -1,4 +1,4 @@
--- Scaffold: the addresses of all places, programs and areas of a placed system, as the code lists them.
+-- Internal: the addresses of all places, programs and areas of a placed system, as the code lists them.
 use Rattle.std.specs.Prelude.{ℕ, ◌+◌, ◌<◌, List, [], ◌∷◌, length, map, get_or, slice_get, Option, Some, None}
 use Rattle.piton_words.specs.declared.word.Word.{Word}
 use Rattle.piton_check.specs.Instruction.{ProgramView, SystemView}

@@ -9,7 +9,7 @@ use Rattle.piton_check.specs.Sound.{IsSound}
 use Rattle.piton_semantics.specs.State.{PitonState}
 use Rattle.piton_semantics.specs.Step.{piton_run, run_cost}
 use Rattle.piton_semantics.specs.Fits.{IsInitialStack}
-use Rattle.piton_semantics.specs.Seen.StateView.{started}
+use Rattle.piton_semantics.specs.StateView.{started}
 use Rattle.piton_semantics.specs.Placed.{placed, final_pc_of, loaded}
 use Rattle.piton_semantics.specs.Stands.{Stands}
 

@@ -3,7 +3,7 @@
 ghost use Rattle.std.specs.Prelude.{◌≡◌, ◌++◌, ◌<◌, ◌^◌, OnOk, map, reverse};
 ghost use Rattle.piton_check.specs.Instruction.{system_view};
 ghost use Rattle.piton_semantics.specs.Fits.{Each, IsWordOf};
-ghost use Rattle.piton_semantics.specs.Seen.StateView.{words_in};
+ghost use Rattle.piton_semantics.specs.StateView.{words_in};
 ghost use Rattle.piton_semantics.specs.Addresses.{word_number, numbers};
 ghost use Rattle.piton_semantics.specs.Placed.{end_of, addresses_of};
 ghost use Rattle.piton_linker.specs.Tables.{areas_words};

@@ -4,7 +4,7 @@ ghost use Rattle.std.specs.Prelude.{◌≡◌, ◌≤◌, [], IfOk, length, reve
 ghost use Rattle.piton_semantics.specs.Fits.{Each, IsWellFormed, IsWordOf};
 ghost use Rattle.piton_check.specs.Instruction.{system_view};
 ghost use Rattle.piton_semantics.specs.Fits.{system_in, IsInitialStack};
-ghost use Rattle.piton_semantics.specs.Seen.StateView.{IsSeen, seen_step, answer_of, left_of, state_run, opening};
+ghost use Rattle.piton_semantics.specs.StateView.{IsSeen, seen_step, answer_of, left_of, state_run, opening};
 ghost use Rattle.piton_semantics.specs.State.{locals_of};
 ghost use Rattle.piton_semantics.specs.Step.{step_cost};
 
@@ -33,7 +33,7 @@ pub struct State {
 }
 
 impl Model for State {
-    ghost use Rattle.piton_semantics.specs.Seen.StateView.{Seen};
+    ghost use Rattle.piton_semantics.specs.StateView.{Seen};
 
     ghost Value = { Seen };
 

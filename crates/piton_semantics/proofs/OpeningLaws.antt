@@ -11,7 +11,7 @@ use Rattle.piton_words.specs.declared.word.Word.{Word}
 use Rattle.piton_check.specs.Instruction.{SystemView}
 use Rattle.piton_semantics.specs.State.{program_of}
 use Rattle.piton_semantics.specs.Fits.{IsWellFormed}
-use Rattle.piton_semantics.specs.Seen.StateView.{started}
+use Rattle.piton_semantics.specs.StateView.{started}
 use Rattle.piton_semantics.specs.Addresses.{numbers}
 use Rattle.piton_semantics.specs.Placed.{final_pc_of, areas_start, ctrl_start, temp_start, addresses_of, code_of, first_frame, first_frame_at, first_top, words_with, loaded}
 use Rattle.piton_semantics.specs.Stands.{Stands}

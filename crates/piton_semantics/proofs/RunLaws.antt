@@ -8,7 +8,7 @@ use Rattle.piton_semantics.specs.Views.{◌>>=◌, then_on}
 use Rattle.piton_semantics.specs.Step.{piton_step, piton_run, step_cost, cost_after, run_cost}
 use Rattle.piton_semantics.specs.Fits.{IsWellFormed, IsState}
 use Rattle.piton_semantics.specs.Law.{Steps, none, more, advanced}
-use Rattle.piton_semantics.specs.Seen.StateView.{Seen, state_run, saturated, seen_after, seen_from}
+use Rattle.piton_semantics.specs.StateView.{Seen, state_run, saturated, seen_after, seen_from}
 use Rattle.piton_semantics.proofs.ViewLaws.{went_on}
 use Rattle.piton_semantics.proofs.WordViewLaws.{same_Ok}
 use Rattle.piton_semantics.proofs.KeepLaws.{step_kept}

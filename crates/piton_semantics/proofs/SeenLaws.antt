@@ -8,7 +8,7 @@ use Rattle.piton_semantics.specs.declared.stepped.PitonRun.TheVariants as ran
 use Rattle.piton_check.specs.Instruction.{SystemView}
 use Rattle.piton_semantics.specs.State.{Frame}
 use Rattle.piton_semantics.specs.Fits.{Each, IsWordOf, IsWellFormed}
-use Rattle.piton_semantics.specs.Seen.StateView.{Seen, IsSeen, seen_from, seen_step, answer_by, answer_of, left_of, end_by, ran_on, state_run, opening}
+use Rattle.piton_semantics.specs.StateView.{Seen, IsSeen, seen_from, seen_step, answer_by, answer_of, left_of, end_by, ran_on, state_run, opening}
 use Rattle.piton_semantics.proofs.EachLaws.{each_reverse}
 
 pub opening_seen : (s : SystemView) (stack : List Word) → IsWellFormed s → length stack ≤ s.temp → Each (IsWordOf s) stack → IsSeen s (opening s stack)

@@ -61,14 +61,14 @@ instruction_group i.Ret = Jump
 instruction_group (i.Apply operation) = Word
 instruction_group instruction = Move
 
--- scaffold: these pieces for an instruction of the group, and none for another
+-- internal: these pieces for an instruction of the group, and none for another
 abbrev pub only_same : Group → Group → List Piece → List Piece
 only_same Move Move pieces = pieces
 only_same Jump Jump pieces = pieces
 only_same Word Word pieces = pieces
 only_same group other pieces = []
 
--- scaffold: the same, where an operation without its argument does nothing, whichever group it is of
+-- internal: the same, where an operation without its argument does nothing, whichever group it is of
 abbrev pub only_of : Group → Instruction → List Piece → List Piece
 only_of group i.NoOp pieces = pieces
 only_of group instruction pieces = only_same group (instruction_group instruction) pieces

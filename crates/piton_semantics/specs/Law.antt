@@ -7,7 +7,7 @@ use Rattle.piton_semantics.specs.State.{Frame, PitonState}
 use Rattle.piton_semantics.specs.Step.{piton_step, piton_run, step_cost, run_cost}
 use Rattle.piton_check.specs.Sound.{IsSound}
 use Rattle.piton_semantics.specs.Fits.{IsState}
-use Rattle.piton_semantics.specs.Seen.StateView.{Seen, saturated, state_run}
+use Rattle.piton_semantics.specs.StateView.{Seen, saturated, state_run}
 
 -- each step of a sound system leads from a state to a state
 abbrev pub EachStepKeeps : Type 0

@@ -15,6 +15,7 @@ pub mod Groups
 -- The laws.
 pub mod Law
 pub mod PlacedLaws
--- In folders: how clauses see the code, scaffold.
-pub mod Seen
-pub mod Scaffold
+-- Internal: what only private functions and lemmas say.
+pub mod Arguments
+-- How clauses see a state with its counts, a stack of words, and frames.
+pub mod StateView

@@ -7,7 +7,7 @@ use Rattle.piton_words.specs.OperationRows.{are_same}
 use Rattle.piton_check.specs.Instruction.{Instruction, SystemView}
 use Rattle.piton_check.specs.Sound.{IsSound}
 use Rattle.piton_semantics.specs.Fits.{IsWordOf}
-use Rattle.piton_semantics.specs.Seen.StateView.{started}
+use Rattle.piton_semantics.specs.StateView.{started}
 use Rattle.piton_semantics.specs.Addresses.{Addresses, word_number}
 use Rattle.piton_semantics.specs.Templates.{template}
 use Rattle.piton_semantics.specs.Placed.{instruction_size, final_pc_of, addresses_of, parts_of, placed, loaded}

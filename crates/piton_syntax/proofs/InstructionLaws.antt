@@ -1,7 +1,7 @@
 -- What follows `dl`, by its shape.
 use Rattle.std.proofs.Common.{◌≡◌, ◌≢◌, ℕ, List, [], ◌∷◌, length, get_or, Ok, Some, Bor, Vec, Global, refl, sym, ◌∙◌, arith}
 use Rattle.stack_text.specs.Trees.{Node, Nodes, atom, list, none, more}
-use Rattle.stack_text.specs.Seen.TreeView.{node_of, nodes_of}
+use Rattle.stack_text.specs.Views.TreeView.{node_of, nodes_of}
 use Rattle.stack_text.specs.declared.tree.TextTree.{TextTree}
 use Rattle.stack_text.specs.declared.tree.TextTree.{Atom, List as ListOf}
 use Rattle.stack_text.proofs.TreeViewLaws.{node_of-atom, node_of-list}

@@ -5,7 +5,7 @@ use Rattle.std.proofs.lemmas.Bool.{ne_eqb}
 use Rattle.stack_text.specs.declared.breach.Breach.{Breach}
 use Rattle.stack_text.specs.Trees.{Node, more}
 use Rattle.stack_text.specs.TreeText.{spaced_text, tree_text}
-use Rattle.stack_text.specs.Seen.TreeView.{node_of, nodes, nodes_of}
+use Rattle.stack_text.specs.Views.TreeView.{node_of, nodes, nodes_of}
 use Rattle.stack_text.specs.Grammar.Judged.{Judged, ◌⊛◌}
 use Rattle.stack_text.specs.Grammar.Printed.{items_after}
 use Rattle.stack_text.specs.Grammar.Reading.{Finds}

@@ -9,7 +9,7 @@ use Rattle.stack_text.specs.declared.name.Named.{Named}
 use Rattle.stack_text.specs.Names.{is_name}
 use Rattle.stack_text.specs.Numerals.{is_digits, is_numeral, fits_128_bits}
 use Rattle.stack_text.specs.Trees.{depth, depths, node_count, AtomsAreRuns, AllAtomsAreRuns}
-use Rattle.stack_text.specs.Seen.TreeView.{nodes}
+use Rattle.stack_text.specs.Views.TreeView.{nodes}
 use Rattle.stack_text.proofs.AtomLaws.{name_is_run, numeral_is_run}
 use Rattle.stack_text.specs.Grammar.Printed.{name_tree, tree_of_all, unplaced_name}
 use Rattle.piton_syntax.specs.declared.argument.ArgKind.{ArgKind}

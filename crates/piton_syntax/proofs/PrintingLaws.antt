@@ -4,7 +4,7 @@ use Rattle.std.specs.Prelude.{codes}
 use Rattle.stack_text.specs.Trees.{Node, atom}
 use Rattle.stack_text.specs.Trees.{without_places as unplaced_tree}
 use Rattle.stack_text.specs.TreeText.{tree_text}
-use Rattle.stack_text.specs.Scaffold.Spellings.{Spells}
+use Rattle.stack_text.specs.Internal.Spellings.{Spells}
 use Rattle.stack_text.proofs.SpellingLaws.{spelled_is_read}
 use Rattle.stack_text.specs.Grammar.Printed.{lines_text, name_tree, tree_of_all}
 use Rattle.piton_syntax.specs.declared.argument.ArgText.{ArgText}

@@ -6,7 +6,7 @@
 
 mod argument;
 mod fault;
-mod law;
+mod laws;
 mod op;
 mod printing;
 mod reading;
@@ -17,7 +17,7 @@ mod word_text;
 
 pub use argument::{ArgKind, ArgText, Arguments};
 pub use fault::PitonFault;
-pub use law::plain_form;
+pub use laws::plain_form;
 pub use op::{PitonOp, operation_named};
 pub use printing::print_piton;
 pub use reading::read_piton;

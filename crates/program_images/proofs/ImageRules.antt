@@ -18,7 +18,7 @@ use Rattle.gypsy_semantics.specs.Meaning.{Done, Unfinished, meaning}
 use Rattle.gypsy_semantics.specs.Counted.{CountedOutcome, CountedDone, CountedUnfinished, uncounted, tally_of, counted_meaning}
 use Rattle.gypsy_semantics.proofs.CountLaws.{meaning-uncounted}
 use Rattle.gypsy_semantics.specs.Machine.{State, Move, Next, Ended, start}
-use Rattle.gypsy_semantics.specs.Seen.Moments.{moment_from, NeverEnds}
+use Rattle.gypsy_semantics.specs.Views.Moments.{moment_from, NeverEnds}
 use Rattle.gypsy_semantics.proofs.Runs.{agree}
 use Rattle.gypsy_logic.specs.Counts.{MeansAfter, IsAfter}
 use Rattle.gypsy_logic.specs.Endless.{IsEndless}

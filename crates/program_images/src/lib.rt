@@ -3,6 +3,6 @@
 //! The rules are `shown_by`, `shown_after_by` and `runs_on_by` of `proofs/ImageRules`. What they rest on is said here.
 #![tactic(auto)]
 
-mod law;
+mod laws;
 
-pub use law::{counts_are_shown, endless_runs_on, means_are_shown, text_has_one_source};
+pub use laws::{counts_are_shown, endless_runs_on, means_are_shown, text_has_one_source};

@@ -2,10 +2,10 @@
 #![tactic(auto)]
 
 mod building;
-mod law;
+mod laws;
 
 pub use building::build_sum;
-pub use law::{
+pub use laws::{
     clock_goes_round, down_counts, gcd_is_found, inc_increments, nim_is_decided, nim_plays,
     piles_play, sort_sorts, sum_sums_up,
 };

@@ -8,7 +8,7 @@ use Rattle.stack_text.specs.Values.{ValueOf}
 use Rattle.stack_text.proofs.KeepsLaws.{and_true}
 use Rattle.gypsy_syntax.specs.declared.literal.Decl.{Decl}
 use Rattle.gypsy_syntax.specs.declared.proc.Proc.{Proc as TextProc}
-use Rattle.gypsy_syntax.specs.Seen.SourceView.{proc_of}
+use Rattle.gypsy_syntax.specs.Views.SourceView.{proc_of}
 use Rattle.std.specs.Option.{IsSome, IsSomeAnd, option_map, unwrap_or}
 use Rattle.gypsy_syntax.specs.Programs.{Proc, Program, no_proc, proc_at, words_of}
 use Rattle.gypsy_syntax.specs.ProgramFits.{ProgramFits}

@@ -21,9 +21,9 @@ use Rattle.space_cert.specs.Covers.{Bounds, no_bounds, bound_at, IsAtMost, calle
 use Rattle.space_cert.specs.Reaches.{Reaches, Directly, Further, Leads, calls_of, IsReached}
 use Rattle.space_cert.specs.Least.{IsLeast, IsFirstRecursive}
 use Rattle.space_cert.specs.Order.{greater, call_words, greatest_call, run_bound, with_bound, bounds_of_order, call_bound_by, greatest_call_by, run_bound_by, bounds_by_needs, AreBounds}
-use Rattle.space_cert.specs.Scaffold.Search.{AreDone}
-use Rattle.space_cert.specs.Scaffold.SearchState.{call_of, IsFound}
-use Rattle.space_cert.specs.Scaffold.SearchView.{AreCalls, seen_calls}
+use Rattle.space_cert.specs.Internal.Search.{AreDone}
+use Rattle.space_cert.specs.Internal.SearchState.{call_of, IsFound}
+use Rattle.space_cert.specs.Internal.SearchView.{AreCalls, seen_calls}
 use Rattle.std.specs.Global.{Vec}
 use Rattle.space_cert.proofs.AllLaws.{all_left}
 use Rattle.space_cert.proofs.ContainsLaws.{contains_none, contains_first, contains_later, contains_cases}

@@ -3,8 +3,8 @@ use Rattle.std.proofs.Common.{◌≡◌, ℕ, ◌<◌, ◌≤◌, List, [], ◌�
 use Rattle.std.proofs.lemmas.List.{get_or_read}
 use Rattle.std.proofs.lemmas.List.Elements.{All-from_get_or}
 use Rattle.std.specs.List.{All}
-use Rattle.space_cert.specs.Scaffold.SearchState.{SearchOf, mark_at, AreMarked, IsSearch, IsFound, left_to_do, with_call, with_joined}
-use Rattle.space_cert.specs.Scaffold.SearchView.{AreCalls, HasFinished, HasAdvanced}
+use Rattle.space_cert.specs.Internal.SearchState.{SearchOf, mark_at, AreMarked, IsSearch, IsFound, left_to_do, with_call, with_joined}
+use Rattle.space_cert.specs.Internal.SearchView.{AreCalls, HasFinished, HasAdvanced}
 use Rattle.space_cert.specs.declared.search.Mark.{Mark}
 use Rattle.space_cert.specs.declared.search.Mark.TheVariants.{New, Entered}
 use Rattle.space_cert.specs.declared.search.Group.{Group}

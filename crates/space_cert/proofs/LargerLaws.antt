@@ -9,7 +9,7 @@ use Rattle.gypsy_space.specs.Needs.{StackSizes, call_need, has_temp_room, has_ct
 use Rattle.gypsy_space.specs.declared.need.Lack.TheVariants.{Nothing, Temporary, Control}
 use Rattle.gypsy_semantics.specs.Calls.{CurrentCondition}
 use Rattle.gypsy_semantics.specs.Machine.{Item, Do, Frame, State, At, Move, Next, Ended, used, call_step, do_step, gypsy_step, go_on, run, start}
-use Rattle.gypsy_semantics.specs.Seen.Moments.{moved_on, moment}
+use Rattle.gypsy_semantics.specs.Views.Moments.{moved_on, moment}
 use Rattle.gypsy_semantics.proofs.Runs.{agree}
 use Rattle.space_cert.specs.Covers.{IsAtMost}
 use Rattle.space_cert.specs.Larger.{EndsWith, LargerStacksChangeNothing, CoveredRunsAreTheSame}

@@ -4,7 +4,7 @@ use Rattle.std.proofs.lemmas.Bool.{cases_eq, cases_lt}
 use Rattle.std.proofs.lemmas.List.{get_or-set_same, get_or-set_other, length-set, get_or_past, get_or_push, get_or_append_left, length_push, get_or-take, get_or-drop, get_or_default, length-drop, length-take, set_past}
 use Rattle.std.specs.List.{Contains}
 use Rattle.std.proofs.lemmas.List.Elements.{Contains-append_left, Contains-append_right, Contains-append_cases}
-use Rattle.space_cert.specs.Scaffold.SearchState.{mark_at, is_new, new_count, weight, new_weight, AreMarked, done_marks}
+use Rattle.space_cert.specs.Internal.SearchState.{mark_at, is_new, new_count, weight, new_weight, AreMarked, done_marks}
 use Rattle.space_cert.specs.declared.search.Mark.{Mark}
 use Rattle.space_cert.specs.declared.search.Mark.TheVariants.{New, Entered, Done}
 use Rattle.space_cert.proofs.ContainsLaws.{contains_none, contains_first, contains_later, contains_cases}

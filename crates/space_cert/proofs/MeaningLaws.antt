@@ -11,7 +11,7 @@ use Rattle.gypsy_syntax.specs.ProgramFits.{Each, ProgramFits}
 use Rattle.gypsy_semantics.specs.Calls.{has_cond, is_leave, values_of, copied_in, main_start}
 use Rattle.gypsy_semantics.specs.Meaning.{MeaningOutcome, Done, Unfinished, then_do, either_way, caught, round_end, applied, returned, if_room, evaluate, main_end, meaning}
 use Rattle.space_cert.specs.Covers.{Bounds, bound_at, words_sum, callees, IsAtMost, CoversCall, CoversCalls, IsCertificate, Covers}
-use Rattle.space_cert.specs.Scaffold.Omits.{IsOther, OmitsSpace, WayIsOther}
+use Rattle.space_cert.specs.Internal.Omits.{IsOther, OmitsSpace, WayIsOther}
 use Rattle.space_cert.proofs.AllLaws.{all_left, all_right}
 use Rattle.space_cert.proofs.CoversLaws.{bound_there, room, left, main_within}
 use Rattle.space_cert.proofs.StepLaws.{main_bound}

@@ -16,7 +16,7 @@ use Rattle.gypsy_syntax.proofs.FitsLaws.{keeps_fits}
 use Rattle.gypsy_syntax.specs.GypsyReading.{KeepsForm}
 use Rattle.gypsy_syntax.specs.Fits.{FitsProcedure}
 use Rattle.gypsy_syntax.specs.Resolved.{place_among, procedure_names}
-use Rattle.gypsy_syntax.specs.Seen.SourceView.{proc_of}
+use Rattle.gypsy_syntax.specs.Views.SourceView.{proc_of}
 use Rattle.gypsy_syntax.specs.Sources.{ProcOf, SourceOf}
 use Rattle.gypsy_check.specs.Declarations.{is_among, repeats}
 use Rattle.gypsy_check.specs.Rules.{violations, main_breaches}

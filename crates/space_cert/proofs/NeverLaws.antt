@@ -8,7 +8,7 @@ use Rattle.gypsy_semantics.specs.Machine.{State, Move, Next, Ended, Ending, Over
 use Rattle.space_cert.specs.Covers.{Bounds, Covers}
 use Rattle.space_cert.specs.CoveredStates.{StateCovered}
 use Rattle.space_cert.specs.Never.{Visits, First, Later, NeverSpaceError}
-use Rattle.space_cert.specs.Scaffold.Omits.{StateOmitsSpace, WayIsOther, MoveOmitsSpace}
+use Rattle.space_cert.specs.Internal.Omits.{StateOmitsSpace, WayIsOther, MoveOmitsSpace}
 use Rattle.space_cert.proofs.StepLaws.{MoveCovered, start_covered, step_covered, call_on_top}
 use Rattle.space_cert.proofs.OmitLaws.{body_omits, open_omits, step_omits, raises_other}
 use Rattle.space_cert.proofs.MeaningLaws.{never_meant}

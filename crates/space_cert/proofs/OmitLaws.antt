@@ -13,7 +13,7 @@ use Rattle.gypsy_space.specs.Needs.{StackSizes}
 use Rattle.gypsy_semantics.specs.Calls.{has_cond, is_leave, is_passed_on, main_way, matching, values_of, copied_out}
 use Rattle.gypsy_semantics.specs.Machine.{Item, Do, Back, JoinThen, JoinOne, Guard, Out, Frame, Held, State, At, Next, opens, open_on, settle, stop_if, raise, either_move, apply_step, call_step, do_step, end_step, out_step, gypsy_step}
 use Rattle.space_cert.specs.Never.{HasCallRoom, raised, raised_for, raised_after}
-use Rattle.space_cert.specs.Scaffold.Omits.{IsOther, OmitsSpace, WorkOmitsSpace, WaitingOmitsSpace, StateOmitsSpace, MoveOmitsSpace}
+use Rattle.space_cert.specs.Internal.Omits.{IsOther, OmitsSpace, WorkOmitsSpace, WaitingOmitsSpace, StateOmitsSpace, MoveOmitsSpace}
 
 -- In a program that fits.
 

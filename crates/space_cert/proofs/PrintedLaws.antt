@@ -4,7 +4,7 @@ use Rattle.std.proofs.lemmas.Bool.{ne_eqb}
 use Rattle.std.proofs.lemmas.List.{append-nil, drop_all}
 use Rattle.stack_text.specs.Trees.{Node, none}
 use Rattle.stack_text.specs.TreeText.{tree_text, items_text, spaced_text}
-use Rattle.stack_text.specs.Seen.TreeView.{nodes}
+use Rattle.stack_text.specs.Views.TreeView.{nodes}
 use Rattle.stack_text.specs.Grammar.Printed.{items_after}
 use Rattle.stack_text.proofs.PrintLaws.{apart_by}
 use Rattle.stack_text.proofs.Loops.{drop-item}

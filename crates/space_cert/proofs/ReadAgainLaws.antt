@@ -14,7 +14,7 @@ use Rattle.stack_text.specs.Numerals.{fits_128_bits}
 use Rattle.stack_text.specs.Results.{◌>>=◌}
 use Rattle.stack_text.specs.Trees.{Node, Nodes, atom, list, none, more, node_counts, depths, AtomsAreRuns, AllAtomsAreRuns, IsWellFormed, without_places, all_without_places}
 use Rattle.stack_text.specs.TreeText.{tree_text, items_text, spaced_text}
-use Rattle.stack_text.specs.Seen.TreeView.{nodes}
+use Rattle.stack_text.specs.Views.TreeView.{nodes}
 use Rattle.stack_text.proofs.AtomLaws.{name_is_run, numeral_is_run}
 use Rattle.stack_text.proofs.NumeralTextLaws.{digits-pos, numeral-signed_decimal, value-signed_decimal}
 use Rattle.stack_text.proofs.PrintLaws.{tree_text_reads}

@@ -4,9 +4,9 @@ use Rattle.std.proofs.lemmas.List.{append_assoc, drop-append-le, take-append-le,
 use Rattle.std.specs.List.{All}
 use Rattle.std.specs.Global.{Vec}
 use Rattle.stack_text.proofs.SharedLaws.{reverse_snoc}
-use Rattle.space_cert.specs.Scaffold.Search.{earlier, earliest, first_with}
-use Rattle.space_cert.specs.Scaffold.SearchState.{SearchOf, call_of, done_marks}
-use Rattle.space_cert.specs.Scaffold.SearchView.{seen_calls, IsClosing}
+use Rattle.space_cert.specs.Internal.Search.{earlier, earliest, first_with}
+use Rattle.space_cert.specs.Internal.SearchState.{SearchOf, call_of, done_marks}
+use Rattle.space_cert.specs.Internal.SearchView.{seen_calls, IsClosing}
 use Rattle.space_cert.specs.declared.search.Search.{Search}
 use Rattle.space_cert.specs.declared.search.Mark.TheVariants.{Done}
 use Rattle.space_cert.proofs.AllLaws.{all_left}

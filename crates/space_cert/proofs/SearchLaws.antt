@@ -5,7 +5,7 @@ use Rattle.std.proofs.lemmas.Bool.{cases_lt}
 use Rattle.std.specs.Option.{unwrap_or}
 use Rattle.std.proofs.lemmas.List.Elements.{All-nil, All-cons, Contains-append_left, Contains-append_right, Contains-append_cases, Contains-push}
 use Rattle.space_cert.specs.Reaches.{Reaches, Directly, Further, Leads}
-use Rattle.space_cert.specs.Scaffold.Search.{GroupOf, all_members, IsGroup, AreGroups, AreDone, earlier, earliest, first_with}
+use Rattle.space_cert.specs.Internal.Search.{GroupOf, all_members, IsGroup, AreGroups, AreDone, earlier, earliest, first_with}
 use Rattle.space_cert.proofs.ContainsLaws.{contains_none, contains_first, contains_later, contains_cases}
 
 module _ (calls : ℕ → List ℕ) where

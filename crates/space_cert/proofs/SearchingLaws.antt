@@ -4,8 +4,8 @@ use Rattle.std.proofs.lemmas.List.{get_or-replicate, length-set, length-replicat
 use Rattle.std.specs.List.{Contains}
 use Rattle.std.proofs.lemmas.List.Elements.{Contains-push, Contains-append_left, Contains-append_right, Contains-append_cases}
 use Rattle.space_cert.specs.Reaches.{Leads}
-use Rattle.space_cert.specs.Scaffold.Search.{GroupOf, all_members, IsGroup, AreGroups, AreDone, first_with}
-use Rattle.space_cert.specs.Scaffold.SearchState.{SearchOf, call_of, mark_at, groups_in, IsCut, is_new, new_count, weight, new_weight, AreMarked, AreReached, IsSearch, IsFound, left_to_do, done_marks, with_entered, with_todo, with_circle, with_joined}
+use Rattle.space_cert.specs.Internal.Search.{GroupOf, all_members, IsGroup, AreGroups, AreDone, first_with}
+use Rattle.space_cert.specs.Internal.SearchState.{SearchOf, call_of, mark_at, groups_in, IsCut, is_new, new_count, weight, new_weight, AreMarked, AreReached, IsSearch, IsFound, left_to_do, done_marks, with_entered, with_todo, with_circle, with_joined}
 use Rattle.space_cert.specs.declared.search.Mark.TheVariants.{New, Entered, Done}
 use Rattle.space_cert.specs.declared.search.Group.{Group}
 use Rattle.space_cert.proofs.ContainsLaws.{contains_none, contains_first, contains_cases}

@@ -6,7 +6,7 @@ use Rattle.stack_text.specs.Gives.{Fails}
 use Rattle.stack_text.specs.Results.{◌>>=◌}
 use Rattle.stack_text.specs.Trees.{more}
 use Rattle.stack_text.specs.declared.tree.TextTree.{TextTree}
-use Rattle.stack_text.specs.Seen.TreeView.{node_of, nodes_of}
+use Rattle.stack_text.specs.Views.TreeView.{node_of, nodes_of}
 use Rattle.stack_text.proofs.KeepsLaws.{and_true}
 use Rattle.space_cert.specs.CertText.{Fault, three_of, entry_at, with_entries}
 use Rattle.space_cert.specs.Covers.{Bounds}

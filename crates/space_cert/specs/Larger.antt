@@ -7,7 +7,7 @@ use Rattle.gypsy_space.specs.Costs.{Tally}
 use Rattle.gypsy_space.specs.Needs.{StackSizes}
 use Rattle.gypsy_semantics.specs.Calls.{CurrentCondition}
 use Rattle.gypsy_semantics.specs.Counted.{CountedDone, counted_meaning}
-use Rattle.gypsy_semantics.specs.Seen.Moments.{moment_from}
+use Rattle.gypsy_semantics.specs.Views.Moments.{moment_from}
 use Rattle.space_cert.specs.Covers.{Bounds, Covers, IsAtMost}
 use Rattle.space_cert.specs.Never.{NeverSpaceError}
 

@@ -12,5 +12,5 @@ pub mod Certified
 pub mod CertAgain
 pub mod Order
 pub mod Accepting
--- In folders: scaffold.
-pub mod Scaffold
+-- In folders: what is internal.
+pub mod Internal

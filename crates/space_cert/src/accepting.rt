@@ -6,7 +6,7 @@ ghost use Rattle.std.specs.Option.{option_map};
 ghost use Rattle.std.specs.Str.{bytes_eq};
 ghost use Rattle.gypsy_syntax.specs.Programs.{proc_at, words_of};
 ghost use Rattle.gypsy_syntax.specs.Resolved.{position_of, procedure_names, program_of, shape_of};
-ghost use Rattle.gypsy_syntax.specs.Seen.SourceView.{parts_of_list, proc_of, source_of, stmt_of};
+ghost use Rattle.gypsy_syntax.specs.Views.SourceView.{parts_of_list, proc_of, source_of, stmt_of};
 ghost use Rattle.gypsy_space.specs.Events.{AreNeeds, AreSmall, IsSmall, need_at};
 ghost use Rattle.gypsy_space.specs.Needs.{main_used, stack_sizes};
 ghost use Rattle.stack_text.specs.Values.{ValueOf, item_count};

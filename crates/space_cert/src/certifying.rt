@@ -5,14 +5,14 @@ ghost use Rattle.std.specs.Result.{MatchResult};
 ghost use Rattle.std.specs.List.{All};
 ghost use Rattle.gypsy_syntax.specs.ProgramFits.{ProgramFits};
 ghost use Rattle.gypsy_syntax.specs.Resolved.{program_of};
-ghost use Rattle.gypsy_syntax.specs.Seen.SourceView.{source_of};
+ghost use Rattle.gypsy_syntax.specs.Views.SourceView.{source_of};
 ghost use Rattle.gypsy_space.specs.Events.{AreNeeds, AreSmall, IsSmall};
 ghost use Rattle.gypsy_space.specs.Nodes.{seen_program, seen_statement, seen_statements};
 ghost use Rattle.space_cert.specs.Covers.{as_words, callees};
 ghost use Rattle.space_cert.specs.Certified.{GivesCertified, certified};
 ghost use Rattle.space_cert.specs.Order.{AreBounds, bounds_by_needs, call_bound_by, run_bound_by};
 ghost use Rattle.space_cert.specs.Least.{IsCertFault, IsLeast, IsThere};
-ghost use Rattle.space_cert.specs.Scaffold.SearchView.{seen_calls};
+ghost use Rattle.space_cert.specs.Internal.SearchView.{seen_calls};
 
 use crate::certificate::Certificate;
 use crate::search::call_order;

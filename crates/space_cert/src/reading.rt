@@ -4,15 +4,15 @@ ghost use Rattle.std.specs.Prelude.{◌≡◌, ◌<◌, ◌≤◌, ◌^◌, IfOk
 ghost use Rattle.std.specs.List.{IsDistinct};
 ghost use Rattle.std.specs.Str.{bytes_eq};
 ghost use Rattle.stack_text.specs.Gives as memory;
-ghost use Rattle.stack_text.specs.Seen.TreeView.{node_of, nodes_of};
+ghost use Rattle.stack_text.specs.Views.TreeView.{node_of, nodes_of};
 ghost use Rattle.gypsy_syntax.specs.Resolved.{place_among, procedure_names};
-ghost use Rattle.gypsy_syntax.specs.Seen.SourceView.{source_of};
+ghost use Rattle.gypsy_syntax.specs.Views.SourceView.{source_of};
 ghost use Rattle.gypsy_space.specs.Callees.{names_of};
 ghost use Rattle.space_cert.specs.Bounded.{are_bounds};
 ghost use Rattle.space_cert.specs.Covers.{no_bounds};
 ghost use Rattle.space_cert.specs.CertText.{GivesCertificateText, bounds_at, bounds_in, entry_at, fault_of, free_place, name_at};
 ghost use Rattle.space_cert.specs.CertText.{number_at, number_of, parts_entry, three_of, with_entries};
-ghost use Rattle.space_cert.specs.Scaffold.Names.{names_in};
+ghost use Rattle.space_cert.specs.Internal.Names.{names_in};
 
 use crate::certificate::Certificate;
 use crate::certifying::bound_of;

@@ -2,9 +2,9 @@
 
 ghost use Rattle.std.specs.Prelude.{◌≡◌, ◌<◌, ◌≤◌, ◌^◌, ◌∷◌, Some, List, length, reverse, IfOk, OnOk};
 ghost use Rattle.std.specs.List.{All};
-ghost use Rattle.space_cert.specs.Scaffold.Search.{earlier};
-ghost use Rattle.space_cert.specs.Scaffold.SearchState.{IsFound};
-ghost use Rattle.space_cert.specs.Scaffold.SearchView.{AreCalls, seen_calls};
+ghost use Rattle.space_cert.specs.Internal.Search.{earlier};
+ghost use Rattle.space_cert.specs.Internal.SearchState.{IsFound};
+ghost use Rattle.space_cert.specs.Internal.SearchView.{AreCalls, seen_calls};
 
 use stack_text::Memory;
 use std::alloc::Global;
@@ -56,8 +56,8 @@ fn earlier(procedure: u32, first: Option<u32>) -> u32
 }
 
 impl Search {
-    ghost use Rattle.space_cert.specs.Scaffold.SearchState.{with_call, with_entered, with_joined, with_top_done, IsSearch, left_to_do};
-    ghost use Rattle.space_cert.specs.Scaffold.SearchView.{HasAdvanced, HasFinished, search_of};
+    ghost use Rattle.space_cert.specs.Internal.SearchState.{with_call, with_entered, with_joined, with_top_done, IsSearch, left_to_do};
+    ghost use Rattle.space_cert.specs.Internal.SearchView.{HasAdvanced, HasFinished, search_of};
     ghost use Rattle.space_cert.specs.declared.search.Group.{Group};
 
     /// The search begins with main.

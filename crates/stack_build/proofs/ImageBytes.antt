@@ -17,7 +17,7 @@ use Rattle.piton_check.specs.Sound.{IsSound}
 use Rattle.piton_semantics.specs.Placed.{placed}
 use Rattle.gypsy_syntax.specs.declared.literal.Decl.{Decl}
 use Rattle.stack_build.specs.Image.{image_with}
-use Rattle.stack_build.specs.Scaffold.Showing.{Shows}
+use Rattle.stack_build.specs.Internal.Showing.{Shows}
 use Rattle.stack_build.proofs.WordsLaws.{words-trimmed, placed_are_words, registers_are_words}
 use Rattle.stack_build.proofs.ImageLimits.{placed_window, system_fits}
 

@@ -45,7 +45,7 @@ use Rattle.piton_linker.specs.Layouts.{trimmed}
 use Rattle.gypsy_codegen.proofs.StackLaws.{values_words}
 use Rattle.stack_build.specs.Formals.{formals_in, conditions_in, shown_formals, shown_conditions}
 use Rattle.stack_build.specs.Image.{slots_from, image_with}
-use Rattle.stack_build.specs.Scaffold.Showing.{AreShort, shapes_in, Shows}
+use Rattle.stack_build.specs.Internal.Showing.{AreShort, shapes_in, Shows}
 use Rattle.stack_build.proofs.Windows.{shorter}
 use Rattle.stack_build.proofs.MainLaws.{IsMain, main_is, zero_values}
 

@@ -9,7 +9,7 @@ use Rattle.stack_text.specs.Values.{ValueOf}
 use Rattle.fm_image.specs.Limits.{Tables}
 use Rattle.piton_check.specs.Instruction.{SystemView}
 use Rattle.piton_check.specs.Sound.{IsSound}
-use Rattle.piton_semantics.specs.Seen.StateView.{started}
+use Rattle.piton_semantics.specs.StateView.{started}
 use Rattle.piton_linker.specs.Theorem.{RunsOnProcessor, PitonRunsOnProcessor}
 use Rattle.gypsy_syntax.specs.declared.literal.Decl.{Decl}
 use Rattle.gypsy_syntax.specs.Sources.{ProcOf, SourceOf}
@@ -31,7 +31,7 @@ use Rattle.stack_build.specs.Image.{image_with, source_tables, image_of}
 use Rattle.stack_build.specs.Implements.{variable_shown, way_shown, Implements}
 use Rattle.stack_build.specs.ComesTo.{ComesTo}
 use Rattle.stack_build.specs.Joined.{GeneratedImageImplements}
-use Rattle.stack_build.specs.Scaffold.Showing.{shapes_in}
+use Rattle.stack_build.specs.Internal.Showing.{shapes_in}
 use Rattle.stack_build.proofs.Ending.{ends_well, way_read}
 use Rattle.stack_build.proofs.Joining.{image_comes}
 use Rattle.stack_build.proofs.MainLaws.{IsMain, main_is, zero_values}

@@ -17,7 +17,7 @@ use Rattle.piton_check.specs.Instruction.{SystemView}
 use Rattle.piton_check.specs.Sound.{IsSound}
 use Rattle.piton_semantics.specs.Addresses.{word_number, numbers}
 use Rattle.piton_semantics.specs.Placed.{areas_start, end_of, addresses_of, final_pc_of, loaded}
-use Rattle.piton_semantics.specs.Seen.StateView.{started}
+use Rattle.piton_semantics.specs.StateView.{started}
 use Rattle.piton_semantics.proofs.RunLaws.{steps_run, steps_cost}
 use Rattle.piton_semantics.proofs.SoundLaws.{known}
 use Rattle.piton_linker.specs.Theorem.{ComesToStand, RunsOnProcessor}
@@ -33,7 +33,7 @@ use Rattle.stack_build.specs.Implements.{variable_shown, way_shown}
 use Rattle.stack_build.specs.ComesTo.{ComesTo}
 use Rattle.stack_build.proofs.Laying.{map-reversed, reversed_append, Holds-reversed}
 use Rattle.stack_build.proofs.Storing.{items_words}
-use Rattle.stack_build.specs.Scaffold.Showing.{shapes_in}
+use Rattle.stack_build.specs.Internal.Showing.{shapes_in}
 use Rattle.stack_build.proofs.Numbers.{values_numbers, each_fits}
 use Rattle.stack_build.proofs.Loading.{image_loaded}
 use Rattle.stack_build.proofs.Initial.{is_initial}

@@ -39,7 +39,7 @@ use Rattle.gypsy_codegen.specs.Marks.{IsMarkPlace, marks_of}
 use Rattle.gypsy_codegen.proofs.MarkOrderLaws.{marks_are_places}
 use Rattle.stack_build.specs.declared.tables.FrameOrder.{FrameOrder}
 use Rattle.stack_build.specs.Image.{variable_infos, procedure_info, procedure_infos, mark_info, source_tables}
-use Rattle.stack_build.specs.Scaffold.Listing.{Declares, IsGenerated, offset_in, order_of, formal_infos, local_infos, frame_infos, listed_procedure, address_among, mark_among}
+use Rattle.stack_build.specs.Internal.Listing.{Declares, IsGenerated, offset_in, order_of, formal_infos, local_infos, frame_infos, listed_procedure, address_among, mark_among}
 
 -- ---- variables
 

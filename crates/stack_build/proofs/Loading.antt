@@ -24,7 +24,7 @@ use Rattle.gypsy_codegen.proofs.CopyLaws.{each_both}
 use Rattle.stack_build.specs.Image.{slots_from, image_with}
 use Rattle.stack_build.proofs.Laying.{reversed_append, map-reversed}
 use Rattle.stack_build.proofs.Storing.{items_words, split, values_stored}
-use Rattle.stack_build.specs.Scaffold.Showing.{shapes_in}
+use Rattle.stack_build.specs.Internal.Showing.{shapes_in}
 use Rattle.stack_build.proofs.Numbers.{values_numbers, each_fits, words_both}
 use Rattle.stack_build.proofs.Windows.{all_stand}
 

@@ -32,7 +32,7 @@ use Rattle.piton_semantics.specs.State.{PitonState, locals_of, element}
 use Rattle.piton_semantics.specs.Addresses.{Addresses, word_number, numbers}
 use Rattle.piton_semantics.specs.Law.{Steps}
 use Rattle.piton_semantics.specs.Placed.{areas_start, end_of, addresses_of, final_pc_of, address_of_place, loaded}
-use Rattle.piton_semantics.specs.Seen.StateView.{started}
+use Rattle.piton_semantics.specs.StateView.{started}
 use Rattle.piton_semantics.specs.Stands.{Stands, frame_words, pointer_to, address_from, return_address}
 use Rattle.piton_semantics.proofs.RunLaws.{steps_run, steps_cost}
 use Rattle.piton_semantics.proofs.SoundLaws.{known}
@@ -49,7 +49,7 @@ use Rattle.gypsy_space.specs.Needs.{StackSizes, vars_of}
 use Rattle.gypsy_semantics.specs.Calls.{CurrentCondition, main_start}
 use Rattle.gypsy_semantics.specs.Counted.{CountedOutcome, CountedDone, counted_meaning, uncounted, tally_of}
 use Rattle.gypsy_semantics.specs.Machine.{Item, Frame, Held, State, At, Move, Next, Ended, start}
-use Rattle.gypsy_semantics.specs.Seen.RunView.{top_way}
+use Rattle.gypsy_semantics.specs.Views.RunView.{top_way}
 use Rattle.gypsy_semantics.proofs.CountLaws.{meaning-uncounted}
 use Rattle.gypsy_semantics.proofs.EffectLaws.{value_fits}
 use Rattle.gypsy_semantics.proofs.Runs.{agree}
@@ -66,7 +66,7 @@ use Rattle.stack_build.specs.Implements.{Implements, meaning_shown}
 use Rattle.stack_build.specs.ComesTo.{ComesTo}
 use Rattle.stack_build.specs.Moments.{HoldsVariable, HoldsFrames, MemoryReads, ArrivesAtMark, ArrivesAtEnd, ArrivesAt, KeepsMoments}
 use Rattle.stack_build.specs.StaysUnfinished.{StaysUnfinished}
-use Rattle.stack_build.specs.Scaffold.Showing.{shapes_in}
+use Rattle.stack_build.specs.Internal.Showing.{shapes_in}
 use Rattle.stack_build.proofs.Initial.{is_initial}
 use Rattle.stack_build.proofs.Loading.{image_loaded}
 use Rattle.stack_build.proofs.MainLaws.{IsMain, main_is, zero_values}

@@ -12,7 +12,7 @@ use Rattle.piton_linker.specs.Layouts.{layout_of}
 use Rattle.piton_linker.proofs.ProcessorLaws.{checked_end}
 use Rattle.gypsy_syntax.specs.declared.literal.Decl.{Decl}
 use Rattle.stack_build.specs.Image.{slots_from, linked_image, image_with}
-use Rattle.stack_build.specs.Scaffold.Showing.{Shows}
+use Rattle.stack_build.specs.Internal.Showing.{Shows}
 use Rattle.stack_build.proofs.ImageLimits.{placed_window, system_fits}
 
 -- its addresses are numbers of 32 bits

@@ -23,7 +23,7 @@ use Rattle.stack_build.specs.Implements.{variable_shown}
 use Rattle.stack_build.proofs.Bits.{no_bit}
 use Rattle.stack_build.proofs.Laying.{reversed_append, Holds-reversed}
 use Rattle.stack_build.proofs.Storing.{items_words}
-use Rattle.stack_build.specs.Scaffold.Showing.{shapes_in}
+use Rattle.stack_build.specs.Internal.Showing.{shapes_in}
 
 -- an item in range is one of its kind, and has 32 bits
 item_fits : (k : Kind) (z : ℤ) → is_in_range k z ≡ true → (is_item k z ≡ true) × (is_int z ≡ true)

@@ -35,8 +35,8 @@ use Rattle.gypsy_check.proofs.CleanLaws.{get_or_map}
 use Rattle.gypsy_space.specs.Needs.{StackSizes}
 use Rattle.gypsy_semantics.specs.Kept.{WorkFits, StateFits}
 use Rattle.gypsy_semantics.specs.Machine.{Item, Do, Back, JoinThen, JoinOne, Guard, Out, State, At, Next, place_of}
-use Rattle.gypsy_semantics.specs.Seen.RunView.{top_way}
-use Rattle.gypsy_semantics.specs.Seen.Shown.{conditions_at, variables_at}
+use Rattle.gypsy_semantics.specs.Views.RunView.{top_way}
+use Rattle.gypsy_semantics.specs.Views.Shown.{conditions_at, variables_at}
 use Rattle.gypsy_codegen.specs.declared.marking.MarkAt.{MarkAt}
 use Rattle.gypsy_codegen.specs.WordsOf.{number_of_way}
 use Rattle.gypsy_codegen.specs.Generated.{offset, generated_view}

@@ -5,7 +5,7 @@ use Rattle.std.specs.List.{find}
 use Rattle.gypsy_syntax.specs.declared.proc.Proc.{Proc}
 use Rattle.gypsy_syntax.specs.declared.proc.Source.{Source}
 use Rattle.gypsy_syntax.specs.Sources.{ProcOf}
-use Rattle.gypsy_syntax.specs.Seen.SourceView.{proc_of, source_of}
+use Rattle.gypsy_syntax.specs.Views.SourceView.{proc_of, source_of}
 use Rattle.gypsy_syntax.specs.Resolved.{place_among, procedure_at}
 use Rattle.gypsy_check.proofs.LookupLaws.{place_cons, procedure_past}
 use Rattle.stack_build.specs.Formals.{main_of}

@@ -28,7 +28,7 @@ use Rattle.gypsy_space.specs.Needs.{StackSizes, stack_sizes}
 use Rattle.gypsy_codegen.specs.Generated.{generated_view}
 use Rattle.stack_build.specs.Formals.{formals_in, shown_formals, shown_conditions}
 use Rattle.stack_build.specs.Image.{slots_from, formal_slots, image_of}
-use Rattle.stack_build.specs.Scaffold.Showing.{AreShort, shapes_in, Shows}
+use Rattle.stack_build.specs.Internal.Showing.{AreShort, shapes_in, Shows}
 use Rattle.stack_build.specs.Implements.{FitsFormals}
 use Rattle.stack_build.proofs.ImageLimits.{names-slots_from, generated_shows}
 use Rattle.stack_build.proofs.MainLaws.{main_is}

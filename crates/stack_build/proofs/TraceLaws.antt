@@ -27,7 +27,7 @@ use Rattle.gypsy_syntax.specs.Resolved.{program_of}
 use Rattle.gypsy_space.specs.Needs.{vars_of}
 use Rattle.gypsy_semantics.specs.Calls.{main_start}
 use Rattle.gypsy_semantics.specs.Machine.{Frame, Held, Move, At, Next, Ended}
-use Rattle.gypsy_semantics.specs.Seen.RunView.{handed_back}
+use Rattle.gypsy_semantics.specs.Views.RunView.{handed_back}
 use Rattle.gypsy_semantics.proofs.EffectLaws.{value_fits}
 use Rattle.gypsy_predef.specs.Runs.{word_of_item}
 use Rattle.gypsy_predef.proofs.StackLaws.{element_there}

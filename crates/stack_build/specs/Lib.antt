@@ -16,5 +16,5 @@ pub mod Joined
 pub mod Inside
 pub mod Starts
 pub mod SourceRuns
--- In folders: scaffold.
-pub mod Scaffold
+-- In folders: what is internal.
+pub mod Internal

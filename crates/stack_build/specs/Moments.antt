@@ -18,7 +18,7 @@ use Rattle.gypsy_syntax.specs.Sources.{SourceOf}
 use Rattle.gypsy_space.specs.Needs.{StackSizes, vars_of}
 use Rattle.gypsy_semantics.specs.Machine.{Item, Frame, Held, At, Move, Next, Ended}
 use Rattle.gypsy_semantics.specs.Calls.{CurrentCondition}
-use Rattle.gypsy_semantics.specs.Seen.RunView.{top_way}
+use Rattle.gypsy_semantics.specs.Views.RunView.{top_way}
 use Rattle.gypsy_codegen.specs.WordsOf.{number_of_way}
 use Rattle.gypsy_codegen.specs.Generated.{offset, generated_view}
 use Rattle.gypsy_codegen.specs.Showing.{mark_of}

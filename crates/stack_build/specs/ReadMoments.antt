@@ -10,8 +10,8 @@ use Rattle.gypsy_syntax.specs.Sources.{SourceOf}
 use Rattle.gypsy_syntax.specs.Resolved.{program_of}
 use Rattle.gypsy_space.specs.Needs.{StackSizes}
 use Rattle.gypsy_semantics.specs.Machine.{State, Move, Next, Ended}
-use Rattle.gypsy_semantics.specs.Seen.Moments.{moment_from}
-use Rattle.gypsy_semantics.specs.Seen.RunView.{spent_at}
+use Rattle.gypsy_semantics.specs.Views.Moments.{moment_from}
+use Rattle.gypsy_semantics.specs.Views.RunView.{spent_at}
 use Rattle.gypsy_check.specs.Accepted.{IsAccepted}
 use Rattle.stack_build.specs.Image.{image_of, places_fit}
 use Rattle.stack_build.specs.Implements.{FitsFormals, meaning_shown}

@@ -15,8 +15,8 @@ use Rattle.gypsy_syntax.specs.Sources.{SourceOf}
 use Rattle.gypsy_check.specs.Accepted.{IsAccepted}
 use Rattle.gypsy_space.specs.Needs.{StackSizes}
 use Rattle.gypsy_semantics.specs.Machine.{Item, State, At, Next, place_of}
-use Rattle.gypsy_semantics.specs.Seen.RunView.{top_way}
-use Rattle.gypsy_semantics.specs.Seen.Shown.{conditions_at, variables_at}
+use Rattle.gypsy_semantics.specs.Views.RunView.{top_way}
+use Rattle.gypsy_semantics.specs.Views.Shown.{conditions_at, variables_at}
 use Rattle.gypsy_codegen.specs.WordsOf.{number_of_way}
 use Rattle.gypsy_codegen.specs.Generated.{offset, generated_view}
 use Rattle.gypsy_codegen.specs.Showing.{mark_of}

@@ -6,7 +6,7 @@ use Rattle.fm_image.specs.Image.{ImageOf}
 use Rattle.fm_loader.specs.Loaded.{loaded}
 use Rattle.piton_check.specs.Instruction.{SystemView}
 use Rattle.piton_semantics.specs.Placed.{placed}
-use Rattle.piton_semantics.specs.Seen.StateView.{started}
+use Rattle.piton_semantics.specs.StateView.{started}
 use Rattle.piton_semantics.specs.State.{PitonState}
 use Rattle.piton_semantics.specs.Step.{piton_run, run_cost}
 use Rattle.piton_linker.specs.Theorem.{ComesToStand}

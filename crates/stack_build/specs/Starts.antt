@@ -14,12 +14,12 @@ use Rattle.piton_words.specs.declared.word.Word.{Word}
 use Rattle.piton_check.specs.PitonChecking.{CheckedOf}
 use Rattle.piton_semantics.specs.Fits.{IsInitialStack, system_in}
 use Rattle.piton_semantics.specs.Placed.{placed}
-use Rattle.piton_semantics.specs.Seen.StateView.{opening as piton_opening}
+use Rattle.piton_semantics.specs.StateView.{opening as piton_opening}
 use Rattle.gypsy_syntax.specs.Sources.{SourceOf}
 use Rattle.gypsy_syntax.specs.Resolved.{program_of}
 use Rattle.gypsy_space.specs.Needs.{StackSizes, main_need}
 use Rattle.gypsy_semantics.specs.Calls.{main_start}
-use Rattle.gypsy_semantics.specs.Seen.RunView.{Seen, opening}
+use Rattle.gypsy_semantics.specs.Views.RunView.{Seen, opening}
 use Rattle.gypsy_codegen.specs.WordsOf.{words_of_values}
 use Rattle.stack_build.specs.declared.fault.BuildFault.{BuildFault}
 use Rattle.stack_build.specs.declared.fault.BuildFault.TheVariants as build

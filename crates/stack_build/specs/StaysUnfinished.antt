@@ -8,7 +8,7 @@ use Rattle.fm_loader.specs.Loaded.{loaded}
 use Rattle.gypsy_syntax.specs.Resolved.{program_of}
 use Rattle.gypsy_syntax.specs.Sources.{SourceOf}
 use Rattle.gypsy_space.specs.Needs.{StackSizes}
-use Rattle.gypsy_semantics.specs.Seen.Moments.{NeverEnds}
+use Rattle.gypsy_semantics.specs.Views.Moments.{NeverEnds}
 use Rattle.stack_build.specs.Implements.{FitsFormals}
 
 -- Where the source never ends on some values, a run of the image is unfinished at every budget.

@@ -18,7 +18,7 @@ use Rattle.gypsy_syntax.specs.Sources.{SourceOf}
 use Rattle.gypsy_check.specs.Accepted.{IsAccepted}
 use Rattle.gypsy_space.specs.Needs.{StackSizes, vars_of}
 use Rattle.gypsy_semantics.specs.Machine.{Frame, Held, Move, At, Next, Ended}
-use Rattle.gypsy_semantics.specs.Seen.RunView.{handed_back}
+use Rattle.gypsy_semantics.specs.Views.RunView.{handed_back}
 use Rattle.gypsy_codegen.specs.Acceptable.{LimitsFit}
 use Rattle.gypsy_codegen.specs.Generated.{offset, generated_view}
 use Rattle.gypsy_codegen.specs.Moments.{moment_from}

@@ -3,7 +3,7 @@ ghost use Rattle.std.specs.Prelude.{◌≤◌, ◌^◌, IfOk, length};
 ghost use Rattle.piton_syntax.specs.PitonReading.{KeepsForm};
 ghost use Rattle.gypsy_check.specs.Accepted.{IsAccepted};
 ghost use Rattle.gypsy_space.specs.Needs.{stack_sizes};
-ghost use Rattle.gypsy_syntax.specs.Seen.SourceView.{source_of};
+ghost use Rattle.gypsy_syntax.specs.Views.SourceView.{source_of};
 ghost use Rattle.stack_build.specs.Build.{GivesBuilt, source_in, source_built, compiled, built, Builds, BuildsText};
 
 use crate::fault::BuildFault;

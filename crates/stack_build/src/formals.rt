@@ -2,7 +2,7 @@
 ghost use Rattle.std.specs.Prelude.{◌≤◌, ◌^◌, IfOk, length};
 ghost use Rattle.fm_loader.specs.Rules.{GivesValues};
 ghost use Rattle.fm_loader.specs.Values.{values_in};
-ghost use Rattle.gypsy_syntax.specs.Seen.SourceView.{source_of};
+ghost use Rattle.gypsy_syntax.specs.Views.SourceView.{source_of};
 ghost use Rattle.stack_build.specs.Image.{formal_slots};
 ghost use Rattle.stack_build.specs.Implements.{FitsFormals};
 

@@ -7,13 +7,13 @@ ghost use Rattle.piton_semantics.specs.Placed.{placed};
 ghost use Rattle.piton_linker.specs.Layouts.{places_of, IsFault};
 ghost use Rattle.piton_linker.specs.Theorem.{RunsOnProcessor};
 ghost use Rattle.gypsy_syntax.specs.Resolved.{program_of, shape_of};
-ghost use Rattle.gypsy_syntax.specs.Seen.SourceView.{source_of};
+ghost use Rattle.gypsy_syntax.specs.Views.SourceView.{source_of};
 ghost use Rattle.gypsy_check.specs.Accepted.{IsAccepted};
 ghost use Rattle.gypsy_space.specs.Events.{AreNeeds};
 ghost use Rattle.gypsy_space.specs.Nodes.{declared_names, seen_proc_names, seen_program};
 ghost use Rattle.stack_build.specs.Image.{slots_from, linked_image, image_on};
-ghost use Rattle.stack_build.specs.Scaffold.Listing.{IsGenerated};
-ghost use Rattle.stack_build.specs.Scaffold.Showing.{AreShort};
+ghost use Rattle.stack_build.specs.Internal.Listing.{IsGenerated};
+ghost use Rattle.stack_build.specs.Internal.Showing.{AreShort};
 
 use crate::shown::{formal_conditions, shown_formals};
 use crate::tables::tables;

@@ -10,7 +10,7 @@ mod built_starts;
 mod fault;
 mod formals;
 mod imaging;
-mod law;
+mod laws;
 mod meaning_starts;
 mod shown;
 mod start_fault;
@@ -22,7 +22,7 @@ pub use built_starts::{ImageStart, SystemStart, start_image, start_system};
 pub use fault::BuildFault;
 pub use formals::read_formals;
 pub use imaging::linked_image;
-pub use law::{
+pub use laws::{
     builds_implement, builds_stay_inside, images_implement, images_keep_traces, images_say_moments,
     images_stand_for_piton, moments_are_read, placed_are_words, runs_are_meant,
     source_runs_tell_meaning,

@@ -1,12 +1,12 @@
 //! Where the runs of a source's own steps begin.
 
 ghost use Rattle.std.specs.Prelude.{◌≡◌, ◌≤◌, ◌^◌, IfOk, length};
-ghost use Rattle.gypsy_meaning.specs.Seen.Belongs.{BelongsTo};
-ghost use Rattle.gypsy_meaning.specs.Seen.Running.{seen};
+ghost use Rattle.gypsy_meaning.specs.Views.Belongs.{BelongsTo};
+ghost use Rattle.gypsy_meaning.specs.Views.Running.{seen};
 ghost use Rattle.gypsy_space.specs.Events.{AreNeeds, AreSmall};
 ghost use Rattle.gypsy_space.specs.Needs.{stack_sizes, main_need};
 ghost use Rattle.gypsy_syntax.specs.Resolved.{program_of};
-ghost use Rattle.gypsy_syntax.specs.Seen.SourceView.{source_of};
+ghost use Rattle.gypsy_syntax.specs.Views.SourceView.{source_of};
 ghost use Rattle.stack_build.specs.Starts.{GivesStart, shortage_of, gypsy_start};
 
 use crate::fault::BuildFault;

@@ -2,7 +2,7 @@
 use Rattle.std.proofs.Common.{◌≡◌, ◌<◌, ◌∷◌, [], ℕ, zero, suc, List, length, map, get_or, sym, ap, arith}
 use Rattle.gypsy_syntax.specs.declared.proc.Proc.{Proc}
 use Rattle.gypsy_syntax.specs.Sources.{ProcOf}
-use Rattle.gypsy_syntax.specs.Seen.SourceView.{proc_of}
+use Rattle.gypsy_syntax.specs.Views.SourceView.{proc_of}
 
 -- the name of a procedure is the one at its position
 pub name_at : (procs : List Proc) (i : ℕ) (p : Proc) → i < length procs → p ≡ get_or procs i p → get_or (map (λ (q : ProcOf). q.name.name) (map proc_of procs)) i [] ≡ p.name.name

@@ -16,7 +16,7 @@ use Rattle.fm_turns.specs.Turns.{TurnsOf, round_of, rounds_of}
 use Rattle.gypsy_space.specs.Needs.{StackSizes}
 use Rattle.stack_build.specs.Build.{built}
 use Rattle.stack_commands.specs.declared.turns.tasks.TasksFault.{TasksFault}
-use Rattle.stack_commands.specs.Scaffold.Told.{told_of, told_from}
+use Rattle.stack_commands.specs.Internal.Told.{told_of, told_from}
 use Rattle.stack_commands.specs.Commands.Turns.{image_or_fault, images_from, values_or_fault, tasks_from}
 
 -- 1. Lists of results.

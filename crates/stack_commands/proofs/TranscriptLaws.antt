@@ -18,7 +18,7 @@ use Rattle.level_debuggers.proofs.LineLaws.{both}
 use Rattle.command_line.specs.declared.status.Status.{Status}
 use Rattle.stack_commands.specs.Commands.Debug.{end_verdict, followed_reply, lines_reply, session_on}
 use Rattle.command_replies.specs.Replies.{ReplyOf, reply_text, status_of, verdict_line}
-use Rattle.stack_commands.specs.Scaffold.Transcript.{AllPrinted}
+use Rattle.stack_commands.specs.Internal.Transcript.{AllPrinted}
 
 -- What was said and printed so far; these lines are left, for the session that is left, and all together is what a whole script says.
 pub record SoFar {K : Type 0} (put : K → List ℕ → K) (before now : K) (taken_before taken_now : Option (List ℕ)) (whole : Followed) (lines : List Line)

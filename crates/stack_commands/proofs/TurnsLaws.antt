@@ -36,8 +36,8 @@ use Rattle.stack_commands.specs.declared.turns.tasks.TasksFault.TheVariants.{Cou
 use Rattle.command_replies.specs.declared.reply.Verdict.TheVariants as verdict
 use Rattle.command_replies.specs.Replies.{reply_text, verdict_line}
 use Rattle.command_replies.specs.Commands.Run.{end_reply, run_reply}
-use Rattle.stack_commands.specs.Scaffold.Tasks.{fault_of, AreShort, AreReady}
-use Rattle.stack_commands.specs.Scaffold.Told.{told, told_of, told_from, has_ended, told_reply}
+use Rattle.stack_commands.specs.Internal.Tasks.{fault_of, AreShort, AreReady}
+use Rattle.stack_commands.specs.Internal.Told.{told, told_of, told_from, has_ended, told_reply}
 use Rattle.stack_commands.specs.Commands.Turns.{few_enough, image_or_fault, images_from, word_count, small_enough, values_or_fault, tasks_from, tasks_of, last_round, round_line, task_text, tasks_text, is_end, tasks_verdict, tasks_reply}
 
 -- 1. The images are built side by side.

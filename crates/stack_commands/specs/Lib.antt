@@ -1,6 +1,6 @@
 -- what `prepare` and `finish` promise
 pub mod Prepared
 pub mod Works
--- In folders: the commands, scaffold.
+-- In folders: the commands, what is internal.
 pub mod Commands
-pub mod Scaffold
+pub mod Internal

@@ -2,7 +2,7 @@
 ghost use Rattle.std.specs.Prelude.{◌≡◌, [], None, IfOk, codes};
 ghost use Rattle.stack_text.specs.SharedLimits.{most_steps};
 ghost use Rattle.gypsy_syntax.specs.GypsyReading.{KeepsForm};
-ghost use Rattle.gypsy_syntax.specs.Seen.SourceView.{source_of};
+ghost use Rattle.gypsy_syntax.specs.Views.SourceView.{source_of};
 ghost use Rattle.gypsy_check.specs.Rules.{violations};
 ghost use Rattle.gypsy_gen.specs.Large.{large_of};
 ghost use Rattle.fm_loader.specs.Values.{values_in};

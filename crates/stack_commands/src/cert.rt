@@ -1,6 +1,6 @@
 //! The command `cert`.
 ghost use Rattle.std.specs.Prelude.{◌≡◌, ◌≤◌, ◌^◌, None, IfOk, length};
-ghost use Rattle.gypsy_syntax.specs.Seen.SourceView.{source_of};
+ghost use Rattle.gypsy_syntax.specs.Views.SourceView.{source_of};
 ghost use Rattle.gypsy_space.specs.Needs.{stack_sizes};
 ghost use Rattle.stack_commands.specs.Commands.Cert.{yes_or_no, certificate_reply, cert_reply};
 ghost use Rattle.command_replies.specs.Plans.{pending_reply};

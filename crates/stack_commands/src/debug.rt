@@ -1,9 +1,9 @@
 //! The command `debug`.
 ghost use Rattle.std.specs.Prelude.{◌≡◌, ◌≤◌, ◌^◌, List, None, Some, IfOk, length};
 ghost use Rattle.gypsy_space.specs.Needs.{stack_sizes};
-ghost use Rattle.gypsy_syntax.specs.Seen.SourceView.{source_of};
+ghost use Rattle.gypsy_syntax.specs.Views.SourceView.{source_of};
 ghost use Rattle.level_debuggers.specs.Levels.{IsRunner, level_of};
-ghost use Rattle.level_debuggers.specs.Seen.Sessions.{session_of};
+ghost use Rattle.level_debuggers.specs.Views.Sessions.{session_of};
 ghost use Rattle.level_debuggers.specs.Tallies.{Watching};
 ghost use Rattle.stack_build.specs.Starts.{GivesStart};
 ghost use Rattle.debug_script.specs.Scripts.{fault_of, script_of};

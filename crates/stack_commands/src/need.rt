@@ -1,7 +1,7 @@
 //! The command `need`.
 ghost use Rattle.std.specs.Prelude.{◌≡◌, ◌≤◌, ◌<◌, ◌^◌, [], Some, IfOk, get_or, length, map};
 ghost use Rattle.gypsy_syntax.specs.Resolved.{procedure_names, program_of};
-ghost use Rattle.gypsy_syntax.specs.Seen.SourceView.{proc_of, source_of};
+ghost use Rattle.gypsy_syntax.specs.Views.SourceView.{proc_of, source_of};
 ghost use Rattle.gypsy_space.specs.Events.{AreNeeds, AreSmall};
 ghost use Rattle.space_cert.specs.CertText.{certificate_text};
 ghost use Rattle.space_cert.specs.Covers.{as_words, sizes_for};

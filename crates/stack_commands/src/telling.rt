@@ -4,12 +4,12 @@ ghost use Rattle.stack_shelf.specs.Causes.{Rose};
 ghost use Rattle.stack_shelf.specs.Shelf.{appended, PrefixAppended};
 ghost use Rattle.command_line.specs.Devices.{lines_of, took_each};
 ghost use Rattle.level_debuggers.specs.Levels.{IsRunner};
-ghost use Rattle.level_debuggers.specs.Seen.Sessions.{IsSession, session_of};
+ghost use Rattle.level_debuggers.specs.Views.Sessions.{IsSession, session_of};
 ghost use Rattle.level_debuggers.specs.Transcripts.{followed};
 ghost use Rattle.stack_commands.specs.Commands.Debug.{end_verdict, followed_reply};
 ghost use Rattle.stack_commands.specs.Works.{script_run_reply};
 ghost use Rattle.command_replies.specs.Replies.{reply_text, status_of, verdict_line};
-ghost use Rattle.stack_commands.specs.Scaffold.Transcript.{AllPrinted};
+ghost use Rattle.stack_commands.specs.Internal.Transcript.{AllPrinted};
 
 use crate::debug::end_verdict;
 use crate::script_run::ScriptRun;

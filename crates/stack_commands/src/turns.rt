@@ -6,7 +6,7 @@ ghost use Rattle.command_line.specs.Gathered.{texts_of};
 ghost use Rattle.command_replies.specs.Plans.{pending_reply};
 ghost use Rattle.command_replies.specs.Replies.{reply_of};
 ghost use Rattle.stack_commands.specs.Commands.Turns.{turns_reply, fault_reply};
-ghost use Rattle.stack_commands.specs.Scaffold.Tasks.{fault_of};
+ghost use Rattle.stack_commands.specs.Internal.Tasks.{fault_of};
 
 mod rounds;
 mod tasks;

@@ -6,8 +6,8 @@ use Rattle.std.proofs.Math.Seq.{take-suc}
 use Rattle.stack_heap.specs.Heaps.{RefusesWithin, room_after}
 use Rattle.stack_text.specs.Tokens.{Token, opens_at, between, tokens}
 use Rattle.stack_text.specs.Trees.{Node, atom, list, tokens_of, tokens_of_all, as_kept}
-use Rattle.stack_text.specs.Seen.TreeView.{node_of, nodes_of, nodes}
-use Rattle.stack_text.specs.Scaffold.OpenLists.{opened}
+use Rattle.stack_text.specs.Views.TreeView.{node_of, nodes_of, nodes}
+use Rattle.stack_text.specs.Internal.OpenLists.{opened}
 use Rattle.stack_text.specs.declared.reader.OpenList.{OpenList}
 use Rattle.stack_text.specs.declared.text_fault.TextFault.{TextFault}
 use Rattle.stack_text.specs.declared.text_fault.TextFault.TheVariants.{Memory}

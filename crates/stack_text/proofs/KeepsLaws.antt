@@ -6,7 +6,7 @@ use Rattle.stack_text.specs.declared.name.Named.{Named}
 use Rattle.stack_text.specs.Names.{is_name}
 use Rattle.stack_text.specs.Tokens.{atom_run}
 use Rattle.stack_text.specs.Trees.{Node, Nodes, atom, list, none, more, depth, depths, node_count, node_counts, AtomsAreRuns, AllAtomsAreRuns, IsWellFormed}
-use Rattle.stack_text.specs.Seen.TreeView.{nodes}
+use Rattle.stack_text.specs.Views.TreeView.{nodes}
 use Rattle.std.proofs.lemmas.Bool.{and_parts}
 use Rattle.stack_text.proofs.AtomLaws.{name_is_run}
 use Rattle.stack_text.specs.Grammar.Judged.{Judged, judged, ◌⊛◌, front, each_of}

@@ -4,7 +4,7 @@ use Rattle.std.proofs.Common.{◌≡◌, ℕ, ◌≤◌, List, [], ◌∷◌, le
 use Rattle.std.proofs.lemmas.List.Elements.{All-head, All-tail}
 use Rattle.stack_text.specs.declared.name.Named.{Named}
 use Rattle.stack_text.specs.Trees.{Node, depth, depths, AtomsAreRuns, AllAtomsAreRuns}
-use Rattle.stack_text.specs.Seen.TreeView.{nodes}
+use Rattle.stack_text.specs.Views.TreeView.{nodes}
 use Rattle.stack_text.specs.Grammar.Judged.{Judged, front, each_of}
 use Rattle.stack_text.specs.Grammar.Parts.{IsNamed, count_of, name_or}
 use Rattle.stack_text.specs.Grammar.Printed.{name_tree, unplaced_name}

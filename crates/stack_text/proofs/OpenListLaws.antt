@@ -6,9 +6,9 @@ use Rattle.std.specs.Prelude.{slice_index_or, slice_set, take}
 use Rattle.std.proofs.lemmas.Bool.{lt-ltb, le-ltb}
 use Rattle.stack_text.specs.Tokens.{Token, opens_at, closes_at, atom_at, between, tokens}
 use Rattle.stack_text.specs.Trees.{Node, tokens_of, tokens_of_all, as_kept}
-use Rattle.stack_text.specs.Seen.TreeView.{nodes, node_of, nodes_of}
+use Rattle.stack_text.specs.Views.TreeView.{nodes, node_of, nodes_of}
 use Rattle.stack_text.specs.TextFaults.{Context, before, within, after, open_lists, after_tree, first_fault, text_fault}
-use Rattle.stack_text.specs.Scaffold.OpenLists.{opened, context_from, context, Puts, Steps, ReadsText, ReturnsAlone}
+use Rattle.stack_text.specs.Internal.OpenLists.{opened, context_from, context, Puts, Steps, ReadsText, ReturnsAlone}
 use Rattle.stack_text.specs.declared.reader.OpenList.{OpenList}
 use Rattle.stack_text.specs.declared.tree.TextTree.{TextTree}
 use Rattle.stack_text.specs.declared.tree.TextTree.TheBlock.{Atom}

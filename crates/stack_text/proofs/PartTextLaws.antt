@@ -4,8 +4,8 @@ use Rattle.std.specs.List.{flat_map}
 use Rattle.stack_text.specs.Trees.{Node, list}
 use Rattle.stack_text.specs.Trees.{without_places as unplaced_tree, all_without_places}
 use Rattle.stack_text.specs.TreeText.{tree_text, items_text, spaced_text}
-use Rattle.stack_text.specs.Seen.TreeView.{nodes}
-use Rattle.stack_text.specs.Scaffold.Spellings.{Spells, SpellsRest}
+use Rattle.stack_text.specs.Views.TreeView.{nodes}
+use Rattle.stack_text.specs.Internal.Spellings.{Spells, SpellsRest}
 use Rattle.stack_text.proofs.PrintLaws.{Spells-tree_text}
 use Rattle.stack_text.specs.Grammar.Printed.{lines_text}
 

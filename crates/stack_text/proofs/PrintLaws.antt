@@ -4,9 +4,9 @@ use Rattle.std.specs.Prelude.{Bool, true, false, if◌then◌else◌}
 use Rattle.std.proofs.lemmas.List.{append-nil, map_push, take_more, length-take, length-map, take_all}
 use Rattle.std.proofs.lemmas.Bool.{ne_eqb}
 use Rattle.stack_text.specs.Trees.{Node, Nodes, atom, list, none, more, IsWellFormed, ReadsAs}
-use Rattle.stack_text.specs.Seen.TreeView.{nodes, owned_node, owned_nodes}
+use Rattle.stack_text.specs.Views.TreeView.{nodes, owned_node, owned_nodes}
 use Rattle.stack_text.specs.TreeText.{tree_text, items_text, spaced_text}
-use Rattle.stack_text.specs.Scaffold.Spellings.{Spells, SpellsAll, SpellsRest}
+use Rattle.stack_text.specs.Internal.Spellings.{Spells, SpellsAll, SpellsRest}
 use Rattle.stack_text.specs.declared.tree.Tree.{Tree}
 use Rattle.stack_text.specs.declared.tree.Tree.TheViews.{List as MadeList}
 use Rattle.stack_text.proofs.TreeViewLaws.{owned_node-list}

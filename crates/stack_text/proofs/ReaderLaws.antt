@@ -9,7 +9,7 @@ use Rattle.stack_text.specs.declared.grammar.fault.FormFault.TheVariants.{Form, 
 use Rattle.stack_text.specs.Gives.{FailsUnless}
 use Rattle.stack_text.specs.PlaceOrder.{IsInOrder}
 use Rattle.stack_text.specs.Results.{unless_fault}
-use Rattle.stack_text.specs.Seen.TreeView.{node_of}
+use Rattle.stack_text.specs.Views.TreeView.{node_of}
 use Rattle.stack_text.specs.TextFaults.{text_fault}
 use Rattle.stack_text.specs.Tokens.{between, tokens}
 use Rattle.stack_text.specs.TreeIn.{GivesTreeUnless, first_item, items_of, tree_in}

@@ -4,7 +4,7 @@ use Rattle.std.proofs.lemmas.List.{drop_all}
 use Rattle.stack_text.specs.Gives.{Fails}
 use Rattle.stack_text.specs.Results.{◌>>=◌}
 use Rattle.stack_text.specs.Trees.{Node, Nodes, none, more}
-use Rattle.stack_text.specs.Seen.TreeView.{node_of, nodes_of}
+use Rattle.stack_text.specs.Views.TreeView.{node_of, nodes_of}
 use Rattle.stack_text.specs.declared.tree.TextTree.{TextTree}
 use Rattle.stack_text.proofs.Loops.{drop-item}
 

@@ -5,7 +5,7 @@ use Rattle.stack_text.specs.declared.class.Class.{Class}
 use Rattle.stack_text.specs.declared.class.Class.TheVariants.{LineEnd, Space, Semicolon, Opening, Closing, AtomByte, Invalid}
 use Rattle.stack_text.specs.Tokens.{class_of, Token, opens_at, closes_at, atom_at, between, if_atom_byte, atom_run, tokens}
 use Rattle.stack_text.specs.Trees.{Node, Nodes, atom, list, none, more, tokens_of, tokens_of_all, depth, depths, as_kept, AtomsAreRuns, AllAtomsAreRuns, IsWellFormed, without_places, all_without_places, ReadsAs}
-use Rattle.stack_text.specs.Scaffold.Spellings.{IsSeparator, IsWhitespace, Spells, SpellsAll, SpellsRest}
+use Rattle.stack_text.specs.Internal.Spellings.{IsSeparator, IsWhitespace, Spells, SpellsAll, SpellsRest}
 use Rattle.stack_text.proofs.RunLaws.{kept_from, tokens-atom_at, tokens-byte, tokens-nil}
 
 -- a tree that was read from a place on: its tokens, and that it differs in places alone

@@ -6,7 +6,7 @@ use Rattle.stack_text.specs.declared.text_fault.TextFault.TheVariants.{Fault, Me
 use Rattle.stack_text.specs.declared.text_fault.TextRule.{TextRule}
 use Rattle.stack_text.specs.Tokens.{Token, opens_at, closes_at, atom_at, invalid_at, between, tokens}
 use Rattle.stack_text.specs.Trees.{Node, Nodes, atom, list, none, more, tokens_of, tokens_of_all, as_kept, TreeOf}
-use Rattle.stack_text.specs.Scaffold.OpenLists.{ReadsText}
+use Rattle.stack_text.specs.Internal.OpenLists.{ReadsText}
 use Rattle.stack_text.proofs.TreeLaws.{tree_has_no_fault}
 use Rattle.stack_text.specs.TreeIn.{in_front, as_item, items_of, first_item, tree_in, GivesTreeUnless, ReadsExactly}
 

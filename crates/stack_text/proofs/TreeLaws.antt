@@ -6,7 +6,7 @@ use Rattle.std.proofs.lemmas.List.{append-nil}
 use Rattle.stack_text.specs.Tokens.{Token, opens_at, closes_at, atom_at, invalid_at, between, tokens}
 use Rattle.stack_text.specs.Trees.{Node, Nodes, atom, list, none, more, tokens_of, tokens_of_all, depth, depths, as_kept, TreeOf}
 use Rattle.stack_text.specs.TextFaults.{Context, before, within, after, open_lists, after_tree, first_fault, text_fault, ReportsFault}
-use Rattle.stack_text.specs.Scaffold.OpenLists.{ReadsText}
+use Rattle.stack_text.specs.Internal.OpenLists.{ReadsText}
 use Rattle.stack_text.specs.declared.text_fault.TextRule.{TextRule}
 use Rattle.stack_text.specs.declared.text_fault.TextRule.TheVariants.{G4}
 use Rattle.stack_text.specs.declared.text_fault.TextFault.{TextFault}

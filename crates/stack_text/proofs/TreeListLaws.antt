@@ -3,7 +3,7 @@ use Rattle.std.proofs.Common.{◌≡◌, ◌≢◌, ◌+◌, ◌-◌, ℕ, List,
 use Rattle.std.proofs.lemmas.List.{take_all}
 use Rattle.stack_text.specs.Grammar.Parts.{count_of}
 use Rattle.stack_text.specs.Trees.{Node, Nodes, none, more}
-use Rattle.stack_text.specs.Seen.TreeView.{node_of, nodes_of}
+use Rattle.stack_text.specs.Views.TreeView.{node_of, nodes_of}
 use Rattle.stack_text.specs.declared.tree.TextTree.{TextTree}
 
 -- what holds of none and of two or more holds of all but one

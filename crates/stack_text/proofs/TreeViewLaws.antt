@@ -3,7 +3,7 @@ use Rattle.std.proofs.Common.{◌≡◌, Vec, Global, ℕ, ◌+◌, ◌<◌, ◌
 use Rattle.std.proofs.lemmas.List.{map_push, take_more, take_all}
 use Rattle.std.specs.Borrow.{Bor}
 use Rattle.stack_text.specs.Trees.{Node, atom, list}
-use Rattle.stack_text.specs.Seen.TreeView.{nodes, node_of_layer, node_of, nodes_of, owned_layer, owned_node, owned_nodes}
+use Rattle.stack_text.specs.Views.TreeView.{nodes, node_of_layer, node_of, nodes_of, owned_layer, owned_node, owned_nodes}
 use Rattle.stack_text.specs.declared.tree.TextTree.{TextTree}
 use Rattle.stack_text.specs.declared.tree.TextTree.TheBlock.{Atom}
 use Rattle.stack_text.specs.declared.tree.TextTree.TheViews.{List as MadeList}

@@ -17,6 +17,6 @@ pub mod Options
 pub mod Breaches
 -- Grammars, which the crates above read and print their texts by.
 pub mod Grammar
--- In folders: how clauses see the code, scaffold.
-pub mod Seen
-pub mod Scaffold
+-- In folders: how clauses see the code, what is internal.
+pub mod Views
+pub mod Internal

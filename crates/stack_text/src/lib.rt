@@ -6,7 +6,7 @@ mod breach;
 mod class;
 /// Parts of a grammar: how they are read from trees, and printed as trees.
 pub mod grammar;
-mod law;
+mod laws;
 mod lexer;
 mod limits;
 mod line;
@@ -22,7 +22,7 @@ mod tree;
 mod value;
 
 pub use breach::{Breach, note_if};
-pub use law::tree_or_fault;
+pub use laws::tree_or_fault;
 pub use limits::{
     MOST_ARRAY, MOST_DECLARED, MOST_IMAGE_FILE, MOST_NAME_BYTES, MOST_PROCEDURES, MOST_STACK,
     MOST_STEPS, MOST_TASKS, MOST_TEXT,

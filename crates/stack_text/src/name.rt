@@ -6,7 +6,7 @@ ghost use Rattle.stack_heap.specs.Heaps.{IfOkUnless};
 ghost use Rattle.stack_text.specs.Gives.{ReturnsUnless};
 ghost use Rattle.stack_text.specs.Grammar.Printed.{unplaced};
 ghost use Rattle.stack_text.specs.Names.{begins_with_letter, is_mark, is_name, is_name_byte, is_truth_word, name_of};
-ghost use Rattle.stack_text.specs.Seen.NameView.{kept_bytes, FitsInPlace};
+ghost use Rattle.stack_text.specs.Views.NameView.{kept_bytes, FitsInPlace};
 
 use crate::Memory;
 use crate::limits::MOST_NAME_BYTES;
@@ -44,7 +44,7 @@ pub struct Name {
 impl Model for Name {
     ghost use Rattle.std.specs.Prelude.{List, ℕ, IsTrue};
     ghost use Rattle.stack_text.specs.Names.{is_name};
-    ghost use Rattle.stack_text.specs.Seen.NameView.{kept_bytes, FitsInPlace};
+    ghost use Rattle.stack_text.specs.Views.NameView.{kept_bytes, FitsInPlace};
 
     ghost Value = { List ℕ };
 

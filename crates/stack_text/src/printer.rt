@@ -4,7 +4,7 @@ ghost use Rattle.std.specs.Prelude.{◌≡◌, ◌++◌, ◌==◌, ◌∷◌, []
 ghost use Rattle.stack_heap.specs.Heaps.{IfOkUnless, OnOkUnless};
 ghost use Rattle.stack_text.specs.Trees.{IsWellFormed, ReadsAs};
 ghost use Rattle.stack_text.specs.TreeText.{tree_text};
-ghost use Rattle.stack_text.specs.Seen.TreeView.{owned_node};
+ghost use Rattle.stack_text.specs.Views.TreeView.{owned_node};
 
 use crate::memory::Memory;
 use crate::tree::Tree;

@@ -1,6 +1,6 @@
 //! What the printed Verilog means.
 #![tactic(auto)]
 
-mod law;
+mod laws;
 
-pub use law::{goes_on, means, names, runs, written};
+pub use laws::{goes_on, means, names, runs, written};

@@ -3,7 +3,7 @@ ghost use Rattle.std.specs.Prelude.{◌≡◌, IfOk, Some, map};
 ghost use Rattle.stack_commands.specs.Works.{IsEnding};
 ghost use Rattle.cli_stack.specs.World.{out_of};
 ghost use Rattle.cli_stack.specs.RepliesTo.{TookLines};
-ghost use Rattle.cli_stack.specs.Scaffold.Driver.{machine_kept, conclusion_of, replied, Concludes};
+ghost use Rattle.cli_stack.specs.Driver.{machine_kept, conclusion_of, replied, Concludes};
 
 use command_line::{EarlyEnd, Status, print};
 use fm_machine::Machine;

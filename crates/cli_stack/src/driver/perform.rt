@@ -8,7 +8,7 @@ ghost use Rattle.cli_stack.specs.World.{shelf_of};
 ghost use Rattle.stack_commands.specs.Works.{IsEnding, ending_reply};
 ghost use Rattle.command_replies.specs.Replies.{reply_of};
 ghost use Rattle.cli_stack.specs.RepliesTo.{IsReplyTo};
-ghost use Rattle.cli_stack.specs.Scaffold.Driver.{Leaves, HasReason, replied};
+ghost use Rattle.cli_stack.specs.Driver.{Leaves, HasReason, replied};
 
 use command_line::{Command, EarlyEnd, WordsFault, command_of, gather, save};
 use stack_commands::{Ending, Reply, Verdict, Work, finish, prepare};

@@ -8,7 +8,7 @@ use Rattle.piton_check.specs.PitonChecking.{CheckedOf}
 use Rattle.piton_semantics.specs.declared.stepped.PitonRun.{PitonRun}
 use Rattle.piton_semantics.specs.declared.stepped.PitonRun.TheVariants.{Halted, Spent, Error}
 use Rattle.piton_semantics.specs.Fits.{system_in}
-use Rattle.piton_semantics.specs.Seen.StateView.{Seen, Ran, state_run, opening}
+use Rattle.piton_semantics.specs.StateView.{Seen, Ran, state_run, opening}
 use Rattle.piton_check.specs.NamedWords.{program_name_at, words_line}
 use Rattle.stack_text.specs.Lines.{line}
 use Rattle.command_replies.specs.declared.reply.Verdict.{Verdict}

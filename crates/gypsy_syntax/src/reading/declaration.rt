@@ -2,13 +2,13 @@
 
 ghost use Rattle.std.specs.Prelude.{◌≡◌, Some, Ok};
 ghost use Rattle.stack_text.specs.Trees.{list};
-ghost use Rattle.stack_text.specs.Seen.TreeView.{node_of, nodes_of};
+ghost use Rattle.stack_text.specs.Views.TreeView.{node_of, nodes_of};
 ghost use Rattle.stack_text.specs.Grammar.Judged.{◌⊛◌};
 ghost use Rattle.stack_text.specs.Grammar.Parts.{list_or};
 ghost use Rattle.stack_text.specs.Grammar.Reading.{Finds, ReadsUnless};
 ghost use Rattle.gypsy_syntax.specs.Grammar.{array_type, decl_in, literal_in, local_in, named_in, type_in};
 ghost use Rattle.gypsy_syntax.specs.Made.{new_decl, new_local};
-ghost use Rattle.gypsy_syntax.specs.Seen.SourceView.{local_of};
+ghost use Rattle.gypsy_syntax.specs.Views.SourceView.{local_of};
 
 use crate::keyword::kind_named;
 use crate::literal::{Decl, Local, TypeText};
@@ -165,7 +165,7 @@ fn local_at<H: Heap>(heap: H, place: u32, items: &[TextTree]) -> Result<Local, F
 impl Part for Local {
     ghost use Rattle.gypsy_syntax.specs.Grammar.{local_in};
     ghost use Rattle.gypsy_syntax.specs.Sources.{LocalOf};
-    ghost use Rattle.gypsy_syntax.specs.Seen.SourceView.{local_of};
+    ghost use Rattle.gypsy_syntax.specs.Views.SourceView.{local_of};
 
     ghost Seen = { LocalOf };
 

@@ -2,7 +2,7 @@
 
 ghost use Rattle.std.specs.Prelude.{◌≡◌, IsTrue, codes};
 ghost use Rattle.stack_text.specs.Numerals.{is_numeral};
-ghost use Rattle.stack_text.specs.Seen.TreeView.{node_of};
+ghost use Rattle.stack_text.specs.Views.TreeView.{node_of};
 ghost use Rattle.stack_text.specs.Grammar.Parts.{is_atom_of};
 ghost use Rattle.stack_text.specs.Grammar.Reading.{Finds, ReadsUnless};
 ghost use Rattle.gypsy_syntax.specs.Grammar.{is_word, kind_in, named_in, names_in, number_at, number_in};

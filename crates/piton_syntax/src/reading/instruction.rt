@@ -5,7 +5,7 @@ ghost use Rattle.std.specs.Str.{bytes_eq};
 ghost use Rattle.stack_text.specs.Grammar.Judged.{◌⊛◌};
 ghost use Rattle.stack_text.specs.Grammar.Reading.{ReadsUnless};
 ghost use Rattle.stack_text.specs.Trees.{list, none, more};
-ghost use Rattle.stack_text.specs.Seen.TreeView.{node_of, nodes_of};
+ghost use Rattle.stack_text.specs.Views.TreeView.{node_of, nodes_of};
 ghost use Rattle.piton_syntax.specs.Grammar.{called_of, instruction_of, labelled_of, named_of};
 ghost use Rattle.piton_syntax.specs.Operations.{operation_named};
 

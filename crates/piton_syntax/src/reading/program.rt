@@ -4,7 +4,7 @@ ghost use Rattle.std.specs.Prelude.{◌≡◌, Ok};
 ghost use Rattle.stack_text.specs.Grammar.Judged.{each_of, ◌⊛◌};
 ghost use Rattle.stack_text.specs.Grammar.Reading.{ReadsUnless};
 ghost use Rattle.stack_text.specs.Trees.{list, place_of};
-ghost use Rattle.stack_text.specs.Seen.TreeView.{node_of, nodes_of};
+ghost use Rattle.stack_text.specs.Views.TreeView.{node_of, nodes_of};
 ghost use Rattle.piton_syntax.specs.Grammar.{instruction_of, list_of, named_of, program_of, temporary_of};
 ghost use Rattle.piton_syntax.specs.Limits.{is_small_program};
 ghost use Rattle.piton_syntax.specs.Systems.{new_program};

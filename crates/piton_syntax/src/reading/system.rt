@@ -7,7 +7,7 @@ ghost use Rattle.stack_text.specs.Grammar.Parts.{is_atom_of};
 ghost use Rattle.stack_text.specs.Grammar.Reading.{ReadsUnless};
 ghost use Rattle.stack_text.specs.Numerals.{is_digits};
 ghost use Rattle.stack_text.specs.Trees.{atom, list};
-ghost use Rattle.stack_text.specs.Seen.TreeView.{node_of, nodes_of};
+ghost use Rattle.stack_text.specs.Views.TreeView.{node_of, nodes_of};
 ghost use Rattle.piton_syntax.specs.Grammar.{area_of, named_of, number_of, program_of, system_of, word_of};
 ghost use Rattle.piton_syntax.specs.Limits.{is_small_system};
 ghost use Rattle.piton_syntax.specs.Systems.{new_area, new_system};

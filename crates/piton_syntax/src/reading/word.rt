@@ -6,7 +6,7 @@ ghost use Rattle.stack_text.specs.Numerals.{is_digits, is_numeral};
 ghost use Rattle.stack_text.specs.Grammar.Parts.{is_atom_of};
 ghost use Rattle.stack_text.specs.Grammar.Reading.{Finds, ReadsUnless};
 ghost use Rattle.stack_text.specs.Trees.{list};
-ghost use Rattle.stack_text.specs.Seen.TreeView.{node_of, nodes_of};
+ghost use Rattle.stack_text.specs.Views.TreeView.{node_of, nodes_of};
 ghost use Rattle.stack_text.specs.declared.name.Named.{Named as NameOf};
 ghost use Rattle.piton_syntax.specs.Grammar.{is_true_word, is_false_word, item_of, named_number, one_number, word_of};
 ghost use Rattle.piton_syntax.specs.declared.tag.Tag.TheVariants as tags;

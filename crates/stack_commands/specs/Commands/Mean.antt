@@ -7,8 +7,8 @@ use Rattle.gypsy_space.specs.Needs.{StackSizes, stack_sizes}
 use Rattle.gypsy_semantics.specs.declared.conditions.Current.{Current}
 use Rattle.gypsy_semantics.specs.declared.answers.MeanRun.{MeanRun}
 use Rattle.gypsy_semantics.specs.declared.answers.MeanRun.TheVariants as run
-use Rattle.gypsy_semantics.specs.Seen.RunView.{Seen, Ran, meaning_run, values_at}
-use Rattle.gypsy_semantics.specs.Seen.Shown.{condition_at, names_at}
+use Rattle.gypsy_semantics.specs.Views.RunView.{Seen, Ran, meaning_run, values_at}
+use Rattle.gypsy_semantics.specs.Views.Shown.{condition_at, names_at}
 use Rattle.display_maps.specs.Running.{run_lines}
 use Rattle.stack_build.specs.declared.start_fault.StartFault.{StartFault}
 use Rattle.stack_build.specs.Starts.{gypsy_start}

@@ -2,7 +2,7 @@
 use Rattle.std.specs.Prelude.{ℕ, List, Result, Ok, Err}
 use Rattle.gypsy_syntax.specs.declared.proc.Source.{Source}
 use Rattle.gypsy_syntax.specs.Sources.{SourceOf}
-use Rattle.gypsy_syntax.specs.Seen.SourceView.{source_of}
+use Rattle.gypsy_syntax.specs.Views.SourceView.{source_of}
 use Rattle.stack_build.specs.declared.fault.BuildFault.{BuildFault}
 use Rattle.stack_build.specs.declared.fault.BuildFault.TheVariants.{Text, Form, Rule, Size, Control, Temporary, Words, Memory}
 use Rattle.stack_build.specs.Build.{source_in}

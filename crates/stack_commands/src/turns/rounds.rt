@@ -8,8 +8,8 @@ ghost use Rattle.fm_turns.specs.OwnMachines.{own_machine};
 ghost use Rattle.fm_turns.specs.Starting.{new_tasks, AllFit, side_by_side};
 ghost use Rattle.fm_turns.specs.Turns.{AreWithin, images_of, states_of};
 ghost use Rattle.command_replies.specs.Replies.{reply_of};
-ghost use Rattle.stack_commands.specs.Scaffold.Tasks.{AreReady};
-ghost use Rattle.stack_commands.specs.Scaffold.Told.{GoneRound, round_in, end_text, told_of, told_from, has_ended, told_reply};
+ghost use Rattle.stack_commands.specs.Internal.Tasks.{AreReady};
+ghost use Rattle.stack_commands.specs.Internal.Told.{GoneRound, round_in, end_text, told_of, told_from, has_ended, told_reply};
 ghost use Rattle.stack_commands.specs.Commands.Turns.{round_line, tasks_reply};
 
 use command_replies::{Reply, Verdict};

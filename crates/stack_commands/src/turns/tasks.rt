@@ -7,7 +7,7 @@ ghost use Rattle.fm_turns.specs.Starting.{new_tasks, AllFit};
 ghost use Rattle.gypsy_space.specs.Needs.{stack_sizes};
 ghost use Rattle.stack_build.specs.Build.{built};
 ghost use Rattle.stack_commands.specs.Commands.Turns.{image_or_fault, images_from, word_count, small_enough, values_or_fault, tasks_from, tasks_of};
-ghost use Rattle.stack_commands.specs.Scaffold.Tasks.{fault_of, AreReady};
+ghost use Rattle.stack_commands.specs.Internal.Tasks.{fault_of, AreReady};
 
 use crate::source_text::verdict_of;
 use command_replies::Verdict;

@@ -3,7 +3,7 @@ use Rattle.std.specs.Prelude.{ℕ, List, [], ◌∷◌, ◌++◌, map, ◌==◌,
 use Rattle.std.specs.List.{flat_map}
 use Rattle.stack_text.specs.Trees.{Node, Nodes, atom, list}
 use Rattle.stack_text.specs.TreeText.{items_text, spaced_text}
-use Rattle.stack_text.specs.Seen.TreeView.{nodes}
+use Rattle.stack_text.specs.Views.TreeView.{nodes}
 use Rattle.stack_text.specs.declared.name.Named.{Named}
 
 -- a list of trees

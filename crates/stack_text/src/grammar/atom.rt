@@ -3,7 +3,7 @@
 ghost use Rattle.std.specs.Prelude.{◌≡◌};
 ghost use Rattle.stack_text.specs.Grammar.Parts.{is_atom_of};
 ghost use Rattle.stack_text.specs.Numerals.{is_numeral};
-ghost use Rattle.stack_text.specs.Seen.TreeView.{node_of};
+ghost use Rattle.stack_text.specs.Views.TreeView.{node_of};
 
 use crate::{TextTree, is_numeral};
 

@@ -2,7 +2,7 @@
 
 ghost use Rattle.std.specs.Prelude.{◌≡◌, map};
 ghost use Rattle.stack_text.specs.Trees.{Node};
-ghost use Rattle.stack_text.specs.Seen.TreeView.{node_of, nodes_of};
+ghost use Rattle.stack_text.specs.Views.TreeView.{node_of, nodes_of};
 ghost use Rattle.stack_text.specs.Grammar.Judged.{Judged, each_of};
 ghost use Rattle.stack_text.specs.Grammar.Parts.{list_length, list_or};
 ghost use Rattle.stack_text.specs.Grammar.Reading.{ReadsUnless};

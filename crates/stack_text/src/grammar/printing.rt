@@ -4,7 +4,7 @@ ghost use Rattle.std.specs.Prelude.{◌≡◌, ◌++◌, ◌∷◌, map};
 ghost use Rattle.stack_heap.specs.Heaps.{OnOkUnless};
 ghost use Rattle.stack_text.specs.Trees.{Node};
 ghost use Rattle.stack_text.specs.TreeText.{items_text, spaced_text, tree_text};
-ghost use Rattle.stack_text.specs.Seen.TreeView.{nodes};
+ghost use Rattle.stack_text.specs.Views.TreeView.{nodes};
 
 use crate::printer::separate;
 use crate::{Memory, Named};

@@ -1,5 +1,5 @@
 use Rattle.std.proofs.Common.{sym, ◌∙◌}
-use Rattle.gypsy_syntax.specs.Seen.SourceView.{source_of}
+use Rattle.gypsy_syntax.specs.Views.SourceView.{source_of}
 use Rattle.command_replies.proofs.MiniLaws.{lowered_file, lowered_said, fault_file, fault_said}
 use Rattle.command_replies.proofs.mini.prepare.Goals as goal
 

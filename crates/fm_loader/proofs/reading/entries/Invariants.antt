@@ -1,5 +1,5 @@
 use Rattle.std.proofs.Common.{◌≡◌, drop}
-use Rattle.stack_text.specs.Seen.TreeView.{nodes_of}
+use Rattle.stack_text.specs.Views.TreeView.{nodes_of}
 use Rattle.fm_loader.specs.Values.{entries_of}
 use Rattle.stack_text.proofs.ResultLoops.{with_front}
 use Rattle.fm_loader.proofs.reading.entries.Given as goal

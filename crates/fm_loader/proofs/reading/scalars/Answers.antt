@@ -1,4 +1,4 @@
-use Rattle.stack_text.specs.Seen.TreeView.{nodes_of}
+use Rattle.stack_text.specs.Views.TreeView.{nodes_of}
 use Rattle.fm_loader.specs.Parsed.{scalars_of}
 use Rattle.fm_loader.proofs.TreeLaws.{scalars_next, scalars_stop, scalars_end}
 use Rattle.fm_loader.proofs.reading.scalars.Goals as goal

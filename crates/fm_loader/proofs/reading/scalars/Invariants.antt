@@ -1,5 +1,5 @@
 use Rattle.std.proofs.Common.{◌≡◌, drop}
-use Rattle.stack_text.specs.Seen.TreeView.{nodes_of}
+use Rattle.stack_text.specs.Views.TreeView.{nodes_of}
 use Rattle.fm_loader.specs.Parsed.{scalars_of}
 use Rattle.fm_loader.proofs.TreeLaws.{behind_scalars}
 use Rattle.fm_loader.proofs.reading.scalars.Given as goal

@@ -1,4 +1,4 @@
-use Rattle.stack_text.specs.Seen.TreeView.{node_of}
+use Rattle.stack_text.specs.Views.TreeView.{node_of}
 use Rattle.fm_loader.proofs.ValuesLaws.{fits_if_ok}
 use Rattle.fm_loader.proofs.values.read_values.Goals as goal
 

@@ -1,5 +1,5 @@
 use Rattle.stack_text.proofs.BreachLaws.{notes_next}
-use Rattle.gypsy_syntax.specs.Seen.SourceView.{proc_of}
+use Rattle.gypsy_syntax.specs.Views.SourceView.{proc_of}
 use Rattle.gypsy_check.specs.Rules.{raised_breaches}
 use Rattle.gypsy_check.proofs.conditions.check_all_raised.Goals as goal
 

@@ -5,7 +5,7 @@ use Rattle.stack_text.proofs.BreachLaws.{notes_more}
 use Rattle.gypsy_syntax.specs.declared.literal.Decl.{Decl}
 use Rattle.gypsy_syntax.specs.declared.literal.Local.{Local}
 use Rattle.gypsy_syntax.specs.Resolved.{variable_types}
-use Rattle.gypsy_syntax.specs.Seen.SourceView.{local_of, proc_of}
+use Rattle.gypsy_syntax.specs.Views.SourceView.{local_of, proc_of}
 use Rattle.gypsy_check.specs.Declarations.{variables_of, repeats}
 use Rattle.gypsy_check.specs.Rules.{type_breaches, local_breaches}
 use Rattle.gypsy_check.proofs.NoteLaws.{noted, flat_over, local_names_over}

@@ -5,7 +5,7 @@ use Rattle.stack_text.proofs.BreachLaws.{notes_more}
 use Rattle.gypsy_syntax.specs.declared.proc.Proc.{Proc}
 use Rattle.gypsy_syntax.specs.declared.proc.Source.{Source}
 use Rattle.gypsy_syntax.specs.Sources.{ProcOf}
-use Rattle.gypsy_syntax.specs.Seen.SourceView.{proc_of, source_of}
+use Rattle.gypsy_syntax.specs.Views.SourceView.{proc_of, source_of}
 use Rattle.gypsy_check.specs.Declarations.{repeats}
 use Rattle.gypsy_check.specs.Rules.{procedure_breaches, name_breaches, main_breaches, violations}
 use Rattle.gypsy_check.proofs.NoteLaws.{noted, flat_over, names_over}

@@ -4,7 +4,7 @@ use Rattle.stack_text.specs.declared.breach.Breach.{Breach}
 use Rattle.stack_text.specs.Breaches.{Notes}
 use Rattle.stack_text.proofs.BreachLaws.{notes_next, notes_more}
 use Rattle.gypsy_syntax.specs.declared.statement.Stmt.{Stmt}
-use Rattle.gypsy_syntax.specs.Seen.SourceView.{proc_of, source_of}
+use Rattle.gypsy_syntax.specs.Views.SourceView.{proc_of, source_of}
 use Rattle.gypsy_check.specs.Rules.{handlers_breaches, test_breaches}
 use Rattle.gypsy_check.proofs.NoteLaws.{noted, statement_breaks, seq_each}
 use Rattle.gypsy_check.proofs.statements.+statements.Goals as goal

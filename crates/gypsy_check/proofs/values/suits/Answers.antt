@@ -3,7 +3,7 @@ use Rattle.std.specs.List.{list_all}
 use Rattle.std.specs.Ordering.{int_eq}
 use Rattle.gypsy_syntax.specs.declared.literal.Literal.{Literal}
 use Rattle.gypsy_syntax.specs.Resolved.{literal_kind}
-use Rattle.gypsy_syntax.specs.Seen.SourceView.{literal_of}
+use Rattle.gypsy_syntax.specs.Views.SourceView.{literal_of}
 use Rattle.gypsy_check.specs.Types.{is_of_kind, suits}
 use Rattle.gypsy_check.proofs.DeclarationLaws.{list_suits}
 use Rattle.gypsy_check.proofs.values.suits.Goals as goal

@@ -1,5 +1,5 @@
 use Rattle.stack_text.proofs.BreachLaws.{notes_next}
-use Rattle.gypsy_syntax.specs.Seen.SourceView.{proc_of}
+use Rattle.gypsy_syntax.specs.Views.SourceView.{proc_of}
 use Rattle.gypsy_check.specs.Rules.{undeclared}
 use Rattle.gypsy_check.proofs.variables.check_all_declared.Goals as goal
 

@@ -1,7 +1,7 @@
 use Rattle.std.proofs.Common.{take}
 use Rattle.std.specs.List.{flat_map}
 use Rattle.stack_text.specs.Breaches.{Notes}
-use Rattle.gypsy_syntax.specs.Seen.SourceView.{proc_of}
+use Rattle.gypsy_syntax.specs.Views.SourceView.{proc_of}
 use Rattle.gypsy_check.specs.Rules.{undeclared}
 use Rattle.gypsy_check.proofs.variables.check_all_declared.Given as goal
 

@@ -5,7 +5,7 @@ use Rattle.gypsy_syntax.specs.ProgramFits.{Each}
 use Rattle.gypsy_space.specs.declared.program.Argument.{Argument}
 use Rattle.gypsy_space.specs.Nodes.{seen_arg, seen_program}
 use Rattle.gypsy_codegen.specs.Generated.{push_args}
-use Rattle.gypsy_codegen.specs.Scaffold.Views.{ArgHasWord, code_in}
+use Rattle.gypsy_codegen.specs.Internal.Views.{ArgHasWord, code_in}
 use Rattle.gypsy_codegen.specs.declared.context.Context.{Context}
 use Rattle.gypsy_codegen.proofs.WriteLaws.{more_next}
 use Rattle.gypsy_codegen.proofs.apply.push_args.Goals as goal

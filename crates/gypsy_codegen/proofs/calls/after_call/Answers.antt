@@ -7,7 +7,7 @@ use Rattle.gypsy_space.specs.Nodes.{seen_program, seen_cond}
 use Rattle.gypsy_predef.specs.Texts.{instruction, of_name, condition_area, number}
 use Rattle.gypsy_codegen.specs.WordsOf.{number_of}
 use Rattle.gypsy_codegen.specs.Lines.{label_to, marked_raises, raise_labels}
-use Rattle.gypsy_codegen.specs.Scaffold.Views.{env, names_of, raise_text}
+use Rattle.gypsy_codegen.specs.Internal.Views.{env, names_of, raise_text}
 use Rattle.gypsy_codegen.specs.Written.{label_arg}
 use Rattle.gypsy_codegen.proofs.CodeLaws.{after_is}
 use Rattle.gypsy_codegen.proofs.calls.after_call.Goals as goal

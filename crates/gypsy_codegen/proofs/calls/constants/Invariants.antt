@@ -1,5 +1,5 @@
 use Rattle.std.proofs.Common.{◌≡◌, ◌++◌, map}
-use Rattle.gypsy_codegen.specs.Scaffold.Views.{word_constant}
+use Rattle.gypsy_codegen.specs.Internal.Views.{word_constant}
 use Rattle.gypsy_codegen.proofs.calls.constants.Given as goal
 
 abbrev pub invariant-loop-word : goal.invariant-loop-word

@@ -5,7 +5,7 @@ use Rattle.piton_check.specs.Instruction as i
 use Rattle.gypsy_syntax.specs.ProgramFits.{Each}
 use Rattle.gypsy_space.specs.Nodes.{seen_program}
 use Rattle.gypsy_codegen.specs.Generated.{offset, push_actuals}
-use Rattle.gypsy_codegen.specs.Scaffold.Views.{HasWord, code_in}
+use Rattle.gypsy_codegen.specs.Internal.Views.{HasWord, code_in}
 use Rattle.gypsy_codegen.proofs.WriteLaws.{more_next}
 use Rattle.gypsy_codegen.proofs.calls.push_actuals.Goals as goal
 

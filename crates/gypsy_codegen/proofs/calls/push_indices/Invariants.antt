@@ -1,6 +1,6 @@
 use Rattle.std.proofs.Common.{◌≡◌, ◌++◌, ◌+◌, map, drop}
 use Rattle.gypsy_syntax.specs.Programs.{words_of}
-use Rattle.gypsy_codegen.specs.Scaffold.Views.{index_text}
+use Rattle.gypsy_codegen.specs.Internal.Views.{index_text}
 use Rattle.gypsy_codegen.proofs.calls.push_indices.Given as goal
 
 abbrev pub invariant-loop-number : goal.invariant-loop-number

@@ -1,7 +1,7 @@
 use Rattle.std.proofs.Common.{◌≡◌, ◌++◌, ◌+◌, map, drop}
 use Rattle.gypsy_space.specs.Nodes.{seen_cond, seen_program}
 use Rattle.gypsy_codegen.specs.Lines.{marked_raises}
-use Rattle.gypsy_codegen.specs.Scaffold.Views.{env, names_of}
+use Rattle.gypsy_codegen.specs.Internal.Views.{env, names_of}
 use Rattle.gypsy_codegen.specs.Written.{written}
 use Rattle.gypsy_codegen.proofs.calls.raises.Given as goal
 

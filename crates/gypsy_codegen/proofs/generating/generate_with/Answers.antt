@@ -3,7 +3,7 @@ use Rattle.piton_syntax.specs.PitonReading.{KeepsForm}
 use Rattle.piton_check.specs.Violations.{violations}
 use Rattle.gypsy_syntax.specs.declared.proc.Source.{Source}
 use Rattle.gypsy_syntax.specs.Resolved.{program_of}
-use Rattle.gypsy_syntax.specs.Seen.SourceView.{source_of}
+use Rattle.gypsy_syntax.specs.Views.SourceView.{source_of}
 use Rattle.gypsy_space.specs.Needs.{stack_sizes}
 use Rattle.gypsy_space.specs.Nodes.{seen_program}
 use Rattle.gypsy_codegen.specs.Acceptable.{total_words}

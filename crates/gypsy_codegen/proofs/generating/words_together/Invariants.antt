@@ -1,5 +1,5 @@
 use Rattle.std.proofs.Common.{◌≡◌, ◌+◌, ◌*◌, ◌≤◌, ◌^◌, drop}
-use Rattle.gypsy_codegen.specs.Scaffold.Views.{AreModest, words_together}
+use Rattle.gypsy_codegen.specs.Internal.Views.{AreModest, words_together}
 use Rattle.gypsy_codegen.proofs.generating.words_together.Given as goal
 
 abbrev pub invariant-loop-need : goal.invariant-loop-need

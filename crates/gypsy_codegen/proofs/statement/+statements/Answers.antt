@@ -11,7 +11,7 @@ use Rattle.gypsy_space.specs.Nodes.{seen_cond, seen_program, seen_statement, see
 use Rattle.gypsy_space.specs.declared.program.Node.{the_lemmas}
 use Rattle.gypsy_space.proofs.NodeLaws.{seen_statement-seq}
 use Rattle.gypsy_codegen.specs.Lines.{labels, lines}
-use Rattle.gypsy_codegen.specs.Scaffold.Views.{env, names_of}
+use Rattle.gypsy_codegen.specs.Internal.Views.{env, names_of}
 use Rattle.gypsy_codegen.specs.Written.{Line, Plain, Marked}
 use Rattle.gypsy_codegen.proofs.statement.+statements.Goals as goal
 

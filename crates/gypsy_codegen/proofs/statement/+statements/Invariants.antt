@@ -1,7 +1,7 @@
 use Rattle.std.proofs.Common.{◌≡◌, ◌++◌, ◌+◌, map, drop}
 use Rattle.gypsy_space.specs.Nodes.{seen_program, seen_statements}
 use Rattle.gypsy_codegen.specs.Lines.{labels, lines}
-use Rattle.gypsy_codegen.specs.Scaffold.Views.{env, names_of, NamesAreThere}
+use Rattle.gypsy_codegen.specs.Internal.Views.{env, names_of, NamesAreThere}
 use Rattle.gypsy_codegen.specs.Written.{written}
 use Rattle.gypsy_codegen.proofs.statement.+statements.Given as goal
 

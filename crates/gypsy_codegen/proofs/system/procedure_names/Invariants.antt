@@ -1,5 +1,5 @@
 use Rattle.std.proofs.Common.{◌≡◌, ◌++◌, map, drop}
-use Rattle.gypsy_syntax.specs.Seen.SourceView.{proc_of}
+use Rattle.gypsy_syntax.specs.Views.SourceView.{proc_of}
 use Rattle.gypsy_codegen.proofs.system.procedure_names.Given as goal
 
 abbrev pub invariant-loop-proc : goal.invariant-loop-proc

@@ -1,6 +1,6 @@
 use Rattle.std.proofs.Common.{◌≡◌, ◌++◌, [], ◌∷◌, ap, ◌∙◌}
 use Rattle.piton_syntax.specs.Systems.{ProgramOf}
-use Rattle.gypsy_syntax.specs.Seen.SourceView.{proc_of}
+use Rattle.gypsy_syntax.specs.Views.SourceView.{proc_of}
 use Rattle.gypsy_space.specs.Nodes.{seen_program}
 use Rattle.gypsy_codegen.specs.Text.{procedure_with}
 use Rattle.gypsy_codegen.proofs.WritableLaws.{writable_next, procedures_next}

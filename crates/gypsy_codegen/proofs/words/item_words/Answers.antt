@@ -2,7 +2,7 @@ use Rattle.std.proofs.Common.{◌≡◌, ◌++◌, [], ◌∷◌, List, get_or, 
 use Rattle.std.specs.Prelude.{ℤ, pos}
 use Rattle.stack_text.proofs.SharedLaws.{same_item}
 use Rattle.gypsy_predef.specs.Runs.{word_of_item}
-use Rattle.gypsy_codegen.specs.Scaffold.Views.{nameless}
+use Rattle.gypsy_codegen.specs.Internal.Views.{nameless}
 use Rattle.gypsy_codegen.specs.Written.{written_word}
 use Rattle.gypsy_codegen.proofs.WriteLaws.{more_next}
 use Rattle.gypsy_codegen.proofs.words.item_words.Goals as goal

@@ -1,7 +1,7 @@
 use Rattle.std.proofs.Common.{◌≡◌, ◌++◌, ◌-◌, map, replicate}
 use Rattle.std.specs.Prelude.{pos}
 use Rattle.gypsy_predef.specs.Runs.{word_of_item}
-use Rattle.gypsy_codegen.specs.Scaffold.Views.{nameless}
+use Rattle.gypsy_codegen.specs.Internal.Views.{nameless}
 use Rattle.gypsy_codegen.specs.Written.{written_word}
 use Rattle.gypsy_codegen.proofs.words.zero_words.Given as goal
 

@@ -1,5 +1,5 @@
 use Rattle.std.proofs.Common.{◌≡◌, map, take}
-use Rattle.gypsy_syntax.specs.Seen.SourceView.{arg_of}
+use Rattle.gypsy_syntax.specs.Views.SourceView.{arg_of}
 use Rattle.gypsy_gen.specs.Parts.{argument}
 use Rattle.gypsy_gen.proofs.body.arguments.Given as goal
 

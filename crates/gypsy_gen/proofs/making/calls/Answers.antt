@@ -1,5 +1,5 @@
 use Rattle.std.proofs.Common.{arith}
-use Rattle.gypsy_syntax.specs.Seen.SourceView.{stmt_of}
+use Rattle.gypsy_syntax.specs.Views.SourceView.{stmt_of}
 use Rattle.gypsy_gen.proofs.MakingLaws.{call_more, calls_done}
 use Rattle.gypsy_gen.proofs.making.calls.Goals as goal
 

@@ -1,5 +1,5 @@
 use Rattle.std.proofs.Common.{arith}
-use Rattle.gypsy_syntax.specs.Seen.SourceView.{proc_of}
+use Rattle.gypsy_syntax.specs.Views.SourceView.{proc_of}
 use Rattle.gypsy_gen.proofs.MakingLaws.{procedure_more, procedures_done}
 use Rattle.gypsy_gen.proofs.making.procedures.Goals as goal
 

@@ -1,5 +1,5 @@
 use Rattle.std.proofs.Common.{◌≡◌, ◌++◌, ◌+◌, ◌-◌, ◌∷◌, map}
-use Rattle.gypsy_syntax.specs.Seen.SourceView.{proc_of}
+use Rattle.gypsy_syntax.specs.Views.SourceView.{proc_of}
 use Rattle.gypsy_gen.specs.Large.{main_procedure, procedures_from}
 use Rattle.gypsy_gen.proofs.making.procedures.Given as goal
 

@@ -4,9 +4,9 @@ use Rattle.gypsy_space.specs.Nodes.{seen_arg}
 use Rattle.gypsy_space.specs.declared.event.CostEvent.TheVariants as event
 use Rattle.gypsy_space.specs.declared.event.Outcome.TheVariants as outcome
 use Rattle.gypsy_semantics.specs.Calls.{target_of}
-use Rattle.gypsy_meaning.specs.Seen.Work.{work_of}
-use Rattle.gypsy_meaning.specs.Scaffold.PredefinedEffects.{effect_of, applied_effect}
-use Rattle.gypsy_meaning.specs.Scaffold.PredefinedSteps.{call_item}
+use Rattle.gypsy_meaning.specs.Views.Work.{work_of}
+use Rattle.gypsy_meaning.specs.Internal.PredefinedEffects.{effect_of, applied_effect}
+use Rattle.gypsy_meaning.specs.Internal.PredefinedSteps.{call_item}
 use Rattle.gypsy_meaning.specs.declared.turn.Advance.{Advance}
 use Rattle.gypsy_meaning.proofs.ApplyLaws.{writes_law, fails_law}
 use Rattle.gypsy_meaning.proofs.applying.application.Goals as goal

@@ -1,5 +1,5 @@
 use Rattle.std.proofs.Common.{◌≡◌, map, drop}
-use Rattle.gypsy_semantics.specs.Seen.Fitting.{are_values}
+use Rattle.gypsy_semantics.specs.Views.Fitting.{are_values}
 use Rattle.gypsy_meaning.proofs.fitting.are_values.Given as goal
 
 abbrev pub invariant-loop-shape : goal.invariant-loop-shape

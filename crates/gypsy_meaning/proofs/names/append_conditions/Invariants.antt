@@ -1,5 +1,5 @@
 use Rattle.std.proofs.Common.{◌≡◌, ◌++◌, map, drop}
-use Rattle.gypsy_meaning.specs.Seen.Named.{shown_names}
+use Rattle.gypsy_meaning.specs.Views.Named.{shown_names}
 use Rattle.gypsy_meaning.proofs.names.append_conditions.Given as goal
 
 abbrev pub invariant-loop-name : goal.invariant-loop-name

@@ -1,5 +1,5 @@
 use Rattle.std.proofs.Common.{◌≡◌, ◌++◌, map, drop}
-use Rattle.gypsy_syntax.specs.Seen.SourceView.{local_of}
+use Rattle.gypsy_syntax.specs.Views.SourceView.{local_of}
 use Rattle.gypsy_meaning.proofs.names.append_locals.Given as goal
 
 abbrev pub invariant-loop-local : goal.invariant-loop-local

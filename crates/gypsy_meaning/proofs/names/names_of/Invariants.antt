@@ -1,6 +1,6 @@
 use Rattle.std.proofs.Common.{◌≡◌, ◌++◌, map, drop}
-use Rattle.gypsy_syntax.specs.Seen.SourceView.{proc_of}
-use Rattle.gypsy_meaning.specs.Seen.Named.{proc_names, seen_names}
+use Rattle.gypsy_syntax.specs.Views.SourceView.{proc_of}
+use Rattle.gypsy_meaning.specs.Views.Named.{proc_names, seen_names}
 use Rattle.gypsy_meaning.proofs.names.names_of.Given as goal
 
 abbrev pub invariant-loop-proc : goal.invariant-loop-proc

@@ -5,7 +5,7 @@ use Rattle.gypsy_space.specs.declared.program.Condition.{Condition}
 use Rattle.gypsy_semantics.specs.Calls.{has_cond, is_leave}
 use Rattle.gypsy_semantics.specs.Machine.{Item, Back, Guard, JoinOne, open_on}
 use Rattle.gypsy_space.specs.Nodes.{seen_cond, seen_statement}
-use Rattle.gypsy_meaning.specs.Seen.Work.{item_of, work_of, work_on}
+use Rattle.gypsy_meaning.specs.Views.Work.{item_of, work_of, work_on}
 use Rattle.gypsy_meaning.specs.declared.work.Item.{Item as Kept}
 use Rattle.gypsy_meaning.proofs.WorkLaws.{top_of, back_caught, back_passed, guard_caught, guard_passed, passed_over}
 use Rattle.gypsy_meaning.proofs.work.+raise.Goals as goal

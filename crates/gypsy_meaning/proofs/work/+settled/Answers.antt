@@ -1,7 +1,7 @@
 use Rattle.std.proofs.Common.{◌≡◌, ◌∷◌, ◌-◌, ◌<◌, List, suc, length, get_or, take, drop, ap, sym, ◌∙◌, rules, arith}
 use Rattle.gypsy_semantics.specs.Machine.{Item, Do, settle}
 use Rattle.gypsy_space.specs.Nodes.{seen_statement, seen_statements}
-use Rattle.gypsy_meaning.specs.Seen.Work.{item_of, work_of}
+use Rattle.gypsy_meaning.specs.Views.Work.{item_of, work_of}
 use Rattle.gypsy_meaning.specs.declared.work.Item.{Item as Kept}
 use Rattle.gypsy_meaning.proofs.WorkLaws.{top_of, settled_opened, settled_empty, settled_solid}
 use Rattle.gypsy_meaning.proofs.work.+settled.Goals as goal

@@ -6,7 +6,7 @@ use Rattle.gypsy_syntax.specs.declared.statement.Arg.{Arg}
 use Rattle.gypsy_syntax.specs.declared.statement.Stmt.{Stmt as Text, the_lemmas}
 use Rattle.gypsy_syntax.specs.Resolved.{statement_of, statement_of_all}
 use Rattle.gypsy_syntax.specs.Sources.{StmtOf, predef, seq}
-use Rattle.gypsy_syntax.specs.Seen.SourceView.{arg_of, parts_of_list, proc_of, source_of, stmt_of}
+use Rattle.gypsy_syntax.specs.Views.SourceView.{arg_of, parts_of_list, proc_of, source_of, stmt_of}
 use Rattle.gypsy_syntax.proofs.ViewLaws.{stmt_of-seq}
 use Rattle.gypsy_space.specs.declared.program.Node.{Node}
 use Rattle.gypsy_space.specs.Nodes.{seen_statements}

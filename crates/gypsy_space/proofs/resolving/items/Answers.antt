@@ -5,7 +5,7 @@ use Rattle.stack_text.specs.declared.shape.Kind.TheVariants.{Integer}
 use Rattle.gypsy_syntax.specs.Ranges.{is_in_range}
 use Rattle.gypsy_syntax.specs.Resolved.{items_of_all, value_items}
 use Rattle.gypsy_syntax.specs.Sources.{LiteralOf, array}
-use Rattle.gypsy_syntax.specs.Seen.SourceView.{items_of_list, literal_of}
+use Rattle.gypsy_syntax.specs.Views.SourceView.{items_of_list, literal_of}
 use Rattle.gypsy_syntax.proofs.ViewLaws.{literal_of-list}
 use Rattle.gypsy_space.proofs.AcceptedLaws.{InRange, items_in}
 use Rattle.gypsy_space.proofs.resolving.items.Goals as goal

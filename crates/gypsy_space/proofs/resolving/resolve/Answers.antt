@@ -1,6 +1,6 @@
 use Rattle.std.proofs.Common.{sym, subst, ◌∙◌}
 use Rattle.gypsy_syntax.specs.declared.proc.Source.{Source}
-use Rattle.gypsy_syntax.specs.Seen.SourceView.{proc_of, source_of}
+use Rattle.gypsy_syntax.specs.Views.SourceView.{proc_of, source_of}
 use Rattle.gypsy_check.specs.Accepted.{IsAccepted}
 use Rattle.gypsy_space.specs.Resolvable.{IsResolvable}
 use Rattle.gypsy_space.proofs.AcceptedLaws.{each_before, source_form, source_resolvable}

@@ -1,5 +1,5 @@
 use Rattle.std.proofs.Common.{arith}
-use Rattle.gypsy_syntax.specs.Seen.SourceView.{proc_of}
+use Rattle.gypsy_syntax.specs.Views.SourceView.{proc_of}
 use Rattle.gypsy_space.proofs.AcceptedLaws.{variable_small}
 use Rattle.gypsy_space.proofs.resolving.variable.Goals as goal
 

@@ -1,7 +1,7 @@
 use Rattle.std.proofs.Common.{◌++◌, ◌∷◌, map}
 use Rattle.std.specs.List.{flat_map}
 use Rattle.gypsy_syntax.specs.Printed.{proc_text}
-use Rattle.gypsy_syntax.specs.Seen.SourceView.{proc_of}
+use Rattle.gypsy_syntax.specs.Views.SourceView.{proc_of}
 use Rattle.gypsy_syntax.proofs.PrintingLaws.{procs_next}
 use Rattle.gypsy_syntax.proofs.printing.print_procedures.Goals as goal
 

@@ -1,7 +1,7 @@
 use Rattle.std.proofs.Common.{Result, Ok, Err, sym, ap, subst}
 use Rattle.std.specs.Prelude.{OnErr}
 use Rattle.debug_script.specs.declared.command.Command.{Command}
-use Rattle.level_debuggers.specs.Seen.Sessions.{session_of}
+use Rattle.level_debuggers.specs.Views.Sessions.{session_of}
 use Rattle.level_debuggers.specs.Transcripts.{IsLeftBy}
 use Rattle.level_debuggers.specs.Walks.{HasMadeSome, SessionOf, Stepped}
 use Rattle.level_debuggers.proofs.WalkLaws.{stepped_some}

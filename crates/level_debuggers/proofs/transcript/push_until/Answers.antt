@@ -1,6 +1,6 @@
 use Rattle.std.proofs.Common.{Result, Ok, Err, ap, subst}
 use Rattle.std.specs.Prelude.{OnErr}
-use Rattle.level_debuggers.specs.Seen.Sessions.{session_of}
+use Rattle.level_debuggers.specs.Views.Sessions.{session_of}
 use Rattle.level_debuggers.specs.Arrivals.{Arrived}
 use Rattle.level_debuggers.specs.Walks.{HasMadeSome, SessionOf}
 use Rattle.level_debuggers.proofs.ArrivalLaws.{arrived_some}

@@ -1,10 +1,10 @@
 use Rattle.std.proofs.Common.{rules, ◌≡◌, ◌++◌, List, map, ap, sym, subst, ◌∙◌}
 use Rattle.gypsy_syntax.specs.Sources.{StmtOf}
-use Rattle.gypsy_syntax.specs.Seen.SourceView.{stmt_of}
+use Rattle.gypsy_syntax.specs.Views.SourceView.{stmt_of}
 use Rattle.mini_syntax.specs.declared.program.Statement.{Statement, the_lemmas}
 use Rattle.mini_syntax.specs.Language.{Stmt, While, If}
 use Rattle.mini_gypsy.specs.Lowered.{statement_parts}
-use Rattle.mini_syntax.specs.Seen.ProgramView.{block_in, exp_of, statement_in}
+use Rattle.mini_syntax.specs.ProgramView.{block_in, exp_of, statement_in}
 use Rattle.mini_syntax.specs.Sorted.{AreFine}
 use Rattle.mini_gypsy.proofs.ListLaws.{fine_next, statements_done, statements_more}
 use Rattle.mini_gypsy.proofs.PartLaws.{block_is, if_is, while_is}

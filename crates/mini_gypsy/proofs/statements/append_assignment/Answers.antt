@@ -1,5 +1,5 @@
 use Rattle.std.proofs.Common.{map}
-use Rattle.mini_syntax.specs.Seen.ProgramView.{exp_of}
+use Rattle.mini_syntax.specs.ProgramView.{exp_of}
 use Rattle.mini_gypsy.proofs.PartLaws.{assigned_pushed}
 use Rattle.mini_gypsy.proofs.statements.append_assignment.Goals as goal
 

@@ -1,5 +1,5 @@
 use Rattle.std.proofs.Common.{◌≡◌, ◌++◌, ◌-◌, map}
-use Rattle.gypsy_syntax.specs.Seen.SourceView.{local_of}
+use Rattle.gypsy_syntax.specs.Views.SourceView.{local_of}
 use Rattle.mini_gypsy.specs.Lowered.{locals_from}
 use Rattle.mini_syntax.specs.Sorted.{depths}
 use Rattle.mini_gypsy.proofs.temporaries.append_locals.Given as goal

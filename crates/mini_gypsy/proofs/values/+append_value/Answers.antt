@@ -1,7 +1,7 @@
 use Rattle.std.proofs.Common.{◌≡◌, ◌+◌, ◌++◌, suc, max, ap, ◌∙◌, map, arith}
-use Rattle.gypsy_syntax.specs.Seen.SourceView.{stmt_of}
+use Rattle.gypsy_syntax.specs.Views.SourceView.{stmt_of}
 use Rattle.mini_gypsy.specs.Lowered.{value_parts}
-use Rattle.mini_syntax.specs.Seen.ProgramView.{exp_of}
+use Rattle.mini_syntax.specs.ProgramView.{exp_of}
 use Rattle.mini_syntax.specs.Sorted.{depth}
 use Rattle.mini_syntax.specs.Operands.{sort_of}
 use Rattle.mini_gypsy.proofs.PartLaws.{before_pushed, between_pushed, leaf_pushed}

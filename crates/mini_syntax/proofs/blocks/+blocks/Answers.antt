@@ -5,8 +5,8 @@ use Rattle.mini_syntax.specs.declared.lexer.TokenKind.TheVariants as kind
 use Rattle.mini_syntax.specs.declared.mark.Mark.TheVariants as mark
 use Rattle.mini_syntax.specs.declared.word.Word.TheVariants as word
 use Rattle.mini_syntax.specs.Expected.{a_block, expression}
-use Rattle.mini_syntax.specs.Scaffold.Lexemes.{left_of, next_kind, token_seen}
-use Rattle.mini_syntax.specs.Scaffold.Phrases.{statement_kind}
+use Rattle.mini_syntax.specs.Internal.Lexemes.{left_of, next_kind, token_seen}
+use Rattle.mini_syntax.specs.Internal.Phrases.{statement_kind}
 use Rattle.mini_syntax.specs.Tokens.{mark_at}
 use Rattle.mini_syntax.proofs.AwaitLaws.{begins_with_if, begins_with_while, no_statement}
 use Rattle.mini_syntax.proofs.LevelLaws.{read_shrinks}

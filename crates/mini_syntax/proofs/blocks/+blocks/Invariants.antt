@@ -1,7 +1,7 @@
 use Rattle.std.proofs.Common.{◌+◌, ◌*◌, [], ◌∷◌, length}
 use Rattle.mini_syntax.specs.declared.expected.Expected.TheVariants as wants
-use Rattle.mini_syntax.specs.Scaffold.Lexemes.{left_of}
-use Rattle.mini_syntax.specs.Scaffold.Phrases.{Awaits}
+use Rattle.mini_syntax.specs.Internal.Lexemes.{left_of}
+use Rattle.mini_syntax.specs.Internal.Phrases.{Awaits}
 use Rattle.mini_syntax.proofs.ReadingLaws.{SoFar}
 use Rattle.mini_syntax.proofs.blocks.+blocks.Given as goal
 

@@ -5,7 +5,7 @@ use Rattle.mini_syntax.specs.declared.expected.Expected.TheVariants as wants
 use Rattle.mini_syntax.specs.declared.lexer.TokenKind.TheVariants as kind
 use Rattle.mini_syntax.specs.declared.mark.Mark.TheVariants as mark
 use Rattle.mini_syntax.specs.Expected.{expression}
-use Rattle.mini_syntax.specs.Scaffold.Lexemes.{left_of, next_kind}
+use Rattle.mini_syntax.specs.Internal.Lexemes.{left_of, next_kind}
 use Rattle.mini_syntax.proofs.AwaitLaws.{begins_with_name}
 use Rattle.mini_syntax.proofs.ReadingLaws.{assignment_read, none_told}
 use Rattle.mini_syntax.proofs.StepLaws.{after_kind, expression_first, expression_passed, first_awaited, kind_next, mark_passed}

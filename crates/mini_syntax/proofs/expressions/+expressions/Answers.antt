@@ -1,14 +1,14 @@
 use Rattle.std.proofs.Common.{ℕ, [], ◌∷◌, refl, ap, subst, ◌∙◌, arith}
 use Rattle.std.proofs.lemmas.Result.{IfOk-weaker}
-use Rattle.mini_syntax.specs.Scaffold.Combined.{IsPrefix}
+use Rattle.mini_syntax.specs.Internal.Combined.{IsPrefix}
 use Rattle.mini_syntax.specs.declared.expected.Expected.TheVariants as wants
 use Rattle.mini_syntax.specs.declared.lexer.TokenKind.TheVariants as kind
 use Rattle.mini_syntax.specs.declared.mark.Mark.TheVariants as mark
 use Rattle.mini_syntax.specs.declared.word.Word.TheVariants as word
 use Rattle.mini_syntax.specs.Expected.{expression}
 use Rattle.mini_syntax.specs.Grammar as grammar
-use Rattle.mini_syntax.specs.Scaffold.Lexemes.{left_of, token_seen}
-use Rattle.mini_syntax.specs.Scaffold.Phrases.{Reads, infix_within}
+use Rattle.mini_syntax.specs.Internal.Lexemes.{left_of, token_seen}
+use Rattle.mini_syntax.specs.Internal.Phrases.{Reads, infix_within}
 use Rattle.mini_syntax.proofs.AwaitLaws.{opens_bracket, opens_name, opens_number, opens_prefix, opens_truth, prefix_goes_on, prefix_kind}
 use Rattle.mini_syntax.proofs.LevelLaws.{begun, done, expression_operand, first_operand, going_shrinks, grown, read_shrinks, right_awaited}
 use Rattle.mini_syntax.proofs.ReadingLaws.{leaf, one_less}

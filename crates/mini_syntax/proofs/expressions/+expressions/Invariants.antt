@@ -1,5 +1,5 @@
 use Rattle.std.proofs.Common.{◌+◌, ◌*◌, length}
-use Rattle.mini_syntax.specs.Scaffold.Lexemes.{left_of}
+use Rattle.mini_syntax.specs.Internal.Lexemes.{left_of}
 use Rattle.mini_syntax.proofs.LevelLaws.{Going}
 use Rattle.mini_syntax.proofs.expressions.+expressions.Given as goal
 

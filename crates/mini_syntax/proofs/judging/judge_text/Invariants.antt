@@ -1,5 +1,5 @@
 use Rattle.std.proofs.Common.{◌+◌, ◌-◌, ◌≤◌, length}
-use Rattle.mini_syntax.specs.Scaffold.Judging.{IsBelow}
+use Rattle.mini_syntax.specs.Internal.Judging.{IsBelow}
 use Rattle.mini_syntax.proofs.JudgeLaws.{Stands}
 use Rattle.mini_syntax.proofs.judging.judge_text.Given as goal
 

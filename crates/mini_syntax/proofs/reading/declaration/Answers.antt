@@ -7,7 +7,7 @@ use Rattle.mini_syntax.specs.declared.lexer.TokenKind.TheVariants as kind
 use Rattle.mini_syntax.specs.declared.mark.Mark.TheVariants as mark
 use Rattle.mini_syntax.specs.declared.word.Word.TheVariants as word
 use Rattle.mini_syntax.specs.Grammar.{Decl}
-use Rattle.mini_syntax.specs.Scaffold.Lexemes.{left_of, next_kind, token_seen}
+use Rattle.mini_syntax.specs.Internal.Lexemes.{left_of, next_kind, token_seen}
 use Rattle.mini_syntax.proofs.AwaitLaws.{sort_is}
 use Rattle.mini_syntax.proofs.StepLaws.{after_kind, decl_noted, decl_tokens_read, first_awaited, kind_next, name_is, proper_name, proper_rest, token_left}
 use Rattle.mini_syntax.proofs.VariableLaws.{name_made}

@@ -6,8 +6,8 @@ use Rattle.mini_syntax.specs.Breaches.{declared_by, variable_named}
 use Rattle.mini_syntax.specs.declared.program.Declared.{Declared}
 use Rattle.mini_syntax.specs.declared.scope.Variable.{Variable}
 use Rattle.mini_syntax.specs.Grammar.{decl_tokens}
-use Rattle.mini_syntax.specs.Scaffold.Lexemes.{left_of}
-use Rattle.mini_syntax.specs.Scaffold.Phrases.{sort_declared}
+use Rattle.mini_syntax.specs.Internal.Lexemes.{left_of}
+use Rattle.mini_syntax.specs.Internal.Phrases.{sort_declared}
 use Rattle.mini_syntax.proofs.AwaitLaws.{no_declaration}
 use Rattle.mini_syntax.proofs.ReadingLaws.{all_declared, decl_shrinks, none_declared, one_declared}
 use Rattle.mini_syntax.proofs.StepLaws.{decl_passed, proper_rest}

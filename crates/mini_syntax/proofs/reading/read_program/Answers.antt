@@ -1,6 +1,6 @@
 use Rattle.std.proofs.Common.{[], ◌∷◌, map}
 use Rattle.mini_syntax.specs.declared.expected.Expected.TheVariants as wants
-use Rattle.mini_syntax.specs.Scaffold.Lexemes.{left_of, token_seen}
+use Rattle.mini_syntax.specs.Internal.Lexemes.{left_of, token_seen}
 use Rattle.mini_syntax.proofs.AwaitLaws.{nothing_left}
 use Rattle.mini_syntax.proofs.ProgramLaws.{whole_read}
 use Rattle.mini_syntax.proofs.StepLaws.{all_passed, decls_passed, program_completes}

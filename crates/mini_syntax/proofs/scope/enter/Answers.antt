@@ -1,6 +1,6 @@
 use Rattle.std.proofs.Common.{List, ℕ, sym, ap, ◌∙◌, arith}
 use Rattle.std.specs.Str.{bytes_eq}
-use Rattle.mini_syntax.specs.Scaffold.Scopes.{look_up}
+use Rattle.mini_syntax.specs.Internal.Scopes.{look_up}
 use Rattle.stack_text.specs.Options.{first_or}
 use Rattle.mini_syntax.proofs.ScopeLaws.{knows_more}
 use Rattle.mini_syntax.proofs.scope.enter.Goals as goal

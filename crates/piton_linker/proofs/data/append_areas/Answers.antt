@@ -1,7 +1,7 @@
 use Rattle.std.proofs.Common.{◌++◌, map, take, ap, sym, ◌∙◌, subst, append_assoc}
 use Rattle.piton_check.specs.Instruction.{system_view}
 use Rattle.piton_semantics.specs.Fits.{Each, IsWordOf}
-use Rattle.piton_semantics.specs.Seen.StateView.{words_in}
+use Rattle.piton_semantics.specs.StateView.{words_in}
 use Rattle.piton_semantics.proofs.EachLaws.{each_get}
 use Rattle.piton_semantics.specs.Addresses.{numbers}
 use Rattle.piton_semantics.specs.Placed.{addresses_of}

@@ -1,6 +1,6 @@
 use Rattle.std.proofs.Common.{◌≡◌, ◌++◌, take, map}
 use Rattle.piton_check.specs.Instruction.{system_view}
-use Rattle.piton_semantics.specs.Seen.StateView.{words_in}
+use Rattle.piton_semantics.specs.StateView.{words_in}
 use Rattle.piton_linker.specs.Tables.{areas_words}
 use Rattle.piton_linker.proofs.data.append_areas.Given as goal
 

@@ -3,7 +3,7 @@ use Rattle.piton_words.specs.declared.word.Word.{Word}
 use Rattle.piton_check.specs.Instruction.{system_view}
 use Rattle.piton_check.specs.Resolved.{ResolvedOf}
 use Rattle.piton_semantics.specs.Placed.{areas_size, areas_start}
-use Rattle.piton_semantics.specs.Seen.StateView.{words_in}
+use Rattle.piton_semantics.specs.StateView.{words_in}
 use Rattle.piton_linker.specs.declared.placement.Layout.{Layout}
 use Rattle.piton_linker.specs.Tables.{starts}
 use Rattle.piton_linker.proofs.BoundLaws.{areas_seen, areas_sizes}

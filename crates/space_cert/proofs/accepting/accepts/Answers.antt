@@ -1,6 +1,6 @@
 use Rattle.std.proofs.Common.{◌≡◌, ap, sym, ◌∙◌}
 use Rattle.gypsy_syntax.specs.Resolved.{program_of}
-use Rattle.gypsy_syntax.specs.Seen.SourceView.{source_of}
+use Rattle.gypsy_syntax.specs.Views.SourceView.{source_of}
 use Rattle.gypsy_space.specs.Needs.{main_used, stack_sizes}
 use Rattle.space_cert.specs.Accepting.{covers, source_calls}
 use Rattle.space_cert.proofs.CertifyLaws.{body_calls}

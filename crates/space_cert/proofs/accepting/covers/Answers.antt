@@ -1,7 +1,7 @@
 use Rattle.std.proofs.Common.{◌≡◌, ◌==◌, length, get_or, map, None, true, ap, sym, ◌∙◌}
 use Rattle.std.specs.Option.{option_map}
 use Rattle.gypsy_syntax.specs.Resolved.{program_of}
-use Rattle.gypsy_syntax.specs.Seen.SourceView.{proc_of, source_of}
+use Rattle.gypsy_syntax.specs.Views.SourceView.{proc_of, source_of}
 use Rattle.gypsy_syntax.specs.Sources.{ProcOf}
 use Rattle.gypsy_space.specs.Needs.{main_used}
 use Rattle.space_cert.specs.Covers.{as_words, bound_at}

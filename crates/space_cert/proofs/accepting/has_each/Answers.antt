@@ -1,5 +1,5 @@
 use Rattle.std.proofs.Common.{◌≡◌, nat_eq, length, arith}
-use Rattle.gypsy_syntax.specs.Seen.SourceView.{source_of}
+use Rattle.gypsy_syntax.specs.Views.SourceView.{source_of}
 use Rattle.space_cert.specs.Accepting.{source_calls}
 use Rattle.space_cert.proofs.AcceptLaws.{calls_many, procs_many}
 use Rattle.space_cert.proofs.accepting.has_each.Goals as goal

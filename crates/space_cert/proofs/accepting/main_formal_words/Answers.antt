@@ -2,7 +2,7 @@ use Rattle.std.proofs.Common.{◌≡◌, ◌≤◌, map, Some, slice_get, length
 use Rattle.std.proofs.lemmas.Option.{slice_get_read}
 use Rattle.gypsy_syntax.specs.Programs.{proc_at, words_of}
 use Rattle.gypsy_syntax.specs.Resolved.{program_of, shape_of}
-use Rattle.gypsy_syntax.specs.Seen.SourceView.{source_of}
+use Rattle.gypsy_syntax.specs.Views.SourceView.{source_of}
 use Rattle.gypsy_syntax.specs.declared.literal.Decl.{Decl}
 use Rattle.space_cert.proofs.AcceptLaws.{formals_at, formals_small}
 use Rattle.space_cert.proofs.accepting.main_formal_words.Goals as goal

@@ -1,4 +1,4 @@
-use Rattle.gypsy_syntax.specs.Seen.SourceView.{source_of}
+use Rattle.gypsy_syntax.specs.Views.SourceView.{source_of}
 use Rattle.std.proofs.Common.{◌+◌, ap, ◌∙◌}
 use Rattle.gypsy_space.specs.Needs.{stack_sizes}
 use Rattle.space_cert.proofs.AcceptLaws.{used_is}

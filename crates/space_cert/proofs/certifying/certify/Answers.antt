@@ -2,7 +2,7 @@ use Rattle.std.proofs.Common.{length, ap, arith, subst}
 use Rattle.std.proofs.lemmas.List.{length-map}
 use Rattle.std.specs.Result.{MatchResult}
 use Rattle.gypsy_syntax.specs.Resolved.{procedure_of, program_of}
-use Rattle.gypsy_syntax.specs.Seen.SourceView.{source_of}
+use Rattle.gypsy_syntax.specs.Views.SourceView.{source_of}
 use Rattle.gypsy_space.specs.Nodes.{seen_proc}
 use Rattle.space_cert.specs.declared.certificate.Certificate.{Certificate}
 use Rattle.space_cert.specs.Least.{IsLeast, IsCertFault}

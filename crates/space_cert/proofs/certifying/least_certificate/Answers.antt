@@ -4,8 +4,8 @@ use Rattle.std.specs.List.{All}
 use Rattle.gypsy_space.specs.Nodes.{seen_proc, seen_program}
 use Rattle.space_cert.specs.Least.{IsLeast}
 use Rattle.space_cert.specs.Order.{AreBounds, bounds_by_needs}
-use Rattle.space_cert.specs.Scaffold.SearchState.{IsFound}
-use Rattle.space_cert.specs.Scaffold.SearchView.{AreCalls, seen_calls}
+use Rattle.space_cert.specs.Internal.SearchState.{IsFound}
+use Rattle.space_cert.specs.Internal.SearchView.{AreCalls, seen_calls}
 use Rattle.space_cert.proofs.BoundedLaws.{all_bounds}
 use Rattle.space_cert.proofs.CertifyLaws.{calls_there, order_below, prefix_bounds, all_small, is_least, is_first}
 use Rattle.space_cert.proofs.certifying.least_certificate.Goals as goal

@@ -1,7 +1,7 @@
 use Rattle.std.proofs.Common.{◌≡◌, ◌≤◌, ◌^◌, ◌++◌, length, ap, sym, ◌∙◌, subst}
 use Rattle.std.proofs.lemmas.List.{length-map}
 use Rattle.gypsy_syntax.specs.Resolved.{procedure_names}
-use Rattle.gypsy_syntax.specs.Seen.SourceView.{proc_of, source_of}
+use Rattle.gypsy_syntax.specs.Views.SourceView.{proc_of, source_of}
 use Rattle.gypsy_syntax.specs.Sources.{ProcOf}
 use Rattle.gypsy_space.specs.Callees.{names_of}
 use Rattle.space_cert.specs.CertText.{bounds_in, certificate_text}

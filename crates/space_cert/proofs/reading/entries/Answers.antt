@@ -2,11 +2,11 @@ use Rattle.std.proofs.Common.{◌≡◌, length, replicate, None, Ok, ap, sym, �
 use Rattle.std.proofs.lemmas.List.{length-map, length-set, length-replicate}
 use Rattle.std.proofs.lemmas.Result.{err_from_is_err_and}
 use Rattle.stack_text.specs.Gives.{Fails}
-use Rattle.stack_text.specs.Seen.TreeView.{node_of, nodes_of}
+use Rattle.stack_text.specs.Views.TreeView.{node_of, nodes_of}
 use Rattle.space_cert.specs.Bounded.{are_bounds}
 use Rattle.space_cert.specs.Covers.{no_bounds}
 use Rattle.space_cert.specs.CertText.{entry_at, fault_of, with_entries}
-use Rattle.space_cert.specs.Scaffold.Names.{names_in}
+use Rattle.space_cert.specs.Internal.Names.{names_in}
 use Rattle.space_cert.proofs.TextLaws.{entry_next, entry_stops, entries_end, none_within, set_within}
 use Rattle.space_cert.proofs.reading.entries.Goals as goal
 

@@ -1,6 +1,6 @@
 use Rattle.std.proofs.Common.{◌≡◌, take}
 use Rattle.gypsy_space.specs.Callees.{names_of}
-use Rattle.space_cert.specs.Scaffold.Names.{names_in}
+use Rattle.space_cert.specs.Internal.Names.{names_in}
 use Rattle.space_cert.proofs.reading.names.Given as goal
 
 -- the names so far

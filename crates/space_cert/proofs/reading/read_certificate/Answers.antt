@@ -4,11 +4,11 @@ use Rattle.std.proofs.lemmas.Result.{IfOk-weaker}
 use Rattle.std.specs.List.{IsDistinct}
 use Rattle.std.specs.Str.{bytes_eq}
 use Rattle.gypsy_syntax.specs.Resolved.{procedure_names}
-use Rattle.gypsy_syntax.specs.Seen.SourceView.{source_of}
+use Rattle.gypsy_syntax.specs.Views.SourceView.{source_of}
 use Rattle.gypsy_syntax.specs.Sources.{ProcOf}
 use Rattle.gypsy_space.specs.Callees.{names_of}
 use Rattle.space_cert.specs.CertText.{GivesCertificateText, bounds_in}
-use Rattle.space_cert.specs.Scaffold.Names.{names_in}
+use Rattle.space_cert.specs.Internal.Names.{names_in}
 use Rattle.space_cert.proofs.NameLaws.{names_same, own_names}
 use Rattle.space_cert.proofs.reading.read_certificate.Goals as goal
 

@@ -3,7 +3,7 @@ use Rattle.std.proofs.lemmas.Result.{err_from_is_err_and}
 use Rattle.piton_check.specs.PitonChecking.{IsChecked}
 use Rattle.piton_semantics.specs.Fits.{system_in}
 use Rattle.gypsy_space.specs.Needs.{stack_sizes}
-use Rattle.gypsy_syntax.specs.Seen.SourceView.{source_of}
+use Rattle.gypsy_syntax.specs.Views.SourceView.{source_of}
 use Rattle.stack_build.proofs.BuildLaws.{generating_fails, linking_fails, built_is}
 use Rattle.stack_build.proofs.BuildsLaws.{made_builds}
 use Rattle.stack_build.proofs.building.build_program.Goals as goal

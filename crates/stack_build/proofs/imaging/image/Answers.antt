@@ -8,10 +8,10 @@ use Rattle.piton_semantics.specs.Placed.{placed}
 use Rattle.gypsy_syntax.specs.declared.literal.Decl.{Decl}
 use Rattle.gypsy_syntax.specs.declared.proc.Source.{Source}
 use Rattle.gypsy_syntax.specs.Sources.{SourceOf}
-use Rattle.gypsy_syntax.specs.Seen.SourceView.{source_of}
+use Rattle.gypsy_syntax.specs.Views.SourceView.{source_of}
 use Rattle.stack_build.specs.Formals.{shown_formals, shown_conditions}
 use Rattle.stack_build.specs.Image.{slots_from, source_tables}
-use Rattle.stack_build.specs.Scaffold.Showing.{AreShort}
+use Rattle.stack_build.specs.Internal.Showing.{AreShort}
 use Rattle.stack_build.proofs.ImageLimits.{placed_window, generated_shows}
 use Rattle.stack_build.proofs.PartsLaws.{areas_below, end_below, parts_are, parts_fit}
 use Rattle.stack_build.proofs.TableLaws.{tables_fit}

@@ -1,5 +1,5 @@
 use Rattle.std.proofs.Common.{◌≡◌, ◌++◌, map, drop}
-use Rattle.stack_build.specs.Scaffold.Listing.{mark_among}
+use Rattle.stack_build.specs.Internal.Listing.{mark_among}
 use Rattle.stack_build.proofs.tables.marks_among.Given as goal
 
 -- the marks so far and those of what is left are all

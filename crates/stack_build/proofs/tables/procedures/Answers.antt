@@ -3,7 +3,7 @@ use Rattle.std.specs.Prelude.{slice_get}
 use Rattle.std.proofs.lemmas.List.{get_or-map, length-map}
 use Rattle.fm_image.specs.Procedure.{ProcedureOf}
 use Rattle.gypsy_syntax.specs.Sources.{ProcOf}
-use Rattle.gypsy_syntax.specs.Seen.SourceView.{proc_of}
+use Rattle.gypsy_syntax.specs.Views.SourceView.{proc_of}
 use Rattle.gypsy_space.specs.declared.program.Procedure.{Procedure}
 use Rattle.gypsy_space.specs.Nodes.{seen_program}
 use Rattle.stack_build.specs.Image.{procedure_info}

@@ -1,5 +1,5 @@
 use Rattle.std.proofs.Common.{◌≡◌, ◌++◌, map, drop}
-use Rattle.gypsy_syntax.specs.Seen.SourceView.{proc_of}
+use Rattle.gypsy_syntax.specs.Views.SourceView.{proc_of}
 use Rattle.gypsy_space.specs.Nodes.{seen_program}
 use Rattle.stack_build.specs.Image.{procedure_infos}
 use Rattle.stack_build.proofs.tables.procedures.Given as goal

@@ -1,5 +1,5 @@
 use Rattle.std.proofs.Common.{◌≡◌, ◌≤◌, ◌+◌, ◌++◌, length, drop}
-use Rattle.stack_build.specs.Scaffold.Listing.{formal_infos, offset_in}
+use Rattle.stack_build.specs.Internal.Listing.{formal_infos, offset_in}
 use Rattle.stack_build.proofs.tables.push_formals.Given as goal
 
 -- the variables so far and those of what is left are all, and there is room for them

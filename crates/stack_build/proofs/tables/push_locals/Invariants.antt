@@ -1,5 +1,5 @@
 use Rattle.std.proofs.Common.{◌≡◌, ◌≤◌, ◌+◌, ◌++◌, length, drop}
-use Rattle.stack_build.specs.Scaffold.Listing.{local_infos, offset_in}
+use Rattle.stack_build.specs.Internal.Listing.{local_infos, offset_in}
 use Rattle.stack_build.proofs.tables.push_locals.Given as goal
 
 -- the variables so far and those of what is left are all, and there is room for them

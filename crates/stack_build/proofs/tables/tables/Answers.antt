@@ -3,10 +3,10 @@ use Rattle.std.specs.List.{list_all}
 use Rattle.fm_image.specs.Limits.{is_place}
 use Rattle.gypsy_syntax.specs.declared.proc.Proc.{Proc}
 use Rattle.gypsy_syntax.specs.declared.proc.Source.{Source}
-use Rattle.gypsy_syntax.specs.Seen.SourceView.{proc_of, source_of}
+use Rattle.gypsy_syntax.specs.Views.SourceView.{proc_of, source_of}
 use Rattle.gypsy_codegen.specs.declared.marking.MarkAt.{MarkAt}
 use Rattle.stack_build.specs.Image.{procedure_infos}
-use Rattle.stack_build.specs.Scaffold.Listing.{Declares}
+use Rattle.stack_build.specs.Internal.Listing.{Declares}
 use Rattle.stack_build.proofs.ListingLaws.{declares, tables_are}
 use Rattle.stack_build.proofs.tables.tables.Goals as goal
 

@@ -1,6 +1,6 @@
 use Rattle.std.proofs.Common.{◌∙◌}
-use Rattle.gypsy_syntax.specs.Seen.SourceView.{source_of}
-use Rattle.gypsy_meaning.specs.Seen.Running.{seen}
+use Rattle.gypsy_syntax.specs.Views.SourceView.{source_of}
+use Rattle.gypsy_meaning.specs.Views.Running.{seen}
 use Rattle.stack_commands.proofs.MeanLaws.{said_is}
 use Rattle.stack_commands.proofs.mean.ended_text.Goals as goal
 

@@ -1,4 +1,4 @@
-use Rattle.stack_text.specs.Seen.TreeView.{owned_node}
+use Rattle.stack_text.specs.Views.TreeView.{owned_node}
 use Rattle.stack_text.proofs.PrintLaws.{tree_text_reads}
 use Rattle.stack_text.proofs.printer.print_tree.Goals as goal
 

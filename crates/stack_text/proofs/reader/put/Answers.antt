@@ -1,6 +1,6 @@
 use Rattle.std.proofs.Common.{rules, ◌<◌, ◌-◌, arith, refl, length}
 use Rattle.std.proofs.lemmas.Result.{err_from_is_err_and}
-use Rattle.stack_text.specs.Scaffold.OpenLists.{opened}
+use Rattle.stack_text.specs.Internal.OpenLists.{opened}
 use Rattle.stack_text.proofs.HeapLaws.{refuses_less, few_items}
 use Rattle.std.specs.Prelude.{vec_len}
 use Rattle.stack_text.proofs.OpenListLaws.{puts_in_place}

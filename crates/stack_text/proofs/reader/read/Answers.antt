@@ -4,8 +4,8 @@ use Rattle.std.proofs.lemmas.Result.{err_from_is_err_and}
 use Rattle.stack_text.specs.Tokens.{Token, tokens, between}
 use Rattle.stack_text.specs.Trees.{as_kept}
 use Rattle.stack_text.specs.TextFaults.{first_fault}
-use Rattle.stack_text.specs.Scaffold.OpenLists.{opened, context}
-use Rattle.stack_text.specs.Scaffold.TokenSpans.{token_in}
+use Rattle.stack_text.specs.Internal.OpenLists.{opened, context}
+use Rattle.stack_text.specs.Internal.TokenSpans.{token_in}
 use Rattle.stack_text.proofs.OpenListLaws.{text_ends, text_finishes, kept_goes_on, unfinished}
 use Rattle.stack_text.proofs.reader.read.Goals as goal
 

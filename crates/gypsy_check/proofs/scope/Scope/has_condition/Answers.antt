@@ -1,6 +1,6 @@
 use Rattle.std.proofs.Common.{◌∙◌, ap, List, ℕ}
 use Rattle.gypsy_syntax.specs.declared.proc.Proc.{Proc}
-use Rattle.gypsy_syntax.specs.Seen.SourceView.{proc_of}
+use Rattle.gypsy_syntax.specs.Views.SourceView.{proc_of}
 use Rattle.gypsy_check.specs.Declarations.{is_condition}
 use Rattle.gypsy_check.specs.Tables.{has}
 use Rattle.gypsy_check.proofs.VariableLaws.{condition_known}

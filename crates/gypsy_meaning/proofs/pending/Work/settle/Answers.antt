@@ -1,7 +1,7 @@
 use Rattle.std.proofs.Common.{◌≡◌, List, length, take, ap, sym, ◌∙◌}
 use Rattle.std.proofs.Math.Seq.{take-length}
 use Rattle.gypsy_semantics.specs.Machine.{settle}
-use Rattle.gypsy_meaning.specs.Seen.Work.{left_by, work_of}
+use Rattle.gypsy_meaning.specs.Views.Work.{left_by, work_of}
 use Rattle.gypsy_meaning.specs.declared.work.Item.{Item as Kept}
 use Rattle.gypsy_meaning.proofs.OpenLaws.{moved}
 use Rattle.gypsy_meaning.proofs.pending.Work.settle.Goals as goal

@@ -1,6 +1,6 @@
 use Rattle.std.proofs.Common.{◌≡◌, List, map, ap, sym, ◌∙◌}
 use Rattle.stack_text.specs.Values.{ValueOf}
-use Rattle.gypsy_meaning.specs.Seen.Work.{left_by, work_of}
+use Rattle.gypsy_meaning.specs.Views.Work.{left_by, work_of}
 use Rattle.gypsy_meaning.specs.declared.work.Item.{Item as Kept}
 use Rattle.gypsy_meaning.proofs.OpenLaws.{moved}
 use Rattle.gypsy_meaning.proofs.TurnLaws.{goes_moved, opens_moved}

@@ -1,7 +1,7 @@
 use Rattle.std.proofs.Common.{List, Some, slice_get, ap, sym, ◌∙◌}
 use Rattle.gypsy_space.specs.Nodes.{seen_cond}
 use Rattle.gypsy_space.specs.declared.program.Condition.{Condition}
-use Rattle.gypsy_meaning.specs.Seen.Named.{conditions_of, current_or}
+use Rattle.gypsy_meaning.specs.Views.Named.{conditions_of, current_or}
 use Rattle.gypsy_meaning.specs.declared.names.Names.{Names}
 use Rattle.gypsy_meaning.proofs.ShownLaws.{condition_shown}
 use Rattle.gypsy_meaning.proofs.running.Meaning.condition.Goals as goal

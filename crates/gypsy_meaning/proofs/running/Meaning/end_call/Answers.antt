@@ -1,6 +1,6 @@
 use Rattle.std.proofs.Common.{◌≡◌, ◌++◌, ◌∷◌, [], ℕ, List, sym, subst}
-use Rattle.gypsy_meaning.specs.Seen.Held.{Moves}
-use Rattle.gypsy_meaning.specs.Seen.Running.{paid}
+use Rattle.gypsy_meaning.specs.Views.Held.{Moves}
+use Rattle.gypsy_meaning.specs.Views.Running.{paid}
 use Rattle.gypsy_meaning.specs.declared.running.Meaning.{Meaning}
 use Rattle.gypsy_meaning.proofs.ReturningLaws.{end_moves}
 use Rattle.gypsy_meaning.proofs.running.Meaning.end_call.Goals as goal

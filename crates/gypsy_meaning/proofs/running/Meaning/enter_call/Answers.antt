@@ -4,9 +4,9 @@ use Rattle.gypsy_syntax.specs.Programs.{body_of, proc_at}
 use Rattle.gypsy_space.specs.Nodes.{seen_proc, seen_program}
 use Rattle.gypsy_space.specs.declared.program.CallSite.{CallSite}
 use Rattle.gypsy_semantics.specs.Machine.{open_on}
-use Rattle.gypsy_meaning.specs.Seen.Named.{variables_of}
-use Rattle.gypsy_meaning.specs.Seen.Running.{paid}
-use Rattle.gypsy_meaning.specs.Seen.Work.{work_of}
+use Rattle.gypsy_meaning.specs.Views.Named.{variables_of}
+use Rattle.gypsy_meaning.specs.Views.Running.{paid}
+use Rattle.gypsy_meaning.specs.Views.Work.{work_of}
 use Rattle.gypsy_meaning.specs.declared.names.Names.{Names}
 use Rattle.gypsy_meaning.proofs.CallingLaws.{after_call, enters}
 use Rattle.gypsy_meaning.proofs.running.Meaning.enter_call.Goals as goal

@@ -5,10 +5,10 @@ use Rattle.gypsy_space.specs.declared.program.CallSite.{CallSite}
 use Rattle.gypsy_space.specs.declared.program.Condition.{Condition}
 use Rattle.gypsy_semantics.specs.Calls.{matching}
 use Rattle.gypsy_semantics.specs.Machine.{raise}
-use Rattle.gypsy_meaning.specs.Seen.Held.{Moves}
-use Rattle.gypsy_meaning.specs.Scaffold.Returning.{out_price}
-use Rattle.gypsy_meaning.specs.Seen.Running.{paid}
-use Rattle.gypsy_meaning.specs.Seen.Work.{work_of}
+use Rattle.gypsy_meaning.specs.Views.Held.{Moves}
+use Rattle.gypsy_meaning.specs.Internal.Returning.{out_price}
+use Rattle.gypsy_meaning.specs.Views.Running.{paid}
+use Rattle.gypsy_meaning.specs.Views.Work.{work_of}
 use Rattle.gypsy_meaning.specs.declared.running.Meaning.{Meaning}
 use Rattle.gypsy_meaning.proofs.ReturningLaws.{leave_moves}
 use Rattle.gypsy_meaning.proofs.running.Meaning.leave_call.Goals as goal

@@ -5,7 +5,7 @@ use Rattle.gypsy_space.specs.Nodes.{seen_proc, seen_program}
 use Rattle.gypsy_space.specs.Events.{lack_by, need_at}
 use Rattle.gypsy_space.specs.declared.need.Lack.TheVariants.{Temporary, Control}
 use Rattle.gypsy_space.specs.declared.program.CallSite.{CallSite}
-use Rattle.gypsy_meaning.specs.Seen.Running.{sizes_of}
+use Rattle.gypsy_meaning.specs.Views.Running.{sizes_of}
 use Rattle.gypsy_meaning.proofs.CallingLaws.{lacks_temporary, lacks_control}
 use Rattle.gypsy_meaning.proofs.running.Meaning.make_call.Goals as goal
 

@@ -1,6 +1,6 @@
 use Rattle.std.proofs.Common.{◌≡◌, ℕ, suc, ◌+◌, ◌-◌, ◌<◌, ◌≤◌, true, false, sym, ap, ◌∙◌, refl, arith}
-use Rattle.gypsy_meaning.specs.Seen.Running.{seen}
-use Rattle.gypsy_semantics.specs.Seen.RunView.{Ran, Seen, after, left_of, meaning_run}
+use Rattle.gypsy_meaning.specs.Views.Running.{seen}
+use Rattle.gypsy_semantics.specs.Views.RunView.{Ran, Seen, after, left_of, meaning_run}
 use Rattle.gypsy_semantics.specs.declared.answers.MeanRun.{MeanRun}
 use Rattle.gypsy_semantics.specs.declared.answers.MeanRun.TheVariants as ran
 use Rattle.gypsy_semantics.specs.declared.answers.Moved.TheVariants as moved

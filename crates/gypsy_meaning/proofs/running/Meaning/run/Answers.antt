@@ -1,5 +1,5 @@
-use Rattle.gypsy_syntax.specs.Seen.SourceView.{source_of}
-use Rattle.gypsy_meaning.specs.Seen.Running.{seen}
+use Rattle.gypsy_syntax.specs.Views.SourceView.{source_of}
+use Rattle.gypsy_meaning.specs.Views.Running.{seen}
 use Rattle.gypsy_semantics.proofs.ReachLaws.{completes}
 use Rattle.gypsy_semantics.proofs.RunLaws.{answer_agrees}
 use Rattle.gypsy_meaning.proofs.StepLaws.{seen_reached}

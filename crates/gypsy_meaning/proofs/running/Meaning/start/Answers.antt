@@ -4,13 +4,13 @@ use Rattle.stack_text.specs.declared.value.Value.{Value}
 use Rattle.stack_text.specs.Values.{ValueOf}
 use Rattle.gypsy_syntax.specs.Programs.{proc_at, words_of}
 use Rattle.gypsy_syntax.specs.Resolved.{program_of}
-use Rattle.gypsy_syntax.specs.Seen.SourceView.{source_of}
+use Rattle.gypsy_syntax.specs.Views.SourceView.{source_of}
 use Rattle.gypsy_syntax.specs.ValuesFit.{VarsFit}
 use Rattle.gypsy_space.specs.Nodes.{seen_program}
 use Rattle.gypsy_space.specs.Needs.{stack_sizes}
 use Rattle.gypsy_semantics.specs.Calls.{main_start}
-use Rattle.gypsy_meaning.specs.Seen.Named.{proc_names, seen_names, variables_of}
-use Rattle.gypsy_semantics.specs.Seen.RunView.{opening}
+use Rattle.gypsy_meaning.specs.Views.Named.{proc_names, seen_names, variables_of}
+use Rattle.gypsy_semantics.specs.Views.RunView.{opening}
 use Rattle.gypsy_meaning.specs.declared.names.Names.{Names}
 use Rattle.gypsy_meaning.specs.declared.running.Meaning.{Meaning}
 use Rattle.gypsy_meaning.proofs.StartLaws.{belongs, main_sized, main_there, main_words, opens}

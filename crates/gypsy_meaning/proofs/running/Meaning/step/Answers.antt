@@ -1,6 +1,6 @@
 use Rattle.std.proofs.Common.{◌≡◌, sym, ◌∙◌}
-use Rattle.gypsy_syntax.specs.Seen.SourceView.{source_of}
-use Rattle.gypsy_meaning.specs.Seen.Running.{seen}
+use Rattle.gypsy_syntax.specs.Views.SourceView.{source_of}
+use Rattle.gypsy_meaning.specs.Views.Running.{seen}
 use Rattle.gypsy_meaning.proofs.StepLaws.{any_err, does_belongs, does_step, not_over, over_stays, ready, unchanged_belongs, unchanged_seen}
 use Rattle.gypsy_meaning.proofs.running.Meaning.step.Goals as goal
 

@@ -3,9 +3,9 @@ use Rattle.stack_text.specs.Values.{ValueOf}
 use Rattle.stack_text.specs.declared.name.Name.{Name}
 use Rattle.stack_text.specs.declared.value.Value.{Value}
 use Rattle.gypsy_semantics.specs.Machine.{Item}
-use Rattle.gypsy_meaning.specs.Seen.Held.{Moves}
-use Rattle.gypsy_meaning.specs.Seen.Work.{work_of}
-use Rattle.gypsy_meaning.specs.Scaffold.Turns.{IsTurn}
+use Rattle.gypsy_meaning.specs.Views.Held.{Moves}
+use Rattle.gypsy_meaning.specs.Views.Work.{work_of}
+use Rattle.gypsy_meaning.specs.Internal.Turns.{IsTurn}
 use Rattle.gypsy_meaning.specs.declared.running.Meaning.{Meaning}
 use Rattle.gypsy_meaning.proofs.RunningLaws.{advance_moves, open_moves}
 use Rattle.gypsy_meaning.proofs.TurnLaws.{goes_moved, opens_moved}

@@ -5,8 +5,8 @@ use Rattle.std.specs.Global.{Vec}
 use Rattle.gypsy_syntax.specs.Effects.{value_at}
 use Rattle.gypsy_space.specs.declared.program.CallSite.{CallSite}
 use Rattle.gypsy_semantics.specs.Calls.{copied_out}
-use Rattle.gypsy_meaning.specs.Scaffold.Entering.{call_top}
-use Rattle.gypsy_meaning.specs.Seen.Work.{work_of}
+use Rattle.gypsy_meaning.specs.Internal.Entering.{call_top}
+use Rattle.gypsy_meaning.specs.Views.Work.{work_of}
 use Rattle.gypsy_meaning.specs.declared.running.Frame.{Frame}
 use Rattle.gypsy_meaning.proofs.running.Meaning.wait.Goals as goal
 

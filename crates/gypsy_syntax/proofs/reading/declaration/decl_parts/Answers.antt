@@ -1,5 +1,5 @@
 use Rattle.std.proofs.lemmas.Result.{err_from_is_err_and}
-use Rattle.stack_text.specs.Seen.TreeView.{node_of}
+use Rattle.stack_text.specs.Views.TreeView.{node_of}
 use Rattle.stack_text.specs.declared.grammar.fault.FormFault.TheVariants.{Form}
 use Rattle.stack_text.proofs.PartLaws.{first_of_2, first_of_value}
 use Rattle.gypsy_syntax.specs.Grammar.{named_in, type_in}

@@ -1,5 +1,5 @@
 use Rattle.std.proofs.lemmas.Result.{err_from_is_err_and}
-use Rattle.stack_text.specs.Seen.TreeView.{node_of, nodes_of}
+use Rattle.stack_text.specs.Views.TreeView.{node_of, nodes_of}
 use Rattle.stack_text.specs.Grammar.Judged.{each_of}
 use Rattle.stack_text.proofs.PartLaws.{first_of_2}
 use Rattle.gypsy_syntax.specs.Grammar.{named_in, procedure_in}

@@ -2,7 +2,7 @@ use Rattle.std.proofs.Common.{◌≡◌, [], Err, Some, None, length, map, refl,
 use Rattle.std.proofs.lemmas.Bool.{eqb-false, eqb-true}
 use Rattle.std.proofs.lemmas.List.{map_push}
 use Rattle.std.proofs.lemmas.Result.{err_from_is_err_and}
-use Rattle.stack_text.specs.Seen.TreeView.{node_of, nodes_of}
+use Rattle.stack_text.specs.Views.TreeView.{node_of, nodes_of}
 use Rattle.stack_text.proofs.PartLaws.{first_of_2, first_of_3, first_of_value, part_fails, part_read, parts_end}
 use Rattle.stack_text.proofs.TreeListLaws.{no_parts, not_one, not_three, one_part, three_parts}
 use Rattle.gypsy_syntax.specs.declared.keyword.Keyword.TheVariants as word
@@ -10,7 +10,7 @@ use Rattle.gypsy_syntax.specs.Grammar.{form_in, named_in, names_in, statement_in
 use Rattle.gypsy_syntax.specs.Sources.{loop}
 use Rattle.stack_text.proofs.TreeViewLaws.{node_of-list}
 use Rattle.gypsy_syntax.specs.Made.{new_begin, new_branch}
-use Rattle.gypsy_syntax.specs.Seen.SourceView.{stmt_of}
+use Rattle.gypsy_syntax.specs.Views.SourceView.{stmt_of}
 use Rattle.gypsy_syntax.proofs.GrammarLaws.{fault_in_parts, some_parts, statement_by_parts, statements_each}
 use Rattle.gypsy_syntax.proofs.reading.statements.+statements.Goals as goal
 

@@ -1,7 +1,7 @@
 use Rattle.std.proofs.Common.{refl}
 use Rattle.std.proofs.lemmas.Result.{err_from_is_err_and}
 use Rattle.stack_text.specs.Trees.{place_of}
-use Rattle.stack_text.specs.Seen.TreeView.{node_of}
+use Rattle.stack_text.specs.Views.TreeView.{node_of}
 use Rattle.stack_text.proofs.PartLaws.{first_of_2, first_of_3, first_of_value}
 use Rattle.gypsy_syntax.specs.Grammar.{named_in, names_in}
 use Rattle.gypsy_syntax.specs.Made.{new_call}

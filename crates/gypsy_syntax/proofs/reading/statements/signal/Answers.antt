@@ -1,6 +1,6 @@
 use Rattle.std.proofs.Common.{◌≡◌, [], Err, Some, refl}
 use Rattle.std.proofs.lemmas.Result.{err_from_is_err_and}
-use Rattle.stack_text.specs.Seen.TreeView.{node_of}
+use Rattle.stack_text.specs.Views.TreeView.{node_of}
 use Rattle.stack_text.proofs.PartLaws.{first_of_value}
 use Rattle.stack_text.proofs.TreeListLaws.{not_one, one_part}
 use Rattle.gypsy_syntax.specs.declared.keyword.Keyword.TheVariants as word

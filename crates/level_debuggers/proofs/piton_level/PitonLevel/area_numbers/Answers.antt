@@ -4,7 +4,7 @@ use Rattle.piton_words.specs.declared.word.Word.{Word}
 use Rattle.piton_semantics.specs.Addresses.{numbers}
 use Rattle.piton_semantics.specs.Fits.{system_in}
 use Rattle.piton_semantics.specs.Placed.{addresses_of}
-use Rattle.piton_semantics.specs.Seen.StateView.{IsSeen}
+use Rattle.piton_semantics.specs.StateView.{IsSeen}
 use Rattle.level_debuggers.specs.PitonReadings.{area_words}
 use Rattle.level_debuggers.proofs.AreaLaws.{known_words}
 use Rattle.level_debuggers.proofs.piton_level.PitonLevel.area_numbers.Goals as goal

@@ -1,7 +1,7 @@
 use Rattle.std.proofs.Common.{subst, sym, arith}
 use Rattle.std.proofs.lemmas.Grind.{common_steps}
 use Rattle.piton_check.specs.Instruction.{system_view}
-use Rattle.piton_semantics.specs.Seen.StateView.{IsSeen, opening}
+use Rattle.piton_semantics.specs.StateView.{IsSeen, opening}
 use Rattle.piton_semantics.proofs.SeenLaws.{opening_seen}
 use Rattle.piton_machine.proofs.state.State.opened.Goals as goal
 

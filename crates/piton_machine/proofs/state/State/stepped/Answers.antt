@@ -3,7 +3,7 @@ use Rattle.std.specs.Prelude.{option_map}
 use Rattle.piton_semantics.specs.Fits.{IsState}
 use Rattle.piton_check.specs.Instruction.{system_view, instruction_view}
 use Rattle.piton_semantics.specs.InstructionRows.{row_of}
-use Rattle.piton_semantics.specs.Seen.StateView.{Seen}
+use Rattle.piton_semantics.specs.StateView.{Seen}
 use Rattle.piton_semantics.specs.State.{instruction_at}
 use Rattle.piton_semantics.proofs.KeepLaws.{row_kept}
 use Rattle.piton_machine.proofs.state.State.stepped.Goals as goal

@@ -1,6 +1,6 @@
 use Rattle.std.proofs.Common.{◌≡◌, drop}
 use Rattle.std.specs.Prelude.{IsTrue}
-use Rattle.stack_text.specs.Seen.TreeView.{nodes_of}
+use Rattle.stack_text.specs.Views.TreeView.{nodes_of}
 use Rattle.piton_syntax.specs.Grammar.{are_of_kind, argument_of}
 use Rattle.stack_text.specs.Grammar.Judged.{each_of}
 use Rattle.stack_text.proofs.ResultLoops.{with_front}

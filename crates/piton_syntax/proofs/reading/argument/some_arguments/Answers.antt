@@ -1,7 +1,7 @@
 use Rattle.std.proofs.Common.{◌≡◌, [], refl, length, sym, ◌∙◌}
 use Rattle.std.specs.Prelude.{true}
 use Rattle.std.proofs.lemmas.Bool.{eqb-false, eqb-true}
-use Rattle.stack_text.specs.Seen.TreeView.{nodes_of}
+use Rattle.stack_text.specs.Views.TreeView.{nodes_of}
 use Rattle.piton_syntax.specs.Grammar.{are_of_kind}
 use Rattle.piton_syntax.proofs.ArgumentLaws.{all_of_kind, other_kinds, some_kinds}
 use Rattle.stack_text.proofs.TreeListLaws.{no_parts}

@@ -1,7 +1,7 @@
 use Rattle.std.proofs.Common.{◌≡◌, [], Err, refl, sym, ◌∙◌}
 use Rattle.piton_syntax.specs.Grammar.{arguments_of, named_of, test_and_label}
 use Rattle.std.proofs.lemmas.Result.{err_from_is_err_and}
-use Rattle.stack_text.specs.Seen.TreeView.{node_of}
+use Rattle.stack_text.specs.Views.TreeView.{node_of}
 use Rattle.stack_text.proofs.PartLaws.{first_of_value}
 use Rattle.piton_syntax.specs.declared.argument.Arguments.TheVariants as row
 use Rattle.stack_text.proofs.TreeListLaws.{not_two, two_parts}

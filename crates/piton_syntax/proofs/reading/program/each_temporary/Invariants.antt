@@ -1,5 +1,5 @@
 use Rattle.std.proofs.Common.{◌≡◌, drop}
-use Rattle.stack_text.specs.Seen.TreeView.{nodes_of}
+use Rattle.stack_text.specs.Views.TreeView.{nodes_of}
 use Rattle.stack_text.specs.Grammar.Judged.{each_of}
 use Rattle.stack_text.proofs.ResultLoops.{with_front}
 use Rattle.piton_syntax.specs.Grammar.{temporary_of}

@@ -1,6 +1,6 @@
 use Rattle.std.proofs.lemmas.Result.{err_from_is_err_and}
 use Rattle.stack_text.specs.Trees.{place_of}
-use Rattle.stack_text.specs.Seen.TreeView.{node_of, nodes_of}
+use Rattle.stack_text.specs.Views.TreeView.{node_of, nodes_of}
 use Rattle.piton_syntax.specs.Grammar.{instruction_of, list_of, named_of, temporary_of}
 use Rattle.stack_text.specs.Grammar.Judged.{each_of}
 use Rattle.piton_syntax.specs.Systems.{new_program}

@@ -1,6 +1,6 @@
 use Rattle.std.proofs.Common.{[], refl}
 use Rattle.std.proofs.lemmas.Result.{err_from_is_err_and}
-use Rattle.stack_text.specs.Seen.TreeView.{node_of}
+use Rattle.stack_text.specs.Views.TreeView.{node_of}
 use Rattle.piton_syntax.specs.Grammar.{named_of, pair, word_of}
 use Rattle.piton_syntax.proofs.ProgramLaws.{not_two_of_temporary}
 use Rattle.stack_text.proofs.PartLaws.{first_of_2, first_of_value}

@@ -1,6 +1,6 @@
 use Rattle.std.proofs.Common.{map}
 use Rattle.std.proofs.lemmas.Result.{err_from_is_err_and}
-use Rattle.stack_text.specs.Seen.TreeView.{node_of, nodes_of}
+use Rattle.stack_text.specs.Views.TreeView.{node_of, nodes_of}
 use Rattle.piton_syntax.specs.Grammar.{area_of, named_of, number_of, program_of, word_of}
 use Rattle.stack_text.specs.Grammar.Judged.{each_of}
 use Rattle.stack_text.specs.declared.grammar.fault.FormFault.TheVariants.{Form}

@@ -1,6 +1,6 @@
 use Rattle.std.proofs.Common.{◌≡◌, [], Err, refl, sym, ◌∙◌}
 use Rattle.std.proofs.lemmas.Result.{err_from_is_err_and}
-use Rattle.stack_text.specs.Seen.TreeView.{node_of}
+use Rattle.stack_text.specs.Views.TreeView.{node_of}
 use Rattle.stack_text.specs.declared.grammar.fault.FormFault.TheVariants.{Form}
 use Rattle.stack_text.proofs.PartLaws.{first_of_2, first_of_value}
 use Rattle.stack_text.proofs.TreeListLaws.{not_two, two_parts}
@@ -12,7 +12,7 @@ returns-then-parts-ne2 g c make =
     rw (c.into.ensures, c.no_word.ensures) (
       [],
       not_two (λ ts. named_number make c.args.place ts ≡ Err (record { place = c.args.place; rule = 5 }, []))
-      refl (λ t. refl) (λ t u v ts. refl) c.args.parts.now c.if-parts-ne2.true,
+          refl (λ t. refl) (λ t u v ts. refl) c.args.parts.now c.if-parts-ne2.true,
     )
 
 pub returns-then-not-is_named_number : goal.returns-then-not-is_named_number

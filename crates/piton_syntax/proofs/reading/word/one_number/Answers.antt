@@ -1,7 +1,7 @@
 use Rattle.std.proofs.Common.{◌≡◌, ℕ, List, Bool, [], Err, refl, sym, ◌∙◌}
 use Rattle.std.specs.Prelude.{if◌then◌else◌}
 use Rattle.stack_text.specs.Numerals.{is_digits, is_numeral}
-use Rattle.stack_text.specs.Seen.TreeView.{node_of}
+use Rattle.stack_text.specs.Views.TreeView.{node_of}
 use Rattle.stack_text.proofs.TreeListLaws.{not_one, one_part}
 use Rattle.piton_syntax.specs.Grammar.{number_of, one_number}
 use Rattle.piton_syntax.proofs.ItemLaws.{finds_made}
@@ -13,7 +13,7 @@ returns-then-parts-ne1 c make =
     rw c.no_word.ensures (
       [],
       not_one (λ ts. one_number test make c.args.place ts ≡ Err (record { place = c.args.place; rule = 5 }, []))
-      refl (λ t u ts. refl) c.args.parts.now c.if-parts-ne1.true,
+          refl (λ t u ts. refl) c.args.parts.now c.if-parts-ne1.true,
     )
 
 pub returns-then-not-is_number_atom : goal.returns-then-not-is_number_atom

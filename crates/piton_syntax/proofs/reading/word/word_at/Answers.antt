@@ -1,7 +1,7 @@
 use Rattle.std.proofs.Common.{[], length, refl, sym, ◌∙◌}
 use Rattle.std.proofs.lemmas.Bool.{eqb-false, eqb-true}
 use Rattle.std.proofs.lemmas.Result.{err_from_is_err_and}
-use Rattle.stack_text.specs.Seen.TreeView.{nodes_of}
+use Rattle.stack_text.specs.Views.TreeView.{nodes_of}
 use Rattle.stack_text.proofs.PartLaws.{first_of_value}
 use Rattle.stack_text.proofs.TreeListLaws.{no_parts, rest}
 use Rattle.stack_text.proofs.TreeViewLaws.{node_of-atom, node_of-list}

@@ -1,6 +1,6 @@
 use Rattle.std.proofs.Common.{◌≤◌, length, arith}
 use Rattle.std.proofs.lemmas.Result.{IfOk-weaker}
-use Rattle.space_cert.specs.Scaffold.SearchView.{HasFinished, HasAdvanced, search_of, seen_calls}
+use Rattle.space_cert.specs.Internal.SearchView.{HasFinished, HasAdvanced, search_of, seen_calls}
 use Rattle.space_cert.proofs.FollowLaws.{entered_below, finish_advances}
 use Rattle.space_cert.proofs.search.Search.advance.Goals as goal
 

@@ -1,8 +1,8 @@
 use Rattle.std.proofs.Common.{◌<◌, length, refl, sym, subst, arith}
 use Rattle.std.proofs.lemmas.List.{length-map}
 use Rattle.std.proofs.lemmas.Result.{on_ok_weaker}
-use Rattle.space_cert.specs.Scaffold.SearchState.{IsSearch, left_to_do, with_call}
-use Rattle.space_cert.specs.Scaffold.SearchView.{search_of, seen_calls}
+use Rattle.space_cert.specs.Internal.SearchState.{IsSearch, left_to_do, with_call}
+use Rattle.space_cert.specs.Internal.SearchView.{search_of, seen_calls}
 use Rattle.space_cert.specs.declared.search.Mark.TheVariants.{New, Entered, Done}
 use Rattle.space_cert.proofs.SearchingLaws.{enters_keeps, enters_less, passes_keeps, circles_keeps}
 use Rattle.space_cert.proofs.FollowLaws.{mark_read, follow_below, follow_joins}

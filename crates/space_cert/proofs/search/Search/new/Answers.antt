@@ -1,7 +1,7 @@
 use Rattle.std.proofs.Common.{◌≡◌, ◌<◌, length, replicate, set, ap, sym, subst, ◌∙◌, reverse, arith, rules}
 use Rattle.std.proofs.lemmas.List.{length-map}
-use Rattle.space_cert.specs.Scaffold.SearchState.{IsSearch}
-use Rattle.space_cert.specs.Scaffold.SearchView.{seen_calls}
+use Rattle.space_cert.specs.Internal.SearchState.{IsSearch}
+use Rattle.space_cert.specs.Internal.SearchView.{seen_calls}
 use Rattle.space_cert.specs.declared.search.Mark.TheVariants.{New, Entered}
 use Rattle.space_cert.proofs.SearchCode.{search_same, calls_at}
 use Rattle.space_cert.proofs.SearchingLaws.{begins}

@@ -3,7 +3,7 @@ use Rattle.fm_turns.specs.EqualTurns.{AreAll, EndAsAlone}
 use Rattle.fm_turns.specs.Starting.{NewTask, new_tasks, started}
 use Rattle.fm_turns.specs.Turns.{TurnsOf, images_of}
 use Rattle.command_replies.specs.Replies.{ReplyOf, reply_of}
-use Rattle.stack_commands.specs.Scaffold.Told.{GoneRound}
+use Rattle.stack_commands.specs.Internal.Told.{GoneRound}
 use Rattle.stack_commands.proofs.TurnsLaws.{first_images, tells_alone}
 use Rattle.stack_commands.proofs.turns.rounds.run_by_turns.Goals as goal
 

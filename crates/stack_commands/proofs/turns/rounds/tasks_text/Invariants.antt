@@ -1,5 +1,5 @@
 use Rattle.std.proofs.Common.{◌≡◌, ◌++◌, drop}
-use Rattle.stack_commands.specs.Scaffold.Told.{told_from}
+use Rattle.stack_commands.specs.Internal.Told.{told_from}
 use Rattle.stack_commands.proofs.turns.rounds.tasks_text.Given as goal
 
 -- the text so far, and that of the tasks that are left, are that of all

@@ -1,5 +1,5 @@
 use Rattle.std.proofs.Common.{◌≡◌, map, take}
-use Rattle.stack_text.specs.Seen.TreeView.{node_of, owned_node}
+use Rattle.stack_text.specs.Views.TreeView.{node_of, owned_node}
 use Rattle.stack_text.proofs.tree.TextTree.+to_owned.Given as goal
 
 -- what is copied so far

@@ -1,5 +1,0 @@
-use Rattle.board_images.proofs.BoardLaws as board
-use Rattle.board_images.proofs.law.built_on_board.Goals as goal
-
-pub returns : goal.returns
-returns c = board.built_on_board c.builds_implement.ensures.implements

@@ -1,5 +1,0 @@
-use Rattle.board_images.proofs.BoardLaws as board
-use Rattle.board_images.proofs.law.spelled_on_board.Goals as goal
-
-pub returns : goal.returns
-returns c = board.spelled_on_board

@@ -1,5 +1,0 @@
-use Rattle.fm_circuit.proofs.RunningLaws as running
-use Rattle.fm_circuit.proofs.law.ceases.Goals as goal
-
-pub returns : goal.returns
-returns c = running.ceases

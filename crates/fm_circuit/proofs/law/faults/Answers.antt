@@ -1,5 +1,0 @@
-use Rattle.fm_circuit.proofs.FollowLaws.{faults}
-use Rattle.fm_circuit.proofs.law.faults.Goals as goal
-
-pub returns : goal.returns
-returns c = faults

@@ -1,5 +1,0 @@
-use Rattle.fm_circuit.proofs.RunningLaws.{runs}
-use Rattle.fm_circuit.proofs.law.runs.Goals as goal
-
-pub returns : goal.returns
-returns c = runs

@@ -1,5 +1,0 @@
-use Rattle.fm_circuit.proofs.SettledLaws as settled
-use Rattle.fm_circuit.proofs.law.settles.Goals as goal
-
-pub returns : goal.returns
-returns c = settled.settles

@@ -1,5 +1,0 @@
-use Rattle.fm_circuit.proofs.SizeLaws as size
-use Rattle.fm_circuit.proofs.law.sized.Goals as goal
-
-pub returns : goal.returns
-returns c = size.sized

@@ -1,5 +1,0 @@
-use Rattle.fm_circuit.proofs.FollowLaws.{steps}
-use Rattle.fm_circuit.proofs.law.steps.Goals as goal
-
-pub returns : goal.returns
-returns c = steps

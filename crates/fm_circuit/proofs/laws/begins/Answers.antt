@@ -1,0 +1,5 @@
+use Rattle.fm_circuit.proofs.RunningLaws as running
+use Rattle.fm_circuit.proofs.laws.begins.Goals as goal
+
+pub returns : goal.returns
+returns c = running.begins

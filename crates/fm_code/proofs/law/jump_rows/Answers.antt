@@ -1,5 +1,0 @@
-use Rattle.fm_code.proofs.RowLaws.{jump_rows}
-use Rattle.fm_code.proofs.law.jump_rows.Goals as goal
-
-pub returns : goal.returns
-returns c = jump_rows

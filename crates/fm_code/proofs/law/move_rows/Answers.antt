@@ -1,5 +1,0 @@
-use Rattle.fm_code.proofs.RowLaws.{move_rows}
-use Rattle.fm_code.proofs.law.move_rows.Goals as goal
-
-pub returns : goal.returns
-returns c = move_rows

@@ -1,5 +1,0 @@
-use Rattle.fm_code.proofs.RowLaws.{test_rows}
-use Rattle.fm_code.proofs.law.test_rows.Goals as goal
-
-pub returns : goal.returns
-returns c = test_rows

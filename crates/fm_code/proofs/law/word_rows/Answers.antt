@@ -1,5 +1,0 @@
-use Rattle.fm_code.proofs.RowLaws.{word_rows}
-use Rattle.fm_code.proofs.law.word_rows.Goals as goal
-
-pub returns : goal.returns
-returns c = word_rows

@@ -1,5 +1,0 @@
-use Rattle.gypsy_codegen.proofs.FrameLaws.{frame_name}
-use Rattle.gypsy_codegen.proofs.law.variables_keep_names.Goals as goal
-
-pub returns : goal.returns
-returns c = frame_name

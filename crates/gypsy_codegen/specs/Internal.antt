@@ -1,0 +1,3 @@
+-- Internal: what only private functions and lemmas say.
+pub mod Views
+pub mod Listing

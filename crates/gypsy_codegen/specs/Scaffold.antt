@@ -1,3 +1,0 @@
--- Scaffold: what only private functions and lemmas say.
-pub mod Views
-pub mod Listing

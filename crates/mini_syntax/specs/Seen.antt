@@ -1,2 +1,0 @@
--- How clauses see the code's programs.
-pub mod ProgramView

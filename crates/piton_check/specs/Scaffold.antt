@@ -1,2 +1,0 @@
--- Scaffold: what only private functions and lemmas say.
-pub mod Tables

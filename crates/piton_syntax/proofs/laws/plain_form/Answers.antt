@@ -1,0 +1,13 @@
+use Rattle.piton_syntax.proofs.FitsLaws.{keeps_fits}
+use Rattle.piton_syntax.proofs.MadeLaws.{fits_keeps}
+use Rattle.piton_syntax.proofs.SizeLaws.{text_over}
+use Rattle.piton_syntax.proofs.laws.plain_form.Goals as goal
+
+pub returns-clause-fits : goal.returns-clause-fits
+returns-clause-fits c = keeps_fits
+
+pub returns-clause-keeps : goal.returns-clause-keeps
+returns-clause-keeps c = fits_keeps
+
+pub returns-clause-counted : goal.returns-clause-counted
+returns-clause-counted c = text_over

@@ -1,5 +1,0 @@
-use Rattle.program_images.proofs.ImageRules.{means_shown_after}
-use Rattle.program_images.proofs.law.counts_are_shown.Goals as goal
-
-pub returns : goal.returns
-returns c = means_shown_after

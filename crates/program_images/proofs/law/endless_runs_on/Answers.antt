@@ -1,5 +1,0 @@
-use Rattle.program_images.proofs.ImageRules.{never_ends_unfinished}
-use Rattle.program_images.proofs.law.endless_runs_on.Goals as goal
-
-pub returns : goal.returns
-returns c = never_ends_unfinished

@@ -1,5 +1,0 @@
-use Rattle.program_images.proofs.ImageRules.{means_shown}
-use Rattle.program_images.proofs.law.means_are_shown.Goals as goal
-
-pub returns : goal.returns
-returns c = means_shown

@@ -1,5 +1,0 @@
-use Rattle.program_images.proofs.ImageRules.{one_source}
-use Rattle.program_images.proofs.law.text_has_one_source.Goals as goal
-
-pub returns : goal.returns
-returns c = one_source

@@ -1,6 +1,0 @@
--- Scaffold: what only private functions and lemmas say.
-pub mod Omits
-pub mod Search
-pub mod SearchState
-pub mod SearchView
-pub mod Names

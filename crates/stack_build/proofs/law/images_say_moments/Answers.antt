@@ -1,5 +1,0 @@
-use Rattle.stack_build.proofs.ReadMomentsLaws.{images_say_moments}
-use Rattle.stack_build.proofs.law.images_say_moments.Goals as goal
-
-pub returns : goal.returns
-returns c = images_say_moments

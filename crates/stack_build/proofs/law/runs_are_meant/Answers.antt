@@ -1,5 +1,0 @@
-use Rattle.stack_build.proofs.MeantLaws.{means_only}
-use Rattle.stack_build.proofs.law.runs_are_meant.Goals as goal
-
-pub returns : goal.returns
-returns c = means_only

@@ -1,0 +1,34 @@
+-- Internal: what keeps the image of a system within the limits of images.
+use Rattle.std.specs.Prelude.{◌≡◌, ◌≤◌, ℕ, List, length, map, true}
+use Rattle.std.specs.List.{list_all, IsDistinct}
+use Rattle.std.specs.Str.{bytes_eq}
+use Rattle.fm_image.specs.Limits.{most_marked_conditions}
+use Rattle.stack_text.specs.SharedLimits.{most_array, most_declared}
+use Rattle.stack_text.specs.Names.{is_name}
+use Rattle.stack_text.specs.declared.shape.Shape.{Shape}
+use Rattle.piton_check.specs.Instruction.{SystemView}
+use Rattle.piton_semantics.specs.Placed.{areas_size}
+use Rattle.gypsy_syntax.specs.declared.literal.Decl.{Decl}
+use Rattle.gypsy_syntax.specs.ProgramFits.{Each}
+use Rattle.gypsy_syntax.specs.Programs.{words_of}
+use Rattle.gypsy_syntax.specs.Resolved.{shape_of}
+
+-- arrays of at most 4,096 items
+abbrev pub AreShort : List Decl → Type 0
+AreShort ds = Each (λ (d : Decl). (shape_of d.shape).length ≤ most_array) ds
+
+-- the shapes of the variables
+abbrev pub shapes_in : List Decl → List Shape
+shapes_in ds = map (λ (d : Decl). shape_of d.shape) ds
+
+-- at most 200 formals and 201 conditions of different names, and the stack and the first area of the system have their words
+pub record Shows (system : SystemView) (ds : List Decl) (conditions : List (List ℕ)) : Type 0 where
+  pub formals_named : list_all is_name (map (λ (d : Decl). d.name.name) ds) ≡ true
+  pub formals_differ : IsDistinct bytes_eq (map (λ (d : Decl). d.name.name) ds)
+  pub formals_few : length ds ≤ most_declared
+  pub formals_short : AreShort ds
+  pub formals_stand : words_of (shapes_in ds) ≤ length system.stack
+  pub conditions_named : list_all is_name conditions ≡ true
+  pub conditions_differ : IsDistinct bytes_eq conditions
+  pub conditions_few : length conditions ≤ most_marked_conditions
+  pub area : 1 ≤ areas_size system.areas

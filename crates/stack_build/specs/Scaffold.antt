@@ -1,3 +1,0 @@
--- Scaffold: what only private functions and lemmas say.
-pub mod Showing
-pub mod Listing

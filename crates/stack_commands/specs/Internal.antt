@@ -1,0 +1,4 @@
+-- Internal: what only private functions and lemmas say.
+pub mod Tasks
+pub mod Told
+pub mod Transcript

@@ -1,4 +1,0 @@
--- Scaffold: what only private functions and lemmas say.
-pub mod Tasks
-pub mod Told
-pub mod Transcript

@@ -1,5 +1,0 @@
-use Rattle.verilog_meaning.proofs.CycleLaws as cycle
-use Rattle.verilog_meaning.proofs.law.means.Goals as goal
-
-pub returns : goal.returns
-returns c = cycle.means

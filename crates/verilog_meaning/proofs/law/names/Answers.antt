@@ -1,5 +1,0 @@
-use Rattle.verilog_meaning.proofs.ItemLaws as item
-use Rattle.verilog_meaning.proofs.law.names.Goals as goal
-
-pub returns : goal.returns
-returns c = item.names

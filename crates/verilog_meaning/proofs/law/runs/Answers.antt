@@ -1,5 +1,0 @@
-use Rattle.verilog_meaning.proofs.RunLaws as running
-use Rattle.verilog_meaning.proofs.law.runs.Goals as goal
-
-pub returns : goal.returns
-returns c = running.runs

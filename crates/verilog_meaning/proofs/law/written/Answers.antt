@@ -1,5 +1,0 @@
-use Rattle.verilog_meaning.proofs.TextLaws as text
-use Rattle.verilog_meaning.proofs.law.written.Goals as goal
-
-pub returns : goal.returns
-returns c = text.written_is
