@@ -19,7 +19,7 @@ use Rattle.gypsy_semantics.specs.Views.Moments.{NeverEnds}
 use Rattle.stack_build.specs.Implements.{FitsFormals, Finishes, Implements, meaning_shown}
 use Rattle.stack_build.specs.Moments.{MemoryReads, KeepsMoments}
 use Rattle.stack_build.specs.StaysUnfinished.{StaysUnfinished}
-use Rattle.stack_build.specs.Build.{BuiltOf, source_in, built}
+use Rattle.stack_build.specs.Build.{BuiltOf, accepted_source, built}
 use Rattle.mini_syntax.specs.Breaches.{body_of}
 use Rattle.mini_syntax.specs.Grammar.{InfixProgram}
 use Rattle.mini_gypsy.specs.Meant.{program_run}
@@ -105,6 +105,6 @@ SpelledOnBoard =
 -- what is built of a text does on a board what its source means, at every moment too, and never ends where the source doesn't
 abbrev pub BuiltRunsOnBoard : Type 0
 BuiltRunsOnBoard = (text : List ℕ) (ctrl temp base : ℕ) (source : SourceOf) (made : BuiltOf) → length text ≤ 2 ^ 31 → base ≤ 2 ^ 31 →
-    source_in text ≡ Ok source → built text ctrl temp base ≡ Ok made →
+    accepted_source text ≡ Ok source → built text ctrl temp base ≡ Ok made →
     RunsOnBoard made.image source (stack_sizes ctrl temp) × KeepsMomentsOnBoard made.image source (stack_sizes ctrl temp)
     × StaysUnfinishedOnBoard made.image source (stack_sizes ctrl temp)

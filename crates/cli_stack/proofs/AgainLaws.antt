@@ -34,7 +34,7 @@ use Rattle.space_cert.proofs.CertifiedLaws.{certified_is}
 use Rattle.space_cert.proofs.LeastLaws.{covers_main}
 use Rattle.stack_build.specs.declared.fault.BuildFault.{BuildFault}
 use Rattle.stack_build.specs.declared.fault.BuildFault.TheVariants as fault
-use Rattle.stack_build.specs.Build.{source_in, source_built, built, generated_by, linked_of, built_with, placed_size}
+use Rattle.stack_build.specs.Build.{accepted_source, source_built, built, generated_by, linked_of, built_with, placed_size}
 use Rattle.stack_build.proofs.KnownLaws.{source_is_accepted}
 use Rattle.command_line.specs.declared.command.Command.TheVariants as command
 use Rattle.command_line.specs.declared.early_end.EarlyEnd.{EarlyEnd}
@@ -141,7 +141,7 @@ module _ (source image : List ℕ) (control temporary : ℕ) (watches : List Wat
   check_by : (first : Fetched) → ChecksAsBuild (check_on first) (build_on first)
   unfolding check_on build_on output_of stored_by reply_by accepted_in built source_built
   check_by (Err e) = record { goes = λ done. absurd (early_done e done); stops = λ other. refl }
-  check_by (Ok text) = by_source (source_in text)
+  check_by (Ok text) = by_source (accepted_source text)
     where
       by_source : (found : Result SourceOf BuildFault) →
           ChecksAsBuild (answer_with None (judgement_reply (unless_refused found)))
@@ -180,7 +180,7 @@ module _ (source certificate : List ℕ) (watches : List Watching) (files : File
     told : need.text ≡ sizes_text sizes
     yes : (larger : StackSizes) → IsAtMost sizes larger → (cert_after larger need).text ≡ line (codes "yes")
 
-  says_yes : (text written : List ℕ) (s : SourceOf) (bounds : Bounds) (sizes : StackSizes) → source_in text ≡ Ok s → bounds_in (procedure_names s) written ≡ Ok bounds → is_covered (program_of s) bounds sizes ≡ true
+  says_yes : (text written : List ℕ) (s : SourceOf) (bounds : Bounds) (sizes : StackSizes) → accepted_source text ≡ Ok s → bounds_in (procedure_names s) written ≡ Ok bounds → is_covered (program_of s) bounds sizes ≡ true
       → (cert_on sizes (Ok text) (Ok written)).text ≡ line (codes "yes")
   unfolding cert_on output_of stored_by reply_by accepted_in certificate_reply
   says_yes text written s bounds sizes read reads covered =
@@ -191,12 +191,12 @@ module _ (source certificate : List ℕ) (watches : List Watching) (files : File
   need_by : CertificatesAreReadAgain → (first : Fetched) → fetch_source files ≡ first → (need_on first).status ≡ Done → Certified (need_on first)
   unfolding need_on cert_after output_of stored_by reply_by accepted_in certified_stored certified_reply
   need_by again (Err e) got done = absurd (early_done e done)
-  need_by again (Ok text) got done = by_source (source_in text) refl done
+  need_by again (Ok text) got done = by_source (accepted_source text) refl done
     where
       was : (file_at files source ≡ Some text) × (length text ≤ limit_of Source)
       was = was_short files (Source, source) text got
 
-      by_bounds : (s : SourceOf) → source_in text ≡ Ok s → (found : Result Bounds ℕ) → certified (program_of s) ≡ found → status_of (bounds_reply s found).verdict ≡ Done
+      by_bounds : (s : SourceOf) → accepted_source text ≡ Ok s → (found : Result Bounds ℕ) → certified (program_of s) ≡ found → status_of (bounds_reply s found).verdict ≡ Done
           → Certified (answer_with (set_file (Some (Certificate, certificate)) (bounds_stored s found)) (bounds_reply s found))
       by_bounds s read (Err p) is done = absurd cc
       by_bounds s read (Ok bounds) is done =
@@ -222,7 +222,7 @@ module _ (source certificate : List ℕ) (watches : List Watching) (files : File
           more : {q : Program} {bs : Bounds} {s t : StackSizes} → Covers q bs s → IsAtMost s t → Covers q bs t
           more c m = record { certificate = c.certificate; within = record { temp = omega (arith, c.within.temp, m.temp); ctrl = omega (arith, c.within.ctrl, m.ctrl) } }
 
-      by_source : (found : Result SourceOf BuildFault) → source_in text ≡ found → status_of (need_reply_by (unless_refused found)).verdict ≡ Done
+      by_source : (found : Result SourceOf BuildFault) → accepted_source text ≡ found → status_of (need_reply_by (unless_refused found)).verdict ≡ Done
           → Certified (answer_with (set_file (Some (Certificate, certificate)) (need_stored_by (unless_refused found))) (need_reply_by (unless_refused found)))
       by_source (Err f) read done = absurd (build_done f done)
       by_source (Ok s) read done = by_bounds s read (certified (program_of s)) refl done

@@ -39,7 +39,7 @@ use Rattle.command_line.specs.Gathered.{Texts}
 use Rattle.stack_commands.specs.Prepared.{stored_by}
 use Rattle.cli_stack.specs.Answer.{set_file, answer_on, answer_to, answer_by, files_after}
 use Rattle.stack_commands.specs.Commands.Build.{image_stored}
-use Rattle.cli_stack.specs.Tells.{IsBuilt, TellsMeaning, TellsMeanings}
+use Rattle.cli_stack.specs.Tells.{IsBuilt, TellsReport, TellsMeanings}
 use Rattle.cli_stack.specs.FilesAndSizes.{IsReadable}
 use Rattle.cli_stack.specs.Completes.{HasSource, Completed, CompletesRun, CompletesCommand}
 use Rattle.cli_stack.specs.Causes.{RoseAt}
@@ -115,7 +115,7 @@ module _ (watches : List Watching) (files : Files) (source_name values_name name
   is_told : TellsMeanings (command.Go source_name values_name control temporary budget name) files (answer_to (command.Go source_name values_name control temporary budget name) watches files)
       → (values finals : List ValueOf) (way : CurrentCondition) (count : ℕ) → values_in (formal_slots source) values_text ≡ Ok values
       → Finishes source (stack_sizes control temporary) values finals way count → count ≤ budget
-      → TellsMeaning source (image_of source (stack_sizes control temporary) 0) finals way count (answer_to (command.Go source_name values_name control temporary budget name) watches files)
+      → TellsReport source (image_of source (stack_sizes control temporary) 0) finals way count (answer_to (command.Go source_name values_name control temporary budget name) watches files)
   unfolding inputs_of output_of
   is_told tells values finals way count gives done enough =
       let run = tells values_name (1, omega arith, refl) (inr (name, refl)) in

@@ -24,7 +24,7 @@ use Rattle.gypsy_semantics.specs.Calls.{CurrentCondition}
 use Rattle.gypsy_semantics.specs.Machine.{State, Move, Next, Ended}
 use Rattle.gypsy_semantics.specs.Views.Moments.{moment_from}
 use Rattle.gypsy_semantics.specs.Views.RunView.{Seen, spent_at}
-use Rattle.stack_build.specs.Build.{BuiltOf, BuildsText, built, source_built, source_in}
+use Rattle.stack_build.specs.Build.{BuiltOf, BuildsText, built, source_built, accepted_source}
 use Rattle.stack_build.specs.declared.fault.BuildFault.{BuildFault}
 use Rattle.stack_build.specs.Image.{places_fit}
 use Rattle.stack_build.specs.Implements.{meaning_shown}
@@ -46,7 +46,7 @@ use Rattle.level_debuggers.specs.Levels.{LevelOf, Fm, has_places, lifted, next_o
 use Rattle.level_debuggers.specs.FmLevels.{FmLevelOf, fm_after, word_lines}
 use Rattle.level_debuggers.specs.RunWalks.{MachinesArrive, MachinesWalk, WalksTo}
 use Rattle.level_debuggers.specs.ScriptSteps.{ArrivalsAreSaid, AskForSteps, GoesOn, SaysAfter, StepsAreSaid, TextStays, UpIsSaid, WordsAreSaid}
-use Rattle.level_debuggers.specs.ScriptSteps.{all_asked, steps_of, stepped_lines, until_line, up_line, words_line}
+use Rattle.level_debuggers.specs.ScriptSteps.{all_asked, steps_of, stepped_lines, until_line, up_line, line_of_words}
 use Rattle.level_debuggers.specs.Steps as step
 use Rattle.level_debuggers.specs.Steps.{Over, Stops, Makes}
 use Rattle.level_debuggers.specs.Texts.{mark_text}
@@ -84,7 +84,7 @@ use Rattle.cli_stack.proofs.TellsLaws.{is_there}
 -- 1. The run that the session has.
 
 -- what is built of a text is built of its source
-of_source : (text : List ℕ) (ctrl temp : ℕ) (source : SourceOf) (found : BuiltOf) → source_in text ≡ Ok source → built text ctrl temp 0 ≡ Ok found
+of_source : (text : List ℕ) (ctrl temp : ℕ) (source : SourceOf) (found : BuiltOf) → accepted_source text ≡ Ok source → built text ctrl temp 0 ≡ Ok found
     → source_built source (stack_sizes ctrl temp) 0 ≡ Ok found
 unfolding built
 of_source text ctrl temp source found read is =
@@ -99,7 +99,7 @@ module _ (source : SourceOf) (sizes : StackSizes) (found : BuiltOf) (values_text
   unfolding image_start built_start
   machine_run = rw (made, gives) refl
 
-run_found : (level : Level) (text : List ℕ) (source : SourceOf) (sizes : StackSizes) (values_text : List ℕ) (run : LevelOf) → source_in text ≡ Ok source → run_at level source sizes values_text ≡ Ok run
+run_found : (level : Level) (text : List ℕ) (source : SourceOf) (sizes : StackSizes) (values_text : List ℕ) (run : LevelOf) → accepted_source text ≡ Ok source → run_at level source sizes values_text ≡ Ok run
     → run_in level text sizes values_text ≡ Ok run
 unfolding run_in accepted_in
 run_found level text source sizes values_text run read is = rw (read, is) refl
@@ -372,7 +372,7 @@ module _ (implement : BuiltImplements) (take : BuiltTakesValues) (moments : Buil
 
   -- of `words`
   words_says : level ≡ Fm9001 → (before after : List Line) (said : List ℕ) (number address count : ℕ) (state : fm.Fm)
-      (asks : Asks files script_name before (words_line number address count) after)
+      (asks : Asks files script_name before (line_of_words number address count) after)
       (to : SaysTo level is.built.text (stack_sizes control temporary) is.values_text watches before said)
       → StandsAfter (steps_of before to.run) (loaded is.image is.values) is.image.final_pc state
       → BeginsWith (answer_to debug watches files).text (said ++ word_lines state address count)
@@ -380,7 +380,7 @@ module _ (implement : BuiltImplements) (take : BuiltTakesValues) (moments : Buil
       let s : SessionOf = session_on to.run watches in
       let made : Followed = followed [] before s in
       let there : FmLevelOf = record { image = is.image; state = state } in
-      answer_says before (words_line number address count) after said (word_lines state address count) made.session asks to
+      answer_says before (line_of_words number address count) after said (word_lines state address count) made.session asks to
       (words [] before after number address count s there (all_done to.run watches before to.done) (stands_there at before said state to stands))
 
   -- and of `until`

@@ -10,7 +10,7 @@ use Rattle.gypsy_syntax.specs.Sources.{SourceOf}
 use Rattle.gypsy_space.specs.Needs.{StackSizes}
 use Rattle.stack_build.specs.declared.fault.BuildFault.{BuildFault}
 use Rattle.stack_build.specs.declared.fault.BuildFault.TheVariants as fault
-use Rattle.stack_build.specs.Build.{BuiltOf, Builds, BuildsText, built, source_in}
+use Rattle.stack_build.specs.Build.{BuiltOf, Builds, BuildsText, built, accepted_source}
 use Rattle.stack_build.specs.Implements.{FitsFormals}
 use Rattle.stack_build.specs.Joined.{BuiltImplements, BuiltTakesValues}
 use Rattle.command_line.specs.declared.early_end.EarlyEnd.{EarlyEnd}
@@ -56,7 +56,7 @@ build_done (fault.Words count) h = cc
 build_done fault.Memory h = cc
 
 -- what holds of the answer where the run's reply is that all went well, holds of the answer of `go`
-module _ (implement : BuiltImplements) (take : BuiltTakesValues) (text : List ℕ) (short : length text ≤ 2 ^ 31) (source : SourceOf) (read : source_in text ≡ Ok source) (sizes : StackSizes)
+module _ (implement : BuiltImplements) (take : BuiltTakesValues) (text : List ℕ) (short : length text ≤ 2 ^ 31) (source : SourceOf) (read : accepted_source text ≡ Ok source) (sizes : StackSizes)
     (T : Answer → Type 0) (values_text : List ℕ) (budget : ℕ) (output : Option (List ℕ × List ℕ))
     (ran : (b : BuiltOf) (values : List ValueOf) → Builds source sizes b → values_in b.image.slots values_text ≡ Ok values → FitsFormals source values
     → status_of (run_reply b.image values budget).verdict ≡ Done → T (answer_with output (run_reply b.image values budget))) where

@@ -43,7 +43,7 @@ use Rattle.stack_commands.specs.Commands.Pbuild.{is_large, checked_stored}
 use Rattle.stack_commands.specs.Prepared.{stored_by, reply_by}
 use Rattle.cli_stack.specs.Answer.{set_file, answer_on, answer_to}
 use Rattle.cli_stack.specs.FilesAndSizes.{IsReadable}
-use Rattle.cli_stack.specs.Links.{cost_of, RunsAs, TellsCost, TellsCosts, HoldsLinked, StoresLinked}
+use Rattle.cli_stack.specs.Links.{cost_of, FollowsSystem, TellsCost, TellsCosts, HoldsLinked, StoresLinked}
 use Rattle.cli_stack.proofs.RoleLaws.{set_bytes, written_role, only_file, only_role, both_roles}
 use Rattle.cli_stack.proofs.KnownLaws.{text_is_checked}
 use Rattle.stack_commands.proofs.LinkedLaws.{image_short, image_spelled}
@@ -67,7 +67,7 @@ run_tells image bytes values_text files image_name values_name budget count watc
     (record { status = ap status_of verdict; text = ap (λ (v : Verdict). reply.said ++ verdict_line v) verdict ∙ append-nil reply.said ∙ said })
 
 module _ (c : CheckedOf) (is : IsChecked c) (small : (placed (system_in c)).size ≤ 2 ^ 20) where
-  image_runs : RunsAs (linked_image (system_in c)) (system_in c)
+  image_runs : FollowsSystem (linked_image (system_in c)) (system_in c)
   image_runs j state comes =
       let initial : IsInitialStack (system_in c) (system_in c).stack = record { as_long = refl; words = is.sound.stack } in
       subst (λ (m : Fm). ComesToStand (system_in c) m (cost_of (system_in c) j) state) (sym (image_loaded c is)) (checked_runs c is small (system_in c).stack j state initial comes)

@@ -30,7 +30,7 @@ use Rattle.mini_gypsy.proofs.PlaceLaws.{map_over}
 use Rattle.mini_syntax.proofs.AnswerLaws.{read}
 use Rattle.mini_gypsy.proofs.BareRuleLaws.{procedure_same}
 use Rattle.mini_gypsy.proofs.StoredLaws.{stands, stored_short}
-use Rattle.stack_build.specs.Build.{source_in}
+use Rattle.stack_build.specs.Build.{accepted_source}
 use Rattle.stack_build.specs.Formals.{formals_in, main_of, shown_formals}
 use Rattle.stack_build.specs.Implements.{meaning_shown, FitsFormals, Finishes, Implements}
 use Rattle.stack_build.specs.Joined.{BuiltImplements, BuiltTakesValues}
@@ -53,7 +53,7 @@ use Rattle.cli_stack.specs.Answer.{Answer, set_file, answer_with, answer_on, ans
 use Rattle.cli_stack.specs.Implements.{HoldsImplementation, StoresImplementation}
 use Rattle.cli_stack.specs.FilesAndSizes.{IsReadable, sizes_of}
 use Rattle.cli_stack.specs.Decides.{IsReadyToRun, IsDone, IsNotDone, Decided}
-use Rattle.cli_stack.specs.Tells.{TellsMeaning}
+use Rattle.cli_stack.specs.Tells.{TellsReport}
 use Rattle.cli_stack.specs.Lowers.{formal_type, declared_type, MeansProgram, TellsMini, RunEnds, CarriesRuns, HoldsRuns, StoresRuns, TellsFrom, TellsRuns, TellsOwn, LowersPrograms}
 use Rattle.cli_stack.proofs.DecidesLaws.{decides, ready_runs}
 use Rattle.cli_stack.proofs.GoLaws.{first_once, early_done}
@@ -160,7 +160,7 @@ images c files output holds source image stored bytes text program reads writes 
     by_sizes (Some sizes) h =
         let texts : Some h.text ≡ Some text = sym h.there ∙ there in
         let same_text : h.text ≡ text = cc in
-        let sources : Ok h.is.source ≡ Ok means.source = sym h.is.read ∙ ap source_in same_text ∙ means.read in
+        let sources : Ok h.is.source ≡ Ok means.source = sym h.is.read ∙ ap accepted_source same_text ∙ means.read in
         let same : h.is.source ≡ means.source = cc in
         record {
           image = h.is.image;
@@ -210,7 +210,7 @@ module _ (implement : BuiltImplements) (take : BuiltTakesValues) (meant : KeptMe
             omega (arith, once, within, few))) (λ (n : IsNotDone is.source sizes is.values budget go). n.tells) decided.either;
       }
         where
-          told : IsDone is.source sizes is.image is.values budget go → TellsMeaning is.source is.image finals way count go
+          told : IsDone is.source sizes is.image is.values budget go → TellsReport is.source is.image finals way count go
           told d =
               let one = does is.values d.finals d.way d.count fits d.meant in
               let two = does is.values finals way count fits fin in

@@ -28,7 +28,7 @@ use Rattle.level_debuggers.specs.Tallies.{Watching}
 use Rattle.stack_build.specs.declared.start_fault.StartFault.{StartFault}
 use Rattle.stack_build.specs.Starts.{or_values, shortage_of, unless_short, gypsy_start}
 use Rattle.stack_build.specs.declared.fault.BuildFault.{BuildFault}
-use Rattle.stack_build.specs.Build.{source_in}
+use Rattle.stack_build.specs.Build.{accepted_source}
 use Rattle.stack_build.specs.Image.{formal_slots}
 use Rattle.command_line.specs.declared.command.Command.{Command}
 use Rattle.command_line.specs.declared.command.Command.TheVariants as command
@@ -180,7 +180,7 @@ module _ (source : SourceOf) (sizes : StackSizes) (values : List ValueOf) (limit
 -- 2. The files lead to it.
 
 module _ (watches : List Watching) (files : Files) (text values_text : List ℕ) (source : SourceOf) (values : List ValueOf) where
-  mean_is : (control temporary limit : ℕ) → source_in text ≡ Ok source → Suffices (program_of source) (stack_sizes control temporary) → values_in (formal_slots source) values_text ≡ Ok values
+  mean_is : (control temporary limit : ℕ) → accepted_source text ≡ Ok source → Suffices (program_of source) (stack_sizes control temporary) → values_in (formal_slots source) values_text ≡ Ok values
       → mean_reply text values_text control temporary limit ≡ mean_run_reply source (opening (program_of source) (stack_sizes control temporary) values) limit
   unfolding accepted_in gypsy_start
   mean_is control temporary limit read enough found =
@@ -194,7 +194,7 @@ module _ (watches : List Watching) (files : Files) (text values_text : List ℕ)
       ∙ ap (λ (o : Option BuildFault). mean_started_reply source limit (unless_short o (begins (values_in (formal_slots source) values_text)))) none
       ∙ ap (λ (v : Result (List ValueOf) (ℕ × ℕ)). mean_started_reply source limit (begins v)) found
 
-  mean_follows : (source_name values_name : List ℕ) (control temporary limit : ℕ) → IsReadable files Source source_name text → source_in text ≡ Ok source
+  mean_follows : (source_name values_name : List ℕ) (control temporary limit : ℕ) → IsReadable files Source source_name text → accepted_source text ≡ Ok source
       → Suffices (program_of source) (stack_sizes control temporary) → IsReadable files Values values_name values_text → values_in (formal_slots source) values_text ≡ Ok values
       → Follows source (stack_sizes control temporary) values limit (answer_to (command.Mean source_name values_name control temporary limit) watches files)
   unfolding inputs_of reply_by

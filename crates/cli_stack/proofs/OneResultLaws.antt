@@ -37,7 +37,7 @@ use Rattle.space_cert.specs.Larger.{EndsWith, IsSameRun}
 use Rattle.space_cert.proofs.LargerLaws.{covered_same}
 use Rattle.space_cert.proofs.LeastLaws.{covers_main}
 use Rattle.stack_build.specs.declared.fault.BuildFault.{BuildFault}
-use Rattle.stack_build.specs.Build.{BuiltOf, Builds, BuildsText, source_in, built}
+use Rattle.stack_build.specs.Build.{BuiltOf, Builds, BuildsText, accepted_source, built}
 use Rattle.stack_build.specs.Formals.{shown_formals}
 use Rattle.stack_build.specs.Image.{slots_from, formal_slots, image_of}
 use Rattle.stack_build.specs.Implements.{FitsFormals, Finishes, meaning_shown}
@@ -59,7 +59,7 @@ use Rattle.stack_commands.specs.Prepared.{stored_by, reply_by}
 use Rattle.cli_stack.specs.Answer.{Answer, answer_with, answer_on, answer_to}
 use Rattle.cli_stack.specs.FilesAndSizes.{IsReadable}
 use Rattle.cli_stack.specs.OneResult.{TellsAlso, GoAlike, LargerStacksTellTheSame}
-use Rattle.cli_stack.specs.Tells.{IsBuilt, TellsMeaning}
+use Rattle.cli_stack.specs.Tells.{IsBuilt, TellsReport}
 use Rattle.cli_stack.proofs.GoLaws.{first_once, early_done, build_done, go_done}
 use Rattle.cli_stack.proofs.RoomLaws.{needs}
 use Rattle.stack_build.proofs.SlotLaws.{image_takes}
@@ -145,7 +145,7 @@ finishes source sizes v x c t e = record {
   counted = ap (λ (o : CountedOutcome). option_map (λ (t : Tally). t.count) (tally_of o)) e.1;
 }
 
-module _ (implement : BuiltImplements) (take : BuiltTakesValues) (watches : List Watching) (files : Files) (name text : List ℕ) (readable : IsReadable files Source name text) (source : SourceOf) (read : source_in text ≡ Ok source)
+module _ (implement : BuiltImplements) (take : BuiltTakesValues) (watches : List Watching) (files : Files) (name text : List ℕ) (readable : IsReadable files Source name text) (source : SourceOf) (read : accepted_source text ≡ Ok source)
     (s t : StackSizes) (same : (v x : List ValueOf) (c : CurrentCondition) (u : Tally) → EndsWith (program_of source) s v x c u → EndsWith (program_of source) t v x c u) where
   abbrev Fetched : Type 0
   Fetched = Result (List ℕ) EarlyEnd
@@ -196,7 +196,7 @@ module _ (implement : BuiltImplements) (take : BuiltTakesValues) (watches : List
         let builds = made_builds b.0 b.1 in
         let gives : values_in b.0.image.slots written ≡ Ok told.values =
         ap (λ (i : ImageOf). values_in i.slots written) builds.is ∙ image_takes source t builds.base written ∙ told.gives in
-        let again : TellsMeaning source b.0.image told.finals told.way told.spent.count (answer_to (command.Go name values t.ctrl t.temp more other) watches files) =
+        let again : TellsReport source b.0.image told.finals told.way told.spent.count (answer_to (command.Go name values t.ctrl t.temp more other) watches files) =
         go_tells files t source b.0.image written told.values told.finals told.way told.spent.count more watches gives (finishes source t told.values told.finals told.way told.spent (same told.values told.finals told.way told.spent told.ends))
         (omega (arith, told.within, le)) implement take name values other t.ctrl t.temp refl made (record { there = there.0; short = there.1 }) in
         record {

@@ -36,7 +36,7 @@ use Rattle.gypsy_codegen.specs.declared.fault.GenFault.{GenFault}
 use Rattle.gypsy_codegen.proofs.AnswerLaws.{limits_fit}
 use Rattle.stack_build.specs.declared.fault.BuildFault.{BuildFault}
 use Rattle.stack_build.specs.declared.fault.BuildFault.TheVariants as fault
-use Rattle.stack_build.specs.Build.{BuiltOf, source_in, generated_by, generating_fault, built_with, linked_of, source_built, compiled, built}
+use Rattle.stack_build.specs.Build.{BuiltOf, accepted_source, generated_by, generating_fault, built_with, linked_of, source_built, compiled, built}
 use Rattle.stack_build.specs.Image.{linked_image, image_of}
 use Rattle.stack_build.proofs.KnownLaws.{source_is_accepted}
 use Rattle.command_line.specs.declared.command.Command.TheVariants as command
@@ -133,11 +133,11 @@ module _ (acceptable : GeneratedIsAcceptable) (places : PlacesChangeNothing) (so
   unfolding pit_on output_of stored_by reply_by
   pit_is text found is = ap pit_made is
 
-  compiled_is : (text : List ℕ) (s : SourceOf) (found : Result SystemOf GenFault) → source_in text ≡ Ok s → generation s (stack_sizes control temporary) 0 ≡ found → compiled text control temporary 0 ≡ generated_by found
+  compiled_is : (text : List ℕ) (s : SourceOf) (found : Result SystemOf GenFault) → accepted_source text ≡ Ok s → generation s (stack_sizes control temporary) 0 ≡ found → compiled text control temporary 0 ≡ generated_by found
   unfolding compiled
   compiled_is text s found read is = ap (λ (r : Result SourceOf BuildFault). r >>= λ source. generated_by (generation source (stack_sizes control temporary) 0)) read ∙ ap generated_by is
 
-  compiled_not : (text : List ℕ) (f : BuildFault) → source_in text ≡ Err f → compiled text control temporary 0 ≡ Err f
+  compiled_not : (text : List ℕ) (f : BuildFault) → accepted_source text ≡ Err f → compiled text control temporary 0 ≡ Err f
   unfolding compiled
   compiled_not text f read = ap (λ (r : Result SourceOf BuildFault). r >>= λ source. generated_by (generation source (stack_sizes control temporary) 0)) read
 
@@ -145,12 +145,12 @@ module _ (acceptable : GeneratedIsAcceptable) (places : PlacesChangeNothing) (so
     pit_holds : (first : Fetched) → text_or_end (Source, source) (fetched files source (limit_of Source)) ≡ first → (stored text : List ℕ) → (pit_on first).output ≡ Some (stored, text) → HoldsSystem files source (stack_sizes control temporary) text
     unfolding pit_on
     pit_holds (Err e) got stored text sets = absurd (let none : None ≡ Some (stored, text) = sets in cc)
-    pit_holds (Ok own) got stored text sets = by_source (source_in own) refl
+    pit_holds (Ok own) got stored text sets = by_source (accepted_source own) refl
       where
         was : (file_at files source ≡ Some own) × (length own ≤ limit_of Source)
         was = was_short files (Source, source) own got
 
-        by_source : (found : Result SourceOf BuildFault) → source_in own ≡ found → HoldsSystem files source (stack_sizes control temporary) text
+        by_source : (found : Result SourceOf BuildFault) → accepted_source own ≡ found → HoldsSystem files source (stack_sizes control temporary) text
         by_source (Err f) read = absurd (let none : None ≡ Some (stored, text) = sym (ap (λ (a : Answer). a.output) (pit_is own (Err f) (compiled_not own f read))) ∙ sets in cc)
         by_source (Ok s) read = by_made (made s (stack_sizes control temporary))
           where
@@ -195,11 +195,11 @@ module _ (acceptable : GeneratedIsAcceptable) (places : PlacesChangeNothing) (so
     unfolding pbuild_on output_of stored_by reply_by
     pbuild_is text found is = ap pbuild_made is
 
-    built_not : (text : List ℕ) (f : BuildFault) → source_in text ≡ Err f → built text control temporary 0 ≡ Err f
+    built_not : (text : List ℕ) (f : BuildFault) → accepted_source text ≡ Err f → built text control temporary 0 ≡ Err f
     unfolding built
     built_not text f read = ap (λ (r : Result SourceOf BuildFault). r >>= λ source. source_built source (stack_sizes control temporary) 0) read
 
-    built_is : (text : List ℕ) (s : SourceOf) (found : Result SystemOf GenFault) → source_in text ≡ Ok s → generation s (stack_sizes control temporary) 0 ≡ found
+    built_is : (text : List ℕ) (s : SourceOf) (found : Result SystemOf GenFault) → accepted_source text ≡ Ok s → generation s (stack_sizes control temporary) 0 ≡ found
         → built text control temporary 0 ≡ (generated_by found >>= linked_of s (stack_sizes control temporary) 0)
     unfolding built source_built
     built_is text s found read is =
@@ -275,12 +275,12 @@ module _ (acceptable : GeneratedIsAcceptable) (places : PlacesChangeNothing) (so
     in_two : (first : Fetched) → text_or_end (Source, source) (fetched files source (limit_of Source)) ≡ first → InTwo first
     unfolding pbuild_after pbuild_on
     in_two (Err e) got = unread e
-    in_two (Ok own) got = by_source (source_in own) refl
+    in_two (Ok own) got = by_source (accepted_source own) refl
       where
         was : (file_at files source ≡ Some own) × (length own ≤ limit_of Source)
         was = was_short files (Source, source) own got
 
-        by_source : (found : Result SourceOf BuildFault) → source_in own ≡ found → InTwo (Ok own)
+        by_source : (found : Result SourceOf BuildFault) → accepted_source own ≡ found → InTwo (Ok own)
         by_source (Err f) read = by_fault own f (compiled_not own f read) (built_not own f read)
         by_source (Ok s) read = by_made (made s (stack_sizes control temporary))
           where

@@ -38,7 +38,7 @@ use Rattle.space_cert.proofs.LeastLaws.{covers_main}
 use Rattle.space_cert.proofs.NeverLaws.{never}
 use Rattle.stack_build.specs.declared.fault.BuildFault.{BuildFault}
 use Rattle.stack_build.specs.declared.fault.BuildFault.TheVariants as fault
-use Rattle.stack_build.specs.Build.{source_in}
+use Rattle.stack_build.specs.Build.{accepted_source}
 use Rattle.stack_build.specs.Implements.{FitsFormals, meaning_shown}
 use Rattle.stack_build.specs.Joined.{BuiltImplements, BuiltTakesValues}
 use Rattle.stack_build.specs.Moments.{ArrivesAt, KeepsMoments}
@@ -103,7 +103,7 @@ module _ (source : SourceOf) (sizes : StackSizes) (never_set : (values : List Va
 
 -- 2. `go`.
 
-module _ (implement : BuiltImplements) (take : BuiltTakesValues) (files : Files) (name text : List ℕ) (readable : IsReadable files Source name text) (source : SourceOf) (read : source_in text ≡ Ok source) (sizes : StackSizes)
+module _ (implement : BuiltImplements) (take : BuiltTakesValues) (files : Files) (name text : List ℕ) (readable : IsReadable files Source name text) (source : SourceOf) (read : accepted_source text ≡ Ok source) (sizes : StackSizes)
     (never_set : (values : List ValueOf) → NeverSpaceError (program_of source) sizes values) where
   short : length text ≤ 2 ^ 31
   short = omega (arith, readable.short)
@@ -141,7 +141,7 @@ module _ (implement : BuiltImplements) (take : BuiltTakesValues) (watches : List
       early_recursive (early.TooLong limit) h = cc
       early_recursive (early.ShelfFault n) h = cc
       early_recursive early.OutOfMemory h = cc
-  need_tells (Ok text) got = by_source (source_in text) refl
+  need_tells (Ok text) got = by_source (accepted_source text) refl
     where
       file : IsReadable files Source name text
       file = let f = was_short files (Source, name) text got in record { there = f.0; short = f.1 }
@@ -156,7 +156,7 @@ module _ (implement : BuiltImplements) (take : BuiltTakesValues) (watches : List
       build_recursive (fault.Words count) h = cc
       build_recursive fault.Memory h = cc
 
-      by_certified : (source : SourceOf) → source_in text ≡ Ok source → ProgramFits (program_of source) → (found : Result Bounds ℕ) → MatchResult found (IsLeast (program_of source)) (IsFirstRecursive (program_of source))
+      by_certified : (source : SourceOf) → accepted_source text ≡ Ok source → ProgramFits (program_of source) → (found : Result Bounds ℕ) → MatchResult found (IsLeast (program_of source)) (IsFirstRecursive (program_of source))
           → TellsNeed files name certificate (answer_with (set_file (Some (Certificate, certificate)) (bounds_stored source found)) (bounds_reply source found))
       by_certified source read fits (Ok bounds) least = record {
         done = λ h. record {
@@ -175,7 +175,7 @@ module _ (implement : BuiltImplements) (take : BuiltTakesValues) (watches : List
         recursive = λ h. record { text = text; readable = file; source = source; read = read; procedure = p; first = first; told = refl; stored = refl };
       }
 
-      by_source : (found : Result SourceOf BuildFault) → source_in text ≡ found → TellsNeed files name certificate (answer_with (set_file (Some (Certificate, certificate)) (need_stored_by (unless_refused found))) (need_reply_by (unless_refused found)))
+      by_source : (found : Result SourceOf BuildFault) → accepted_source text ≡ found → TellsNeed files name certificate (answer_with (set_file (Some (Certificate, certificate)) (need_stored_by (unless_refused found))) (need_reply_by (unless_refused found)))
       by_source (Err f) read = record { done = λ h. absurd (build_done f h); recursive = λ h. absurd (build_recursive f h) }
       by_source (Ok source) read =
           let fits = (source_is_accepted text (omega (arith, file.short)) source read).fits in
@@ -211,7 +211,7 @@ module _ (implement : BuiltImplements) (take : BuiltTakesValues) (watches : List
   build_yes fault.Memory = not_yes (verdict_line (build_verdict fault.Memory)) 117 refl (λ e. omega (arith, e))
 
   module _ (text bounds_text : List ℕ) (readable : IsReadable files Source name text) where
-    by_bounds : (source : SourceOf) → source_in text ≡ Ok source → (found : Result Bounds (ℕ × ℕ)) → reply_text (judged_reply source (stack_sizes control temporary) found) ≡ yes → HasRoom files name (stack_sizes control temporary)
+    by_bounds : (source : SourceOf) → accepted_source text ≡ Ok source → (found : Result Bounds (ℕ × ℕ)) → reply_text (judged_reply source (stack_sizes control temporary) found) ≡ yes → HasRoom files name (stack_sizes control temporary)
     by_bounds source read (Err f) h = absurd (not_yes (verdict_line (verdict.Certificate f.0 f.1)) 99 refl (λ e. omega (arith, e)) h)
     by_bounds source read (Ok bounds) h = by_cover (is_covered (program_of source) bounds (stack_sizes control temporary)) refl h
       where
@@ -223,7 +223,7 @@ module _ (implement : BuiltImplements) (take : BuiltTakesValues) (watches : List
             let covers : Covers (program_of source) bounds sizes = (covered_is (program_of source) fits bounds sizes).0 is in
             has_room implement take files name text readable source read sizes (never (program_of source) bounds sizes covers fits)
 
-    by_source : (found : Result SourceOf BuildFault) → source_in text ≡ found → reply_text (cert_reply_by (unless_refused found) (stack_sizes control temporary) bounds_text) ≡ yes → HasRoom files name (stack_sizes control temporary)
+    by_source : (found : Result SourceOf BuildFault) → accepted_source text ≡ found → reply_text (cert_reply_by (unless_refused found) (stack_sizes control temporary) bounds_text) ≡ yes → HasRoom files name (stack_sizes control temporary)
     unfolding certificate_reply
     by_source (Err f) read h = absurd (build_yes f h)
     by_source (Ok source) read h = by_bounds source read (bounds_in (procedure_names source) bounds_text) h
@@ -236,7 +236,7 @@ module _ (implement : BuiltImplements) (take : BuiltTakesValues) (watches : List
   cert_says (Ok text) (Err e) got h = absurd (early_yes e h)
   cert_says (Ok text) (Ok other) got h =
       let f = was_short files (Source, name) text got in
-      by_source text other (record { there = f.0; short = f.1 }) (source_in text) refl h
+      by_source text other (record { there = f.0; short = f.1 }) (accepted_source text) refl h
 
 -- 5. All commands.
 

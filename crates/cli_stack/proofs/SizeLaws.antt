@@ -36,7 +36,7 @@ use Rattle.piton_semantics.specs.StateView.{Ran, state_run, opening}
 use Rattle.piton_semantics.specs.StateView.{Seen as PitonSeen}
 use Rattle.gypsy_space.specs.Needs.{StackSizes as StackWords, stack_sizes}
 use Rattle.level_debuggers.specs.Tallies.{Watching}
-use Rattle.stack_build.specs.Build.{source_in, reading_fault, accepted_unless, accepted_by}
+use Rattle.stack_build.specs.Build.{accepted_source, reading_fault, accepted_unless, accepted_by}
 use Rattle.command_line.specs.declared.command.Command.{Command}
 use Rattle.command_line.specs.declared.command.Command.TheVariants as command
 use Rattle.command_line.specs.declared.role.Role.TheVariants as role
@@ -135,7 +135,7 @@ reading_no_size gypsy.Memory = refl
 
 -- so is a refused source
 source_no_size : (text : List ℕ) → IfErr (accepted_in text) (λ v. is_size v ≡ false)
-unfolding accepted_in source_in
+unfolding accepted_in accepted_source
 source_no_size text = by_reading (gypsy_in text)
   where
     by_breach : (source : SourceOf) (breach : Option Breach) → IfErr (unless_refused (accepted_unless source breach)) (λ v. is_size v ≡ false)

@@ -37,7 +37,7 @@ use Rattle.stack_commands.specs.Commands.Go.{go_reply}
 use Rattle.command_replies.specs.Commands.Run.{outcome_reply, run_reply, image_file_reply}
 use Rattle.stack_commands.specs.Prepared.{reply_by}
 use Rattle.cli_stack.specs.Answer.{answer_with, answer_on, answer_to}
-use Rattle.cli_stack.specs.Tells.{IsBuilt, IsRead, TellsMeaning, HasImage, TellsMeanings}
+use Rattle.cli_stack.specs.Tells.{IsBuilt, IsRead, TellsReport, HasImage, TellsMeanings}
 use Rattle.cli_stack.specs.FilesAndSizes.{IsReadable}
 use Rattle.cli_stack.proofs.RoleLaws.{only_role, both_roles}
 
@@ -56,7 +56,7 @@ run_tells image source sizes values finals way count budget does fits done enoug
 -- so does the answer that has its reply
 pub reply_tells : (image : ImageOf) (source : SourceOf) (sizes : StackSizes) (values finals : List ValueOf) (way : CurrentCondition) (count budget : ℕ) (output : Option (List ℕ × List ℕ)) (reply : ReplyOf) → Implements image source sizes → FitsFormals source values
     → Finishes source sizes values finals way count → count ≤ budget → reply ≡ run_reply image values budget
-    → TellsMeaning source image finals way count (answer_with output reply)
+    → TellsReport source image finals way count (answer_with output reply)
 reply_tells image source sizes values finals way count budget output reply does fits done enough is =
     let ends = run_tells image source sizes values finals way count budget does fits done enough in
     let verdict : reply.verdict ≡ Done = ap (λ (r : ReplyOf). r.verdict) is ∙ ends.0 in
@@ -82,7 +82,7 @@ module _ (files : Files) (sizes : StackSizes) (source : SourceOf) (image : Image
     (watches : List Watching) (gives : values_in image.slots values_text ≡ Ok values) (done : Finishes source sizes values finals way count) (enough : count ≤ budget) where
   pub go_tells : BuiltImplements → BuiltTakesValues → (source_name values_name image_name : List ℕ) (control temporary : ℕ) → stack_sizes control temporary ≡ sizes
       → IsBuilt files source_name sizes source image → IsReadable files Values values_name values_text
-      → TellsMeaning source image finals way count (answer_to (command.Go source_name values_name control temporary budget image_name) watches files)
+      → TellsReport source image finals way count (answer_to (command.Go source_name values_name control temporary budget image_name) watches files)
   unfolding inputs_of reply_by
   go_tells implement take source_name values_name image_name control temporary own made there =
       let here : IsBuilt files source_name (stack_sizes control temporary) source image = subst (λ (s : StackSizes). IsBuilt files source_name s source image) (sym own) made in
@@ -99,16 +99,16 @@ module _ (files : Files) (sizes : StackSizes) (source : SourceOf) (image : Image
       let done_here : Finishes source (stack_sizes control temporary) values finals way count = subst (λ (s : StackSizes). Finishes source s values finals way count) (sym own) done in
       let replies : go_reply (built here.text control temporary 0) values_text budget ≡ run_reply image values budget =
       rw (is, found) (ap (λ (i : ImageOf). run_reply i values budget) here.same) in
-      subst (λ (r : Result Texts EarlyEnd). TellsMeaning source image finals way count (answer_on (command.Go source_name values_name control temporary budget image_name) watches r))
+      subst (λ (r : Result Texts EarlyEnd). TellsReport source image finals way count (answer_on (command.Go source_name values_name control temporary budget image_name) watches r))
       (sym (both_there files (Source, source_name) (Values, values_name) here.text values_text here.readable there))
       (reply_tells image source (stack_sizes control temporary) values finals way count budget _ (go_reply (built here.text control temporary 0) values_text budget) does fits done_here enough replies)
 
   read_tells : (image_name values_name : List ℕ) → IsRead files image_name sizes source image values → IsReadable files Values values_name values_text
-      → TellsMeaning source image finals way count (answer_to (command.Run image_name values_name budget) watches files)
+      → TellsReport source image finals way count (answer_to (command.Run image_name values_name budget) watches files)
   unfolding inputs_of reply_by
   read_tells image_name values_name found there =
       let replies : image_file_reply found.bytes values_text budget ≡ run_reply image values budget = rw (spelled_reads found.bytes image found.spells, gives) refl in
-      subst (λ (r : Result Texts EarlyEnd). TellsMeaning source image finals way count (answer_on (command.Run image_name values_name budget) watches r))
+      subst (λ (r : Result Texts EarlyEnd). TellsReport source image finals way count (answer_on (command.Run image_name values_name budget) watches r))
       (sym (both_there files (Image, image_name) (Values, values_name) found.bytes values_text found.readable there))
       (reply_tells image source sizes values finals way count budget _ (image_file_reply found.bytes values_text budget) found.implements found.fit done enough replies)
 

@@ -13,7 +13,7 @@ use Rattle.gypsy_syntax.specs.Resolved.{program_of}
 use Rattle.gypsy_space.specs.Needs.{StackSizes}
 use Rattle.gypsy_semantics.specs.Calls.{CurrentCondition}
 use Rattle.gypsy_codegen.specs.Acceptable.{LimitsFit}
-use Rattle.stack_build.specs.Build.{source_in, placed_size}
+use Rattle.stack_build.specs.Build.{accepted_source, placed_size}
 use Rattle.stack_build.specs.Image.{formal_slots, image_of}
 use Rattle.stack_build.specs.Implements.{meaning_shown, Finishes}
 use Rattle.command_line.specs.declared.command.Command.{Command}
@@ -39,7 +39,7 @@ pub record IsWithinLimits (source : SourceOf) (sizes : StackSizes) : Type 0 wher
 pub record HasSource (files : Files) (name : List ℕ) (sizes : StackSizes) (source : SourceOf) : Type 0 where
   pub text : List ℕ
   pub readable : IsReadable files Source name text
-  pub read : source_in text ≡ Ok source
+  pub read : accepted_source text ≡ Ok source
   pub fits : IsWithinLimits source sizes
 
 -- all went well, and this text was printed

@@ -20,7 +20,7 @@ use Rattle.command_replies.specs.Replies.{verdict_line}
 use Rattle.cli_stack.specs.Answer.{Answer}
 use Rattle.cli_stack.specs.FilesAndSizes.{IsReadable}
 use Rattle.cli_stack.specs.Kept.{IsRunEnd}
-use Rattle.cli_stack.specs.Tells.{IsBuilt, IsRead, TellsMeaning}
+use Rattle.cli_stack.specs.Tells.{IsBuilt, IsRead, TellsReport}
 
 -- 1. What is decided of a run of an image.
 
@@ -37,7 +37,7 @@ pub record IsDone (source : SourceOf) (sizes : StackSizes) (image : ImageOf) (va
   pub count : ℕ
   pub meant : Finishes source sizes values finals way count
   pub within : count ≤ budget
-  pub tells : TellsMeaning source image finals way count answer
+  pub tells : TellsReport source image finals way count answer
 
 -- the meaning isn't done within the budget, and that is told
 pub record IsNotDone (source : SourceOf) (sizes : StackSizes) (values : List ValueOf) (budget : ℕ) (answer : Answer) : Type 0 where

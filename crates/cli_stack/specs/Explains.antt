@@ -24,7 +24,7 @@ use Rattle.level_debuggers.specs.FmLevels.{word_lines}
 use Rattle.level_debuggers.specs.GypsyLevels.{gypsy_up}
 use Rattle.level_debuggers.specs.Levels.{LevelOf, has_places}
 use Rattle.level_debuggers.specs.ScriptSteps.{AskForSteps, all_asked, steps_of, stepped_lines}
-use Rattle.level_debuggers.specs.ScriptSteps.{until_line, up_line, words_line}
+use Rattle.level_debuggers.specs.ScriptSteps.{until_line, up_line, line_of_words}
 use Rattle.level_debuggers.specs.Tallies.{Watching}
 use Rattle.level_debuggers.specs.Transcripts.{arrival_text}
 use Rattle.level_debuggers.specs.Walks.{walk}
@@ -104,7 +104,7 @@ pub record ExplainsRun (level : Level) (files : Files) (name source_name values_
   -- to a line of `words`, at the level of the processor: so many words of its memory, in the state to which as many instructions as those
   -- lines lead take it from the loaded image
   pub words : level ≡ Fm9001 → (before after : List Line) (said : List ℕ) (number address count : ℕ) (state : Fm)
-      → Asks files name before (words_line number address count) after
+      → Asks files name before (line_of_words number address count) after
       → (to : SaysTo level is.built.text sizes is.values_text watches before said)
       → StandsAfter (steps_of before to.run) (loaded is.image is.values) is.image.final_pc state
       → BeginsWith answer.text (said ++ word_lines state address count)

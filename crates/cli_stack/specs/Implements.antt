@@ -5,7 +5,7 @@ use Rattle.fm_image.specs.Spelling.{Spelled}
 use Rattle.stack_shelf.specs.Files.{Files, file_at}
 use Rattle.gypsy_syntax.specs.Sources.{SourceOf}
 use Rattle.gypsy_space.specs.Needs.{StackSizes}
-use Rattle.stack_build.specs.Build.{source_in}
+use Rattle.stack_build.specs.Build.{accepted_source}
 use Rattle.stack_build.specs.Implements.{Implements}
 use Rattle.stack_build.specs.Moments.{KeepsMoments}
 use Rattle.stack_build.specs.StaysUnfinished.{StaysUnfinished}
@@ -20,7 +20,7 @@ use Rattle.cli_stack.specs.FilesAndSizes.{ReadsFile, StoresFile, sizes_of}
 -- keeps to it at every moment
 pub record IsImplementation (text : List ℕ) (sizes : StackSizes) (bytes : List ℕ) : Type 0 where
   pub source : SourceOf
-  pub read : source_in text ≡ Ok source
+  pub read : accepted_source text ≡ Ok source
   pub image : ImageOf
   pub short : length bytes ≤ limit_of Image
   pub spells : Spelled bytes image

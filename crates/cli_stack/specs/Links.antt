@@ -34,8 +34,8 @@ cost_of system j = run_cost system j (started system system.stack)
 
 -- wherever the system comes, the machine that is loaded with the image comes to stand for it, in the instructions that the steps
 -- cost: inside the window, and at the final program counter exactly where the system has halted, and never before
-abbrev pub RunsAs : ImageOf → SystemView → Type 0
-RunsAs image system =
+abbrev pub FollowsSystem : ImageOf → SystemView → Type 0
+FollowsSystem image system =
     (j : ℕ) (state : PitonState) → ReachesState system j state → ComesToStand system (loaded image []) (cost_of system j) state
 
 -- the answer is that all went well, after so many instructions
@@ -62,7 +62,7 @@ pub record HoldsLinked (files : Files) (name bytes : List ℕ) : Type 0 where
   pub short : length bytes ≤ limit_of Image
   pub spells : Spelled bytes image
   pub slots : image.slots ≡ []
-  pub runs : RunsAs image (system_in checked)
+  pub runs : FollowsSystem image (system_in checked)
   pub tells : TellsCosts bytes (system_in checked)
 
 -- who reads a Piton text and stores an image stores one that does what the text's system does

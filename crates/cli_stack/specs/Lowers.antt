@@ -12,7 +12,7 @@ use Rattle.gypsy_syntax.specs.Sources.{SourceOf}
 use Rattle.gypsy_semantics.specs.Calls.{CurrentCondition}
 use Rattle.gypsy_space.specs.Needs.{StackSizes, stack_sizes}
 use Rattle.gypsy_semantics.specs.Meaning.{Done as RunDone, Unfinished as RunUnfinished}
-use Rattle.stack_build.specs.Build.{source_in}
+use Rattle.stack_build.specs.Build.{accepted_source}
 use Rattle.stack_build.specs.Formals.{shown_formals}
 use Rattle.stack_build.specs.Implements.{meaning_shown, FitsFormals, Finishes}
 use Rattle.stack_build.specs.ComesTo.{ComesTo}
@@ -31,7 +31,7 @@ use Rattle.command_replies.specs.declared.reply.RuleLetter.TheVariants.{Y}
 use Rattle.command_replies.specs.declared.reply.Verdict.TheVariants as verdict
 use Rattle.command_replies.specs.Replies.{verdict_line}
 use Rattle.cli_stack.specs.Answer.{Answer}
-use Rattle.cli_stack.specs.Tells.{TellsMeaning}
+use Rattle.cli_stack.specs.Tells.{TellsReport}
 use Rattle.cli_stack.specs.Decides.{IsReadyToRun, TellsUnfinished}
 use Rattle.cli_stack.specs.FilesAndSizes.{ReadsFile, StoresFile, IsReadable}
 
@@ -47,7 +47,7 @@ declared_type d = (d.name, record { kind = kind_of d.sort; length = 0 })
 -- the text is read as a source that is accepted, has the program's variables with their types, and means what the program does
 pub record MeansProgram (text : List ℕ) (program : InfixProgram) : Type 0 where
   pub source : SourceOf
-  pub read : source_in text ≡ Ok source
+  pub read : accepted_source text ≡ Ok source
   pub variables : map formal_type (shown_formals source) ≡ map declared_type (declared_of program)
   pub means : MeansAlways (program_of source) (body_of program)
 
@@ -106,7 +106,7 @@ pub record TellsFrom (source : SourceOf) (sizes : StackSizes) (image : ImageOf) 
     (budget : ℕ) (answer : Answer) : Type 0 where
   pub count : ℕ
   pub meant : Finishes source sizes values finals way count
-  pub within : count ≤ budget → TellsMeaning source image finals way count answer
+  pub within : count ≤ budget → TellsReport source image finals way count answer
   pub beyond : budget < count → TellsUnfinished budget answer
 
 -- where the program's run is done, how it ended is told so; and where it is done at no bound, the answer is `unfinished`

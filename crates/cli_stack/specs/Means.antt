@@ -13,7 +13,7 @@ use Rattle.gypsy_semantics.specs.Meaning.{Done as MeaningDone, meaning}
 use Rattle.gypsy_semantics.specs.Views.RunView.{Stage, Finished, IsEnd, opening, meaning_run, values_at}
 use Rattle.gypsy_semantics.specs.Views.Shown.{condition_at, names_at}
 use Rattle.piton_semantics.specs.StateView.{saturated}
-use Rattle.stack_build.specs.Build.{source_in}
+use Rattle.stack_build.specs.Build.{accepted_source}
 use Rattle.stack_build.specs.Image.{formal_slots}
 use Rattle.command_line.specs.declared.command.Command.{Command}
 use Rattle.command_line.specs.declared.command.Command.TheVariants.{Mean}
@@ -72,7 +72,7 @@ pub record Follows (source : SourceOf) (sizes : StackSizes) (values : List Value
 abbrev pub FollowsFiles : FollowOf → Files → Answer → Type 0
 FollowsFiles follow files answer =
     (text : List ℕ) (source : SourceOf) (values_text : List ℕ) (values : List ValueOf)
-    → IsReadable files Source follow.source text → source_in text ≡ Ok source → Suffices (program_of source) follow.sizes
+    → IsReadable files Source follow.source text → accepted_source text ≡ Ok source → Suffices (program_of source) follow.sizes
     → IsReadable files Values follow.values values_text → values_in (formal_slots source) values_text ≡ Ok values
     → Follows source follow.sizes values follow.limit answer
 

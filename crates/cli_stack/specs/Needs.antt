@@ -14,7 +14,7 @@ use Rattle.space_cert.specs.CertText.{certificate_text}
 use Rattle.space_cert.specs.Covers.{Bounds, sizes_for}
 use Rattle.space_cert.specs.Least.{IsLeast, IsFirstRecursive}
 use Rattle.space_cert.specs.Never.{NeverSpaceError}
-use Rattle.stack_build.specs.Build.{source_in}
+use Rattle.stack_build.specs.Build.{accepted_source}
 use Rattle.command_line.specs.declared.command.Command.{Command}
 use Rattle.command_line.specs.declared.command.Command.TheVariants.{Go, Need, Cert}
 use Rattle.command_line.specs.declared.role.Role.TheVariants.{Source}
@@ -23,7 +23,7 @@ use Rattle.command_replies.specs.declared.reply.Verdict.TheVariants as verdict
 use Rattle.command_replies.specs.Replies.{verdict_line}
 use Rattle.stack_commands.specs.Commands.Need.{sizes_text}
 use Rattle.cli_stack.specs.Answer.{Answer, answer_to}
-use Rattle.cli_stack.specs.Tells.{TellsMeaning}
+use Rattle.cli_stack.specs.Tells.{TellsReport}
 use Rattle.cli_stack.specs.FilesAndSizes.{IsReadable}
 
 -- the answer is the report of a run that ended, and not with spaceerror
@@ -33,7 +33,7 @@ pub record TellsOther (source : SourceOf) (answer : Answer) : Type 0 where
   pub way : CurrentCondition
   pub count : ℕ
   pub other : way ≢ Some Space
-  pub tells : TellsMeaning source image finals way count answer
+  pub tells : TellsReport source image finals way count answer
 
 -- so is every answer of `go` on the source in a file, with stacks of these sizes, where all goes well
 abbrev pub GoesOther : Files → List ℕ → SourceOf → StackSizes → Type 0
@@ -47,7 +47,7 @@ pub record HasRoom (files : Files) (name : List ℕ) (sizes : StackSizes) : Type
   pub text : List ℕ
   pub readable : IsReadable files Source name text
   pub source : SourceOf
-  pub read : source_in text ≡ Ok source
+  pub read : accepted_source text ≡ Ok source
   pub never : (values : List ValueOf) → NeverSpaceError (program_of source) sizes values
   pub goes : GoesOther files name source sizes
 
@@ -66,7 +66,7 @@ pub record TellsRecursive (files : Files) (name : List ℕ) (answer : Answer) : 
   pub text : List ℕ
   pub readable : IsReadable files Source name text
   pub source : SourceOf
-  pub read : source_in text ≡ Ok source
+  pub read : accepted_source text ≡ Ok source
   pub procedure : ℕ
   pub first : IsFirstRecursive (program_of source) procedure
   pub told : answer.text ≡ verdict_line (verdict.Recursive (get_or (procedure_names source) procedure []))

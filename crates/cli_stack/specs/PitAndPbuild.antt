@@ -9,7 +9,7 @@ use Rattle.piton_check.specs.PitonChecking.{CheckedOf}
 use Rattle.gypsy_codegen.specs.Generation.{SystemImplements}
 use Rattle.gypsy_space.specs.Needs.{StackSizes, stack_sizes}
 use Rattle.gypsy_syntax.specs.Sources.{SourceOf}
-use Rattle.stack_build.specs.Build.{source_in}
+use Rattle.stack_build.specs.Build.{accepted_source}
 use Rattle.command_line.specs.declared.command.Command.TheVariants.{Pit, Build, Pbuild}
 use Rattle.command_line.specs.declared.role.Role.TheVariants.{Piton}
 use Rattle.command_line.specs.declared.status.Status.TheVariants.{Done}
@@ -25,7 +25,7 @@ pub record HoldsSystem (files : Files) (name : List ℕ) (sizes : StackSizes) (t
   pub source_text : List ℕ
   pub there : file_at files name ≡ Some source_text
   pub source : SourceOf
-  pub read : source_in source_text ≡ Ok source
+  pub read : accepted_source source_text ≡ Ok source
   pub checked : CheckedOf
   pub reads : checked_in text ≡ Ok checked
   pub implements : SystemImplements source sizes 0 checked

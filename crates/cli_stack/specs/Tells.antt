@@ -9,7 +9,7 @@ use Rattle.stack_shelf.specs.Files.{Files}
 use Rattle.gypsy_syntax.specs.Sources.{SourceOf}
 use Rattle.gypsy_space.specs.Needs.{StackSizes, stack_sizes}
 use Rattle.gypsy_semantics.specs.Calls.{CurrentCondition}
-use Rattle.stack_build.specs.Build.{BuiltOf, built, source_in}
+use Rattle.stack_build.specs.Build.{BuiltOf, built, accepted_source}
 use Rattle.stack_build.specs.Implements.{meaning_shown, FitsFormals, Finishes, Implements}
 use Rattle.command_line.specs.declared.command.Command.{Command}
 use Rattle.command_line.specs.declared.command.Command.TheVariants.{Run, Go}
@@ -40,7 +40,7 @@ planned_run _ = None
 pub record IsBuilt (files : Files) (name : List ℕ) (sizes : StackSizes) (source : SourceOf) (image : ImageOf) : Type 0 where
   pub text : List ℕ
   pub readable : IsReadable files Source name text
-  pub read : source_in text ≡ Ok source
+  pub read : accepted_source text ≡ Ok source
   pub found : BuiltOf
   pub made : built text sizes.ctrl sizes.temp 0 ≡ Ok found
   pub same : found.image ≡ image
@@ -60,7 +60,7 @@ IsProgram files (BuiltFrom name given) sizes source image values = (given ≡ si
 IsProgram files (ReadFrom name) sizes source image values = IsRead files name sizes source image values
 
 -- the answer is that all went well, and the report of these variables and this condition after so many instructions
-pub record TellsMeaning (source : SourceOf) (image : ImageOf) (finals : List ValueOf) (way : CurrentCondition) (count : ℕ)
+pub record TellsReport (source : SourceOf) (image : ImageOf) (finals : List ValueOf) (way : CurrentCondition) (count : ℕ)
     (answer : Answer) : Type 0 where
   pub status : answer.status ≡ Done
   pub text : answer.text ≡ report_text image (meaning_shown source finals way) count
@@ -72,7 +72,7 @@ TellsRun run files answer =
     (way : CurrentCondition) (count : ℕ)
     → IsProgram files run.program sizes source image values → IsReadable files Values run.values values_text
     → values_in image.slots values_text ≡ Ok values → Finishes source sizes values finals way count
-    → count ≤ run.budget → TellsMeaning source image finals way count answer
+    → count ≤ run.budget → TellsReport source image finals way count answer
 
 -- the command has an image: it reads one, or stores one
 abbrev pub HasImage : Command → Type 0

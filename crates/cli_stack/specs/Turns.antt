@@ -9,7 +9,7 @@ use Rattle.fm_loader.specs.Values.{values_in}
 use Rattle.gypsy_syntax.specs.Sources.{SourceOf}
 use Rattle.gypsy_space.specs.Needs.{StackSizes, stack_sizes}
 use Rattle.gypsy_semantics.specs.Calls.{CurrentCondition}
-use Rattle.stack_build.specs.Build.{BuiltOf, built, source_in}
+use Rattle.stack_build.specs.Build.{BuiltOf, built, accepted_source}
 use Rattle.stack_build.specs.Implements.{Finishes}
 use Rattle.command_line.specs.declared.command.Command.{Command}
 use Rattle.command_line.specs.declared.command.Command.TheVariants.{Turns}
@@ -34,7 +34,7 @@ pub record TaskOf : Type 0 where
 pub record IsTask (files : Files) (sizes : StackSizes) (base : ℕ) (names : TaskFiles) (task : TaskOf) : Type 0 where
   pub text : List ℕ
   pub there : IsReadable files TaskSource names.source text
-  pub read : source_in text ≡ Ok task.source
+  pub read : accepted_source text ≡ Ok task.source
   pub found : BuiltOf
   pub made : built text sizes.ctrl sizes.temp base ≡ Ok found
   pub same : found.image ≡ task.image

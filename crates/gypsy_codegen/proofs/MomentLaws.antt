@@ -34,7 +34,7 @@ use Rattle.gypsy_semantics.proofs.LendingLaws.{actuals_length}
 use Rattle.gypsy_codegen.specs.WordsOf.{starts, local_shapes, number_of_way}
 use Rattle.gypsy_codegen.specs.Generated.{offset, generated_view}
 use Rattle.gypsy_codegen.specs.Memory.{base_of, index_of, frame_of, index_words}
-use Rattle.gypsy_codegen.specs.Showing.{cc_of, Waits, Shows}
+use Rattle.gypsy_codegen.specs.Showing.{cc_of, Waits, StandsAs}
 use Rattle.gypsy_codegen.specs.Law.{Leads, tally_of}
 use Rattle.gypsy_codegen.specs.Whole.{opened, Reached, same, later}
 use Rattle.gypsy_codegen.specs.Moments.{moved_on, moment, moment_from, AreActivations, ReadsAs, HasMoment}
@@ -110,7 +110,7 @@ module _ (q : Program) where
   are_activations p (Held c x w xs cs ∷ fs) frames g wt =
       subst (AreActivations q p (Held c x w xs cs ∷ fs)) (sym wt.2) (frame_number p (Held c x w xs cs ∷ fs) g, are_activations c fs wt.1 g.3 wt.6)
 
-  pub reads_as : (a : PitonState) (p : ℕ) (x : List ValueOf) (w : List Item) (fs : List Frame) (t : Tally) → StateFits q (At p x w fs t) → Shows q a (At p x w fs t) → ReadsAs q a p x w fs
+  pub reads_as : (a : PitonState) (p : ℕ) (x : List ValueOf) (w : List Item) (fs : List Frame) (t : Tally) → StateFits q (At p x w fs t) → StandsAs q a (At p x w fs t) → ReadsAs q a p x w fs
   reads_as a p x w fs t sf sh =
       let new = newest q p fs a.frames sh.frames in
       let locals : locals_of a.frames ≡ index_words (frame_of q p fs) = ap locals_of new.is in

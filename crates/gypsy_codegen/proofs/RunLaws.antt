@@ -29,7 +29,7 @@ use Rattle.gypsy_codegen.specs.WordsOf.{words_of_values, starts}
 use Rattle.gypsy_codegen.specs.Generated.{Scope, size, generated_view}
 use Rattle.gypsy_codegen.specs.Memory.{stack_of, index_of}
 use Rattle.gypsy_codegen.proofs.PushLaws.{PredefsRun}
-use Rattle.gypsy_codegen.specs.Showing.{Stands, Tops, Shows, rest_size, mark_of}
+use Rattle.gypsy_codegen.specs.Showing.{Stands, Tops, StandsAs, rest_size, mark_of}
 use Rattle.gypsy_codegen.specs.Law.{Leads, Halts, Follows, tally_of}
 use Rattle.gypsy_codegen.specs.Whole.{opened, SizesFit, CountedRuns, MeaningRuns, LimitedRunHalts, StartShows, Reached, same, later, EachIsShown, PlaceIsMark, VariablesStand, WaitingStand, WaitingVariablesStand, ActualsShare, RaiseFollows}
 use Rattle.std.proofs.Common.{◌<◌, drop}
@@ -109,17 +109,17 @@ module _ (q : Program) (sizes : StackSizes) (base : ℕ) (bodies : PredefsRun) (
   on_from a t g (Over x c u) l h = halts_on l h
   on_from a t g Going l h = tt
 
-  move_halts : (a : PitonState) (t : Tally) (mv : Move) (rest : State → Ending) → MoveFits q mv → MoveRoom q sizes mv → ((b : PitonState) (g : State) → StateFits q g → StateRoom q sizes g → Shows q b g → HaltsAs (generated_view q sizes base) b (tally_of g) (rest g)) → Follows q (generated_view q sizes base) a t mv → HaltsAs (generated_view q sizes base) a t (go_on mv rest)
+  move_halts : (a : PitonState) (t : Tally) (mv : Move) (rest : State → Ending) → MoveFits q mv → MoveRoom q sizes mv → ((b : PitonState) (g : State) → StateFits q g → StateRoom q sizes g → StandsAs q b g → HaltsAs (generated_view q sizes base) b (tally_of g) (rest g)) → Follows q (generated_view q sizes base) a t mv → HaltsAs (generated_view q sizes base) a t (go_on mv rest)
   move_halts a t (Next g) rest mf mr h f = on_from a t g (rest g) f (h f.to g mf mr f.shows)
   move_halts a t (Ended x c u) rest mf mr h f = f
 
   -- where the step machine ends after j steps, the generated system halts with the same
-  run_halts : (j : ℕ) (a : PitonState) (g : State) → StateFits q g → StateRoom q sizes g → Shows q a g → HaltsAs (generated_view q sizes base) a (tally_of g) (run q sizes j g)
+  run_halts : (j : ℕ) (a : PitonState) (g : State) → StateFits q g → StateRoom q sizes g → StandsAs q a g → HaltsAs (generated_view q sizes base) a (tally_of g) (run q sizes j g)
   run_halts zero a g sf sr sh = tt
   run_halts (suc j) a g sf sr sh =
       move_halts a (tally_of g) (gypsy_step q sizes g) (run q sizes j) (step_keeps q sizes fits g sf) (step_room q sizes g sr) (λ b h. run_halts j b h) (steps_follow bodies q sizes base a g fits sz.small sf sr sh)
 
-  reached : (a : PitonState) (g k : State) → StateFits q g → StateRoom q sizes g → Shows q a g → Reached q sizes g k → Leads q (generated_view q sizes base) a (tally_of g) k
+  reached : (a : PitonState) (g k : State) → StateFits q g → StateRoom q sizes g → StandsAs q a g → Reached q sizes g k → Leads q (generated_view q sizes base) a (tally_of g) k
   reached a g k sf sr sh same = record { steps = 0; cost = 0; to = a; runs = Rattle.piton_semantics.specs.Law.none; tally = spend_none _; shows = sh }
   reached a g k sf sr sh (later {h = h} e rest) =
       let mf = subst (MoveFits q) e (step_keeps q sizes fits g sf) in

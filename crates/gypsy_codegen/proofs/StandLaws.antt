@@ -28,7 +28,7 @@ use Rattle.gypsy_predef.specs.Calls.{test_code}
 use Rattle.gypsy_codegen.specs.Guard.{guard_code, guard_size}
 use Rattle.gypsy_codegen.specs.Generated.{Scope, InLoop, InBegin, target, raise_code, back_code, raises, after_size, after_code, push_words, push_indices, push_actuals, push_args, before_size, length_code, predef_position, test_size, size, gen, tail_code, code_of, generated_view}
 use Rattle.gypsy_codegen.specs.Memory.{stack_of}
-use Rattle.gypsy_codegen.specs.Showing.{HasAt, gen_in, Stands, Tops, cc_of, Shows}
+use Rattle.gypsy_codegen.specs.Showing.{HasAt, gen_in, Stands, Tops, cc_of, StandsAs}
 use Rattle.gypsy_codegen.specs.Law.{tally_of, Leads}
 use Rattle.gypsy_codegen.proofs.StepLaws.{P, Pt, state, spent, Goes, steps_on, stay, spend_two}
 use Rattle.gypsy_codegen.proofs.PushLaws.{has_front, has_back, has_all, size_words, size_indices, size_actuals, size_args, Live, free_temp, jumps, sets_cc}
@@ -167,7 +167,7 @@ module _ (q : Program) (p : ℕ) where
 pub record Comes (q : Program) (s : SystemView) (a : P) (g : State) : Type 0 where
   pub to : P
   pub goes : Goes s a to
-  pub shows : Shows q (state to) g
+  pub shows : StandsAs q (state to) g
   pub tally : tally_of g ≡ spent to
 
 pub comes_on : {q : Program} {s : SystemView} {a b : P} {g : State} → Goes s a b → Comes q s b g → Comes q s a g

@@ -57,8 +57,8 @@ generation s sizes base = unless_fault (size_fault (program_of s) sizes) (genera
 
 -- Micro-Gypsy runs on Piton: where the meaning of the source is done, the checked system, with the values' words at the bottom of
 -- its first stack, first halts with the same, in the counted steps and at the counted cost.
-abbrev pub RunsAs : SourceOf → StackSizes → CheckedOf → Type 0
-RunsAs s sizes checked =
+abbrev pub SystemRunsAs : SourceOf → StackSizes → CheckedOf → Type 0
+SystemRunsAs s sizes checked =
     (v : List ValueOf) (n : ℕ) (x : List ValueOf) (c : CurrentCondition) →
     let q = program_of s in
     VarsFit (proc_at q q.main).formals v → meaning q sizes v n ≡ Done x c →
@@ -67,8 +67,8 @@ RunsAs s sizes checked =
 
 -- Every moment of a run of the source is one of the checked system: at the mark of the top item, after the counted steps and at the
 -- counted cost, or halted where the step machine has ended.
-abbrev pub KeepsMoments : SourceOf → StackSizes → CheckedOf → Type 0
-KeepsMoments s sizes checked =
+abbrev pub SystemKeepsMoments : SourceOf → StackSizes → CheckedOf → Type 0
+SystemKeepsMoments s sizes checked =
     (v : List ValueOf) (j : ℕ) →
     let q = program_of s in
     VarsFit (proc_at q q.main).formals v →
@@ -84,6 +84,6 @@ TakesCodeWords s checked =
 -- limits
 pub record SystemImplements (s : SourceOf) (sizes : StackSizes) (base : ℕ) (checked : CheckedOf) : Type 0 where
   pub view : system_in checked ≡ generated_view (program_of s) sizes base
-  pub runs : RunsAs s sizes checked
-  pub moments : KeepsMoments s sizes checked
+  pub runs : SystemRunsAs s sizes checked
+  pub moments : SystemKeepsMoments s sizes checked
   pub limits : LimitsFit (program_of s) sizes base

@@ -17,7 +17,7 @@ use Rattle.gypsy_semantics.specs.Machine.{Item, Do, State, At}
 use Rattle.gypsy_semantics.specs.Kept.{StateFits}
 use Rattle.gypsy_semantics.specs.Room.{StateRoom}
 use Rattle.gypsy_codegen.specs.Guard.{guard_code, guard_size}
-use Rattle.gypsy_codegen.specs.Showing.{HasAt, Shows}
+use Rattle.gypsy_codegen.specs.Showing.{HasAt, StandsAs}
 
 -- a state with a frame, at the guard of a call that needs these words and goes to this place without them
 pub record IsAtGuard (s : SystemView) (need : StackSizes) (to : ℕ) (p : PitonState) : Type 0 where
@@ -58,7 +58,7 @@ CallsHaveTwo = (q : Program) (sizes : StackSizes) (a : PitonState) (p : ℕ) (x 
     (cs : List ConditionOf)
     (w : List Item) (fs : List machine.Frame) (t : Tally) →
     let g = before_call p x place c xs cs w fs t in
-    StateFits q g → StateRoom q sizes g → Shows q a g → length a.stack + 2 ≤ sizes.temp
+    StateFits q g → StateRoom q sizes g → StandsAs q a g → length a.stack + 2 ≤ sizes.temp
 
 -- the free words of the temporary stack are those before the push
 abbrev pub FreeIsBefore : Type 0

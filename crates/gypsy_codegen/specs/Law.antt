@@ -17,7 +17,7 @@ use Rattle.gypsy_semantics.specs.Kept.{StateFits}
 use Rattle.gypsy_semantics.specs.Room.{StateRoom}
 use Rattle.gypsy_codegen.specs.WordsOf.{words_of_values, number_of_way}
 use Rattle.gypsy_codegen.specs.Generated.{generated_view}
-use Rattle.gypsy_codegen.specs.Showing.{Shows}
+use Rattle.gypsy_codegen.specs.Showing.{StandsAs}
 
 abbrev pub tally_of : State → Tally
 tally_of (At p x w fs t) = t
@@ -29,7 +29,7 @@ pub record Leads (q : Program) (s : SystemView) (a : PitonState) (t : Tally) (g 
   pub to : PitonState
   pub runs : Steps s steps cost a to
   pub tally : tally_of g ≡ spend cost steps t
-  pub shows : Shows q to g
+  pub shows : StandsAs q to g
 
 -- so many steps lead to a state that has halted, with the condition in c-c and the words of main's formals on the stack's bottom
 pub record Halts (s : SystemView) (a : PitonState) (t : Tally) (x : List ValueOf) (c : CurrentCondition) (u : Tally) : Type 0 where
@@ -50,4 +50,4 @@ Follows q s a t (Ended x c u) = Halts s a t x c u
 -- each step of a program that fits
 abbrev pub StepsFollow : Type 0
 StepsFollow = (q : Program) (sizes : StackSizes) (base : ℕ) (a : PitonState) (g : State) → ProgramFits q → sizes.temp ≤ most_stack →
-    StateFits q g → StateRoom q sizes g → Shows q a g → Follows q (generated_view q sizes base) a (tally_of g) (gypsy_step q sizes g)
+    StateFits q g → StateRoom q sizes g → StandsAs q a g → Follows q (generated_view q sizes base) a (tally_of g) (gypsy_step q sizes g)

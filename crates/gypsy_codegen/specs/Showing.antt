@@ -101,5 +101,5 @@ pub record Reads (q : Program) (a : PitonState) (p : ℕ) (x : List ValueOf) (w 
   pub stack : a.stack ≡ stack_of q p x fs
   pub frames : Waits q p fs a.frames
 
-abbrev pub Shows : Program → PitonState → State → Type 0
-Shows q a (At p x w fs t) = Reads q a p x w fs
+abbrev pub StandsAs : Program → PitonState → State → Type 0
+StandsAs q a (At p x w fs t) = Reads q a p x w fs

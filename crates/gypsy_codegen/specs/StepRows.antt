@@ -20,7 +20,7 @@ use Rattle.gypsy_semantics.specs.Machine.{open_on, settle, raise, used}
 use Rattle.gypsy_semantics.specs.Kept.{StateFits}
 use Rattle.gypsy_semantics.specs.Room.{StateRoom}
 use Rattle.gypsy_codegen.specs.Generated.{generated_view}
-use Rattle.gypsy_codegen.specs.Showing.{Shows}
+use Rattle.gypsy_codegen.specs.Showing.{StandsAs}
 use Rattle.gypsy_codegen.specs.Law.{Leads, Halts}
 
 -- a program with the sizes and the base of its system, a state of Piton, and the activation on top: its procedure, its variables,
@@ -42,7 +42,7 @@ pub record IsShown (s : Top) (g : State) : Type 0 where
   pub small : s.sizes.temp ≤ most_stack
   pub state_fits : StateFits s.source g
   pub room : StateRoom s.source s.sizes g
-  pub shows : Shows s.source s.piton g
+  pub shows : StandsAs s.source s.piton g
 
 abbrev pub at_work : Top → List Item → State
 at_work s w = At s.proc s.vars w s.waiting s.spent

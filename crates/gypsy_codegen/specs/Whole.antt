@@ -29,7 +29,7 @@ use Rattle.gypsy_codegen.specs.WordsOf.{words_of_values, number_of, number_of_wa
 use Rattle.gypsy_codegen.specs.Generated.{Scope, target, size, generated_view}
 use Rattle.gypsy_codegen.specs.Memory.{stack_of, index_of}
 use Rattle.gypsy_predef.specs.Runs.{Holds, words_of_value}
-use Rattle.gypsy_codegen.specs.Showing.{Stands, Waits, Shows, mark}
+use Rattle.gypsy_codegen.specs.Showing.{Stands, Waits, StandsAs, mark}
 use Rattle.gypsy_codegen.specs.Law.{Leads, tally_of}
 
 -- the opening state, with these values of main's formals
@@ -75,7 +75,8 @@ LimitedRunHalts = (q : Program) (sizes : StackSizes) (base : ℕ) (v : List Valu
 
 -- the opening state shows the start
 abbrev pub StartShows : Type 0
-StartShows = (q : Program) (sizes : StackSizes) (base : ℕ) (v : List ValueOf) → ProgramFits q → Shows q (opened q sizes base v) (start q v)
+StartShows = (q : Program) (sizes : StackSizes) (base : ℕ) (v : List ValueOf) → ProgramFits q
+    → StandsAs q (opened q sizes base v) (start q v)
 
 -- the states that steps of the step machine lead to
 pub data Reached (q : Program) (sizes : StackSizes) : State → State → Type 0 where
@@ -90,12 +91,12 @@ EachIsShown = (q : Program) (sizes : StackSizes) (base : ℕ) (v : List ValueOf)
 
 -- a state that shows one of the step machine stands at its mark
 abbrev pub PlaceIsMark : Type 0
-PlaceIsMark = (q : Program) (a : PitonState) (g : State) → Shows q a g → a.place ≡ mark q g
+PlaceIsMark = (q : Program) (a : PitonState) (g : State) → StandsAs q a g → a.place ≡ mark q g
 
 -- the words of a variable stand from its index on
 abbrev pub VariablesStand : Type 0
 VariablesStand = (q : Program) (a : PitonState) (p : ℕ) (x : List ValueOf) (w : List Item) (fs : List Frame) (t : Tally) (b : ℕ)
-    (shape : Shape) → StateFits q (At p x w fs t) → Shows q a (At p x w fs t) → slice_get (shapes_of (proc_at q p)) b ≡ Some shape →
+    (shape : Shape) → StateFits q (At p x w fs t) → StandsAs q a (At p x w fs t) → slice_get (shapes_of (proc_at q p)) b ≡ Some shape →
     Holds a.stack (index_of q p fs b) (words_of_value (value_at x b))
 
 -- the variables of the activations that wait, each but those that are actuals of the activation above it
@@ -108,7 +109,7 @@ WaitingStand q stack (Held c x w xs cs ∷ fs) =
 
 abbrev pub WaitingVariablesStand : Type 0
 WaitingVariablesStand = (q : Program) (a : PitonState) (p : ℕ) (x : List ValueOf) (w : List Item) (fs : List Frame) (t : Tally) →
-    StateFits q (At p x w fs t) → Shows q a (At p x w fs t) → WaitingStand q a.stack fs
+    StateFits q (At p x w fs t) → StandsAs q a (At p x w fs t) → WaitingStand q a.stack fs
 
 -- an actual has the index of its formal
 abbrev pub ActualsShare : Type 0

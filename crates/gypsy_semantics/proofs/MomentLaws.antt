@@ -6,7 +6,7 @@ use Rattle.gypsy_space.specs.Costs.{Tally, start_tally}
 use Rattle.gypsy_space.specs.Needs.{StackSizes}
 use Rattle.gypsy_semantics.specs.Machine.{At, Ended, Frame, Item, Move, Next, State, gypsy_step}
 use Rattle.gypsy_semantics.specs.Views.Moments.{IsMoment, moment, moment_from, moved_on, shown_stage, spent_by}
-use Rattle.gypsy_semantics.specs.Views.RunView.{Running, Seen, Shows, Stage, added, after, after_move, left_from, left_of, lending, lending_move, opening}
+use Rattle.gypsy_semantics.specs.Views.RunView.{Running, Seen, ShowsSum, Stage, added, after, after_move, left_from, left_of, lending, lending_move, opening}
 use Rattle.gypsy_semantics.proofs.ApartLaws.{add_to, plus-nothing, step_apart}
 use Rattle.gypsy_semantics.proofs.LendingLaws.{back_again, step_lent}
 use Rattle.gypsy_semantics.proofs.SeenLaws.{after_last, after_same}
@@ -54,7 +54,7 @@ counted_moved v (Ended x c t) = refl
 
 -- Steps.
 
-step_shown : (v : Seen) (p : ℕ) (x : List ValueOf) (w : List Item) (fs : List Frame) (t : Tally) → Shows v.counted t.count →
+step_shown : (v : Seen) (p : ℕ) (x : List ValueOf) (w : List Item) (fs : List Frame) (t : Tally) → ShowsSum v.counted t.count →
     IsMoment (left_from v (shown_stage (Next (At p x w fs t)))) (gypsy_step v.program v.sizes (At p x w fs t))
 step_shown v p x w fs t h =
     let q = v.program in
@@ -66,8 +66,8 @@ step_shown v p x w fs t h =
     ap (λ (u : Tally). gypsy_step q v.sizes (At p x w fs u)) (sym (plus-nothing t)) ∙ step_apart t q v.sizes plain in
     let cost : spent_by a ≡ spent_by b = sym (spent_lent a) ∙ ap spent_by lent ∙ spent_lent b in
     let sum : spent_by (add_to t b) ≡ t.count + spent_by b = spent_apart t b in
-    let shown : Shows (added v.counted (spent_by a)) (spent_by (add_to t b)) = omega (arith, h, cost, sum) in
-    let P : ℕ → Type 0 = λ n. Shows n (spent_by (add_to t b)) in
+    let shown : ShowsSum (added v.counted (spent_by a)) (spent_by (add_to t b)) = omega (arith, h, cost, sum) in
+    let P : ℕ → Type 0 = λ n. ShowsSum n (spent_by (add_to t b)) in
     let Q : Move → Type 0 = IsMoment (after_move v a) in
     subst Q (sym apart)
     record {
@@ -75,7 +75,7 @@ step_shown v p x w fs t h =
       counted = subst P (sym (counted_moved v a)) shown;
     }
 
-from_shown : (v : Seen) (a : Move) → v.stage ≡ shown_stage a → Shows v.counted (spent_by a) → IsMoment (left_from v (shown_stage a)) (moved_on a (gypsy_step v.program v.sizes))
+from_shown : (v : Seen) (a : Move) → v.stage ≡ shown_stage a → ShowsSum v.counted (spent_by a) → IsMoment (left_from v (shown_stage a)) (moved_on a (gypsy_step v.program v.sizes))
 from_shown v (Next (At p x w fs t)) e h = step_shown v p x w fs t h
 from_shown v (Ended x c t) e h = record { stage = e; counted = h }
 

@@ -9,7 +9,7 @@ use Rattle.gypsy_semantics.specs.Calls.{CurrentCondition}
 use Rattle.gypsy_semantics.specs.Meaning.{Done, meaning}
 use Rattle.gypsy_semantics.specs.Counted.{CountedDone, CountedOutcome, CountedUnfinished, counted_meaning, tally_of, uncounted}
 use Rattle.gypsy_semantics.specs.Machine.{At, Ended, Frame, Going, Item, Move, Next, Over, State, go_on, gypsy_step, run, start}
-use Rattle.gypsy_semantics.specs.Views.RunView.{Finished, IsEnd, Running, Seen, Shows, Stage, added, after, after_move, answer_by, answer_from, answer_of, bare, end_by, handed_back, left_from, left_of, opening, ran_on, meaning_run}
+use Rattle.gypsy_semantics.specs.Views.RunView.{Finished, IsEnd, Running, Seen, ShowsSum, Stage, added, after, after_move, answer_by, answer_from, answer_of, bare, end_by, handed_back, left_from, left_of, opening, ran_on, meaning_run}
 use Rattle.gypsy_semantics.specs.Views.RunAgrees.{MeansEnd}
 use Rattle.gypsy_semantics.proofs.ApartLaws.{add, add_to, plus, plus-nothing, step_apart}
 use Rattle.gypsy_semantics.proofs.CountLaws.{meaning-uncounted}
@@ -25,8 +25,8 @@ IsAt v (Finished x c) made t = run v.program v.sizes made (start v.program v.val
 pub record Reached (v : Seen) : Type 0 where
   pub made : ℕ
   pub spent : Tally
-  pub steps : Shows v.steps made
-  pub counted : Shows v.counted spent.count
+  pub steps : ShowsSum v.steps made
+  pub counted : ShowsSum v.counted spent.count
   pub at : IsAt v v.stage made spent
 
 pub opening_reached : (q : Program) (sizes : StackSizes) (v : List ValueOf) → Reached (opening q sizes v)
@@ -39,7 +39,7 @@ opening_reached q sizes v = record {
 }
 
 -- a counter that shows a sum shows what is added to it
-added_shows : (shown n m : ℕ) → Shows shown n → Shows (added shown m) (n + m)
+added_shows : (shown n m : ℕ) → ShowsSum shown n → ShowsSum (added shown m) (n + m)
 added_shows shown n m h = omega (arith, h)
 
 stepped : (q : Program) (sizes : StackSizes) (g : State) (t : Tally) (a : Move) (k : ℕ) → gypsy_step q sizes g ≡ a → run q sizes (suc k) (add t g) ≡ go_on (add_to t a) (run q sizes k)
@@ -51,7 +51,7 @@ bare_run q sizes k t p x w fs u =
     sym (run_lent q sizes k (At p x w fs (plus t u)))
     ∙ ap (λ (v : Tally). run q sizes k (At p x w (handed_back x fs) v)) (sym (plus-nothing (plus t u)))
 
-pub move_reached : (v : Seen) (g : State) (made : ℕ) (t : Tally) (a : Move) → Reached v → Shows v.steps made → Shows v.counted t.count → IsAt v (Running g) made t → gypsy_step v.program v.sizes g ≡ a → Reached (after_move v a)
+pub move_reached : (v : Seen) (g : State) (made : ℕ) (t : Tally) (a : Move) → Reached v → ShowsSum v.steps made → ShowsSum v.counted t.count → IsAt v (Running g) made t → gypsy_step v.program v.sizes g ≡ a → Reached (after_move v a)
 move_reached v g made t (Next (At p x w fs u)) r steps counted at e = record {
   made = made + 1;
   spent = plus t u;

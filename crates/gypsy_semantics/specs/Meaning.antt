@@ -19,8 +19,8 @@ pub data MeaningOutcome : Type 0 where
   Unfinished : MeaningOutcome
 
 -- what a statement does from these variables, with these words in use
-abbrev pub Means : Type 0
-Means = Stmt → StackSizes → List ValueOf → MeaningOutcome
+abbrev pub StatementMeaning : Type 0
+StatementMeaning = Stmt → StackSizes → List ValueOf → MeaningOutcome
 
 -- what follows runs where the first is done in the normal condition
 abbrev pub then_do : MeaningOutcome → (List ValueOf → MeaningOutcome) → MeaningOutcome
@@ -62,7 +62,7 @@ if_room true x o = o
 if_room false x o = Done x (Some Space)
 
 -- the bound falls at each further round of a loop and at each call
-abbrev pub evaluate : Program → StackSizes → ℕ → Means
+abbrev pub evaluate : Program → StackSizes → ℕ → StatementMeaning
 evaluate q sizes zero s u x = Unfinished
 evaluate q sizes (suc n) Skip u x = Done x None
 evaluate q sizes (suc n) (NoOp place) u x = Done x None

@@ -26,7 +26,7 @@ use Rattle.level_debuggers.specs.Walks.{SessionOf, walk, walk_on, ends_by, refus
 use Rattle.level_debuggers.specs.Transcripts.{Said, Followed, arrival_end, arrival_text, arrived_said, attach_with, detach_with}
 use Rattle.level_debuggers.specs.Transcripts.{ends_with, follow_on, followed, rule_of_word, run_end, run_text, said_by, said_to, words_said}
 use Rattle.level_debuggers.specs.ScriptSteps.{AskForSteps, all_asked, steps_asked, steps_led, steps_of, stepped_lines}
-use Rattle.level_debuggers.specs.ScriptSteps.{until_line, up_line, words_line}
+use Rattle.level_debuggers.specs.ScriptSteps.{until_line, up_line, line_of_words}
 use Rattle.level_debuggers.specs.ScriptSteps.{ArrivalsAreSaid, GoesOn, ScriptsWalk, UpIsSaid, WordsAreSaid, StepsAreSaid, UpSaysMoment, TextStays}
 use Rattle.level_debuggers.proofs.ArrivalLaws.{is_first}
 use Rattle.level_debuggers.proofs.WalkLaws.{walk_level}
@@ -158,7 +158,7 @@ words_are text after number address count s o said e =
     ap (λ (x : Option (List ℕ)). follow_on text (words_said number s x) (words_said number s x).end (λ text s. followed text after s)) e
 
 words_there : (text : List ℕ) (after : List Line) (number address count : ℕ) (s : SessionOf) (run : FmLevelOf) → s.level ≡ Fm run →
-    followed text (words_line number address count ∷ after) s ≡ followed (text ++ word_lines run.state address count) after s
+    followed text (line_of_words number address count ∷ after) s ≡ followed (text ++ word_lines run.state address count) after s
 unfolding followed
 words_there text after number address count s run e =
     words_are text after number address count s (words_text s.level address count) (word_lines run.state address count)
@@ -167,7 +167,7 @@ words_there text after number address count s run e =
 pub words_are_said : WordsAreSaid
 words_are_said text before after number address count s run done leads =
     let made : Followed = followed text before s in
-    followed_both text before (words_line number address count ∷ after) s done
+    followed_both text before (line_of_words number address count ∷ after) s done
     ∙ words_there made.text after number address count made.session run (scripts_walk text before s done ∙ leads)
 
 until_is : (text : List ℕ) (after : List Line) (number limit k : ℕ) (s : SessionOf) (b : Bool) (first : Option ℕ) → b ≡ true → first ≡ Some k →

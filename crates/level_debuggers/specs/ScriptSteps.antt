@@ -51,15 +51,15 @@ UpIsSaid = (text : List ℕ) (before after : List Line) (number : ℕ) (s : Sess
     ≡ followed (made.text ++ up_text (walk (steps_of before s.level) s.level).level) after made.session
 
 -- a line of `words`
-abbrev pub words_line : (number address count : ℕ) → Line
-words_line number address count = record { line = number; command = command.Words address count }
+abbrev pub line_of_words : (number address count : ℕ) → Line
+line_of_words number address count = record { line = number; command = command.Words address count }
 
 -- At a line of `words` it is the memory of the processor that the run has there.
 abbrev pub WordsAreSaid : Type 0
 WordsAreSaid = (text : List ℕ) (before after : List Line) (number address count : ℕ) (s : SessionOf) (run : FmLevelOf) →
     (followed text before s).end ≡ end.Done → (walk (steps_of before s.level) s.level).level ≡ Fm run →
     let made = followed text before s in
-    followed text (before ++ words_line number address count ∷ after) s
+    followed text (before ++ line_of_words number address count ∷ after) s
     ≡ followed (made.text ++ word_lines run.state address count) after made.session
 
 -- a line of `until`

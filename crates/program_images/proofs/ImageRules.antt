@@ -24,7 +24,7 @@ use Rattle.gypsy_logic.specs.Counts.{MeansAfter, IsAfter}
 use Rattle.gypsy_logic.specs.Endless.{IsEndless}
 use Rattle.gypsy_logic.specs.Ends.{Means, Is}
 use Rattle.gypsy_codegen.proofs.MomentLaws.{moment_over}
-use Rattle.stack_build.specs.Build.{accepted_unless, accepted_by, source_in, BuiltOf, BuildsText}
+use Rattle.stack_build.specs.Build.{accepted_unless, accepted_by, accepted_source, BuiltOf, BuildsText}
 use Rattle.stack_build.specs.Formals.{shown_names, formal_conditions}
 use Rattle.stack_build.specs.Implements.{Finishes, Implements, FitsFormals, meaning_shown}
 use Rattle.stack_build.specs.ComesTo.{ComesTo}
@@ -75,8 +75,8 @@ accepted_is : (s t : SourceOf) (breach : Option Breach) → accepted_unless s br
 accepted_is s t None e = cc
 accepted_is s t (Some b) e = cc
 
-pub one_source : (text : List ℕ) (s t : SourceOf) → gypsy_in text ≡ Ok s → source_in text ≡ Ok t → t ≡ s
-unfolding source_in
+pub one_source : (text : List ℕ) (s t : SourceOf) → gypsy_in text ≡ Ok s → accepted_source text ≡ Ok t → t ≡ s
+unfolding accepted_source
 one_source text s t form read = accepted_is s t (least (violations s)) (sym (ap accepted_by form) ∙ read)
 
 -- the source of a text that was built, with a program, the names and the conditions that the text has

@@ -11,7 +11,7 @@ ghost use Rattle.gypsy_semantics.specs.Calls.{CurrentCondition};
 ghost use Rattle.gypsy_logic.specs.Counts.{MeansAfter, IsAfter};
 ghost use Rattle.gypsy_logic.specs.Endless.{IsEndless};
 ghost use Rattle.gypsy_logic.specs.Ends.{Means, Is};
-ghost use Rattle.stack_build.specs.Build.{source_in};
+ghost use Rattle.stack_build.specs.Build.{accepted_source};
 ghost use Rattle.stack_build.specs.Implements.{Implements, FitsFormals, meaning_shown};
 ghost use Rattle.stack_build.specs.ComesTo.{ComesTo};
 ghost use Rattle.stack_build.specs.StaysUnfinished.{StaysUnfinished};
@@ -44,5 +44,5 @@ pub fn endless_runs_on()
 
 /// A text that has the form of a source has no other one, where it breaks no rule.
 pub fn text_has_one_source()
-    ensures { (text : List ℕ) (s t : SourceOf) → gypsy_in text ≡ Ok s → source_in text ≡ Ok t → t ≡ s }
+    ensures { (text : List ℕ) (s t : SourceOf) → gypsy_in text ≡ Ok s → accepted_source text ≡ Ok t → t ≡ s }
 {}

@@ -5,7 +5,7 @@ use Rattle.std.specs.Int.{bit_at}
 use Rattle.std.specs.Int.Bits.{xor_self, xor_zero_r}
 use Rattle.std.proofs.lemmas.Nat.Bits.{bit_at_xor, bit_at-lt, bit_at-zero}
 use Rattle.gypsy_logic.proofs.Rules.{recursion_rule}
-use Rattle.proved_programs.specs.NimGame.{Move, Wins, by_move, Loses, whatever, nim_sum, BoutonsTheorem}
+use Rattle.proved_programs.specs.NimGame.{NimMove, Wins, by_move, Loses, whatever, nim_sum, BoutonsTheorem}
 use Rattle.proved_programs.proofs.ExclusiveOr.{xor_twice, xor_exchange, xor_same, highest, xor_less}
 
 -- how many objects there are
@@ -32,7 +32,7 @@ sum_set (x ∷ xs) (suc i) a there =
     ap (bit_xor x) (sum_set xs i a (omega arith)) ∙ xor_exchange x a (bit_xor p (nim_sum xs)) ∙ ap (bit_xor a) (xor_exchange x p (nim_sum xs))
 
 -- a move from zero leads away from it
-leaves_zero : (xs ys : List ℕ) → nim_sum xs ≡ 0 → Move xs ys → nim_sum ys ≢ 0
+leaves_zero : (xs ys : List ℕ) → nim_sum xs ≡ 0 → NimMove xs ys → nim_sum ys ≢ 0
 leaves_zero xs ys zero_sum m f =
     let p = get_or xs m.pile 0 in
     let there = pile_there xs m.pile m.left m.fewer in
@@ -81,7 +81,7 @@ ZeroLoses n = (xs : List ℕ) → objects xs ≡ n → nim_sum xs ≡ 0 → Lose
 zero_loses_each : (n : ℕ) → ((m : ℕ) → m < n → ZeroLoses m) → ZeroLoses n
 zero_loses_each n below xs e zero_sum = whatever xs (λ ys move. back ys move (leaves_zero xs ys zero_sum move))
   where
-    back : (ys : List ℕ) → Move xs ys → nim_sum ys ≢ 0 → Wins ys
+    back : (ys : List ℕ) → NimMove xs ys → nim_sum ys ≢ 0 → Wins ys
     back ys move other =
         let w = winning_pile ys other in
         let a = bit_xor (get_or ys w.0 0) (nim_sum ys) in

@@ -18,7 +18,7 @@ use Rattle.gypsy_logic.specs.Ends.{Exit, Ends, Then, Round, Again, Stands, Outco
 use Rattle.gypsy_logic.proofs.Rules.{◌▸◌, skip_rule, no_op_rule, signal_rule, seq_rule, if_true, if_false, if_rule, loop_over, meets_rule, given_rule, main_rule, room_is}
 use Rattle.gypsy_logic.proofs.NumberFacts.{truth_is, same_true, same_false, natural_fits}
 use Rattle.gypsy_logic.proofs.PredefinedRules.{assign_rule, constant_rule, equal_rule, equal_constant_rule, at_most_rule, add_rule, subtract_rule, index_rule, store_rule}
-use Rattle.proved_programs.specs.NimGame.{Move, Loses, nim_sum}
+use Rattle.proved_programs.specs.NimGame.{NimMove, Loses, nim_sum}
 use Rattle.proved_programs.specs.Piles.{IsPosition, piles_value}
 use Rattle.proved_programs.specs.Texts.Piles.{piles_program, piles_main_body, piles_main_round_1, piles_main_round_2, piles_xor_round_1}
 use Rattle.proved_programs.proofs.BitReading.{digit, high, rest, bit_read, next_bit, xor_bit, none_yet, all_left}
@@ -229,7 +229,7 @@ sum_next (x ∷ xs) (suc i) less = ap (bit_xor x) (sum_next xs i (omega arith)) 
 -- a move leaves a lost position
 pub record IsWon (xs : List ℕ) (v : List ValueOf) (way : CurrentCondition) : Type 0 where
   pub left : List ℕ
-  pub move : Move xs left
+  pub move : NimMove xs left
   pub lost : Loses left
   pub is : v ≡ piles_value left ∷ []
   pub normal : way ≡ None

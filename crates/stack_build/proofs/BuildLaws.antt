@@ -35,23 +35,23 @@ use Rattle.gypsy_codegen.specs.declared.fault.GenFault.TheVariants as gen
 use Rattle.stack_build.specs.declared.fault.BuildFault.{BuildFault}
 use Rattle.stack_build.specs.declared.fault.BuildFault.TheVariants as fault
 use Rattle.stack_build.specs.Image.{image_on, image_of}
-use Rattle.stack_build.specs.Build.{reading_fault, checking_fault, generating_fault, linking_fault, fault_of, accepted_unless, accepted_by, source_in, generated_by, built_with, placed_size, linked_of, source_built, built}
+use Rattle.stack_build.specs.Build.{reading_fault, checking_fault, generating_fault, linking_fault, fault_of, accepted_unless, accepted_by, accepted_source, generated_by, built_with, placed_size, linked_of, source_built, built}
 
 -- ---- reading and checking
 
-pub reading_fails : (e : GypsyFault) (text : List ℕ) → Fails (syntax.fault_of e) (gypsy_in text) → Fails (fault_of (reading_fault e)) (source_in text)
-unfolding source_in
+pub reading_fails : (e : GypsyFault) (text : List ℕ) → Fails (syntax.fault_of e) (gypsy_in text) → Fails (fault_of (reading_fault e)) (accepted_source text)
+unfolding accepted_source
 reading_fails (gypsy.Text rule place) text h = ap accepted_by h
 reading_fails (gypsy.Form rule place) text h = ap accepted_by h
 reading_fails gypsy.Memory text h = tt
 
-pub checking_fails : (e : CheckFault) (text : List ℕ) (source : SourceOf) → gypsy_in text ≡ Ok source → IsLeast source e → Fails (fault_of (checking_fault e)) (source_in text)
-unfolding source_in
+pub checking_fails : (e : CheckFault) (text : List ℕ) (source : SourceOf) → gypsy_in text ≡ Ok source → IsLeast source e → Fails (fault_of (checking_fault e)) (accepted_source text)
+unfolding accepted_source
 checking_fails (check.Violation rule place) text source h e = ap accepted_by h ∙ ap (accepted_unless source) e
 checking_fails check.Memory text source h e = tt
 
-pub accepted_found : (text : List ℕ) (source : SourceOf) → gypsy_in text ≡ Ok source → violations source ≡ [] → source_in text ≡ Ok source
-unfolding source_in
+pub accepted_found : (text : List ℕ) (source : SourceOf) → gypsy_in text ≡ Ok source → violations source ≡ [] → accepted_source text ≡ Ok source
+unfolding accepted_source
 accepted_found text source h e = ap accepted_by h ∙ ap (λ (breaches : List Breach). accepted_unless source (least breaches)) e
 
 -- ---- generating and linking
@@ -103,10 +103,10 @@ stays : {X Y : Type 0} (o : Option BuildFault) (r : Result X BuildFault) (go : X
 stays None r go h = tt
 stays (Some f) r go h = ap (λ (z : Result _ BuildFault). z >>= go) h
 
-pub text_fails : (e : BuildFault) (text : List ℕ) (ctrl temp base : ℕ) → Fails (fault_of e) (source_in text) → Fails (fault_of e) (built text ctrl temp base)
+pub text_fails : (e : BuildFault) (text : List ℕ) (ctrl temp base : ℕ) → Fails (fault_of e) (accepted_source text) → Fails (fault_of e) (built text ctrl temp base)
 unfolding built
-text_fails e text ctrl temp base h = stays (fault_of e) (source_in text) (λ source. source_built source (stack_sizes ctrl temp) base) h
+text_fails e text ctrl temp base h = stays (fault_of e) (accepted_source text) (λ source. source_built source (stack_sizes ctrl temp) base) h
 
-pub text_builds : (text : List ℕ) (ctrl temp base : ℕ) (source : SourceOf) → source_in text ≡ Ok source → built text ctrl temp base ≡ source_built source (stack_sizes ctrl temp) base
+pub text_builds : (text : List ℕ) (ctrl temp base : ℕ) (source : SourceOf) → accepted_source text ≡ Ok source → built text ctrl temp base ≡ source_built source (stack_sizes ctrl temp) base
 unfolding built
 text_builds text ctrl temp base source h = ap (λ (r : Result SourceOf BuildFault). r >>= λ source. source_built source (stack_sizes ctrl temp) base) h

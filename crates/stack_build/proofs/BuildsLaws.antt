@@ -31,7 +31,7 @@ use Rattle.stack_build.specs.Image.{source_tables, image_on, image_of}
 use Rattle.stack_build.specs.declared.fault.BuildFault.{BuildFault}
 use Rattle.stack_build.specs.declared.fault.BuildFault.TheVariants as fault
 use Rattle.gypsy_codegen.specs.declared.fault.GenFault.{GenFault}
-use Rattle.stack_build.specs.Build.{BuiltOf, source_in, generated_by, built_with, placed_size, linked_of, source_built, built, Builds, BuildsText}
+use Rattle.stack_build.specs.Build.{BuiltOf, accepted_source, generated_by, built_with, placed_size, linked_of, source_built, built, Builds, BuildsText}
 use Rattle.stack_build.specs.Joined.{BuiltImplements, BuiltTakesValues}
 use Rattle.stack_build.proofs.TakesLaws.{takes_values}
 use Rattle.stack_build.proofs.KnownLaws.{source_is_accepted}
@@ -104,9 +104,9 @@ module _ (meaning_runs : MeaningRuns) (each_moment : EachMomentIsReached) (accep
 
   pub built_implements : BuiltImplements
   unfolding built
-  built_implements text ctrl temp base short low = by_source (source_in text) refl
+  built_implements text ctrl temp base short low = by_source (accepted_source text) refl
     where
-      by_source : (r : Result SourceOf BuildFault) → source_in text ≡ r → IfOk (r >>= λ source. source_built source (stack_sizes ctrl temp) base) (BuildsText text ctrl temp)
+      by_source : (r : Result SourceOf BuildFault) → accepted_source text ≡ r → IfOk (r >>= λ source. source_built source (stack_sizes ctrl temp) base) (BuildsText text ctrl temp)
       by_source (Ok s) read = text_builds_if text ctrl temp s (source_built s (stack_sizes ctrl temp) base) read (source_builds s (stack_sizes ctrl temp) base (source_is_accepted text short s read) low)
       by_source (Err f) read = tt
 

@@ -17,7 +17,7 @@ use Rattle.piton_check.specs.Sound.{IsSound}
 use Rattle.piton_semantics.specs.Placed.{placed}
 use Rattle.gypsy_syntax.specs.declared.literal.Decl.{Decl}
 use Rattle.stack_build.specs.Image.{image_with}
-use Rattle.stack_build.specs.Internal.Showing.{Shows}
+use Rattle.stack_build.specs.Internal.Showing.{IsShowable}
 use Rattle.stack_build.proofs.WordsLaws.{words-trimmed, placed_are_words, registers_are_words}
 use Rattle.stack_build.proofs.ImageLimits.{placed_window, system_fits}
 
@@ -83,7 +83,7 @@ file_few image h =
     (omega (arith, conditions, condition_count image h)) (omega (arith, slots, slot_count image h)) (word_count image h) (omega arith) in
     omega (arith, all)
 
-module _ (s : SystemView) (ds : List Decl) (conditions : List (List ℕ)) (tables : Tables) (sound : IsSound s) (small : (placed s).size ≤ 2 ^ 20) (shows : Shows s ds conditions)
+module _ (s : SystemView) (ds : List Decl) (conditions : List (List ℕ)) (tables : Tables) (sound : IsSound s) (small : (placed s).size ≤ 2 ^ 20) (shows : IsShowable s ds conditions)
     (fit : are_tables (placed_window s) tables ≡ true) where
   pub file_spells : Spelled (spelling (image_with ds conditions tables s)) (image_with ds conditions tables s)
   file_spells = record {

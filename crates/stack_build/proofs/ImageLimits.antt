@@ -45,7 +45,7 @@ use Rattle.piton_linker.specs.Layouts.{trimmed}
 use Rattle.gypsy_codegen.proofs.StackLaws.{values_words}
 use Rattle.stack_build.specs.Formals.{formals_in, conditions_in, shown_formals, shown_conditions}
 use Rattle.stack_build.specs.Image.{slots_from, image_with}
-use Rattle.stack_build.specs.Internal.Showing.{AreShort, shapes_in, Shows}
+use Rattle.stack_build.specs.Internal.Showing.{AreShort, shapes_in, IsShowable}
 use Rattle.stack_build.proofs.Windows.{shorter}
 use Rattle.stack_build.proofs.MainLaws.{IsMain, main_is, zero_values}
 
@@ -153,7 +153,7 @@ placed_fits s sound small =
       few = omega (arith, shorter (placed s).words);
     }
 
-pub system_fits : (s : SystemView) (ds : List Decl) (conditions : List (List ℕ)) (tables : Tables) → IsSound s → (placed s).size ≤ 2 ^ 20 → Shows s ds conditions →
+pub system_fits : (s : SystemView) (ds : List Decl) (conditions : List (List ℕ)) (tables : Tables) → IsSound s → (placed s).size ≤ 2 ^ 20 → IsShowable s ds conditions →
     are_tables (placed_window s) tables ≡ true → IsTrue (is_image (image_with ds conditions tables s))
 unfolding all_after
 system_fits s ds conditions tables sound small shows fit_tables =
@@ -190,7 +190,7 @@ words_front : (a b : List Shape) → words_of a ≤ words_of (a ++ b)
 words_front [] b = omega arith
 words_front (s ∷ a) b = omega (arith, words_front a b)
 
-main_shows : (s : SourceOf) (sizes : StackSizes) (base : ℕ) (p : ProcOf) → IsAccepted s → IsMain s p → Shows (generated_view (program_of s) sizes base) p.formals (conditions_in (Some p))
+main_shows : (s : SourceOf) (sizes : StackSizes) (base : ℕ) (p : ProcOf) → IsAccepted s → IsMain s p → IsShowable (generated_view (program_of s) sizes base) p.formals (conditions_in (Some p))
 main_shows s sizes base p accepted main =
     let q : Program = program_of s in
     let c : Proc = proc_at q q.main in
@@ -215,8 +215,8 @@ main_shows s sizes base p accepted main =
 
 -- what is asked of the image holds of each accepted source
 pub generated_shows : (s : SourceOf) (sizes : StackSizes) (base : ℕ) (system : SystemView) → IsAccepted s → system ≡ generated_view (program_of s) sizes base →
-    Shows system (shown_formals s) (shown_conditions s)
+    IsShowable system (shown_formals s) (shown_conditions s)
 generated_shows s sizes base system accepted is =
     let main = main_is s accepted in
-    subst (λ (v : SystemView). Shows v (shown_formals s) (shown_conditions s)) (sym is)
-    (subst (λ (o : Option ProcOf). Shows (generated_view (program_of s) sizes base) (formals_in o) (conditions_in o)) (sym main.1.found) (main_shows s sizes base main.0 accepted main.1))
+    subst (λ (v : SystemView). IsShowable v (shown_formals s) (shown_conditions s)) (sym is)
+    (subst (λ (o : Option ProcOf). IsShowable (generated_view (program_of s) sizes base) (formals_in o) (conditions_in o)) (sym main.1.found) (main_shows s sizes base main.0 accepted main.1))

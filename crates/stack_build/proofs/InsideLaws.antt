@@ -21,7 +21,7 @@ use Rattle.gypsy_codegen.specs.Moments.{moment_from}
 use Rattle.gypsy_codegen.proofs.MomentLaws.{counts_grow}
 use Rattle.stack_build.specs.declared.fault.BuildFault.{BuildFault}
 use Rattle.stack_build.specs.declared.fault.BuildFault.TheVariants.{Words as TooManyWords}
-use Rattle.stack_build.specs.Build.{BuiltOf, source_in, generated_by, built_with, placed_size, linked_of, source_built, built, BuildsText}
+use Rattle.stack_build.specs.Build.{BuiltOf, accepted_source, generated_by, built_with, placed_size, linked_of, source_built, built, BuildsText}
 use Rattle.stack_build.specs.Image.{image_of}
 use Rattle.stack_build.specs.Implements.{FitsFormals}
 use Rattle.stack_build.specs.Inside.{RunsInside, BuiltAtBase, BuiltRunsInside}
@@ -51,7 +51,7 @@ keeps_inside s sizes image keeps values fits k m e runs avoids out =
 -- what is built of a text has its window at the base
 pub built_at_base : BuiltAtBase
 unfolding built source_built linked_of image_of
-built_at_base text ctrl temp base b = by_source (source_in text)
+built_at_base text ctrl temp base b = by_source (accepted_source text)
   where
     by_size : (s : SourceOf) (system : SystemOf) (large : Bool)
         → cond large (Err (TooManyWords (placed_size s (stack_sizes ctrl temp) base))) (Ok (built_with s (stack_sizes ctrl temp) base system)) ≡ Ok b → b.image.base ≡ base

@@ -12,10 +12,10 @@ use Rattle.gypsy_syntax.proofs.KeepsLaws.{read_keeps}
 use Rattle.gypsy_check.specs.Accepted.{IsAccepted}
 use Rattle.gypsy_check.specs.Rules.{violations}
 use Rattle.gypsy_check.proofs.FitsLaws.{source_fits}
-use Rattle.stack_build.specs.Build.{accepted_unless, accepted_by, source_in}
+use Rattle.stack_build.specs.Build.{accepted_unless, accepted_by, accepted_source}
 
-pub source_is_accepted : (text : List ℕ) → length text ≤ 2 ^ 31 → (source : SourceOf) → source_in text ≡ Ok source → IsAccepted source
-unfolding source_in
+pub source_is_accepted : (text : List ℕ) → length text ≤ 2 ^ 31 → (source : SourceOf) → accepted_source text ≡ Ok source → IsAccepted source
+unfolding accepted_source
 source_is_accepted text short source is = by_reading (gypsy_in text) refl is
   where
     by_breach : (s : SourceOf) → KeepsForm s → (breach : Option Breach) → least (violations s) ≡ breach → accepted_unless s breach ≡ Ok source → IsAccepted source

@@ -12,7 +12,7 @@ use Rattle.piton_linker.specs.Layouts.{layout_of}
 use Rattle.piton_linker.proofs.ProcessorLaws.{checked_end}
 use Rattle.gypsy_syntax.specs.declared.literal.Decl.{Decl}
 use Rattle.stack_build.specs.Image.{slots_from, linked_image, image_with}
-use Rattle.stack_build.specs.Internal.Showing.{Shows}
+use Rattle.stack_build.specs.Internal.Showing.{IsShowable}
 use Rattle.stack_build.proofs.ImageLimits.{placed_window, system_fits}
 
 -- its addresses are numbers of 32 bits
@@ -39,6 +39,6 @@ parts_are c ds conditions tables layout linked names slots made l b m s t =
     λ i. record (b i) { condition_address = Some (l i).areas_start; conditions = m i; slots = s' i; procedures = (t i).procedures; marks = (t i).marks }
 
 -- it keeps the limits
-pub parts_fit : (c : CheckedOf) (ds : List Decl) (conditions : List (List ℕ)) (tables : Tables) → IsChecked c → (placed (system_in c)).size ≤ 2 ^ 20 → Shows (system_in c) ds conditions → are_tables (placed_window (system_in c)) tables ≡ true →
+pub parts_fit : (c : CheckedOf) (ds : List Decl) (conditions : List (List ℕ)) (tables : Tables) → IsChecked c → (placed (system_in c)).size ≤ 2 ^ 20 → IsShowable (system_in c) ds conditions → are_tables (placed_window (system_in c)) tables ≡ true →
     (image : ImageOf) → image ≡ image_with ds conditions tables (system_in c) → IsTrue (is_image image)
 parts_fit c ds conditions tables is small shows fit image whole = subst (λ (z : ImageOf). IsTrue (is_image z)) (sym whole) (system_fits (system_in c) ds conditions tables is.sound small shows fit)

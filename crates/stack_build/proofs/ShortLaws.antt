@@ -28,15 +28,15 @@ use Rattle.gypsy_codegen.specs.declared.marking.MarkAt.{MarkAt}
 use Rattle.gypsy_codegen.specs.Generated.{size, count_from, offset, generated_view}
 use Rattle.gypsy_codegen.specs.Marks.{mark_at, statement_marks, tail_marks, procedure_marks, marks_of}
 use Rattle.stack_build.specs.declared.fault.BuildFault.{BuildFault}
-use Rattle.stack_build.specs.Build.{BuiltOf, accepted_unless, accepted_by, source_in, Builds, BuildsText}
+use Rattle.stack_build.specs.Build.{BuiltOf, accepted_unless, accepted_by, accepted_source, Builds, BuildsText}
 use Rattle.stack_build.specs.Image.{variable_infos, procedure_info, procedure_infos, mark_info, places_fit, source_tables, image_of}
 use Rattle.stack_build.proofs.ImageBytes.{file_few}
 use Rattle.stack_build.proofs.TextLaws.{marks_in, marks_in_all, StandsBelow, AllStandBelow, conditions_cost, formals_cost, locals_cost, procedures_cost, EachStands, LightSource, tree_is_light}
 
 -- ---- the source of a text
 
-text_is_light : (text : List ℕ) (source : SourceOf) → source_in text ≡ Ok source → LightSource (length text) (length text) source
-unfolding source_in
+text_is_light : (text : List ℕ) (source : SourceOf) → accepted_source text ≡ Ok source → LightSource (length text) (length text) source
+unfolding accepted_source
 text_is_light text source is = by_reading (gypsy_in text) refl is
   where
     by_breach : (s : SourceOf) → gypsy_in text ≡ Ok s → (breach : Option Breach) → accepted_unless s breach ≡ Ok source → LightSource (length text) (length text) source
@@ -269,7 +269,7 @@ tables_few s system = by_places (places_fit (program_of s))
 
 -- ---- what is built of it
 
-pub text_places_fit : (text : List ℕ) (s : SourceOf) → source_in text ≡ Ok s → length text ≤ 2 ^ 20 → places_fit (program_of s) ≡ true
+pub text_places_fit : (text : List ℕ) (s : SourceOf) → accepted_source text ≡ Ok s → length text ≤ 2 ^ 20 → places_fit (program_of s) ≡ true
 text_places_fit text s read few =
     let light = text_is_light text s read in
     ap (λ (n : ℕ). list_all short_place (flat_map (procedure_marks (program_of s)) (count_from 0 n))) (same_number s)
@@ -279,7 +279,7 @@ tables_of_image : (s : SourceOf) (sizes : StackSizes) (base : ℕ) → length (t
 unfolding image_of
 tables_of_image s sizes base = tables_few s (generated_view (program_of s) sizes base)
 
-text_builds_whole : (text : List ℕ) (ctrl temp : ℕ) (s : SourceOf) (b : BuiltOf) → source_in text ≡ Ok s → Builds s (stack_sizes ctrl temp) b → BuildsText text ctrl temp b
+text_builds_whole : (text : List ℕ) (ctrl temp : ℕ) (s : SourceOf) (b : BuiltOf) → accepted_source text ≡ Ok s → Builds s (stack_sizes ctrl temp) b → BuildsText text ctrl temp b
 text_builds_whole text ctrl temp s b read builds = record {
   source = s;
   read = read;
@@ -296,6 +296,6 @@ text_builds_whole text ctrl temp s b read builds = record {
   builds = builds;
 }
 
-pub text_builds_if : (text : List ℕ) (ctrl temp : ℕ) (s : SourceOf) (r : Result BuiltOf BuildFault) → source_in text ≡ Ok s → IfOk r (Builds s (stack_sizes ctrl temp)) → IfOk r (BuildsText text ctrl temp)
+pub text_builds_if : (text : List ℕ) (ctrl temp : ℕ) (s : SourceOf) (r : Result BuiltOf BuildFault) → accepted_source text ≡ Ok s → IfOk r (Builds s (stack_sizes ctrl temp)) → IfOk r (BuildsText text ctrl temp)
 text_builds_if text ctrl temp s (Ok b) read builds = text_builds_whole text ctrl temp s b read builds
 text_builds_if text ctrl temp s (Err fault) read builds = tt

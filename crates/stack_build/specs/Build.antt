@@ -83,8 +83,8 @@ accepted_by (Ok source) = accepted_unless source (least (violations source))
 accepted_by (Err fault) = Err (reading_fault fault)
 
 -- the source that a text has, where it breaks no static rule, and else the first fault of the text, of its tree or of the source
-unfoldable pub source_in : List ℕ → Result SourceOf BuildFault
-source_in text = accepted_by (gypsy_in text)
+unfoldable pub accepted_source : List ℕ → Result SourceOf BuildFault
+accepted_source text = accepted_by (gypsy_in text)
 
 -- ---- its system and its image
 
@@ -113,11 +113,11 @@ source_built source sizes base = generated_by (generation source sizes base) >>=
 
 -- the Piton system of a text
 unfoldable pub compiled : List ℕ → ℕ → ℕ → ℕ → Result SystemOf BuildFault
-compiled text ctrl temp base = source_in text >>= λ source. generated_by (generation source (stack_sizes ctrl temp) base)
+compiled text ctrl temp base = accepted_source text >>= λ source. generated_by (generation source (stack_sizes ctrl temp) base)
 
 -- what is built of a text
 unfoldable pub built : List ℕ → ℕ → ℕ → ℕ → Result BuiltOf BuildFault
-built text ctrl temp base = source_in text >>= λ source. source_built source (stack_sizes ctrl temp) base
+built text ctrl temp base = accepted_source text >>= λ source. source_built source (stack_sizes ctrl temp) base
 
 -- What was built of a source, for stacks of these sizes: its image does what the source means, and keeps to it at every moment, so
 -- that it is unfinished at every budget where the source never ends; and the file spells the image.
@@ -132,7 +132,7 @@ pub record Builds (source : SourceOf) (sizes : StackSizes) (built : BuiltOf) : T
 -- The same of the source in a text. Where that has at most 2^20 bytes, the image has its marks, and its file at most 2^25 bytes.
 pub record BuildsText (text : List ℕ) (ctrl temp : ℕ) (built : BuiltOf) : Type 0 where
   pub source : SourceOf
-  pub read : source_in text ≡ Ok source
+  pub read : accepted_source text ≡ Ok source
   pub marked : length text ≤ most_text → IsTrue (places_fit (program_of source))
   pub short : length text ≤ most_text → length built.bytes ≤ most_image_file
   pub builds : Builds source (stack_sizes ctrl temp) built

@@ -8,7 +8,7 @@ use Rattle.fm_machine.specs.declared.fault.Outside.{Outside}
 use Rattle.fm_image.specs.Image.{ImageOf}
 use Rattle.fm_loader.specs.Loaded.{loaded}
 use Rattle.gypsy_syntax.specs.Sources.{SourceOf}
-use Rattle.stack_build.specs.Build.{BuiltOf, source_in, built}
+use Rattle.stack_build.specs.Build.{BuiltOf, accepted_source, built}
 use Rattle.stack_build.specs.Implements.{FitsFormals}
 
 -- no step of the run, from the machine that is loaded with the values to its first stand at the final pc, needs an address
@@ -25,5 +25,5 @@ BuiltAtBase = (text : List ℕ) (ctrl temp base : ℕ) (b : BuiltOf) → built t
 -- runs of the image of what is built of a text stay inside, on all values that fit main's formals
 abbrev pub BuiltRunsInside : Type 0
 BuiltRunsInside = (text : List ℕ) (ctrl temp base : ℕ) (source : SourceOf) (b : BuiltOf) (values : List ValueOf) →
-    length text ≤ 2 ^ 31 → base ≤ 2 ^ 31 → source_in text ≡ Ok source → built text ctrl temp base ≡ Ok b →
+    length text ≤ 2 ^ 31 → base ≤ 2 ^ 31 → accepted_source text ≡ Ok source → built text ctrl temp base ≡ Ok b →
     FitsFormals source values → RunsInside b.image values

@@ -12,7 +12,7 @@ use Rattle.gypsy_codegen.specs.Generated.{generated_view}
 use Rattle.gypsy_codegen.specs.Acceptable.{LimitsFit}
 use Rattle.stack_build.specs.Image.{image_of}
 use Rattle.stack_build.specs.Implements.{FitsFormals, Implements}
-use Rattle.stack_build.specs.Build.{BuiltOf, source_in, built, BuildsText}
+use Rattle.stack_build.specs.Build.{BuiltOf, accepted_source, built, BuildsText}
 
 -- within the limits, and where the placed size is at most 2^20
 abbrev pub GeneratedImageImplements : Type 0
@@ -28,5 +28,5 @@ BuiltImplements = (text : List ℕ) (ctrl temp base : ℕ) → length text ≤ 2
 -- values that are read for its image fit main's formals
 abbrev pub BuiltTakesValues : Type 0
 BuiltTakesValues = (text : List ℕ) (ctrl temp base : ℕ) (source : SourceOf) (b : BuiltOf) (values_text : List ℕ) (values : List ValueOf) →
-    length text ≤ 2 ^ 31 → base ≤ 2 ^ 31 → source_in text ≡ Ok source → built text ctrl temp base ≡ Ok b →
+    length text ≤ 2 ^ 31 → base ≤ 2 ^ 31 → accepted_source text ≡ Ok source → built text ctrl temp base ≡ Ok b →
     values_in b.image.slots values_text ≡ Ok values → FitsFormals source values

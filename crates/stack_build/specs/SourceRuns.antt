@@ -11,7 +11,7 @@ use Rattle.gypsy_syntax.specs.Sources.{SourceOf}
 use Rattle.gypsy_space.specs.Needs.{StackSizes, stack_sizes}
 use Rattle.gypsy_semantics.specs.Calls.{CurrentCondition}
 use Rattle.stack_build.specs.declared.start_fault.StartFault.{StartFault}
-use Rattle.stack_build.specs.Build.{source_in, built}
+use Rattle.stack_build.specs.Build.{accepted_source, built}
 use Rattle.stack_build.specs.Image.{formal_slots}
 use Rattle.stack_build.specs.Implements.{meaning_shown, FitsFormals, Finishes}
 use Rattle.stack_build.specs.Starts.{or_build, or_values}
@@ -25,7 +25,7 @@ source_run text sizes values_text budget =
 -- the source in a text, and the values that a second text gives its main's formals
 pub record SourceOnValues (text values_text : List ℕ) : Type 0 where
   pub source : SourceOf
-  pub read : source_in text ≡ Ok source
+  pub read : accepted_source text ≡ Ok source
   pub values : List ValueOf
   pub given : values_in (formal_slots source) values_text ≡ Ok values
   pub fits : FitsFormals source values

@@ -4,7 +4,7 @@ ghost use Rattle.piton_syntax.specs.PitonReading.{KeepsForm};
 ghost use Rattle.gypsy_check.specs.Accepted.{IsAccepted};
 ghost use Rattle.gypsy_space.specs.Needs.{stack_sizes};
 ghost use Rattle.gypsy_syntax.specs.Views.SourceView.{source_of};
-ghost use Rattle.stack_build.specs.Build.{GivesBuilt, source_in, source_built, compiled, built, Builds, BuildsText};
+ghost use Rattle.stack_build.specs.Build.{GivesBuilt, accepted_source, source_built, compiled, built, Builds, BuildsText};
 
 use crate::fault::BuildFault;
 use crate::imaging::image;
@@ -61,7 +61,7 @@ impl Built {
 /// `Text`, `Form` or `Rule`; or out of memory.
 pub fn accept(alloc: Global, text: &[u8]) -> Result<Accepted, BuildFault>
     requires { length text.now ≤ 2 ^ 31 }
-    ensures { GivesBuilt source_of result (source_in text.now) }
+    ensures { GivesBuilt source_of result (accepted_source text.now) }
 {
     let source = read_gypsy(alloc, text)?;
     Ok(check(alloc, source)?)

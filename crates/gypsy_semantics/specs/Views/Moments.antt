@@ -4,7 +4,7 @@ use Rattle.stack_text.specs.Values.{ValueOf}
 use Rattle.gypsy_syntax.specs.Programs.{Program}
 use Rattle.gypsy_space.specs.Needs.{StackSizes}
 use Rattle.gypsy_semantics.specs.Machine.{State, Move, Next, Ended, gypsy_step, start}
-use Rattle.gypsy_semantics.specs.Views.RunView.{Seen, Stage, Running, Finished, Shows, bare, spent_at}
+use Rattle.gypsy_semantics.specs.Views.RunView.{Seen, Stage, Running, Finished, ShowsSum, bare, spent_at}
 
 -- one step more: what has ended stays as it is
 abbrev pub moved_on : Move → (State → Move) → Move
@@ -37,4 +37,4 @@ spent_by (Ended x c t) = t.count
 -- a run shows it
 pub record IsMoment (v : Seen) (a : Move) : Type 0 where
   pub stage : v.stage ≡ shown_stage a
-  pub counted : Shows v.counted (spent_by a)
+  pub counted : ShowsSum v.counted (spent_by a)

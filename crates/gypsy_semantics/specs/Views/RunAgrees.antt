@@ -4,7 +4,7 @@ use Rattle.stack_text.specs.Values.{ValueOf}
 use Rattle.gypsy_semantics.specs.Calls.{CurrentCondition}
 use Rattle.gypsy_semantics.specs.Meaning.{Done, meaning}
 use Rattle.gypsy_semantics.specs.Counted.{instruction_count}
-use Rattle.gypsy_semantics.specs.Views.RunView.{Seen, Stage, Running, Finished, Shows}
+use Rattle.gypsy_semantics.specs.Views.RunView.{Seen, Stage, Running, Finished, ShowsSum}
 use Rattle.gypsy_semantics.specs.declared.answers.MeanRun.{MeanRun}
 use Rattle.gypsy_semantics.specs.declared.answers.MeanRun.TheVariants as ran
 
@@ -12,8 +12,8 @@ use Rattle.gypsy_semantics.specs.declared.answers.MeanRun.TheVariants as ran
 pub record MeansEnd (v : Seen) (x : List ValueOf) (c : CurrentCondition) : Type 0 where
   pub made : ℕ
   pub count : ℕ
-  pub steps : Shows v.steps made
-  pub counted : Shows v.counted count
+  pub steps : ShowsSum v.steps made
+  pub counted : ShowsSum v.counted count
   pub meaning_is : meaning v.program v.sizes v.values (suc made) ≡ Done x c
   pub count_is : instruction_count v.program v.sizes v.values (suc made) ≡ Some count
 

@@ -40,8 +40,8 @@ abbrev pub added : ℕ → ℕ → ℕ
 added a n = min (a + n) (2 ^ 64 - 1)
 
 -- a counter shows a sum
-abbrev pub Shows : ℕ → ℕ → Type 0
-Shows shown n = shown ≡ min n (2 ^ 64 - 1)
+abbrev pub ShowsSum : ℕ → ℕ → Type 0
+ShowsSum shown n = shown ≡ min n (2 ^ 64 - 1)
 
 -- Those that wait have lent their actuals to their callees: each with what it would get back now, where the activation above
 -- has these variables.

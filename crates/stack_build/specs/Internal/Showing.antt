@@ -22,7 +22,7 @@ abbrev pub shapes_in : List Decl → List Shape
 shapes_in ds = map (λ (d : Decl). shape_of d.shape) ds
 
 -- at most 200 formals and 201 conditions of different names, and the stack and the first area of the system have their words
-pub record Shows (system : SystemView) (ds : List Decl) (conditions : List (List ℕ)) : Type 0 where
+pub record IsShowable (system : SystemView) (ds : List Decl) (conditions : List (List ℕ)) : Type 0 where
   pub formals_named : list_all is_name (map (λ (d : Decl). d.name.name) ds) ≡ true
   pub formals_differ : IsDistinct bytes_eq (map (λ (d : Decl). d.name.name) ds)
   pub formals_few : length ds ≤ most_declared

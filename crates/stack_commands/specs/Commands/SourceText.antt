@@ -5,7 +5,7 @@ use Rattle.gypsy_syntax.specs.Sources.{SourceOf}
 use Rattle.gypsy_syntax.specs.Views.SourceView.{source_of}
 use Rattle.stack_build.specs.declared.fault.BuildFault.{BuildFault}
 use Rattle.stack_build.specs.declared.fault.BuildFault.TheVariants.{Text, Form, Rule, Size, Control, Temporary, Words, Memory}
-use Rattle.stack_build.specs.Build.{source_in}
+use Rattle.stack_build.specs.Build.{accepted_source}
 use Rattle.stack_build.specs.declared.start_fault.StartFault.{StartFault}
 use Rattle.stack_build.specs.declared.start_fault.StartFault.TheVariants.{Build, Values}
 use Rattle.command_replies.specs.declared.reply.RuleLetter.TheVariants.{G, M, S}
@@ -37,7 +37,7 @@ unless_refused (Err fault) = Err (build_verdict fault)
 
 -- the accepted source of a text, or why the text is refused
 unfoldable pub accepted_in : List ℕ → Result SourceOf Verdict
-accepted_in text = unless_refused (source_in text)
+accepted_in text = unless_refused (accepted_source text)
 
 -- what a call found, as the definition has it
 abbrev pub found_source : Result Source Verdict → Result SourceOf Verdict
